@@ -1,0 +1,3 @@
+pub mod GrowsLemmas
+pub mod SinkLemmas
+pub mod RowLemmas

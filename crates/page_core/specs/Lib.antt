@@ -1,0 +1,10 @@
+pub mod Messages
+pub mod Rows
+pub mod Texts
+pub mod Checks
+pub mod Sinks
+pub mod Grows
+pub mod Fails
+pub mod Laid
+pub mod MessageBytes
+pub mod Pieces
