@@ -1,0 +1,43 @@
+//! The glyphs that have a name in mandoc_char(7), and how characters are spelled in ASCII.
+#![tactic(auto)]
+
+ghost use Rattle.std.specs.Prelude.{◌≡◌, option_map};
+ghost use Rattle.page_core_tables.specs.Glyphs.{glyph_of, spelling_of, symbol_of, first_spelling, table};
+
+mod rows;
+
+pub use rows::Glyph;
+
+/// What a name stands for, as `em` in `\(em`: mandoc_char(7).
+pub fn glyph(name: &[u8]) -> Option<Glyph>
+    ensures { option_map symbol_of result ≡ glyph_of name.now }
+{
+    if name.len() != 2 {
+        return None;
+    }
+    rows::find(rows::by_name(), rows::name_key(name[0], name[1]))
+}
+
+/// The spelling of a character in ASCII, empty where it has none: mandoc_char(7). From a blank to
+/// `~` it is the character itself.
+pub fn spelling(c: char) -> &'static str
+    ensures { result.now ≡ spelling_of c }
+{
+    match c {
+        ' '..='~' => rows::ascii(c),
+        _ => listed_spelling(c),
+    }
+}
+
+// The spelling in the table of names, empty where it has none.
+fn listed_spelling(c: char) -> &'static str
+    ensures { result.now ≡ first_spelling c table }
+{
+    match rows::find(rows::by_code(), c as u32) {
+        Some(found) => found.ascii,
+        None => "",
+    }
+}
+
+#[cfg(test)]
+mod tests;

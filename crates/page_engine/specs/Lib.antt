@@ -1,0 +1,5 @@
+pub mod Levels
+pub mod Shown
+pub mod Items
+pub mod Page
+pub mod Below

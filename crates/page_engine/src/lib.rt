@@ -1,0 +1,8 @@
+//! A page from its bytes to its rows and messages.
+#![tactic(auto)]
+
+mod belows;
+mod filters;
+mod pages;
+
+pub use filters::Filter;

@@ -1,0 +1,126 @@
+//! A page: lines become rows and messages.
+
+ghost use Rattle.std.specs.Prelude.{◌≡◌, ◌<◌, ◌-◌, ◌^◌, ℕ, OnOk, IfOk, IfErr, length, Some, None};
+ghost use Rattle.page_core.specs.Fails.{FailsBySink};
+ghost use Rattle.page_core.specs.Laid.{Gets};
+ghost use Rattle.page_core.specs.MessageBytes.{message_of};
+ghost use Rattle.page_fill.specs.declared.words.Edge.{Edge as FillEdge};
+ghost use Rattle.page_engine.specs.Page.{Edge, IsAt, laid_text, ended, end_laid, start};
+ghost use Rattle.page_engine.specs.Below.{Ends};
+
+use crate::belows::Below;
+use crate::filters::Filter;
+use page_core::{Fault, Level, NoteSink, RowSink, Settings};
+use page_fill::Filler;
+use page_prose::Prose;
+use std::alloc::Global;
+
+/// A page whose lines come one by one.
+#[derive(Drop)]
+pub(crate) struct Page {
+    pub(crate) filler: Filler,
+    pub(crate) prose: Prose,
+    pub(crate) least: Option<Level>,
+    pub(crate) worst: Option<Level>,
+    pub(crate) last: u32,
+}
+
+impl<R: RowSink, N: NoteSink> Below<'_, '_, '_, R, N> {
+    // Ends the body behind a line, writes the footer, and ends the filling.
+    fn end(&mut self, prose: &Prose, last: u32) -> Result<(), Fault>
+        ensures ends { (f : FillEdge) (e : Edge) → self.old.filler.now ≡ Some f → f ≡ e.fill → prose.now ≡ e.prose → last ≡ e.last →
+            Ends result R.gave R.within R.failed ⟦<Filter<'static, N> as NoteSink>⟧.gave ⟦<Filter<'static, N> as NoteSink>⟧.within ⟦<Filter<'static, N> as NoteSink>⟧.failed
+            self.old.rows.now self.new.rows.now self.old.notes self.new.notes (end_laid e) }
+        ensures filler { self.new.filler.ghost_name ≡ self.old.filler.ghost_name }
+        ensures rows { self.new.rows.ghost_name ≡ self.old.rows.ghost_name }
+        ensures notes { self.new.notes.notes.ghost_name ≡ self.old.notes.notes.ghost_name }
+        ensures rows_same { R.loans self.new.rows.now ≡ R.loans self.old.rows.now }
+        ensures notes_same { N.loans self.new.notes.notes.now ≡ N.loans self.old.notes.notes.now }
+    {
+        if let Err(fault) = prose.end(self, last) {
+            return Err(fault);
+        }
+        let blank_rows = self.filler.blank_rows();
+        if let Err(fault) = prose.footer(self, last, blank_rows) {
+            return Err(fault);
+        }
+        self.filler.finish(self.rows, &mut self.notes)
+    }
+}
+
+impl Page {
+    /// The start of a page of settings that pass their check. Its fault is [`Fault::Memory`].
+    pub(crate) fn new(alloc: Global, settings: &Settings) -> Result<Page, Fault>
+        ensures ok { IfOk result (λ p. IsAt p.filler p.prose p.least p.worst p.last (start settings.now)) }
+        ensures fault { IfErr result (λ fault. fault ≡ Fault.Memory) }
+    {
+        let filler = Filler::new(alloc, settings)?;
+        Ok(Page {
+            filler,
+            prose: Prose::new(settings),
+            least: settings.least,
+            worst: None,
+            last: 1,
+        })
+    }
+
+    /// Takes a line, and gives what it settles. After a fault, which is one of a sink, the page is not to be used again.
+    pub(crate) fn feed<R: RowSink, N: NoteSink>(
+        &mut self,
+        text: &[u8],
+        number: u32,
+        rows: &mut R,
+        notes: &mut N,
+    ) -> Result<(), Fault>
+        requires { length text.now < 2 ^ 32 - 2 }
+        ensures gets { (e : Edge) → IsAt self.old.filler self.old.prose self.old.least self.old.worst self.old.last e → Gets result R.gave R.within N.gave N.within rows.old rows.new notes.old notes.new (laid_text e text.now number) }
+        ensures edge { (e : Edge) → IsAt self.old.filler self.old.prose self.old.least self.old.worst self.old.last e → OnOk result (IsAt self.new.filler self.new.prose self.new.least self.new.worst self.new.last (laid_text e text.now number).edge) }
+        ensures faults { (e : Edge) → IsAt self.old.filler self.old.prose self.old.least self.old.worst self.old.last e → FailsBySink result (R.failed rows.old) (R.failed rows.new) (N.failed notes.old) (N.failed notes.new) }
+        ensures rows_same { R.loans rows.new ≡ R.loans rows.old }
+        ensures notes_same { N.loans notes.new ≡ N.loans notes.old }
+    {
+        let notes = Filter {
+            notes,
+            least: self.least,
+            worst: self.worst,
+        };
+        let mut below = Below {
+            filler: &mut self.filler,
+            rows,
+            notes,
+        };
+        let result = self.prose.line(&mut below, number, text);
+        self.worst = below.notes.worst;
+        self.last = number;
+        result
+    }
+}
+
+impl Page {
+    /// Ends the page. After that it is not to be used again.
+    pub(crate) fn end<R: RowSink, N: NoteSink>(
+        &mut self,
+        rows: &mut R,
+        notes: &mut N,
+    ) -> Result<(), Fault>
+        ensures gets { (e : Edge) → IsAt self.old.filler self.old.prose self.old.least self.old.worst self.old.last e → Gets result R.gave R.within N.gave N.within rows.old rows.new notes.old notes.new (ended e) }
+        ensures worst { (e : Edge) → IsAt self.old.filler self.old.prose self.old.least self.old.worst self.old.last e → OnOk result (self.new.worst ≡ (ended e).edge.worst) }
+        ensures faults { (e : Edge) → IsAt self.old.filler self.old.prose self.old.least self.old.worst self.old.last e → FailsBySink result (R.failed rows.old) (R.failed rows.new) (N.failed notes.old) (N.failed notes.new) }
+        ensures rows_same { R.loans rows.new ≡ R.loans rows.old }
+        ensures notes_same { N.loans notes.new ≡ N.loans notes.old }
+    {
+        let notes = Filter {
+            notes,
+            least: self.least,
+            worst: self.worst,
+        };
+        let mut below = Below {
+            filler: &mut self.filler,
+            rows,
+            notes,
+        };
+        let result = below.end(&self.prose, self.last);
+        self.worst = below.notes.worst;
+        result
+    }
+}

@@ -1,0 +1,4 @@
+pub mod LaidLemmas
+pub mod SheetLemmas
+pub mod CharacterLemmas
+pub mod WordLemmas

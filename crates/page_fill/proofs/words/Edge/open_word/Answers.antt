@@ -1,0 +1,10 @@
+use Rattle.std.proofs.lemmas.Result.{err_from_is_err_and}
+use Rattle.page_fill.proofs.LaidLemmas.{Gave-told}
+use Rattle.page_fill.specs.Fill.{opening}
+use Rattle.page_fill.proofs.words.Edge.open_word.Goals as goal
+
+pub returns-in_err-report_tab-clause-lays : goal.returns-in_err-report_tab-clause-lays
+unfolding opening
+returns-in_err-report_tab-clause-lays g c =
+    let p = err_from_is_err_and c.from_residual.result c.from_residual.ensures.1 in
+    rw (p.1, c.if-self.false) (Gave-told g.met.R.RowSink.laws g.met.N.NoteSink.laws g.met.R.RowSink.whole _ _ _ _ _ (rw c.tells_tab-is_told.ensures at c.in_err-report_tab.ensures.gives))

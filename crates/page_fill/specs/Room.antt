@@ -1,0 +1,13 @@
+-- What an open row keeps to: it never wants more memory than it began with.
+use Rattle.std.specs.Prelude.{◌≡◌, ℕ, ◌*◌, ◌≤◌, List, length}
+use Rattle.page_core.specs.declared.cells.Cell.{Cell}
+use Rattle.page_fill.specs.Sheets.{columns}
+use Rattle.page_fill.specs.declared.TheConstants.{CELLS}
+
+pub record IsSound (cells : List Cell) (capacity count gap word : ℕ) : Type 0 where
+  pub bounded : length cells ≤ CELLS
+  pub reserved : CELLS ≤ capacity
+  pub counted : count ≡ columns cells
+  pub narrow : count ≤ 3 * length cells
+  pub gap_within : gap ≤ word
+  pub word_within : word ≤ length cells

@@ -1,0 +1,51 @@
+//! The columns of cells.
+
+ghost use Rattle.std.specs.Prelude.{◌≡◌, ◌*◌, ◌≤◌, length};
+ghost use Rattle.page_fill.specs.Sheets as sheet;
+ghost use Rattle.page_core.specs.Rows.{is_blank_row, row_of};
+
+use page_core::{Cell, Font};
+use unicode_width::UnicodeWidthChar;
+
+/// A blank.
+pub(crate) const BLANK: Cell = Cell {
+    c: ' ',
+    font: Font::R,
+};
+
+/// The columns of a cell.
+#[tactic(auto, unfolding(unicode_width::specs::Width::char_width))]
+pub(crate) fn cell_columns(cell: Cell) -> u32
+    ensures value { result ≡ sheet.cell_columns cell }
+    ensures bound { result ≤ 3 }
+{
+    if cell.c >= ' ' && cell.c <= '~' {
+        return 1;
+    }
+    cell.c.width().unwrap_or(0) as u32
+}
+
+/// The columns of cells.
+pub(crate) fn columns(cells: &[Cell]) -> u32
+    requires { length cells.now ≤ 4096 }
+    ensures value { result ≡ sheet.columns cells.now }
+    ensures bound { result ≤ 3 * length cells.now }
+{
+    let mut sum = 0u32;
+    for cell in cells {
+        sum += cell_columns(*cell);
+    }
+    sum
+}
+
+/// Whether no cell prints anything.
+pub(crate) fn is_blank(cells: &[Cell]) -> bool
+    ensures { result ≡ is_blank_row (row_of 0 cells.now) }
+{
+    for cell in cells {
+        if cell.c != ' ' {
+            return false;
+        }
+    }
+    true
+}

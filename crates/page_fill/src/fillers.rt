@@ -1,0 +1,168 @@
+//! The filler of a page.
+
+ghost use Rattle.std.specs.Prelude.{◌≡◌, ◌≤◌, length, IfOk, IfErr, IfSome, OnOk, OnErr, Some, None};
+ghost use Rattle.page_core.specs.Fails.{FailsBySink};
+ghost use Rattle.page_core.specs.Laid.{Lays, Gets};
+ghost use Rattle.page_core.specs.Pieces.{piece_of};
+ghost use Rattle.page_fill.specs.Fill as fill;
+
+use crate::CELLS;
+use crate::sheets::OpenRow;
+use crate::words::{Edge, NO_WORD};
+use page_core::{Cell, Fault, NoteSink, Piece, RowSink, Settings};
+use std::alloc::Global;
+use std::marker::Model;
+
+// Takes a piece, and gives the rows and messages that it settles.
+#[tactic(auto, unfolding(crate::specs::Fill::laid_piece))]
+fn take_piece<R: RowSink, N: NoteSink>(
+    edge: &mut Edge,
+    piece: Piece<&[u8]>,
+    rows: &mut R,
+    notes: &mut N,
+) -> Result<(), Fault>
+    ensures lays { Lays result R.gave R.within N.gave N.within rows.old rows.new notes.old notes.new edge.new
+        (fill.laid_piece edge.old (piece_of piece.entry)) }
+    ensures faults { FailsBySink result (R.failed rows.old) (R.failed rows.new) (N.failed notes.old) (N.failed notes.new) }
+    ensures rows_same { R.loans rows.new ≡ R.loans rows.old }
+    ensures notes_same { N.loans notes.new ≡ N.loans notes.old }
+{
+    match piece {
+        Piece::Text { text, font, place } => edge.bytes(text, font, place, rows, notes),
+        Piece::Glyph { name, font, place } => edge.glyph(name, font, place, rows, notes),
+        Piece::Char { c, font, place } => edge.character(c, font, place, rows, notes),
+        Piece::Tab { font, place } => edge.tab(font, place, rows, notes),
+        Piece::Break => edge.end_row(rows, notes),
+        Piece::Para(count) => edge.paragraph(count, rows, notes),
+        Piece::Space(count) => edge.space(count, rows, notes),
+        Piece::TagEnd => edge.end_tag(rows, notes),
+        Piece::Heading => edge.heading(rows, notes),
+        Piece::Blank { count, has_tab } => {
+            edge.word = edge.word.ended(count, has_tab);
+            Ok(())
+        }
+        Piece::Glue => {
+            edge.word = edge.word.glued();
+            Ok(())
+        }
+        Piece::Indent { first, rest } => {
+            edge.sheet.set_margins(first, rest);
+            Ok(())
+        }
+        Piece::Literal(is_literal) => {
+            edge.sheet.set_literal(is_literal);
+            Ok(())
+        }
+        Piece::Tag { hang, form } => {
+            edge.begin_tag(hang, form);
+            Ok(())
+        }
+        Piece::Column(column) => {
+            edge.column(column);
+            Ok(())
+        }
+    }
+}
+
+/// Turns pieces into rows, and holds one row: the open one.
+///
+/// A row is given to the sink as soon as no later piece can change it. After a failure or the end a filler is of no use.
+#[derive(Drop)]
+pub struct Filler {
+    edge: Edge,
+    is_going: bool,
+}
+
+impl Model for Filler {
+    ghost use Rattle.std.specs.Prelude.{Option, None, Some, if◌then◌else◌};
+    ghost use Rattle.page_fill.specs.Fill.{Edge};
+
+    ghost Value = { Option Edge };
+
+    ghost view = { λ f. if f.is_going then Some f.edge else None };
+}
+
+impl Filler {
+    /// A filler for a page of these settings, below its header: one blank row stands there. It reserves all memory that it will ever hold, and
+    /// its fault is [`Fault::Memory`].
+    pub fn new(alloc: Global, settings: &Settings) -> Result<Filler, Fault>
+        ensures ok { IfOk result (λ f. f ≡ Some (fill.start settings.now)) }
+        ensures fault { IfErr result (λ fault. fault ≡ Fault.Memory) }
+    {
+        let Ok(sheet) = OpenRow::new(alloc, settings.width) else {
+            return Err(Fault::Memory);
+        };
+        Ok(Filler {
+            edge: Edge {
+                sheet,
+                word: NO_WORD,
+                tag: None,
+                output: settings.output,
+            },
+            is_going: true,
+        })
+    }
+
+    /// The open row's cells, at most [`CELLS`].
+    pub fn pending(&self) -> &[Cell]
+        ensures cells { IfSome self.now (λ e. result.now ≡ fill.open_cells e) }
+        ensures bound { length result.now ≤ CELLS }
+    {
+        self.edge.sheet.cells()
+    }
+
+    /// How many blank rows stand at the end of the rows that were given, the open row left aside.
+    pub fn blank_rows(&self) -> u32
+        ensures { IfSome self.now (λ e. result ≡ fill.blank_rows_at_end e) }
+    {
+        self.edge.sheet.blank_rows()
+    }
+
+    /// Takes a piece, and gives the rows and messages that it settles. It succeeds if the sinks do.
+    ///
+    /// Its faults are those of the sinks; after one, and after [`finish`](Filler::finish), it is [`Fault::Failed`].
+    pub fn piece<R: RowSink, N: NoteSink>(
+        &mut self,
+        piece: Piece<&[u8]>,
+        rows: &mut R,
+        notes: &mut N,
+    ) -> Result<(), Fault>
+        ensures gets { (e : fill.Edge) → self.old ≡ Some e → Gets result R.gave R.within N.gave N.within rows.old rows.new notes.old notes.new (fill.laid_piece e (piece_of piece.entry)) }
+        ensures edge { (e : fill.Edge) → self.old ≡ Some e → OnOk result (self.new ≡ Some (fill.laid_piece e (piece_of piece.entry)).edge) }
+        ensures faults { (e : fill.Edge) → self.old ≡ Some e → FailsBySink result (R.failed rows.old) (R.failed rows.new) (N.failed notes.old) (N.failed notes.new) }
+        ensures closed { self.old ≡ None → (result ≡ Err Fault.Failed) × (rows.new ≡ rows.old) × (notes.new ≡ notes.old) }
+        ensures stops { OnErr result (self.new ≡ None) }
+        ensures rows_same { R.loans rows.new ≡ R.loans rows.old }
+        ensures notes_same { N.loans notes.new ≡ N.loans notes.old }
+    {
+        if !self.is_going {
+            return Err(Fault::Failed);
+        }
+        self.is_going = false;
+        take_piece(&mut self.edge, piece, rows, notes)?;
+        self.is_going = true;
+        Ok(())
+    }
+
+    /// The open row ends, if there is one. From then on the filler takes nothing.
+    ///
+    /// Its faults are those of the sinks; after one, and after an earlier end, it is [`Fault::Failed`].
+    pub fn finish<R: RowSink, N: NoteSink>(
+        &mut self,
+        rows: &mut R,
+        notes: &mut N,
+    ) -> Result<(), Fault>
+        ensures gets { (e : fill.Edge) → self.old ≡ Some e → Gets result R.gave R.within N.gave N.within rows.old rows.new notes.old notes.new (fill.ended e) }
+        ensures faults { (e : fill.Edge) → self.old ≡ Some e → FailsBySink result (R.failed rows.old) (R.failed rows.new) (N.failed notes.old) (N.failed notes.new) }
+        ensures closed { self.old ≡ None → (result ≡ Err Fault.Failed) × (rows.new ≡ rows.old) × (notes.new ≡ notes.old) }
+        ensures ended { self.new ≡ None }
+        ensures rows_same { R.loans rows.new ≡ R.loans rows.old }
+        ensures notes_same { N.loans notes.new ≡ N.loans notes.old }
+    {
+        if !self.is_going {
+            return Err(Fault::Failed);
+        }
+        self.is_going = false;
+        self.edge.end_row(rows, notes)
+    }
+}

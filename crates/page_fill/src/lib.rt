@@ -1,0 +1,25 @@
+//! Filling: pieces become rows (roff(7), "Filling and adjusting").
+//!
+//! A [`Filler`] holds one row, the open one, and gives each row to a sink as soon as no later piece can change it.
+#![tactic(auto)]
+
+mod cell_widths;
+mod characters;
+mod fillers;
+mod sheets;
+mod words;
+
+/// The cells of a row at most, its margin not counted.
+pub const CELLS: usize = 4096;
+
+/// The columns up to which those of a tag are counted. The greatest hang is 1,000 columns, so more of them make no difference.
+pub const TAG_COLUMNS: u32 = 1002;
+
+/// The greatest hang of a tag, in columns.
+pub const HANG_MAX: u32 = 1000;
+
+/// The columns from one tab stop to the next.
+pub const TAB_STOP: u32 = 8;
+
+
+pub use fillers::Filler;

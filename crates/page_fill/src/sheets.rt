@@ -1,0 +1,552 @@
+//! The open row, cell by cell.
+
+ghost use Rattle.std.specs.Prelude.{◌≡◌, ℕ, ◌+◌, ◌*◌, ◌^◌, ◌-◌, ◌<◌, ◌≤◌, List, [], ◌∷◌, ◌++◌, length, take, drop, replicate, IfOk, true, false, if◌then◌else◌};
+ghost use Rattle.page_core.specs.Fails.{FailsAs, FailsBySink};
+ghost use Rattle.page_core.specs.Sinks.{Gives};
+ghost use Rattle.page_core.specs.Laid.{Lays, Gets};
+ghost use Rattle.page_core.specs.MessageBytes.{message_of};
+ghost use Rattle.page_core.specs.Rows.{row_of};
+ghost use Rattle.page_fill.specs.Sheets as sheet;
+
+use crate::cell_widths::{BLANK, cell_columns, columns, is_blank};
+use crate::{CELLS, TAG_COLUMNS};
+use arrayvec::ArrayString;
+use page_core::{Cell, Fault, Note, NoteKind, NoteSink, Place, RowSink};
+use std::alloc::{AllocError, Global};
+use std::marker::Model;
+
+/// The report that a row has too many cells.
+fn cells_note(place: Place) -> Note
+    ensures { message_of result ≡ sheet.cells_note place }
+{
+    let mut detail = ArrayString::new();
+    detail.push_str("CELLS");
+    Note {
+        kind: NoteKind::Limit,
+        line: place.line,
+        column: place.column,
+        detail,
+    }
+}
+
+/// The open row, and what is known of the rows above it.
+#[derive(Drop)]
+pub(crate) struct OpenRow {
+    width: u32,
+    is_literal: bool,
+    first: u32,
+    rest: u32,
+    margin: u32,
+    row: Vec<Cell>,
+    columns: u32,
+    gap: usize,
+    word: usize,
+    blank_rows: u32,
+    has_heading: bool,
+    tag_columns: u32,
+    has_tag_cell: bool,
+}
+
+impl Model for OpenRow {
+    ghost use Rattle.std.specs.Prelude.{vec_capacity};
+    ghost use Rattle.page_fill.specs.Room.{IsSound};
+    ghost use Rattle.page_fill.specs.Sheets.{Sheet};
+
+    ghost Value = { Sheet };
+
+    ghost view = { λ a. record {
+      width = a.width;
+      literal = a.is_literal;
+      first = a.first;
+      rest = a.rest;
+      margin = a.margin;
+      cells = a.row.items;
+      gap = a.gap;
+      word = a.word;
+      blank_rows = a.blank_rows;
+      heading = a.has_heading;
+      tag_columns = a.tag_columns;
+      tag_begun = a.has_tag_cell;
+    } };
+
+    ghost invariant = { λ a. IsSound a.row.items (vec_capacity a.row) a.columns a.gap a.word };
+}
+
+impl OpenRow {
+    /// No open row, below one blank row.
+    pub(crate) fn new(alloc: Global, width: u32) -> Result<OpenRow, AllocError>
+        ensures { IfOk result (λ s. s ≡ sheet.fresh width) }
+    {
+        let row = Vec::with_capacity(alloc, CELLS)?;
+        Ok(OpenRow {
+            width,
+            is_literal: false,
+            first: 0,
+            rest: 0,
+            margin: 0,
+            row,
+            columns: 0,
+            gap: 0,
+            word: 0,
+            blank_rows: 1,
+            has_heading: false,
+            tag_columns: 0,
+            has_tag_cell: false,
+        })
+    }
+
+    /// The cells of the open row.
+    pub(crate) fn cells(&self) -> &[Cell]
+        ensures cells { result.now ≡ self.now.cells }
+        ensures bound { length result.now ≤ CELLS }
+    {
+        self.row.as_slice()
+    }
+
+    /// Whether rows are kept as they are.
+    pub(crate) fn is_literal(&self) -> bool
+        ensures { result ≡ self.now.literal }
+    {
+        self.is_literal
+    }
+
+    /// How many blank rows stand at the end.
+    pub(crate) fn blank_rows(&self) -> u32
+        ensures { result ≡ self.now.blank_rows }
+    {
+        self.blank_rows
+    }
+
+    /// How many blank rows are missing to so many; none after a heading's row.
+    pub(crate) fn missing_rows(&self, count: u32) -> u32
+        ensures { result ≡ (if self.now.heading then 0 else count - self.now.blank_rows) }
+    {
+        if self.has_heading {
+            0
+        } else {
+            count.saturating_sub(self.blank_rows)
+        }
+    }
+
+    /// The columns of the open tag, up to [`TAG_COLUMNS`].
+    pub(crate) fn tag_columns(&self) -> u32
+        ensures { result ≡ self.now.tag_columns }
+    {
+        self.tag_columns
+    }
+
+    /// Whether the open tag has a cell.
+    pub(crate) fn has_tag_cell(&self) -> bool
+        ensures { result ≡ self.now.tag_begun }
+    {
+        self.has_tag_cell
+    }
+
+    /// Counts the cells of a new tag.
+    pub(crate) fn count_anew(&mut self)
+        ensures { self.new ≡ record self.old { tag_columns = 0; tag_begun = false } }
+    {
+        self.tag_columns = 0;
+        self.has_tag_cell = false;
+    }
+
+    /// The last row is a heading's.
+    pub(crate) fn set_heading(&mut self)
+        ensures { self.new ≡ record self.old { heading = true } }
+    {
+        self.has_heading = true;
+    }
+
+    /// Sets the margin of the row that begins next, and of those after it.
+    pub(crate) fn set_margins(&mut self, first: u32, rest: u32)
+        ensures { self.new ≡ record self.old { first = first; rest = rest } }
+    {
+        self.first = first;
+        self.rest = rest;
+    }
+
+    /// Keeps rows as they are, or fills them.
+    pub(crate) fn set_literal(&mut self, is_literal: bool)
+        ensures { self.new ≡ record self.old { literal = is_literal } }
+    {
+        self.is_literal = is_literal;
+    }
+
+    // Whether a cell passes the width and its word isn't the row's first.
+    fn passes(&self, cell: Cell) -> bool
+        ensures { result ≡ sheet.passes self.now cell }
+    {
+        let columns = u64::from(self.margin)
+            + u64::from(self.columns)
+            + u64::from(cell_columns(cell));
+        !self.is_literal && 0 < self.gap && u64::from(self.width) < columns
+    }
+
+    // Counts a cell for the open tag.
+    fn count(&mut self, cell: Cell)
+        ensures { self.new ≡ sheet.counted self.old cell }
+    {
+        let columns = self.tag_columns.saturating_add(cell_columns(cell));
+        self.tag_columns = columns.min(TAG_COLUMNS);
+        self.has_tag_cell = true;
+    }
+
+    // Gives a front of the open row as a row.
+    fn give<R: RowSink, N: NoteSink>(
+        &mut self,
+        end: usize,
+        rows: &mut R,
+        notes: &mut N,
+    ) -> Result<(), Fault>
+        requires { end ≤ length self.old.cells }
+        ensures lays { Lays result R.gave R.within N.gave N.within rows.old rows.new notes.old notes.new self.new
+            (sheet.gives self.old (take end self.old.cells)) }
+        ensures faults { FailsBySink result (R.failed rows.old) (R.failed rows.new) (N.failed notes.old) (N.failed notes.new) }
+        ensures rows_same { R.loans rows.new ≡ R.loans rows.old }
+        ensures notes_same { N.loans notes.new ≡ N.loans notes.old }
+    {
+        rows.row(self.margin, &self.row[..end])?;
+        self.blank_rows = if is_blank(&self.row[..end]) {
+            self.blank_rows.saturating_add(1)
+        } else {
+            0
+        };
+        self.has_heading = false;
+        Ok(())
+    }
+
+    // Gives a front of the open row as a row, and reports that it has too many cells.
+    fn give_full<R: RowSink, N: NoteSink>(
+        &mut self,
+        end: usize,
+        place: Place,
+        rows: &mut R,
+        notes: &mut N,
+    ) -> Result<(), Fault>
+        requires { end ≤ length self.old.cells }
+        ensures lays { Lays result R.gave R.within N.gave N.within rows.old rows.new notes.old notes.new self.new
+            (sheet.gives_full self.old (take end self.old.cells) place) }
+        ensures faults { FailsBySink result (R.failed rows.old) (R.failed rows.new) (N.failed notes.old) (N.failed notes.new) }
+        ensures rows_same { R.loans rows.new ≡ R.loans rows.old }
+        ensures notes_same { N.loans notes.new ≡ N.loans notes.old }
+    {
+        self.give(end, rows, notes)?;
+        notes.note(&cells_note(place))
+    }
+
+    // The last word and a cell begin a row.
+    fn carry_word(&mut self, cell: Cell)
+        requires { 0 < self.old.gap }
+        ensures { self.new ≡ sheet.begins self.old (drop self.old.word self.old.cells ++ cell ∷ []) }
+    {
+        let kept = self.row.len() - self.word;
+        self.row.rotate_left(self.word);
+        self.row.truncate(kept);
+        self.row.push_reserved(cell);
+        self.columns = columns(self.row.as_slice());
+        self.margin = self.first;
+        self.first = self.rest;
+        self.gap = 0;
+        self.word = 0;
+    }
+
+    // A cell begins a row.
+    fn begin_row(&mut self, cell: Cell)
+        ensures { self.new ≡ sheet.begins self.old (cell ∷ []) }
+    {
+        self.row.clear();
+        self.row.push_reserved(cell);
+        self.columns = cell_columns(cell);
+        self.margin = self.first;
+        self.first = self.rest;
+        self.gap = 0;
+        self.word = 0;
+    }
+
+    // The open row takes a cell.
+    fn add(&mut self, cell: Cell)
+        requires { length self.old.cells < CELLS }
+        ensures { self.new ≡ record self.old { cells = self.old.cells ++ cell ∷ [] } }
+    {
+        self.columns += cell_columns(cell);
+        self.row.push_reserved(cell);
+    }
+
+    // The open row takes a blank before its next word.
+    fn add_space(&mut self)
+        requires { length self.old.cells < CELLS }
+        ensures { self.new ≡ record self.old { cells = self.old.cells ++ sheet.blank ∷ []; word = length self.old.cells + 1 } }
+    {
+        self.columns += cell_columns(BLANK);
+        self.row.push_reserved(BLANK);
+        self.word = self.row.len();
+    }
+
+    // No row is open.
+    fn empty(&mut self)
+        ensures { self.new ≡ sheet.emptied self.old }
+    {
+        self.row.clear();
+        self.columns = 0;
+        self.gap = 0;
+        self.word = 0;
+    }
+
+    // The row ends before its last word, which goes on in the next row with a cell.
+    fn wrap_word<R: RowSink, N: NoteSink>(
+        &mut self,
+        cell: Cell,
+        rows: &mut R,
+        notes: &mut N,
+    ) -> Result<(), Fault>
+        requires { 0 < self.old.gap }
+        ensures lays { Lays result R.gave R.within N.gave N.within rows.old rows.new notes.old notes.new self.new
+            (sheet.wraps self.old cell) }
+        ensures faults { FailsBySink result (R.failed rows.old) (R.failed rows.new) (N.failed notes.old) (N.failed notes.new) }
+        ensures rows_same { R.loans rows.new ≡ R.loans rows.old }
+        ensures notes_same { N.loans notes.new ≡ N.loans notes.old }
+    {
+        let gap = self.gap;
+        self.give(gap, rows, notes)?;
+        self.carry_word(cell);
+        Ok(())
+    }
+
+    // The full row ends, and a cell begins the next one.
+    fn split_row<R: RowSink, N: NoteSink>(
+        &mut self,
+        cell: Cell,
+        place: Place,
+        rows: &mut R,
+        notes: &mut N,
+    ) -> Result<(), Fault>
+        ensures lays { Lays result R.gave R.within N.gave N.within rows.old rows.new notes.old notes.new self.new
+            (sheet.splits self.old cell place) }
+        ensures faults { FailsBySink result (R.failed rows.old) (R.failed rows.new) (N.failed notes.old) (N.failed notes.new) }
+        ensures rows_same { R.loans rows.new ≡ R.loans rows.old }
+        ensures notes_same { N.loans notes.new ≡ N.loans notes.old }
+    {
+        let end = self.row.len();
+        self.give_full(end, place, rows, notes)?;
+        self.begin_row(cell);
+        Ok(())
+    }
+
+    // The row ends before a blank that passes the width.
+    fn end_before_space<R: RowSink, N: NoteSink>(
+        &mut self,
+        rows: &mut R,
+        notes: &mut N,
+    ) -> Result<(), Fault>
+        ensures lays { Lays result R.gave R.within N.gave N.within rows.old rows.new notes.old notes.new self.new
+            (sheet.over (sheet.gives self.old (take self.old.gap self.old.cells)) sheet.emptied) }
+        ensures faults { FailsBySink result (R.failed rows.old) (R.failed rows.new) (N.failed notes.old) (N.failed notes.new) }
+        ensures rows_same { R.loans rows.new ≡ R.loans rows.old }
+        ensures notes_same { N.loans notes.new ≡ N.loans notes.old }
+    {
+        let gap = self.gap;
+        self.give(gap, rows, notes)?;
+        self.empty();
+        Ok(())
+    }
+
+    // The full row ends before a blank.
+    fn split_before_space<R: RowSink, N: NoteSink>(
+        &mut self,
+        place: Place,
+        rows: &mut R,
+        notes: &mut N,
+    ) -> Result<(), Fault>
+        ensures lays { Lays result R.gave R.within N.gave N.within rows.old rows.new notes.old notes.new self.new
+            (sheet.over (sheet.gives_full self.old (take self.old.gap self.old.cells) place) sheet.emptied) }
+        ensures faults { FailsBySink result (R.failed rows.old) (R.failed rows.new) (N.failed notes.old) (N.failed notes.new) }
+        ensures rows_same { R.loans rows.new ≡ R.loans rows.old }
+        ensures notes_same { N.loans notes.new ≡ N.loans notes.old }
+    {
+        let gap = self.gap;
+        self.give_full(gap, place, rows, notes)?;
+        self.empty();
+        Ok(())
+    }
+
+    /// Puts a cell of the row's last word.
+    #[tactic(auto, unfolding(crate::specs::Sheets::letter))]
+    pub(crate) fn put_letter<R: RowSink, N: NoteSink>(
+        &mut self,
+        cell: Cell,
+        place: Place,
+        rows: &mut R,
+        notes: &mut N,
+    ) -> Result<(), Fault>
+        ensures lays { Lays result R.gave R.within N.gave N.within rows.old rows.new notes.old notes.new self.new
+            (sheet.letter self.old cell place) }
+        ensures faults { FailsBySink result (R.failed rows.old) (R.failed rows.new) (N.failed notes.old) (N.failed notes.new) }
+        ensures rows_same { R.loans rows.new ≡ R.loans rows.old }
+        ensures notes_same { N.loans notes.new ≡ N.loans notes.old }
+    {
+        self.count(cell);
+        if self.passes(cell) {
+            self.wrap_word(cell, rows, notes)?;
+        } else if self.row.len() == CELLS {
+            self.split_row(cell, place, rows, notes)?;
+        } else if self.row.is_empty() {
+            self.begin_row(cell);
+        } else {
+            self.add(cell);
+        }
+        Ok(())
+    }
+
+    /// Puts a blank before the row's next word.
+    #[tactic(auto, unfolding(crate::specs::Sheets::space))]
+    pub(crate) fn put_space<R: RowSink, N: NoteSink>(
+        &mut self,
+        place: Place,
+        rows: &mut R,
+        notes: &mut N,
+    ) -> Result<(), Fault>
+        ensures lays { Lays result R.gave R.within N.gave N.within rows.old rows.new notes.old notes.new self.new
+            (sheet.space self.old place) }
+        ensures faults { FailsBySink result (R.failed rows.old) (R.failed rows.new) (N.failed notes.old) (N.failed notes.new) }
+        ensures rows_same { R.loans rows.new ≡ R.loans rows.old }
+        ensures notes_same { N.loans notes.new ≡ N.loans notes.old }
+    {
+        if self.row.is_empty() {
+            return Ok(());
+        }
+        if self.passes(BLANK) {
+            self.end_before_space(rows, notes)?;
+        } else if self.row.len() == CELLS {
+            self.split_before_space(place, rows, notes)?;
+        } else {
+            self.count(BLANK);
+            self.add_space();
+        }
+        Ok(())
+    }
+
+    /// The open row ends, if there is one.
+    #[tactic(auto, unfolding(crate::specs::Sheets::broken))]
+    pub(crate) fn end_row<R: RowSink, N: NoteSink>(
+        &mut self,
+        rows: &mut R,
+        notes: &mut N,
+    ) -> Result<(), Fault>
+        ensures lays { Lays result R.gave R.within N.gave N.within rows.old rows.new notes.old notes.new self.new
+            (sheet.broken self.old) }
+        ensures faults { FailsBySink result (R.failed rows.old) (R.failed rows.new) (N.failed notes.old) (N.failed notes.new) }
+        ensures rows_same { R.loans rows.new ≡ R.loans rows.old }
+        ensures notes_same { N.loans notes.new ≡ N.loans notes.old }
+    {
+        if self.row.is_empty() {
+            return Ok(());
+        }
+        let end = self.row.len();
+        self.give(end, rows, notes)?;
+        self.empty();
+        Ok(())
+    }
+
+    /// A word begins after the row's cells.
+    pub(crate) fn open_word(&mut self)
+        ensures { self.new ≡ sheet.opens self.old }
+    {
+        self.gap = self.row.len();
+        self.word = self.row.len();
+    }
+
+    /// Puts blanks before the row's next word.
+    pub(crate) fn put_spaces<R: RowSink, N: NoteSink>(
+        &mut self,
+        count: u32,
+        place: Place,
+        rows: &mut R,
+        notes: &mut N,
+    ) -> Result<(), Fault>
+        ensures lays { Lays result R.gave R.within N.gave N.within rows.old rows.new notes.old notes.new self.new
+            (sheet.spaces self.old count place) }
+        ensures faults { FailsBySink result (R.failed rows.old) (R.failed rows.new) (N.failed notes.old) (N.failed notes.new) }
+        ensures rows_same { R.loans rows.new ≡ R.loans rows.old }
+        ensures notes_same { N.loans notes.new ≡ N.loans notes.old }
+    {
+        for _ in 0..count {
+            self.put_space(place, rows, notes)?;
+        }
+        Ok(())
+    }
+
+    /// Puts blanks that are cells of the row's last word.
+    pub(crate) fn put_blanks<R: RowSink, N: NoteSink>(
+        &mut self,
+        count: u32,
+        place: Place,
+        rows: &mut R,
+        notes: &mut N,
+    ) -> Result<(), Fault>
+        ensures lays { Lays result R.gave R.within N.gave N.within rows.old rows.new notes.old notes.new self.new
+            (sheet.fixed_blanks self.old count place) }
+        ensures faults { FailsBySink result (R.failed rows.old) (R.failed rows.new) (N.failed notes.old) (N.failed notes.new) }
+        ensures rows_same { R.loans rows.new ≡ R.loans rows.old }
+        ensures notes_same { N.loans notes.new ≡ N.loans notes.old }
+    {
+        for _ in 0..count {
+            self.put_letter(BLANK, place, rows, notes)?;
+        }
+        Ok(())
+    }
+
+    /// A new word begins with the blanks before it, which are cells of it or not.
+    pub(crate) fn begin_word<R: RowSink, N: NoteSink>(
+        &mut self,
+        blanks: u32,
+        stands: bool,
+        place: Place,
+        rows: &mut R,
+        notes: &mut N,
+    ) -> Result<(), Fault>
+        ensures lays { Lays result R.gave R.within N.gave N.within rows.old rows.new notes.old notes.new self.new
+            (sheet.new_word self.old blanks stands place) }
+        ensures faults { FailsBySink result (R.failed rows.old) (R.failed rows.new) (N.failed notes.old) (N.failed notes.new) }
+        ensures rows_same { R.loans rows.new ≡ R.loans rows.old }
+        ensures notes_same { N.loans notes.new ≡ N.loans notes.old }
+    {
+        self.open_word();
+        if stands {
+            self.put_blanks(blanks, place, rows, notes)
+        } else {
+            self.put_spaces(blanks, place, rows, notes)
+        }
+    }
+
+    /// Gives rows without cells.
+    #[tactic(auto, unfolding(crate::specs::Sheets::empty_rows))]
+    pub(crate) fn give_empty_rows<R: RowSink, N: NoteSink>(
+        &mut self,
+        count: u32,
+        rows: &mut R,
+        notes: &mut N,
+    ) -> Result<(), Fault>
+        ensures lays { Lays result R.gave R.within N.gave N.within rows.old rows.new notes.old notes.new self.new
+            (sheet.empty_rows self.old count) }
+        ensures faults { FailsBySink result (R.failed rows.old) (R.failed rows.new) (N.failed notes.old) (N.failed notes.new) }
+        ensures rows_same { R.loans rows.new ≡ R.loans rows.old }
+        ensures notes_same { N.loans notes.new ≡ N.loans notes.old }
+    {
+        give_rows(count, rows)?;
+        self.blank_rows = self.blank_rows.saturating_add(count);
+        self.has_heading = self.has_heading && count == 0;
+        Ok(())
+    }
+}
+
+// Gives rows without cells.
+fn give_rows<R: RowSink>(count: u32, rows: &mut R) -> Result<(), Fault>
+    ensures gives { Gives result R.gave R.within rows.old (replicate count (row_of 0 [])) rows.new }
+    ensures fault { FailsAs Fault.WriteText result (R.failed rows.old) (R.failed rows.new) }
+    ensures same { R.loans rows.new ≡ R.loans rows.old }
+{
+    for _ in 0..count {
+        rows.row(0, &[])?;
+    }
+    Ok(())
+}

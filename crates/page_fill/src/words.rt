@@ -1,0 +1,480 @@
+//! Words, breaks and tags: what is held between two pieces.
+
+ghost use Rattle.std.specs.Prelude.{◌≡◌, ◌+◌, ◌-◌, ◌<◌, ◌≤◌, ◌==◌, not, [], ◌∷◌, length};
+ghost use Rattle.std.specs.Str.{chars};
+ghost use Rattle.page_core.specs.Fails.{FailsAs, FailsBySink};
+ghost use Rattle.page_core.specs.Laid.{Lays};
+ghost use Rattle.page_core.specs.MessageBytes.{message_of};
+ghost use Rattle.page_core.specs.Sinks.{Gives};
+ghost use Rattle.page_fill.specs.Characters.{characters_of};
+ghost use Rattle.page_fill.specs.Fill as fill;
+
+use crate::cell_widths::columns;
+use crate::characters::{put_character, put_characters, put_glyph};
+use crate::sheets::OpenRow;
+use crate::{HANG_MAX, TAB_STOP};
+use arrayvec::ArrayString;
+use page_core::{Cell, Fault, Font, Note, NoteKind, NoteSink, Output, Place, RowSink, TagForm};
+
+/// The open word, and what waits before the next one.
+#[derive(Clone, Copy)]
+pub(crate) struct OpenWord {
+    /// The next cell goes on with the row's last word; else it begins a word, with the blanks that wait.
+    pub(crate) is_joined: bool,
+    /// A part has come since the last word ended, perhaps without a cell.
+    pub(crate) is_open: bool,
+    /// The blanks place the next word, after a tag or for a column: no other blanks take their place.
+    pub(crate) is_placed: bool,
+    /// The blanks that wait.
+    pub(crate) blanks: u32,
+    /// A tab stands for one of them.
+    pub(crate) has_tab: bool,
+    /// A tab of the row's last word was reported.
+    pub(crate) is_told: bool,
+}
+
+/// The open tag.
+#[derive(Clone, Copy)]
+pub(crate) struct OpenTag {
+    /// The columns that it may take with a blank behind it.
+    pub(crate) hang: u32,
+    /// What follows it.
+    pub(crate) form: TagForm,
+}
+
+/// What is held between two pieces.
+#[derive(Drop)]
+pub(crate) struct Edge {
+    pub(crate) sheet: OpenRow,
+    pub(crate) word: OpenWord,
+    pub(crate) tag: Option<OpenTag>,
+    pub(crate) output: Output,
+}
+
+/// No word is open, and nothing waits.
+pub(crate) const NO_WORD: OpenWord = OpenWord {
+    is_joined: false,
+    is_open: false,
+    is_placed: false,
+    blanks: 0,
+    has_tab: false,
+    is_told: false,
+};
+
+impl OpenWord {
+    /// The word has a cell, and goes on.
+    fn begun(is_told: bool) -> OpenWord
+        ensures { result ≡ fill.begun_word is_told }
+    {
+        OpenWord {
+            is_joined: true,
+            is_open: true,
+            is_told,
+            ..NO_WORD
+        }
+    }
+
+    /// A new word is placed so many blanks on.
+    fn placed(blanks: u32) -> OpenWord
+        ensures { result ≡ fill.placed_word blanks }
+    {
+        OpenWord {
+            is_open: true,
+            is_placed: true,
+            blanks,
+            ..NO_WORD
+        }
+    }
+
+    /// The word ends, and blanks wait before the next one.
+    pub(crate) fn ended(self, blanks: u32, has_tab: bool) -> OpenWord
+        ensures { result ≡ fill.blanks_wait self blanks has_tab }
+    {
+        if self.is_placed {
+            return OpenWord { has_tab, ..self };
+        }
+        OpenWord {
+            blanks,
+            has_tab,
+            is_told: self.is_told,
+            ..NO_WORD
+        }
+    }
+
+    /// The next text goes on with the word.
+    pub(crate) fn glued(self) -> OpenWord
+        ensures { result ≡ fill.glued_word self }
+    {
+        if self.is_open {
+            self
+        } else {
+            OpenWord::begun(self.is_told)
+        }
+    }
+}
+
+// Reports a tab, or not.
+fn report_tab<N: NoteSink>(has_tab: bool, place: Place, notes: &mut N) -> Result<(), Fault>
+    ensures gives { Gives result N.gave N.within notes.old (fill.tab_notes has_tab place) notes.new }
+    ensures fault { FailsAs Fault.WriteNotes result (N.failed notes.old) (N.failed notes.new) }
+    ensures same { N.loans notes.new ≡ N.loans notes.old }
+{
+    if !has_tab {
+        return Ok(());
+    }
+    notes.note(&Note {
+        kind: NoteKind::TabFill,
+        line: place.line,
+        column: place.column,
+        detail: ArrayString::new(),
+    })
+}
+
+impl Edge {
+    // Whether the next word's tab is reported: in filled text alone.
+    fn tells_tab(&self) -> bool
+        ensures { result ≡ fill.tells_tab self.now }
+    {
+        self.word.has_tab && !self.sheet.is_literal()
+    }
+
+    // Whether the blanks that wait are cells of the next word.
+    fn blanks_stand(&self) -> bool
+        ensures { result ≡ fill.stands self.now }
+    {
+        self.sheet.is_literal() || self.word.is_placed && self.sheet.cells().is_empty()
+    }
+
+    // A word begins, with the blanks that wait.
+    fn begin_word<R: RowSink, N: NoteSink>(
+        &mut self,
+        is_told: bool,
+        place: Place,
+        rows: &mut R,
+        notes: &mut N,
+    ) -> Result<(), Fault>
+        ensures lays { Lays result R.gave R.within N.gave N.within rows.old rows.new notes.old notes.new self.new
+            (fill.word_begun self.old is_told place) }
+        ensures faults { FailsBySink result (R.failed rows.old) (R.failed rows.new) (N.failed notes.old) (N.failed notes.new) }
+        ensures rows_same { R.loans rows.new ≡ R.loans rows.old }
+        ensures notes_same { N.loans notes.new ≡ N.loans notes.old }
+    {
+        let stands = self.blanks_stand();
+        self.sheet
+            .begin_word(self.word.blanks, stands, place, rows, notes)?;
+        self.word = OpenWord::begun(is_told);
+        Ok(())
+    }
+
+    // Before a cell: a word begins where none is open with a cell.
+    #[tactic(auto, unfolding(crate::specs::Fill::opening))]
+    fn open_word<R: RowSink, N: NoteSink>(
+        &mut self,
+        place: Place,
+        rows: &mut R,
+        notes: &mut N,
+    ) -> Result<(), Fault>
+        ensures lays { Lays result R.gave R.within N.gave N.within rows.old rows.new notes.old notes.new self.new
+            (fill.opening self.old place) }
+        ensures faults { FailsBySink result (R.failed rows.old) (R.failed rows.new) (N.failed notes.old) (N.failed notes.new) }
+        ensures rows_same { R.loans rows.new ≡ R.loans rows.old }
+        ensures notes_same { N.loans notes.new ≡ N.loans notes.old }
+    {
+        if self.word.is_joined {
+            return Ok(());
+        }
+        let is_told = self.tells_tab();
+        report_tab(is_told, place, notes)?;
+        self.begin_word(is_told, place, rows, notes)
+    }
+
+    /// Takes a text.
+    #[tactic(auto, unfolding(crate::specs::Fill::text))]
+    pub(crate) fn text<R: RowSink, N: NoteSink>(
+        &mut self,
+        text: &str,
+        font: Font,
+        place: Place,
+        rows: &mut R,
+        notes: &mut N,
+    ) -> Result<(), Fault>
+        ensures lays { Lays result R.gave R.within N.gave N.within rows.old rows.new notes.old notes.new self.new
+            (fill.text self.old (chars text.now) font place) }
+        ensures faults { FailsBySink result (R.failed rows.old) (R.failed rows.new) (N.failed notes.old) (N.failed notes.new) }
+        ensures rows_same { R.loans rows.new ≡ R.loans rows.old }
+        ensures notes_same { N.loans notes.new ≡ N.loans notes.old }
+    {
+        if text.is_empty() {
+            self.word.is_open = true;
+            return Ok(());
+        }
+        self.open_word(place, rows, notes)?;
+        put_characters(&mut self.sheet, self.output, text, font, place, rows, notes)
+    }
+
+    /// Takes bytes that are a text.
+    pub(crate) fn bytes<R: RowSink, N: NoteSink>(
+        &mut self,
+        bytes: &[u8],
+        font: Font,
+        place: Place,
+        rows: &mut R,
+        notes: &mut N,
+    ) -> Result<(), Fault>
+        ensures lays { Lays result R.gave R.within N.gave N.within rows.old rows.new notes.old notes.new self.new
+            (fill.text self.old (characters_of bytes.now) font place) }
+        ensures faults { FailsBySink result (R.failed rows.old) (R.failed rows.new) (N.failed notes.old) (N.failed notes.new) }
+        ensures rows_same { R.loans rows.new ≡ R.loans rows.old }
+        ensures notes_same { N.loans notes.new ≡ N.loans notes.old }
+    {
+        match str::from_utf8(bytes) {
+            Ok(text) => self.text(text, font, place, rows, notes),
+            Err(_) => self.text("", font, place, rows, notes),
+        }
+    }
+
+    /// Takes a character.
+    #[tactic(auto, unfolding(crate::specs::Fill::one_character))]
+    pub(crate) fn character<R: RowSink, N: NoteSink>(
+        &mut self,
+        c: char,
+        font: Font,
+        place: Place,
+        rows: &mut R,
+        notes: &mut N,
+    ) -> Result<(), Fault>
+        ensures lays { Lays result R.gave R.within N.gave N.within rows.old rows.new notes.old notes.new self.new
+            (fill.one_character self.old c font place) }
+        ensures faults { FailsBySink result (R.failed rows.old) (R.failed rows.new) (N.failed notes.old) (N.failed notes.new) }
+        ensures rows_same { R.loans rows.new ≡ R.loans rows.old }
+        ensures notes_same { N.loans notes.new ≡ N.loans notes.old }
+    {
+        self.open_word(place, rows, notes)?;
+        put_character(&mut self.sheet, self.output, c, font, place, rows, notes)
+    }
+
+    /// Takes the glyph of a name.
+    #[tactic(auto, unfolding(crate::specs::Fill::one_glyph))]
+    pub(crate) fn glyph<R: RowSink, N: NoteSink>(
+        &mut self,
+        name: &[u8],
+        font: Font,
+        place: Place,
+        rows: &mut R,
+        notes: &mut N,
+    ) -> Result<(), Fault>
+        ensures lays { Lays result R.gave R.within N.gave N.within rows.old rows.new notes.old notes.new self.new
+            (fill.one_glyph self.old name.now font place) }
+        ensures faults { FailsBySink result (R.failed rows.old) (R.failed rows.new) (N.failed notes.old) (N.failed notes.new) }
+        ensures rows_same { R.loans rows.new ≡ R.loans rows.old }
+        ensures notes_same { N.loans notes.new ≡ N.loans notes.old }
+    {
+        self.open_word(place, rows, notes)?;
+        put_glyph(&mut self.sheet, self.output, name, font, place, rows, notes)
+    }
+
+    // A tab in a row that is kept as it is.
+    fn fixed_tab<R: RowSink, N: NoteSink>(
+        &mut self,
+        place: Place,
+        rows: &mut R,
+        notes: &mut N,
+    ) -> Result<(), Fault>
+        ensures lays { Lays result R.gave R.within N.gave N.within rows.old rows.new notes.old notes.new self.new
+            (fill.fixed_tab self.old place) }
+        ensures faults { FailsBySink result (R.failed rows.old) (R.failed rows.new) (N.failed notes.old) (N.failed notes.new) }
+        ensures rows_same { R.loans rows.new ≡ R.loans rows.old }
+        ensures notes_same { N.loans notes.new ≡ N.loans notes.old }
+    {
+        let blanks = TAB_STOP - columns(self.sheet.cells()) % TAB_STOP;
+        self.sheet.put_blanks(blanks, place, rows, notes)
+    }
+
+    // A tab in a filled row.
+    fn filled_tab<R: RowSink, N: NoteSink>(
+        &mut self,
+        font: Font,
+        place: Place,
+        rows: &mut R,
+        notes: &mut N,
+    ) -> Result<(), Fault>
+        ensures lays { Lays result R.gave R.within N.gave N.within rows.old rows.new notes.old notes.new self.new
+            (fill.filled_tab self.old font place) }
+        ensures faults { FailsBySink result (R.failed rows.old) (R.failed rows.new) (N.failed notes.old) (N.failed notes.new) }
+        ensures rows_same { R.loans rows.new ≡ R.loans rows.old }
+        ensures notes_same { N.loans notes.new ≡ N.loans notes.old }
+    {
+        report_tab(!self.word.is_told, place, notes)?;
+        self.word.is_told = true;
+        self.sheet
+            .put_letter(Cell { c: ' ', font }, place, rows, notes)
+    }
+
+    /// Takes a tab.
+    #[tactic(auto, unfolding(crate::specs::Fill::tab))]
+    pub(crate) fn tab<R: RowSink, N: NoteSink>(
+        &mut self,
+        font: Font,
+        place: Place,
+        rows: &mut R,
+        notes: &mut N,
+    ) -> Result<(), Fault>
+        ensures lays { Lays result R.gave R.within N.gave N.within rows.old rows.new notes.old notes.new self.new
+            (fill.tab self.old font place) }
+        ensures faults { FailsBySink result (R.failed rows.old) (R.failed rows.new) (N.failed notes.old) (N.failed notes.new) }
+        ensures rows_same { R.loans rows.new ≡ R.loans rows.old }
+        ensures notes_same { N.loans notes.new ≡ N.loans notes.old }
+    {
+        self.open_word(place, rows, notes)?;
+        if self.sheet.is_literal() {
+            self.fixed_tab(place, rows, notes)
+        } else {
+            self.filled_tab(font, place, rows, notes)
+        }
+    }
+
+    /// The open row ends, and nothing waits.
+    #[tactic(auto, unfolding(crate::specs::Fill::ended))]
+    pub(crate) fn end_row<R: RowSink, N: NoteSink>(
+        &mut self,
+        rows: &mut R,
+        notes: &mut N,
+    ) -> Result<(), Fault>
+        ensures lays { Lays result R.gave R.within N.gave N.within rows.old rows.new notes.old notes.new self.new
+            (fill.ended self.old) }
+        ensures faults { FailsBySink result (R.failed rows.old) (R.failed rows.new) (N.failed notes.old) (N.failed notes.new) }
+        ensures rows_same { R.loans rows.new ≡ R.loans rows.old }
+        ensures notes_same { N.loans notes.new ≡ N.loans notes.old }
+    {
+        self.sheet.end_row(rows, notes)?;
+        self.word = NO_WORD;
+        Ok(())
+    }
+
+    /// The row ends, and blank rows are given until so many stand there; none after a heading's row.
+    #[tactic(auto, unfolding(crate::specs::Fill::paragraph))]
+    pub(crate) fn paragraph<R: RowSink, N: NoteSink>(
+        &mut self,
+        count: u32,
+        rows: &mut R,
+        notes: &mut N,
+    ) -> Result<(), Fault>
+        ensures lays { Lays result R.gave R.within N.gave N.within rows.old rows.new notes.old notes.new self.new
+            (fill.paragraph self.old count) }
+        ensures faults { FailsBySink result (R.failed rows.old) (R.failed rows.new) (N.failed notes.old) (N.failed notes.new) }
+        ensures rows_same { R.loans rows.new ≡ R.loans rows.old }
+        ensures notes_same { N.loans notes.new ≡ N.loans notes.old }
+    {
+        self.end_row(rows, notes)?;
+        let missing = self.sheet.missing_rows(count);
+        self.sheet.give_empty_rows(missing, rows, notes)
+    }
+
+    /// The row ends, and so many blank rows are given.
+    #[tactic(auto, unfolding(crate::specs::Fill::spaced))]
+    pub(crate) fn space<R: RowSink, N: NoteSink>(
+        &mut self,
+        count: u32,
+        rows: &mut R,
+        notes: &mut N,
+    ) -> Result<(), Fault>
+        ensures lays { Lays result R.gave R.within N.gave N.within rows.old rows.new notes.old notes.new self.new
+            (fill.spaced self.old count) }
+        ensures faults { FailsBySink result (R.failed rows.old) (R.failed rows.new) (N.failed notes.old) (N.failed notes.new) }
+        ensures rows_same { R.loans rows.new ≡ R.loans rows.old }
+        ensures notes_same { N.loans notes.new ≡ N.loans notes.old }
+    {
+        self.end_row(rows, notes)?;
+        self.sheet.give_empty_rows(count, rows, notes)
+    }
+
+    /// The row ends as a heading's row, if it has a cell.
+    #[tactic(auto, unfolding(crate::specs::Fill::heading))]
+    pub(crate) fn heading<R: RowSink, N: NoteSink>(
+        &mut self,
+        rows: &mut R,
+        notes: &mut N,
+    ) -> Result<(), Fault>
+        ensures lays { Lays result R.gave R.within N.gave N.within rows.old rows.new notes.old notes.new self.new
+            (fill.heading self.old) }
+        ensures faults { FailsBySink result (R.failed rows.old) (R.failed rows.new) (N.failed notes.old) (N.failed notes.new) }
+        ensures rows_same { R.loans rows.new ≡ R.loans rows.old }
+        ensures notes_same { N.loans notes.new ≡ N.loans notes.old }
+    {
+        let is_empty = self.sheet.cells().is_empty();
+        self.end_row(rows, notes)?;
+        if !is_empty {
+            self.sheet.set_heading();
+        }
+        Ok(())
+    }
+
+    /// A tag begins.
+    pub(crate) fn begin_tag(&mut self, hang: u32, form: TagForm)
+        ensures { self.new ≡ fill.with_tag self.old hang form }
+    {
+        self.sheet.count_anew();
+        self.tag = Some(OpenTag { hang, form });
+    }
+
+    // What follows a tag with a cell.
+    fn after_tag<R: RowSink, N: NoteSink>(
+        &mut self,
+        tag: OpenTag,
+        rows: &mut R,
+        notes: &mut N,
+    ) -> Result<(), Fault>
+        ensures lays { Lays result R.gave R.within N.gave N.within rows.old rows.new notes.old notes.new self.new
+            (fill.after_tag self.old tag.hang tag.form) }
+        ensures faults { FailsBySink result (R.failed rows.old) (R.failed rows.new) (N.failed notes.old) (N.failed notes.new) }
+        ensures rows_same { R.loans rows.new ≡ R.loans rows.old }
+        ensures notes_same { N.loans notes.new ≡ N.loans notes.old }
+    {
+        let hang = tag.hang.min(HANG_MAX);
+        let taken = self.sheet.tag_columns();
+        let fits = taken < hang;
+        match tag.form {
+            TagForm::Inset(blanks) => self.word = OpenWord::placed(blanks),
+            TagForm::Row | TagForm::Hang if fits => self.word = OpenWord::placed(hang - taken),
+            TagForm::Row => return self.end_row(rows, notes),
+            TagForm::Hang => self.word = OpenWord::placed(1),
+        }
+        Ok(())
+    }
+
+    /// The tag ends.
+    pub(crate) fn end_tag<R: RowSink, N: NoteSink>(
+        &mut self,
+        rows: &mut R,
+        notes: &mut N,
+    ) -> Result<(), Fault>
+        ensures lays { Lays result R.gave R.within N.gave N.within rows.old rows.new notes.old notes.new self.new
+            (fill.tag_ended (fill.without_tag self.old) self.old.tag) }
+        ensures faults { FailsBySink result (R.failed rows.old) (R.failed rows.new) (N.failed notes.old) (N.failed notes.new) }
+        ensures rows_same { R.loans rows.new ≡ R.loans rows.old }
+        ensures notes_same { N.loans notes.new ≡ N.loans notes.old }
+    {
+        let Some(tag) = self.tag else {
+            return Ok(());
+        };
+        self.tag = None;
+        if self.sheet.has_tag_cell() {
+            self.after_tag(tag, rows, notes)
+        } else {
+            Ok(())
+        }
+    }
+
+    /// The next word stands at a column, or a blank behind it.
+    pub(crate) fn column(&mut self, column: u32)
+        ensures { self.new ≡ (fill.placed self.old (fill.to_column self.old.sheet.cells column)).edge }
+    {
+        let cells = self.sheet.cells();
+        let blanks = if cells.is_empty() {
+            column
+        } else {
+            column.saturating_sub(columns(cells)).max(1)
+        };
+        self.word = OpenWord::placed(blanks);
+    }
+}

@@ -1,0 +1,253 @@
+//! The arguments of a macro (roff(7), "Macro syntax").
+
+ghost use Rattle.std.specs.Prelude.{◌≡◌, ◌≤◌, ◌<◌, ◌+◌, ◌-◌, ◌^◌, [], true, length, slice_index_or};
+ghost use Rattle.std.specs.List.{prefix_len};
+ghost use Rattle.page_prose.specs.Emits.{Emits};
+ghost use Rattle.page_prose.specs.Forms.{is_blank};
+ghost use Rattle.page_prose.specs.Words.{quoted_len, quoted_argument_len, argument_len, argument_text, begins_blank, begins_quoted, is_closed};
+ghost use Rattle.page_prose.specs.Fields.{arguments};
+ghost use Rattle.page_prose.specs.Prose.{closing_items, closings_items, argument_items, arguments_items, has_arguments, argument_part, argument_column};
+
+use crate::details::say_if;
+use crate::words::{give_words, word_len};
+use page_core::{Fault, Font, NoteKind, PieceSink, Place};
+
+// The number of bytes of a quoted argument behind its first quote, up to the next lone quote or the end.
+fn quoted_len(text: &[u8]) -> usize
+    ensures value { result ≡ quoted_len text.now }
+    ensures within { result ≤ length text.now }
+{
+    let mut len = 0;
+    while len < text.len() {
+        if text[len] != b'"' {
+            len += 1;
+        } else if len + 1 < text.len() && text[len + 1] == b'"' {
+            len += 2;
+        } else {
+            return len;
+        }
+    }
+    len
+}
+
+// Whether a text begins with a blank.
+fn begins_blank(text: &[u8]) -> bool
+    ensures { result ≡ begins_blank text.now }
+{
+    match text {
+        [] => false,
+        [first, ..] => *first == b' ',
+    }
+}
+
+// The number of blanks at a text's front.
+fn blank_len(text: &[u8]) -> usize
+    ensures value { result ≡ prefix_len is_blank text.now }
+    ensures within { result ≤ length text.now }
+{
+    text.iter().take_while(|byte| **byte == b' ').count()
+}
+
+/// Whether a macro has an argument.
+pub(crate) fn has_arguments(rest: &[u8]) -> bool
+    ensures { result ≡ has_arguments rest.now }
+{
+    blank_len(rest) < rest.len()
+}
+
+// Whether a text begins with a quote.
+fn begins_quoted(text: &[u8]) -> bool
+    ensures value { result ≡ begins_quoted text.now }
+    ensures some { result ≡ true → 0 < length text.now }
+{
+    match text {
+        [] => false,
+        [first, ..] => *first == b'"',
+    }
+}
+
+// The number of bytes of a quoted argument, whose bytes behind its first quote are given.
+fn quoted_argument_len(inner: &[u8]) -> usize
+    ensures value { result ≡ quoted_argument_len inner.now }
+    ensures within { result ≤ length inner.now + 1 }
+{
+    let len = quoted_len(inner);
+    if len < inner.len() { len + 2 } else { len + 1 }
+}
+
+/// The number of bytes of the argument at a text's front with its quotes, or of the blanks before one.
+pub(crate) fn argument_len(text: &[u8]) -> usize
+    ensures value { result ≡ argument_len text.now }
+    ensures within { result ≤ length text.now }
+{
+    if begins_blank(text) {
+        return blank_len(text);
+    }
+    if begins_quoted(text) {
+        return quoted_argument_len(&text[1..]);
+    }
+    word_len(false, text)
+}
+
+/// An argument as it is written.
+#[derive(Clone, Copy)]
+pub(crate) struct Argument<'a> {
+    /// The text without its quotes.
+    pub text: &'a [u8],
+    pub is_quoted: bool,
+    /// Whether it has its last quote, or needs none.
+    pub is_closed: bool,
+    /// The column of the text's first byte.
+    pub column: u32,
+}
+
+/// Takes the quotes off an argument that begins at a column.
+pub(crate) fn unquote(raw: &[u8], column: u32) -> Argument<'_>
+    requires { column < 2 ^ 32 - 1 }
+    ensures text { result.text.now ≡ argument_text raw.now }
+    ensures quoted { result.is_quoted ≡ begins_quoted raw.now }
+    ensures closed { result.is_closed ≡ is_closed raw.now }
+    ensures within { length result.text.now ≤ length raw.now }
+    ensures column { result.column ≡ argument_column (record { text = raw.now; column = column }) }
+    ensures room { result.column + length result.text.now ≤ column + length raw.now }
+{
+    if !begins_quoted(raw) {
+        return Argument {
+            text: raw,
+            is_quoted: false,
+            is_closed: true,
+            column,
+        };
+    }
+    let len = quoted_len(&raw[1..]);
+    Argument {
+        text: &raw[1..1 + len],
+        is_quoted: true,
+        is_closed: 1 + len < raw.len(),
+        column: column + 1,
+    }
+}
+
+/// The argument of a number, from 0 on, with its quotes; none: the empty text.
+pub(crate) fn nth_argument(rest: &[u8], n: usize) -> &[u8]
+    ensures { result.now ≡ slice_index_or (arguments rest.now) n [] }
+{
+    let mut rest = rest;
+    let mut left = n;
+    while !rest.is_empty() {
+        let len = argument_len(rest);
+        if !begins_blank(rest) {
+            if left == 0 {
+                return &rest[..len];
+            }
+            left -= 1;
+        }
+        rest = &rest[len..];
+    }
+    &[]
+}
+
+// Reports a quoted argument without its end; blanks give nothing.
+fn note_closing<O: PieceSink>(out: &mut O, place: Place, raw: &[u8]) -> Result<(), Fault>
+    requires { place.column < 2 ^ 32 - 1 }
+    ensures gives { Emits result O.gave O.broke out.old (closing_items place.line (record { text = raw.now; column = place.column })) out.new }
+    ensures same { O.loans out.new ≡ O.loans out.old }
+{
+    let is_open = !unquote(raw, place.column).is_closed;
+    say_if(
+        out,
+        is_open,
+        NoteKind::Unterminated,
+        place.line,
+        place.column,
+        b"",
+    )
+}
+
+/// Reports a quoted argument without its end.
+pub(crate) fn note_closings<O: PieceSink>(
+    out: &mut O,
+    place: Place,
+    rest: &[u8],
+) -> Result<(), Fault>
+    requires { place.column + length rest.now < 2 ^ 32 - 1 }
+    ensures gives { Emits result O.gave O.broke out.old (closings_items place.line place.column rest.now) out.new }
+    ensures same { O.loans out.new ≡ O.loans out.old }
+{
+    let mut rest = rest;
+    let mut column = place.column;
+    while !rest.is_empty() {
+        let len = argument_len(rest);
+        let here = Place {
+            line: place.line,
+            column,
+        };
+        note_closing(out, here, &rest[..len])?;
+        rest = &rest[len..];
+        column += len as u32;
+    }
+    Ok(())
+}
+
+// Gives the words of an argument; blanks give nothing.
+fn give_argument<O: PieceSink>(
+    out: &mut O,
+    font: Font,
+    place: Place,
+    raw: &[u8],
+) -> Result<(), Fault>
+    requires { place.column + length raw.now < 2 ^ 32 - 1 }
+    ensures gives { Emits result O.gave O.broke out.old (argument_part font place.line (record { text = raw.now; column = place.column })) out.new }
+    ensures same { O.loans out.new ≡ O.loans out.old }
+{
+    if begins_blank(raw) {
+        return Ok(());
+    }
+    give_argument_words(out, font, place, raw)
+}
+
+// Gives the words of an argument.
+fn give_argument_words<O: PieceSink>(
+    out: &mut O,
+    font: Font,
+    place: Place,
+    raw: &[u8],
+) -> Result<(), Fault>
+    requires { place.column + length raw.now < 2 ^ 32 - 1 }
+    ensures gives { Emits result O.gave O.broke out.old (argument_items font place.line (record { text = raw.now; column = place.column })) out.new }
+    ensures same { O.loans out.new ≡ O.loans out.old }
+{
+    let argument = unquote(raw, place.column);
+    let here = Place {
+        line: place.line,
+        column: argument.column,
+    };
+    note_closing(out, place, raw)?;
+    give_words(out, argument.is_quoted, font, here, argument.text)
+}
+
+/// Gives the words of a macro's arguments.
+pub(crate) fn give_arguments<O: PieceSink>(
+    out: &mut O,
+    font: Font,
+    place: Place,
+    rest: &[u8],
+) -> Result<(), Fault>
+    requires { place.column + length rest.now < 2 ^ 32 - 1 }
+    ensures gives { Emits result O.gave O.broke out.old (arguments_items font place.line place.column rest.now) out.new }
+    ensures same { O.loans out.new ≡ O.loans out.old }
+{
+    let mut rest = rest;
+    let mut column = place.column;
+    while !rest.is_empty() {
+        let len = argument_len(rest);
+        let here = Place {
+            line: place.line,
+            column,
+        };
+        give_argument(out, font, here, &rest[..len])?;
+        rest = &rest[len..];
+        column += len as u32;
+    }
+    Ok(())
+}

@@ -1,0 +1,529 @@
+//! The body of a page: text, titles, section headers and paragraphs become pieces and messages (man(7)).
+
+ghost use Rattle.std.specs.Prelude.{◌≡◌, ◌≤◌, ◌<◌, ◌+◌, ◌-◌, ◌^◌, ◌++◌, [], ◌∷◌, length, OnOk, if◌then◌else◌, ◌==◌};
+ghost use Rattle.std.specs.List.{prefix_len};
+ghost use Rattle.page_core.specs.Checks.{IsGood};
+ghost use Rattle.page_core.specs.Pieces.{shown, piece_of};
+ghost use Rattle.page_prose.specs.Emits.{Emits};
+ghost use Rattle.page_prose.specs.Forms.{is_white};
+ghost use Rattle.page_core.specs.declared.pieces.Piece.TheVariants.{Space};
+ghost use Rattle.page_core.specs.declared.note_kinds.NoteKind.TheVariants.{BlankFill};
+ghost use Rattle.page_prose.specs.Prose as prose;
+ghost use Rattle.page_prose.specs.Prose.{header_items, says};
+
+use crate::arguments::{give_arguments, has_arguments, note_closings};
+use crate::details::{say, say_if};
+use crate::fields::{Fields, is_cut};
+use crate::forms::{Form, form_of, has_word, kept_len, white_len};
+use crate::headers::{give_footer_row, give_header};
+use crate::macros::{Macro, macro_of};
+use crate::words::give_words;
+use arrayvec::ArrayString;
+use page_core::{Fault, Font, NoteKind, Piece, PieceSink, Place, Settings};
+
+/// What decides the pieces of the lines to come.
+#[derive(Drop)]
+pub struct Prose {
+    // The width and the indent in columns.
+    width: u32,
+    indent: u32,
+    os: ArrayString<256>,
+    fields: Fields,
+    // The body began.
+    has_begun: bool,
+    // A word or a blank line came since a heading.
+    has_content: bool,
+}
+
+// Gives the blanks at a text line's front, which are kept.
+fn give_blanks<O: PieceSink>(out: &mut O, line: u32, count: usize) -> Result<(), Fault>
+    requires { count < 2 ^ 32 - 2 }
+    ensures gives { Emits result O.gave O.broke out.old (prose.blanks_items line 1 count) out.new }
+    ensures same { O.loans out.new ≡ O.loans out.old }
+{
+    for i in 0..count {
+        out.piece(Piece::Text {
+            text: b" ",
+            font: Font::R,
+            place: Place {
+                line,
+                column: 1 + i as u32,
+            },
+        })?;
+    }
+    Ok(())
+}
+
+// Ends the row where a text line begins with blanks.
+fn give_break<O: PieceSink>(out: &mut O, text: &[u8]) -> Result<(), Fault>
+    ensures gives { Emits result O.gave O.broke out.old (prose.break_items text.now) out.new }
+    ensures same { O.loans out.new ≡ O.loans out.old }
+{
+    if white_len(text) > 0 {
+        return out.piece(Piece::Break);
+    }
+    Ok(())
+}
+
+// Gives the words of a text line.
+fn give_text_items<O: PieceSink>(out: &mut O, line: u32, text: &[u8]) -> Result<(), Fault>
+    requires { length text.now < 2 ^ 32 - 2 }
+    ensures gives { Emits result O.gave O.broke out.old (prose.text_items line text.now) out.new }
+    ensures same { O.loans out.new ≡ O.loans out.old }
+{
+    give_break(out, text)?;
+    give_blanks(out, line, white_len(text))?;
+    give_words(out, false, Font::R, Place { line, column: 1 }, text)
+}
+
+// Gives two pieces without a text.
+fn give_two<O: PieceSink>(
+    out: &mut O,
+    first: Piece<&[u8]>,
+    second: Piece<&[u8]>,
+) -> Result<(), Fault>
+    ensures gives { Emits result O.gave O.broke out.old (shown (piece_of first.entry) ∷ (shown (piece_of second.entry) ∷ [])) out.new }
+    ensures same { O.loans out.new ≡ O.loans out.old }
+{
+    out.piece(first)?;
+    out.piece(second)
+}
+
+// Reports a field that is cut.
+fn note_cut<O: PieceSink>(out: &mut O, place: Place, rest: &[u8], n: usize) -> Result<(), Fault>
+    ensures gives { Emits result O.gave O.broke out.old (prose.cut_items place.line place.column rest.now n) out.new }
+    ensures same { O.loans out.new ≡ O.loans out.old }
+{
+    let is_cut = is_cut(rest, n);
+    say_if(
+        out,
+        is_cut,
+        NoteKind::Limit,
+        place.line,
+        place.column,
+        b"FIELD",
+    )
+}
+
+// Reports the fields that are cut.
+fn note_cuts<O: PieceSink>(out: &mut O, place: Place, rest: &[u8]) -> Result<(), Fault>
+    ensures gives { Emits result O.gave O.broke out.old (prose.fields_items place.line place.column rest.now) out.new }
+    ensures same { O.loans out.new ≡ O.loans out.old }
+{
+    note_cut(out, place, rest, 0)?;
+    note_cut(out, place, rest, 1)?;
+    note_cut(out, place, rest, 2)?;
+    note_cut(out, place, rest, 3)?;
+    note_cut(out, place, rest, 4)
+}
+
+impl Prose {
+    /// The prose of a page that begins, by settings that pass their check.
+    pub fn new(settings: &Settings) -> Prose
+        ensures { result ≡ prose.start_of settings.now }
+    {
+        Prose {
+            width: settings.width,
+            indent: settings.indent.unwrap_or(7),
+            os: settings.os,
+            fields: Fields::new(settings.os.as_str().as_bytes()),
+            has_begun: false,
+            has_content: false,
+        }
+    }
+
+    // Gives the header where the body begins.
+    fn begin<O: PieceSink>(&self, out: &mut O, line: u32) -> Result<(), Fault>
+        ensures gives { Emits result O.gave O.broke out.old (prose.begin_items self.now line) out.new }
+        ensures same { O.loans out.new ≡ O.loans out.old }
+    {
+        if self.has_begun {
+            return Ok(());
+        }
+        give_header(out, self.width, self.indent, line, &self.fields)
+    }
+
+    // Gives the header where the body begins otherwise than by a section header.
+    fn begin_otherwise<O: PieceSink>(&self, out: &mut O, line: u32) -> Result<(), Fault>
+        ensures gives { Emits result O.gave O.broke out.old (prose.begin_otherwise self.now line) out.new }
+        ensures same { O.loans out.new ≡ O.loans out.old }
+    {
+        if self.has_begun {
+            return Ok(());
+        }
+        self.begin_with(out, line, NoteKind::BeforeSection)
+    }
+
+    // Gives the header and a message.
+    fn begin_with<O: PieceSink>(
+        &self,
+        out: &mut O,
+        line: u32,
+        kind: NoteKind,
+    ) -> Result<(), Fault>
+        ensures gives { Emits result O.gave O.broke out.old (header_items self.now.width self.now.indent line self.now.fields ++ says kind line 1 [] ∷ []) out.new }
+        ensures same { O.loans out.new ≡ O.loans out.old }
+    {
+        give_header(out, self.width, self.indent, line, &self.fields)?;
+        say(out, kind, line, 1, b"")
+    }
+
+    // Gives a text line.
+    fn give_text<O: PieceSink>(&self, out: &mut O, line: u32, text: &[u8]) -> Result<(), Fault>
+        requires { length text.now < 2 ^ 32 - 2 }
+        ensures gives { Emits result O.gave O.broke out.old (prose.text_line self.now line text.now) out.new }
+        ensures same { O.loans out.new ≡ O.loans out.old }
+    {
+        if !has_word(text) {
+            return give_break(out, text);
+        }
+        self.give_words_line(out, line, text)
+    }
+
+    // Gives a text line that has a word.
+    fn give_words_line<O: PieceSink>(
+        &self,
+        out: &mut O,
+        line: u32,
+        text: &[u8],
+    ) -> Result<(), Fault>
+        requires { length text.now < 2 ^ 32 - 2 }
+        ensures gives { Emits result O.gave O.broke out.old (prose.begin_otherwise self.now line ++ prose.text_items line text.now) out.new }
+        ensures same { O.loans out.new ≡ O.loans out.old }
+    {
+        self.begin_otherwise(out, line)?;
+        give_text_items(out, line, text)
+    }
+
+    // Gives a blank line.
+    fn give_blank_line<O: PieceSink>(&self, out: &mut O, line: u32) -> Result<(), Fault>
+        ensures gives { Emits result O.gave O.broke out.old (prose.blank_line self.now line) out.new }
+        ensures same { O.loans out.new ≡ O.loans out.old }
+    {
+        if !self.has_begun {
+            return Ok(());
+        }
+        give_blank_row(out, line)
+    }
+
+    // Gives a heading.
+    fn give_heading<O: PieceSink>(&self, out: &mut O, rest: &[u8], place: Place) -> Result<(), Fault>
+        requires { place.column + length rest.now < 2 ^ 32 - 1 }
+        ensures gives { Emits result O.gave O.broke out.old (prose.heading_items self.now place.line rest.now place.column) out.new }
+        ensures same { O.loans out.new ≡ O.loans out.old }
+    {
+        let margin = Piece::Indent {
+            first: self.indent,
+            rest: self.indent,
+        };
+        give_two(out, Piece::Para(1), Piece::Indent { first: 0, rest: 0 })?;
+        give_arguments(out, Font::B, place, rest)?;
+        give_two(out, Piece::Heading, margin)
+    }
+
+    // Gives a section header.
+    fn give_section<O: PieceSink>(
+        &self,
+        out: &mut O,
+        name: &[u8],
+        place: Place,
+        rest: &[u8],
+        rest_column: u32,
+    ) -> Result<(), Fault>
+        requires { rest_column + length rest.now < 2 ^ 32 - 1 }
+        ensures gives { Emits result O.gave O.broke out.old (prose.section_line self.now place.line name.now place.column rest.now rest_column) out.new }
+        ensures same { O.loans out.new ≡ O.loans out.old }
+    {
+        if !has_arguments(rest) {
+            return say(out, NoteKind::EmptyMacro, place.line, place.column, name);
+        }
+        let here = Place {
+            line: place.line,
+            column: rest_column,
+        };
+        self.give_section_items(out, rest, here)
+    }
+
+    // Gives a section header that has words.
+    fn give_section_items<O: PieceSink>(
+        &self,
+        out: &mut O,
+        rest: &[u8],
+        place: Place,
+    ) -> Result<(), Fault>
+        requires { place.column + length rest.now < 2 ^ 32 - 1 }
+        ensures gives { Emits result O.gave O.broke out.old (prose.begin_items self.now place.line ++ prose.heading_items self.now place.line rest.now place.column) out.new }
+        ensures same { O.loans out.new ≡ O.loans out.old }
+    {
+        self.begin(out, place.line)?;
+        self.give_heading(out, rest, place)
+    }
+
+    // Gives a paragraph, or reports that it is skipped.
+    fn give_paragraph_items<O: PieceSink>(
+        &self,
+        out: &mut O,
+        name: &[u8],
+        place: Place,
+    ) -> Result<(), Fault>
+        ensures gives { Emits result O.gave O.broke out.old (prose.paragraph_items self.now place.line name.now place.column) out.new }
+        ensures same { O.loans out.new ≡ O.loans out.old }
+    {
+        if !self.has_content {
+            return say(out, NoteKind::SkipPara, place.line, place.column, name);
+        }
+        let margin = Piece::Indent {
+            first: self.indent,
+            rest: self.indent,
+        };
+        give_two(out, Piece::Para(1), margin)
+    }
+
+    // Gives a paragraph macro.
+    fn give_paragraph<O: PieceSink>(
+        &self,
+        out: &mut O,
+        name: &[u8],
+        place: Place,
+        rest: &[u8],
+        rest_column: u32,
+    ) -> Result<(), Fault>
+        requires { rest_column + length rest.now < 2 ^ 32 - 1 }
+        ensures gives { Emits result O.gave O.broke out.old (prose.paragraph_line self.now place.line name.now place.column rest.now rest_column) out.new }
+        ensures same { O.loans out.new ≡ O.loans out.old }
+    {
+        let here = Place {
+            line: place.line,
+            column: rest_column,
+        };
+        self.begin_otherwise(out, place.line)?;
+        note_closings(out, here, rest)?;
+        self.give_paragraph_items(out, name, place)
+    }
+
+    // Reports a title macro that comes too late, or its fields that are cut.
+    fn give_title_items<O: PieceSink>(
+        &self,
+        out: &mut O,
+        name: &[u8],
+        place: Place,
+        rest: &[u8],
+    ) -> Result<(), Fault>
+        ensures gives { Emits result O.gave O.broke out.old (prose.title_items self.now place.line name.now place.column rest.now) out.new }
+        ensures same { O.loans out.new ≡ O.loans out.old }
+    {
+        if self.has_begun {
+            return say(out, NoteKind::LateMacro, place.line, place.column, name);
+        }
+        note_cuts(out, place, rest)
+    }
+
+    // Gives the messages of a title macro.
+    fn give_title<O: PieceSink>(
+        &self,
+        out: &mut O,
+        name: &[u8],
+        place: Place,
+        rest: &[u8],
+        rest_column: u32,
+    ) -> Result<(), Fault>
+        requires { rest_column + length rest.now < 2 ^ 32 - 1 }
+        ensures gives { Emits result O.gave O.broke out.old (prose.title_line self.now place.line name.now place.column rest.now rest_column) out.new }
+        ensures same { O.loans out.new ≡ O.loans out.old }
+    {
+        let here = Place {
+            line: place.line,
+            column: rest_column,
+        };
+        note_closings(out, here, rest)?;
+        self.give_title_items(out, name, place, rest)
+    }
+
+    // Gives a macro.
+    fn give_macro<O: PieceSink>(
+        &self,
+        out: &mut O,
+        name: &[u8],
+        place: Place,
+        rest: &[u8],
+        rest_column: u32,
+    ) -> Result<(), Fault>
+        requires { rest_column + length rest.now < 2 ^ 32 - 1 }
+        ensures gives { Emits result O.gave O.broke out.old (prose.macro_line (prose.macro_of name.now) self.now place.line name.now place.column rest.now rest_column) out.new }
+        ensures same { O.loans out.new ≡ O.loans out.old }
+    {
+        match macro_of(name) {
+            Macro::Empty => Ok(()),
+            Macro::Title => self.give_title(out, name, place, rest, rest_column),
+            Macro::Section => self.give_section(out, name, place, rest, rest_column),
+            Macro::Paragraph => self.give_paragraph(out, name, place, rest, rest_column),
+            Macro::Unknown => say(
+                out,
+                NoteKind::UnknownMacro,
+                place.line,
+                place.column,
+                name,
+            ),
+        }
+    }
+}
+
+// Gives the blank row and the message of a blank line.
+fn give_blank_row<O: PieceSink>(out: &mut O, line: u32) -> Result<(), Fault>
+    ensures gives { Emits result O.gave O.broke out.old (says BlankFill line 1 [] ∷ (shown (Space 1) ∷ [])) out.new }
+    ensures same { O.loans out.new ≡ O.loans out.old }
+{
+    say(out, NoteKind::BlankFill, line, 1, b"")?;
+    out.piece(Piece::Space(1))
+}
+
+impl Prose {
+    // Gives what a line of a form gives.
+    #[tactic(auto, unfolding(crate::specs::Prose::form_items))]
+    fn give_form<O: PieceSink>(
+        &self,
+        out: &mut O,
+        line: u32,
+        form: Form<&[u8]>,
+    ) -> Result<(), Fault>
+        requires { prose.IsShort (prose.form_view form) }
+        ensures gives { Emits result O.gave O.broke out.old (prose.form_items self.now line (prose.form_view form.entry)) out.new }
+        ensures same { O.loans out.new ≡ O.loans out.old }
+    {
+        match form {
+            Form::Nothing => Ok(()),
+            Form::BlankLine => self.give_blank_line(out, line),
+            Form::Words(text) => self.give_text(out, line, text),
+            Form::Call {
+                name,
+                column,
+                rest,
+                rest_column,
+            } => self.give_macro(out, name, Place { line, column }, rest, rest_column),
+        }
+    }
+
+    // Keeps what a line of a form leaves.
+    #[tactic(auto, unfolding(crate::specs::Prose::form_after))]
+    fn pass(&mut self, form: Form<&[u8]>)
+        ensures { self.new ≡ prose.form_after self.old (prose.form_view form.entry) }
+    {
+        match form {
+            Form::Nothing => {}
+            Form::BlankLine => {
+                if self.has_begun {
+                    self.has_content = true;
+                }
+            }
+            Form::Words(text) => {
+                if has_word(text) {
+                    self.has_begun = true;
+                    self.has_content = true;
+                }
+            }
+            Form::Call { name, rest, .. } => self.pass_macro(macro_of(name), rest),
+        }
+    }
+
+    // Keeps what a macro leaves.
+    fn pass_macro(&mut self, called: Macro, rest: &[u8])
+        ensures { self.new ≡ prose.macro_after called self.old rest.now }
+    {
+        match called {
+            Macro::Empty | Macro::Unknown => {}
+            Macro::Title => {
+                if !self.has_begun {
+                    self.fields = Fields::of(self.os.as_str().as_bytes(), rest);
+                }
+            }
+            Macro::Section => {
+                if has_arguments(rest) {
+                    self.has_begun = true;
+                    self.has_content = false;
+                }
+            }
+            Macro::Paragraph => self.has_begun = true,
+        }
+    }
+}
+
+// Reports white space at a line's end.
+fn note_trailing<O: PieceSink>(out: &mut O, line: u32, text: &[u8]) -> Result<(), Fault>
+    requires { length text.now < 2 ^ 32 - 2 }
+    ensures gives { Emits result O.gave O.broke out.old (prose.trailing_items line text.now) out.new }
+    ensures same { O.loans out.new ≡ O.loans out.old }
+{
+    let len = kept_len(text);
+    say_if(
+        out,
+        len < text.len(),
+        NoteKind::TrailingBlank,
+        line,
+        len as u32 + 1,
+        b"",
+    )
+}
+
+impl Prose {
+    /// Takes a line of fewer than 2^32 - 2 bytes, and gives its pieces and messages. After a fault it is not to be used again.
+    #[tactic(auto, unfolding(crate::specs::Prose::line_items))]
+    pub fn line<O: PieceSink>(&mut self, out: &mut O, line: u32, text: &[u8]) -> Result<(), Fault>
+        requires { length text.now < 2 ^ 32 - 2 }
+        ensures gives { Emits result O.gave O.broke out.old (prose.line_items self.old line text.now) out.new }
+        ensures after { OnOk result (self.new ≡ prose.line_after self.old text.now) }
+        ensures same { O.loans out.new ≡ O.loans out.old }
+    {
+        let form = form_of(text);
+        note_trailing(out, line, text)?;
+        self.give_form(out, line, form)?;
+        self.pass(form);
+        Ok(())
+    }
+
+    /// Ends the body behind a line: the header and a message where no body began, and the end of the row.
+    #[tactic(auto, unfolding(crate::specs::Prose::end_items))]
+    pub fn end<O: PieceSink>(&self, out: &mut O, line: u32) -> Result<(), Fault>
+        ensures gives { Emits result O.gave O.broke out.old (prose.end_items self.now line) out.new }
+        ensures same { O.loans out.new ≡ O.loans out.old }
+    {
+        self.give_no_body(out, line)?;
+        out.piece(Piece::Break)
+    }
+
+    // Gives the header and a message where no body began.
+    fn give_no_body<O: PieceSink>(&self, out: &mut O, line: u32) -> Result<(), Fault>
+        ensures gives { Emits result O.gave O.broke out.old (prose.no_body self.now line) out.new }
+        ensures same { O.loans out.new ≡ O.loans out.old }
+    {
+        if self.has_begun {
+            return Ok(());
+        }
+        self.begin_with(out, line, NoteKind::NoBody)
+    }
+
+    /// Gives the footer, and before it a blank row, unless one stands there.
+    #[tactic(auto, unfolding(crate::specs::Prose::footer_items))]
+    pub fn footer<O: PieceSink>(
+        &self,
+        out: &mut O,
+        line: u32,
+        blank_rows: u32,
+    ) -> Result<(), Fault>
+        ensures gives { Emits result O.gave O.broke out.old (prose.footer_items self.now line blank_rows) out.new }
+        ensures same { O.loans out.new ≡ O.loans out.old }
+    {
+        give_blank_row_if(out, blank_rows == 0)?;
+        give_footer_row(out, self.width, Place { line, column: 1 }, &self.fields)
+    }
+}
+
+// Gives a blank row where a condition holds.
+fn give_blank_row_if<O: PieceSink>(out: &mut O, holds: bool) -> Result<(), Fault>
+    ensures gives { Emits result O.gave O.broke out.old (if holds then shown (Space 1) ∷ [] else []) out.new }
+    ensures same { O.loans out.new ≡ O.loans out.old }
+{
+    if holds {
+        return out.piece(Piece::Space(1));
+    }
+    Ok(())
+}
