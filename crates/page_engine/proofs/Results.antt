@@ -1,12 +1,20 @@
--- Clauses at one result, put together.
-use Rattle.std.proofs.Common.{Result, Ok, Err, OnOk, OnErr, IfErr, MatchResult}
+-- The faults of sinks.
+use Rattle.std.proofs.Common.{ℕ, Result, Ok, Err}
+use Rattle.std.specs.Prelude.{IfErr}
 use Rattle.page_core.specs.declared.faults.Fault.{Fault}
+use Rattle.page_core.specs.declared.faults.Fault.TheVariants.{Memory, Read, WriteText, WriteNotes, TooLong, Settings, Failed, Ended, BadIndex}
+use Rattle.page_core.specs.Fails.{FailsBySink}
+use Rattle.page_engine.specs.Runs.{IsWrite}
 
-pub ok_both : (res : Result (Unit {0}) Fault) (A B C : Type 0) → OnOk res A → OnOk res B → (A → B → C) → OnOk res C
-ok_both (Ok x) A B C a b f = f a b
-ok_both (Err x) A B C a b f = tt
-
-pub by_result : (res : Result (Unit {0}) Fault) (A : Type 0) (B : Fault → Type 0) (C : Type 0) (D : Fault → Type 0)
-    → OnOk res A → IfErr res B → (A → C) → ((f : Fault) → B f → D f) → MatchResult res (λ _. C) D
-by_result (Ok x) A B C D a b f h = f a
-by_result (Err x) A B C D a b f h = h x b
+-- a call that fails by its sinks alone answers one of their faults
+pub write_of : (res : Result (Unit {0}) Fault) (r r' n n' : ℕ) → FailsBySink res r r' n n' → IfErr res IsWrite
+write_of (Ok x) r r' n n' h = tt
+write_of (Err Memory) r r' n n' h = h
+write_of (Err Read) r r' n n' h = h
+write_of (Err WriteText) r r' n n' h = tt
+write_of (Err WriteNotes) r r' n n' h = tt
+write_of (Err TooLong) r r' n n' h = h
+write_of (Err (Settings s)) r r' n n' h = h
+write_of (Err Failed) r r' n n' h = h
+write_of (Err Ended) r r' n n' h = h
+write_of (Err (BadIndex l)) r r' n n' h = h

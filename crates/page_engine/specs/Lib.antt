@@ -3,3 +3,4 @@ pub mod Shown
 pub mod Items
 pub mod Page
 pub mod Below
+pub mod Runs

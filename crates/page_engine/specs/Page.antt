@@ -8,14 +8,9 @@ use Rattle.page_fill.specs.declared.words.Edge.{Edge as FillEdge}
 use Rattle.page_fill.specs.Fill as fill
 use Rattle.page_prose.specs.declared.prose.Prose.{Prose}
 use Rattle.page_prose.specs.Prose.{line_items, line_after, end_items, footer_items, start_of}
+use Rattle.page_roff_lines.specs.Decoding.{Line}
 use Rattle.page_engine.specs.Levels.{given, worst_of}
 use Rattle.page_engine.specs.Items.{laid_items}
-
--- a line of a page: its text, its number, and the messages of its cutting
-pub record Line : Type 0 where
-  pub text : List ℕ
-  pub number : ℕ
-  pub notes : List Message
 
 -- what decides the rest of a page
 pub record Edge : Type 0 where

@@ -4,5 +4,6 @@
 mod belows;
 mod filters;
 mod pages;
+mod runs;
 
-pub use filters::Filter;
+pub use runs::{Counts, Outcome};

@@ -1,0 +1,16 @@
+pub mod HeldLemmas
+pub mod OpenLaws
+pub mod RunLemmas
+pub mod Spots
+pub mod SpotReadings
+pub mod Agreement
+pub mod MarkLemmas
+pub mod CharacterLemmas
+pub mod ReportLemmas
+pub mod ChoiceLemmas
+pub mod PlaceLemmas
+pub mod PlainLemmas
+pub mod LineAgreement
+pub mod SequenceLemmas
+pub mod FineLemmas
+pub mod HeldLaws

@@ -1,0 +1,89 @@
+-- A byte order mark is dropped, and a page that only begins like one has these bytes.
+use Rattle.std.proofs.Common.{◌≡◌, ℕ, zero, suc, ◌+◌, ◌-◌, ◌<◌, ◌≤◌, Bool, true, false, cond, List, [], ◌∷◌, ◌++◌, map, length, take, drop, get_or, refl, sym, ap, subst, ◌∙◌, append_assoc, append-nil, length-append, arith, inl, inr}
+use Rattle.std.specs.Prelude.{not, All, ◌==◌, nat_eq}
+use Rattle.std.specs.List.{slice_split, onto_first, join_with_byte}
+use Rattle.std.specs.Str.Lines.{strip_carriage_return, lines_of_parts, lines as physical_lines}
+use Rattle.std.proofs.lemmas.Bool.Decides.{eqb_tells}
+use Rattle.std.proofs.Math.Dec.{eqb-suc-zero}
+use lib.Pointwise.{pointwise}
+use borrow.Author.Tests.{ne_eqb}
+use Rattle.std.proofs.lemmas.List.Splits.{join_with_byte-slice_split}
+use Rattle.page_roff_lines.specs.declared.Mode.{Mode}
+use Rattle.page_roff_lines.specs.declared.Mode.TheVariants.{Plain, Backslash, Comment, Dropped}
+use Rattle.page_roff_lines.specs.declared.Mark.{Mark}
+use Rattle.page_roff_lines.specs.declared.Mark.TheVariants.{Unread, First, Second, Absent, Present}
+use Rattle.page_roff_lines.specs.Bytes.{newline, carriage_return, backslash, byte_order_mark}
+use Rattle.page_roff_lines.specs.Limit.{line_limit}
+use Rattle.page_roff_lines.specs.Held.{Held, held, nothing_held, extended, shortened}
+use Rattle.page_roff_lines.specs.Reading.{Reading, read, read_pair}
+use Rattle.page_roff_lines.specs.Logical.{Logical, Kept, joined, logical_lines, kept, kept_lines, has_mark, without_mark}
+use Rattle.page_roff_lines.specs.Open.{Open, first_open, restarted, open_after, put_byte, put_newline, newline_in, without_return, closed, put_in, put_plain, put_pair, put, counted, ends_mark, mark_after, ended, end_in, left, whole_lines, kept_of, if_whole, last_line, lines_from}
+use Rattle.page_roff_lines.specs.Run.{is_settled}
+use Rattle.page_roff_lines.proofs.OpenLaws.{left-append, whole_lines-append}
+use Rattle.page_roff_lines.proofs.RunLemmas.{st, any, left-restarted, whole_lines-restarted}
+use Rattle.page_roff_lines.proofs.Spots.{plain, at}
+use Rattle.page_roff_lines.proofs.Agreement.{lines_from-start}
+
+
+-- a page without a mark, and one after its mark
+abbrev unmarked : Open
+unmarked = st Plain nothing_held false false 1 1 0 Absent
+
+abbrev marked : Open
+marked = st Plain nothing_held false false 1 1 3 Present
+
+-- after the first bytes of a mark
+abbrev after_one : Mark → Open
+after_one a = st Plain (extended nothing_held (0xEF ∷ [])) false true 1 1 1 a
+
+abbrev after_two : Mark → Open
+after_two a = st Plain (extended (extended nothing_held (0xEF ∷ [])) (0xBB ∷ [])) false true 1 1 2 a
+
+by_first : (o q : Open) (b : ℕ) (bs : List ℕ) → open_after o b ≡ open_after q b → lines_from o (b ∷ bs) ≡ lines_from q (b ∷ bs)
+unfolding left whole_lines
+by_first o q b bs h = ap (λ (q : Open). (if_whole q ++ whole_lines q bs) ++ last_line (left q bs)) h
+
+by_open : (o q : Open) (b : ℕ) (bs : List ℕ) → open_after o b ≡ q → if_whole q ≡ [] → lines_from o (b ∷ bs) ≡ lines_from q bs
+unfolding left whole_lines
+by_open o q b bs h e = rw (h, e) refl
+
+third : (bs : List ℕ) → lines_from (after_two Second) bs
+    ≡ cond (pointwise nat_eq (0xBF ∷ []) (take 1 bs)) (lines_from marked (drop 1 bs)) (lines_from (after_two Absent) bs)
+unfolding left whole_lines ended end_in restarted closed if_whole open_after put_byte counted ends_mark mark_after
+third [] = refl
+third (b ∷ bs) = elim (eqb_tells b 0xBF) [
+    inl is ↦ rw is.1 (by_open (after_two Second) marked 0xBF bs refl refl)
+  | inr n ↦ rw (ne_eqb 0xBF b (λ e. n.1 (sym e))) (by_first (after_two Second) (after_two Absent) b bs (rw n.0 refl))
+  ]
+
+second : (bs : List ℕ) → lines_from (after_one First) bs
+    ≡ cond (pointwise nat_eq (0xBB ∷ 0xBF ∷ []) (take 2 bs)) (lines_from marked (drop 2 bs)) (lines_from (after_one Absent) bs)
+unfolding left whole_lines ended end_in restarted closed if_whole open_after put_byte put_in put_plain put counted ends_mark mark_after
+second [] = refl
+second (b ∷ bs) = elim (eqb_tells b 0xBB) [
+    inl is ↦ rw is.1
+      (by_open (after_one First) (after_two Second) 0xBB bs refl refl ∙ third bs
+      ∙ ap (λ ls. cond (pointwise nat_eq (0xBF ∷ []) (take 1 bs)) (lines_from marked (drop 1 bs)) ls)
+        (sym (by_open (after_one Absent) (after_two Absent) 0xBB bs refl refl)))
+  | inr n ↦ rw (ne_eqb 0xBB b (λ e. n.1 (sym e))) (by_first (after_one First) (after_one Absent) b bs (rw n.0 refl))
+  ]
+
+first : (bs : List ℕ) → lines_from first_open bs ≡ cond (has_mark bs) (lines_from marked (drop 3 bs)) (lines_from unmarked bs)
+unfolding left whole_lines ended end_in restarted closed if_whole open_after put_byte put_in put_plain put counted ends_mark mark_after
+first [] = refl
+first (b ∷ bs) = elim (eqb_tells b 0xEF) [
+    inl is ↦ rw is.1
+      (by_open first_open (after_one First) 0xEF bs refl refl ∙ second bs
+      ∙ ap (λ ls. cond (pointwise nat_eq (0xBB ∷ 0xBF ∷ []) (take 2 bs)) (lines_from marked (drop 2 bs)) ls)
+        (sym (by_open unmarked (after_one Absent) 0xEF bs refl refl)))
+  | inr n ↦ rw (ne_eqb 0xEF b (λ e. n.1 (sym e))) (by_first first_open unmarked b bs (rw n.0 refl))
+  ]
+
+either : (c : Bool) (xs ys : List ℕ)
+    → cond c (lines_from marked xs) (lines_from unmarked ys) ≡ map kept (logical_lines 1 (physical_lines (cond c xs ys)))
+either true xs ys = lines_from-start Present 3 xs refl
+either false xs ys = lines_from-start Absent 0 ys refl
+
+-- the lines of a page by its definition are those that its bytes give one by one
+pub kept_lines-one_by_one : (bytes : List ℕ) → kept_lines bytes ≡ lines_from first_open bytes
+kept_lines-one_by_one bytes = sym (first bytes ∙ either (has_mark bytes) (drop 3 bytes) bytes)

@@ -1,0 +1,183 @@
+-- Where the reading of a physical line stands, with the bytes at its end that the next byte may take away.
+use Rattle.std.proofs.Common.{◌≡◌, ℕ, zero, suc, ◌+◌, ◌-◌, ◌<◌, ◌≤◌, Bool, true, false, cond, List, [], ◌∷◌, ◌++◌, length, take, drop, get_or, refl, sym, ap, subst, ◌∙◌, append_assoc, append-nil, length-append, arith}
+use Rattle.std.specs.Prelude.{◌==◌, if◌then◌else◌}
+use Rattle.std.proofs.Common.{inl, inr}
+use Rattle.std.proofs.lemmas.Bool.Decides.{eqb_tells}
+use Rattle.std.specs.Str.Lines.{strip_carriage_return}
+use Rattle.page_roff_lines.specs.declared.Mode.{Mode}
+use Rattle.page_roff_lines.specs.declared.Mode.TheVariants.{Plain, Backslash, Comment, Dropped}
+use Rattle.page_roff_lines.specs.declared.Mark.{Mark}
+use Rattle.page_roff_lines.specs.declared.Mark.TheVariants.{Unread, First, Second, Absent, Present}
+use Rattle.page_roff_lines.specs.Bytes.{newline, carriage_return, backslash, quote, hash}
+use Rattle.page_roff_lines.specs.Limit.{line_limit}
+use Rattle.page_roff_lines.specs.Held.{Held, held, extended, shortened}
+use Rattle.page_roff_lines.specs.Reading.{Reading, after_byte, read, read_pair}
+use Rattle.page_roff_lines.specs.Open.{Open, restarted, open_after, put_byte, put_newline, newline_in, without_return, closed, put_in, put_plain, put_pair, pair_mode, put, counted, ends_mark, mark_after, ended, end_in}
+use Rattle.page_roff_lines.specs.Run.{is_settled}
+use Rattle.page_roff_lines.proofs.RunLemmas.{st, take-take-append}
+
+pub data Spot : Type 0 where
+  plain : Spot
+  returned : Spot
+  slash : Spot
+  slash_returned : Spot
+  noted : Spot
+  noted_returned : Spot
+  dropping : Spot
+
+abbrev pub mode_of : Spot → Mode
+mode_of plain = Plain
+mode_of returned = Plain
+mode_of slash = Backslash
+mode_of slash_returned = Backslash
+mode_of noted = Comment
+mode_of noted_returned = Comment
+mode_of dropping = Dropped
+
+abbrev pub return_of : Spot → Bool
+return_of plain = false
+return_of returned = true
+return_of slash = false
+return_of slash_returned = true
+return_of noted = false
+return_of noted_returned = true
+return_of dropping = false
+
+-- the bytes at the end that the next byte may take away
+abbrev pub pending : Spot → List ℕ
+pending plain = []
+pending returned = carriage_return ∷ []
+pending slash = backslash ∷ []
+pending slash_returned = backslash ∷ carriage_return ∷ []
+pending noted = []
+pending noted_returned = carriage_return ∷ []
+pending dropping = []
+
+-- the open line there, after a text and the pending bytes
+abbrev pub at : Mark → ℕ → ℕ → Spot → List ℕ → ℕ → Open
+at a n p s text k = st (mode_of s) (held (text ++ pending s)) (return_of s) true n p k a
+
+abbrev plain_next : ℕ → Spot
+plain_next b = if b == backslash then slash else (if b == carriage_return then returned else plain)
+
+abbrev plain_text : List ℕ → ℕ → List ℕ
+plain_text text b = if b == backslash then text else (if b == carriage_return then text else text ++ b ∷ [])
+
+abbrev noted_next : ℕ → Spot
+noted_next b = if b == carriage_return then noted_returned else noted
+
+abbrev noted_text : List ℕ → ℕ → List ℕ
+noted_text text b = if b == carriage_return then text else text ++ b ∷ []
+
+abbrev pub next : Spot → ℕ → Spot
+next plain b = plain_next b
+next returned b = plain_next b
+next slash b = if b == quote then noted else (if b == hash then dropping else (if b == carriage_return then slash_returned else plain))
+next slash_returned b = plain_next b
+next noted b = noted_next b
+next noted_returned b = noted_next b
+next dropping b = dropping
+
+abbrev pub next_text : Spot → List ℕ → ℕ → List ℕ
+next_text plain text b = plain_text text b
+next_text returned text b = plain_text (text ++ carriage_return ∷ []) b
+next_text slash text b = if b == quote then text ++ backslash ∷ quote ∷ [] else (if b == hash then text else (if b == carriage_return then text else text ++ backslash ∷ b ∷ []))
+next_text slash_returned text b = plain_text (text ++ backslash ∷ carriage_return ∷ []) b
+next_text noted text b = noted_text text b
+next_text noted_returned text b = noted_text (text ++ carriage_return ∷ []) b
+next_text dropping text b = text
+
+-- a held text grows and shrinks at its end
+pub held-push : (text : List ℕ) (b : ℕ) → extended (held text) (b ∷ []) ≡ held (text ++ b ∷ [])
+unfolding extended
+held-push text b = rw (take-take-append line_limit text (b ∷ []), length-append text (b ∷ [])) refl
+
+take-length-take : (n : ℕ) (xs ys : List ℕ) → take (length xs) (take n (xs ++ ys)) ≡ take n xs
+take-length-take zero [] ys = refl
+take-length-take zero (x ∷ xs) ys = refl
+take-length-take (suc n) [] ys = refl
+take-length-take (suc n) (x ∷ xs) ys = ap (λ l. x ∷ l) (take-length-take n xs ys)
+
+pub held-pop : (text : List ℕ) (b : ℕ) → shortened (held (text ++ b ∷ [])) ≡ held text
+unfolding shortened
+held-pop text b =
+    let count : length (text ++ b ∷ []) - 1 ≡ length text = omega (arith, length-append text (b ∷ [])) in
+    rw (count, take-length-take line_limit text (b ∷ [])) refl
+
+-- a byte is one of those that cutting looks at, or another
+pub by_byte : (P : ℕ → Type 0) → P backslash → P quote → P hash → P carriage_return
+    → ((b : ℕ) → (b == backslash) ≡ false → (b == quote) ≡ false → (b == hash) ≡ false → (b == carriage_return) ≡ false → P b) → (b : ℕ) → P b
+by_byte P p q h c other b =
+    elim (eqb_tells b backslash) [
+      inl is ↦ subst P (sym is.1) p
+    | inr n ↦ elim (eqb_tells b quote) [
+        inl is ↦ subst P (sym is.1) q
+      | inr m ↦ elim (eqb_tells b hash) [
+          inl is ↦ subst P (sym is.1) h
+        | inr l ↦ elim (eqb_tells b carriage_return) [ inl is ↦ subst P (sym is.1) c | inr k ↦ other b n.0 m.0 l.0 k.0 ]
+        ]
+      ]
+    ]
+
+-- a byte that ends no physical line, when the page's first bytes are read
+pub open_after-settled : (m : Mode) (t : Held) (r : Bool) (n p k : ℕ) (a : Mark) (b : ℕ) → is_settled a ≡ true → (b == newline) ≡ false
+    → open_after (st m t r true n p k a) b ≡ put_in m r (st m t r true n p (k + 1) a) b
+unfolding open_after put_byte counted restarted ends_mark mark_after
+open_after-settled m t r n p k Absent b h e = rw e refl
+open_after-settled m t r n p k Present b h e = rw e refl
+open_after-settled m t r n p k Unread b h e = cc
+open_after-settled m t r n p k First b h e = cc
+open_after-settled m t r n p k Second b h e = cc
+
+grown : (xs ys : List ℕ) (b : ℕ) → xs ++ b ∷ [] ≡ ys → extended (held xs) (b ∷ []) ≡ held ys
+grown xs ys b e = held-push xs b ∙ ap held e
+
+put_plain-at : (a : Mark) (n p k : ℕ) (m : Mode) (r : Bool) (text : List ℕ) (b : ℕ)
+    → put_plain (st m (held text) r true n p k a) b ≡ at a n p (plain_next b) (plain_text text b) k
+unfolding put_plain put
+put_plain-at a n p k m r text =
+    by_byte (λ b. put_plain (st m (held text) r true n p k a) b ≡ at a n p (plain_next b) (plain_text text b) k)
+    (ap (λ h. st Backslash h false true n p k a) (held-push text backslash))
+    (ap (λ h. st Plain h false true n p k a) (grown text _ quote (sym (append-nil _))))
+    (ap (λ h. st Plain h false true n p k a) (grown text _ hash (sym (append-nil _))))
+    (ap (λ h. st Plain h true true n p k a) (held-push text carriage_return))
+    (λ b f g h i. rw (f, i) (ap (λ h. st Plain h false true n p k a) (grown text _ b (sym (append-nil _)))))
+
+put_comment-at : (a : Mark) (n p k : ℕ) (m : Mode) (r : Bool) (text : List ℕ) (b : ℕ)
+    → put (st m (held text) r true n p k a) b Comment ≡ at a n p (noted_next b) (noted_text text b) k
+unfolding put
+put_comment-at a n p k m r text =
+    by_byte (λ b. put (st m (held text) r true n p k a) b Comment ≡ at a n p (noted_next b) (noted_text text b) k)
+    (ap (λ h. st Comment h false true n p k a) (grown text _ backslash (sym (append-nil _))))
+    (ap (λ h. st Comment h false true n p k a) (grown text _ quote (sym (append-nil _))))
+    (ap (λ h. st Comment h false true n p k a) (grown text _ hash (sym (append-nil _))))
+    (ap (λ h. st Comment h true true n p k a) (held-push text carriage_return))
+    (λ b f g h i. rw i (ap (λ h. st Comment h false true n p k a) (grown text _ b (sym (append-nil _)))))
+
+put_pair-at : (a : Mark) (n p k : ℕ) (text : List ℕ) (b : ℕ)
+    → put_pair (st Backslash (held (text ++ backslash ∷ [])) false true n p k a) b ≡ at a n p (next slash b) (next_text slash text b) k
+unfolding put_pair pair_mode put
+put_pair-at a n p k text =
+    by_byte (λ b. put_pair (st Backslash (held (text ++ backslash ∷ [])) false true n p k a) b ≡ at a n p (next slash b) (next_text slash text b) k)
+    (ap (λ h. st Plain h false true n p k a) (grown _ _ backslash (simp (append_assoc, append-nil))))
+    (ap (λ h. st Comment h false true n p k a) (grown _ _ quote (simp (append_assoc, append-nil))))
+    (ap (λ h. st Dropped h false true n p k a) (held-pop text backslash ∙ ap held (sym (append-nil text))))
+    (ap (λ h. st Backslash h true true n p k a) (grown _ _ carriage_return (simp append_assoc)))
+    (λ b f g h i. rw (g, h, i) (ap (λ h. st Plain h false true n p k a) (grown _ _ b (simp (append_assoc, append-nil)))))
+
+put_in-at : (a : Mark) (n p k : ℕ) (s : Spot) (text : List ℕ) (b : ℕ)
+    → put_in (mode_of s) (return_of s) (at a n p s text k) b ≡ at a n p (next s b) (next_text s text b) k
+unfolding put_in
+put_in-at a n p k plain text b = rw append-nil (put_plain-at a n p k Plain false text b)
+put_in-at a n p k returned text b = put_plain-at a n p k Plain true (text ++ carriage_return ∷ []) b
+put_in-at a n p k slash text b = put_pair-at a n p k text b
+put_in-at a n p k slash_returned text b = put_plain-at a n p k Backslash true (text ++ backslash ∷ carriage_return ∷ []) b
+put_in-at a n p k noted text b = rw append-nil (put_comment-at a n p k Comment false text b)
+put_in-at a n p k noted_returned text b = put_comment-at a n p k Comment true (text ++ carriage_return ∷ []) b
+put_in-at a n p k dropping text b = refl
+
+-- from spot to spot
+pub open_after-at : (a : Mark) (n p k : ℕ) (s : Spot) (text : List ℕ) (b : ℕ) → is_settled a ≡ true → (b == newline) ≡ false
+    → open_after (at a n p s text k) b ≡ at a n p (next s b) (next_text s text b) (k + 1)
+open_after-at a n p k s text b h e =
+    open_after-settled (mode_of s) (held (text ++ pending s)) (return_of s) n p k a b h e ∙ put_in-at a n p (k + 1) s text b

@@ -1,0 +1,83 @@
+use Rattle.std.proofs.Common.{◌≡◌, ◌+◌, ◌-◌, ◌<◌, ◌≤◌, [], ◌∷◌, length, take, drop, get_or, refl, sym, ap, ◌∙◌, arith}
+use Rattle.std.proofs.lemmas.List.{length-take-le, length-drop}
+use Rattle.page_roff_lines.specs.Open.{left, whole_lines}
+use Rattle.page_roff_lines.proofs.OpenLaws.{left-taken, rest_of, run-left, run-none, byte-left, byte-lines}
+use Rattle.page_roff_lines.proofs.open.OpenLine.read.Goals as goal
+
+pub loop-at-init : goal.loop-at-init
+unfolding left whole_lines
+loop-at-init c = (omega arith, refl, refl)
+
+pub take_run-at-requires : goal.take_run-at-requires
+take_run-at-requires c =
+    let xs = c.args.piece.now in
+    let i = c.loop-at.at in
+    let o = c.args.self.now in
+    let taken : c.loop-at.self.taken ≡ o.taken + length (take i xs) = ap (λ o. o.taken) c.loop-at.invariant.1 ∙ left-taken o (take i xs) in
+    rw (rest_of xs i) (omega (arith, taken, length-take-le i xs c.loop-at.invariant.0, length-drop i xs))
+
+pub take_byte-whole-requires : goal.take_byte-whole-requires
+take_byte-whole-requires c =
+    let xs = c.args.piece.now in
+    let i = c.loop-at.at in
+    let n = c.take_run-at.result in
+    let o = c.args.self.now in
+    let line = run-left o c.loop-at.self c.take_run-at.new.self xs i n c.loop-at.invariant.1 c.take_run-at.ensures.after in
+    let taken : c.take_run-at.new.self.taken ≡ o.taken + length (take (i + n) xs) = ap (λ o. o.taken) line ∙ left-taken o (take (i + n) xs) in
+    omega (arith, taken, length-take-le (i + n) xs (omega arith))
+
+pub returns-then-whole-clause-after : goal.returns-then-whole-clause-after
+returns-then-whole-clause-after c =
+    let xs = c.args.piece.now in
+    let i = c.loop-at.at in
+    let n = c.take_run-at.result in
+    let o = c.args.self.now in
+    let line = run-left o c.loop-at.self c.take_run-at.new.self xs i n c.loop-at.invariant.1 c.take_run-at.ensures.after in
+    byte-left o c.take_run-at.new.self c.take_byte-whole.new.self xs (i + n) c.if-at-piece.true line c.take_byte-whole.ensures.after
+
+pub returns-then-whole-clause-lines : goal.returns-then-whole-clause-lines
+returns-then-whole-clause-lines c =
+    let xs = c.args.piece.now in
+    let i = c.loop-at.at in
+    let n = c.take_run-at.result in
+    let o = c.args.self.now in
+    let line = run-left o c.loop-at.self c.take_run-at.new.self xs i n c.loop-at.invariant.1 c.take_run-at.ensures.after in
+    let none = run-none o c.loop-at.self xs i n c.loop-at.invariant.1 c.loop-at.invariant.2 c.take_run-at.ensures.none in
+    let lines = byte-lines o c.take_run-at.new.self c.take_byte-whole.new.self xs (i + n) c.if-at-piece.true line c.take_byte-whole.ensures.after none in
+    let whole = sym c.take_byte-whole.ensures.whole ∙ c.if-whole.true in
+    lines ∙ rw whole refl
+
+pub returns-then-whole-clause-before : goal.returns-then-whole-clause-before
+returns-then-whole-clause-before c = λ _.
+    let xs = c.args.piece.now in
+    let i = c.loop-at.at in
+    let n = c.take_run-at.result in
+    let same : i + n + 1 - 1 ≡ i + n = omega arith in
+    rw same (run-none c.args.self.now c.loop-at.self xs i n c.loop-at.invariant.1 c.loop-at.invariant.2 c.take_run-at.ensures.none)
+
+pub loop-at-preserved-else-whole : goal.loop-at-preserved-else-whole
+loop-at-preserved-else-whole c =
+    let xs = c.args.piece.now in
+    let i = c.loop-at.at in
+    let n = c.take_run-at.result in
+    let o = c.args.self.now in
+    let line = run-left o c.loop-at.self c.take_run-at.new.self xs i n c.loop-at.invariant.1 c.take_run-at.ensures.after in
+    let none = run-none o c.loop-at.self xs i n c.loop-at.invariant.1 c.loop-at.invariant.2 c.take_run-at.ensures.none in
+    let lines = byte-lines o c.take_run-at.new.self c.take_byte-whole.new.self xs (i + n) c.if-at-piece.true line c.take_byte-whole.ensures.after none in
+    let whole = sym c.take_byte-whole.ensures.whole ∙ c.if-whole.false in (
+      omega arith,
+      byte-left o c.take_run-at.new.self c.take_byte-whole.new.self xs (i + n) c.if-at-piece.true line c.take_byte-whole.ensures.after,
+      lines ∙ rw whole refl,
+    )
+
+pub loop-at-preserved : goal.loop-at-preserved
+loop-at-preserved c =
+    let xs = c.args.piece.now in
+    let i = c.loop-at.at in
+    let n = c.take_run-at.result in
+    let o = c.args.self.now in
+    let within = rw (rest_of xs i) at c.take_run-at.ensures.within in (
+      omega (arith, within, length-drop i xs),
+      run-left o c.loop-at.self c.take_run-at.new.self xs i n c.loop-at.invariant.1 c.take_run-at.ensures.after,
+      run-none o c.loop-at.self xs i n c.loop-at.invariant.1 c.loop-at.invariant.2 c.take_run-at.ensures.none,
+    )

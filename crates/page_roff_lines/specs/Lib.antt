@@ -1,0 +1,11 @@
+pub mod Bytes
+pub mod Characters
+pub mod Cutting
+pub mod Decoding
+pub mod Fronts
+pub mod Held
+pub mod Limit
+pub mod Logical
+pub mod Open
+pub mod Reading
+pub mod Run

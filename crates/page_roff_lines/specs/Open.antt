@@ -1,0 +1,152 @@
+-- The open logical line of a page: what is known of it after some of the page's bytes, and what the next byte does to it.
+use Rattle.std.specs.Prelude.{ℕ, ◌+◌, Bool, true, false, nat_lt, ◌==◌, List, [], ◌∷◌, ◌++◌, if◌then◌else◌}
+use Rattle.page_roff_lines.specs.Limit.{line_limit}
+use Rattle.page_roff_lines.specs.declared.Mode.{Mode}
+use Rattle.page_roff_lines.specs.declared.Mode.TheVariants.{Plain, Backslash, Comment, Dropped}
+use Rattle.page_roff_lines.specs.declared.Mark.{Mark}
+use Rattle.page_roff_lines.specs.declared.Mark.TheVariants.{Unread, First, Second, Absent, Present}
+use Rattle.page_roff_lines.specs.Bytes.{newline, carriage_return, backslash, quote, hash}
+use Rattle.page_roff_lines.specs.Held.{Held, nothing_held, extended, shortened}
+use Rattle.page_roff_lines.specs.Logical.{Kept}
+
+pub record Open : Type 0 where
+  -- its bytes so far, with those at the end that the next byte may take away
+  pub text : Held
+  pub mode : Mode
+  -- whether its last byte is a carriage return, which a line feed would take away
+  pub after_return : Bool
+  -- whether there is a line here, if the page ends
+  pub begun : Bool
+  -- whether the line is whole: the next byte begins another
+  pub whole : Bool
+  -- of its first physical line, and of the physical line that is read
+  pub number : ℕ
+  pub physical : ℕ
+  -- how many bytes of the page came so far
+  pub taken : ℕ
+  pub mark : Mark
+
+abbrev pub first_open : Open
+first_open = record {
+    text = nothing_held; mode = Plain; after_return = false; begun = false; whole = false; number = 1; physical = 1; taken = 0;
+    mark = Unread
+  }
+
+-- the line after a whole one
+unfoldable pub restarted : Open → Open
+restarted o = if o.whole then record o { text = nothing_held; whole = false; number = o.physical } else o
+
+-- a byte more, and how the next one is read
+unfoldable pub put : Open → ℕ → Mode → Open
+put o b m = record o { text = extended o.text (b ∷ []); mode = m; after_return = b == carriage_return; begun = true }
+
+-- a byte that no backslash stands before
+unfoldable pub put_plain : Open → ℕ → Open
+put_plain o b = put o b (if b == backslash then Backslash else Plain)
+
+-- how the byte after these two is read: a carriage return may still turn out to belong to the line's end
+unfoldable pub pair_mode : ℕ → Mode
+pair_mode b = if b == quote then Comment else (if b == carriage_return then Backslash else Plain)
+
+-- the byte after a backslash
+unfoldable pub put_pair : Open → ℕ → Open
+put_pair o b = if b == hash then record o { text = shortened o.text; mode = Dropped } else put o b (pair_mode b)
+
+-- a byte that is no line feed
+unfoldable pub put_in : Mode → Bool → Open → ℕ → Open
+put_in Plain r o b = put_plain o b
+put_in Backslash true o b = put_plain o b
+put_in Backslash false o b = put_pair o b
+put_in Comment r o b = put o b Comment
+put_in Dropped r o b = o
+
+-- the line is whole
+unfoldable pub closed : Open → Open
+closed o = record o { mode = Plain; after_return = false; begun = false; whole = true }
+
+unfoldable pub without_return : Open → Open
+without_return o = if o.after_return then record o { text = shortened o.text; after_return = false } else o
+
+-- a line feed, after the carriage return before it was taken away
+unfoldable pub newline_in : Mode → Open → Open
+newline_in Plain o = closed o
+newline_in Comment o = closed o
+newline_in Backslash o = record o { text = shortened o.text; mode = Plain }
+newline_in Dropped o = record o { mode = Plain }
+
+unfoldable pub put_newline : Open → Open
+put_newline o = record (newline_in o.mode (without_return o)) { physical = o.physical + 1 }
+
+-- how much of the byte order mark the page's first bytes are
+unfoldable pub mark_after : Mark → ℕ → Mark
+mark_after Unread b = if b == 0xEF then First else Absent
+mark_after First b = if b == 0xBB then Second else Absent
+mark_after Second b = if b == 0xBF then Present else Absent
+mark_after Absent b = Absent
+mark_after Present b = Present
+
+-- the byte ends a mark
+unfoldable pub ends_mark : Mark → ℕ → Bool
+ends_mark Second b = b == 0xBF
+ends_mark Unread b = false
+ends_mark First b = false
+ends_mark Absent b = false
+ends_mark Present b = false
+
+-- the page begins with a mark
+abbrev pub is_marked : Mark → Bool
+is_marked Present = true
+is_marked Unread = false
+is_marked First = false
+is_marked Second = false
+is_marked Absent = false
+
+-- one byte more of the page
+unfoldable pub counted : Open → ℕ → Open
+counted o b = record o { taken = o.taken + 1; mark = mark_after o.mark b }
+
+-- the byte order mark is dropped, where the byte ends it
+unfoldable pub put_byte : Bool → Open → ℕ → Open
+put_byte true o b = record o { text = nothing_held; begun = false }
+put_byte false o b = if b == newline then put_newline o else put_in o.mode o.after_return o b
+
+-- after one byte more
+unfoldable pub open_after : Open → ℕ → Open
+open_after o b = put_byte (ends_mark o.mark b) (counted (restarted o) b) b
+
+-- a backslash that nothing follows is dropped
+unfoldable pub end_in : Mode → Bool → Open → Open
+end_in Backslash false o = record o { text = shortened o.text }
+end_in Backslash true o = o
+end_in Plain r o = o
+end_in Comment r o = o
+end_in Dropped r o = o
+
+-- at the end of the page
+unfoldable pub ended : Open → Open
+ended o = let r = restarted o in if r.begun then closed (end_in r.mode r.after_return r) else r
+
+-- what a line keeps
+abbrev pub kept_of : Open → Kept
+kept_of o = record { number = o.number; text = o.text.bytes; cut = nat_lt line_limit o.text.total }
+
+-- the line, where it is whole
+unfoldable pub if_whole : Open → List Kept
+if_whole o = if o.whole then kept_of o ∷ [] else []
+
+-- the lines that are whole within these bytes, and the line that is open after them
+unfoldable pub whole_lines : Open → List ℕ → List Kept
+whole_lines o [] = []
+whole_lines o (b ∷ bs) = if_whole (open_after o b) ++ whole_lines (open_after o b) bs
+
+unfoldable pub left : Open → List ℕ → Open
+left o [] = o
+left o (b ∷ bs) = left (open_after o b) bs
+
+-- the line that is there if the page ends
+abbrev pub last_line : Open → List Kept
+last_line o = if_whole (ended o)
+
+-- all lines that come from here on, if these are the bytes to the page's end
+abbrev pub lines_from : Open → List ℕ → List Kept
+lines_from o bytes = whole_lines o bytes ++ last_line (left o bytes)

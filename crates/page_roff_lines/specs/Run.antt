@@ -1,0 +1,40 @@
+-- A run of bytes that are read alike.
+use Rattle.std.specs.Prelude.{◌≡◌, ℕ, ◌+◌, ◌-◌, ◌<◌, Bool, true, false, ◌==◌, ◌||◌, List, [], ◌∷◌, length, slice_index}
+use Rattle.memchr.specs.Find.{is_byte, is_byte2}
+use Rattle.page_roff_lines.specs.declared.Mode.{Mode}
+use Rattle.page_roff_lines.specs.declared.Mode.TheVariants.{Plain, Backslash, Comment, Dropped}
+use Rattle.page_roff_lines.specs.declared.Mark.{Mark}
+use Rattle.page_roff_lines.specs.declared.Mark.TheVariants.{Unread, First, Second, Absent, Present}
+use Rattle.page_roff_lines.specs.Bytes.{newline, carriage_return, backslash}
+use Rattle.page_roff_lines.specs.Held.{extended}
+use Rattle.page_roff_lines.specs.Open.{Open}
+
+-- the byte ends a run
+abbrev pub ends_run : Mode → ℕ → Bool
+ends_run Plain b = is_byte2 newline backslash b
+ends_run Backslash b = true
+ends_run Comment b = is_byte newline b
+ends_run Dropped b = is_byte newline b
+
+-- the page's first bytes, which may be a mark, are in no run
+abbrev pub is_settled : Mark → Bool
+is_settled Unread = false
+is_settled First = false
+is_settled Second = false
+is_settled Absent = true
+is_settled Present = true
+
+-- no byte of the run ends it
+pub record IsRun (o : Open) (run : List ℕ) : Type 0 where
+  pub settled : is_settled o.mark ≡ true
+  pub bytes : (k : ℕ) → k < length run → ends_run o.mode (slice_index run k) ≡ false
+
+-- the line with a run more
+unfoldable pub run_in : Mode → Open → List ℕ → Open
+run_in Plain o run = record o { text = extended o.text run; after_return = slice_index run (length run - 1) == carriage_return; begun = true }
+run_in Comment o run = record o { text = extended o.text run; after_return = slice_index run (length run - 1) == carriage_return; begun = true }
+run_in Backslash o run = o
+run_in Dropped o run = o
+
+abbrev pub with_run : Open → List ℕ → Open
+with_run o run = record (run_in o.mode o run) { taken = o.taken + length run }

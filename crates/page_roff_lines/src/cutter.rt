@@ -1,0 +1,183 @@
+//! Cutting a page into decoded lines.
+ghost use Rattle.std.specs.Prelude.{◌≡◌, ℕ, List, ◌++◌, ◌+◌, ◌-◌, ◌^◌, ◌<◌, ◌≤◌, ⊤, ◌∷◌, [], length, take, true, false, IfOk, OnOk, OnErr, MatchResult, if◌then◌else◌};
+ghost use mathlib.Core.Option.{none};
+ghost use Rattle.std.specs.Borrow.{sem, follows_so};
+ghost use Rattle.page_core.specs.declared.page_settings.Encoding.{Encoding as AnyEncoding};
+ghost use Rattle.page_roff_lines.specs.Decoding.{lines};
+ghost use Rattle.page_roff_lines.specs.Cutting.{Place, first_place, place_of, lines_within, lines_from};
+ghost use Rattle.page_core.specs.Sinks.{Gives};
+ghost use Rattle.page_core.specs.Fails.{FailsAs, Rose};
+ghost use Rattle.page_core.specs.Texts.{IsLine};
+
+use crate::choosing::{choose, is_plain};
+use crate::decoding::DecodedText;
+use crate::open::OpenLine;
+use crate::reporting::{report, report_limit};
+use page_core::{Encoding, Fault, LINE, NoteSink};
+use std::alloc::Global;
+use std::marker::Model;
+
+/// Cuts the bytes of a page, in whatever pieces they come, into logical lines (roff(7), "Comments" and "Escape sequences"), and decodes
+/// them (mandoc(1), -K).
+#[derive(Drop)]
+pub struct Cutter {
+    line: OpenLine,
+    decoded: DecodedText,
+    encoding: Encoding,
+    ready: bool,
+    plain: bool,
+}
+
+impl Model for Cutter {
+    ghost use Rattle.std.specs.Prelude.{if◌then◌else◌};
+    ghost use Rattle.page_roff_lines.specs.Cutting.{Cutting, settled};
+
+    ghost Value = { Cutting };
+
+    ghost view = { λ c. record {
+        place = record { line = c.line; encoding = if c.ready then settled c.encoding c.line else c.encoding };
+        ready = c.ready; text = if c.plain then c.line.text.bytes else c.decoded
+      } };
+}
+
+impl Cutter {
+    ghost use Rattle.page_roff_lines.specs.Cutting.{first_place, place_of, lines_within, line_of, ended_place, line_at};
+    ghost use Rattle.page_roff_lines.specs.contracts.cutter.Cutter.{the_row};
+
+    /// Before the first byte of a page, with all the memory that it will ever hold. Its fault is [`Fault::Memory`].
+    pub fn new(alloc: Global, encoding: Encoding) -> Result<Cutter, Fault>
+        ensures value { IfOk result (λ c. (c.place ≡ first_place encoding) × (c.ready ≡ false)) }
+        ensures fault { OnErr result (result ≡ Err Fault.Memory) }
+    {
+        let Ok(line) = OpenLine::new(alloc) else {
+            return Err(Fault::Memory);
+        };
+        let Ok(decoded) = DecodedText::new(alloc) else {
+            return Err(Fault::Memory);
+        };
+        Ok(Cutter {
+            line,
+            decoded,
+            encoding,
+            ready: false,
+            plain: false,
+        })
+    }
+
+    /// Takes a piece of the page: up to and with the line feed that ends a logical line, or all of it. How many bytes it took, and
+    /// whether a line is whole, which is asked for by [`Cutter::line`] before more comes.
+    pub fn feed(&mut self, piece: &[u8]) -> (usize, bool)
+        requires free { self.old.ready ≡ false }
+        requires taken { self.old.place.line.taken + length piece.now < 2 ^ 31 }
+        ensures within { result.0 ≤ length piece.now }
+        ensures all { result.1 ≡ false → result.0 ≡ length piece.now }
+        ensures place { self.new.place ≡ place_of self.old.place (take result.0 piece.now) }
+        ensures lines { lines_within self.old.place (take result.0 piece.now) ≡ (if result.1 then line_of self.new.place ∷ [] else []) }
+        ensures before { result.1 ≡ true → lines_within self.old.place (take (result.0 - 1) piece.now) ≡ [] }
+        ensures ready { self.new.ready ≡ result.1 }
+    {
+        let (taken, whole) = self.line.read(piece);
+        self.ready = whole;
+        (taken, whole)
+    }
+
+    /// Ends the page; whether a last line is there, which is asked for by [`Cutter::line`].
+    pub fn end(&mut self) -> bool
+        requires { self.old.ready ≡ false }
+        ensures place { self.new.place ≡ ended_place self.old.place }
+        ensures line { line_at self.new.place ≡ (if result then line_of self.new.place ∷ [] else []) }
+        ensures ready { self.new.ready ≡ result }
+    {
+        self.ready = self.line.end();
+        self.ready
+    }
+
+    // The encoding with the line that is whole.
+    #[tactic(auto, unfolding(crate::specs::Cutting::settled))]
+    fn settled_encoding(&self) -> Encoding
+        requires { self.now.ready ≡ true }
+        ensures { result ≡ self.now.place.encoding }
+    {
+        match self.encoding {
+            Encoding::Auto if self.line.is_marked() => Encoding::Utf8,
+            Encoding::Auto => choose(self.line.text()),
+            known => known,
+        }
+    }
+
+    // Decodes the line that waits, and reports what is to be said of its cutting.
+    fn prepare<N: NoteSink>(&mut self, notes: &mut N) -> Result<(), Fault>
+        requires { self.old.ready ≡ true }
+        ensures place { self.new.place ≡ self.old.place }
+        ensures ready { self.new.ready ≡ false }
+        ensures text { self.new.text ≡ (line_of self.old.place).text }
+        ensures line { IsLine self.new.text }
+        ensures gives { Gives result N.gave N.within notes.old (line_of self.old.place).notes notes.new }
+        ensures fault { FailsAs Fault.WriteNotes result (N.failed notes.old) (N.failed notes.new) }
+        ensures same { N.loans notes.new ≡ N.loans notes.old }
+    {
+        self.encoding = self.settled_encoding();
+        self.ready = false;
+        self.plain = is_plain(self.line.text());
+        let number = self.line.number();
+        let cut = self.line.is_cut();
+        if self.plain {
+            return report_limit(cut, number, notes);
+        }
+        let passed = self.decoded.decode(self.line.text(), self.encoding);
+        report(
+            self.line.text(),
+            self.encoding,
+            number,
+            cut || passed,
+            notes,
+        )
+    }
+
+    // The text and the number of the line that was given last.
+    fn given(&self) -> (&[u8], u32)
+        ensures text { result.0.now ≡ self.now.text }
+        ensures number { result.1 ≡ self.now.place.line.number }
+    {
+        let text = if self.plain {
+            self.line.text()
+        } else {
+            self.decoded.bytes()
+        };
+        (text, self.line.number())
+    }
+
+    /// The line that is whole: its text, decoded, and the number of its first physical line. What is to be said of its cutting is
+    /// reported first. Its fault is [`Fault::WriteNotes`].
+    pub fn line<N: NoteSink>(&mut self, notes: &mut N) -> Result<(&[u8], u32), Fault>
+        requires { self.old.ready ≡ true }
+        ensures text { IfOk result (λ r. r.0.now ≡ (line_of self.old.place).text) }
+        ensures number { IfOk result (λ r. r.1 ≡ (line_of self.old.place).number) }
+        ensures line { IfOk result (λ r. IsLine r.0.now) }
+        ensures gives { MatchResult result (λ _. N.gave notes.old (line_of self.old.place).notes notes.new) (λ _. N.within notes.old (line_of self.old.place).notes notes.new) }
+        ensures fault { MatchResult result (λ _. N.failed notes.new ≡ N.failed notes.old) (λ e. (e ≡ Fault.WriteNotes) × Rose (N.failed notes.old) (N.failed notes.new)) }
+        ensures same { N.loans notes.new ≡ N.loans notes.old }
+        ensures* after { sem 𝓛 (follows_so the_row the_row self.entry.ghost_name none (λ _ _. ⊤) (λ v. (v.place ≡ self.old.place) × (v.ready ≡ false))) }
+    {
+        self.prepare(notes)?;
+        Ok(self.given())
+    }
+}
+
+/// The lines of a page are those that its bytes give one by one from its first place on.
+pub fn one_by_one_law()
+    ensures { (set : AnyEncoding) (bytes : List ℕ) → lines set bytes ≡ lines_from (first_place set) bytes }
+{}
+
+/// A page cut anywhere gives the same lines: those within the part above the cut, and those that come from the place there on.
+pub fn cut_law()
+    ensures lines { (set : AnyEncoding) (above below : List ℕ) → lines set (above ++ below)
+        ≡ lines_within (first_place set) above ++ lines_from (place_of (first_place set) above) below }
+    ensures within { (p : Place) (above below : List ℕ) → lines_within p (above ++ below) ≡ lines_within p above ++ lines_within (place_of p above) below }
+    ensures place { (p : Place) (above below : List ℕ) → place_of p (above ++ below) ≡ place_of (place_of p above) below }
+{}
+
+/// A line that is open keeps no more than [`LINE`] bytes.
+pub fn held_law()
+    ensures { (set : AnyEncoding) (bytes : List ℕ) → length (place_of (first_place set) bytes).line.text.bytes ≤ LINE }
+{}

@@ -1,0 +1,98 @@
+//! The decoded text of a line (mandoc(1), -K).
+ghost use Rattle.std.specs.Prelude.{◌≡◌, ◌-◌, ◌+◌, ◌<◌, ◌≤◌, ◌++◌, [], length, nat_le, nat_lt, IfOk, if◌then◌else◌};
+ghost use Rattle.page_core.specs.Texts.{IsLine};
+ghost use Rattle.page_roff_lines.specs.Limit.{line_limit};
+ghost use Rattle.page_roff_lines.specs.Characters.{characters, bytes_of, all_bytes};
+ghost use Rattle.page_roff_lines.specs.Fronts.{as_character, width_of};
+ghost use Rattle.page_roff_lines.specs.Decoding.{fitting};
+
+use crate::characters::Front;
+use page_core::{Encoding, LINE};
+use std::alloc::{AllocError, Global};
+use std::marker::Model;
+
+/// A decoded text of at most [`LINE`] bytes.
+#[derive(Drop)]
+pub struct DecodedText {
+    bytes: Vec<u8>,
+}
+
+impl Model for DecodedText {
+    ghost use Rattle.std.specs.Prelude.{ℕ, List, ◌≤◌, vec_len, vec_capacity};
+    ghost use Rattle.page_core.specs.declared.texts.TheConstants.{LINE};
+
+    ghost Value = { List ℕ };
+
+    ghost view = { λ d. d.bytes.items };
+
+    ghost invariant = { λ d. (vec_len d.bytes ≤ LINE) × (LINE ≤ vec_capacity d.bytes) };
+}
+
+impl DecodedText {
+    /// An empty text, with the memory that it will ever hold.
+    pub fn new(alloc: Global) -> Result<DecodedText, AllocError>
+        ensures { IfOk result (λ d. d ≡ []) }
+    {
+        let bytes = Vec::with_capacity(alloc, LINE)?;
+        Ok(DecodedText { bytes })
+    }
+
+    /// Its bytes.
+    pub fn bytes(&self) -> &[u8]
+        ensures { result.now ≡ self.now }
+    {
+        self.bytes.as_slice()
+    }
+
+    // An empty text.
+    fn clear(&mut self)
+        ensures { self.new ≡ [] }
+    {
+        self.bytes.clear();
+    }
+
+    // Some bytes at the end, where they fit; whether they do.
+    #[tactic(auto, using(crate::specs::Limit::line_limit_is))]
+    fn put(&mut self, bytes: &[u8]) -> bool
+        ensures fits { result ≡ nat_le (length bytes.now) (line_limit - length self.old) }
+        ensures after { self.new ≡ (if result then self.old ++ bytes.now else self.old) }
+    {
+        if bytes.len() > LINE - self.bytes.len() {
+            return false;
+        }
+        let _ = self.bytes.extend_from_slice(bytes);
+        true
+    }
+
+    // The character at the front of `text` at the end, where it fits; whether it does.
+    fn put_front(&mut self, front: Front, text: &[u8]) -> bool
+        requires { width_of front ≤ length text.now }
+        ensures fits { result ≡ nat_le (length (bytes_of (as_character front text.now))) (line_limit - length self.old) }
+        ensures after { self.new ≡ (if result then self.old ++ bytes_of (as_character front text.now) else self.old) }
+    {
+        match front {
+            Front::Same(len) => self.put(&text[..len]),
+            Front::Latin1(byte) => self.put(&[192 + byte / 64, 128 + byte % 64]),
+            Front::Bad(_) => self.put(b"?"),
+        }
+    }
+
+    /// Decodes a text, as far as it fits; whether less than all of it does.
+    pub fn decode(&mut self, text: &[u8], encoding: Encoding) -> bool
+        ensures after { self.new ≡ all_bytes (fitting line_limit (characters encoding text.now)) }
+        ensures passed { result ≡ nat_lt (length (fitting line_limit (characters encoding text.now))) (length (characters encoding text.now)) }
+        ensures line { IsLine self.new }
+    {
+        self.clear();
+        let mut at = 0;
+        while at < text.len() {
+            let rest = &text[at..];
+            let front = Front::of(rest, encoding);
+            if !self.put_front(front, rest) {
+                return true;
+            }
+            at += front.width();
+        }
+        false
+    }
+}

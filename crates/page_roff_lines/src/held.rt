@@ -1,0 +1,92 @@
+//! The first bytes of a text that grows and shrinks at its end.
+ghost use Rattle.std.specs.Prelude.{◌≡◌, ◌+◌, ◌^◌, ◌<◌, ◌≤◌, ◌∷◌, [], length, OnOk, IfOk};
+ghost use Rattle.page_roff_lines.specs.Held.{extended, shortened, nothing_held};
+
+use page_core::LINE;
+use std::alloc::{AllocError, Global};
+use std::marker::Model;
+
+/// The first [`LINE`] bytes of a text, and how many bytes it has.
+#[derive(Drop)]
+pub struct HeldText {
+    bytes: Vec<u8>,
+    total: u32,
+}
+
+impl Model for HeldText {
+    ghost use Rattle.std.specs.Prelude.{◌≤◌, vec_len, vec_capacity};
+    ghost use Rattle.page_core.specs.declared.texts.TheConstants.{LINE};
+    ghost use Rattle.page_roff_lines.specs.Held.{Held};
+
+    ghost Value = { Held };
+
+    ghost view = { λ h. record { bytes = h.bytes.items; total = h.total } };
+
+    ghost invariant = { λ h. (vec_len h.bytes ≤ LINE) × (LINE ≤ vec_capacity h.bytes) };
+}
+
+impl HeldText {
+    /// An empty text, with the memory that it will ever hold.
+    pub fn new(alloc: Global) -> Result<HeldText, AllocError>
+        ensures { IfOk result (λ h. h ≡ nothing_held) }
+    {
+        let bytes = Vec::with_capacity(alloc, LINE)?;
+        Ok(HeldText { bytes, total: 0 })
+    }
+
+    /// The bytes that are held.
+    pub fn bytes(&self) -> &[u8]
+        ensures value { result.now ≡ self.now.bytes }
+        ensures bound { length result.now ≤ LINE }
+    {
+        self.bytes.as_slice()
+    }
+
+    /// How many bytes the text has.
+    pub fn total(&self) -> u32
+        ensures { result ≡ self.now.total }
+    {
+        self.total
+    }
+
+    /// A byte more at the end.
+    #[tactic(auto, unfolding(crate::specs::Held::extended))]
+    pub fn push(&mut self, byte: u8)
+        requires { self.old.total < 2 ^ 31 }
+        ensures { self.new ≡ extended self.old (byte ∷ []) }
+    {
+        if self.bytes.len() < LINE {
+            self.bytes.push_reserved(byte);
+        }
+        self.total += 1;
+    }
+
+    /// More bytes at the end.
+    #[tactic(auto, unfolding(crate::specs::Held::extended))]
+    pub fn extend(&mut self, more: &[u8])
+        requires { self.old.total + length more.now < 2 ^ 31 }
+        ensures { self.new ≡ extended self.old more.now }
+    {
+        let room = LINE - self.bytes.len();
+        let fits = room.min(more.len());
+        let _ = self.bytes.extend_from_slice(&more[..fits]);
+        self.total += more.len() as u32;
+    }
+
+    /// Without the last byte.
+    #[tactic(auto, unfolding(crate::specs::Held::shortened))]
+    pub fn shorten(&mut self)
+        ensures { self.new ≡ shortened self.old }
+    {
+        self.total = self.total.saturating_sub(1);
+        self.bytes.truncate(self.total as usize);
+    }
+
+    /// An empty text.
+    pub fn clear(&mut self)
+        ensures { self.new ≡ nothing_held }
+    {
+        self.bytes.clear();
+        self.total = 0;
+    }
+}

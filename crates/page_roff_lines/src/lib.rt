@@ -1,0 +1,42 @@
+//! The logical lines of a page: physical lines cut from its bytes, read pairwise, joined and decoded.
+#![tactic(auto)]
+
+mod characters;
+mod choosing;
+mod cutter;
+mod decoding;
+mod held;
+mod open;
+mod reporting;
+
+pub use cutter::Cutter;
+pub use held::HeldText;
+pub use open::OpenLine;
+
+/// How the next byte of a physical line is read.
+#[derive(Clone, Copy)]
+pub enum Mode {
+    /// It stands for itself.
+    Plain,
+    /// A backslash stands before it, and perhaps a carriage return between them.
+    Backslash,
+    /// In a comment, where a backslash is a byte like any other.
+    Comment,
+    /// It is dropped with the rest of its physical line.
+    Dropped,
+}
+
+/// How much of a byte order mark the page begins with.
+#[derive(Clone, Copy)]
+pub enum Mark {
+    /// No byte came yet.
+    Unread,
+    /// Its first byte came.
+    First,
+    /// Its first two bytes came.
+    Second,
+    /// The page begins otherwise.
+    Absent,
+    /// The page begins with one.
+    Present,
+}

@@ -1,0 +1,390 @@
+//! The open logical line of a page.
+ghost use Rattle.std.specs.Prelude.{◌≡◌, ◌+◌, ◌-◌, ◌^◌, ◌<◌, ◌≤◌, ◌∷◌, [], length, take, true, false, nat_lt, IfOk, IsTrue, if◌then◌else◌};
+ghost use Rattle.page_roff_lines.specs.Open.{pair_mode as spec_pair_mode};
+
+use crate::{HeldText, Mark, Mode};
+use memchr::{memchr, memchr2};
+use page_core::LINE;
+use std::alloc::{AllocError, Global};
+use std::marker::Model;
+
+const NEWLINE: u8 = b'\n';
+const CARRIAGE_RETURN: u8 = b'\r';
+const BACKSLASH: u8 = b'\\';
+const QUOTE: u8 = b'"';
+const HASH: u8 = b'#';
+
+/// A logical line that is cut from the bytes of a page as they come.
+#[derive(Drop)]
+pub struct OpenLine {
+    text: HeldText,
+    mode: Mode,
+    after_return: bool,
+    begun: bool,
+    whole: bool,
+    number: u32,
+    physical: u32,
+    taken: u32,
+    mark: Mark,
+}
+
+impl Model for OpenLine {
+    ghost use Rattle.std.specs.Prelude.{◌≤◌, ◌<◌, ◌+◌, ◌^◌};
+    ghost use Rattle.page_roff_lines.specs.Open.{Open};
+
+    ghost Value = { Open };
+
+    ghost view = { λ o. record {
+        text = o.text; mode = o.mode; after_return = o.after_return; begun = o.begun; whole = o.whole; number = o.number;
+        physical = o.physical; taken = o.taken; mark = o.mark
+      } };
+
+    ghost invariant = { λ o. (o.taken < 2 ^ 31) × (o.physical ≤ o.taken + 1) × (o.text.total ≤ o.taken) × (o.number ≤ o.physical) };
+}
+
+impl Mark {
+    ghost use Rattle.page_roff_lines.specs.Open.{mark_after, ends_mark};
+    ghost use Rattle.page_roff_lines.specs.Run.{is_settled};
+
+    // How much of the mark came with this byte.
+    #[tactic(auto, unfolding(crate::specs::Open::mark_after))]
+    fn after(self, byte: u8) -> Mark
+        ensures { result ≡ mark_after self byte }
+    {
+        match self {
+            Mark::Unread if byte == 0xEF => Mark::First,
+            Mark::First if byte == 0xBB => Mark::Second,
+            Mark::Second if byte == 0xBF => Mark::Present,
+            Mark::Present => Mark::Present,
+            _ => Mark::Absent,
+        }
+    }
+
+    // Whether the next byte belongs to no mark.
+    fn is_settled(self) -> bool
+        ensures { result ≡ is_settled self }
+    {
+        matches!(self, Mark::Absent | Mark::Present)
+    }
+
+    // Whether the mark is whole with this byte.
+    #[tactic(auto, unfolding(crate::specs::Open::ends_mark))]
+    fn ends_at(self, byte: u8) -> bool
+        ensures { result ≡ ends_mark self byte }
+    {
+        match self {
+            Mark::Second => byte == 0xBF,
+            _ => false,
+        }
+    }
+}
+
+// How the byte after a pair is read.
+#[tactic(auto, unfolding(crate::specs::Open::pair_mode))]
+fn pair_mode(byte: u8) -> Mode
+    ensures { result ≡ spec_pair_mode byte }
+{
+    match byte {
+        QUOTE => Mode::Comment,
+        CARRIAGE_RETURN => Mode::Backslash,
+        _ => Mode::Plain,
+    }
+}
+
+impl OpenLine {
+    ghost use Rattle.page_roff_lines.specs.Open.{first_open, restarted, put, put_plain, put_pair, put_in, without_return, newline_in, put_newline, put_byte, open_after, ended, counted, closed, ends_mark, left, whole_lines, kept_of, is_marked};
+    ghost use Rattle.page_roff_lines.specs.Run.{IsRun, with_run};
+
+    /// Before the first byte of a page, with the memory that it will ever hold.
+    pub fn new(alloc: Global) -> Result<OpenLine, AllocError>
+        ensures { IfOk result (λ o. o ≡ first_open) }
+    {
+        let text = HeldText::new(alloc)?;
+        Ok(OpenLine {
+            text,
+            mode: Mode::Plain,
+            after_return: false,
+            begun: false,
+            whole: false,
+            number: 1,
+            physical: 1,
+            taken: 0,
+            mark: Mark::Unread,
+        })
+    }
+
+    // The line after a whole one.
+    #[tactic(auto, unfolding(crate::specs::Open::restarted))]
+    fn restart(&mut self)
+        ensures restarted { self.new ≡ restarted self.old }
+        ensures taken { self.new.taken ≡ self.old.taken }
+    {
+        if self.whole {
+            self.text.clear();
+            self.whole = false;
+            self.number = self.physical;
+        }
+    }
+
+    // A byte more, and how the next one is read.
+    #[tactic(auto, unfolding(crate::specs::Open::put, crate::specs::Held::extended))]
+    fn put(&mut self, byte: u8, mode: Mode)
+        requires { self.old.text.total < self.old.taken }
+        ensures { self.new ≡ put self.old byte mode }
+    {
+        self.text.push(byte);
+        self.mode = mode;
+        self.after_return = byte == CARRIAGE_RETURN;
+        self.begun = true;
+    }
+
+    // A byte that no backslash stands before.
+    #[tactic(auto, unfolding(crate::specs::Open::put_plain))]
+    fn put_plain(&mut self, byte: u8)
+        requires { self.old.text.total < self.old.taken }
+        ensures { self.new ≡ put_plain self.old byte }
+    {
+        if byte == BACKSLASH {
+            self.put(byte, Mode::Backslash);
+        } else {
+            self.put(byte, Mode::Plain);
+        }
+    }
+
+    // The byte after a backslash.
+    #[tactic(auto, unfolding(crate::specs::Open::put_pair, crate::specs::Held::shortened))]
+    fn put_pair(&mut self, byte: u8)
+        requires { self.old.text.total < self.old.taken }
+        ensures { self.new ≡ put_pair self.old byte }
+    {
+        if byte == HASH {
+            self.text.shorten();
+            self.mode = Mode::Dropped;
+        } else {
+            self.put(byte, pair_mode(byte));
+        }
+    }
+
+    // A byte that is no line feed.
+    #[tactic(auto, unfolding(crate::specs::Open::put_in))]
+    fn put_in(&mut self, byte: u8)
+        requires { self.old.text.total < self.old.taken }
+        ensures { self.new ≡ put_in self.old.mode self.old.after_return self.old byte }
+    {
+        match self.mode {
+            Mode::Plain => self.put_plain(byte),
+            Mode::Backslash => {
+                if self.after_return {
+                    self.put_plain(byte);
+                } else {
+                    self.put_pair(byte);
+                }
+            }
+            Mode::Comment => self.put(byte, Mode::Comment),
+            Mode::Dropped => {}
+        }
+    }
+
+    // The line is whole.
+    #[tactic(auto, unfolding(crate::specs::Open::closed))]
+    fn close(&mut self)
+        ensures { self.new ≡ closed self.old }
+    {
+        self.mode = Mode::Plain;
+        self.after_return = false;
+        self.begun = false;
+        self.whole = true;
+    }
+
+    // A carriage return before the line feed is taken away.
+    #[tactic(auto, unfolding(crate::specs::Open::without_return, crate::specs::Held::shortened))]
+    fn drop_return(&mut self)
+        ensures { self.new ≡ without_return self.old }
+    {
+        if self.after_return {
+            self.text.shorten();
+            self.after_return = false;
+        }
+    }
+
+    // The end of a physical line.
+    #[tactic(auto, unfolding(crate::specs::Open::newline_in, crate::specs::Held::shortened))]
+    fn end_physical(&mut self)
+        ensures { self.new ≡ newline_in self.old.mode self.old }
+    {
+        match self.mode {
+            Mode::Plain | Mode::Comment => self.close(),
+            Mode::Backslash => {
+                self.text.shorten();
+                self.mode = Mode::Plain;
+            }
+            Mode::Dropped => self.mode = Mode::Plain,
+        }
+    }
+
+    // A line feed.
+    #[tactic(auto, unfolding(crate::specs::Open::put_newline, crate::specs::Open::without_return, crate::specs::Open::newline_in, crate::specs::Open::closed))]
+    fn put_newline(&mut self)
+        requires { self.old.physical ≤ self.old.taken }
+        ensures { self.new ≡ put_newline self.old }
+    {
+        self.drop_return();
+        self.end_physical();
+        self.physical += 1;
+    }
+
+    // One byte more of the page.
+    #[tactic(auto, unfolding(crate::specs::Open::counted))]
+    fn count(&mut self, byte: u8)
+        requires { self.old.taken + 1 < 2 ^ 31 }
+        ensures counted { self.new ≡ counted self.old byte }
+        ensures text { self.new.text.total < self.new.taken }
+        ensures physical { self.new.physical ≤ self.new.taken }
+    {
+        self.taken += 1;
+        self.mark = self.mark.after(byte);
+    }
+
+    // One byte more; whether the line is whole with it.
+    #[tactic(auto, unfolding(crate::specs::Open::open_after, crate::specs::Open::put_byte, crate::specs::Open::counted, crate::specs::Open::restarted))]
+    fn take_byte(&mut self, byte: u8) -> bool
+        requires { self.old.taken + 1 < 2 ^ 31 }
+        ensures after { self.new ≡ open_after self.old byte }
+        ensures whole { result ≡ self.new.whole }
+    {
+        let ends_mark = self.mark.ends_at(byte);
+        self.restart();
+        self.count(byte);
+        if ends_mark {
+            self.text.clear();
+            self.begun = false;
+        } else if byte == NEWLINE {
+            self.put_newline();
+        } else {
+            self.put_in(byte);
+        }
+        self.whole
+    }
+
+    // How many bytes at the front of a piece are read alike.
+    fn run_len(&self, piece: &[u8]) -> usize
+        ensures within { result ≤ length piece.now }
+        ensures run { 0 < result → IsRun self.now (take result piece.now) }
+    {
+        if !self.mark.is_settled() {
+            return 0;
+        }
+        let end = match self.mode {
+            Mode::Plain => memchr2(NEWLINE, BACKSLASH, piece),
+            Mode::Comment | Mode::Dropped => memchr(NEWLINE, piece),
+            Mode::Backslash => Some(0),
+        };
+        end.unwrap_or(piece.len())
+    }
+
+    // Bytes that are read alike.
+    #[tactic(auto, unfolding(crate::specs::Run::run_in, crate::specs::Held::extended))]
+    fn put_run(&mut self, run: &[u8])
+        requires taken { self.old.taken + length run.now < 2 ^ 31 }
+        requires some { 0 < length run.now }
+        ensures { self.new ≡ with_run self.old run.now }
+    {
+        self.taken += run.len() as u32;
+        match self.mode {
+            Mode::Plain | Mode::Comment => {
+                self.text.extend(run);
+                self.after_return = run[run.len() - 1] == CARRIAGE_RETURN;
+                self.begun = true;
+            }
+            Mode::Backslash | Mode::Dropped => {}
+        }
+    }
+
+    // The bytes at the front of a piece that are read alike; how many they are.
+    fn take_run(&mut self, piece: &[u8]) -> usize
+        requires { self.old.taken + length piece.now < 2 ^ 31 }
+        ensures within { result ≤ length piece.now }
+        ensures after { self.new ≡ left self.old (take result piece.now) }
+        ensures none { whole_lines self.old (take result piece.now) ≡ [] }
+    {
+        let len = self.run_len(piece);
+        if len > 0 {
+            self.restart();
+            self.put_run(&piece[..len]);
+        }
+        len
+    }
+
+    /// Takes a piece of the page up to the line feed that ends the logical line, or all of it; how many bytes it took, and whether
+    /// the line is whole.
+    pub fn read(&mut self, piece: &[u8]) -> (usize, bool)
+        requires { self.old.taken + length piece.now < 2 ^ 31 }
+        ensures within { result.0 ≤ length piece.now }
+        ensures all { result.1 ≡ false → result.0 ≡ length piece.now }
+        ensures after { self.new ≡ left self.old (take result.0 piece.now) }
+        ensures lines { whole_lines self.old (take result.0 piece.now) ≡ (if result.1 then kept_of self.new ∷ [] else []) }
+        ensures before { result.1 ≡ true → whole_lines self.old (take (result.0 - 1) piece.now) ≡ [] }
+        ensures whole { result.1 ≡ true → self.new.whole ≡ true }
+    {
+        let mut at = 0;
+        while at < piece.len() {
+            at += self.take_run(&piece[at..]);
+            if at < piece.len() {
+                let whole = self.take_byte(piece[at]);
+                at += 1;
+                if whole {
+                    return (at, true);
+                }
+            }
+        }
+        (at, false)
+    }
+
+    /// Ends the page; whether a last line is there.
+    #[tactic(auto, unfolding(crate::specs::Open::ended, crate::specs::Open::end_in, crate::specs::Open::restarted, crate::specs::Open::closed, crate::specs::Held::shortened))]
+    pub fn end(&mut self) -> bool
+        ensures after { self.new ≡ ended self.old }
+        ensures line { result ≡ self.new.whole }
+    {
+        self.restart();
+        if self.begun {
+            if let Mode::Backslash = self.mode
+                && !self.after_return
+            {
+                self.text.shorten();
+            }
+            self.close();
+        }
+        self.whole
+    }
+
+    /// The bytes that are kept of the line.
+    pub fn text(&self) -> &[u8]
+        ensures value { result.now ≡ self.now.text.bytes }
+        ensures bound { length result.now ≤ LINE }
+    {
+        self.text.bytes()
+    }
+
+    /// Whether the line has more bytes than are kept.
+    #[tactic(auto, using(crate::specs::Limit::line_limit_is))]
+    pub fn is_cut(&self) -> bool
+        ensures { result ≡ (kept_of self.now).cut }
+    {
+        self.text.total() as usize > LINE
+    }
+
+    /// The number of the line's first physical line, from 1.
+    pub fn number(&self) -> u32
+        ensures { result ≡ self.now.number }
+    {
+        self.number
+    }
+
+    /// Whether the page begins with a byte order mark.
+    pub fn is_marked(&self) -> bool
+        ensures { result ≡ is_marked self.now.mark }
+    {
+        matches!(self.mark, Mark::Present)
+    }
+}

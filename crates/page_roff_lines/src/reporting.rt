@@ -1,0 +1,134 @@
+//! The messages about a line that is cut (mandoc(1), "DIAGNOSTICS").
+ghost use Rattle.std.specs.Prelude.{◌≡◌, ℕ, ◌+◌, ◌<◌, ◌≤◌, ◌^◌, List, ◌∷◌, [], ◌++◌, length, codes};
+ghost use Rattle.std.specs.Char.{digit_char};
+ghost use Rattle.page_core.specs.Sinks.{Gives};
+ghost use Rattle.page_core.specs.Fails.{FailsAs};
+ghost use Rattle.page_core.specs.MessageBytes.{message_of};
+ghost use Rattle.page_roff_lines.specs.Limit.{line_limit};
+ghost use Rattle.page_roff_lines.specs.Characters.{characters};
+ghost use Rattle.page_roff_lines.specs.Fronts.{as_character};
+ghost use Rattle.page_roff_lines.specs.Decoding.{bad_character as spec_bad_character, limit_note as spec_limit_note, notes_of, bad_notes, limit_notes, fitting};
+
+use crate::characters::Front;
+use arrayvec::ArrayString;
+use page_core::{Encoding, Fault, LINE, Note, NoteKind, NoteSink};
+
+// A hexadecimal digit.
+fn hex_digit(value: u8) -> char
+    requires { value < 16 }
+    ensures { result ≡ digit_char value }
+{
+    if value < 10 {
+        char::from(b'0' + value)
+    } else {
+        char::from(b'a' + (value - 10))
+    }
+}
+
+// The message about a byte that is no character.
+fn bad_character(number: u32, column: u32, byte: u8) -> Note
+    ensures { message_of result ≡ spec_bad_character number column byte }
+{
+    let mut detail = ArrayString::new();
+    detail.push_str("0x");
+    detail.push(hex_digit(byte / 16));
+    detail.push(hex_digit(byte % 16));
+    Note {
+        kind: NoteKind::BadChar,
+        line: number,
+        column,
+        detail,
+    }
+}
+
+// The message about a line that has more than its limit.
+fn limit_note(number: u32) -> Note
+    ensures { message_of result ≡ spec_limit_note number }
+{
+    let mut detail = ArrayString::new();
+    detail.push_str("LINE");
+    Note {
+        kind: NoteKind::Limit,
+        line: number,
+        column: 1,
+        detail,
+    }
+}
+
+// Reports a character where it is none.
+fn report_front<N: NoteSink>(
+    front: Front,
+    number: u32,
+    column: u32,
+    notes: &mut N,
+) -> Result<(), Fault>
+    ensures gives { (text : List ℕ) → Gives result N.gave N.within notes.old (notes_of number column (as_character front text)) notes.new }
+    ensures fault { FailsAs Fault.WriteNotes result (N.failed notes.old) (N.failed notes.new) }
+    ensures same { N.loans notes.new ≡ N.loans notes.old }
+{
+    match front {
+        Front::Bad(byte) => notes.note(&bad_character(number, column, byte)),
+        Front::Same(_) | Front::Latin1(_) => Ok(()),
+    }
+}
+
+// Reports the bytes that are no characters, of what fits of a text.
+fn report_bad<N: NoteSink>(
+    text: &[u8],
+    encoding: Encoding,
+    number: u32,
+    notes: &mut N,
+) -> Result<(), Fault>
+    ensures gives { Gives result N.gave N.within notes.old (bad_notes number 1 (fitting line_limit (characters encoding text.now))) notes.new }
+    ensures fault { FailsAs Fault.WriteNotes result (N.failed notes.old) (N.failed notes.new) }
+    ensures same { N.loans notes.new ≡ N.loans notes.old }
+{
+    let mut at = 0;
+    let mut room = LINE;
+    while at < text.len() {
+        let front = Front::of(&text[at..], encoding);
+        let size = front.size();
+        if size > room {
+            break;
+        }
+        let column = (LINE - room + 1) as u32;
+        if let Err(fault) = report_front(front, number, column, notes) {
+            return Err(fault);
+        }
+        room -= size;
+        at += front.width();
+    }
+    Ok(())
+}
+
+/// Reports a line of which less than all stays, where it is one. Its fault is [`Fault::WriteNotes`].
+pub fn report_limit<N: NoteSink>(passed: bool, number: u32, notes: &mut N) -> Result<(), Fault>
+    ensures gives { Gives result N.gave N.within notes.old (limit_notes passed number) notes.new }
+    ensures fault { FailsAs Fault.WriteNotes result (N.failed notes.old) (N.failed notes.new) }
+    ensures same { N.loans notes.new ≡ N.loans notes.old }
+{
+    if passed {
+        notes.note(&limit_note(number))
+    } else {
+        Ok(())
+    }
+}
+
+/// Reports what is to be said of a line's cutting: that less than all of it stays, and then each byte that is no character. Its fault
+/// is [`Fault::WriteNotes`].
+pub fn report<N: NoteSink>(
+    text: &[u8],
+    encoding: Encoding,
+    number: u32,
+    passed: bool,
+    notes: &mut N,
+) -> Result<(), Fault>
+    ensures gives { Gives result N.gave N.within notes.old (limit_notes passed number ++ bad_notes number 1 (fitting line_limit (characters encoding text.now))) notes.new }
+    ensures fault { FailsAs Fault.WriteNotes result (N.failed notes.old) (N.failed notes.new) }
+    ensures same { N.loans notes.new ≡ N.loans notes.old }
+{
+    if let Err(fault) = report_limit(passed, number, notes) {
+        return Err(fault);
+    }
+    report_bad(text, encoding, number, notes)
+}
