@@ -4,3 +4,4 @@ pub mod Feeds
 pub mod Cuts
 pub mod Cutting
 pub mod BytesRead
+pub mod WholeRuns

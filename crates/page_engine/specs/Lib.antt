@@ -4,3 +4,4 @@ pub mod Items
 pub mod Page
 pub mod Below
 pub mod Runs
+pub mod Written

@@ -4,12 +4,11 @@ ghost use Rattle.std.specs.Prelude.{◌≡◌, ◌<◌, ◌≤◌, ◌+◌, ◌-
 ghost use Rattle.std.specs.Io.KnownBytes.{Consumes};
 ghost use Rattle.page_core.specs.Fails.{FailsBySink};
 ghost use Rattle.page_core.specs.Laid.{Gets, Gave};
-ghost use Rattle.page_core.specs.Checks.{IsFirst};
-ghost use Rattle.page_core.specs.Grows.{Adds, AddsInto, AddsBy, AddsIntoBy};
-ghost use Rattle.page_core.specs.Rows.{row_bytes};
-ghost use Rattle.page_core.specs.MessageBytes.{message_bytes};
+ghost use Rattle.page_core.specs.Checks.{IsGood};
 ghost use Rattle.page_roff_lines.specs.Cutting.{lines_within, place_of, line_of, last_line};
 ghost use Rattle.page_engine.specs.Page.{Edge, IsAt, laid, laid_line, page as pages};
+ghost use Rattle.page_engine.specs.Shown.{is_silent};
+ghost use Rattle.page_engine.specs.Written.{WritesRows, WritesRowsInto, WritesNotes, WritesNotesInto};
 ghost use Rattle.page_engine.specs.Runs.{Runs, RunsFrom, IsWrite, HasRead};
 
 use crate::filters::{Filter, Shown, is_silent};
@@ -241,4 +240,71 @@ fn run<I: Read, R: RowSink, N: NoteSink>(
         }
     }
     Err(Fault::TooLong)
+}
+
+// The outcome of a run of so many source lines.
+fn ended_well(worst: Option<Level>, source: u64) -> Outcome
+    ensures worst { result.worst ≡ worst }
+    ensures source { result.counts.source ≡ source }
+    ensures taken { result.counts.taken ≡ source }
+    ensures expansions { result.counts.expansions ≡ 0 }
+{
+    Outcome {
+        worst,
+        counts: Counts {
+            source,
+            taken: source,
+            expansions: 0,
+        },
+    }
+}
+
+// A run over a reader and two sinks, by settings that pass their check.
+fn run_whole<I: Read, R: RowSink, N: NoteSink>(
+    alloc: Global,
+    reader: &mut I,
+    rows: &mut R,
+    notes: &mut N,
+    settings: &Settings,
+) -> Result<Outcome, Fault>
+    requires { IsGood settings.now }
+    ensures runs { (bytes : List ℕ) × Consumes (I.remaining reader.old) (I.remaining reader.new) bytes
+        × Runs result R.gave R.within N.gave N.within rows.old rows.new notes.old notes.new settings.now bytes (I.remaining reader.new) }
+    ensures rows_same { R.loans rows.new ≡ R.loans rows.old }
+    ensures notes_same { N.loans notes.new ≡ N.loans notes.old }
+{
+    let mut page = Page::new(alloc, settings)?;
+    let mut cutter = Cutter::new(alloc, settings.encoding)?;
+    let source = run(&mut page, &mut cutter, reader, rows, notes)?;
+    Ok(ended_well(page.worst, source))
+}
+
+/// Formats a page: reads all bytes of a reader, in pieces of any size, writes the rows to one writer and the messages, about a file, to
+/// another, and answers the worst level of the messages and the counts.
+///
+/// The settings are checked first, and memory is reserved before the first read. Its faults are [`Fault::Settings`], [`Fault::Memory`],
+/// [`Fault::Read`] where the reader failed, [`Fault::WriteText`] and [`Fault::WriteNotes`] where that writer failed, and [`Fault::TooLong`]
+/// for a page of more than [`BYTES`] bytes or [`READS`] read calls.
+pub fn run_page<I: Read, W: Write, V: Write>(
+    alloc: Global,
+    reader: &mut I,
+    out: &mut W,
+    notes: &mut V,
+    file: &str,
+    settings: &Settings,
+) -> Result<Outcome, Fault>
+    ensures { (bytes : List ℕ) × Consumes (I.remaining reader.old) (I.remaining reader.new) bytes
+        × Runs result (WritesRows W.contents (is_silent settings.now.output)) (WritesRowsInto W.contents (is_silent settings.now.output))
+            (WritesNotes V.contents file.now) (WritesNotesInto V.contents file.now) out.old out.new notes.old notes.new settings.now bytes (I.remaining reader.new) }
+{
+    if let Err(fault) = settings.check() {
+        return Err(Fault::Settings(fault));
+    }
+    let mut text = TextRows::new(out);
+    let mut rows = Shown {
+        rows: &mut text,
+        is_silent: is_silent(settings.output),
+    };
+    let mut messages = TextNotes::new(notes, file);
+    run_whole(alloc, reader, &mut rows, &mut messages, settings)
 }

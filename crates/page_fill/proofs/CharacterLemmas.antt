@@ -1,5 +1,5 @@
 -- Characters one by one.
-use Rattle.std.proofs.Common.{◌≡◌, ℕ, ◌+◌, ◌-◌, ◌<◌, ◌≤◌, nat_le, Bool, true, false, IsUtf8, chars, encode_utf8, encode_utf8_all, ◌==◌, List, [], ◌∷◌, ◌++◌, length, get_or, drop, refl, ap, sym, ◌∙◌, arith, inl, inr, append_assoc, append-nil, length-append}
+use Rattle.std.proofs.Common.{◌≡◌, ℕ, ◌+◌, ◌-◌, ◌<◌, ◌≤◌, nat_le, true, false, IsUtf8, chars, encode_utf8, encode_utf8_all, ◌==◌, List, [], ◌∷◌, ◌++◌, length, get_or, drop, refl, ap, sym, ◌∙◌, arith, inl, inr, append_assoc, append-nil, length-append}
 use Rattle.std.proofs.lemmas.List.{drop_more, drop_all}
 use Rattle.std.proofs.lemmas.Bool.{cases_Bool}
 use Rattle.std.proofs.lemmas.Bool.Decides.{nat_tests}
@@ -9,7 +9,7 @@ use Rattle.std.proofs.lemmas.Str.{chars-nil, chars_past_char, encodes-chars, len
 use Rattle.page_core.specs.declared.cells.Font.{Font}
 use Rattle.page_core.specs.declared.pieces.Place.{Place}
 use Rattle.page_core.specs.declared.page_settings.Output.{Output}
-use Rattle.page_core.specs.Laid.{Laid, join, nothing}
+use Rattle.page_core.specs.Laid.{join, nothing}
 use Rattle.page_fill.specs.Sheets.{Sheet, letter, letters}
 use Rattle.page_fill.specs.Characters.{cell_of, cells_of, character, characters, characters_of, front_of}
 

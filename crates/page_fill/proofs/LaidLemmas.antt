@@ -1,5 +1,5 @@
 -- How a row and a message follow one another.
-use Rattle.std.proofs.Common.{◌≡◌, List, [], ◌∷◌, Result, Ok, Err, refl, ap}
+use Rattle.std.proofs.Common.{◌≡◌, List, [], Result, Ok, Err, ap}
 use Rattle.page_core.specs.Messages.{Message}
 use Rattle.page_core.specs.Rows.{LaidRow}
 use Rattle.page_core.specs.Sinks.{IsSink, Gives}

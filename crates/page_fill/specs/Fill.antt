@@ -1,9 +1,8 @@
 -- Filling: how pieces become rows, with the messages between them. A start is what is held between two pieces; from it and a list of
 -- pieces follow the rows and messages that are settled, and what is held then. Source: roff(7), "Filling and adjusting"; mandoc(1).
-use Rattle.std.specs.Prelude.{ℕ, zero, suc, ◌+◌, ◌-◌, ◌%◌, Bool, true, false, not, ◌&&◌, ◌||◌, ◌==◌, nat_lt, nat_le, min, List, [], ◌∷◌, ◌++◌, length, Option, None, Some, if◌then◌else◌}
+use Rattle.std.specs.Prelude.{ℕ, ◌+◌, ◌-◌, ◌%◌, Bool, true, false, not, ◌&&◌, ◌||◌, ◌==◌, nat_lt, nat_le, min, List, [], ◌∷◌, length, Option, None, Some, if◌then◌else◌}
 use Rattle.page_core.specs.declared.cells.Cell.{Cell}
 use Rattle.page_core.specs.declared.cells.Font.{Font}
-use Rattle.page_core.specs.declared.cells.Font.TheVariants.{R}
 use Rattle.page_core.specs.declared.note_kinds.NoteKind.TheVariants as notes
 use Rattle.page_core.specs.declared.page_settings.Settings.{Settings}
 use Rattle.page_core.specs.declared.pieces.Piece.{Piece}
@@ -12,8 +11,8 @@ use Rattle.page_core.specs.declared.pieces.Place.{Place}
 use Rattle.page_core.specs.declared.pieces.TagForm.{TagForm}
 use Rattle.page_core.specs.declared.pieces.TagForm.TheVariants as forms
 use Rattle.page_core.specs.Messages.{Message}
-use Rattle.page_core.specs.Laid.{Laid, nothing, join, seq}
-use Rattle.page_fill.specs.Sheets.{Sheet, over, columns, blank, given, gives, emptied, letter, letters, fixed_blanks, new_word, broken, empty_rows, fresh}
+use Rattle.page_core.specs.Laid.{Laid, nothing, seq}
+use Rattle.page_fill.specs.Sheets.{Sheet, over, columns, letter, fixed_blanks, new_word, broken, empty_rows, fresh}
 use Rattle.page_fill.specs.Characters.{with_notes, cell_of, characters_of, characters, character, glyph}
 use Rattle.page_fill.specs.declared.words.OpenWord.{OpenWord}
 use Rattle.page_fill.specs.declared.words.OpenTag.{OpenTag}

@@ -2,3 +2,5 @@ pub mod Sheets
 pub mod Room
 pub mod Characters
 pub mod Fill
+pub mod InWords
+pub mod Words

@@ -148,6 +148,16 @@ empty_rows s n = record {
 -- no row is open, below one blank row
 abbrev pub fresh : ℕ → Sheet
 fresh width = record {
-  width = width; literal = false; first = 0; rest = 0; margin = 0; cells = []; gap = 0; word = 0;
-  blank_rows = 1; heading = false; tag_columns = 0; tag_begun = false;
+  width = width;
+  literal = false;
+  first = 0;
+  rest = 0;
+  margin = 0;
+  cells = [];
+  gap = 0;
+  word = 0;
+  blank_rows = 1;
+  heading = false;
+  tag_columns = 0;
+  tag_begun = false;
 }

@@ -1,21 +1,20 @@
 -- The logical lines of a page, joined of its physical lines, are those that its bytes give one by one.
-use Rattle.std.proofs.Common.{◌≡◌, ℕ, zero, suc, ◌+◌, ◌-◌, ◌<◌, ◌≤◌, Bool, true, false, cond, List, [], ◌∷◌, ◌++◌, map, length, take, drop, get_or, refl, sym, ap, subst, ◌∙◌, append_assoc, append-nil, length-append, arith, inl, inr}
-use Rattle.std.specs.Prelude.{not, All, ◌==◌, nat_eq}
+use Rattle.std.proofs.Common.{◌≡◌, ℕ, zero, suc, ◌+◌, Bool, true, false, cond, List, [], ◌∷◌, ◌++◌, map, length, take, refl, sym, ap, ◌∙◌, append_assoc, append-nil, arith, inl, inr}
+use Rattle.std.specs.Prelude.{All, ◌==◌}
 use Rattle.std.specs.List.{slice_split, onto_first, join_with_byte}
 use Rattle.std.specs.Str.Lines.{strip_carriage_return, lines_of_parts, lines as physical_lines}
 use Rattle.std.proofs.lemmas.Bool.Decides.{eqb_tells}
 use Rattle.std.proofs.Math.Dec.{eqb-suc-zero}
 use Rattle.std.proofs.lemmas.List.Splits.{join_with_byte-slice_split}
-use Rattle.page_roff_lines.specs.declared.Mode.{Mode}
-use Rattle.page_roff_lines.specs.declared.Mode.TheVariants.{Plain, Backslash, Comment, Dropped}
+use Rattle.page_roff_lines.specs.declared.Mode.TheVariants.{Plain}
 use Rattle.page_roff_lines.specs.declared.Mark.{Mark}
 use Rattle.page_roff_lines.specs.declared.Mark.TheVariants.{Unread, First, Second, Absent, Present}
-use Rattle.page_roff_lines.specs.Bytes.{newline, carriage_return, backslash, byte_order_mark}
+use Rattle.page_roff_lines.specs.Bytes.{newline}
 use Rattle.page_roff_lines.specs.Limit.{line_limit}
-use Rattle.page_roff_lines.specs.Held.{Held, held, nothing_held, extended, shortened}
-use Rattle.page_roff_lines.specs.Reading.{Reading, read, read_pair}
-use Rattle.page_roff_lines.specs.Logical.{Logical, Kept, joined, logical_lines, kept, kept_lines, has_mark, without_mark}
-use Rattle.page_roff_lines.specs.Open.{Open, first_open, restarted, open_after, put_byte, put_newline, newline_in, without_return, closed, put_in, put_plain, put_pair, put, counted, ends_mark, mark_after, ended, end_in, left, whole_lines, kept_of, if_whole, last_line, lines_from}
+use Rattle.page_roff_lines.specs.Held.{Held, held, nothing_held}
+use Rattle.page_roff_lines.specs.Reading.{read}
+use Rattle.page_roff_lines.specs.Logical.{Logical, Kept, joined, logical_lines, kept}
+use Rattle.page_roff_lines.specs.Open.{Open, restarted, open_after, put_byte, put_newline, newline_in, without_return, closed, put_in, put_plain, put, counted, ends_mark, mark_after, ended, left, whole_lines, kept_of, if_whole, last_line, lines_from}
 use Rattle.page_roff_lines.specs.Run.{is_settled}
 use Rattle.page_roff_lines.proofs.OpenLaws.{left-append, whole_lines-append}
 use Rattle.page_roff_lines.proofs.RunLemmas.{st, any, left-restarted, whole_lines-restarted}
@@ -41,9 +40,9 @@ onto_first-none b (p ∷ ps) h e = (no_newline_cons b p h e.0, e.1)
 slice_split-none : (bs : List ℕ) → NoNewlines (slice_split (λ b. b == newline) bs)
 slice_split-none [] = ((λ k d l. absurd (omega arith)), tt)
 slice_split-none (b ∷ bs) = elim (eqb_tells b newline) [
-    inl is ↦ rw is.0 ((λ k d l. absurd (omega arith)), slice_split-none bs)
+  | inl is ↦ rw is.0 ((λ k d l. absurd (omega arith)), slice_split-none bs)
   | inr n ↦ rw n.0 (onto_first-none b _ n.0 (slice_split-none bs))
-  ]
+]
 
 -- texts in front of a line, one after the other
 joined-joined : (n p : ℕ) (s t : List ℕ) (ls : List Logical) → joined n s (joined p t ls) ≡ joined n (s ++ t) ls
@@ -147,7 +146,7 @@ goes-line : (z : List ℕ) (zs : List (List ℕ)) → Goes zs → Begins zs → 
     → NoNewline z → NoNewlines zs
     → if_whole (after_line a n p k (record { text = text ++ t; joins = c })) ++ lines_from (after_line a n p k (record { text = text ++ t; joins = c })) (join_with_byte newline (z ∷ zs))
     ≡ map kept (joined n text (cond c (joined p t (logical_lines (p + 1) (lines_of_parts (z ∷ zs))))
-      (record { number = p; text = t } ∷ logical_lines (p + 1) (lines_of_parts (z ∷ zs)))))
+    (record { number = p; text = t } ∷ logical_lines (p + 1) (lines_of_parts (z ∷ zs)))))
 unfolding if_whole joined
 goes-line z zs go be a n p k text true t h e f =
     ap (λ l. lines_from (any false Plain (held l) false true n (p + 1) k a) (join_with_byte newline (z ∷ zs))) (sym (append-nil (text ++ t)))
@@ -192,7 +191,7 @@ unfolding whole_lines if_whole logical_lines read left
 begins-more z zs go be a p k [] h e f =
     line-then (st Plain nothing_held false false p p k a) _ [] (join_with_byte newline (z ∷ zs)) refl (empty_line a p k h)
     ∙ ap (λ ls. kept_of (any true Plain nothing_held false false p (p + 1) (k + 1) a) ∷ ls)
-      (lines_from-whole nothing_held p (p + 1) (k + 1) a (join_with_byte newline (z ∷ zs)) ∙ be a (p + 1) (k + 1) z h f.0 f.1)
+    (lines_from-whole nothing_held p (p + 1) (k + 1) a (join_with_byte newline (z ∷ zs)) ∙ be a (p + 1) (k + 1) z h f.0 f.1)
     ∙ rw (take-nil line_limit) refl
 begins-more z zs go be a p k (b ∷ y) h e f = begins-byte (z ∷ zs) (goes-more z zs go be) a p k b y h e f
 
@@ -212,4 +211,3 @@ pub lines_from-start : (a : Mark) (k : ℕ) (bs : List ℕ) → is_settled a ≡
 lines_from-start a k bs h =
     ap (λ l. lines_from (st Plain nothing_held false false 1 1 k a) l) (sym (join_with_byte-slice_split newline bs))
     ∙ of_parts a k (slice_split (λ b. b == newline) bs) h (slice_split-none bs)
-

@@ -1,8 +1,8 @@
 -- The characters of a text one by one.
-use Rattle.std.proofs.Common.{◌≡◌, ℕ, zero, suc, ◌+◌, ◌-◌, ◌<◌, ◌≤◌, Bool, true, false, cond, List, [], ◌∷◌, ◌++◌, length, take, drop, get_or, refl, sym, ap, ◌∙◌, append_assoc, append-nil, length-append, arith}
+use Rattle.std.proofs.Common.{◌≡◌, ℕ, zero, suc, ◌+◌, ◌-◌, ◌<◌, true, false, List, [], ◌∷◌, ◌++◌, length, drop, get_or, refl, sym, ap, ◌∙◌, append_assoc, append-nil, length-append, arith}
 use Rattle.std.specs.Prelude.{nat_le, nat_lt}
 use Rattle.std.proofs.lemmas.Bool.Decides.{nat_tests}
-use Rattle.std.proofs.lemmas.List.{drop-drop, get_or-drop, length-drop}
+use Rattle.std.proofs.lemmas.List.{drop-drop, length-drop}
 use Rattle.page_core.specs.declared.page_settings.Encoding.{Encoding}
 use Rattle.page_roff_lines.specs.declared.characters.Front.{Front}
 use Rattle.page_roff_lines.specs.Characters.{Character, character, later_length, characters_after, characters, bytes_of, all_bytes}
@@ -49,7 +49,7 @@ so_far-more cs out c rest fits so =
     let room : line_limit - length (out ++ bytes_of c) ≡ line_limit - length out - length (bytes_of c) = omega (arith, length-append out (bytes_of c)) in
     record {
       text = so.text ∙ rw (fits, room, append_assoc) refl;
-      count = so.count ∙ rw (fits, room) (ltb-suc _ _)
+      count = so.count ∙ rw (fits, room) (ltb-suc _ _);
     }
 
 pub so_far-stop : (cs : List Character) (out : List ℕ) (c : Character) (rest : List Character)

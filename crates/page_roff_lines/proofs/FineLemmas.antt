@@ -1,12 +1,12 @@
 -- A decoded text is a line: UTF-8 without control characters but the tab.
-use Rattle.std.proofs.Common.{◌≡◌, ℕ, zero, suc, ◌+◌, ◌-◌, ◌*◌, ◌/◌, ◌%◌, ◌<◌, ◌≤◌, Bool, true, false, cond, List, [], ◌∷◌, ◌++◌, length, take, drop, get_or, refl, sym, ap, subst, ◌∙◌, inl, inr, append_assoc, length-append, arith}
-use Rattle.std.specs.Prelude.{IsUtf8, nat_lt, nat_le, nat_eq, ◌==◌, ◌≢◌, ◌&&◌, ◌||◌, ◌⊎◌}
+use Rattle.std.proofs.Common.{◌≡◌, ℕ, zero, suc, ◌+◌, ◌-◌, ◌/◌, ◌%◌, ◌<◌, ◌≤◌, Bool, true, false, cond, List, [], ◌∷◌, length, take, get_or, refl, sym, subst, inl, inr, length-append, arith}
+use Rattle.std.specs.Prelude.{IsUtf8, nat_lt, nat_le, ◌==◌, ◌≢◌, ◌⊎◌}
 use Rattle.std.specs.List.{list_all}
 use Rattle.std.proofs.lemmas.Bool.Decides.{nat_tests, eqb_tells, leb_tells}
 use Rattle.std.proofs.lemmas.Str.{IsUtf8-append, IsUtf8-nil, IsUtf8-from_ascii}
 use Rattle.std.proofs.lemmas.Str.Ascii.{IsAscii-cons, IsAscii-nil}
 use Rattle.std.proofs.str.Valid.{of_two}
-use Rattle.page_core.specs.Texts.{IsLine, is_plain, is_plain_byte}
+use Rattle.page_core.specs.Texts.{IsLine, is_plain}
 use Rattle.page_core.specs.declared.page_settings.Encoding.{Encoding}
 use Rattle.page_core.specs.declared.page_settings.Encoding.TheVariants.{Auto, Ascii, Latin1, Utf8}
 use Rattle.page_roff_lines.specs.Limit.{line_limit, line_limit_is}
@@ -18,24 +18,24 @@ use Rattle.page_roff_lines.proofs.SequenceLemmas.{Fine, split_true, sequence-fin
 fine_ascii : (b : ℕ) → 32 ≤ b → b < 127 → Fine (b ∷ [])
 fine_ascii b low high = record {
   utf8 = IsUtf8-from_ascii (b ∷ []) (IsAscii-cons b [] (omega arith) IsAscii-nil);
-  plain = λ before rest h go. both_true _ _ (ascii_plain before b h low high) (go b (λ e. omega arith))
+  plain = λ before rest h go. both_true _ _ (ascii_plain before b h low high) (go b (λ e. omega arith));
 }
 
 fine_tab : Fine (9 ∷ [])
 fine_tab = record {
   utf8 = IsUtf8-from_ascii (9 ∷ []) (IsAscii-cons 9 [] (omega arith) IsAscii-nil);
-  plain = λ before rest h go. both_true _ _ (tab_plain before) (go 9 (λ e. cc))
+  plain = λ before rest h go. both_true _ _ (tab_plain before) (go 9 (λ e. cc));
 }
 
 fine_printable : (b : ℕ) → is_printable b ≡ true → Fine (b ∷ [])
 fine_printable b h = elim (eqb_tells b 9) [
-    inl is ↦ subst (λ (c : ℕ). Fine (c ∷ [])) (sym is.1) fine_tab
+  | inl is ↦ subst (λ (c : ℕ). Fine (c ∷ [])) (sym is.1) fine_tab
   | inr n ↦
       let m = n.1 in
       let low : 32 ≤ b = grind (arith, nat_tests) in
       let high : b < 127 = grind (arith, nat_tests) in
       fine_ascii b low high
-  ]
+]
 
 fine_latin1 : (b : ℕ) → 160 ≤ b → b < 256 → Fine (latin1_bytes b)
 fine_latin1 b low high =
@@ -47,7 +47,7 @@ fine_latin1 b low high =
     let second : (160 ≤ y) ⊎ (x ≢ 194) = elim (leb_tells 192 b) [ inl h ↦ inr (λ e. omega arith) | inr h ↦ inl (omega arith) ] in
     record {
       utf8 = of_two (x ∷ y ∷ []) 0 (omega arith) (lead, most) later;
-      plain = λ before rest h go. plain_two x y before rest lead second later go
+      plain = λ before rest h go. plain_two x y before rest lead second later go;
     }
 
 -- each character is fine
@@ -126,7 +126,7 @@ decoded-is_line e text h =
     record {
       utf8 = all_bytes-utf8 _ fine;
       bounded = omega (arith, short, limit);
-      plain = all_bytes-plain _ 0 (λ n. cc) fine
+      plain = all_bytes-plain _ 0 (λ n. cc) fine;
     }
 
 -- a text of printable bytes

@@ -1,5 +1,5 @@
 -- The decoded lines of a page are those that its bytes give one by one.
-use Rattle.std.proofs.Common.{◌≡◌, ℕ, zero, suc, ◌+◌, ◌-◌, ◌<◌, ◌≤◌, Bool, true, false, cond, List, [], ◌∷◌, ◌++◌, map, length, take, drop, get_or, refl, sym, ap, subst, ◌∙◌, append_assoc, append-nil, inl, inr, arith}
+use Rattle.std.proofs.Common.{◌≡◌, ℕ, Bool, true, false, cond, List, [], ◌∷◌, ◌++◌, map, take, refl, sym, ap, ◌∙◌, append_assoc, inl, inr}
 use Rattle.std.specs.Prelude.{◌==◌, nat_lt, nat_eq}
 use lib.Pointwise.{pointwise}
 use borrow.Author.Tests.{ne_eqb}
@@ -10,13 +10,13 @@ use Rattle.page_roff_lines.specs.declared.Mode.{Mode}
 use Rattle.page_roff_lines.specs.declared.Mode.TheVariants.{Plain, Backslash, Comment, Dropped}
 use Rattle.page_roff_lines.specs.declared.Mark.{Mark}
 use Rattle.page_roff_lines.specs.declared.Mark.TheVariants.{Unread, First, Second, Absent, Present}
-use Rattle.page_roff_lines.specs.Bytes.{newline, hash, byte_order_mark}
+use Rattle.page_roff_lines.specs.Bytes.{newline, hash}
 use Rattle.page_roff_lines.specs.Logical.{Kept, kept_lines, has_mark}
 use Rattle.page_roff_lines.specs.Open.{Open, first_open, restarted, closed, counted, put, put_plain, put_pair, put_in, put_byte, ends_mark, mark_after, is_marked, open_after, ended, end_in, kept_of, if_whole, whole_lines, left, lines_from as raw_lines_from}
 use Rattle.page_roff_lines.specs.Run.{is_settled}
-use Rattle.page_roff_lines.specs.Characters.{Character, good, bad, is_printable, sequence_length, character, later_length, characters_after, characters}
+use Rattle.page_roff_lines.specs.Characters.{good, bad, is_printable, sequence_length, character, later_length, characters_after, characters}
 use Rattle.page_roff_lines.specs.Decoding.{Line, decoded, choice_of, or_else, choice_of_lines, page_encoding, lines}
-use Rattle.page_roff_lines.specs.Cutting.{Place, first_place, settled, place_at, place_after, ended_place, line_of, line_at, lines_within, place_of, lines_from}
+use Rattle.page_roff_lines.specs.Cutting.{Place, first_place, settled, place_at, place_after, ended_place, line_at, lines_within, place_of, lines_from}
 use Rattle.page_roff_lines.proofs.OpenLaws.{open_after-mark}
 use Rattle.page_roff_lines.proofs.PlaceLemmas.{open_place, place_of-append, lines_within-append}
 use Rattle.page_roff_lines.proofs.MarkLemmas.{kept_lines-one_by_one}
@@ -62,7 +62,7 @@ first_decides k ks rest Utf8 h = ap (λ ls. decoded Utf8 k ∷ ls) (known Utf8 f
 first_decides k ks rest Auto h =
     let e = choice_of_lines ks in
     let head : decoded Auto k ∷ decode_all Auto false ks ≡ decoded e k ∷ decode_all Auto false ks =
-        ap (λ l. l ∷ decode_all Auto false ks) (decoded-low Auto e k h) in
+    ap (λ l. l ∷ decode_all Auto false ks) (decoded-low Auto e k h) in
     head ∙ ap (λ ls. decoded e k ∷ ls) rest
 
 -- the encoding of the page is that of each line, as far as the line depends on it
@@ -116,9 +116,9 @@ settled_by_newline Present = refl
 -- where a line is whole, the page's first bytes were read
 whole-settled : (o : Open) (b : ℕ) → (open_after o b).whole ≡ true → is_settled (open_after o b).mark ≡ true
 whole-settled o b w = elim (eqb_tells b newline) [
-    inl is ↦ rw (open_after-mark o b, is.1) (settled_by_newline o.mark)
+  | inl is ↦ rw (open_after-mark o b, is.1) (settled_by_newline o.mark)
   | inr n ↦ let no = open_after-whole o b n.0 in cc
-  ]
+]
 
 mark_after-settled : (m : Mark) (b : ℕ) → is_settled m ≡ true → mark_after m b ≡ m
 unfolding mark_after
@@ -223,25 +223,25 @@ marks-third : (bs : List ℕ) → is_marked (marks Second bs) ≡ pointwise nat_
 unfolding mark_after
 marks-third [] = refl
 marks-third (b ∷ bs) = elim (eqb_tells b 0xBF) [
-    inl is ↦ rw is.1 (ap (λ m. is_marked m) (marks-present bs))
+  | inl is ↦ rw is.1 (ap (λ m. is_marked m) (marks-present bs))
   | inr n ↦ rw (n.0, ne_eqb 0xBF b (λ e. n.1 (sym e))) (ap (λ m. is_marked m) (marks-absent bs))
-  ]
+]
 
 marks-second : (bs : List ℕ) → is_marked (marks First bs) ≡ pointwise nat_eq (0xBB ∷ 0xBF ∷ []) (take 2 bs)
 unfolding mark_after
 marks-second [] = refl
 marks-second (b ∷ bs) = elim (eqb_tells b 0xBB) [
-    inl is ↦ rw is.1 (marks-third bs)
+  | inl is ↦ rw is.1 (marks-third bs)
   | inr n ↦ rw (n.0, ne_eqb 0xBB b (λ e. n.1 (sym e))) (ap (λ m. is_marked m) (marks-absent bs))
-  ]
+]
 
 marks-first : (bs : List ℕ) → is_marked (marks Unread bs) ≡ has_mark bs
 unfolding mark_after
 marks-first [] = refl
 marks-first (b ∷ bs) = elim (eqb_tells b 0xEF) [
-    inl is ↦ rw is.1 (marks-second bs)
+  | inl is ↦ rw is.1 (marks-second bs)
   | inr n ↦ rw (n.0, ne_eqb 0xEF b (λ e. n.1 (sym e))) (ap (λ m. is_marked m) (marks-absent bs))
-  ]
+]
 
 is_marked-left : (bs : List ℕ) → marked_at_end first_open bs ≡ has_mark bs
 is_marked-left bs = ap (λ m. is_marked m) (left-marks first_open bs) ∙ marks-first bs
@@ -250,9 +250,9 @@ is_marked-left bs = ap (λ m. is_marked m) (left-marks first_open bs) ∙ marks-
 pub lines-one_by_one : (set : Encoding) (bytes : List ℕ) → lines set bytes ≡ lines_from (first_place set) bytes
 lines-one_by_one set bytes =
     sym (all-decoded set first_open bytes
-      ∙ ap (λ m. decode_all set m (raw_lines_from first_open bytes)) (is_marked-left bytes)
-      ∙ ap (λ ks. decode_all set (has_mark bytes) ks) (sym (kept_lines-one_by_one bytes))
-      ∙ decode_all-page set (has_mark bytes) (kept_lines bytes))
+    ∙ ap (λ m. decode_all set m (raw_lines_from first_open bytes)) (is_marked-left bytes)
+    ∙ ap (λ ks. decode_all set (has_mark bytes) ks) (sym (kept_lines-one_by_one bytes))
+    ∙ decode_all-page set (has_mark bytes) (kept_lines bytes))
 
 -- a page cut anywhere
 pub lines-cut : (set : Encoding) (above below : List ℕ)

@@ -1,29 +1,18 @@
 -- A byte order mark is dropped, and a page that only begins like one has these bytes.
-use Rattle.std.proofs.Common.{◌≡◌, ℕ, zero, suc, ◌+◌, ◌-◌, ◌<◌, ◌≤◌, Bool, true, false, cond, List, [], ◌∷◌, ◌++◌, map, length, take, drop, get_or, refl, sym, ap, subst, ◌∙◌, append_assoc, append-nil, length-append, arith, inl, inr}
-use Rattle.std.specs.Prelude.{not, All, ◌==◌, nat_eq}
-use Rattle.std.specs.List.{slice_split, onto_first, join_with_byte}
-use Rattle.std.specs.Str.Lines.{strip_carriage_return, lines_of_parts, lines as physical_lines}
+use Rattle.std.proofs.Common.{◌≡◌, ℕ, Bool, true, false, cond, List, [], ◌∷◌, ◌++◌, map, take, drop, refl, sym, ap, ◌∙◌, inl, inr}
+use Rattle.std.specs.Prelude.{nat_eq}
+use Rattle.std.specs.Str.Lines.{lines as physical_lines}
 use Rattle.std.proofs.lemmas.Bool.Decides.{eqb_tells}
-use Rattle.std.proofs.Math.Dec.{eqb-suc-zero}
 use lib.Pointwise.{pointwise}
 use borrow.Author.Tests.{ne_eqb}
-use Rattle.std.proofs.lemmas.List.Splits.{join_with_byte-slice_split}
-use Rattle.page_roff_lines.specs.declared.Mode.{Mode}
-use Rattle.page_roff_lines.specs.declared.Mode.TheVariants.{Plain, Backslash, Comment, Dropped}
+use Rattle.page_roff_lines.specs.declared.Mode.TheVariants.{Plain}
 use Rattle.page_roff_lines.specs.declared.Mark.{Mark}
-use Rattle.page_roff_lines.specs.declared.Mark.TheVariants.{Unread, First, Second, Absent, Present}
-use Rattle.page_roff_lines.specs.Bytes.{newline, carriage_return, backslash, byte_order_mark}
-use Rattle.page_roff_lines.specs.Limit.{line_limit}
-use Rattle.page_roff_lines.specs.Held.{Held, held, nothing_held, extended, shortened}
-use Rattle.page_roff_lines.specs.Reading.{Reading, read, read_pair}
-use Rattle.page_roff_lines.specs.Logical.{Logical, Kept, joined, logical_lines, kept, kept_lines, has_mark, without_mark}
-use Rattle.page_roff_lines.specs.Open.{Open, first_open, restarted, open_after, put_byte, put_newline, newline_in, without_return, closed, put_in, put_plain, put_pair, put, counted, ends_mark, mark_after, ended, end_in, left, whole_lines, kept_of, if_whole, last_line, lines_from}
-use Rattle.page_roff_lines.specs.Run.{is_settled}
-use Rattle.page_roff_lines.proofs.OpenLaws.{left-append, whole_lines-append}
-use Rattle.page_roff_lines.proofs.RunLemmas.{st, any, left-restarted, whole_lines-restarted}
-use Rattle.page_roff_lines.proofs.Spots.{plain, at}
+use Rattle.page_roff_lines.specs.declared.Mark.TheVariants.{First, Second, Absent, Present}
+use Rattle.page_roff_lines.specs.Held.{nothing_held, extended}
+use Rattle.page_roff_lines.specs.Logical.{logical_lines, kept, kept_lines, has_mark}
+use Rattle.page_roff_lines.specs.Open.{Open, first_open, restarted, open_after, put_byte, closed, put_in, put_plain, put, counted, ends_mark, mark_after, ended, end_in, left, whole_lines, if_whole, last_line, lines_from}
+use Rattle.page_roff_lines.proofs.RunLemmas.{st}
 use Rattle.page_roff_lines.proofs.Agreement.{lines_from-start}
-
 
 -- a page without a mark, and one after its mark
 abbrev unmarked : Open
@@ -52,32 +41,32 @@ third : (bs : List ℕ) → lines_from (after_two Second) bs
 unfolding left whole_lines ended end_in restarted closed if_whole open_after put_byte counted ends_mark mark_after
 third [] = refl
 third (b ∷ bs) = elim (eqb_tells b 0xBF) [
-    inl is ↦ rw is.1 (by_open (after_two Second) marked 0xBF bs refl refl)
+  | inl is ↦ rw is.1 (by_open (after_two Second) marked 0xBF bs refl refl)
   | inr n ↦ rw (ne_eqb 0xBF b (λ e. n.1 (sym e))) (by_first (after_two Second) (after_two Absent) b bs (rw n.0 refl))
-  ]
+]
 
 second : (bs : List ℕ) → lines_from (after_one First) bs
     ≡ cond (pointwise nat_eq (0xBB ∷ 0xBF ∷ []) (take 2 bs)) (lines_from marked (drop 2 bs)) (lines_from (after_one Absent) bs)
 unfolding left whole_lines ended end_in restarted closed if_whole open_after put_byte put_in put_plain put counted ends_mark mark_after
 second [] = refl
 second (b ∷ bs) = elim (eqb_tells b 0xBB) [
-    inl is ↦ rw is.1
+  | inl is ↦ rw is.1
       (by_open (after_one First) (after_two Second) 0xBB bs refl refl ∙ third bs
       ∙ ap (λ ls. cond (pointwise nat_eq (0xBF ∷ []) (take 1 bs)) (lines_from marked (drop 1 bs)) ls)
-        (sym (by_open (after_one Absent) (after_two Absent) 0xBB bs refl refl)))
+      (sym (by_open (after_one Absent) (after_two Absent) 0xBB bs refl refl)))
   | inr n ↦ rw (ne_eqb 0xBB b (λ e. n.1 (sym e))) (by_first (after_one First) (after_one Absent) b bs (rw n.0 refl))
-  ]
+]
 
 first : (bs : List ℕ) → lines_from first_open bs ≡ cond (has_mark bs) (lines_from marked (drop 3 bs)) (lines_from unmarked bs)
 unfolding left whole_lines ended end_in restarted closed if_whole open_after put_byte put_in put_plain put counted ends_mark mark_after
 first [] = refl
 first (b ∷ bs) = elim (eqb_tells b 0xEF) [
-    inl is ↦ rw is.1
+  | inl is ↦ rw is.1
       (by_open first_open (after_one First) 0xEF bs refl refl ∙ second bs
       ∙ ap (λ ls. cond (pointwise nat_eq (0xBB ∷ 0xBF ∷ []) (take 2 bs)) (lines_from marked (drop 2 bs)) ls)
-        (sym (by_open unmarked (after_one Absent) 0xEF bs refl refl)))
+      (sym (by_open unmarked (after_one Absent) 0xEF bs refl refl)))
   | inr n ↦ rw (ne_eqb 0xEF b (λ e. n.1 (sym e))) (by_first first_open unmarked b bs (rw n.0 refl))
-  ]
+]
 
 either : (c : Bool) (xs ys : List ℕ)
     → cond c (lines_from marked xs) (lines_from unmarked ys) ≡ map kept (logical_lines 1 (physical_lines (cond c xs ys)))

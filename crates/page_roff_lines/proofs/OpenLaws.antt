@@ -1,5 +1,5 @@
 -- The page's bytes one by one, and cut anywhere.
-use Rattle.std.proofs.Common.{◌≡◌, ℕ, ◌+◌, ◌-◌, ◌<◌, ◌≤◌, Bool, true, false, cond, List, [], ◌∷◌, ◌++◌, length, take, drop, get_or, refl, sym, ap, ◌∙◌, append_assoc, append-nil, arith}
+use Rattle.std.proofs.Common.{◌≡◌, ℕ, ◌+◌, ◌-◌, ◌<◌, Bool, true, false, cond, List, [], ◌∷◌, ◌++◌, length, take, drop, get_or, refl, sym, ap, ◌∙◌, append_assoc, append-nil, arith}
 use Rattle.std.specs.Prelude.{◌==◌}
 use Rattle.std.proofs.lemmas.List.{take_more, take_all, length-drop}
 use Rattle.std.proofs.Math.Seq.{take-add}
@@ -7,7 +7,6 @@ use Rattle.page_roff_lines.specs.declared.Mode.{Mode}
 use Rattle.page_roff_lines.specs.declared.Mode.TheVariants.{Plain, Backslash, Comment, Dropped}
 use Rattle.page_roff_lines.specs.declared.Mark.{Mark}
 use Rattle.page_roff_lines.specs.Bytes.{newline, hash}
-use Rattle.page_roff_lines.specs.Logical.{Kept}
 use Rattle.page_roff_lines.specs.Open.{Open, restarted, closed, counted, put, put_plain, put_pair, put_in, without_return, newline_in, put_newline, put_byte, ends_mark, mark_after, open_after, kept_of, if_whole, whole_lines, left}
 
 pub left-append : (o : Open) (xs ys : List ℕ) → left o (xs ++ ys) ≡ left (left o xs) ys

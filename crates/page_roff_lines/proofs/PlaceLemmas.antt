@@ -1,12 +1,11 @@
 -- Places of a page, and the lines between them.
-use Rattle.std.proofs.Common.{◌≡◌, ℕ, zero, suc, ◌+◌, ◌-◌, ◌<◌, ◌≤◌, Bool, true, false, cond, List, [], ◌∷◌, ◌++◌, length, take, drop, get_or, refl, sym, ap, subst, ◌∙◌, append_assoc, append-nil, add-one, arith}
+use Rattle.std.proofs.Common.{◌≡◌, ℕ, zero, suc, ◌-◌, ◌≤◌, Bool, true, false, cond, List, [], ◌∷◌, ◌++◌, length, take, get_or, refl, sym, ap, ◌∙◌, append_assoc, append-nil, add-one, arith}
 use Rattle.std.proofs.lemmas.List.{take_more}
 use Rattle.page_core.specs.declared.page_settings.Encoding.{Encoding}
 use Rattle.page_roff_lines.specs.Logical.{Kept}
 use Rattle.page_roff_lines.specs.Open.{Open, open_after, ended, kept_of, if_whole, whole_lines, left}
-use Rattle.page_roff_lines.specs.Decoding.{Line, decoded}
 use Rattle.page_roff_lines.specs.Cutting.{Place, Cutting, settled, place_at, place_after, ended_place, line_of, line_at, lines_within, place_of}
-use Rattle.page_roff_lines.proofs.OpenLaws.{left-append, whole_lines-append}
+use Rattle.page_roff_lines.proofs.OpenLaws.{left-append}
 
 -- the law: a page cut anywhere
 pub place_of-append : (p : Place) (xs ys : List ℕ) → place_of p (xs ++ ys) ≡ place_of (place_of p xs) ys
@@ -86,7 +85,7 @@ place_of-one p bs b o h is w =
     let after = place_after-whole p.encoding (left p.line bs) b w2 in
     let last : place_of (place_of p bs) (b ∷ []) ≡ whole_place p.encoding o = rw (none.0, after) (ap (λ q. whole_place p.encoding q) (sym next)) in
     let line : lines_within (place_of p bs) (b ∷ []) ≡ line_of (whole_place p.encoding o) ∷ [] =
-        rw (none.0, after, ← next, append-nil) (line_at-whole (whole_place p.encoding o) w) in
+    rw (none.0, after, ← next, append-nil) (line_at-whole (whole_place p.encoding o) w) in
     (place_of-append p bs (b ∷ []) ∙ last, lines_within-append p bs (b ∷ []) ∙ rw (none.1) line)
 
 nothing_whole : (o : Open) (k : Kept) → whole_lines o [] ≡ k ∷ [] → ⊥
@@ -121,7 +120,7 @@ unfolding ended_place place_at line_at
 ended_at p w o is whole =
     let q : Place = record { line = o; encoding = cond w (settled p.encoding o) p.encoding } in (
       ap (λ c. record { line = o; encoding = cond c (settled p.encoding o) p.encoding }) whole
-      ∙ ap (λ (o : Open). record { line = o; encoding = cond o.whole (settled p.encoding o) p.encoding }) is,
+          ∙ ap (λ (o : Open). record { line = o; encoding = cond o.whole (settled p.encoding o) p.encoding }) is,
       ap (λ c. cond c (line_of q ∷ []) []) (sym whole),
     )
 

@@ -1,13 +1,14 @@
 -- A text of printable bytes is the same under each encoding.
-use Rattle.std.proofs.Common.{◌≡◌, ℕ, zero, suc, ◌+◌, ◌-◌, ◌<◌, ◌≤◌, Bool, true, false, cond, List, [], ◌∷◌, ◌++◌, map, length, take, drop, get_or, refl, sym, ap, ◌∙◌, append_assoc, append-nil, arith}
+use Rattle.std.proofs.Common.{◌≡◌, ℕ, ◌+◌, ◌-◌, ◌≤◌, Bool, true, false, List, [], ◌∷◌, ◌++◌, length, refl, sym, ap, append-nil, arith}
 use Rattle.std.specs.Prelude.{nat_le, nat_lt, ◌&&◌, ◌||◌}
 use Rattle.std.specs.List.{list_all}
 use Rattle.std.proofs.lemmas.Bool.Decides.{nat_tests}
 use Rattle.page_core.specs.declared.page_settings.Encoding.{Encoding}
+use Rattle.page_core.specs.declared.page_settings.Encoding.TheVariants.{Auto}
 use Rattle.page_roff_lines.specs.Limit.{line_limit}
 use Rattle.page_roff_lines.specs.Logical.{Kept}
-use Rattle.page_roff_lines.specs.Characters.{Character, good, bad, is_printable, character, later_length, characters_after, characters, bytes_of, all_bytes}
-use Rattle.page_roff_lines.specs.Decoding.{Line, decoded, fitting, bad_notes, limit_notes, passes_limit}
+use Rattle.page_roff_lines.specs.Characters.{Character, good, is_printable, character, later_length, characters_after, characters, all_bytes}
+use Rattle.page_roff_lines.specs.Decoding.{choice_of, decoded, fitting, bad_notes, limit_notes}
 
 -- each byte by itself
 abbrev pub singles : List ℕ → List Character
@@ -62,3 +63,24 @@ decoded-plain e k plain short =
       rw (chars, stay) (all_bytes-singles k.text),
       rw (chars, stay, below_itself (length (singles k.text)), or_false k.cut, bad_notes-singles k.number 1 k.text) (append-nil (limit_notes k.cut k.number)),
     )
+
+and_comm_true : (b : Bool) → (b && true) ≡ (true && b)
+and_comm_true true = refl
+and_comm_true false = refl
+
+and_assoc : (a b c : Bool) → ((a && b) && c) ≡ (a && (b && c))
+and_assoc true b c = refl
+and_assoc false b c = refl
+
+-- it decides no encoding
+pub choice_of-plain : (text : List ℕ) → list_all is_printable text ≡ true → choice_of text ≡ Auto
+unfolding choice_of
+choice_of-plain [] h = refl
+choice_of-plain (b ∷ bs) h =
+    let both = and_true (is_printable b) (list_all is_printable bs) h in
+    rw (printable_low b both.0) (choice_of-plain bs both.1)
+
+-- one byte more that is tested
+pub list_all-more : (p : ℕ → Bool) (xs : List ℕ) (x : ℕ) → list_all p (xs ++ x ∷ []) ≡ (list_all p xs && p x)
+list_all-more p [] x = and_comm_true (p x)
+list_all-more p (y ∷ ys) x = rw (list_all-more p ys x) (sym (and_assoc (p y) (list_all p ys) (p x)))

@@ -1,13 +1,13 @@
 -- The messages about the bytes of a line that are no characters, one by one.
-use Rattle.std.proofs.Common.{◌≡◌, ℕ, zero, suc, ◌+◌, ◌-◌, ◌<◌, ◌≤◌, Bool, true, false, cond, List, [], ◌∷◌, ◌++◌, length, take, drop, get_or, refl, sym, ap, ◌∙◌, append_assoc, append-nil, length-append, arith}
-use Rattle.std.specs.Prelude.{nat_le, nat_lt}
+use Rattle.std.proofs.Common.{◌≡◌, ℕ, ◌+◌, ◌-◌, ◌<◌, ◌≤◌, true, false, List, [], ◌∷◌, ◌++◌, length, drop, get_or, refl, sym, ◌∙◌, arith}
+use Rattle.std.specs.Prelude.{nat_le}
 use Rattle.std.proofs.lemmas.Bool.Decides.{nat_tests}
 use Rattle.std.proofs.lemmas.List.{drop_all, length-take-le}
 use Rattle.page_core.specs.declared.page_settings.Encoding.{Encoding}
 use Rattle.page_roff_lines.specs.declared.characters.Front.{Front}
 use Rattle.page_roff_lines.specs.declared.characters.Front.TheVariants.{Same, Latin1, Bad}
 use Rattle.page_roff_lines.specs.Limit.{line_limit}
-use Rattle.page_roff_lines.specs.Characters.{Character, character, later_length, characters_after, characters, bytes_of, all_bytes}
+use Rattle.page_roff_lines.specs.Characters.{Character, character, later_length, characters_after, characters, bytes_of}
 use Rattle.page_roff_lines.specs.Fronts.{as_character, width_of, later_of, size_of}
 use Rattle.page_roff_lines.specs.Decoding.{fitting, notes_of, bad_notes}
 use Rattle.page_roff_lines.proofs.CharacterLemmas.{characters-at}

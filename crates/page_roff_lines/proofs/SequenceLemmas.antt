@@ -1,6 +1,6 @@
 -- A well-formed sequence is the UTF-8 of a character, which is no control character.
-use Rattle.std.proofs.Common.{◌≡◌, ℕ, zero, suc, ◌+◌, ◌-◌, ◌*◌, ◌<◌, ◌≤◌, Bool, true, false, cond, List, [], ◌∷◌, ◌++◌, length, take, drop, get_or, refl, sym, ap, subst, ◌∙◌, inl, inr, arith}
-use Rattle.std.specs.Prelude.{IsUtf8, nat_lt, nat_eq, ◌==◌, ◌≢◌, ◌&&◌, ◌||◌, ◌⊎◌}
+use Rattle.std.proofs.Common.{◌≡◌, ℕ, zero, suc, ◌+◌, ◌-◌, ◌*◌, ◌<◌, ◌≤◌, Bool, true, false, cond, List, [], ◌∷◌, ◌++◌, length, take, get_or, refl, subst, inl, inr, arith}
+use Rattle.std.specs.Prelude.{IsUtf8, ◌==◌, ◌≢◌, ◌&&◌, ◌||◌, ◌⊎◌}
 use Rattle.std.specs.Int.{is_in_range}
 use Rattle.std.proofs.lemmas.Bool.Decides.{nat_tests, eqb_tells, leb_tells}
 use Rattle.std.proofs.str.Valid.{of_two, of_three, of_four}
@@ -14,15 +14,16 @@ three_low x y z a b low = elim (eqb_tells x 224) [ inl is ↦ let l = low is.1 i
 three_gap : (x y z : ℕ) → 224 ≤ x → x < 240 → Follows y → Follows z → (x ≡ 237 → y < 160)
     → ((x - 224) * 4096 + (y - 128) * 64 + (z - 128) < 55296) ⊎ (57344 ≤ (x - 224) * 4096 + (y - 128) * 64 + (z - 128))
 three_gap x y z a b f g high = elim (eqb_tells x 237) [
-    inl is ↦ let l = high is.1 in inl (omega arith)
+  | inl is ↦ let l = high is.1 in inl (omega arith)
   | inr n ↦ elim (leb_tells 237 x) [ inl above ↦ let m = n.1 in inr (omega arith) | inr below ↦ inl (omega arith) ]
-  ]
+]
 
 four_within : (x y : ℕ) → 240 ≤ x → x < 245 → Follows y → (x ≡ 240 → 144 ≤ y) → (x ≡ 244 → y < 144)
     → (16 ≤ (x - 240) * 64 + (y - 128)) × ((x - 240) * 64 + (y - 128) < 272)
-four_within x y a b f low high =
-    (elim (eqb_tells x 240) [ inl is ↦ let l = low is.1 in omega arith | inr n ↦ let m = n.1 in omega arith ],
-    elim (eqb_tells x 244) [ inl is ↦ let l = high is.1 in omega arith | inr n ↦ let m = n.1 in omega arith ])
+four_within x y a b f low high = (
+  elim (eqb_tells x 240) [ inl is ↦ let l = low is.1 in omega arith | inr n ↦ let m = n.1 in omega arith ],
+  elim (eqb_tells x 244) [ inl is ↦ let l = high is.1 in omega arith | inr n ↦ let m = n.1 in omega arith ],
+)
 
 -- what the second byte is
 second-C2 : (y : ℕ) → is_second 0xC2 y ≡ true → 160 ≤ y
@@ -130,7 +131,7 @@ two text s r =
     let second : (160 ≤ y) ⊎ (x ≢ 194) = elim (eqb_tells x 0xC2) [ inl is ↦ inl (second-C2 y (at_lead x y s 0xC2 is.1)) | inr n ↦ inr n.1 ] in
     record {
       utf8 = of_two text 0 long (low, high) f;
-      plain = λ before rest h go. rw (take_two text (omega arith)) (plain_two x y before rest low second f go)
+      plain = λ before rest h go. rw (take_two text (omega arith)) (plain_two x y before rest low second f go);
     }
 
 three : (text : List ℕ) → is_second (get_or text 0 0) (get_or text 1 0) ≡ true → is_in_range 0xE0 0xEF (get_or text 0 0) ≡ true
@@ -150,7 +151,7 @@ three text s r l =
           (three_gap x y z low high f g (λ e. second-ED y (at_lead x y s 0xED e)));
       plain = λ before rest h go. rw (take_three text (omega arith))
           (plain_two x y before (z ∷ rest) (omega arith) (inr (λ e. omega arith)) f
-          (λ last h. both_true _ _ (later_plain last z (inr h) g) (go z (not_lead z g))))
+          (λ last h. both_true _ _ (later_plain last z (inr h) g) (go z (not_lead z g))));
     }
 
 four : (text : List ℕ) → is_second (get_or text 0 0) (get_or text 1 0) ≡ true → is_in_range 0xF0 0xF4 (get_or text 0 0) ≡ true
@@ -171,7 +172,7 @@ four text s r l k =
           (four_within x y low high f (λ e. second-F0 y (at_lead x y s 0xF0 e)) (λ e. second-F4 y (at_lead x y s 0xF4 e)));
       plain = λ before rest h go. rw (take_four text (omega arith))
           (plain_two x y before (z ∷ w ∷ rest) (omega arith) (inr (λ e. omega arith)) f
-          (λ last h. both_true _ _ (later_plain last z (inr h) g) (both_true _ _ (later_plain z w (inr (not_lead z g)) j) (go w (not_lead w j)))))
+          (λ last h. both_true _ _ (later_plain last z (inr h) g) (both_true _ _ (later_plain z w (inr (not_lead z g)) j) (go w (not_lead w j)))));
     }
 
 pub split_true : (a b : Bool) → (a && b) ≡ true → (a ≡ true) × (b ≡ true)

@@ -1,9 +1,9 @@
 -- What a physical line gives, from each spot of its reading on.
-use Rattle.std.proofs.Common.{◌≡◌, ℕ, zero, suc, ◌+◌, ◌-◌, ◌<◌, ◌≤◌, Bool, true, false, cond, List, [], ◌∷◌, ◌++◌, length, take, drop, get_or, refl, sym, ap, subst, ◌∙◌, append_assoc, append-nil, length-append, arith}
-use Rattle.std.specs.Prelude.{not, All, ◌==◌, if◌then◌else◌}
+use Rattle.std.proofs.Common.{◌≡◌, ℕ, suc, ◌+◌, ◌-◌, Bool, true, false, cond, List, [], ◌∷◌, ◌++◌, length, take, get_or, refl, sym, ap, ◌∙◌, append_assoc, append-nil, arith}
+use Rattle.std.specs.Prelude.{not, All, ◌==◌}
 use Rattle.std.specs.Str.Lines.{strip_carriage_return}
 use Rattle.page_roff_lines.specs.declared.Mode.{Mode}
-use Rattle.page_roff_lines.specs.declared.Mode.TheVariants.{Plain, Backslash, Comment, Dropped}
+use Rattle.page_roff_lines.specs.declared.Mode.TheVariants.{Plain}
 use Rattle.page_roff_lines.specs.declared.Mark.{Mark}
 use Rattle.page_roff_lines.specs.declared.Mark.TheVariants.{Unread, First, Second, Absent, Present}
 use Rattle.page_roff_lines.specs.Bytes.{newline, carriage_return, backslash, quote, hash}
@@ -12,7 +12,7 @@ use Rattle.page_roff_lines.specs.Reading.{Reading, after_byte, read, read_pair}
 use Rattle.page_roff_lines.specs.Open.{Open, restarted, open_after, put_byte, put_newline, newline_in, without_return, closed, counted, ends_mark, mark_after, ended, end_in, left, whole_lines, if_whole}
 use Rattle.page_roff_lines.specs.Run.{is_settled}
 use Rattle.page_roff_lines.proofs.RunLemmas.{st, any}
-use Rattle.page_roff_lines.proofs.Spots.{Spot, plain, returned, slash, slash_returned, noted, noted_returned, dropping, mode_of, return_of, pending, at, next, next_text, by_byte, held-push, held-pop, open_after-at}
+use Rattle.page_roff_lines.proofs.Spots.{Spot, plain, returned, slash, slash_returned, noted, noted_returned, dropping, mode_of, return_of, pending, at, next, next_text, by_byte, held-pop, open_after-at}
 
 -- the rest of a physical line, read from there
 abbrev pub read_at : Spot → List ℕ → Reading

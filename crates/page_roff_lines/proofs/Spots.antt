@@ -1,9 +1,8 @@
 -- Where the reading of a physical line stands, with the bytes at its end that the next byte may take away.
-use Rattle.std.proofs.Common.{◌≡◌, ℕ, zero, suc, ◌+◌, ◌-◌, ◌<◌, ◌≤◌, Bool, true, false, cond, List, [], ◌∷◌, ◌++◌, length, take, drop, get_or, refl, sym, ap, subst, ◌∙◌, append_assoc, append-nil, length-append, arith}
+use Rattle.std.proofs.Common.{◌≡◌, ℕ, zero, suc, ◌+◌, ◌-◌, Bool, true, false, List, [], ◌∷◌, ◌++◌, length, take, refl, sym, ap, subst, ◌∙◌, append_assoc, append-nil, length-append, arith}
 use Rattle.std.specs.Prelude.{◌==◌, if◌then◌else◌}
 use Rattle.std.proofs.Common.{inl, inr}
 use Rattle.std.proofs.lemmas.Bool.Decides.{eqb_tells}
-use Rattle.std.specs.Str.Lines.{strip_carriage_return}
 use Rattle.page_roff_lines.specs.declared.Mode.{Mode}
 use Rattle.page_roff_lines.specs.declared.Mode.TheVariants.{Plain, Backslash, Comment, Dropped}
 use Rattle.page_roff_lines.specs.declared.Mark.{Mark}
@@ -11,8 +10,7 @@ use Rattle.page_roff_lines.specs.declared.Mark.TheVariants.{Unread, First, Secon
 use Rattle.page_roff_lines.specs.Bytes.{newline, carriage_return, backslash, quote, hash}
 use Rattle.page_roff_lines.specs.Limit.{line_limit}
 use Rattle.page_roff_lines.specs.Held.{Held, held, extended, shortened}
-use Rattle.page_roff_lines.specs.Reading.{Reading, after_byte, read, read_pair}
-use Rattle.page_roff_lines.specs.Open.{Open, restarted, open_after, put_byte, put_newline, newline_in, without_return, closed, put_in, put_plain, put_pair, pair_mode, put, counted, ends_mark, mark_after, ended, end_in}
+use Rattle.page_roff_lines.specs.Open.{Open, restarted, open_after, put_byte, put_in, put_plain, put_pair, pair_mode, put, counted, ends_mark, mark_after}
 use Rattle.page_roff_lines.specs.Run.{is_settled}
 use Rattle.page_roff_lines.proofs.RunLemmas.{st, take-take-append}
 
@@ -109,12 +107,12 @@ pub by_byte : (P : ℕ → Type 0) → P backslash → P quote → P hash → P 
     → ((b : ℕ) → (b == backslash) ≡ false → (b == quote) ≡ false → (b == hash) ≡ false → (b == carriage_return) ≡ false → P b) → (b : ℕ) → P b
 by_byte P p q h c other b =
     elim (eqb_tells b backslash) [
-      inl is ↦ subst P (sym is.1) p
-    | inr n ↦ elim (eqb_tells b quote) [
-        inl is ↦ subst P (sym is.1) q
-      | inr m ↦ elim (eqb_tells b hash) [
-          inl is ↦ subst P (sym is.1) h
-        | inr l ↦ elim (eqb_tells b carriage_return) [ inl is ↦ subst P (sym is.1) c | inr k ↦ other b n.0 m.0 l.0 k.0 ]
+      | inl is ↦ subst P (sym is.1) p
+      | inr n ↦ elim (eqb_tells b quote) [
+        | inl is ↦ subst P (sym is.1) q
+        | inr m ↦ elim (eqb_tells b hash) [
+          | inl is ↦ subst P (sym is.1) h
+          | inr l ↦ elim (eqb_tells b carriage_return) [ inl is ↦ subst P (sym is.1) c | inr k ↦ other b n.0 m.0 l.0 k.0 ]
         ]
       ]
     ]

@@ -1,5 +1,5 @@
 -- The characters of a line's bytes. Source: mandoc(1), -K.
-use Rattle.std.specs.Prelude.{◌≡◌, ℕ, zero, suc, ◌+◌, ◌-◌, ◌*◌, ◌/◌, ◌%◌, Bool, ◌==◌, ◌&&◌, ◌||◌, nat_lt, List, [], ◌∷◌, ◌++◌, length, take, drop, slice_index, if◌then◌else◌}
+use Rattle.std.specs.Prelude.{ℕ, zero, suc, ◌+◌, ◌-◌, ◌/◌, ◌%◌, Bool, ◌==◌, ◌&&◌, ◌||◌, nat_lt, List, [], ◌∷◌, ◌++◌, take, slice_index, if◌then◌else◌}
 use Rattle.std.specs.Int.{is_in_range}
 use Rattle.page_core.specs.declared.page_settings.Encoding.{Encoding}
 use Rattle.page_core.specs.declared.page_settings.Encoding.TheVariants.{Auto, Ascii, Latin1, Utf8}
@@ -21,9 +21,9 @@ unfoldable pub sequence_length : List ℕ → ℕ
 sequence_length text =
     let x = slice_index text 0 in
     if is_second x (slice_index text 1) then
-      (if is_in_range 0xC2 0xDF x then 2
-      else (if is_in_range 0xE0 0xEF x && is_later (slice_index text 2) then 3
-      else (if is_in_range 0xF0 0xF4 x && (is_later (slice_index text 2) && is_later (slice_index text 3)) then 4 else 0)))
+    (if is_in_range 0xC2 0xDF x then 2
+    else (if is_in_range 0xE0 0xEF x && is_later (slice_index text 2) then 3
+    else (if is_in_range 0xF0 0xF4 x && (is_later (slice_index text 2) && is_later (slice_index text 3)) then 4 else 0)))
     else 0
 
 -- a character of a line, as UTF-8; or a byte that is none

@@ -1,5 +1,5 @@
 -- The decoded lines of a page. Source: mandoc(1), -K.
-use Rattle.std.specs.Prelude.{◌≡◌, ℕ, ◌+◌, ◌-◌, ◌/◌, ◌%◌, Bool, true, false, ◌==◌, ◌||◌, nat_lt, nat_le, List, [], ◌∷◌, ◌++◌, map, length, codes, if◌then◌else◌}
+use Rattle.std.specs.Prelude.{ℕ, ◌+◌, ◌-◌, ◌/◌, ◌%◌, Bool, ◌==◌, ◌||◌, nat_lt, nat_le, List, [], ◌∷◌, ◌++◌, map, length, codes, if◌then◌else◌}
 use Rattle.std.specs.Char.{digit_char}
 use Rattle.page_core.specs.declared.page_settings.Encoding.{Encoding}
 use Rattle.page_core.specs.declared.page_settings.Encoding.TheVariants.{Auto, Ascii, Latin1, Utf8}
@@ -52,9 +52,10 @@ passes_limit e k = k.cut || nat_lt (length (staying e k)) (length (characters e 
 
 unfoldable pub decoded : Encoding → Kept → Line
 decoded e k = record {
-    number = k.number; text = all_bytes (staying e k);
-    notes = limit_notes (passes_limit e k) k.number ++ bad_notes k.number 1 (staying e k)
-  }
+  number = k.number;
+  text = all_bytes (staying e k);
+  notes = limit_notes (passes_limit e k) k.number ++ bad_notes k.number 1 (staying e k);
+}
 
 -- what the first byte above 0x7F of a text decides; none decides nothing
 unfoldable pub choice_of : List ℕ → Encoding

@@ -1,10 +1,10 @@
 -- The logical lines of a page, of which each is one physical line or several that were joined.
-use Rattle.std.specs.Prelude.{ℕ, ◌+◌, ◌<◌, Bool, nat_eq, nat_lt, List, [], ◌∷◌, ◌++◌, length, take, drop, map, if◌then◌else◌}
+use Rattle.std.specs.Prelude.{ℕ, ◌+◌, Bool, nat_eq, nat_lt, List, [], ◌∷◌, ◌++◌, length, take, drop, map, if◌then◌else◌}
 use Rattle.std.specs.List.{starts_with}
 use Rattle.std.specs.Str.Lines.{lines as physical_lines}
 use Rattle.page_roff_lines.specs.Limit.{line_limit}
 use Rattle.page_roff_lines.specs.Bytes.{byte_order_mark}
-use Rattle.page_roff_lines.specs.Reading.{Reading, read}
+use Rattle.page_roff_lines.specs.Reading.{read}
 
 -- a logical line, with the number of its first physical line
 pub record Logical : Type 0 where

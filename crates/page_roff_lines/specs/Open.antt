@@ -28,9 +28,16 @@ pub record Open : Type 0 where
 
 abbrev pub first_open : Open
 first_open = record {
-    text = nothing_held; mode = Plain; after_return = false; begun = false; whole = false; number = 1; physical = 1; taken = 0;
-    mark = Unread
-  }
+  text = nothing_held;
+  mode = Plain;
+  after_return = false;
+  begun = false;
+  whole = false;
+  number = 1;
+  physical = 1;
+  taken = 0;
+  mark = Unread;
+}
 
 -- the line after a whole one
 unfoldable pub restarted : Open → Open

@@ -70,7 +70,7 @@ pub fn sequence_len(text: &[u8]) -> usize
 pub fn is_printable(byte: u8) -> bool
     ensures { result ≡ is_printable byte }
 {
-    (b' '..=b'~').contains(&byte) || byte == b'\t'
+    (byte >= b' ' && byte <= b'~') || byte == b'\t'
 }
 
 impl Front {

@@ -11,7 +11,11 @@ use page_core::Encoding;
 pub fn is_plain(text: &[u8]) -> bool
     ensures { result ≡ list_all is_printable text.now }
 {
-    text.iter().all(|byte| is_printable(*byte))
+    let mut plain = true;
+    for byte in text {
+        plain &= is_printable(*byte);
+    }
+    plain
 }
 
 /// What the first byte above 0x7F of a text decides; [`Encoding::Auto`] where there is none.

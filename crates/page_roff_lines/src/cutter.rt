@@ -3,7 +3,7 @@ ghost use Rattle.std.specs.Prelude.{◌≡◌, ℕ, List, ◌++◌, ◌+◌, ◌
 ghost use mathlib.Core.Option.{none};
 ghost use Rattle.std.specs.Borrow.{sem, follows_so};
 ghost use Rattle.page_core.specs.declared.page_settings.Encoding.{Encoding as AnyEncoding};
-ghost use Rattle.page_roff_lines.specs.Decoding.{lines};
+ghost use Rattle.page_roff_lines.specs.Decoding.{lines, choice_of};
 ghost use Rattle.page_roff_lines.specs.Cutting.{Place, first_place, place_of, lines_within, lines_from};
 ghost use Rattle.page_core.specs.Sinks.{Gives};
 ghost use Rattle.page_core.specs.Fails.{FailsAs, Rose};
@@ -35,9 +35,10 @@ impl Model for Cutter {
     ghost Value = { Cutting };
 
     ghost view = { λ c. record {
-        place = record { line = c.line; encoding = if c.ready then settled c.encoding c.line else c.encoding };
-        ready = c.ready; text = if c.plain then c.line.text.bytes else c.decoded
-      } };
+      place = record { line = c.line; encoding = if c.ready then settled c.encoding c.line else c.encoding };
+      ready = c.ready;
+      text = if c.plain then c.line.text.bytes else c.decoded;
+    } };
 }
 
 impl Cutter {
@@ -75,6 +76,7 @@ impl Cutter {
         ensures lines { lines_within self.old.place (take result.0 piece.now) ≡ (if result.1 then line_of self.new.place ∷ [] else []) }
         ensures before { result.1 ≡ true → lines_within self.old.place (take (result.0 - 1) piece.now) ≡ [] }
         ensures ready { self.new.ready ≡ result.1 }
+        ensures taken { self.new.place.line.taken ≡ self.old.place.line.taken + result.0 }
     {
         let (taken, whole) = self.line.read(piece);
         self.ready = whole;
@@ -92,14 +94,16 @@ impl Cutter {
         self.ready
     }
 
-    // The encoding with the line that is whole.
+    // The encoding with the line that is whole, where it is plain or not.
     #[tactic(auto, unfolding(crate::specs::Cutting::settled))]
-    fn settled_encoding(&self) -> Encoding
-        requires { self.now.ready ≡ true }
+    fn settled_encoding(&self, plain: bool) -> Encoding
+        requires waits { self.now.ready ≡ true }
+        requires plain { plain ≡ true → choice_of self.now.place.line.text.bytes ≡ Encoding.Auto }
         ensures { result ≡ self.now.place.encoding }
     {
         match self.encoding {
             Encoding::Auto if self.line.is_marked() => Encoding::Utf8,
+            Encoding::Auto if plain => Encoding::Auto,
             Encoding::Auto => choose(self.line.text()),
             known => known,
         }
@@ -116,9 +120,10 @@ impl Cutter {
         ensures fault { FailsAs Fault.WriteNotes result (N.failed notes.old) (N.failed notes.new) }
         ensures same { N.loans notes.new ≡ N.loans notes.old }
     {
-        self.encoding = self.settled_encoding();
+        let plain = is_plain(self.line.text());
+        self.encoding = self.settled_encoding(plain);
         self.ready = false;
-        self.plain = is_plain(self.line.text());
+        self.plain = plain;
         let number = self.line.number();
         let cut = self.line.is_cut();
         if self.plain {

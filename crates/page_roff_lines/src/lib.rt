@@ -8,6 +8,8 @@ mod decoding;
 mod held;
 mod open;
 mod reporting;
+#[cfg(test)]
+mod tests;
 
 pub use cutter::Cutter;
 pub use held::HeldText;

@@ -9,9 +9,13 @@ use std::alloc::{AllocError, Global};
 use std::marker::Model;
 
 const NEWLINE: u8 = b'\n';
+
 const CARRIAGE_RETURN: u8 = b'\r';
+
 const BACKSLASH: u8 = b'\\';
+
 const QUOTE: u8 = b'"';
+
 const HASH: u8 = b'#';
 
 /// A logical line that is cut from the bytes of a page as they come.
@@ -35,9 +39,16 @@ impl Model for OpenLine {
     ghost Value = { Open };
 
     ghost view = { λ o. record {
-        text = o.text; mode = o.mode; after_return = o.after_return; begun = o.begun; whole = o.whole; number = o.number;
-        physical = o.physical; taken = o.taken; mark = o.mark
-      } };
+      text = o.text;
+      mode = o.mode;
+      after_return = o.after_return;
+      begun = o.begun;
+      whole = o.whole;
+      number = o.number;
+      physical = o.physical;
+      taken = o.taken;
+      mark = o.mark;
+    } };
 
     ghost invariant = { λ o. (o.taken < 2 ^ 31) × (o.physical ≤ o.taken + 1) × (o.text.total ≤ o.taken) × (o.number ≤ o.physical) };
 }
@@ -325,6 +336,7 @@ impl OpenLine {
         ensures lines { whole_lines self.old (take result.0 piece.now) ≡ (if result.1 then kept_of self.new ∷ [] else []) }
         ensures before { result.1 ≡ true → whole_lines self.old (take (result.0 - 1) piece.now) ≡ [] }
         ensures whole { result.1 ≡ true → self.new.whole ≡ true }
+        ensures taken { self.new.taken ≡ self.old.taken + result.0 }
     {
         let mut at = 0;
         while at < piece.len() {

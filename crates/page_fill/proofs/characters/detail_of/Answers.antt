@@ -1,4 +1,4 @@
-use Rattle.std.proofs.Common.{◌≡◌, ◌≤◌, ◌+◌, length, encode_utf8, refl, sym, ap, ◌∙◌, append-nil, length-append, arith}
+use Rattle.std.proofs.Common.{encode_utf8, refl, ap, ◌∙◌, length-append, arith}
 use Rattle.std.proofs.lemmas.Str.{IsUtf8-past_char}
 use Rattle.page_fill.proofs.CharacterLemmas.{detail-more, detail-full, detail-done}
 use Rattle.page_fill.proofs.characters.detail_of.Goals as goal

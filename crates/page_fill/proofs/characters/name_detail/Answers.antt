@@ -1,5 +1,5 @@
-use Rattle.std.proofs.Common.{◌≡◌, ℕ, List, [], true, false, refl, ◌∙◌, ap, sym}
-use Rattle.page_fill.specs.Characters.{front_of, characters_of}
+use Rattle.std.proofs.Common.{refl, ◌∙◌}
+use Rattle.page_fill.specs.Characters.{front_of}
 use Rattle.page_fill.proofs.CharacterLemmas.{characters_of-text, characters_of-none}
 use Rattle.page_fill.proofs.characters.name_detail.Goals as goal
 

@@ -1,6 +1,6 @@
-use Rattle.std.proofs.Common.{◌≡◌, ℕ, suc, ◌+◌, ◌-◌, ◌<◌, ◌≤◌, List, [], ◌∷◌, ◌++◌, replicate, refl, ◌∙◌, arith}
+use Rattle.std.proofs.Common.{◌≡◌, ℕ, suc, ◌+◌, ◌-◌, ◌<◌, ◌≤◌, [], ◌∷◌, ◌++◌, replicate, refl, ◌∙◌, arith}
 use Rattle.std.proofs.lemmas.Result.{err_from_is_err_and}
-use Rattle.page_core.specs.Rows.{LaidRow, row_of}
+use Rattle.page_core.specs.Rows.{row_of}
 use Rattle.page_core.proofs.SinkLemmas.{UpTo-start, UpTo-more, UpTo-within, UpTo-all}
 use Rattle.page_fill.proofs.sheets.give_rows.Goals as goal
 

@@ -1,6 +1,4 @@
-use Rattle.std.proofs.Common.{◌≡◌, ◌+◌, ◌<◌, length, take, drop, refl, sym, ap, ◌∙◌, arith}
-use Rattle.std.specs.Prelude.{◌≢◌}
-use Rattle.page_roff_lines.specs.Characters.{sequence_length}
+use Rattle.std.proofs.Common.{refl, sym, ◌∙◌}
 use Rattle.page_roff_lines.proofs.OpenLaws.{rest_of}
 use Rattle.page_roff_lines.proofs.ChoiceLemmas.{choice_of-low, choice_of-high, choice_of-end, eq_true, eq_false}
 use Rattle.page_roff_lines.proofs.choosing.choose.Goals as goal
@@ -11,7 +9,7 @@ returns-then-sequence_len-eq0 c =
     let at = c.loop-at.at in
     let len = rw (rest_of text at) at c.sequence_len.ensures.value in
     sym (c.loop-at.invariant ∙ choice_of-high text at c.loop-at-test.true c.if-text-at-ge128.true
-      ∙ rw (← len, eq_true c.sequence_len.result 0 c.if-sequence_len-eq0.true) refl)
+    ∙ rw (← len, eq_true c.sequence_len.result 0 c.if-sequence_len-eq0.true) refl)
 
 pub returns-else-sequence_len-eq0 : goal.returns-else-sequence_len-eq0
 returns-else-sequence_len-eq0 c =
@@ -19,7 +17,7 @@ returns-else-sequence_len-eq0 c =
     let at = c.loop-at.at in
     let len = rw (rest_of text at) at c.sequence_len.ensures.value in
     sym (c.loop-at.invariant ∙ choice_of-high text at c.loop-at-test.true c.if-text-at-ge128.true
-      ∙ rw (← len, eq_false c.sequence_len.result 0 c.if-sequence_len-eq0.false) refl)
+    ∙ rw (← len, eq_false c.sequence_len.result 0 c.if-sequence_len-eq0.false) refl)
 
 pub loop-at-preserved : goal.loop-at-preserved
 loop-at-preserved c = c.loop-at.invariant ∙ choice_of-low c.args.text.now c.loop-at.at c.loop-at-test.true c.if-text-at-ge128.false

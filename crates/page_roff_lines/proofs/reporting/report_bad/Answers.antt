@@ -1,4 +1,4 @@
-use Rattle.std.proofs.Common.{ℕ, ◌≡◌, ◌+◌, ◌-◌, ◌<◌, ◌≤◌, ◌++◌, [], ◌∷◌, length, take, drop, refl, sym, ap, subst, ◌∙◌, arith}
+use Rattle.std.proofs.Common.{ℕ, ◌≡◌, ◌+◌, ◌-◌, refl, subst, ◌∙◌, arith}
 use Rattle.std.proofs.lemmas.List.{length-drop}
 use Rattle.page_core.specs.Sinks.{UpTo}
 use Rattle.page_core.proofs.SinkLemmas.{UpTo-start, UpTo-more, UpTo-within, UpTo-all}
@@ -16,7 +16,7 @@ loop-at-init g c =
     let all = bad_notes c.args.number 1 (fitting line_limit cs) in
     let one : line_limit - line_limit + 1 ≡ 1 = omega arith in
     let start : UpTo g.N.NoteSink.gave c.args.notes.now all (bad_notes c.args.number (line_limit - line_limit + 1) (fitting line_limit cs)) c.args.notes.now =
-        rw one (UpTo-start g.met.N.NoteSink.laws c.args.notes.now all) in (
+    rw one (UpTo-start g.met.N.NoteSink.laws c.args.notes.now all) in (
       omega arith,
       omega (arith, limit),
       subst (λ (n : ℕ). UpTo g.N.NoteSink.gave c.args.notes.now all (bad_notes c.args.number (line_limit - n + 1) (fitting n cs)) c.args.notes.now) limit start,
@@ -37,7 +37,7 @@ returns-in-Err-clause-gives g c =
     let within = rw rest at c.of-front.ensures.within in
     let limit = line_limit_is in
     let more = bad_notes-more c.args.encoding c.args.number text at c.loop-at.room (65536 - c.loop-at.room + 1) c.size-size.result c.of-front.result
-        c.loop-at-test.true value later c.of-front.ensures.some within c.size-size.ensures (omega arith) c.loop-at.invariant.1 (omega arith) in
+    c.loop-at-test.true value later c.of-front.ensures.some within c.size-size.ensures (omega arith) c.loop-at.invariant.1 (omega arith) in
     UpTo-within g.met.N.NoteSink.laws _ _ _ c.loop-at.invariant.2 more (c.in-Err.ensures.gives _)
 
 pub loop-at-preserved : goal.loop-at-preserved
@@ -50,7 +50,7 @@ loop-at-preserved g c =
     let within = rw rest at c.of-front.ensures.within in
     let limit = line_limit_is in
     let more = bad_notes-more c.args.encoding c.args.number text at c.loop-at.room (65536 - c.loop-at.room + 1) c.size-size.result c.of-front.result
-        c.loop-at-test.true value later c.of-front.ensures.some within c.size-size.ensures (omega arith) c.loop-at.invariant.1 (omega arith) in (
+    c.loop-at-test.true value later c.of-front.ensures.some within c.size-size.ensures (omega arith) c.loop-at.invariant.1 (omega arith) in (
       omega (arith, within, length-drop at text, c.width-at.ensures),
       omega (arith, c.loop-at.invariant.1),
       rw c.width-at.ensures (UpTo-more g.met.N.NoteSink.laws _ _ _ c.loop-at.invariant.2 more (c.in_default.ensures.gives _)),
@@ -72,5 +72,5 @@ returns-then-size-room-clause-gives g c =
     let later = rw rest at c.of-front.ensures.later in
     let within = rw rest at c.of-front.ensures.within in
     let none = bad_notes-stop c.args.encoding c.args.number text at c.loop-at.room (line_limit - c.loop-at.room + 1) c.size-size.result c.of-front.result
-        c.loop-at-test.true value later c.of-front.ensures.some within c.size-size.ensures c.if-size-room.true in
+    c.loop-at-test.true value later c.of-front.ensures.some within c.size-size.ensures c.if-size-room.true in
     UpTo-all (rw none at c.loop-at.invariant.2)

@@ -9,7 +9,7 @@ use Rattle.page_roff_lines.proofs.reporting.report_bad.Given as goal
 abbrev pub invariant-loop-at : goal.invariant-loop-at
 invariant-loop-at g l = (l.at ≤ length l.text) × (l.room ≤ line_limit)
     × UpTo g.N.NoteSink.gave l.fn.notes (bad_notes l.number 1 (fitting line_limit (characters l.encoding l.text)))
-      (bad_notes l.number (line_limit - l.room + 1) (fitting l.room (characters l.encoding (drop l.at l.text)))) l.notes
+    (bad_notes l.number (line_limit - l.room + 1) (fitting l.room (characters l.encoding (drop l.at l.text)))) l.notes
     × (g.N.NoteSink.failed l.notes ≡ g.N.NoteSink.failed l.fn.notes) × (g.N.NoteSink.loans l.notes ≡ g.N.NoteSink.loans l.fn.notes)
 
 abbrev pub decreases-loop-at : goal.decreases-loop-at

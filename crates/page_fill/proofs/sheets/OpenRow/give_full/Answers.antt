@@ -1,4 +1,3 @@
-use Rattle.std.proofs.Common.{[], ◌∷◌}
 use Rattle.std.proofs.lemmas.Result.{err_from_is_err_and}
 use Rattle.page_fill.proofs.LaidLemmas.{Gave-noted, Lays-noted}
 use Rattle.page_fill.proofs.sheets.OpenRow.give_full.Goals as goal

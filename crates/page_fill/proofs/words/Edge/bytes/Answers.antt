@@ -1,4 +1,3 @@
-use Rattle.std.proofs.Common.{sym, ◌∙◌, refl}
 use Rattle.std.proofs.lemmas.Str.{chars-nil}
 use Rattle.page_fill.proofs.CharacterLemmas.{characters_of-text, characters_of-none}
 use Rattle.page_fill.proofs.words.Edge.bytes.Goals as goal

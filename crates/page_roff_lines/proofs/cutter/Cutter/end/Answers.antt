@@ -1,4 +1,4 @@
-use Rattle.std.proofs.Common.{◌≡◌, refl, sym, ap, ◌∙◌}
+use Rattle.std.proofs.Common.{sym, ap, ◌∙◌}
 use Rattle.page_roff_lines.specs.Cutting.{Place, ended_place}
 use Rattle.page_roff_lines.proofs.PlaceLemmas.{open_place, free_place, ended_at}
 use Rattle.page_roff_lines.proofs.cutter.Cutter.end.Goals as goal

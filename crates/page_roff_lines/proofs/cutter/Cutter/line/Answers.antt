@@ -1,4 +1,4 @@
-use Rattle.std.proofs.Common.{◌≡◌, refl, sym, ap, ◌∙◌}
+use Rattle.std.proofs.Common.{refl, ap, ◌∙◌}
 use Rattle.page_roff_lines.specs.Decoding.{decoded}
 use Rattle.page_roff_lines.specs.Cutting.{Place}
 use Rattle.page_roff_lines.proofs.cutter.Cutter.line.Goals as goal
@@ -15,6 +15,6 @@ returns g c =
         gives = p.gives;
         fault = p.fault;
         same = p.same;
-        after = tt
+        after = tt;
       },
     )

@@ -1,10 +1,9 @@
-use Rattle.std.proofs.Common.{◌≡◌, ◌+◌, ◌-◌, ◌<◌, ◌≤◌, ◌++◌, [], ◌∷◌, true, false, cond, length, take, drop, get_or, refl, sym, ap, subst, ◌∙◌, arith}
+use Rattle.std.proofs.Common.{sym, ◌∙◌, arith}
 use Rattle.std.proofs.lemmas.List.{length-drop, drop_all}
-use Rattle.page_roff_lines.specs.Characters.{characters, characters_after, bytes_of}
-use Rattle.page_roff_lines.specs.Fronts.{as_character, width_of}
+use Rattle.page_roff_lines.specs.Characters.{characters_after}
 use Rattle.page_roff_lines.proofs.FineLemmas.{decoded-is_line}
 use Rattle.page_roff_lines.proofs.OpenLaws.{rest_of}
-use Rattle.page_roff_lines.proofs.CharacterLemmas.{FitsSoFar, so_far-none, so_far-more, so_far-stop, so_far-end, characters-at}
+use Rattle.page_roff_lines.proofs.CharacterLemmas.{so_far-more, so_far-stop, so_far-end, characters-at}
 use Rattle.page_roff_lines.proofs.decoding.DecodedText.decode.Goals as goal
 
 pub loop-at-preserved : goal.loop-at-preserved

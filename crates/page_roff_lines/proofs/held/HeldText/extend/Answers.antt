@@ -1,4 +1,4 @@
-use Rattle.std.proofs.Common.{◌≡◌, ◌∷◌, [], ◌++◌, ◌-◌, take, length, min, ap, refl, sym, ◌∙◌, arith}
+use Rattle.std.proofs.Common.{◌≡◌, ◌++◌, ◌-◌, take, length, min, ap, refl, sym, ◌∙◌, arith}
 use Rattle.std.proofs.lemmas.List.{take_min, length-take-le}
 use Rattle.page_roff_lines.specs.Limit.{line_limit, line_limit_is}
 use Rattle.page_roff_lines.specs.Held.{extended}
@@ -14,7 +14,7 @@ returns c =
     let fits : c.min-fits.result ≡ min (line_limit - length bytes) (length more) = omega arith in
     let taken = length-take-le c.min-fits.result more (omega arith) in
     let items : c.extend_from_slice.new.self.items ≡ take line_limit (bytes ++ more) =
-        c.extend_from_slice.ensures.items ∙ if_ok c.extend_from_slice.result _ _ (c.extend_from_slice.ensures.succeeds (omega (arith, taken)))
-        ∙ ap (λ n. bytes ++ take n more) fits ∙ ap (λ l. bytes ++ l) (take_min (line_limit - length bytes) more)
-        ∙ sym (take-append-room line_limit bytes more (omega arith)) in
+    c.extend_from_slice.ensures.items ∙ if_ok c.extend_from_slice.result _ _ (c.extend_from_slice.ensures.succeeds (omega (arith, taken)))
+    ∙ ap (λ n. bytes ++ take n more) fits ∙ ap (λ l. bytes ++ l) (take_min (line_limit - length bytes) more)
+    ∙ sym (take-append-room line_limit bytes more (omega arith)) in
     rw (← c.self.view_is, items) refl

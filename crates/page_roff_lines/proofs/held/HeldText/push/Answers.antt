@@ -1,4 +1,4 @@
-use Rattle.std.proofs.Common.{◌≡◌, ◌∷◌, [], ◌++◌, take, length, refl, sym, ◌∙◌, arith}
+use Rattle.std.proofs.Common.{◌≡◌, ◌∷◌, [], ◌++◌, take, refl, sym, ◌∙◌, arith}
 use Rattle.page_roff_lines.specs.Limit.{line_limit, line_limit_is}
 use Rattle.page_roff_lines.specs.Held.{extended}
 use Rattle.page_roff_lines.proofs.HeldLemmas.{take-append-one, take-append-full}
@@ -11,10 +11,10 @@ returns c =
     let limit = line_limit_is in
     let bytes = c.self.inside.bytes.items in
     let items : c.if-len-lt-LINE.self-inside.bytes.items ≡ take line_limit (bytes ++ c.args.byte ∷ []) =
-        elim c.if-len-lt-LINE.branch [
-          then-len-lt-LINE w ↦ rw w.self-inside-is (w.push_reserved.ensures.items ∙ sym (take-append-one line_limit bytes c.args.byte (omega arith)))
-        | else-len-lt-LINE w ↦ rw w.self-inside-is (sym (take-append-full line_limit bytes (c.args.byte ∷ []) (omega arith) (omega arith)))
-        ] in
+    elim c.if-len-lt-LINE.branch [
+      | then-len-lt-LINE w ↦ rw w.self-inside-is (w.push_reserved.ensures.items ∙ sym (take-append-one line_limit bytes c.args.byte (omega arith)))
+      | else-len-lt-LINE w ↦ rw w.self-inside-is (sym (take-append-full line_limit bytes (c.args.byte ∷ []) (omega arith) (omega arith)))
+    ] in
     let total : c.if-len-lt-LINE.self-inside.total ≡ c.self.inside.total =
-        elim c.if-len-lt-LINE.branch [ then-len-lt-LINE w ↦ rw w.self-inside-is | else-len-lt-LINE w ↦ rw w.self-inside-is ] in
+    elim c.if-len-lt-LINE.branch [ then-len-lt-LINE w ↦ rw w.self-inside-is | else-len-lt-LINE w ↦ rw w.self-inside-is ] in
     rw (← c.self.view_is, total, items) refl

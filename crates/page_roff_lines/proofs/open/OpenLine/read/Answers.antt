@@ -1,4 +1,4 @@
-use Rattle.std.proofs.Common.{◌≡◌, ◌+◌, ◌-◌, ◌<◌, ◌≤◌, [], ◌∷◌, length, take, drop, get_or, refl, sym, ap, ◌∙◌, arith}
+use Rattle.std.proofs.Common.{◌≡◌, ◌+◌, ◌-◌, length, take, refl, sym, ap, ◌∙◌, arith}
 use Rattle.std.proofs.lemmas.List.{length-take-le, length-drop}
 use Rattle.page_roff_lines.specs.Open.{left, whole_lines}
 use Rattle.page_roff_lines.proofs.OpenLaws.{left-taken, rest_of, run-left, run-none, byte-left, byte-lines}
@@ -81,3 +81,18 @@ loop-at-preserved c =
       run-left o c.loop-at.self c.take_run-at.new.self xs i n c.loop-at.invariant.1 c.take_run-at.ensures.after,
       run-none o c.loop-at.self xs i n c.loop-at.invariant.1 c.loop-at.invariant.2 c.take_run-at.ensures.none,
     )
+
+pub returns-then-whole-clause-taken : goal.returns-then-whole-clause-taken
+returns-then-whole-clause-taken c =
+    let xs = c.args.piece.now in
+    let n = c.loop-at.at + c.take_run-at.result + 1 in
+    let taken : c.take_byte-whole.new.self.taken ≡ c.args.self.now.taken + length (take n xs) =
+    ap (λ o. o.taken) (returns-then-whole-clause-after c) ∙ left-taken c.args.self.now (take n xs) in
+    omega (arith, taken, length-take-le n xs (omega arith))
+
+pub returns-clause-taken : goal.returns-clause-taken
+returns-clause-taken c =
+    let xs = c.args.piece.now in
+    let taken : c.loop-at.self.taken ≡ c.args.self.now.taken + length (take c.loop-at.at xs) =
+    ap (λ o. o.taken) c.loop-at.invariant.1 ∙ left-taken c.args.self.now (take c.loop-at.at xs) in
+    omega (arith, taken, length-take-le c.loop-at.at xs c.loop-at.invariant.0)

@@ -1,0 +1,5 @@
+mod LineLemmas
+mod NumberLemmas
+mod PartLemmas
+mod SettingLemmas
+mod WantedRows

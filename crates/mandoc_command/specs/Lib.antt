@@ -1,0 +1,5 @@
+pub mod Asked
+pub mod Line
+pub mod Measures
+pub mod Names
+pub mod Status

@@ -1,0 +1,106 @@
+//! What is found in the words of a command line (mandoc(1), SYNOPSIS).
+
+ghost use Rattle.std.specs.Prelude.{◌≡◌, true, false, IfOk, MatchResult};
+ghost use Rattle.clap.specs.Words.{app_of, found_of, rows_of, rule_of};
+ghost use Rattle.mandoc_command.specs.Line.{line, is_line, found_in, refusal_by, files_rule, option_rule, texts};
+
+use crate::Refusal;
+use clap::error::ErrorKind;
+use clap::{Arg, ArgAction, ArgMatches};
+use std::alloc::{AllocError, Global};
+
+/// The value of each option that is given.
+#[derive(Clone, Copy, Debug)]
+pub(crate) struct Given<'a> {
+    /// `-T`
+    pub(crate) output: Option<&'a str>,
+    /// `-W`
+    pub(crate) level: Option<&'a str>,
+    /// `-O`
+    pub(crate) measures: Option<&'a str>,
+    /// `-K`
+    pub(crate) encoding: Option<&'a str>,
+    /// `-I`
+    pub(crate) system: Option<&'a str>,
+    /// `-m`
+    pub(crate) language: Option<&'a str>,
+}
+
+impl<'a> Given<'a> {
+    ghost use Rattle.std.specs.Prelude.{◌≡◌};
+    ghost use Rattle.clap.specs.Words.{found_of, rows_of};
+    ghost use Rattle.mandoc_command.specs.Asked.{values_of};
+    ghost use Rattle.mandoc_command.specs.Line.{values_in};
+
+    /// The values that were found.
+    pub(crate) fn in_matches(matches: &ArgMatches<'a>) -> Given<'a>
+        ensures { values_of result ≡ values_in (rows_of (found_of matches.now)) }
+    {
+        Given {
+            output: matches.get_str("output"),
+            level: matches.get_str("level"),
+            measures: matches.get_str("measures"),
+            encoding: matches.get_str("encoding"),
+            system: matches.get_str("system"),
+            language: matches.get_str("language"),
+        }
+    }
+}
+
+/// What is found in the words of a command line.
+pub(crate) fn matches_in<'a>(alloc: Global, words: &'a [&'a str]) -> Result<ArgMatches<'a>, Refusal>
+    ensures { MatchResult result
+        (λ matches. (is_line (texts words.now) ≡ true) × (rows_of (found_of matches) ≡ found_in (texts words.now)))
+        (λ refusal. refusal ≡ Refusal.Words → is_line (texts words.now) ≡ false) }
+{
+    let Ok(line) = line(alloc) else {
+        return Err(Refusal::Memory);
+    };
+    match line.try_get_matches_from(words) {
+        Ok(matches) => Ok(matches),
+        Err(error) => Err(refusal_by(error.kind())),
+    }
+}
+
+// Why a command line is refused at which `clap` finds a fault of a kind.
+fn refusal_by(kind: ErrorKind) -> Refusal
+    ensures { result ≡ refusal_by kind }
+{
+    match kind {
+        ErrorKind::OutOfMemory => Refusal::Memory,
+        _ => Refusal::Words,
+    }
+}
+
+// The options and files of a command line.
+fn line<'a>(alloc: Global) -> Result<clap::Command<'a>, AllocError>
+    ensures { IfOk result (λ command. app_of command ≡ line) }
+{
+    clap::Command::new(alloc, "mandoc")
+        .no_binary_name(true)
+        .disable_help_flag(true)
+        .disable_version_flag(true)
+        .arg(option(alloc, "output", 'T'))?
+        .arg(option(alloc, "level", 'W'))?
+        .arg(option(alloc, "measures", 'O'))?
+        .arg(option(alloc, "encoding", 'K'))?
+        .arg(option(alloc, "system", 'I'))?
+        .arg(option(alloc, "language", 'm'))?
+        .arg(files(alloc))
+}
+
+// An option with one value.
+fn option<'a>(alloc: Global, id: &'a str, letter: char) -> Arg<'a>
+    ensures rule { rule_of result ≡ option_rule id.entry.now letter }
+    ensures local { result.global ≡ false }
+{
+    Arg::new(alloc, id).short(letter).action(ArgAction::Set)
+}
+
+// The words that are no options.
+fn files<'a>(alloc: Global) -> Arg<'a>
+    ensures rule { rule_of result ≡ files_rule }
+    ensures local { result.global ≡ false }
+{
+    Arg::new(alloc, "files").action(ArgAction::Append)
+}

@@ -1,0 +1,18 @@
+//! The command line of the formatter: what its words ask for, and the status that a run ends with (mandoc(1)).
+#![tactic(auto)]
+
+mod commands;
+mod files;
+mod given;
+mod line;
+mod measures;
+mod names;
+mod settings;
+mod status;
+#[cfg(test)]
+mod tests;
+
+pub use commands::{Command, Format, Refusal};
+pub use files::Files;
+pub use line::command;
+pub use status::status_of;

@@ -1,0 +1,310 @@
+-- An escape ends where a character ends.
+use Rattle.std.proofs.Common.{◌≡◌, ℕ, zero, suc, ◌+◌, ◌<◌, Bool, true, false, cond, eqb, nat_eq, nat_lt, nat_le, ◌&&◌, List, [], ◌∷◌, ◌++◌, length, take, drop, get_or, Option, Some, None, option_map, refl, sym, ap, subst, ◌∙◌, inl, inr, arith, position, codes, add-zero}
+use Rattle.std.specs.Option.{option_and_then}
+use Rattle.std.specs.List.{starts_with, list_all}
+use Rattle.std.specs.Str.{IsUtf8, IsCharBoundary}
+use Rattle.std.proofs.Math.Utf8.{encode}
+use Rattle.std.proofs.lemmas.Bool.{cond_both, and_parts, or_cases, eqb-true, leb-true, ltb-true}
+use Rattle.std.proofs.lemmas.Bool.Decides.{Decides-eqb}
+use Rattle.std.proofs.lemmas.Slice.Eq.{starts_is}
+use Rattle.std.proofs.lemmas.List.{drop-drop, length-drop, length-append, get_or-drop}
+use Rattle.std.proofs.lemmas.List.Quantifiers.{position-Some}
+use Rattle.std.proofs.lemmas.Str.{IsUtf8-drop, IsUtf8-past_char, IsCharBoundary-after_ascii}
+use Rattle.page_core_escapes.specs.declared.shape.Shape.{Shape}
+use Rattle.page_core_escapes.specs.declared.shape.Shape.TheVariants.{Alone, Glyph, Name, Size, Quoted}
+use Rattle.page_core_escapes.specs.declared.form.Form.{Form}
+use Rattle.page_core_escapes.specs.declared.form.Form.TheVariants.{Whole, QuotedFrom}
+use Rattle.page_core_escapes.specs.Shapes.{is_among, is_digit, is_sign, after_sign, begins_size}
+use Rattle.page_core_escapes.specs.Forms.{character_len, two_characters_len, bracketed_len, name_len, has_two_digits, number_len, sign_len, number_form, shaped_form, form_of}
+use Rattle.page_core_escapes.specs.Lengths.{quoted_len, form_len, escape_len_by, content_len_within, content_len, escape_len}
+use Rattle.page_core_escapes.proofs.Characters.{CutsAt, CutsAt-add, CutsAt-ascii, Taken, character_len-taken, begins_with}
+
+-- ---- steps over ASCII
+
+start_cut : (t : List ℕ) → IsUtf8 t → CutsAt t 0
+start_cut t utf8 = record { within = omega arith; utf8 = utf8 }
+
+past_ascii : (b : ℕ) (bs : List ℕ) (n : ℕ) → IsUtf8 (b ∷ bs) → b < 128 → (IsUtf8 bs → CutsAt bs n) → CutsAt (b ∷ bs) (1 + n)
+past_ascii b bs n utf8 ascii then =
+    CutsAt-add {t = b ∷ bs} {n = 1} (record { within = omega arith; utf8 = CutsAt-ascii b bs utf8 ascii }) (then (CutsAt-ascii b bs utf8 ascii))
+
+-- a character that is among some of ASCII is one
+pub among_ascii : (key : ℕ) (keys : List ℕ) → list_all (λ k. nat_lt k 128) keys ≡ true → is_among key keys ≡ true → key < 128
+among_ascii key [] all e = cc
+among_ascii key (k ∷ ks) all e =
+    let parts = and_parts (nat_lt k 128) (list_all (λ k. nat_lt k 128) ks) all in
+    elim (or_cases (eqb key k) (is_among key ks) e) [
+      | inl same ↦ let is = eqb-true key k same in let low = ltb-true k 128 parts.0 in omega arith
+      | inr later ↦ among_ascii key ks parts.1 later
+    ]
+
+digit_ascii : (b : ℕ) → is_digit b ≡ true → b < 128
+digit_ascii b e = let parts = and_parts (nat_le 0x30 b) (nat_le b 0x39) e in let high = leb-true b 0x39 parts.1 in omega arith
+
+-- ---- names
+
+-- what an option of a length says where it is there
+abbrev pub CutsAtSome : List ℕ → Option ℕ → Type 0
+CutsAtSome t o = (n : ℕ) → o ≡ Some n → CutsAt t n
+
+pub character_cut : (t : List ℕ) → IsUtf8 t → CutsAtSome t (character_len t)
+character_cut t utf8 n e = (character_len-taken t n utf8 e).cut
+
+pub two_characters_cut : (t : List ℕ) → IsUtf8 t → CutsAtSome t (two_characters_len t)
+two_characters_cut t utf8 n e = go (character_len t) (character_cut t utf8) e
+  where
+    go : (o : Option ℕ) → CutsAtSome t o → option_and_then (λ first. option_map (λ second. first + second) (character_len (drop first t))) o ≡ Some n → CutsAt t n
+    go None cut e = cc
+    go (Some m) cut e = second (character_len (drop m t)) (character_cut (drop m t) (cut m refl).utf8) e
+      where
+        second : (o : Option ℕ) → CutsAtSome (drop m t) o → option_map (λ second. m + second) o ≡ Some n → CutsAt t n
+        second None next e = cc
+        second (Some k) next e = let is : m + k ≡ n = cc in subst (CutsAt t) is (CutsAt-add (cut m refl) (next k refl))
+
+bracketed_cut : (t : List ℕ) → IsUtf8 t → CutsAtSome t (bracketed_len t)
+bracketed_cut t utf8 n e = go (position (λ b. eqb b 0x5D) t) (λ k is. position-Some (λ b. eqb b 0x5D) t k 0 is) e
+  where
+    go : (o : Option ℕ) → ((k : ℕ) → o ≡ Some k → (k < length t) × (eqb (get_or t k 0) 0x5D ≡ true) × ((j : ℕ) → j < k → eqb (get_or t j 0) 0x5D ≡ false)) → option_map (λ k. k + 1) o ≡ Some n → CutsAt t n
+    go None found e = cc
+    go (Some k) found e =
+        let is : k + 1 ≡ n = cc in
+        let here = found k refl in
+        let bracket = eqb-true (get_or t k 0) 0x5D here.1 in
+        subst (CutsAt t) is (record { within = let lt = here.0 in omega arith; utf8 = IsUtf8-drop t (k + 1) utf8 (IsCharBoundary-after_ascii t k utf8 here.0 (omega arith)) })
+
+none_cut : (t : List ℕ) → CutsAtSome t None
+none_cut t n e = cc
+
+-- one byte of ASCII, then a length
+one_more : (b : ℕ) (bs : List ℕ) (o : Option ℕ) → IsUtf8 (b ∷ bs) → b < 128 → (IsUtf8 bs → CutsAtSome bs o) → CutsAtSome (b ∷ bs) (option_map (λ k. k + 1) o)
+one_more b bs None utf8 ascii next n e = cc
+one_more b bs (Some k) utf8 ascii next n e =
+    let is : k + 1 ≡ n = cc in
+    let same : 1 + k ≡ n = omega arith in
+    subst (CutsAt (b ∷ bs)) same (past_ascii b bs k utf8 ascii (λ rest. next rest k refl))
+
+-- a length by cases
+by_cases : (t : List ℕ) (c : Bool) (x y : Option ℕ) → (c ≡ true → CutsAtSome t x) → (c ≡ false → CutsAtSome t y) → CutsAtSome t (cond c x y)
+by_cases t true x y here there = here refl
+by_cases t false x y here there = there refl
+
+name_cut : (t : List ℕ) → IsUtf8 t → CutsAtSome t (name_len t)
+name_cut [] utf8 = none_cut []
+name_cut (b ∷ bs) utf8 =
+    by_cases (b ∷ bs) (eqb b 0x28) _ _
+    (λ is. let paren = eqb-true b 0x28 is in one_more b bs (two_characters_len bs) utf8 (omega arith) (two_characters_cut bs))
+    (λ _.
+    by_cases (b ∷ bs) (eqb b 0x5B) _ _
+    (λ is. let bracket = eqb-true b 0x5B is in one_more b bs (bracketed_len bs) utf8 (omega arith) (bracketed_cut bs))
+    (λ _. character_cut (b ∷ bs) utf8))
+
+-- ---- sizes
+
+two_digits_cut : (t : List ℕ) → IsUtf8 t → has_two_digits t ≡ true → CutsAt t 2
+two_digits_cut [] utf8 e = cc
+two_digits_cut (b ∷ []) utf8 e = cc
+two_digits_cut (b ∷ d ∷ ds) utf8 e =
+    let tens = and_parts (nat_le 0x31 b && nat_le b 0x33) (is_digit d) e in
+    let first = and_parts (nat_le 0x31 b) (nat_le b 0x33) tens.0 in
+    let low = leb-true b 0x33 first.1 in
+    past_ascii b (d ∷ ds) 1 utf8 (omega arith) (λ rest. past_ascii d ds 0 rest (digit_ascii d tens.1) (start_cut ds))
+
+number_cut : (b : ℕ) (bs : List ℕ) → IsUtf8 (b ∷ bs) → b < 128 → CutsAtSome (b ∷ bs) (number_len (b ∷ bs))
+number_cut b bs utf8 ascii =
+    by_cases (b ∷ bs) (is_among b (codes "([")) _ _ (λ _. name_cut (b ∷ bs) utf8)
+    (λ _.
+    by_cases (b ∷ bs) (has_two_digits (b ∷ bs)) _ _
+    (λ is n e. let same : 2 ≡ n = cc in subst (CutsAt (b ∷ bs)) same (two_digits_cut (b ∷ bs) utf8 is))
+    (λ _ n e. let same : 1 ≡ n = cc in subst (CutsAt (b ∷ bs)) same (past_ascii b bs 0 utf8 ascii (start_cut bs))))
+
+sign_cut : (t : List ℕ) → IsUtf8 t → CutsAt t (sign_len t)
+sign_cut [] utf8 = start_cut [] utf8
+sign_cut (b ∷ bs) utf8 =
+    cond_both (is_sign b) 1 0 (CutsAt (b ∷ bs))
+    (λ is.
+    elim (or_cases (eqb b 0x2B) (eqb b 0x2D) is) [
+      | inl plus ↦ let same = eqb-true b 0x2B plus in past_ascii b bs 0 utf8 (omega arith) (start_cut bs)
+      | inr minus ↦ let same = eqb-true b 0x2D minus in past_ascii b bs 0 utf8 (omega arith) (start_cut bs)
+    ])
+    (λ _. start_cut (b ∷ bs) utf8)
+
+drop-sign_len : (t : List ℕ) → drop (sign_len t) t ≡ after_sign t
+drop-sign_len [] = refl
+drop-sign_len (b ∷ bs) = go (is_sign b)
+  where
+    go : (c : Bool) → drop (cond c 1 0) (b ∷ bs) ≡ cond c bs (b ∷ bs)
+    go true = refl
+    go false = refl
+
+size_ascii : (b : ℕ) (bs : List ℕ) → begins_size (b ∷ bs) ≡ true → b < 128
+size_ascii b bs e =
+    elim (or_cases (is_among b (codes "(['")) (is_digit b) e) [
+      | inl mark ↦ among_ascii b (codes "(['") refl mark
+      | inr digit ↦ digit_ascii b digit
+    ]
+
+-- ---- forms
+
+-- the bytes of an escape, or those before its quoted argument
+abbrev form_place : Form → ℕ
+form_place (Whole n) = n
+form_place (QuotedFrom n) = n
+
+abbrev FormCuts : List ℕ → Option Form → Type 0
+FormCuts t o = (f : Form) → o ≡ Some f → CutsAt t (form_place f)
+
+whole_cuts : (t : List ℕ) (g : ℕ → ℕ) (o : Option ℕ) → ((k : ℕ) → o ≡ Some k → CutsAt t (g k)) → FormCuts t (option_map (λ k. Whole (g k)) o)
+whole_cuts t g None cut f e = cc
+whole_cuts t g (Some k) cut f e = let same : Whole (g k) ≡ f = cc in subst (λ f. CutsAt t (form_place f)) same (cut k refl)
+
+-- an escape with a size that begins after a cut
+number_form_cuts : (t : List ℕ) (before : ℕ) (u : List ℕ) → CutsAt t before → drop before t ≡ u → ((b : ℕ) (bs : List ℕ) → u ≡ b ∷ bs → b < 128) → FormCuts t (number_form before u)
+number_form_cuts t before [] cut is ascii = λ f e. cc
+number_form_cuts t before (b ∷ bs) cut is ascii =
+    cond_both (eqb b 0x27) (Some (QuotedFrom before)) (option_map (λ k. Whole (before + k)) (number_len (b ∷ bs))) (FormCuts t)
+    (λ _ f e. let same : QuotedFrom before ≡ f = cc in subst (λ f. CutsAt t (form_place f)) same cut)
+    (λ _.
+    whole_cuts t (λ k. before + k) (number_len (b ∷ bs)) (λ k found.
+    CutsAt-add cut (subst (λ v. CutsAt v k) (sym is) (number_cut b bs (subst (λ v. IsUtf8 v) is cut.utf8) (ascii b bs refl) k found))))
+
+module _ (b key : ℕ) (rest : List ℕ) (utf8 : IsUtf8 (b ∷ key ∷ rest)) (ascii : b < 128) where
+  -- past the backslash
+  after_one : (k : ℕ) → (IsUtf8 (key ∷ rest) → CutsAt (key ∷ rest) k) → CutsAt (b ∷ key ∷ rest) (k + 1)
+  after_one k then =
+      let same : 1 + k ≡ k + 1 = omega arith in
+      subst (CutsAt (b ∷ key ∷ rest)) same (past_ascii b (key ∷ rest) k utf8 ascii then)
+
+  -- past the character behind it
+  after_two : key < 128 → (k : ℕ) → (IsUtf8 rest → CutsAt rest k) → CutsAt (b ∷ key ∷ rest) (k + 2)
+  after_two low k then =
+      let same : 1 + (1 + k) ≡ k + 2 = omega arith in
+      subst (CutsAt (b ∷ key ∷ rest)) same (past_ascii b (key ∷ rest) (1 + k) utf8 ascii (λ u. past_ascii key rest k u low then))
+
+  size_cuts : key < 128 → begins_size (after_sign rest) ≡ true → FormCuts (b ∷ key ∷ rest) (number_form (2 + sign_len rest) (after_sign rest))
+  size_cuts low size =
+      let t = b ∷ key ∷ rest in
+      let n = sign_len rest in
+      let same : n + 2 ≡ 2 + n = omega arith in
+      let place : drop (2 + n) t ≡ after_sign rest = sym (drop-drop n 2 t) ∙ drop-sign_len rest in
+      number_form_cuts t (2 + n) (after_sign rest) (subst (CutsAt t) same (after_two low n (sign_cut rest))) place
+      (λ d ds is. size_ascii d ds (ap begins_size (sym is) ∙ size))
+
+  form_cuts : FormCuts (b ∷ key ∷ rest) (form_of (b ∷ key ∷ rest))
+  form_cuts =
+      let t = b ∷ key ∷ rest in
+      let P : Shape → Type 0 = λ s. FormCuts t (shaped_form s key rest) in
+      cond_both (is_among key (codes "([")) Glyph _ P
+      (λ _. whole_cuts t (λ k. k + 1) (name_len (key ∷ rest)) (λ k found. after_one k (λ u. name_cut (key ∷ rest) u k found)))
+      (λ _.
+      cond_both (is_among key (codes "fmMkFgVY")) Name _ P
+      (λ is. whole_cuts t (λ k. k + 2) (name_len rest) (λ k found. after_two (among_ascii key (codes "fmMkFgVY") refl is) k (λ u. name_cut rest u k found)))
+      (λ _.
+      cond_both (is_among key (codes "ChvxbolLDNXABHSRZ")) Quoted _ P
+      (λ is f e. let same : QuotedFrom 2 ≡ f = cc in subst (λ f. CutsAt t (form_place f)) same (after_two (among_ascii key (codes "ChvxbolLDNXABHSRZ") refl is) 0 (start_cut rest)))
+      (λ _.
+      cond_both (eqb key 0x73 && begins_size (after_sign rest)) Size Alone P
+      (λ is. let parts = and_parts (eqb key 0x73) (begins_size (after_sign rest)) is in let letter = eqb-true key 0x73 parts.0 in size_cuts (omega arith) parts.1)
+      (λ _. whole_cuts t (λ k. k + 1) (character_len (key ∷ rest)) (λ k found. after_one k (λ u. character_cut (key ∷ rest) u k found))))))
+
+-- ---- quoted arguments
+
+-- the content ends where the delimiter stands
+abbrev EndsAtDelimiter : List ℕ → List ℕ → Option ℕ → Type 0
+EndsAtDelimiter d t o = (k : ℕ) → o ≡ Some k → starts_with nat_eq (drop k t) d ≡ true
+
+ends_later : (d t : List ℕ) (n : ℕ) (o : Option ℕ) → EndsAtDelimiter d (drop n t) o → EndsAtDelimiter d t (option_map (λ k. n + k) o)
+ends_later d t n None ends k e = cc
+ends_later d t n (Some j) ends k e =
+    let same : n + j ≡ k = cc in
+    ap (λ u. starts_with nat_eq u d) (ap (λ k. drop k t) (sym same) ∙ sym (drop-drop j n t)) ∙ ends j refl
+
+ends_after : (d t : List ℕ) (f : ℕ → Option ℕ) (o : Option ℕ) → ((n : ℕ) → EndsAtDelimiter d (drop n t) (f n)) → EndsAtDelimiter d t (option_and_then (λ n. option_map (λ k. n + k) (f n)) o)
+ends_after d t f None ends = λ k e. cc
+ends_after d t f (Some n) ends = ends_later d t n (f n) (ends n)
+
+content_len_within-ends : (steps : ℕ) (d t : List ℕ) → EndsAtDelimiter d t (content_len_within steps d t)
+unfolding content_len_within
+content_len_within-ends zero d t = λ k e. cc
+content_len_within-ends (suc n) d [] = λ k e. cc
+content_len_within-ends (suc n) d (b ∷ bs) =
+    let t = b ∷ bs in
+    cond_both (starts_with nat_eq t d) (Some 0) _ (EndsAtDelimiter d t)
+    (λ is k e. let same : 0 ≡ k = cc in ap (λ k. starts_with nat_eq (drop k t) d) (sym same) ∙ is)
+    (λ _.
+    cond_both (eqb b 0x5C) (option_and_then (λ n'. option_map (λ k. n' + k) (content_len_within n d (drop n' t))) (escape_len_by (content_len_within n) t)) (option_map (λ k. 1 + k) (content_len_within n d bs)) (EndsAtDelimiter d t)
+    (λ _. ends_after d t (λ m. content_len_within n d (drop m t)) (escape_len_by (content_len_within n) t) (λ m. content_len_within-ends n d (drop m t)))
+    (λ _. ends_later d t 1 (content_len_within n d bs) (content_len_within-ends n d bs)))
+
+content_len-ends : (d t : List ℕ) → EndsAtDelimiter d t (content_len d t)
+unfolding content_len
+content_len-ends d t = content_len_within-ends (suc (length t)) d t
+
+-- where a character's bytes stand in a text, a character begins
+pub character_begins : (t : List ℕ) (k c : ℕ) → IsUtf8 t → starts_with nat_eq (drop k t) (encode c) ≡ true → CutsAt t k
+character_begins t k c utf8 e =
+    let d = encode c in
+    let b = begins_with c in
+    let u = drop k t in
+    let is = (starts_is Decides-eqb u d _ refl).0 e in
+    let shown : u ≡ b.lead ∷ (b.others ++ drop (length d) u) = is ∙ ap (λ l. l ++ drop (length d) u) b.is in
+    let size = ap length shown in
+    let inside : k < length t = omega (arith, length-drop k t) in
+    let first : get_or t k 0 ≡ b.lead = sym (ap (λ n. get_or t n 0) (add-zero k)) ∙ sym (get_or-drop k t 0 0) ∙ ap (λ l. get_or l 0 0) shown in
+    let starts = b.starts in
+    let boundary : IsCharBoundary t k = (omega arith, λ lt high. omega (arith, starts (omega arith))) in
+    record { within = omega arith; utf8 = IsUtf8-drop t k utf8 boundary }
+
+-- and ends
+pub character_ends : (t : List ℕ) (k c : ℕ) → IsUtf8 t → starts_with nat_eq (drop k t) (encode c) ≡ true → CutsAt t (k + length (encode c))
+character_ends t k c utf8 e =
+    let d = encode c in
+    let u = drop k t in
+    let is = (starts_is Decides-eqb u d _ refl).0 e in
+    let here = character_begins t k c utf8 e in
+    let after : CutsAt u (length d) = record {
+      within = let all = ap length is in omega (arith, length-append d (drop (length d) u));
+      utf8 = IsUtf8-past_char u (drop (length d) u) c here.utf8 is;
+    } in
+    CutsAt-add here after
+
+-- the content of a quoted argument, and the delimiter behind it
+pub content_cut : (t : List ℕ) (m k : ℕ) → Taken t m → content_len (take m t) (drop m t) ≡ Some k → CutsAt (drop m t) k × CutsAt (drop m t) (k + m)
+content_cut t m k taken is =
+    let c = taken.first.code in
+    let found = ap (λ d. starts_with nat_eq (drop k (drop m t)) d) (sym taken.bytes) ∙ content_len-ends (take m t) (drop m t) k is in (
+      character_begins (drop m t) k c taken.cut.utf8 found,
+      subst (λ l. CutsAt (drop m t) (k + l)) taken.len (character_ends (drop m t) k c taken.cut.utf8 found),
+    )
+
+quoted_cut : (t : List ℕ) → IsUtf8 t → CutsAtSome t (quoted_len content_len t)
+unfolding quoted_len
+quoted_cut t utf8 = go (character_len t) (λ m is. character_len-taken t m utf8 is)
+  where
+    inner : (m : ℕ) → Taken t m → (o : Option ℕ) → ((k : ℕ) → o ≡ Some k → CutsAt (drop m t) (k + m)) → CutsAtSome t (option_map (λ k. m + (k + m)) o)
+    inner m taken None ends n e = cc
+    inner m taken (Some k) ends n e = let same : m + (k + m) ≡ n = cc in subst (CutsAt t) same (CutsAt-add taken.cut (ends k refl))
+
+    go : (o : Option ℕ) → ((m : ℕ) → o ≡ Some m → Taken t m) → CutsAtSome t (option_and_then (λ m. option_map (λ k. m + (k + m)) (content_len (take m t) (drop m t))) o)
+    go None taken = λ n e. cc
+    go (Some m) taken = inner m (taken m refl) (content_len (take m t) (drop m t)) (λ k is. (content_cut t m k (taken m refl) is).1)
+
+-- ---- escapes
+
+form_of_cuts : (t : List ℕ) → IsUtf8 t → get_or t 0 0 < 128 → FormCuts t (form_of t)
+form_of_cuts [] utf8 ascii = λ f e. cc
+form_of_cuts (b ∷ []) utf8 ascii = λ f e. let same : Whole 1 ≡ f = cc in subst (λ f. CutsAt (b ∷ []) (form_place f)) same (past_ascii b [] 0 utf8 ascii (start_cut []))
+form_of_cuts (b ∷ key ∷ rest) utf8 ascii = form_cuts b key rest utf8 ascii
+
+-- the escape at the front of a text in UTF-8 ends where a character ends
+pub escape_len_cuts : (t : List ℕ) (n : ℕ) → IsUtf8 t → get_or t 0 0 < 128 → escape_len t ≡ Some n → CutsAt t n
+unfolding escape_len escape_len_by form_len
+escape_len_cuts t n utf8 ascii = go (form_of t) (form_of_cuts t utf8 ascii) n
+  where
+    inner : (m : ℕ) → CutsAt t m → (o : Option ℕ) → CutsAtSome (drop m t) o → CutsAtSome t (option_map (λ k. m + k) o)
+    inner m cut None next k e = cc
+    inner m cut (Some j) next k e = let same : m + j ≡ k = cc in subst (CutsAt t) same (CutsAt-add cut (next j refl))
+
+    go : (o : Option Form) → FormCuts t o → CutsAtSome t (option_and_then (form_len content_len t) o)
+    go None cuts = λ k e. cc
+    go (Some (Whole m)) cuts = λ k e. let same : m ≡ k = cc in subst (CutsAt t) same (cuts (Whole m) refl)
+    go (Some (QuotedFrom m)) cuts = inner m (cuts (QuotedFrom m) refl) (quoted_len content_len (drop m t)) (quoted_cut (drop m t) (cuts (QuotedFrom m) refl).utf8)

@@ -1,0 +1,9 @@
+pub mod Options
+pub mod Contents
+pub mod Unwinding
+pub mod HexNumbers
+pub mod MeaningLemmas
+pub mod Characters
+pub mod Boundaries
+pub mod ArgumentTexts
+pub mod EscapeTexts

@@ -1,0 +1,34 @@
+use Rattle.std.proofs.Common.{drop, get_or, option_map, unwrap_or, subst, sym, ap, ◌∙◌, arith}
+use Rattle.std.specs.Str.{IsUtf8}
+use Rattle.std.proofs.lemmas.Str.{IsUtf8-drop, IsCharBoundary-after_ascii}
+use Rattle.page_core_escapes.specs.Meanings.{undefined, known_meaning, first_char}
+use Rattle.page_core_escapes.specs.Escapes.{meaning_seen}
+use Rattle.page_core_escapes.proofs.Unwinding.{slice_from}
+use Rattle.page_core_escapes.proofs.MeaningLemmas.{meaning_of-short, meaning_of-parts}
+use Rattle.page_core_escapes.proofs.meaning.read_meaning.Goals as goal
+
+pub returns-then-escape-lt2 : goal.returns-then-escape-lt2
+returns-then-escape-lt2 c = meaning_of-short c.args.escape.now c.if-escape-lt2.true
+
+pub first_char-requires-clause-utf8 : goal.first_char-requires-clause-utf8
+first_char-requires-clause-utf8 c =
+    let t = c.args.escape.now in
+    let cut = IsCharBoundary-after_ascii t 0 c.requires.utf8 (omega arith) (omega arith) in
+    subst (λ u. IsUtf8 u) (sym (slice_from t 1)) (IsUtf8-drop t 1 c.requires.utf8 cut)
+
+pub returns-in-Some : goal.returns-in-Some
+returns-in-Some c =
+    let t = c.args.escape.now in
+    let other = undefined (first_char (drop 1 t)) in
+    ap (λ o. unwrap_or (option_map meaning_seen o) other) (sym c.in-Some.is)
+    ∙ ap (λ o. unwrap_or o other) (c.known_meaning.ensures ∙ ap (known_meaning (get_or t 1 0)) (slice_from t 2))
+    ∙ meaning_of-parts t c.if-escape-lt2.false
+
+pub returns-in-None : goal.returns-in-None
+returns-in-None c =
+    let t = c.args.escape.now in
+    let other = undefined (first_char (drop 1 t)) in
+    ap undefined (c.first_char.ensures ∙ ap first_char (slice_from t 1))
+    ∙ ap (λ o. unwrap_or (option_map meaning_seen o) other) (sym c.in-None.is)
+    ∙ ap (λ o. unwrap_or o other) (c.known_meaning.ensures ∙ ap (known_meaning (get_or t 1 0)) (slice_from t 2))
+    ∙ meaning_of-parts t c.if-escape-lt2.false

@@ -1,0 +1,59 @@
+-- The escape at a text's front: roff(7), "Escape sequences", and mandoc_char(7).
+use Rattle.std.specs.Prelude.{ℕ, List, length, take, Option, Some, None, ⊤}
+use Rattle.std.specs.Str.{IsUtf8}
+use Rattle.page_core_escapes.specs.declared.meaning.FontName.{FontName}
+use Rattle.page_core_escapes.specs.declared.meaning.FontName.TheVariants as F
+use Rattle.page_core_escapes.specs.declared.meaning.Escape.{Escape}
+use Rattle.page_core_escapes.specs.declared.meaning.Escape.TheVariants as E
+use Rattle.page_core_escapes.specs.Lengths.{escape_len}
+use Rattle.page_core_escapes.specs.Meanings.{Face, roman, italic, bold, bold_italic, former, unknown, Meaning, glyph, character, tab, blank, blanks, nothing, glue, face, undefined, unsupported, bad, meaning_of}
+
+-- a `FontName` and an `Escape` of the code, with lists in place of lent slices
+abbrev pub face_seen : FontName → Face
+face_seen F.R = roman
+face_seen F.I = italic
+face_seen F.B = bold
+face_seen F.BI = bold_italic
+face_seen F.Former = former
+face_seen (F.Unknown name) = unknown name.now
+
+abbrev pub meaning_seen : Escape → Meaning
+meaning_seen (E.Glyph name) = glyph name.now
+meaning_seen (E.Char c) = character c
+meaning_seen E.Tab = tab
+meaning_seen E.Blank = blank
+meaning_seen (E.Blanks expression) = blanks expression.now
+meaning_seen E.Nothing = nothing
+meaning_seen E.Glue = glue
+meaning_seen (E.Font name) = face (face_seen name)
+meaning_seen (E.Undefined c) = undefined c
+meaning_seen E.Unsupported = unsupported
+meaning_seen E.Bad = bad
+
+-- what an escape of so many bytes means; one without its end takes the text's rest
+abbrev pub read_escape : List ℕ → Option ℕ → Meaning × ℕ
+read_escape text None = (bad, length text)
+read_escape text (Some len) = (meaning_of (take len text), len)
+
+-- the meaning of the escape at a text's front, and how many bytes it takes
+unfoldable pub escape_of : List ℕ → Meaning × ℕ
+escape_of text = read_escape text (escape_len text)
+
+-- the texts in a meaning are in UTF-8
+abbrev pub HasTexts : Meaning → Type 0
+HasTexts (glyph name) = IsUtf8 name
+HasTexts (character c) = ⊤
+HasTexts tab = ⊤
+HasTexts blank = ⊤
+HasTexts (blanks expression) = IsUtf8 expression
+HasTexts nothing = ⊤
+HasTexts glue = ⊤
+HasTexts (face roman) = ⊤
+HasTexts (face italic) = ⊤
+HasTexts (face bold) = ⊤
+HasTexts (face bold_italic) = ⊤
+HasTexts (face former) = ⊤
+HasTexts (face (unknown name)) = IsUtf8 name
+HasTexts (undefined c) = ⊤
+HasTexts unsupported = ⊤
+HasTexts bad = ⊤

@@ -1,0 +1,57 @@
+//! The escapes of a finished line: roff(7), "Escape sequences", and mandoc_char(7).
+#![tactic(auto)]
+
+ghost use Rattle.std.specs.Prelude.{◌≡◌, ◌+◌, ◌<◌, ◌≤◌, length, slice_index, IfSome};
+ghost use Rattle.std.specs.Str.{IsUtf8, IsCharBoundary};
+ghost use Rattle.page_core_escapes.specs.Lengths.{escape_len};
+ghost use Rattle.page_core_escapes.specs.Escapes.{escape_of, meaning_seen, HasTexts};
+
+use form::{Form, read_form};
+use meaning::read_meaning;
+use quoted::quoted_len;
+
+mod form;
+mod meaning;
+mod quoted;
+mod shape;
+
+pub use meaning::{Escape, FontName};
+
+/// The bytes of the longest line.
+pub const LINE: usize = 65_536;
+
+/// The escape at the front of a text, where a backslash is, and how many bytes it takes: roff(7),
+/// "Escape sequences". One that has no end takes the rest of the text. What it lends is text, too.
+pub fn escape(text: &[u8]) -> (Escape<'_>, usize)
+    requires backslash { slice_index text.now 0 ≡ 0x5C }
+    requires utf8 { IsUtf8 text.now }
+    requires line { length text.now ≤ LINE }
+
+    ensures meaning { meaning_seen result.0 ≡ (escape_of text.now).0 }
+    ensures len { result.1 ≡ (escape_of text.now).1 }
+    ensures some { 0 < result.1 }
+    ensures within { result.1 ≤ length text.now }
+    ensures whole_characters { IsCharBoundary text.now result.1 }
+    ensures texts { HasTexts (meaning_seen result.0) }
+{
+    match escape_len(text) {
+        Some(len) => (read_meaning(&text[..len]), len),
+        None => (Escape::Bad, text.len()),
+    }
+}
+
+// The bytes of the escape at a text's front, none where the text ends before it does.
+fn escape_len(text: &[u8]) -> Option<usize>
+    requires some { 0 < length text.now }
+    requires line { length text.now ≤ LINE }
+    ensures value { result ≡ escape_len text.now }
+    ensures bound { IfSome result (λ len. len ≤ length text.now) }
+{
+    match read_form(text)? {
+        Form::Whole(len) => Some(len),
+        Form::QuotedFrom(from) => Some(from + quoted_len(&text[from..])?),
+    }
+}
+
+#[cfg(test)]
+mod tests;

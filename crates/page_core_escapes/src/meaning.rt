@@ -1,0 +1,226 @@
+//! What an escape means.
+ghost use Rattle.std.specs.Prelude.{◌≡◌, ◌<◌, ◌≤◌, length, drop, slice_index, option_map, if◌then◌else◌};
+ghost use Rattle.std.specs.List.{list_all, list_any};
+ghost use Rattle.std.specs.Str.{IsUtf8, bytes_eq};
+ghost use Rattle.page_core_escapes.specs.Meanings.{meaning_of, known_meaning, bare_name, bare_quoted, without_last, bracketed, names_code_point, is_hex_digit, hex_number, hex_value, face_of, first_char};
+ghost use Rattle.page_core_escapes.specs.Escapes.{meaning_seen, face_seen};
+
+use crate::form::character_len;
+use std::str;
+
+/// The font that an escape asks for.
+#[derive(Clone, Copy, Debug, PartialEq, Eq)]
+pub enum FontName<'a> {
+    R,
+    I,
+    B,
+    BI,
+    /// The one before the present font.
+    Former,
+    /// A name that no font has.
+    Unknown(&'a [u8]),
+}
+
+/// What an escape means: roff(7), "Escape sequences", and mandoc_char(7).
+#[derive(Clone, Copy, Debug, PartialEq, Eq)]
+pub enum Escape<'a> {
+    /// The glyph of this name, which there may be or not.
+    Glyph(&'a [u8]),
+    Char(char),
+    Tab,
+    /// A blank where no row is broken.
+    Blank,
+    /// Blanks of that kind, as many as this expression says.
+    Blanks(&'a [u8]),
+    /// Nothing is printed.
+    Nothing,
+    /// At a line's end: the next line's text is glued to it.
+    Glue,
+    Font(FontName<'a>),
+    /// There is no such escape: the character itself is printed.
+    Undefined(char),
+    /// An escape of roff that has no effect here.
+    Unsupported,
+    /// The text ends before the escape does.
+    Bad,
+}
+
+// The meaning of a text that is one escape.
+pub(crate) fn read_meaning(escape: &[u8]) -> Escape<'_>
+    requires backslash { slice_index escape.now 0 ≡ 0x5C }
+    requires utf8 { IsUtf8 escape.now }
+    ensures { meaning_seen result ≡ meaning_of escape.now }
+{
+    if escape.len() < 2 {
+        return Escape::Nothing;
+    }
+    match known_meaning(escape[1], &escape[2..]) {
+        Some(meaning) => meaning,
+        None => Escape::Undefined(first_char(&escape[1..])),
+    }
+}
+
+// The meaning of an escape by its character and what is written behind that, none where there is no such escape.
+fn known_meaning(key: u8, written: &[u8]) -> Option<Escape<'_>>
+    ensures { option_map meaning_seen result ≡ known_meaning key written.now }
+{
+    match key {
+        b'(' => Some(Escape::Glyph(written)),
+        b'[' => Some(read_bracketed(without_last(written))),
+        b'C' => Some(Escape::Glyph(bare_quoted(written))),
+        b'e' | b'\\' => Some(Escape::Char('\\')),
+        b'-' => Some(Escape::Char('-')),
+        b'\'' => Some(Escape::Char('\u{B4}')),
+        b'`' => Some(Escape::Char('`')),
+        b'.' => Some(Escape::Char('.')),
+        b't' => Some(Escape::Tab),
+        b' ' | b'~' | b'0' => Some(Escape::Blank),
+        b'h' => Some(Escape::Blanks(bare_quoted(written))),
+        b'c' => Some(Escape::Glue),
+        b'f' => Some(Escape::Font(read_font(bare_name(written)))),
+        b'&'
+        | b')'
+        | b'|'
+        | b'^'
+        | b'%'
+        | b'/'
+        | b','
+        | b':'
+        | b'a'
+        | b'u'
+        | b'r'
+        | b'd'
+        | b'z'
+        | b'{' => Some(Escape::Nothing),
+        b'm' | b'M' | b'k' | b'F' => Some(Escape::Nothing),
+        b'v' | b'x' => Some(Escape::Nothing),
+        b's' if written.is_empty() => Some(Escape::Undefined('s')),
+        b's' => Some(Escape::Nothing),
+        b'p' => Some(Escape::Unsupported),
+        b'g' | b'V' | b'Y' => Some(Escape::Unsupported),
+        b'b' | b'o' | b'l' | b'L' | b'D' | b'N' | b'X' | b'A' | b'B' | b'H' | b'S' | b'R' | b'Z' =>
+            { Some(Escape::Unsupported) }
+        _ => None,
+    }
+}
+
+// A name in brackets: a character's code point, or a glyph's name.
+fn read_bracketed(name: &[u8]) -> Escape<'_>
+    ensures { meaning_seen result ≡ bracketed name.now }
+{
+    match code_point(name) {
+        Some(c) => Escape::Char(c),
+        None => Escape::Glyph(name),
+    }
+}
+
+// The character of a name such as `u2014`.
+fn code_point(name: &[u8]) -> Option<char>
+    ensures { result ≡ (if names_code_point name.now then Some (hex_number (drop 1 name.now)) else None) }
+{
+    let (first, digits) = name.split_first()?;
+    if *first != b'u' || digits.len() < 4 || 6 < digits.len() || !are_hex_digits(digits) {
+        return None;
+    }
+    let code = hex_number(digits);
+    if code < 0xA0 {
+        return None;
+    }
+    char::from_u32(code)
+}
+
+// Whether all are hexadecimal digits in upper case.
+fn are_hex_digits(digits: &[u8]) -> bool
+    ensures { result ≡ list_all is_hex_digit digits.now }
+{
+    digits
+        .iter()
+        .all(|digit| matches!(digit, b'0'..=b'9' | b'A'..=b'F'))
+}
+
+// The number that a few hexadecimal digits spell.
+fn hex_number(digits: &[u8]) -> u32
+    requires { length digits.now ≤ 6 }
+    ensures { result ≡ hex_number digits.now }
+{
+    let mut number = 0;
+    for digit in digits {
+        number = number * 16 + hex_value(*digit);
+    }
+    number
+}
+
+fn hex_value(digit: u8) -> u32
+    ensures value { result ≡ hex_value digit }
+    ensures bound { result < 256 }
+{
+    let value = if digit.is_ascii_digit() {
+        digit - b'0'
+    } else {
+        digit.saturating_sub(b'A' - 10)
+    };
+    value as u32
+}
+
+// The font of a name.
+fn read_font(name: &[u8]) -> FontName<'_>
+    ensures { face_seen result ≡ face_of name.now }
+{
+    if is_one_of(name, &["R", "1", "CW", "CR"]) {
+        FontName::R
+    } else if is_one_of(name, &["I", "2", "CI"]) {
+        FontName::I
+    } else if is_one_of(name, &["B", "3", "CB"]) {
+        FontName::B
+    } else if is_one_of(name, &["BI", "4"]) {
+        FontName::BI
+    } else if is_one_of(name, &["P", ""]) {
+        FontName::Former
+    } else {
+        FontName::Unknown(name)
+    }
+}
+
+fn is_one_of(name: &[u8], names: &[&str]) -> bool
+    ensures { result ≡ list_any (λ other. bytes_eq name.now other.now) names.now }
+{
+    names.iter().any(|other| name == other.as_bytes())
+}
+
+// A name that was written as `x`, `(xx` or `[name]`.
+fn bare_name(written: &[u8]) -> &[u8]
+    ensures { result.now ≡ bare_name written.now }
+{
+    match written.first() {
+        Some(b'(') => &written[1..],
+        Some(b'[') => without_last(&written[1..]),
+        _ => written,
+    }
+}
+
+// An argument that was written between two delimiters.
+fn bare_quoted(written: &[u8]) -> &[u8]
+    ensures { result.now ≡ bare_quoted written.now }
+{
+    let mark = character_len(written).unwrap_or(0);
+    let rest = &written[mark..];
+    &rest[..rest.len().saturating_sub(mark)]
+}
+
+fn without_last(bytes: &[u8]) -> &[u8]
+    ensures { result.now ≡ without_last bytes.now }
+{
+    &bytes[..bytes.len().saturating_sub(1)]
+}
+
+// The first character of a text.
+fn first_char(text: &[u8]) -> char
+    requires some { 0 < length text.now }
+    requires utf8 { IsUtf8 text.now }
+    ensures { result ≡ first_char text.now }
+{
+    str::from_utf8(text)
+        .ok()
+        .and_then(|text| text.chars().next())
+        .unwrap_or(char::REPLACEMENT_CHARACTER)
+}

@@ -1,0 +1,103 @@
+//! How many bytes a quoted argument takes.
+ghost use Rattle.std.specs.Prelude.{◌≡◌, ◌+◌, ◌<◌, ◌≤◌, ℕ, length, drop, IfSome};
+ghost use Rattle.page_core_escapes.specs.Forms.{character_len};
+ghost use Rattle.page_core_escapes.specs.Lengths.{quoted_len, content_len};
+ghost use Rattle.page_core_escapes.specs.Steps.{first_character, opening_of, step_of, StepFits};
+
+use crate::LINE;
+use crate::form::{Form, character_len, read_form};
+use arrayvec::ArrayVec;
+
+// One more than the arguments that can stand inside one another on a line: each takes three bytes at least.
+const NESTING: usize = 21_846;
+
+/// What is read in a quoted argument.
+#[derive(Clone, Copy)]
+pub(crate) enum Step {
+    /// This many bytes that belong to it.
+    Passes(usize),
+    /// An argument inside it: after the first number of bytes its delimiter stands, of as many bytes as the second says.
+    Opens(usize, usize),
+    /// The delimiter at its end, of this many bytes.
+    Closes(usize),
+}
+
+// The first character of a text, as it is written.
+fn first_character(text: &[u8]) -> &[u8]
+    ensures { result.now ≡ first_character text.now }
+{
+    &text[..character_len(text).unwrap_or(0)]
+}
+
+// What is read next in an argument with this delimiter, none where an escape there has no end.
+fn next_step(delimiter: &[u8], text: &[u8]) -> Option<Step>
+    ensures value { result ≡ step_of delimiter.now text.now }
+    ensures bound { IfSome result (StepFits (length text.now)) }
+{
+    let first = *text.first()?;
+    if text.starts_with(delimiter) {
+        return Some(Step::Closes(delimiter.len()));
+    }
+    if first != b'\\' {
+        return Some(Step::Passes(1));
+    }
+    match read_form(text)? {
+        Form::Whole(len) => Some(Step::Passes(len)),
+        Form::QuotedFrom(from) => opening(text, from),
+    }
+}
+
+// The step into an argument that begins after `from` bytes.
+fn opening(text: &[u8], from: usize) -> Option<Step>
+    requires behind { 2 ≤ from }
+    requires inside { from ≤ length text.now }
+    ensures value { result ≡ opening_of text.now from }
+    ensures bound { IfSome result (StepFits (length text.now)) }
+{
+    let mark = character_len(&text[from..])?;
+    Some(Step::Opens(from, mark))
+}
+
+/// The bytes of a quoted argument with its delimiters: it begins with any character and ends at its next occurrence outside
+/// escapes. None where it has no end.
+pub(crate) fn quoted_len(text: &[u8]) -> Option<usize>
+    requires { length text.now ≤ LINE }
+    ensures value { result ≡ quoted_len content_len text.now }
+    ensures bound { IfSome result (λ len. len ≤ length text.now) }
+{
+    let mut at = character_len(text)?;
+    let delimiter = &text[..at];
+    loop {
+        match next_step(delimiter, &text[at..])? {
+            Step::Passes(len) => at += len,
+            Step::Opens(_, _) => return nested_len(text),
+            Step::Closes(len) => return Some(at + len),
+        }
+    }
+}
+
+// The same where arguments stand inside the argument: the places of the open ones' delimiters are kept, from the outside in.
+fn nested_len(text: &[u8]) -> Option<usize>
+    requires { length text.now ≤ LINE }
+    ensures value { result ≡ quoted_len content_len text.now }
+    ensures bound { IfSome result (λ len. len ≤ length text.now) }
+{
+    let mut at = character_len(text)?;
+    let mut open = ArrayVec::<u16, NESTING>::new();
+    open.push(0);
+    while let Some(place) = open.last() {
+        let delimiter = first_character(&text[*place as usize..]);
+        match next_step(delimiter, &text[at..])? {
+            Step::Passes(len) => at += len,
+            Step::Opens(from, mark) => {
+                open.push((at + from) as u16);
+                at += from + mark;
+            }
+            Step::Closes(len) => {
+                open.pop();
+                at += len;
+            }
+        }
+    }
+    Some(at)
+}
