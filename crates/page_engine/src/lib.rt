@@ -6,4 +6,4 @@ mod filters;
 mod pages;
 mod runs;
 
-pub use runs::{Counts, Outcome};
+pub use runs::{run_page, Counts, Outcome, BYTES, READS};

@@ -1,0 +1,98 @@
+//! The pages of a command line, each from its bytes to its rows, its messages and its status (mandoc(1), DESCRIPTION).
+
+use crate::SYSTEM_FAILURE;
+use mandoc_command::{Format, status_of};
+use page_core::{Fault, Output, Settings};
+use page_engine::run_page;
+use std::alloc::Global;
+use std::fs::{self, Files};
+use std::io::{self, Read, Write};
+
+/// The name that messages have of the standard input.
+const STANDARD_INPUT: &str = "<stdin>";
+
+// What a page left: its status, and whether no further page can be written.
+#[derive(Clone, Copy)]
+struct Done {
+    status: u8,
+    stops: bool,
+}
+
+/// Formats the pages of a command in their order, and answers the worst of their statuses (mandoc(1), EXIT STATUS).
+///
+/// A file that can't be opened or read, or a page past a limit, is told of on `notes`, and the others go on. A writer that fails ends it.
+pub fn format_all<R: Files, I: Read, W: Write, V: Write>(
+    rt: &R,
+    alloc: Global,
+    format: &Format,
+    input: &mut I,
+    out: &mut W,
+    notes: &mut V,
+) -> u8 {
+    let settings = &format.settings;
+    if format.files.names().is_empty() {
+        return format_page(alloc, input, out, notes, STANDARD_INPUT, settings).status;
+    }
+    let mut worst = 0;
+    for name in format.files.names() {
+        let done = format_file(rt, alloc, out, notes, name.as_str(), settings);
+        worst = worst.max(done.status);
+        if done.stops {
+            break;
+        }
+    }
+    worst
+}
+
+// Formats the page of a file.
+fn format_file<R: Files, W: Write, V: Write>(
+    rt: &R,
+    alloc: Global,
+    out: &mut W,
+    notes: &mut V,
+    name: &str,
+    settings: &Settings,
+) -> Done {
+    match fs::open(rt, name) {
+        Ok(mut file) => format_page(alloc, &mut file, out, notes, name, settings),
+        Err(_) => told(writeln!(notes, "mandoc: {name}: cannot open"), false),
+    }
+}
+
+// Formats a page, and puts out all that was written of it.
+fn format_page<I: Read, W: Write, V: Write>(
+    alloc: Global,
+    input: &mut I,
+    out: &mut W,
+    notes: &mut V,
+    name: &str,
+    settings: &Settings,
+) -> Done {
+    let run = match settings.output {
+        Output::Lint => run_page(alloc, input, &mut io::sink(), out, name, settings),
+        _ => run_page(alloc, input, out, notes, name, settings),
+    };
+    let run = match (run, out.flush(), notes.flush()) {
+        (Ok(_), Err(_), _) => Err(Fault::WriteText),
+        (Ok(_), _, Err(_)) => Err(Fault::WriteNotes),
+        (run, _, _) => run,
+    };
+    match run {
+        Ok(outcome) => Done {
+            status: status_of(outcome.worst),
+            stops: false,
+        },
+        Err(fault) => told(
+            writeln!(notes, "mandoc: {name}: {fault}"),
+            matches!(fault, Fault::WriteText | Fault::WriteNotes),
+        ),
+    }
+}
+
+// What is left where a page failed, after that was told.
+fn told(written: io::Result<()>, stops: bool) -> Done {
+    Done {
+        status: SYSTEM_FAILURE,
+        stops: stops || written.is_err(),
+    }
+}
