@@ -47,7 +47,7 @@ pub page_last : (e : Edge) (p q : Place) (xs : List ℕ) → q ≡ place_of p xs
     → page_from e p xs ≡ join (laid e (lines_within p xs)) (page (laid e (lines_within p xs)).edge (last_line q))
 page_last e p q xs h =
     rw h (ap (λ (l : Laid Edge). join l (ended l.edge)) (laid-append e (lines_within p xs) (last_line (place_of p xs)))
-        ∙ join_assoc (laid e (lines_within p xs)) (laid (laid e (lines_within p xs)).edge (last_line (place_of p xs))) _)
+    ∙ join_assoc (laid e (lines_within p xs)) (laid (laid e (lines_within p xs)).edge (last_line (place_of p xs))) _)
 
 -- a page of bytes begins with what its whole lines settle
 pub page_front : {R N : Type 0} {rg rw_ : R → List LaidRow → R → Type 0} {ng nw : N → List Message → N → Type 0} → IsSink rg rw_ → IsSink ng nw

@@ -6,4 +6,4 @@ mod filters;
 mod pages;
 mod runs;
 
-pub use runs::{run_page, Counts, Outcome, BYTES, READS};
+pub use runs::{BYTES, Counts, Outcome, READS, run_page};

@@ -295,7 +295,7 @@ pub fn run_page<I: Read, W: Write, V: Write>(
 ) -> Result<Outcome, Fault>
     ensures { (bytes : List ℕ) × Consumes (I.remaining reader.old) (I.remaining reader.new) bytes
         × Runs result (WritesRows W.contents (is_silent settings.now.output)) (WritesRowsInto W.contents (is_silent settings.now.output))
-            (WritesNotes V.contents file.now) (WritesNotesInto V.contents file.now) out.old out.new notes.old notes.new settings.now bytes (I.remaining reader.new) }
+        (WritesNotes V.contents file.now) (WritesNotesInto V.contents file.now) out.old out.new notes.old notes.new settings.now bytes (I.remaining reader.new) }
 {
     if let Err(fault) = settings.check() {
         return Err(Fault::Settings(fault));

@@ -56,12 +56,12 @@ quoted_within [] = omega arith
 quoted_within (b ∷ []) = elim (cases_Bool (b == 34)) [ inl t ↦ rw t (omega arith) | inr t ↦ rw t (omega arith) ]
 quoted_within (b ∷ c ∷ cs) =
     elim (cases_Bool (b == 34)) [
-      inl t ↦
-        elim (cases_Bool (c == 34)) [
-          inl s ↦ let l = quoted_within cs in rw (t, s) (omega (arith, l))
-        | inr s ↦ rw (t, s) (omega arith)
-        ]
-    | inr t ↦ let l = quoted_within (c ∷ cs) in rw t (omega (arith, l))
+      | inl t ↦
+          elim (cases_Bool (c == 34)) [
+            | inl s ↦ let l = quoted_within cs in rw (t, s) (omega (arith, l))
+            | inr s ↦ rw (t, s) (omega arith)
+          ]
+      | inr t ↦ let l = quoted_within (c ∷ cs) in rw t (omega (arith, l))
     ]
 
 end_within : (text : List ℕ) → end_len text ≤ length text
@@ -73,26 +73,26 @@ end_within (b ∷ bs) = omega arith
 argument_some : (b : ℕ) (bs : List ℕ) → 0 < argument_len (b ∷ bs)
 argument_some b bs =
     elim (cases_Bool (is_blank b)) [
-      inl t ↦ rw t (omega arith)
-    | inr t ↦
-        elim (cases_Bool (b == 34)) [
-          inl s ↦ rw (t, s) (omega arith)
-        | inr s ↦ rw (t, s) (word_some (parts_words false) b bs (rw t refl))
-        ]
+      | inl t ↦ rw t (omega arith)
+      | inr t ↦
+          elim (cases_Bool (b == 34)) [
+            | inl s ↦ rw (t, s) (omega arith)
+            | inr s ↦ rw (t, s) (word_some (parts_words false) b bs (rw t refl))
+          ]
     ]
 
 argument_within : (b : ℕ) (bs : List ℕ) → argument_len (b ∷ bs) ≤ length (b ∷ bs)
 argument_within b bs =
     elim (cases_Bool (is_blank b)) [
-      inl t ↦ let l = prefix_len-le-length is_blank bs in rw t (omega (arith, l))
-    | inr t ↦
-        elim (cases_Bool (b == 34)) [
-          inl s ↦
-            let l = end_within (drop (quoted_len bs) bs) in
-            let m = length-drop (quoted_len bs) bs in
-            let n = quoted_within bs in rw (t, s) (omega (arith, l, m, n))
-        | inr s ↦ rw (t, s) (word_within (parts_words false) (b ∷ bs))
-        ]
+      | inl t ↦ let l = prefix_len-le-length is_blank bs in rw t (omega (arith, l))
+      | inr t ↦
+          elim (cases_Bool (b == 34)) [
+            | inl s ↦
+                let l = end_within (drop (quoted_len bs) bs) in
+                let m = length-drop (quoted_len bs) bs in
+                let n = quoted_within bs in rw (t, s) (omega (arith, l, m, n))
+            | inr s ↦ rw (t, s) (word_within (parts_words false) (b ∷ bs))
+          ]
     ]
 
 pub argument_front : IsFront argument_len

@@ -30,8 +30,8 @@ unit_some quoted b bs = elim (cases_Bool (is_plain quoted b)) [ inl t ↦ rw t (
 unit_within : (quoted : Bool) (b : ℕ) (bs : List ℕ) → unit_len quoted (b ∷ bs) ≤ length (b ∷ bs)
 unit_within quoted b bs =
     elim (cases_Bool (is_plain quoted b)) [
-      inl t ↦ let l = prefix_len-le-length (is_plain quoted) bs in rw t (omega (arith, l))
-    | inr t ↦ rw t (pair_within b bs)
+      | inl t ↦ let l = prefix_len-le-length (is_plain quoted) bs in rw t (omega (arith, l))
+      | inr t ↦ rw t (pair_within b bs)
     ]
 
 pub unit_front : (quoted : Bool) → IsFront (unit_len quoted)
@@ -42,12 +42,12 @@ word_within p [] = omega arith
 word_within p (b ∷ []) = elim (cases_Bool (p b)) [ inl t ↦ rw t (omega arith) | inr t ↦ rw t (omega arith) ]
 word_within p (b ∷ c ∷ cs) =
     elim (cases_Bool (p b)) [
-      inl t ↦ rw t (omega arith)
-    | inr t ↦
-        elim (cases_Bool (b == 92)) [
-          inl s ↦ let l = word_within p cs in rw (t, s) (omega (arith, l))
-        | inr s ↦ let l = word_within p (c ∷ cs) in rw (t, s) (omega (arith, l))
-        ]
+      | inl t ↦ rw t (omega arith)
+      | inr t ↦
+          elim (cases_Bool (b == 92)) [
+            | inl s ↦ let l = word_within p cs in rw (t, s) (omega (arith, l))
+            | inr s ↦ let l = word_within p (c ∷ cs) in rw (t, s) (omega (arith, l))
+          ]
     ]
 
 pub word_some : (p : ℕ → Bool) (b : ℕ) (bs : List ℕ) → p b ≡ false → 0 < word_len p (b ∷ bs)
@@ -60,8 +60,8 @@ chunk_some b bs = elim (cases_Bool (is_white b)) [ inl t ↦ rw t (omega arith) 
 chunk_within : (b : ℕ) (bs : List ℕ) → chunk_len (b ∷ bs) ≤ length (b ∷ bs)
 chunk_within b bs =
     elim (cases_Bool (is_white b)) [
-      inl t ↦ let l = prefix_len-le-length is_white bs in rw t (omega (arith, l))
-    | inr t ↦ rw t (word_within is_white (b ∷ bs))
+      | inl t ↦ let l = prefix_len-le-length is_white bs in rw t (omega (arith, l))
+      | inr t ↦ rw t (word_within is_white (b ∷ bs))
     ]
 
 pub chunk_front : IsFront chunk_len
@@ -97,8 +97,8 @@ pub white_chunk : (quoted : Bool) (font : Font) (place : Place) (chunk : List �
 white_chunk quoted font place [] n e h = absurd (omega arith)
 white_chunk quoted font place (b ∷ bs) n e h =
     elim (cases_Bool (is_white b)) [
-      inl t ↦ rw t refl
-    | inr t ↦ let z : prefix_len is_white (b ∷ bs) ≡ 0 = rw t refl in absurd (omega arith)
+      | inl t ↦ rw t refl
+      | inr t ↦ let z : prefix_len is_white (b ∷ bs) ≡ 0 = rw t refl in absurd (omega arith)
     ]
 
 -- ---- units, one by one

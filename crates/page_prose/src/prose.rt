@@ -155,12 +155,7 @@ impl Prose {
     }
 
     // Gives the header and a message.
-    fn begin_with<O: PieceSink>(
-        &self,
-        out: &mut O,
-        line: u32,
-        kind: NoteKind,
-    ) -> Result<(), Fault>
+    fn begin_with<O: PieceSink>(&self, out: &mut O, line: u32, kind: NoteKind) -> Result<(), Fault>
         ensures gives { Emits result O.gave O.broke out.old (header_items self.now.width self.now.indent line self.now.fields ++ says kind line 1 [] ∷ []) out.new }
         ensures same { O.loans out.new ≡ O.loans out.old }
     {
@@ -207,7 +202,12 @@ impl Prose {
     }
 
     // Gives a heading.
-    fn give_heading<O: PieceSink>(&self, out: &mut O, rest: &[u8], place: Place) -> Result<(), Fault>
+    fn give_heading<O: PieceSink>(
+        &self,
+        out: &mut O,
+        rest: &[u8],
+        place: Place,
+    ) -> Result<(), Fault>
         requires { place.column + length rest.now < 2 ^ 32 - 1 }
         ensures gives { Emits result O.gave O.broke out.old (prose.heading_items self.now place.line rest.now place.column) out.new }
         ensures same { O.loans out.new ≡ O.loans out.old }
@@ -357,13 +357,7 @@ impl Prose {
             Macro::Title => self.give_title(out, name, place, rest, rest_column),
             Macro::Section => self.give_section(out, name, place, rest, rest_column),
             Macro::Paragraph => self.give_paragraph(out, name, place, rest, rest_column),
-            Macro::Unknown => say(
-                out,
-                NoteKind::UnknownMacro,
-                place.line,
-                place.column,
-                name,
-            ),
+            Macro::Unknown => say(out, NoteKind::UnknownMacro, place.line, place.column, name),
         }
     }
 }
@@ -503,12 +497,7 @@ impl Prose {
 
     /// Gives the footer, and before it a blank row, unless one stands there.
     #[tactic(auto, unfolding(crate::specs::Prose::footer_items))]
-    pub fn footer<O: PieceSink>(
-        &self,
-        out: &mut O,
-        line: u32,
-        blank_rows: u32,
-    ) -> Result<(), Fault>
+    pub fn footer<O: PieceSink>(&self, out: &mut O, line: u32, blank_rows: u32) -> Result<(), Fault>
         ensures gives { Emits result O.gave O.broke out.old (prose.footer_items self.now line blank_rows) out.new }
         ensures same { O.loans out.new ≡ O.loans out.old }
     {

@@ -103,7 +103,7 @@ returns-in_err-take_piece-in-Bytes-clause-runs g c = λ e h.
       consumes_more _ _ _ i.0 ys i.1 c.in-Bytes.ensures.0,
       rw (r.1, r.2) (stopped_by g.R.RowSink.gave g.R.RowSink.within g.N.NoteSink.gave g.N.NoteSink.within _ _ _ _ e p (i.0 ++ ys) _ (f.cause x.edge at)
           (page_front g.met.R.RowSink.laws g.met.N.NoteSink.laws _ _ _ _ e p (i.0 ++ ys)
-              (rw w (both_within g.met.R.RowSink.laws g.met.N.NoteSink.laws _ _ x (laid x.edge (lines_within q ys)) (i.2 e h).1 (f.gets x.edge at))))),
+          (rw w (both_within g.met.R.RowSink.laws g.met.N.NoteSink.laws _ _ x (laid x.edge (lines_within q ys)) (i.2 e h).1 (f.gets x.edge at))))),
     )
 
 pub loop-preserved : goal.loop-preserved

@@ -8,8 +8,8 @@ use Rattle.page_engine.proofs.runs.run.Given as goal
 abbrev pub invariant-loop : goal.invariant-loop
 invariant-loop g l = (read : List ℕ) × Consumes (g.I.Read.remaining l.fn.reader) (g.I.Read.remaining l.reader) read
     × ((e : Edge) → IsAt l.fn.page.filler l.fn.page.prose l.fn.page.least l.fn.page.worst l.fn.page.last e
-        → IsAt l.page.filler l.page.prose l.page.least l.page.worst l.page.last (laid e (lines_within l.fn.cutter.place read)).edge
-        × Gave g.R.RowSink.gave g.N.NoteSink.gave l.fn.rows l.rows l.fn.notes l.notes (laid e (lines_within l.fn.cutter.place read)))
+    → IsAt l.page.filler l.page.prose l.page.least l.page.worst l.page.last (laid e (lines_within l.fn.cutter.place read)).edge
+    × Gave g.R.RowSink.gave g.N.NoteSink.gave l.fn.rows l.rows l.fn.notes l.notes (laid e (lines_within l.fn.cutter.place read)))
     × (l.cutter.place ≡ place_of l.fn.cutter.place read)
     × (l.cutter.ready ≡ false)
     × (l.source ≡ length (lines_within l.fn.cutter.place read))

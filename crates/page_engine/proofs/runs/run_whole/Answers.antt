@@ -21,5 +21,5 @@ returns-clause-runs g c =
       h.0,
       h.1,
       whole_run g.R.RowSink.gave g.N.NoteSink.gave _ _ _ _ c.args.settings.now h.0 _ c.ended_well.result _ _ c.in_ok-cutter.cutter.place
-      c.in_ok-cutter.ensures.value.0 h.2.0 h.2.1 h.2.2 h.2.3 c.requires o.worst o.source o.taken o.expansions,
+          c.in_ok-cutter.ensures.value.0 h.2.0 h.2.1 h.2.2 h.2.3 c.requires o.worst o.source o.taken o.expansions,
     )

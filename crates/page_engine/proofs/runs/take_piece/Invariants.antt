@@ -7,8 +7,8 @@ use Rattle.page_engine.proofs.runs.take_piece.Given as goal
 abbrev pub invariant-loop-rest : goal.invariant-loop-rest
 invariant-loop-rest g l =
     ((e : Edge) → IsAt l.fn.page.filler l.fn.page.prose l.fn.page.least l.fn.page.worst l.fn.page.last e
-        → (f : Edge) × IsAt l.page.filler l.page.prose l.page.least l.page.worst l.page.last f
-        × LaidUpTo g.R.RowSink.gave g.N.NoteSink.gave l.fn.rows l.rows l.fn.notes l.notes (laid e (lines_within l.fn.cutter.place l.piece)) (laid f (lines_within l.cutter.place l.rest)))
+    → (f : Edge) × IsAt l.page.filler l.page.prose l.page.least l.page.worst l.page.last f
+    × LaidUpTo g.R.RowSink.gave g.N.NoteSink.gave l.fn.rows l.rows l.fn.notes l.notes (laid e (lines_within l.fn.cutter.place l.piece)) (laid f (lines_within l.cutter.place l.rest)))
     × (place_of l.fn.cutter.place l.piece ≡ place_of l.cutter.place l.rest)
     × (l.cutter.ready ≡ false)
     × (l.cutter.place.line.taken + length l.rest ≡ l.fn.cutter.place.line.taken + length l.piece)

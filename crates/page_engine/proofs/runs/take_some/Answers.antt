@@ -16,7 +16,7 @@ pub returns-in_err-take_line-clause-gets : goal.returns-in_err-take_line-clause-
 returns-in_err-take_line-clause-gets g c = λ e h.
     let p = err_from_is_err_and c.from_residual.result c.from_residual.ensures.1 in
     rw p.1 (one_within g.met.R.RowSink.laws g.met.N.NoteSink.laws e c.args.cutter.now.place c.feed-taken.result.0 c.args.piece.now c.feed-taken.result.1
-        (line_of c.feed-taken.new.self.place) c.feed-taken.ensures.lines c.if-not-is_whole.false (c.in_err-take_line.ensures.gets e h))
+    (line_of c.feed-taken.new.self.place) c.feed-taken.ensures.lines c.if-not-is_whole.false (c.in_err-take_line.ensures.gets e h))
 
 pub returns-clause-gets : goal.returns-clause-gets
 returns-clause-gets g c = λ e h.

@@ -18,13 +18,13 @@ loop-rest-preserved c =
     let n = c.argument_len-len.result in
     let some : 0 < length l.rest.now = grind (arith, nat_tests) in
     rw (take_rest l.rest.now n) (l.invariant ∙ elim c.if-not-begins_blank.branch [
-          then-not-begins_blank+else-left-eq0 w ↦
-            nth_later l.rest.now n l.left some c.argument_len-len.ensures.value (sym c.begins_blank.ensures ∙ w.if-not-begins_blank.true) (omega arith)
-            ∙ ap (λ k. get_or (arguments (drop n l.rest.now)) k []) (sym w.left-is)
-        | else-not-begins_blank w ↦
-            ap (λ k. get_or k l.left []) (arguments_skip l.rest.now n some c.argument_len-len.ensures.value (sym c.begins_blank.ensures ∙ w.if-not-begins_blank.false))
-            ∙ ap (λ k. get_or (arguments (drop n l.rest.now)) k []) (sym w.left-is)
-        ])
+      | then-not-begins_blank+else-left-eq0 w ↦
+          nth_later l.rest.now n l.left some c.argument_len-len.ensures.value (sym c.begins_blank.ensures ∙ w.if-not-begins_blank.true) (omega arith)
+          ∙ ap (λ k. get_or (arguments (drop n l.rest.now)) k []) (sym w.left-is)
+      | else-not-begins_blank w ↦
+          ap (λ k. get_or k l.left []) (arguments_skip l.rest.now n some c.argument_len-len.ensures.value (sym c.begins_blank.ensures ∙ w.if-not-begins_blank.false))
+          ∙ ap (λ k. get_or (arguments (drop n l.rest.now)) k []) (sym w.left-is)
+    ])
 
 pub returns : goal.returns
 returns c =

@@ -1,5 +1,4 @@
 use Rattle.std.proofs.Common.{◌≤◌, ◌<◌, ◌+◌, ◌≡◌, sym, ap, ◌∙◌, arith, length, drop}
-
 use Rattle.page_prose.specs.Words.{parts_words}
 use Rattle.page_prose.proofs.WordLemmas.{word_pair, word_byte, word_last, word_none, word_over}
 use Rattle.page_prose.proofs.words.word_len.Goals as goal
@@ -16,10 +15,10 @@ loop-len-preserved c =
     let i = c.loop-len.invariant in
     let p = sym c.parts_words.ensures ∙ c.if-not-parts_words.true in
     elim c.else-text-len-eq92.branch [
-      else-text-len-eq92-via-then-text-len-eq92+else-len-text w ↦
-        let q = word_last (parts_words c.args.tabs) c.args.text.now c.loop-len.len c.loop-len-test.true (omega (arith, w.if-len-text.false)) p in (omega arith, omega (arith, i.1, q))
-    | else-text-len-eq92-via-else-text-len-eq92 w ↦
-        let q = word_byte (parts_words c.args.tabs) c.args.text.now c.loop-len.len c.loop-len-test.true p w.if-text-len-eq92.false in (omega arith, omega (arith, i.1, q))
+      | else-text-len-eq92-via-then-text-len-eq92+else-len-text w ↦
+          let q = word_last (parts_words c.args.tabs) c.args.text.now c.loop-len.len c.loop-len-test.true (omega (arith, w.if-len-text.false)) p in (omega arith, omega (arith, i.1, q))
+      | else-text-len-eq92-via-else-text-len-eq92 w ↦
+          let q = word_byte (parts_words c.args.tabs) c.args.text.now c.loop-len.len c.loop-len-test.true p w.if-text-len-eq92.false in (omega arith, omega (arith, i.1, q))
     ]
 
 pub returns-else-not-parts_words-clause-value : goal.returns-else-not-parts_words-clause-value

@@ -1,5 +1,4 @@
 use Rattle.std.proofs.Common.{◌≡◌, ◌≤◌, ◌+◌, ◌-◌, length, drop}
-
 use Rattle.page_prose.specs.Words.{word_len, parts_words}
 use Rattle.page_prose.proofs.words.word_len.Given as goal
 
