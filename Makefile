@@ -7,7 +7,7 @@ all: mandoc
 
 # Proves every crate below the program and the program, and leaves the executable at the top.
 mandoc:
-	cd crates/mandoc_cli && rt run < stdin > out.rows; rm -f out.rows
+	cd crates/mandoc_cli && rt run < stdin > /dev/null
 	cp crates/mandoc_cli/out/mandoc_cli mandoc
 
 # The whole gate; its last line is 'N passed, M failed'.

@@ -5,5 +5,7 @@ mod belows;
 mod filters;
 mod pages;
 mod runs;
+#[cfg(test)]
+mod tests;
 
 pub use runs::{BYTES, Counts, Outcome, READS, run_page};

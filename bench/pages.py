@@ -1,0 +1,70 @@
+#!/usr/bin/env python3
+"""Times ./mandoc on pages of plain text paragraphs (usage: bench/pages.py [RUNS]).
+
+Each page is formatted RUNS times (default 5); the least time counts. Where a `mandoc` is on the PATH it is run in turn
+with ours, and its time over ours is printed: above 1, ours is faster. Times hold for one machine in one run only.
+"""
+import shutil
+import subprocess
+import sys
+import tempfile
+import time
+
+SIZES = (10_000, 100_000, 1_000_000, 10_000_000)
+WORDS = "the page request of a macro in its scope fills glyphs and escapes registers or diversions with rows that columns hold".split()
+
+
+def page(size):
+    lines, length, at = [".TH BENCH 1 2026-11-22 Bench", ".SH NAME", "bench \\- a page to time"], 70, 0
+    while length < size:
+        if at % 8 == 7:
+            line = ".PP"
+        else:
+            line = " ".join(WORDS[(at * 7 + k * 5) % len(WORDS)] for k in range(11)) + "."
+        lines.append(line)
+        length += len(line) + 1
+        at += 1
+    return "\n".join(lines) + "\n"
+
+
+def timed(words, name):
+    """Returns the seconds of one run."""
+    begun = time.perf_counter()
+    with open(name, "rb") as file:
+        status = subprocess.call(words, stdin=file, stdout=subprocess.DEVNULL)
+    if status:
+        sys.exit(f"{' '.join(words)}: status {status}")
+    return time.perf_counter() - begun
+
+
+def peak_of(words, name):
+    """Returns the peak of memory in kB, as the system tells it while the program runs: the last byte of the page is kept back until then."""
+    with open(name, "rb") as file:
+        text = file.read()
+    with subprocess.Popen(words, stdin=subprocess.PIPE, stdout=subprocess.DEVNULL) as run:
+        run.stdin.write(text)
+        run.stdin.flush()
+        time.sleep(0.05)
+        with open(f"/proc/{run.pid}/status") as status:
+            return next(int(line.split()[1]) for line in status if line.startswith("VmHWM"))
+
+
+def main():
+    runs = int(sys.argv[1]) if len(sys.argv) > 1 else 5
+    other = shutil.which("mandoc")
+    print("    bytes     MB/s   peak kB" + (f"   time ratio  peak kB of {other}" if other else ""))
+    with tempfile.TemporaryDirectory() as room:
+        for size in SIZES:
+            name = f"{room}/page"
+            with open(name, "w") as file:
+                written = file.write(page(size))
+            ours, theirs = [], []
+            for _ in range(runs):
+                ours.append(timed(["./mandoc"], name))
+                if other:
+                    theirs.append(timed([other, "-T", "ascii"], name))
+            line = f"{written:9} {written / min(ours) / 1e6:8.1f} {peak_of(['./mandoc'], name):9}"
+            print(line + (f" {min(theirs) / min(ours):12.2f} {peak_of([other, '-T', 'ascii'], name):14}" if other else ""))
+
+
+main()
