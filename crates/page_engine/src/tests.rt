@@ -321,6 +321,27 @@ fn refuses_bad_settings(rt: HostRuntime) -> Result<(), Fail> {
     Ok(())
 }
 
+// For runs in which an allocation is refused: then nothing was read, and else all is well.
+#[test]
+fn wants_memory_before_it_reads(rt: HostRuntime) {
+    let mut reader = Pieces::new(TWO_MESSAGES, 3);
+    let (mut out, mut messages) = (io::sink(), io::sink());
+    match run_page(
+        rt.alloc(),
+        &mut reader,
+        &mut out,
+        &mut messages,
+        "x.1",
+        &all_messages(),
+    ) {
+        Ok(outcome) => assert_eq!(rt; outcome.worst, Some(Level::Error)),
+        Err(fault) => {
+            assert_eq!(rt; fault, Fault::Memory);
+            assert_eq!(rt; reader.calls, 0);
+        }
+    }
+}
+
 // Each call fails in turn: what was written is the front of the page, and no less than at an earlier call.
 #[test]
 fn ends_by_a_failing_read(rt: HostRuntime) -> Result<(), Fail> {
