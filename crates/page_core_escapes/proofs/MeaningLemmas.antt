@@ -1,5 +1,9 @@
 -- The meaning of an escape that is given as a text of its own.
-use Rattle.std.proofs.Common.{◌≡◌, ℕ, ◌<◌, ◌≤◌, List, [], ◌∷◌, length, drop, get_or, unwrap_or, refl, arith}
+use Rattle.std.proofs.Common.{◌≡◌, ℕ, ◌<◌, ◌≤◌, IsUtf8, chars, List, [], ◌∷◌, length, drop, get_or, unwrap_or, refl, arith, inl, inr}
+use Rattle.std.specs.Prelude.{slice_index}
+use Rattle.std.specs.Str.{is_utf8}
+use Rattle.std.proofs.lemmas.Bool.{cases_Bool}
+use Rattle.std.proofs.lemmas.Str.{is_utf8-from_IsUtf8, IsUtf8-from_is_utf8}
 use Rattle.page_core_escapes.specs.Meanings.{nothing, undefined, known_meaning, first_char, meaning_of}
 
 pub meaning_of-short : (t : List ℕ) → length t < 2 → nothing ≡ meaning_of t
@@ -13,3 +17,13 @@ unfolding meaning_of
 meaning_of-parts [] long = absurd (omega arith)
 meaning_of-parts (b ∷ []) long = absurd (omega arith)
 meaning_of-parts (b ∷ key ∷ written) long = refl
+
+-- ---- a text's first character
+
+pub first_char-text : (t : List ℕ) → IsUtf8 t → first_char t ≡ slice_index (chars t) 0
+unfolding first_char
+first_char-text t u = rw (is_utf8-from_IsUtf8 t u) refl
+
+pub first_char-none : (t : List ℕ) → ¬ IsUtf8 t → first_char t ≡ 0xFFFD
+unfolding first_char
+first_char-none t u = elim (cases_Bool (is_utf8 t)) [ inl e ↦ absurd (u (IsUtf8-from_is_utf8 t e)) | inr f ↦ rw f refl ]

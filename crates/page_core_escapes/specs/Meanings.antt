@@ -1,7 +1,7 @@
 -- What an escape means: roff(7), "Escape sequences", and mandoc_char(7).
 use Rattle.std.specs.Prelude.{ℕ, ◌+◌, ◌-◌, ◌*◌, Bool, false, ◌&&◌, ◌||◌, not, ◌==◌, nat_le, List, [], ◌∷◌, length, take, drop, fold, codes, if◌then◌else◌, Option, unwrap_or, option_map, find, slice_index}
 use Rattle.std.specs.List.{list_any, list_all}
-use Rattle.std.specs.Str.{bytes_eq, chars}
+use Rattle.std.specs.Str.{bytes_eq, chars, is_utf8}
 use Rattle.page_core_escapes.specs.Shapes.{is_among, is_digit}
 use Rattle.page_core_escapes.specs.Forms.{character_len}
 
@@ -130,9 +130,9 @@ table =
     quoted (codes "bolLDNXABHSRZ") (λ _. unsupported) ∷
     []
 
--- the first character of a text
-abbrev pub first_char : List ℕ → ℕ
-first_char text = slice_index (chars text) 0
+-- the first character of a text; one that is not UTF-8 has the replacement character
+unfoldable pub first_char : List ℕ → ℕ
+first_char text = if is_utf8 text then slice_index (chars text) 0 else 0xFFFD
 
 -- an escape's meaning by its character and what is written behind that, where there is such an escape
 abbrev pub known_meaning : ℕ → List ℕ → Option Meaning

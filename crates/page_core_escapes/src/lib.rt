@@ -15,24 +15,24 @@ mod meaning;
 mod quoted;
 mod shape;
 
-pub use meaning::{Escape, FontName};
+pub use meaning::{Escape, FontName, read_font};
 
 /// The bytes of the longest line.
 pub const LINE: usize = 65_536;
 
 /// The escape at the front of a text, where a backslash is, and how many bytes it takes: roff(7),
-/// "Escape sequences". One that has no end takes the rest of the text. What it lends is text, too.
+/// "Escape sequences". One that has no end takes the rest of the text. What it lends of
+/// a text in UTF-8 is in UTF-8, too.
 pub fn escape(text: &[u8]) -> (Escape<'_>, usize)
     requires backslash { slice_index text.now 0 ≡ 0x5C }
-    requires utf8 { IsUtf8 text.now }
     requires line { length text.now ≤ LINE }
 
     ensures meaning { meaning_seen result.0 ≡ (escape_of text.now).0 }
     ensures len { result.1 ≡ (escape_of text.now).1 }
     ensures some { 0 < result.1 }
     ensures within { result.1 ≤ length text.now }
-    ensures whole_characters { IsCharBoundary text.now result.1 }
-    ensures texts { HasTexts (meaning_seen result.0) }
+    ensures whole_characters { IsUtf8 text.now → IsCharBoundary text.now result.1 }
+    ensures texts { IsUtf8 text.now → HasTexts (meaning_seen result.0) }
 {
     match escape_len(text) {
         Some(len) => (read_meaning(&text[..len]), len),

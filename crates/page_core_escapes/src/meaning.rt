@@ -1,7 +1,7 @@
 //! What an escape means.
 ghost use Rattle.std.specs.Prelude.{◌≡◌, ◌<◌, ◌≤◌, length, drop, slice_index, option_map, if◌then◌else◌};
 ghost use Rattle.std.specs.List.{list_all, list_any};
-ghost use Rattle.std.specs.Str.{IsUtf8, bytes_eq};
+ghost use Rattle.std.specs.Str.{bytes_eq};
 ghost use Rattle.page_core_escapes.specs.Meanings.{meaning_of, known_meaning, bare_name, bare_quoted, without_last, bracketed, names_code_point, is_hex_digit, hex_number, hex_value, face_of, first_char};
 ghost use Rattle.page_core_escapes.specs.Escapes.{meaning_seen, face_seen};
 
@@ -47,8 +47,7 @@ pub enum Escape<'a> {
 
 // The meaning of a text that is one escape.
 pub(crate) fn read_meaning(escape: &[u8]) -> Escape<'_>
-    requires backslash { slice_index escape.now 0 ≡ 0x5C }
-    requires utf8 { IsUtf8 escape.now }
+    requires { slice_index escape.now 0 ≡ 0x5C }
     ensures { meaning_seen result ≡ meaning_of escape.now }
 {
     if escape.len() < 2 {
@@ -162,8 +161,8 @@ fn hex_value(digit: u8) -> u32
     value as u32
 }
 
-// The font of a name.
-fn read_font(name: &[u8]) -> FontName<'_>
+/// The font of a name: roff(7), `\f` and `ft`.
+pub fn read_font(name: &[u8]) -> FontName<'_>
     ensures { face_seen result ≡ face_of name.now }
 {
     if is_one_of(name, &["R", "1", "CW", "CR"]) {
@@ -213,14 +212,13 @@ fn without_last(bytes: &[u8]) -> &[u8]
     &bytes[..bytes.len().saturating_sub(1)]
 }
 
-// The first character of a text.
+// The first character of a text; one that is not UTF-8 has the replacement character.
 fn first_char(text: &[u8]) -> char
-    requires some { 0 < length text.now }
-    requires utf8 { IsUtf8 text.now }
+    requires { 0 < length text.now }
     ensures { result ≡ first_char text.now }
 {
-    str::from_utf8(text)
-        .ok()
-        .and_then(|text| text.chars().next())
-        .unwrap_or(char::REPLACEMENT_CHARACTER)
+    match str::from_utf8(text) {
+        Ok(text) => text.chars().next().unwrap_or(char::REPLACEMENT_CHARACTER),
+        Err(_) => char::REPLACEMENT_CHARACTER,
+    }
 }

@@ -10,7 +10,7 @@ ghost use Rattle.page_engine.specs.Below.{Ends};
 
 use crate::belows::Below;
 use crate::filters::Filter;
-use page_core::{Fault, Level, NoteSink, RowSink, Settings};
+use page_core::{Fault, LINE, Level, NoteSink, RowSink, Settings};
 use page_fill::Filler;
 use page_prose::Prose;
 use std::alloc::Global;
@@ -72,7 +72,7 @@ impl Page {
         rows: &mut R,
         notes: &mut N,
     ) -> Result<(), Fault>
-        requires { length text.now < 2 ^ 32 - 2 }
+        requires { length text.now ≤ LINE }
         ensures gets { (e : Edge) → IsAt self.old.filler self.old.prose self.old.least self.old.worst self.old.last e → Gets result R.gave R.within N.gave N.within rows.old rows.new notes.old notes.new (laid_text e text.now number) }
         ensures edge { (e : Edge) → IsAt self.old.filler self.old.prose self.old.least self.old.worst self.old.last e → OnOk result (IsAt self.new.filler self.new.prose self.new.least self.new.worst self.new.last (laid_text e text.now number).edge) }
         ensures faults { (e : Edge) → IsAt self.old.filler self.old.prose self.old.least self.old.worst self.old.last e → FailsBySink result (R.failed rows.old) (R.failed rows.new) (N.failed notes.old) (N.failed notes.new) }

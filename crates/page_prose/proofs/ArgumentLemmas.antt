@@ -1,20 +1,19 @@
 -- Arguments, one by one.
-use Rattle.std.proofs.Common.{◌≡◌, ◌≢◌, ℕ, zero, suc, ◌+◌, ◌-◌, ◌<◌, ◌≤◌, ◌==◌, Bool, true, false, List, [], ◌∷◌, ◌++◌, length, take, drop, get_or, refl, sym, ap, ◌∙◌, arith, inl, inr, length-drop, add-zero}
-use Rattle.std.specs.List.{prefix_len, flat_map}
+use Rattle.std.proofs.Common.{◌≡◌, ◌≢◌, ℕ, zero, suc, ◌+◌, ◌-◌, ◌<◌, ◌≤◌, ◌==◌, true, false, List, [], ◌∷◌, ◌++◌, length, take, drop, get_or, refl, ap, ◌∙◌, arith, inl, inr, length-drop, add-zero}
+use Rattle.std.specs.List.{flat_map}
 use Rattle.std.specs.Prelude.{filter}
 use Rattle.std.proofs.lemmas.Bool.{cases_Bool}
 use Rattle.std.proofs.lemmas.Bool.Decides.{nat_tests}
-use Rattle.std.proofs.lemmas.List.{drop_more, drop_all, get_or-drop}
+use Rattle.std.proofs.lemmas.List.{drop_more, get_or-drop}
 use Rattle.std.proofs.lemmas.List.Sums.{prefix_len-le-length}
-use Rattle.page_core.specs.Pieces.{Item}
-use Rattle.page_core.specs.declared.cells.Font.{Font}
-use Rattle.page_prose.specs.Cut.{IsFront, Part, parts, placed}
+use Rattle.page_prose.specs.declared.walks.Fonts.{Fonts}
+use Rattle.page_prose.specs.Cut.{IsFront, parts, placed}
 use Rattle.page_prose.specs.Forms.{is_blank}
-use Rattle.page_prose.specs.Words.{quoted_len, quoted_argument_len, end_len, argument_len, word_len, parts_words, begins_blank}
+use Rattle.page_prose.specs.Arguments.{quoted_len, quoted_argument_len, end_len, argument_len, parts_words, begins_blank}
 use Rattle.page_prose.specs.Fields.{arguments, is_argument}
-use Rattle.page_prose.specs.Prose.{closing_items, closings_items, argument_part, arguments_items}
+use Rattle.page_prose.specs.Prose.{closing_items, closings_items, argument_items, argument_fonts, arguments_items}
 use Rattle.page_prose.proofs.CutLemmas.{parts_more, parts_none, placed_more, front_some}
-use Rattle.page_prose.proofs.WordFronts.{word_some, word_within}
+use Rattle.page_prose.proofs.ArgumentWords.{word_some, word_within}
 
 -- ---- quotes
 
@@ -107,13 +106,14 @@ closings_more line column rest n h e = rw e (ap (flat_map (closing_items line)) 
 pub closings_none : (line column : ℕ) (rest : List ℕ) → length rest ≤ 0 → closings_items line column rest ≡ []
 closings_none line column rest h = ap (λ l. flat_map (closing_items line) (placed column l)) (parts_none argument_len rest h)
 
-pub arguments_more : (font : Font) (line column : ℕ) (rest : List ℕ) (n : ℕ) → 0 < length rest → n ≡ argument_len rest
-    → arguments_items font line column rest
-    ≡ argument_part font line (record { text = take n rest; column = column }) ++ arguments_items font line (column + n) (drop n rest)
-arguments_more font line column rest n h e = rw e (ap (flat_map (argument_part font line)) (placed_more argument_len argument_front column rest h))
+pub arguments_more : (fonts : Fonts) (line column : ℕ) (rest : List ℕ) (n : ℕ) → 0 < length rest → n ≡ argument_len rest
+    → arguments_items fonts line (placed column (parts argument_len rest))
+    ≡ argument_items fonts line (record { text = take n rest; column = column })
+    ++ arguments_items (argument_fonts fonts (record { text = take n rest; column = column })) line (placed (column + n) (parts argument_len (drop n rest)))
+arguments_more fonts line column rest n h e = rw e (ap (arguments_items fonts line) (placed_more argument_len argument_front column rest h))
 
-pub arguments_none : (font : Font) (line column : ℕ) (rest : List ℕ) → length rest ≤ 0 → arguments_items font line column rest ≡ []
-arguments_none font line column rest h = ap (λ l. flat_map (argument_part font line) (placed column l)) (parts_none argument_len rest h)
+pub arguments_none : (fonts : Fonts) (line column : ℕ) (rest : List ℕ) → length rest ≤ 0 → arguments_items fonts line (placed column (parts argument_len rest)) ≡ []
+arguments_none fonts line column rest h = ap (λ l. arguments_items fonts line (placed column l)) (parts_none argument_len rest h)
 
 -- ---- arguments by number
 

@@ -1,7 +1,7 @@
 -- The parts of a text, one by one.
-use Rattle.std.proofs.Common.{◌≡◌, ℕ, zero, suc, ◌+◌, ◌-◌, ◌<◌, ◌≤◌, List, [], ◌∷◌, ◌++◌, length, take, drop, refl, sym, ap, ◌∙◌, arith, length-drop}
+use Rattle.std.proofs.Common.{◌≡◌, ℕ, zero, suc, ◌+◌, ◌<◌, ◌≤◌, List, [], ◌∷◌, length, take, drop, refl, ap, arith, length-drop}
 use Rattle.std.proofs.lemmas.List.{length-take-le}
-use Rattle.page_prose.specs.Cut.{IsFront, cut, parts, placed, Part}
+use Rattle.page_prose.specs.Cut.{IsFront, cut, parts, placed}
 
 -- more parts than bytes make no difference
 cut_enough : (front : List ℕ → ℕ) → IsFront front → (n m : ℕ) (text : List ℕ) → length text ≤ n → length text ≤ m → cut front n text ≡ cut front m text

@@ -1,5 +1,5 @@
 -- What calls emit one after another.
-use Rattle.std.proofs.Common.{◌≡◌, List, [], ◌∷◌, ◌++◌, Result, Ok, Err, MatchResult, sym, ap, ◌∙◌, append_assoc, append-nil, refl}
+use Rattle.std.proofs.Common.{◌≡◌, List, [], ◌++◌, Result, Ok, Err, ap, ◌∙◌}
 use Rattle.page_core.specs.Sinks.{IsSink, UpTo}
 use Rattle.page_core.specs.Pieces.{Item}
 use Rattle.page_core.specs.declared.faults.Fault.{Fault}

@@ -1,8 +1,9 @@
+pub mod ArgumentWords
 pub mod ArgumentLemmas
 pub mod CutLemmas
 pub mod EmitsLemmas
 pub mod DetailLemmas
+pub mod FieldFronts
 pub mod FormLemmas
 pub mod ProseLemmas
-pub mod WordFronts
-pub mod WordLemmas
+pub mod TokenLemmas

@@ -1,5 +1,5 @@
 -- A text that is cut into parts, from its front on.
-use Rattle.std.specs.Prelude.{ℕ, zero, suc, ◌+◌, ◌≡◌, ◌≤◌, ◌<◌, List, [], ◌∷◌, ◌++◌, length, take, drop, if◌then◌else◌, min}
+use Rattle.std.specs.Prelude.{ℕ, zero, suc, ◌+◌, ◌≤◌, ◌<◌, List, [], ◌∷◌, length, take, drop}
 use Rattle.std.specs.Str.Lossy.{utf8_valid_len}
 
 -- a part of a line, and the column of its first byte

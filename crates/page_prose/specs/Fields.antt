@@ -1,9 +1,9 @@
 -- The fields of a page's header and footer. Source: man(7), TH.
-use Rattle.std.specs.Prelude.{ℕ, Bool, false, not, ◌==◌, nat_lt, List, [], ◌∷◌, length, filter, codes, if◌then◌else◌, slice_index_or}
+use Rattle.std.specs.Prelude.{ℕ, Bool, not, ◌==◌, nat_lt, List, [], ◌∷◌, length, filter, codes, if◌then◌else◌, slice_index_or}
 use Rattle.page_prose.specs.declared.fields.Fields.{Fields}
 use Rattle.page_prose.specs.FieldText.{FieldText, plain_text, or_else}
 use Rattle.page_prose.specs.Cut.{parts, text_front}
-use Rattle.page_prose.specs.Words.{argument_len, argument_text, begins_blank, begins_quoted}
+use Rattle.page_prose.specs.Arguments.{argument_len, argument_text, begins_blank, begins_quoted}
 
 -- the arguments of a macro, with their quotes
 abbrev pub is_argument : List ℕ → Bool

@@ -1,5 +1,5 @@
 -- The form of a line. Source: roff(7), "LANGUAGE SYNTAX" (comments, control characters, macro names).
-use Rattle.std.specs.Prelude.{ℕ, ◌+◌, Bool, true, false, not, ◌==◌, ◌||◌, ◌&&◌, List, [], ◌∷◌, ◌++◌, length, if◌then◌else◌}
+use Rattle.std.specs.Prelude.{ℕ, ◌+◌, Bool, not, ◌==◌, ◌||◌, ◌&&◌, List, [], ◌∷◌, take, if◌then◌else◌}
 
 -- a blank or a tab
 abbrev pub is_white : ℕ → Bool
@@ -19,3 +19,11 @@ is_name byte = not (is_white byte || byte == 92)
 
 abbrev pub is_blank : ℕ → Bool
 is_blank byte = byte == 32
+
+-- the bytes up to those at a text's end of which something holds
+abbrev pub kept_len : (ℕ → Bool) → List ℕ → ℕ
+kept_len drops [] = 0
+kept_len drops (byte ∷ bytes) = if kept_len drops bytes == 0 && drops byte then 0 else 1 + kept_len drops bytes
+
+abbrev pub kept : (ℕ → Bool) → List ℕ → List ℕ
+kept drops text = take (kept_len drops text) text

@@ -1,7 +1,12 @@
 pub mod Cut
 pub mod Emits
+pub mod Says
 pub mod Forms
+pub mod Arguments
+pub mod Tokens
 pub mod Words
+pub mod Sentences
 pub mod FieldText
+pub mod FieldUnits
 pub mod Fields
 pub mod Prose

@@ -1,15 +1,12 @@
--- The lines of a page as pieces and messages: text, TH, SH and paragraphs. Source: man(7); roff(7); mandoc(1), "DIAGNOSTICS".
-use Rattle.std.specs.Prelude.{ℕ, zero, suc, ◌+◌, ◌-◌, ◌/◌, ◌^◌, ◌<◌, Bool, true, false, not, ◌==◌, ◌||◌, ◌&&◌, nat_lt, List, [], ◌∷◌, ◌++◌, length, take, drop, codes, if◌then◌else◌, Option, None, Some, unwrap_or, sum_by}
+-- The lines of a page as pieces and messages: text, TH, SH, paragraphs and requests. Source: man(7); roff(7); mandoc(1), "DIAGNOSTICS".
+use Rattle.std.specs.Prelude.{ℕ, ◌+◌, ◌-◌, ◌/◌, ◌≤◌, Bool, true, false, not, ◌==◌, ◌||◌, ◌&&◌, nat_lt, List, [], ◌∷◌, ◌++◌, length, take, drop, codes, if◌then◌else◌, unwrap_or, slice_index_or}
 use Rattle.std.specs.List.{flat_map}
-use Rattle.page_core.specs.Messages.{Message}
-use Rattle.page_core.specs.Pieces.{Item, shown, noted}
+use Rattle.page_core.specs.Pieces.{Item, shown}
 use Rattle.page_core.specs.declared.note_kinds.NoteKind.{NoteKind}
-use Rattle.page_core.specs.declared.note_kinds.NoteKind.TheVariants.{TrailingBlank, Limit, MissingTitle, UnknownSection, MissingDate, LateMacro, NoBody, BeforeSection, SkipPara, EmptyMacro, BlankFill, UndefEscape, Unterminated, UnknownMacro}
-use Rattle.page_core.specs.declared.cells.Font.{Font}
+use Rattle.page_core.specs.declared.note_kinds.NoteKind.TheVariants.{TrailingBlank, Limit, MissingTitle, UnknownSection, MissingDate, LateMacro, NoBody, BeforeSection, SkipPara, EmptyMacro, BlankFill, Unterminated, UnknownMacro}
 use Rattle.page_core.specs.declared.cells.Font.TheVariants.{R, B}
 use Rattle.page_core.specs.declared.pieces.Place.{Place}
-use Rattle.page_core.specs.declared.pieces.Piece.{Piece}
-use Rattle.page_core.specs.declared.pieces.Piece.TheVariants.{Text, Char, Blank, Break, Para, Space, Indent, Literal, Heading, Column}
+use Rattle.page_core.specs.declared.pieces.Piece.TheVariants.{Char, Blank, Break, Para, Space, Indent, Literal, Heading, Column}
 use Rattle.page_core.specs.declared.page_settings.Settings.{Settings}
 use Rattle.std.specs.Str.{bytes_eq}
 use Rattle.std.specs.Borrow.{Bor}
@@ -17,63 +14,24 @@ use Rattle.page_prose.specs.declared.prose.Prose.{Prose}
 use Rattle.page_prose.specs.declared.forms.Form.{Form}
 use Rattle.page_prose.specs.declared.forms.Form.TheVariants.{Nothing, BlankLine, Words, Call}
 use Rattle.page_prose.specs.declared.macros.Macro.{Macro}
-use Rattle.page_prose.specs.declared.macros.Macro.TheVariants.{Empty, Title, Section, Paragraph, Unknown}
-use Rattle.page_prose.specs.Cut.{Part, parts, placed, text_front}
+use Rattle.page_prose.specs.declared.macros.Macro.TheVariants.{Empty, Title, Section, Paragraph, EndRow, NoFill, Fill, SetFont, Unknown}
+use Rattle.page_prose.specs.Cut.{Part, parts, placed}
 use Rattle.std.specs.List.{prefix_len}
-use Rattle.page_prose.specs.Forms.{is_white, is_blank, is_name, without_comment}
-use Rattle.page_prose.specs.Words.{argument_len, chunk_len, begins_blank, begins_white, begins_quoted, unit_len, is_closed, argument_text}
+use Rattle.page_prose.specs.Forms.{is_white, is_blank, is_name, without_comment, kept_len}
+use Rattle.page_prose.specs.Arguments.{argument_len, begins_blank, begins_quoted, is_closed, argument_text}
 use Rattle.page_prose.specs.FieldText.{FieldText}
+use Rattle.page_prose.specs.FieldUnits.{field_pieces, field_columns}
+use Rattle.page_prose.specs.Says.{at, says}
+use Rattle.page_prose.specs.Sentences.{is_sentence}
+use Rattle.page_core.specs.declared.texts.TheConstants.{LINE}
+use Rattle.page_prose.specs.Tokens.{TextToken, tokens_of}
+use Rattle.page_prose.specs.declared.walks.Fonts.{Fonts}
+use Rattle.page_prose.specs.declared.walks.Style.{Style}
+use Rattle.page_prose.specs.declared.walks.Walk.{Walk}
+use Rattle.page_prose.specs.Words.{face_fonts, face_notes, white_cells, words_items, walk_from, walk_through}
+use Rattle.page_core_escapes.specs.Meanings.{Face, face_of}
 use Rattle.page_prose.specs.declared.fields.Fields.{Fields}
-use Rattle.page_prose.specs.Fields.{no_fields, fields_of, is_cut}
-
-abbrev pub at : ℕ → ℕ → Place
-at line column = record { line = line; column = column }
-
-abbrev pub says : NoteKind → ℕ → ℕ → List ℕ → Item
-says kind line column detail = noted (record { kind = kind; line = line; column = column; detail = text_front 64 detail })
-
--- ---- words: a unit is a run of plain characters, a pair of quotes in a quoted argument, or an escape
-
-abbrev pub escape_pieces : Font → Place → List ℕ → List Item
-escape_pieces font place [] = []
-escape_pieces font place (next ∷ bytes) = shown (Char next font place) ∷ []
-
-abbrev pub unit_pieces : Bool → Font → Place → List ℕ → List Item
-unit_pieces quoted font place [] = []
-unit_pieces quoted font place (byte ∷ bytes) =
-    if byte == 92 then escape_pieces font place bytes
-    else if quoted && byte == 34 then shown (Char 34 font place) ∷ []
-    else shown (Text (byte ∷ bytes) font place) ∷ []
-
--- an escape but \- is undefined, and prints its character
-abbrev pub is_undefined : List ℕ → Bool
-is_undefined [] = false
-is_undefined (byte ∷ []) = false
-is_undefined (byte ∷ next ∷ bytes) = byte == 92 && not (next == 45)
-
-abbrev pub unit_notes : Place → List ℕ → List Item
-unit_notes place unit = if is_undefined unit then says UndefEscape place.line place.column unit ∷ [] else []
-
-abbrev pub units_of : Bool → List ℕ → List (List ℕ)
-units_of quoted text = parts (unit_len quoted) text
-
-abbrev pub text_pieces : Bool → Font → Place → List ℕ → List Item
-text_pieces quoted font place text = flat_map (unit_pieces quoted font place) (units_of quoted text)
-
-abbrev pub text_notes : Bool → Place → List ℕ → List Item
-text_notes quoted place text = flat_map (unit_notes place) (units_of quoted text)
-
--- a word: its messages, its characters, and the blank behind it
-abbrev pub word_items : Bool → Font → Place → List ℕ → List Item
-word_items quoted font place text =
-    text_notes quoted place text ++ (text_pieces quoted font place text ++ shown (Blank 1 false) ∷ [])
-
--- the words of a text line or an argument; its blanks and tabs part them
-abbrev pub chunk_items : Bool → Font → ℕ → Part → List Item
-chunk_items quoted font line chunk = if begins_white chunk.text then [] else word_items quoted font (at line chunk.column) chunk.text
-
-abbrev pub words_items : Bool → Font → ℕ → ℕ → List ℕ → List Item
-words_items quoted font line column text = flat_map (chunk_items quoted font line) (placed column (parts chunk_len text))
+use Rattle.page_prose.specs.Fields.{no_fields, fields_of, is_cut, arguments}
 
 -- whether a text has a word
 abbrev pub has_word : List ℕ → Bool
@@ -88,16 +46,32 @@ closing_items line argument = if not (is_closed argument.text) then says Untermi
 abbrev pub argument_column : Part → ℕ
 argument_column argument = if begins_quoted argument.text then argument.column + 1 else argument.column
 
-abbrev pub argument_items : Font → ℕ → Part → List Item
-argument_items font line argument =
-    closing_items line argument ++ words_items (begins_quoted argument.text) font line (argument_column argument) (argument_text argument.text)
+-- the words of an argument, and the blank behind it
+abbrev pub argument_style : Part → Style
+argument_style argument = record { is_quoted = begins_quoted argument.text; is_literal = false }
 
--- the words of a macro's arguments, which begin at a column; the blanks between them give nothing
-abbrev pub argument_part : Font → ℕ → Part → List Item
-argument_part font line part = if begins_blank part.text then [] else argument_items font line part
+abbrev pub argument_tokens : Part → List TextToken
+argument_tokens argument = tokens_of (begins_quoted argument.text) (argument_text argument.text)
 
-abbrev pub arguments_items : Font → ℕ → ℕ → List ℕ → List Item
-arguments_items font line column rest = flat_map (argument_part font line) (placed column (parts argument_len rest))
+abbrev pub argument_walk : Fonts → Part → Walk
+argument_walk fonts argument = walk_from fonts (argument_column argument)
+
+abbrev pub argument_words : Fonts → ℕ → Part → List Item
+argument_words fonts line argument =
+    closing_items line argument
+    ++ (words_items (argument_style argument) line (argument_walk fonts argument) (argument_tokens argument) ++ shown (Blank 1 false) ∷ [])
+
+-- the blanks between arguments give nothing
+abbrev pub argument_items : Fonts → ℕ → Part → List Item
+argument_items fonts line part = if begins_blank part.text then [] else argument_words fonts line part
+
+abbrev pub argument_fonts : Fonts → Part → Fonts
+argument_fonts fonts part =
+    if begins_blank part.text then fonts else (walk_through (argument_walk fonts part) (argument_tokens part)).fonts
+
+abbrev pub arguments_items : Fonts → ℕ → List Part → List Item
+arguments_items fonts line [] = []
+arguments_items fonts line (part ∷ parts) = argument_items fonts line part ++ arguments_items (argument_fonts fonts part) line parts
 
 -- the messages alone
 abbrev pub closings_items : ℕ → ℕ → List ℕ → List Item
@@ -107,20 +81,6 @@ abbrev pub has_arguments : List ℕ → Bool
 has_arguments rest = nat_lt (prefix_len is_blank rest) (length rest)
 
 -- ---- header and footer
-
-abbrev pub field_pieces : Place → FieldText → List Item
-field_pieces place f = text_pieces f.quoted R place f.text
-
--- the columns that a unit and a field print
-abbrev pub unit_columns : Bool → List ℕ → ℕ
-unit_columns quoted [] = 0
-unit_columns quoted (byte ∷ bytes) =
-    if byte == 92 then length bytes
-    else if quoted && byte == 34 then 1
-    else length (byte ∷ bytes)
-
-abbrev pub field_columns : FieldText → ℕ
-field_columns f = sum_by (unit_columns f.quoted) (units_of f.quoted f.text)
 
 -- title(section)
 abbrev pub name_pieces : Place → Fields → List Item
@@ -202,8 +162,8 @@ form_of text = if has_word text then body_form (without_comment text) else Blank
 abbrev pub IsShort : Form (List ℕ) → Type 0
 IsShort Nothing = Unit {0}
 IsShort BlankLine = Unit {0}
-IsShort (Words text) = length text < 2 ^ 32 - 2
-IsShort (Call name column rest rest_column) = rest_column + length rest < 2 ^ 32 - 1
+IsShort (Words text) = length text ≤ LINE
+IsShort (Call name column rest rest_column) = (length rest ≤ LINE) × (rest_column + length rest ≤ LINE + 1)
 
 -- ---- what lines give, after what was given before
 
@@ -214,28 +174,77 @@ begin_items p line = if p.has_begun then [] else header_items p.width p.indent l
 abbrev pub begin_otherwise : Prose → ℕ → List Item
 begin_otherwise p line = if p.has_begun then [] else (header_items p.width p.indent line p.fields ++ says BeforeSection line 1 [] ∷ [])
 
--- a text line: blanks at its front break the row and are kept
-abbrev pub blanks_items : ℕ → ℕ → ℕ → List Item
-blanks_items line column zero = []
-blanks_items line column (suc n) = shown (Text (32 ∷ []) R (at line column)) ∷ blanks_items line (column + 1) n
+-- ---- text lines
 
-abbrev pub break_items : List ℕ → List Item
-break_items text = if nat_lt 0 (prefix_len is_white text) then shown Break ∷ [] else []
+-- where rows are filled, blanks at a line's front break the row and are kept
+abbrev pub front_len : Prose → List ℕ → ℕ
+front_len p text = if p.is_literal then 0 else prefix_len is_white text
 
-abbrev pub text_items : ℕ → List ℕ → List Item
-text_items line text = break_items text ++ (blanks_items line 1 (prefix_len is_white text) ++ words_items false R line 1 text)
+abbrev pub kept_white : ℕ → List ℕ → List Item
+kept_white line white = shown Break ∷ white_cells (at line (1 + length white)) white
 
+abbrev pub white_front : ℕ → List ℕ → List Item
+white_front line white = if length white == 0 then [] else kept_white line white
+
+abbrev pub front_items : Prose → ℕ → List ℕ → List Item
+front_items p line text = white_front line (take (front_len p text) text)
+
+abbrev pub text_tokens : Prose → List ℕ → List TextToken
+text_tokens p text = tokens_of false (drop (front_len p text) text)
+
+abbrev pub text_style : Prose → Style
+text_style p = record { is_quoted = false; is_literal = p.is_literal }
+
+abbrev pub text_start : Prose → List ℕ → Walk
+text_start p text = walk_from p.fonts (1 + front_len p text)
+
+abbrev pub text_walk : Prose → List ℕ → Walk
+text_walk p text = walk_through (text_start p text) (text_tokens p text)
+
+-- a row that is kept as it is ends with its line, also one without a cell
+abbrev pub row_items : Bool → List Item
+row_items has_cells = if has_cells then shown Break ∷ [] else shown (Space 1) ∷ []
+
+-- blanks stand behind a line, two behind a sentence
+abbrev pub sentence_blanks : List ℕ → ℕ
+sentence_blanks text = if is_sentence text then 2 else 1
+
+abbrev pub line_end_items : Prose → List ℕ → Walk → List Item
+line_end_items p text walk =
+    if walk.glues then []
+    else if p.is_literal then row_items (p.has_cells || walk.prints)
+    else shown (Blank (sentence_blanks text) false) ∷ []
+
+abbrev pub text_items : Prose → ℕ → List ℕ → List Item
+text_items p line text =
+    front_items p line text
+    ++ (words_items (text_style p) line (text_start p text) (text_tokens p text) ++ line_end_items p text (text_walk p text))
+
+-- a line without a word breaks the row, or is one that is kept as it is
 abbrev pub text_line : Prose → ℕ → List ℕ → List Item
-text_line p line text = if has_word text then (begin_otherwise p line ++ text_items line text) else break_items text
+text_line p line text =
+    if has_word text || p.is_literal then (begin_otherwise p line ++ text_items p line text) else shown Break ∷ []
 
 -- a blank line of the body
-abbrev pub blank_line : Prose → ℕ → List Item
-blank_line p line = if p.has_begun then says BlankFill line 1 [] ∷ (shown (Space 1) ∷ []) else []
+abbrev pub blank_row : Prose → ℕ → List Item
+blank_row p line = if p.is_literal then row_items p.has_cells else (says BlankFill line 1 [] ∷ (shown (Space 1) ∷ []))
 
--- a section header
+abbrev pub blank_line : Prose → ℕ → List Item
+blank_line p line = if p.has_begun then blank_row p line else []
+
+-- ---- macros
+
+-- a section header is bold
+abbrev pub roman_fonts : Fonts
+roman_fonts = record { font = R; former = R }
+
+abbrev pub heading_fonts : Fonts
+heading_fonts = record { font = B; former = R }
+
 abbrev pub heading_items : Prose → ℕ → List ℕ → ℕ → List Item
 heading_items p line rest rest_column =
-    shown (Para 1) ∷ (shown (Indent 0 0) ∷ (arguments_items B line rest_column rest ++ (shown Heading ∷ (shown (Indent p.indent p.indent) ∷ []))))
+    shown (Para 1) ∷ (shown (Literal false) ∷ (shown (Indent 0 0)
+    ∷ (arguments_items heading_fonts line (placed rest_column (parts argument_len rest)) ++ (shown Heading ∷ (shown (Indent p.indent p.indent) ∷ [])))))
 
 abbrev pub section_line : Prose → ℕ → List ℕ → ℕ → List ℕ → ℕ → List Item
 section_line p line name column rest rest_column =
@@ -264,7 +273,27 @@ title_items p line name column rest = if p.has_begun then says LateMacro line co
 abbrev pub title_line : Prose → ℕ → List ℕ → ℕ → List ℕ → ℕ → List Item
 title_line p line name column rest rest_column = closings_items line rest_column rest ++ title_items p line name column rest
 
--- which macro a name is
+-- ---- requests: roff(7), br, nf, fi and ft
+
+-- the font that a request names, none: the former one
+abbrev pub font_name : List ℕ → Face
+font_name rest = face_of (argument_text (slice_index_or (arguments rest) 0 []))
+
+abbrev pub effect_of : Macro → Place → List ℕ → List Item
+effect_of EndRow place rest = shown Break ∷ []
+effect_of NoFill place rest = shown Break ∷ (shown (Literal true) ∷ [])
+effect_of Fill place rest = shown Break ∷ (shown (Literal false) ∷ [])
+effect_of SetFont place rest = face_notes place (font_name rest)
+effect_of _ place rest = []
+
+-- a request has no effect before the body
+abbrev pub effect_items : Prose → List Item → List Item
+effect_items p items = if p.has_begun then items else []
+
+abbrev pub request_line : Prose → Place → List ℕ → ℕ → Macro → List Item
+request_line p place rest rest_column called = closings_items place.line rest_column rest ++ effect_items p (effect_of called place rest)
+
+-- which macro or request a name is
 abbrev pub macro_of : List ℕ → Macro
 macro_of name =
     if length name == 0 then Empty
@@ -273,6 +302,10 @@ macro_of name =
     else if bytes_eq name (codes "PP") then Paragraph
     else if bytes_eq name (codes "LP") then Paragraph
     else if bytes_eq name (codes "P") then Paragraph
+    else if bytes_eq name (codes "br") then EndRow
+    else if bytes_eq name (codes "nf") then NoFill
+    else if bytes_eq name (codes "fi") then Fill
+    else if bytes_eq name (codes "ft") then SetFont
     else Unknown
 
 abbrev pub macro_line : Macro → Prose → ℕ → List ℕ → ℕ → List ℕ → ℕ → List Item
@@ -280,6 +313,10 @@ macro_line Empty p line name column rest rest_column = []
 macro_line Title p line name column rest rest_column = title_line p line name column rest rest_column
 macro_line Section p line name column rest rest_column = section_line p line name column rest rest_column
 macro_line Paragraph p line name column rest rest_column = paragraph_line p line name column rest rest_column
+macro_line EndRow p line name column rest rest_column = request_line p (at line column) rest rest_column EndRow
+macro_line NoFill p line name column rest rest_column = request_line p (at line column) rest rest_column NoFill
+macro_line Fill p line name column rest rest_column = request_line p (at line column) rest rest_column Fill
+macro_line SetFont p line name column rest rest_column = request_line p (at line column) rest rest_column SetFont
 macro_line Unknown p line name column rest rest_column = says UnknownMacro line column name ∷ []
 
 unfoldable pub form_items : Prose → ℕ → Form (List ℕ) → List Item
@@ -288,33 +325,75 @@ form_items p line BlankLine = blank_line p line
 form_items p line (Words text) = text_line p line text
 form_items p line (Call name column rest rest_column) = macro_line (macro_of name) p line name column rest rest_column
 
--- the bytes up to the white space at a line's end
-abbrev pub kept_len : List ℕ → ℕ
-kept_len [] = 0
-kept_len (byte ∷ bytes) = if kept_len bytes == 0 && is_white byte then 0 else 1 + kept_len bytes
-
+-- white space at a line's end
 abbrev pub trailing_items : ℕ → List ℕ → List Item
-trailing_items line text = if nat_lt (kept_len text) (length text) then says TrailingBlank line (kept_len text + 1) [] ∷ [] else []
+trailing_items line text = if nat_lt (kept_len is_white text) (length text) then says TrailingBlank line (kept_len is_white text + 1) [] ∷ [] else []
 
 unfoldable pub line_items : Prose → ℕ → List ℕ → List Item
 line_items p line text = trailing_items line text ++ form_items p line (form_of text)
 
 -- ---- what a line leaves
 
-abbrev pub with_content : Prose → Prose
-with_content p = record p { has_begun = true; has_content = true }
+abbrev pub blank_line_after : Prose → Prose
+blank_line_after p = if p.has_begun then record p { has_content = true; has_cells = false } else p
+
+-- the fonts are those of a paragraph, and no row is open
+abbrev pub plain_again : Prose → Prose
+plain_again p = record p { fonts = roman_fonts; has_cells = false }
+
+abbrev pub section_after : Prose → Prose
+section_after p = record (plain_again p) { has_begun = true; has_content = false; is_literal = false }
+
+abbrev pub paragraph_after : Prose → Prose
+paragraph_after p = record (if p.has_content then plain_again p else p) { has_begun = true }
+
+abbrev pub filling_after : Bool → Prose → Prose
+filling_after literal p = record p { is_literal = literal; has_cells = false }
+
+abbrev pub request_after : Macro → Prose → List ℕ → Prose
+request_after EndRow p rest = record p { has_cells = false }
+request_after NoFill p rest = filling_after true p
+request_after Fill p rest = filling_after false p
+request_after SetFont p rest = record p { fonts = face_fonts (font_name rest) p.fonts }
+request_after _ p rest = p
 
 abbrev pub macro_after : Macro → Prose → List ℕ → Prose
 macro_after Empty p rest = p
 macro_after Title p rest = if p.has_begun then p else record p { fields = fields_of p.os.bytes rest }
-macro_after Section p rest = if has_arguments rest then record p { has_begun = true; has_content = false } else p
-macro_after Paragraph p rest = record p { has_begun = true }
+macro_after Section p rest = if has_arguments rest then section_after p else p
+macro_after Paragraph p rest = paragraph_after p
+macro_after EndRow p rest = if p.has_begun then request_after EndRow p rest else p
+macro_after NoFill p rest = if p.has_begun then request_after NoFill p rest else p
+macro_after Fill p rest = if p.has_begun then request_after Fill p rest else p
+macro_after SetFont p rest = if p.has_begun then request_after SetFont p rest else p
 macro_after Unknown p rest = p
+
+-- a text line leaves its fonts; a row that is kept as it is stays open where the line's end glues the next one
+abbrev pub text_after : Prose → List ℕ → Walk → Prose
+text_after p text walk = record p {
+  fonts = walk.fonts;
+  has_begun = true;
+  has_content = p.has_content || has_word text;
+  has_cells = (p.is_literal && walk.glues) && (p.has_cells || walk.prints);
+}
+
+abbrev pub line_walk : Prose → List ℕ → Walk
+line_walk p text = if has_word text || p.is_literal then text_walk p text else walk_from p.fonts 1
+
+abbrev pub words_after : Prose → List ℕ → Walk → Prose
+words_after p text walk = if has_word text || p.is_literal then text_after p text walk else p
+
+-- the walk through the words of a text line
+abbrev pub form_walk : Prose → Form (List ℕ) → Walk
+form_walk p Nothing = walk_from p.fonts 1
+form_walk p BlankLine = walk_from p.fonts 1
+form_walk p (Words text) = line_walk p text
+form_walk p (Call name column rest rest_column) = walk_from p.fonts 1
 
 unfoldable pub form_after : Prose → Form (List ℕ) → Prose
 form_after p Nothing = p
-form_after p BlankLine = if p.has_begun then with_content p else p
-form_after p (Words text) = if has_word text then with_content p else p
+form_after p BlankLine = blank_line_after p
+form_after p (Words text) = words_after p text (line_walk p text)
 form_after p (Call name column rest rest_column) = macro_after (macro_of name) p rest
 
 abbrev pub line_after : Prose → List ℕ → Prose
@@ -335,4 +414,4 @@ footer_items p line blank_rows =
 
 -- the start of a page
 abbrev pub start_of : Settings → Prose
-start_of s = record { width = s.width; indent = unwrap_or s.indent 7; os = s.os; fields = no_fields s.os.bytes; has_begun = false; has_content = false }
+start_of s = record { width = s.width; indent = unwrap_or s.indent 7; os = s.os; fields = no_fields s.os.bytes; fonts = roman_fonts; is_literal = false; has_cells = false; has_begun = false; has_content = false }

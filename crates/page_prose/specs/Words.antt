@@ -1,82 +1,146 @@
--- Words and arguments. Source: roff(7), "LANGUAGE SYNTAX" and "Macro syntax" (arguments, quotes).
-use Rattle.std.specs.Prelude.{ℕ, ◌+◌, ◌-◌, Bool, true, false, not, ◌==◌, nat_lt, ◌||◌, ◌&&◌, List, [], ◌∷◌, ◌++◌, length, take, drop, if◌then◌else◌}
-use Rattle.std.specs.List.{prefix_len}
-use Rattle.page_prose.specs.Forms.{is_white, is_blank}
+-- Words as pieces and messages, with their fonts. Source: roff(7), "ESCAPE SEQUENCES", `\f`, `\c`; mandoc(1), "DIAGNOSTICS".
+use Rattle.std.specs.Prelude.{ℕ, ◌+◌, Bool, true, false, ◌==◌, ◌||◌, List, [], ◌∷◌, ◌++◌, length, take, map, if◌then◌else◌, Option, None, Some, unwrap_or, is_some}
+use Rattle.std.specs.List.{list_any}
+use Rattle.page_core.specs.Pieces.{Item, shown}
+use Rattle.page_core.specs.declared.note_kinds.NoteKind.TheVariants.{UndefEscape, BadEscape, UnsuppEscape, UnknownFont}
+use Rattle.page_core.specs.declared.cells.Font.{Font}
+use Rattle.page_core.specs.declared.cells.Font.TheVariants.{R, I, B, BI}
+use Rattle.page_core.specs.declared.pieces.Place.{Place}
+use Rattle.page_core.specs.declared.pieces.Piece.{Piece}
+use Rattle.page_core.specs.declared.pieces.Piece.TheVariants.{Text, Glyph, Char, Tab, Blank}
+use Rattle.page_core_escapes.specs.Meanings as meanings
+use Rattle.page_core_escapes.specs.Meanings.{Face, Meaning}
+use Rattle.page_prose.specs.declared.walks.Fonts.{Fonts}
+use Rattle.page_prose.specs.declared.walks.Style.{Style}
+use Rattle.page_prose.specs.declared.walks.Walk.{Walk}
+use Rattle.page_prose.specs.Says.{at, says}
+use Rattle.page_prose.specs.Tokens.{TextToken, white, plain, quotes, escaped, token_bytes, is_space}
 
--- the bytes that part words: blanks, and tabs or not
-abbrev pub parts_words : Bool → ℕ → Bool
-parts_words tabs byte = byte == 32 || (tabs && byte == 9)
+-- ---- fonts
 
--- the bytes of a word at the front: up to a byte that parts words; a backslash and its next byte never part
-abbrev pub word_len : (ℕ → Bool) → List ℕ → ℕ
-word_len parts [] = 0
-word_len parts (byte ∷ []) = if parts byte then 0 else 1
-word_len parts (byte ∷ next ∷ bytes) =
-    if parts byte then 0
-    else if byte == 92 then 2 + word_len parts bytes
-    else 1 + word_len parts (next ∷ bytes)
+-- another font is in use
+abbrev pub with_font : Font → Fonts → Fonts
+with_font font fonts = record { font = font; former = fonts.font }
 
--- a text line is cut into words and what stands between them
-abbrev pub begins_white : List ℕ → Bool
-begins_white [] = false
-begins_white (byte ∷ bytes) = is_white byte
+abbrev pub face_fonts : Face → Fonts → Fonts
+face_fonts meanings.roman fonts = with_font R fonts
+face_fonts meanings.italic fonts = with_font I fonts
+face_fonts meanings.bold fonts = with_font B fonts
+face_fonts meanings.bold_italic fonts = with_font BI fonts
+face_fonts meanings.former fonts = with_font fonts.former fonts
+face_fonts (meanings.unknown name) fonts = fonts
 
-abbrev pub chunk_len : List ℕ → ℕ
-chunk_len text = if begins_white text then prefix_len is_white text else word_len is_white text
+abbrev pub meaning_fonts : Meaning → Fonts → Fonts
+meaning_fonts (meanings.face face) fonts = face_fonts face fonts
+meaning_fonts _ fonts = fonts
 
--- the bytes of a quoted argument behind its first quote, up to the next lone quote or the end; two quotes are no end
-abbrev pub quoted_len : List ℕ → ℕ
-quoted_len [] = 0
-quoted_len (byte ∷ []) = if byte == 34 then 0 else 1
-quoted_len (byte ∷ next ∷ bytes) =
-    if byte == 34 then (if next == 34 then 2 + quoted_len bytes else 0)
-    else 1 + quoted_len (next ∷ bytes)
+abbrev pub token_fonts : TextToken → Fonts → Fonts
+token_fonts (escaped bytes meaning) fonts = meaning_fonts meaning fonts
+token_fonts _ fonts = fonts
 
--- an argument at the front, with its quotes, or the blanks before one
-abbrev pub begins_quoted : List ℕ → Bool
-begins_quoted [] = false
-begins_quoted (byte ∷ bytes) = byte == 34
+-- ---- messages of a token
 
-abbrev pub begins_blank : List ℕ → Bool
-begins_blank [] = false
-begins_blank (byte ∷ bytes) = is_blank byte
+abbrev pub face_notes : Place → Face → List Item
+face_notes place (meanings.unknown name) = says UnknownFont place.line place.column name ∷ []
+face_notes place _ = []
 
--- the last quote, where there is one
-abbrev pub end_len : List ℕ → ℕ
-end_len [] = 0
-end_len (byte ∷ bytes) = 1
+-- blanks by an expression are not supported
+abbrev pub meaning_notes : Place → List ℕ → Meaning → List Item
+meaning_notes place bytes (meanings.undefined c) = says UndefEscape place.line place.column bytes ∷ []
+meaning_notes place bytes meanings.bad = says BadEscape place.line place.column bytes ∷ []
+meaning_notes place bytes meanings.unsupported = says UnsuppEscape place.line place.column (take 2 bytes) ∷ []
+meaning_notes place bytes (meanings.blanks expression) = says UnsuppEscape place.line place.column (take 2 bytes) ∷ []
+meaning_notes place bytes (meanings.face face) = face_notes place face
+meaning_notes place bytes _ = []
 
-abbrev pub quoted_argument_len : List ℕ → ℕ
-quoted_argument_len bytes = 1 + quoted_len bytes + end_len (drop (quoted_len bytes) bytes)
+abbrev pub token_notes : Place → TextToken → List Item
+token_notes place (escaped bytes meaning) = meaning_notes place bytes meaning
+token_notes place _ = []
 
-abbrev pub argument_len : List ℕ → ℕ
-argument_len text =
-    if begins_blank text then prefix_len is_blank text
-    else if begins_quoted text then quoted_argument_len (drop 1 text)
-    else word_len (parts_words false) text
+-- the messages of the word that these tokens begin with
+abbrev pub word_notes : Place → List TextToken → List Item
+word_notes place [] = []
+word_notes place (token ∷ tokens) = if is_space token then [] else (token_notes place token ++ word_notes place tokens)
 
--- a quoted argument without its quotes; whether it has its end
-abbrev pub quoted_text : List ℕ → List ℕ
-quoted_text argument = take (quoted_len (drop 1 argument)) (drop 1 argument)
+-- ---- what a token of a word prints
 
-abbrev pub argument_text : List ℕ → List ℕ
-argument_text argument = if begins_quoted argument then quoted_text argument else argument
+abbrev pub meaning_piece : Font → Place → Meaning → Option (Piece (List ℕ))
+meaning_piece font place (meanings.glyph name) = Some (Glyph name font place)
+meaning_piece font place (meanings.character c) = Some (Char c font place)
+meaning_piece font place meanings.tab = Some (Tab font place)
+meaning_piece font place meanings.blank = Some (Text (32 ∷ []) font place)
+meaning_piece font place (meanings.undefined c) = Some (Char c font place)
+meaning_piece font place _ = None
 
-abbrev pub is_closed : List ℕ → Bool
-is_closed argument = not (begins_quoted argument) || nat_lt (1 + quoted_len (drop 1 argument)) (length argument)
+abbrev pub token_piece : Font → Place → TextToken → Option (Piece (List ℕ))
+token_piece font place (white bytes) = None
+token_piece font place (plain bytes) = Some (Text bytes font place)
+token_piece font place (quotes bytes) = Some (Char 34 font place)
+token_piece font place (escaped bytes meaning) = meaning_piece font place meaning
 
--- a word is cut into runs of plain characters, escapes and, in a quoted argument, pairs of quotes
-abbrev pub is_plain : Bool → ℕ → Bool
-is_plain quoted byte = not (byte == 92 || (quoted && byte == 34))
+abbrev pub piece_items : Option (Piece (List ℕ)) → List Item
+piece_items None = []
+piece_items (Some piece) = shown piece ∷ []
 
-abbrev pub pair_len : List ℕ → ℕ
-pair_len [] = 0
-pair_len (byte ∷ []) = 1
-pair_len (byte ∷ next ∷ bytes) = 2
+abbrev pub token_prints : TextToken → Bool
+token_prints (white bytes) = true
+token_prints token = is_some (token_piece R (at 0 0) token)
 
-abbrev pub begins_plain : Bool → List ℕ → Bool
-begins_plain quoted [] = false
-begins_plain quoted (byte ∷ bytes) = is_plain quoted byte
+-- ---- white space
 
-abbrev pub unit_len : Bool → List ℕ → ℕ
-unit_len quoted text = if begins_plain quoted text then prefix_len (is_plain quoted) text else pair_len text
+-- blanks and tabs as cells
+abbrev pub white_piece : Place → ℕ → Piece (List ℕ)
+white_piece place byte = if byte == 9 then Tab R place else Text (32 ∷ []) R place
+
+abbrev pub white_cells : Place → List ℕ → List Item
+white_cells place bytes = map (λ byte. shown (white_piece place byte)) bytes
+
+abbrev pub has_tab : List ℕ → Bool
+has_tab bytes = list_any (λ byte. byte == 9) bytes
+
+-- it parts words, or is kept, as cells of the next word
+abbrev pub white_items : Bool → Place → List ℕ → List Item
+white_items literal place bytes = if literal then white_cells place bytes else shown (Blank 1 (has_tab bytes)) ∷ []
+
+-- ---- token by token
+
+abbrev pub is_glue : TextToken → Bool
+is_glue (escaped bytes meanings.glue) = true
+is_glue _ = false
+
+abbrev pub word_column : Walk → ℕ
+word_column walk = unwrap_or walk.word walk.column
+
+abbrev pub walk_after : Walk → TextToken → Walk
+walk_after walk token = record {
+  fonts = token_fonts token walk.fonts;
+  column = walk.column + length (token_bytes token);
+  word = if is_space token then None else Some (word_column walk);
+  glues = is_glue token;
+  prints = walk.prints || token_prints token;
+}
+
+abbrev pub walk_through : Walk → List TextToken → Walk
+walk_through walk [] = walk
+walk_through walk (token ∷ tokens) = walk_through (walk_after walk token) tokens
+
+-- where no word is open, one begins: its messages come first, then what it prints
+abbrev pub begun_notes : ℕ → Walk → TextToken → List TextToken → List Item
+begun_notes line walk token tokens =
+    if is_some walk.word then [] else (token_notes (at line walk.column) token ++ word_notes (at line walk.column) tokens)
+
+abbrev pub part_items : ℕ → Walk → TextToken → List TextToken → List Item
+part_items line walk token tokens =
+    begun_notes line walk token tokens ++ piece_items (token_piece walk.fonts.font (at line (word_column walk)) token)
+
+abbrev pub token_items : Style → ℕ → Walk → TextToken → List TextToken → List Item
+token_items style line walk (white bytes) tokens = white_items style.is_literal (at line (walk.column + length bytes)) bytes
+token_items style line walk token tokens = part_items line walk token tokens
+
+abbrev pub words_items : Style → ℕ → Walk → List TextToken → List Item
+words_items style line walk [] = []
+words_items style line walk (token ∷ tokens) = token_items style line walk token tokens ++ words_items style line (walk_after walk token) tokens
+
+-- the start of words at a column
+abbrev pub walk_from : Fonts → ℕ → Walk
+walk_from fonts column = record { fonts = fonts; column = column; word = None; glues = false; prints = false }

@@ -1,16 +1,42 @@
 //! The arguments of a macro (roff(7), "Macro syntax").
 
-ghost use Rattle.std.specs.Prelude.{◌≡◌, ◌≤◌, ◌<◌, ◌+◌, ◌-◌, ◌^◌, [], true, length, slice_index_or};
+ghost use Rattle.std.specs.Prelude.{◌≡◌, ◌≤◌, ◌<◌, ◌+◌, ◌-◌, ◌^◌, [], true, length, slice_index_or, IfOk};
 ghost use Rattle.std.specs.List.{prefix_len};
 ghost use Rattle.page_prose.specs.Emits.{Emits};
 ghost use Rattle.page_prose.specs.Forms.{is_blank};
-ghost use Rattle.page_prose.specs.Words.{quoted_len, quoted_argument_len, argument_len, argument_text, begins_blank, begins_quoted, is_closed};
+ghost use Rattle.page_prose.specs.Arguments.{parts_words, word_len, quoted_len, quoted_argument_len, argument_len, argument_text, begins_blank, begins_quoted, is_closed};
 ghost use Rattle.page_prose.specs.Fields.{arguments};
-ghost use Rattle.page_prose.specs.Prose.{closing_items, closings_items, argument_items, arguments_items, has_arguments, argument_part, argument_column};
+ghost use Rattle.page_prose.specs.Prose.{closing_items, closings_items, argument_items, argument_words, argument_walk, argument_tokens, argument_fonts, arguments_items, has_arguments, argument_column};
+ghost use Rattle.page_prose.specs.Words.{walk_through};
+ghost use Rattle.page_prose.specs.Cut.{parts, placed};
 
 use crate::details::say_if;
-use crate::words::{give_words, word_len};
-use page_core::{Fault, Font, NoteKind, PieceSink, Place};
+use crate::walks::{Fonts, Style, Walk};
+use crate::words::give_words;
+use page_core::{Fault, LINE, NoteKind, Piece, PieceSink, Place};
+
+// Whether a byte parts words: a blank, and a tab or not.
+fn parts_words(tabs: bool, byte: u8) -> bool
+    ensures { result ≡ parts_words tabs byte }
+{
+    byte == b' ' || (tabs && byte == b'\t')
+}
+
+// The number of bytes of the word at a text's front; tabs part words or not.
+fn word_len(tabs: bool, text: &[u8]) -> usize
+    ensures value { result ≡ word_len (parts_words tabs) text.now }
+    ensures within { result ≤ length text.now }
+{
+    let mut len = 0;
+    while len < text.len() && !parts_words(tabs, text[len]) {
+        if text[len] == b'\\' && len + 1 < text.len() {
+            len += 2;
+        } else {
+            len += 1;
+        }
+    }
+    len
+}
 
 // The number of bytes of a quoted argument behind its first quote, up to the next lone quote or the end.
 fn quoted_len(text: &[u8]) -> usize
@@ -55,8 +81,8 @@ pub(crate) fn has_arguments(rest: &[u8]) -> bool
     blank_len(rest) < rest.len()
 }
 
-// Whether a text begins with a quote.
-fn begins_quoted(text: &[u8]) -> bool
+/// Whether a text begins with a quote.
+pub(crate) fn begins_quoted(text: &[u8]) -> bool
     ensures value { result ≡ begins_quoted text.now }
     ensures some { result ≡ true → 0 < length text.now }
 {
@@ -189,55 +215,68 @@ pub(crate) fn note_closings<O: PieceSink>(
     Ok(())
 }
 
-// Gives the words of an argument; blanks give nothing.
+// Gives the words of an argument; blanks give nothing. The fonts after it.
 fn give_argument<O: PieceSink>(
     out: &mut O,
-    font: Font,
+    fonts: Fonts,
     place: Place,
     raw: &[u8],
-) -> Result<(), Fault>
-    requires { place.column + length raw.now < 2 ^ 32 - 1 }
-    ensures gives { Emits result O.gave O.broke out.old (argument_part font place.line (record { text = raw.now; column = place.column })) out.new }
+) -> Result<Fonts, Fault>
+    requires short { length raw.now ≤ LINE }
+    requires room { place.column + length raw.now ≤ LINE + 1 }
+    ensures gives { Emits result O.gave O.broke out.old (argument_items fonts place.line (record { text = raw.now; column = place.column })) out.new }
+    ensures fonts { IfOk result (λ after. after ≡ argument_fonts fonts (record { text = raw.now; column = place.column })) }
     ensures same { O.loans out.new ≡ O.loans out.old }
 {
     if begins_blank(raw) {
-        return Ok(());
+        return Ok(fonts);
     }
-    give_argument_words(out, font, place, raw)
+    let walk = give_argument_words(out, fonts, place, raw)?;
+    Ok(walk.fonts)
 }
 
-// Gives the words of an argument.
+// Gives the words of an argument, and the blank behind it.
 fn give_argument_words<O: PieceSink>(
     out: &mut O,
-    font: Font,
+    fonts: Fonts,
     place: Place,
     raw: &[u8],
-) -> Result<(), Fault>
-    requires { place.column + length raw.now < 2 ^ 32 - 1 }
-    ensures gives { Emits result O.gave O.broke out.old (argument_items font place.line (record { text = raw.now; column = place.column })) out.new }
+) -> Result<Walk, Fault>
+    requires short { length raw.now ≤ LINE }
+    requires room { place.column + length raw.now ≤ LINE + 1 }
+    ensures gives { Emits result O.gave O.broke out.old (argument_words fonts place.line (record { text = raw.now; column = place.column })) out.new }
+    ensures walk { IfOk result (λ walk. walk ≡ walk_through (argument_walk fonts (record { text = raw.now; column = place.column })) (argument_tokens (record { text = raw.now; column = place.column }))) }
     ensures same { O.loans out.new ≡ O.loans out.old }
 {
     let argument = unquote(raw, place.column);
-    let here = Place {
-        line: place.line,
-        column: argument.column,
+    let style = Style {
+        is_quoted: argument.is_quoted,
+        is_literal: false,
     };
+    let start = Walk::from(fonts, argument.column);
     note_closing(out, place, raw)?;
-    give_words(out, argument.is_quoted, font, here, argument.text)
+    let walk = give_words(out, style, place.line, start, argument.text)?;
+    out.piece(Piece::Blank {
+        count: 1,
+        has_tab: false,
+    })?;
+    Ok(walk)
 }
 
 /// Gives the words of a macro's arguments.
 pub(crate) fn give_arguments<O: PieceSink>(
     out: &mut O,
-    font: Font,
+    fonts: Fonts,
     place: Place,
     rest: &[u8],
 ) -> Result<(), Fault>
-    requires { place.column + length rest.now < 2 ^ 32 - 1 }
-    ensures gives { Emits result O.gave O.broke out.old (arguments_items font place.line place.column rest.now) out.new }
+    requires short { length rest.now ≤ LINE }
+    requires room { place.column + length rest.now ≤ LINE + 1 }
+    ensures gives { Emits result O.gave O.broke out.old (arguments_items fonts place.line (placed place.column (parts argument_len rest.now))) out.new }
     ensures same { O.loans out.new ≡ O.loans out.old }
 {
     let mut rest = rest;
+    let mut fonts = fonts;
     let mut column = place.column;
     while !rest.is_empty() {
         let len = argument_len(rest);
@@ -245,7 +284,7 @@ pub(crate) fn give_arguments<O: PieceSink>(
             line: place.line,
             column,
         };
-        give_argument(out, font, here, &rest[..len])?;
+        fonts = give_argument(out, fonts, here, &rest[..len])?;
         rest = &rest[len..];
         column += len as u32;
     }

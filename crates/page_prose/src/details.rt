@@ -5,7 +5,7 @@ ghost use Rattle.page_core.specs.Pieces.{noted};
 ghost use Rattle.page_core.specs.MessageBytes.{message_of};
 ghost use Rattle.page_prose.specs.Cut.{text_front};
 ghost use Rattle.page_prose.specs.Emits.{Emits};
-ghost use Rattle.page_prose.specs.Prose.{says};
+ghost use Rattle.page_prose.specs.Says.{says};
 
 use arrayvec::ArrayString;
 use page_core::{DETAIL, Fault, Note, NoteKind, PieceSink};

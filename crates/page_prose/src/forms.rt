@@ -2,8 +2,10 @@
 
 ghost use Rattle.std.specs.Prelude.{◌≡◌, ◌≤◌, ◌<◌, ◌-◌, ◌^◌, length, take, ℕ, Bool};
 ghost use Rattle.std.specs.List.{prefix_len};
-ghost use Rattle.page_prose.specs.Forms.{is_white, is_name, without_comment};
-ghost use Rattle.page_prose.specs.Prose.{has_word, kept_len, IsShort, form_view, call_of, form_of};
+ghost use Rattle.page_prose.specs.Forms.{is_white, is_name, kept_len, without_comment};
+ghost use Rattle.page_prose.specs.Prose.{has_word, IsShort, form_view, call_of, form_of};
+
+use page_core::LINE;
 
 /// Whether a byte is a blank or a tab.
 pub(crate) fn is_white(byte: u8) -> bool
@@ -62,7 +64,7 @@ pub(crate) fn has_word(text: &[u8]) -> bool
 
 /// The number of bytes of a line up to the blanks and tabs at its end.
 pub(crate) fn kept_len(line: &[u8]) -> usize
-    ensures value { result ≡ kept_len line.now }
+    ensures value { result ≡ kept_len is_white line.now }
     ensures within { result ≤ length line.now }
 {
     let mut len = line.len();
@@ -92,7 +94,7 @@ pub enum Form<W> {
 
 // The macro that a line calls, of which the bytes behind the control character are given.
 fn call_of(bytes: &[u8]) -> Form<&[u8]>
-    requires { length bytes.now < 2 ^ 32 - 3 }
+    requires { length bytes.now < LINE }
     ensures value { form_view result ≡ call_of bytes.now }
     ensures short { IsShort (form_view result) }
 {
@@ -107,9 +109,9 @@ fn call_of(bytes: &[u8]) -> Form<&[u8]>
     }
 }
 
-/// The form of a line of fewer than 2^32 - 2 bytes.
+/// The form of a line of at most [`LINE`] bytes.
 pub(crate) fn form_of(line: &[u8]) -> Form<&[u8]>
-    requires { length line.now < 2 ^ 32 - 2 }
+    requires { length line.now ≤ LINE }
     ensures value { form_view result ≡ form_of line.now }
     ensures short { IsShort (form_view result) }
 {

@@ -5,11 +5,12 @@ ghost use Rattle.page_core.specs.Pieces.{shown};
 ghost use Rattle.page_core.specs.declared.pieces.Piece.TheVariants.{Char};
 ghost use Rattle.page_core.specs.declared.cells.Font.TheVariants.{R};
 ghost use Rattle.page_prose.specs.Emits.{Emits};
-ghost use Rattle.page_prose.specs.Prose.{unit_columns, field_columns, name_columns, center_column, right_column, field_pieces, name_pieces, row_start, row_end, other_parts, header_row, footer_row, if_empty, header_notes, header_items};
+ghost use Rattle.page_prose.specs.FieldUnits.{unit_columns, field_columns, field_pieces};
+ghost use Rattle.page_prose.specs.Prose.{name_columns, center_column, right_column, name_pieces, row_start, row_end, other_parts, header_row, footer_row, if_empty, header_notes, header_items};
 
 use crate::details::say_if;
+use crate::field_units::{give_text, unit_len};
 use crate::fields::{Field, Fields};
-use crate::words::{give_text, unit_len};
 use page_core::{Fault, Font, NoteKind, Piece, PieceSink, Place};
 
 // The columns that a unit of a field prints.

@@ -1,25 +1,29 @@
-//! The body of a page: text, titles, section headers and paragraphs become pieces and messages (man(7)).
+//! The body of a page: text, titles, section headers, paragraphs and requests become pieces and messages (man(7), roff(7)).
 
-ghost use Rattle.std.specs.Prelude.{◌≡◌, ◌≤◌, ◌<◌, ◌+◌, ◌-◌, ◌^◌, ◌++◌, [], ◌∷◌, length, OnOk, if◌then◌else◌, ◌==◌};
+ghost use Rattle.std.specs.Prelude.{◌≡◌, ◌≤◌, ◌<◌, ◌+◌, ◌-◌, ◌^◌, ◌++◌, [], ◌∷◌, length, OnOk, IfOk, if◌then◌else◌, ◌==◌};
 ghost use Rattle.std.specs.List.{prefix_len};
 ghost use Rattle.page_core.specs.Checks.{IsGood};
 ghost use Rattle.page_core.specs.Pieces.{shown, piece_of};
 ghost use Rattle.page_prose.specs.Emits.{Emits};
-ghost use Rattle.page_prose.specs.Forms.{is_white};
+ghost use Rattle.page_core_escapes.specs.Escapes.{face_seen};
 ghost use Rattle.page_core.specs.declared.pieces.Piece.TheVariants.{Space};
 ghost use Rattle.page_core.specs.declared.note_kinds.NoteKind.TheVariants.{BlankFill};
 ghost use Rattle.page_prose.specs.Prose as prose;
-ghost use Rattle.page_prose.specs.Prose.{header_items, says};
+ghost use Rattle.page_prose.specs.Prose.{header_items};
+ghost use Rattle.page_prose.specs.Says.{says};
 
-use crate::arguments::{give_arguments, has_arguments, note_closings};
+use crate::arguments::{give_arguments, has_arguments, note_closings, nth_argument, unquote};
 use crate::details::{say, say_if};
 use crate::fields::{Fields, is_cut};
 use crate::forms::{Form, form_of, has_word, kept_len, white_len};
 use crate::headers::{give_footer_row, give_header};
 use crate::macros::{Macro, macro_of};
-use crate::words::give_words;
+use crate::sentences::is_sentence;
+use crate::walks::{Fonts, Style, Walk};
+use crate::words::{give_white_cells, give_words, note_font};
 use arrayvec::ArrayString;
-use page_core::{Fault, Font, NoteKind, Piece, PieceSink, Place, Settings};
+use page_core::{Fault, Font, LINE, NoteKind, Piece, PieceSink, Place, Settings};
+use page_core_escapes::{FontName, read_font};
 
 /// What decides the pieces of the lines to come.
 #[derive(Drop)]
@@ -29,51 +33,52 @@ pub struct Prose {
     indent: u32,
     os: ArrayString<256>,
     fields: Fields,
+    fonts: Fonts,
+    // Rows are kept as they are.
+    is_literal: bool,
+    // The open row, which is kept as it is, has a cell.
+    has_cells: bool,
     // The body began.
     has_begun: bool,
     // A word or a blank line came since a heading.
     has_content: bool,
 }
 
-// Gives the blanks at a text line's front, which are kept.
-fn give_blanks<O: PieceSink>(out: &mut O, line: u32, count: usize) -> Result<(), Fault>
-    requires { count < 2 ^ 32 - 2 }
-    ensures gives { Emits result O.gave O.broke out.old (prose.blanks_items line 1 count) out.new }
+// The fonts of a paragraph, and those of a heading.
+const ROMAN: Fonts = Fonts {
+    font: Font::R,
+    former: Font::R,
+};
+
+const HEADING: Fonts = Fonts {
+    font: Font::B,
+    former: Font::R,
+};
+
+// Gives the blanks at a text line's front, which break the row and are kept.
+fn give_front<O: PieceSink>(out: &mut O, line: u32, white: &[u8]) -> Result<(), Fault>
+    requires { length white.now ≤ LINE }
+    ensures gives { Emits result O.gave O.broke out.old (prose.white_front line white.now) out.new }
     ensures same { O.loans out.new ≡ O.loans out.old }
 {
-    for i in 0..count {
-        out.piece(Piece::Text {
-            text: b" ",
-            font: Font::R,
-            place: Place {
-                line,
-                column: 1 + i as u32,
-            },
-        })?;
+    if white.is_empty() {
+        return Ok(());
     }
-    Ok(())
+    give_white_front(out, line, white)
 }
 
-// Ends the row where a text line begins with blanks.
-fn give_break<O: PieceSink>(out: &mut O, text: &[u8]) -> Result<(), Fault>
-    ensures gives { Emits result O.gave O.broke out.old (prose.break_items text.now) out.new }
+// Gives blanks that break the row.
+fn give_white_front<O: PieceSink>(out: &mut O, line: u32, white: &[u8]) -> Result<(), Fault>
+    requires { length white.now ≤ LINE }
+    ensures gives { Emits result O.gave O.broke out.old (prose.kept_white line white.now) out.new }
     ensures same { O.loans out.new ≡ O.loans out.old }
 {
-    if white_len(text) > 0 {
-        return out.piece(Piece::Break);
-    }
-    Ok(())
-}
-
-// Gives the words of a text line.
-fn give_text_items<O: PieceSink>(out: &mut O, line: u32, text: &[u8]) -> Result<(), Fault>
-    requires { length text.now < 2 ^ 32 - 2 }
-    ensures gives { Emits result O.gave O.broke out.old (prose.text_items line text.now) out.new }
-    ensures same { O.loans out.new ≡ O.loans out.old }
-{
-    give_break(out, text)?;
-    give_blanks(out, line, white_len(text))?;
-    give_words(out, false, Font::R, Place { line, column: 1 }, text)
+    let place = Place {
+        line,
+        column: 1 + white.len() as u32,
+    };
+    out.piece(Piece::Break)?;
+    give_white_cells(out, place, white)
 }
 
 // Gives two pieces without a text.
@@ -127,6 +132,9 @@ impl Prose {
             indent: settings.indent.unwrap_or(7),
             os: settings.os,
             fields: Fields::new(settings.os.as_str().as_bytes()),
+            fonts: ROMAN,
+            is_literal: false,
+            has_cells: false,
             has_begun: false,
             has_content: false,
         }
@@ -163,31 +171,84 @@ impl Prose {
         say(out, kind, line, 1, b"")
     }
 
-    // Gives a text line.
-    fn give_text<O: PieceSink>(&self, out: &mut O, line: u32, text: &[u8]) -> Result<(), Fault>
-        requires { length text.now < 2 ^ 32 - 2 }
-        ensures gives { Emits result O.gave O.broke out.old (prose.text_line self.now line text.now) out.new }
-        ensures same { O.loans out.new ≡ O.loans out.old }
+    // The number of blanks and tabs at a text line's front that break the row.
+    fn front_len(&self, text: &[u8]) -> usize
+        ensures value { result ≡ prose.front_len self.now text.now }
+        ensures within { result ≤ length text.now }
     {
-        if !has_word(text) {
-            return give_break(out, text);
-        }
-        self.give_words_line(out, line, text)
+        if self.is_literal { 0 } else { white_len(text) }
     }
 
-    // Gives a text line that has a word.
+    // Gives what ends a text line.
+    fn give_line_end<O: PieceSink>(&self, out: &mut O, text: &[u8], walk: Walk) -> Result<(), Fault>
+        ensures gives { Emits result O.gave O.broke out.old (prose.line_end_items self.now text.now walk) out.new }
+        ensures same { O.loans out.new ≡ O.loans out.old }
+    {
+        if walk.glues {
+            return Ok(());
+        }
+        if self.is_literal {
+            return give_row(out, self.has_cells || walk.prints);
+        }
+        out.piece(Piece::Blank {
+            count: sentence_blanks(text),
+            has_tab: false,
+        })
+    }
+
+    // Gives the words of a text line.
+    fn give_text_items<O: PieceSink>(
+        &self,
+        out: &mut O,
+        line: u32,
+        text: &[u8],
+    ) -> Result<Walk, Fault>
+        requires { length text.now ≤ LINE }
+        ensures gives { Emits result O.gave O.broke out.old (prose.text_items self.now line text.now) out.new }
+        ensures walk { IfOk result (λ walk. walk ≡ prose.text_walk self.now text.now) }
+        ensures same { O.loans out.new ≡ O.loans out.old }
+    {
+        let len = self.front_len(text);
+        let style = Style {
+            is_quoted: false,
+            is_literal: self.is_literal,
+        };
+        let start = Walk::from(self.fonts, 1 + len as u32);
+        give_front(out, line, &text[..len])?;
+        let walk = give_words(out, style, line, start, &text[len..])?;
+        self.give_line_end(out, text, walk)?;
+        Ok(walk)
+    }
+
+    // Gives a text line.
+    fn give_text<O: PieceSink>(&self, out: &mut O, line: u32, text: &[u8]) -> Result<Walk, Fault>
+        requires { length text.now ≤ LINE }
+        ensures gives { Emits result O.gave O.broke out.old (prose.text_line self.now line text.now) out.new }
+        ensures walk { IfOk result (λ walk. walk ≡ prose.line_walk self.now text.now) }
+        ensures same { O.loans out.new ≡ O.loans out.old }
+    {
+        if has_word(text) || self.is_literal {
+            return self.give_words_line(out, line, text);
+        }
+        out.piece(Piece::Break)?;
+        Ok(Walk::from(self.fonts, 1))
+    }
+
+    // Gives a text line that has a word, or is kept as it is.
     fn give_words_line<O: PieceSink>(
         &self,
         out: &mut O,
         line: u32,
         text: &[u8],
-    ) -> Result<(), Fault>
-        requires { length text.now < 2 ^ 32 - 2 }
-        ensures gives { Emits result O.gave O.broke out.old (prose.begin_otherwise self.now line ++ prose.text_items line text.now) out.new }
+    ) -> Result<Walk, Fault>
+        requires { length text.now ≤ LINE }
+        ensures gives { Emits result O.gave O.broke out.old (prose.begin_otherwise self.now line ++ prose.text_items self.now line text.now) out.new }
+        ensures walk { IfOk result (λ walk. walk ≡ prose.text_walk self.now text.now) }
         ensures same { O.loans out.new ≡ O.loans out.old }
     {
         self.begin_otherwise(out, line)?;
-        give_text_items(out, line, text)
+        let walk = self.give_text_items(out, line, text)?;
+        Ok(walk)
     }
 
     // Gives a blank line.
@@ -198,7 +259,18 @@ impl Prose {
         if !self.has_begun {
             return Ok(());
         }
-        give_blank_row(out, line)
+        self.give_blank_row(out, line)
+    }
+
+    // Gives a blank line of the body.
+    fn give_blank_row<O: PieceSink>(&self, out: &mut O, line: u32) -> Result<(), Fault>
+        ensures gives { Emits result O.gave O.broke out.old (prose.blank_row self.now line) out.new }
+        ensures same { O.loans out.new ≡ O.loans out.old }
+    {
+        if self.is_literal {
+            return give_row(out, self.has_cells);
+        }
+        give_blank_fill(out, line)
     }
 
     // Gives a heading.
@@ -208,7 +280,8 @@ impl Prose {
         rest: &[u8],
         place: Place,
     ) -> Result<(), Fault>
-        requires { place.column + length rest.now < 2 ^ 32 - 1 }
+        requires short { length rest.now ≤ LINE }
+        requires room { place.column + length rest.now ≤ LINE + 1 }
         ensures gives { Emits result O.gave O.broke out.old (prose.heading_items self.now place.line rest.now place.column) out.new }
         ensures same { O.loans out.new ≡ O.loans out.old }
     {
@@ -216,8 +289,13 @@ impl Prose {
             first: self.indent,
             rest: self.indent,
         };
-        give_two(out, Piece::Para(1), Piece::Indent { first: 0, rest: 0 })?;
-        give_arguments(out, Font::B, place, rest)?;
+        out.piece(Piece::Para(1))?;
+        give_two(
+            out,
+            Piece::Literal(false),
+            Piece::Indent { first: 0, rest: 0 },
+        )?;
+        give_arguments(out, HEADING, place, rest)?;
         give_two(out, Piece::Heading, margin)
     }
 
@@ -230,7 +308,8 @@ impl Prose {
         rest: &[u8],
         rest_column: u32,
     ) -> Result<(), Fault>
-        requires { rest_column + length rest.now < 2 ^ 32 - 1 }
+        requires short { length rest.now ≤ LINE }
+        requires room { rest_column + length rest.now ≤ LINE + 1 }
         ensures gives { Emits result O.gave O.broke out.old (prose.section_line self.now place.line name.now place.column rest.now rest_column) out.new }
         ensures same { O.loans out.new ≡ O.loans out.old }
     {
@@ -251,7 +330,8 @@ impl Prose {
         rest: &[u8],
         place: Place,
     ) -> Result<(), Fault>
-        requires { place.column + length rest.now < 2 ^ 32 - 1 }
+        requires short { length rest.now ≤ LINE }
+        requires room { place.column + length rest.now ≤ LINE + 1 }
         ensures gives { Emits result O.gave O.broke out.old (prose.begin_items self.now place.line ++ prose.heading_items self.now place.line rest.now place.column) out.new }
         ensures same { O.loans out.new ≡ O.loans out.old }
     {
@@ -288,7 +368,8 @@ impl Prose {
         rest: &[u8],
         rest_column: u32,
     ) -> Result<(), Fault>
-        requires { rest_column + length rest.now < 2 ^ 32 - 1 }
+        requires short { length rest.now ≤ LINE }
+        requires room { rest_column + length rest.now ≤ LINE + 1 }
         ensures gives { Emits result O.gave O.broke out.old (prose.paragraph_line self.now place.line name.now place.column rest.now rest_column) out.new }
         ensures same { O.loans out.new ≡ O.loans out.old }
     {
@@ -327,7 +408,8 @@ impl Prose {
         rest: &[u8],
         rest_column: u32,
     ) -> Result<(), Fault>
-        requires { rest_column + length rest.now < 2 ^ 32 - 1 }
+        requires short { length rest.now ≤ LINE }
+        requires room { rest_column + length rest.now ≤ LINE + 1 }
         ensures gives { Emits result O.gave O.broke out.old (prose.title_line self.now place.line name.now place.column rest.now rest_column) out.new }
         ensures same { O.loans out.new ≡ O.loans out.old }
     {
@@ -339,6 +421,65 @@ impl Prose {
         self.give_title_items(out, name, place, rest)
     }
 
+    // Gives the effect of a request.
+    fn give_effect<O: PieceSink>(
+        &self,
+        out: &mut O,
+        called: Macro,
+        place: Place,
+        rest: &[u8],
+    ) -> Result<(), Fault>
+        ensures gives { Emits result O.gave O.broke out.old (prose.effect_of called place rest.now) out.new }
+        ensures same { O.loans out.new ≡ O.loans out.old }
+    {
+        match called {
+            Macro::EndRow => out.piece(Piece::Break),
+            Macro::NoFill => give_two(out, Piece::Break, Piece::Literal(true)),
+            Macro::Fill => give_two(out, Piece::Break, Piece::Literal(false)),
+            Macro::SetFont => note_font(out, place, font_name(rest)),
+            _ => Ok(()),
+        }
+    }
+
+    // Gives the effect of a request in the body.
+    fn give_effect_if<O: PieceSink>(
+        &self,
+        out: &mut O,
+        called: Macro,
+        place: Place,
+        rest: &[u8],
+    ) -> Result<(), Fault>
+        ensures gives { Emits result O.gave O.broke out.old (prose.effect_items self.now (prose.effect_of called place rest.now)) out.new }
+        ensures same { O.loans out.new ≡ O.loans out.old }
+    {
+        if !self.has_begun {
+            return Ok(());
+        }
+        self.give_effect(out, called, place, rest)
+    }
+
+    // Gives a request.
+    fn give_request<O: PieceSink>(
+        &self,
+        out: &mut O,
+        called: Macro,
+        place: Place,
+        rest: &[u8],
+        rest_column: u32,
+    ) -> Result<(), Fault>
+        requires short { length rest.now ≤ LINE }
+        requires room { rest_column + length rest.now ≤ LINE + 1 }
+        ensures gives { Emits result O.gave O.broke out.old (prose.request_line self.now place rest.now rest_column called) out.new }
+        ensures same { O.loans out.new ≡ O.loans out.old }
+    {
+        let here = Place {
+            line: place.line,
+            column: rest_column,
+        };
+        note_closings(out, here, rest)?;
+        self.give_effect_if(out, called, place, rest)
+    }
+
     // Gives a macro.
     fn give_macro<O: PieceSink>(
         &self,
@@ -348,22 +489,52 @@ impl Prose {
         rest: &[u8],
         rest_column: u32,
     ) -> Result<(), Fault>
-        requires { rest_column + length rest.now < 2 ^ 32 - 1 }
+        requires short { length rest.now ≤ LINE }
+        requires room { rest_column + length rest.now ≤ LINE + 1 }
         ensures gives { Emits result O.gave O.broke out.old (prose.macro_line (prose.macro_of name.now) self.now place.line name.now place.column rest.now rest_column) out.new }
         ensures same { O.loans out.new ≡ O.loans out.old }
     {
-        match macro_of(name) {
+        let called = macro_of(name);
+        match called {
             Macro::Empty => Ok(()),
             Macro::Title => self.give_title(out, name, place, rest, rest_column),
             Macro::Section => self.give_section(out, name, place, rest, rest_column),
             Macro::Paragraph => self.give_paragraph(out, name, place, rest, rest_column),
+            Macro::EndRow | Macro::NoFill | Macro::Fill | Macro::SetFont => {
+                self.give_request(out, called, place, rest, rest_column)
+            }
             Macro::Unknown => say(out, NoteKind::UnknownMacro, place.line, place.column, name),
         }
     }
 }
 
+// Ends a row that is kept as it is, also one without a cell.
+fn give_row<O: PieceSink>(out: &mut O, has_cells: bool) -> Result<(), Fault>
+    ensures gives { Emits result O.gave O.broke out.old (prose.row_items has_cells) out.new }
+    ensures same { O.loans out.new ≡ O.loans out.old }
+{
+    if has_cells {
+        return out.piece(Piece::Break);
+    }
+    out.piece(Piece::Space(1))
+}
+
+// The font that a request names.
+fn font_name(rest: &[u8]) -> FontName<'_>
+    ensures { face_seen result ≡ prose.font_name rest.now }
+{
+    read_font(unquote(nth_argument(rest, 0), 0).text)
+}
+
+// The blanks behind a line that fills rows.
+fn sentence_blanks(text: &[u8]) -> u32
+    ensures { result ≡ prose.sentence_blanks text.now }
+{
+    if is_sentence(text) { 2 } else { 1 }
+}
+
 // Gives the blank row and the message of a blank line.
-fn give_blank_row<O: PieceSink>(out: &mut O, line: u32) -> Result<(), Fault>
+fn give_blank_fill<O: PieceSink>(out: &mut O, line: u32) -> Result<(), Fault>
     ensures gives { Emits result O.gave O.broke out.old (says BlankFill line 1 [] ∷ (shown (Space 1) ∷ [])) out.new }
     ensures same { O.loans out.new ≡ O.loans out.old }
 {
@@ -379,43 +550,106 @@ impl Prose {
         out: &mut O,
         line: u32,
         form: Form<&[u8]>,
-    ) -> Result<(), Fault>
+    ) -> Result<Walk, Fault>
         requires { prose.IsShort (prose.form_view form) }
         ensures gives { Emits result O.gave O.broke out.old (prose.form_items self.now line (prose.form_view form.entry)) out.new }
+        ensures walk { IfOk result (λ walk. walk ≡ prose.form_walk self.now (prose.form_view form.entry)) }
         ensures same { O.loans out.new ≡ O.loans out.old }
     {
+        let start = Walk::from(self.fonts, 1);
         match form {
-            Form::Nothing => Ok(()),
-            Form::BlankLine => self.give_blank_line(out, line),
+            Form::Nothing => Ok(start),
+            Form::BlankLine => {
+                self.give_blank_line(out, line)?;
+                Ok(start)
+            }
             Form::Words(text) => self.give_text(out, line, text),
             Form::Call {
                 name,
                 column,
                 rest,
                 rest_column,
-            } => self.give_macro(out, name, Place { line, column }, rest, rest_column),
+            } => {
+                self.give_macro(out, name, Place { line, column }, rest, rest_column)?;
+                Ok(start)
+            }
         }
     }
 
     // Keeps what a line of a form leaves.
     #[tactic(auto, unfolding(crate::specs::Prose::form_after))]
-    fn pass(&mut self, form: Form<&[u8]>)
+    fn pass(&mut self, form: Form<&[u8]>, walk: Walk)
+        requires { walk ≡ prose.form_walk self.old (prose.form_view form) }
         ensures { self.new ≡ prose.form_after self.old (prose.form_view form.entry) }
     {
         match form {
             Form::Nothing => {}
-            Form::BlankLine => {
-                if self.has_begun {
-                    self.has_content = true;
-                }
-            }
-            Form::Words(text) => {
-                if has_word(text) {
-                    self.has_begun = true;
-                    self.has_content = true;
-                }
-            }
+            Form::BlankLine => self.pass_blank_line(),
+            Form::Words(text) => self.pass_text(text, walk),
             Form::Call { name, rest, .. } => self.pass_macro(macro_of(name), rest),
+        }
+    }
+
+    // Keeps what a blank line leaves.
+    fn pass_blank_line(&mut self)
+        ensures { self.new ≡ prose.blank_line_after self.old }
+    {
+        if self.has_begun {
+            self.has_content = true;
+            self.has_cells = false;
+        }
+    }
+
+    // Keeps what a text line leaves.
+    fn pass_text(&mut self, text: &[u8], walk: Walk)
+        ensures { self.new ≡ prose.words_after self.old text.now walk }
+    {
+        if has_word(text) || self.is_literal {
+            self.has_cells = self.is_literal && walk.glues && (self.has_cells || walk.prints);
+            self.fonts = walk.fonts;
+            self.has_begun = true;
+            self.has_content = self.has_content || has_word(text);
+        }
+    }
+
+    // Keeps what a paragraph leaves.
+    fn pass_paragraph(&mut self)
+        ensures { self.new ≡ prose.paragraph_after self.old }
+    {
+        if self.has_content {
+            self.fonts = ROMAN;
+            self.has_cells = false;
+        }
+        self.has_begun = true;
+    }
+
+    // Keeps what a section header leaves.
+    fn pass_section(&mut self)
+        ensures { self.new ≡ prose.section_after self.old }
+    {
+        self.fonts = ROMAN;
+        self.is_literal = false;
+        self.has_cells = false;
+        self.has_begun = true;
+        self.has_content = false;
+    }
+
+    // Keeps what a request of the body leaves.
+    fn pass_request(&mut self, called: Macro, rest: &[u8])
+        ensures { self.new ≡ prose.request_after called self.old rest.now }
+    {
+        match called {
+            Macro::EndRow => self.has_cells = false,
+            Macro::NoFill => {
+                self.is_literal = true;
+                self.has_cells = false;
+            }
+            Macro::Fill => {
+                self.is_literal = false;
+                self.has_cells = false;
+            }
+            Macro::SetFont => self.fonts = self.fonts.named(font_name(rest)),
+            _ => {}
         }
     }
 
@@ -432,18 +666,22 @@ impl Prose {
             }
             Macro::Section => {
                 if has_arguments(rest) {
-                    self.has_begun = true;
-                    self.has_content = false;
+                    self.pass_section();
                 }
             }
-            Macro::Paragraph => self.has_begun = true,
+            Macro::Paragraph => self.pass_paragraph(),
+            Macro::EndRow | Macro::NoFill | Macro::Fill | Macro::SetFont => {
+                if self.has_begun {
+                    self.pass_request(called, rest);
+                }
+            }
         }
     }
 }
 
 // Reports white space at a line's end.
 fn note_trailing<O: PieceSink>(out: &mut O, line: u32, text: &[u8]) -> Result<(), Fault>
-    requires { length text.now < 2 ^ 32 - 2 }
+    requires { length text.now ≤ LINE }
     ensures gives { Emits result O.gave O.broke out.old (prose.trailing_items line text.now) out.new }
     ensures same { O.loans out.new ≡ O.loans out.old }
 {
@@ -459,18 +697,18 @@ fn note_trailing<O: PieceSink>(out: &mut O, line: u32, text: &[u8]) -> Result<()
 }
 
 impl Prose {
-    /// Takes a line of fewer than 2^32 - 2 bytes, and gives its pieces and messages. After a fault it is not to be used again.
+    /// Takes a line of at most [`LINE`] bytes, and gives its pieces and messages. After a fault it is not to be used again.
     #[tactic(auto, unfolding(crate::specs::Prose::line_items))]
     pub fn line<O: PieceSink>(&mut self, out: &mut O, line: u32, text: &[u8]) -> Result<(), Fault>
-        requires { length text.now < 2 ^ 32 - 2 }
+        requires { length text.now ≤ LINE }
         ensures gives { Emits result O.gave O.broke out.old (prose.line_items self.old line text.now) out.new }
         ensures after { OnOk result (self.new ≡ prose.line_after self.old text.now) }
         ensures same { O.loans out.new ≡ O.loans out.old }
     {
         let form = form_of(text);
         note_trailing(out, line, text)?;
-        self.give_form(out, line, form)?;
-        self.pass(form);
+        let walk = self.give_form(out, line, form)?;
+        self.pass(form, walk);
         Ok(())
     }
 

@@ -1,246 +1,295 @@
-//! Words: their parts, as pieces.
+//! Words: their messages, and what they print, as pieces.
 
-ghost use Rattle.std.specs.Prelude.{◌≡◌, ◌≤◌, ◌<◌, ◌+◌, length, ◌^◌};
+ghost use Rattle.std.specs.Prelude.{◌≡◌, ◌≤◌, ◌<◌, ◌+◌, ◌^◌, ◌++◌, ◌∷◌, [], length, option_map, IfOk, if◌then◌else◌};
+ghost use Rattle.page_core.specs.Pieces.{piece_of};
+ghost use Rattle.page_core_escapes.specs.Escapes.{face_seen, meaning_seen};
 ghost use Rattle.page_prose.specs.Emits.{Emits};
-ghost use Rattle.std.specs.List.{prefix_len};
-ghost use Rattle.page_prose.specs.Words.{parts_words, word_len, chunk_len, is_plain, unit_len};
-ghost use Rattle.page_prose.specs.Prose.{is_undefined, escape_pieces, unit_pieces, unit_notes, text_pieces, text_notes, word_items, chunk_items, words_items};
+ghost use Rattle.page_prose.specs.Says.{at};
+ghost use Rattle.page_prose.specs.Tokens.{tokens_of, token_bytes, token_seen};
+ghost use Rattle.page_prose.specs.Words as words;
 
-use crate::details::say_if;
-use crate::forms::white_len;
-use page_core::{Fault, Font, NoteKind, Piece, PieceSink, Place};
+use crate::details::say;
+use crate::tokens::{Token, begins_word, read_token};
+use crate::walks::{Style, Walk};
+use page_core::{Fault, Font, LINE, NoteKind, Piece, PieceSink, Place};
+use page_core_escapes::{Escape, FontName};
 
-/// Whether a byte parts words: a blank, and a tab or not.
-fn parts_words(tabs: bool, byte: u8) -> bool
-    ensures { result ≡ parts_words tabs byte }
-{
-    byte == b' ' || (tabs && byte == b'\t')
-}
-
-/// The number of bytes of the word at a text's front; tabs part words or not.
-pub(crate) fn word_len(tabs: bool, text: &[u8]) -> usize
-    ensures value { result ≡ word_len (parts_words tabs) text.now }
-    ensures within { result ≤ length text.now }
-{
-    let mut len = 0;
-    while len < text.len() && !parts_words(tabs, text[len]) {
-        if text[len] == b'\\' && len + 1 < text.len() {
-            len += 2;
-        } else {
-            len += 1;
-        }
-    }
-    len
-}
-
-/// The number of bytes of the word, or of the blanks and tabs, at a text's front.
-pub(crate) fn chunk_len(text: &[u8]) -> usize
-    ensures value { result ≡ chunk_len text.now }
-    ensures within { result ≤ length text.now }
-{
-    match white_len(text) {
-        0 => word_len(true, text),
-        white => white,
-    }
-}
-
-// The number of plain bytes at a text's front.
-fn plain_len(quoted: bool, text: &[u8]) -> usize
-    ensures value { result ≡ prefix_len (is_plain quoted) text.now }
-    ensures within { result ≤ length text.now }
-{
-    text.iter()
-        .take_while(|byte| !(**byte == b'\\' || (quoted && **byte == b'"')))
-        .count()
-}
-
-/// The number of bytes of the unit at a text's front: a run of plain characters, a pair of quotes in a quoted argument, or an escape.
-pub(crate) fn unit_len(quoted: bool, text: &[u8]) -> usize
-    ensures value { result ≡ unit_len quoted text.now }
-    ensures within { result ≤ length text.now }
-{
-    match plain_len(quoted, text) {
-        0 => text.len().min(2),
-        plain => plain,
-    }
-}
-
-// Gives what an escape prints: its character, or nothing at a line's end.
-fn give_escape<O: PieceSink>(
+// Reports a font that there is not.
+pub(crate) fn note_font<O: PieceSink>(
     out: &mut O,
-    font: Font,
     place: Place,
-    rest: &[u8],
+    name: FontName<'_>,
 ) -> Result<(), Fault>
-    ensures gives { Emits result O.gave O.broke out.old (escape_pieces font place rest.now) out.new }
+    ensures gives { Emits result O.gave O.broke out.old (words.face_notes place (face_seen name.entry)) out.new }
     ensures same { O.loans out.new ≡ O.loans out.old }
 {
-    match rest {
-        [] => Ok(()),
-        [next, ..] => out.piece(Piece::Char {
-            c: char::from(*next),
+    match name {
+        FontName::Unknown(name) => say(out, NoteKind::UnknownFont, place.line, place.column, name),
+        _ => Ok(()),
+    }
+}
+
+// Gives the message of an escape.
+fn note_escape<O: PieceSink>(
+    out: &mut O,
+    place: Place,
+    bytes: &[u8],
+    meaning: Escape<'_>,
+) -> Result<(), Fault>
+    ensures gives { Emits result O.gave O.broke out.old (words.meaning_notes place bytes.now (meaning_seen meaning.entry)) out.new }
+    ensures same { O.loans out.new ≡ O.loans out.old }
+{
+    let (kind, detail) = match meaning {
+        Escape::Undefined(_) => (NoteKind::UndefEscape, bytes),
+        Escape::Bad => (NoteKind::BadEscape, bytes),
+        Escape::Unsupported | Escape::Blanks(_) => {
+            (NoteKind::UnsuppEscape, &bytes[..bytes.len().min(2)])
+        }
+        Escape::Font(name) => return note_font(out, place, name),
+        _ => return Ok(()),
+    };
+    say(out, kind, place.line, place.column, detail)
+}
+
+// Gives the message of a token.
+fn note_token<O: PieceSink>(out: &mut O, place: Place, token: Token<'_>) -> Result<(), Fault>
+    ensures gives { Emits result O.gave O.broke out.old (words.token_notes place (token_seen token.entry)) out.new }
+    ensures same { O.loans out.new ≡ O.loans out.old }
+{
+    match token {
+        Token::Escaped { bytes, meaning } => note_escape(out, place, bytes, meaning),
+        _ => Ok(()),
+    }
+}
+
+// Gives the messages of the word that goes on at a text's front.
+fn note_word<O: PieceSink>(
+    out: &mut O,
+    place: Place,
+    quoted: bool,
+    text: &[u8],
+) -> Result<(), Fault>
+    requires { length text.now ≤ LINE }
+    ensures gives { Emits result O.gave O.broke out.old (words.word_notes place (tokens_of quoted text.now)) out.new }
+    ensures same { O.loans out.new ≡ O.loans out.old }
+{
+    let mut rest = text;
+    while begins_word(rest) {
+        let token = read_token(quoted, rest);
+        note_token(out, place, token)?;
+        rest = &rest[token.len()..];
+    }
+    Ok(())
+}
+
+// What an escape prints.
+fn escape_piece(font: Font, place: Place, meaning: Escape<'_>) -> Option<Piece<&[u8]>>
+    ensures { option_map piece_of result ≡ words.meaning_piece font place (meaning_seen meaning.entry) }
+{
+    match meaning {
+        Escape::Glyph(name) => Some(Piece::Glyph { name, font, place }),
+        Escape::Char(c) | Escape::Undefined(c) => Some(Piece::Char { c, font, place }),
+        Escape::Tab => Some(Piece::Tab { font, place }),
+        Escape::Blank => Some(Piece::Text {
+            text: b" ",
             font,
             place,
         }),
+        _ => None,
     }
 }
 
-// Gives what a unit prints.
-fn give_unit<O: PieceSink>(
+// What a token of a word prints.
+fn token_piece(font: Font, place: Place, token: Token<'_>) -> Option<Piece<&[u8]>>
+    ensures { option_map piece_of result ≡ words.token_piece font place (token_seen token.entry) }
+{
+    match token {
+        Token::White(_) => None,
+        Token::Plain(text) => Some(Piece::Text { text, font, place }),
+        Token::Quotes(_) => Some(Piece::Char {
+            c: '"',
+            font,
+            place,
+        }),
+        Token::Escaped { meaning, .. } => escape_piece(font, place, meaning),
+    }
+}
+
+// Gives a piece, where there is one.
+fn give_if<O: PieceSink>(out: &mut O, piece: Option<Piece<&[u8]>>) -> Result<(), Fault>
+    ensures gives { Emits result O.gave O.broke out.old (words.piece_items (option_map piece_of piece.entry)) out.new }
+    ensures same { O.loans out.new ≡ O.loans out.old }
+{
+    match piece {
+        Some(piece) => out.piece(piece),
+        None => Ok(()),
+    }
+}
+
+// What a blank or a tab is in a row that keeps it.
+fn white_piece(place: Place, byte: u8) -> Piece<&'static [u8]>
+    ensures { piece_of result ≡ words.white_piece place byte }
+{
+    if byte == b'\t' {
+        return Piece::Tab {
+            font: Font::R,
+            place,
+        };
+    }
+    Piece::Text {
+        text: b" ",
+        font: Font::R,
+        place,
+    }
+}
+
+/// Gives blanks and tabs as cells.
+pub(crate) fn give_white_cells<O: PieceSink>(
     out: &mut O,
-    quoted: bool,
-    font: Font,
     place: Place,
-    unit: &[u8],
+    white: &[u8],
 ) -> Result<(), Fault>
-    ensures gives { Emits result O.gave O.broke out.old (unit_pieces quoted font place unit.now) out.new }
+    ensures gives { Emits result O.gave O.broke out.old (words.white_cells place white.now) out.new }
     ensures same { O.loans out.new ≡ O.loans out.old }
 {
-    match unit {
-        [] => Ok(()),
-        [first, rest @ ..] => {
-            if *first == b'\\' {
-                return give_escape(out, font, place, rest);
-            }
-            if quoted && *first == b'"' {
-                return out.piece(Piece::Char {
-                    c: '"',
-                    font,
-                    place,
-                });
-            }
-            out.piece(Piece::Text {
-                text: unit,
-                font,
-                place,
-            })
-        }
-    }
-}
-
-// Whether a unit is an undefined escape.
-fn is_undefined(unit: &[u8]) -> bool
-    ensures { result ≡ is_undefined unit.now }
-{
-    match unit {
-        [first, next, ..] => *first == b'\\' && *next != b'-',
-        _ => false,
-    }
-}
-
-// Gives the message of a unit.
-fn note_unit<O: PieceSink>(out: &mut O, place: Place, unit: &[u8]) -> Result<(), Fault>
-    ensures gives { Emits result O.gave O.broke out.old (unit_notes place unit.now) out.new }
-    ensures same { O.loans out.new ≡ O.loans out.old }
-{
-    say_if(
-        out,
-        is_undefined(unit),
-        NoteKind::UndefEscape,
-        place.line,
-        place.column,
-        unit,
-    )
-}
-
-/// Gives what a text prints.
-pub(crate) fn give_text<O: PieceSink>(
-    out: &mut O,
-    quoted: bool,
-    font: Font,
-    place: Place,
-    text: &[u8],
-) -> Result<(), Fault>
-    ensures gives { Emits result O.gave O.broke out.old (text_pieces quoted font place text.now) out.new }
-    ensures same { O.loans out.new ≡ O.loans out.old }
-{
-    let mut rest = text;
-    while !rest.is_empty() {
-        let len = unit_len(quoted, rest);
-        give_unit(out, quoted, font, place, &rest[..len])?;
-        rest = &rest[len..];
+    for byte in white {
+        out.piece(white_piece(place, *byte))?;
     }
     Ok(())
 }
 
-// Gives the messages of a text.
-fn note_text<O: PieceSink>(
-    out: &mut O,
-    quoted: bool,
-    place: Place,
-    text: &[u8],
-) -> Result<(), Fault>
-    ensures gives { Emits result O.gave O.broke out.old (text_notes quoted place text.now) out.new }
-    ensures same { O.loans out.new ≡ O.loans out.old }
+// Whether there is a tab.
+fn has_tab(white: &[u8]) -> bool
+    ensures { result ≡ words.has_tab white.now }
 {
-    let mut rest = text;
-    while !rest.is_empty() {
-        let len = unit_len(quoted, rest);
-        note_unit(out, place, &rest[..len])?;
-        rest = &rest[len..];
-    }
-    Ok(())
+    white.iter().any(|byte| *byte == b'\t')
 }
 
-// Gives a word: its messages, what it prints, and the blank behind it.
-fn give_word<O: PieceSink>(
+// Gives white space: it parts words, or is kept.
+fn give_white<O: PieceSink>(
     out: &mut O,
-    quoted: bool,
-    font: Font,
+    is_literal: bool,
     place: Place,
-    text: &[u8],
+    white: &[u8],
 ) -> Result<(), Fault>
-    ensures gives { Emits result O.gave O.broke out.old (word_items quoted font place text.now) out.new }
+    ensures gives { Emits result O.gave O.broke out.old (words.white_items is_literal place white.now) out.new }
     ensures same { O.loans out.new ≡ O.loans out.old }
 {
-    note_text(out, quoted, place, text)?;
-    give_text(out, quoted, font, place, text)?;
+    if is_literal {
+        return give_white_cells(out, place, white);
+    }
     out.piece(Piece::Blank {
         count: 1,
-        has_tab: false,
+        has_tab: has_tab(white),
     })
 }
 
-// Gives a word; blanks and tabs give nothing.
-fn give_chunk<O: PieceSink>(
+// Gives the messages of the word that begins with a token and goes on with a text.
+fn note_begun<O: PieceSink>(
     out: &mut O,
-    quoted: bool,
-    font: Font,
     place: Place,
-    chunk: &[u8],
+    quoted: bool,
+    token: Token<'_>,
+    rest: &[u8],
 ) -> Result<(), Fault>
-    ensures gives { Emits result O.gave O.broke out.old (chunk_items quoted font place.line (record { text = chunk.now; column = place.column })) out.new }
+    requires { length rest.now ≤ LINE }
+    ensures gives { Emits result O.gave O.broke out.old (words.token_notes place (token_seen token.entry) ++ words.word_notes place (tokens_of quoted rest.now)) out.new }
     ensures same { O.loans out.new ≡ O.loans out.old }
 {
-    if white_len(chunk) > 0 {
-        return Ok(());
-    }
-    give_word(out, quoted, font, place, chunk)
+    note_token(out, place, token)?;
+    note_word(out, place, quoted, rest)
 }
 
-/// Gives the words of a text whose first byte stands at a place.
+// Gives the messages of a word, where none is open.
+fn note_if_begun<O: PieceSink>(
+    out: &mut O,
+    line: u32,
+    walk: Walk,
+    quoted: bool,
+    token: Token<'_>,
+    rest: &[u8],
+) -> Result<(), Fault>
+    requires { length rest.now ≤ LINE }
+    ensures gives { Emits result O.gave O.broke out.old (words.begun_notes line walk (token_seen token.entry) (tokens_of quoted rest.now)) out.new }
+    ensures same { O.loans out.new ≡ O.loans out.old }
+{
+    if walk.word.is_some() {
+        return Ok(());
+    }
+    let place = Place {
+        line,
+        column: walk.column,
+    };
+    note_begun(out, place, quoted, token, rest)
+}
+
+// Gives a token of a word.
+fn give_part<O: PieceSink>(
+    out: &mut O,
+    line: u32,
+    walk: Walk,
+    quoted: bool,
+    token: Token<'_>,
+    rest: &[u8],
+) -> Result<(), Fault>
+    requires { length rest.now ≤ LINE }
+    ensures gives { Emits result O.gave O.broke out.old (words.part_items line walk (token_seen token.entry) (tokens_of quoted rest.now)) out.new }
+    ensures same { O.loans out.new ≡ O.loans out.old }
+{
+    let place = Place {
+        line,
+        column: walk.word_column(),
+    };
+    let piece = token_piece(walk.fonts.font, place, token);
+    note_if_begun(out, line, walk, quoted, token, rest)?;
+    give_if(out, piece)
+}
+
+// Gives a token.
+fn give_token<O: PieceSink>(
+    out: &mut O,
+    style: Style,
+    line: u32,
+    walk: Walk,
+    token: Token<'_>,
+    rest: &[u8],
+) -> Result<(), Fault>
+    requires short { length rest.now ≤ LINE }
+    requires room { walk.column + length (token_bytes (token_seen token)) < 2 ^ 32 }
+    ensures gives { Emits result O.gave O.broke out.old (words.token_items style line walk (token_seen token.entry) (tokens_of style.is_quoted rest.now)) out.new }
+    ensures same { O.loans out.new ≡ O.loans out.old }
+{
+    if let Token::White(white) = token {
+        let place = Place {
+            line,
+            column: walk.column + white.len() as u32,
+        };
+        return give_white(out, style.is_literal, place, white);
+    }
+    give_part(out, line, walk, style.is_quoted, token, rest)
+}
+
+/// Gives the words of a text, from what is known before it; what is known after it.
 pub(crate) fn give_words<O: PieceSink>(
     out: &mut O,
-    quoted: bool,
-    font: Font,
-    place: Place,
+    style: Style,
+    line: u32,
+    start: Walk,
     text: &[u8],
-) -> Result<(), Fault>
-    requires { place.column + length text.now < 2 ^ 32 }
-    ensures gives { Emits result O.gave O.broke out.old (words_items quoted font place.line place.column text.now) out.new }
+) -> Result<Walk, Fault>
+    requires short { length text.now ≤ LINE }
+    requires room { start.column + length text.now < 2 ^ 32 }
+    ensures gives { Emits result O.gave O.broke out.old (words.words_items style line start (tokens_of style.is_quoted text.now)) out.new }
+    ensures walk { IfOk result (λ walk. walk ≡ words.walk_through start (tokens_of style.is_quoted text.now)) }
     ensures same { O.loans out.new ≡ O.loans out.old }
 {
     let mut rest = text;
-    let mut column = place.column;
+    let mut walk = start;
     while !rest.is_empty() {
-        let len = chunk_len(rest);
-        let here = Place {
-            line: place.line,
-            column,
-        };
-        give_chunk(out, quoted, font, here, &rest[..len])?;
-        rest = &rest[len..];
-        column += len as u32;
+        let token = read_token(style.is_quoted, rest);
+        rest = &rest[token.len()..];
+        give_token(out, style, line, walk, token, rest)?;
+        walk = walk.after(token);
     }
-    Ok(())
+    Ok(walk)
 }

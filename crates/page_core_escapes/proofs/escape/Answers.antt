@@ -1,23 +1,16 @@
 use Rattle.std.proofs.Common.{◌∙◌, sym, ap, subst, arith}
 use Rattle.std.proofs.lemmas.List.{get_or-take}
-use Rattle.std.proofs.lemmas.Str.{IsUtf8-take}
 use Rattle.page_core_escapes.specs.Escapes.{read_escape, escape_of, HasTexts}
 use Rattle.page_core_escapes.proofs.Contents.{escape_len-some}
-use Rattle.page_core_escapes.proofs.Characters.{CutsAt, CutsAt-boundary}
+use Rattle.page_core_escapes.proofs.Characters.{CutsAt-boundary}
 use Rattle.page_core_escapes.proofs.EscapeTexts.{escape_texts}
 use Rattle.page_core_escapes.proofs.Boundaries.{escape_len_cuts}
 use Rattle.page_core_escapes.proofs.escape.Goals as goal
 
-cuts : (c : goal.In-Some) → CutsAt c.args.text.now c.in-Some.len
-cuts c = escape_len_cuts c.args.text.now c.in-Some.len c.requires.utf8 (omega (arith, c.requires.backslash)) (sym c.escape_len.ensures.value ∙ c.in-Some.is)
-
-pub read_meaning-requires-clause-backslash : goal.read_meaning-requires-clause-backslash
-read_meaning-requires-clause-backslash c =
+pub read_meaning-requires : goal.read_meaning-requires
+read_meaning-requires c =
     let some = escape_len-some c.args.text.now c.in-Some.len (sym c.escape_len.ensures.value ∙ c.in-Some.is) in
     get_or-take c.in-Some.len c.args.text.now 0 0 some ∙ c.requires.backslash
-
-pub read_meaning-requires-clause-utf8 : goal.read_meaning-requires-clause-utf8
-read_meaning-requires-clause-utf8 c = IsUtf8-take c.args.text.now c.in-Some.len c.requires.utf8 (CutsAt-boundary (cuts c))
 
 pub returns-in-Some-clause-meaning : goal.returns-in-Some-clause-meaning
 unfolding escape_of
@@ -32,11 +25,11 @@ pub returns-in-Some-clause-some : goal.returns-in-Some-clause-some
 returns-in-Some-clause-some c = escape_len-some c.args.text.now c.in-Some.len (sym c.escape_len.ensures.value ∙ c.in-Some.is)
 
 pub returns-in-Some-clause-whole_characters : goal.returns-in-Some-clause-whole_characters
-returns-in-Some-clause-whole_characters c = CutsAt-boundary (escape_len_cuts c.args.text.now c.in-Some.len c.requires.utf8 (omega (arith, c.requires.backslash)) (sym c.escape_len.ensures.value ∙ c.in-Some.is))
+returns-in-Some-clause-whole_characters c = λ utf8. CutsAt-boundary (escape_len_cuts c.args.text.now c.in-Some.len utf8 (omega (arith, c.requires.backslash)) (sym c.escape_len.ensures.value ∙ c.in-Some.is))
 
 pub returns-in-Some-clause-texts : goal.returns-in-Some-clause-texts
-returns-in-Some-clause-texts c =
-    let texts = escape_texts c.args.text.now c.in-Some.len c.requires.utf8 (omega (arith, c.requires.backslash)) (sym c.escape_len.ensures.value ∙ c.in-Some.is) in
+returns-in-Some-clause-texts c = λ utf8.
+    let texts = escape_texts c.args.text.now c.in-Some.len utf8 (omega (arith, c.requires.backslash)) (sym c.escape_len.ensures.value ∙ c.in-Some.is) in
     subst (λ m. HasTexts m) (sym c.read_meaning.ensures) texts
 
 pub returns-in-None-clause-meaning : goal.returns-in-None-clause-meaning

@@ -1,6 +1,4 @@
-use Rattle.std.proofs.Common.{drop, get_or, option_map, unwrap_or, subst, sym, ap, ◌∙◌, arith}
-use Rattle.std.specs.Str.{IsUtf8}
-use Rattle.std.proofs.lemmas.Str.{IsUtf8-drop, IsCharBoundary-after_ascii}
+use Rattle.std.proofs.Common.{drop, get_or, option_map, unwrap_or, sym, ap, ◌∙◌}
 use Rattle.page_core_escapes.specs.Meanings.{undefined, known_meaning, first_char}
 use Rattle.page_core_escapes.specs.Escapes.{meaning_seen}
 use Rattle.page_core_escapes.proofs.Unwinding.{slice_from}
@@ -9,12 +7,6 @@ use Rattle.page_core_escapes.proofs.meaning.read_meaning.Goals as goal
 
 pub returns-then-escape-lt2 : goal.returns-then-escape-lt2
 returns-then-escape-lt2 c = meaning_of-short c.args.escape.now c.if-escape-lt2.true
-
-pub first_char-requires-clause-utf8 : goal.first_char-requires-clause-utf8
-first_char-requires-clause-utf8 c =
-    let t = c.args.escape.now in
-    let cut = IsCharBoundary-after_ascii t 0 c.requires.utf8 (omega arith) (omega arith) in
-    subst (λ u. IsUtf8 u) (sym (slice_from t 1)) (IsUtf8-drop t 1 c.requires.utf8 cut)
 
 pub returns-in-Some : goal.returns-in-Some
 returns-in-Some c =

@@ -8,27 +8,28 @@ use Rattle.page_prose.proofs.ArgumentLemmas.{arguments_more, arguments_none}
 use Rattle.page_prose.proofs.arguments.give_arguments.Goals as goal
 
 pub loop-rest-init : goal.loop-rest-init
-loop-rest-init g c = (UpTo-start (g.met.O.PieceSink.laws Failed) _ _, refl, refl)
+loop-rest-init g c = (UpTo-start (g.met.O.PieceSink.laws Failed) _ _, refl, refl, c.requires.short)
 
 pub loop-rest-preserved : goal.loop-rest-preserved
 loop-rest-preserved g c =
     let l = c.loop-rest in
     let some : 0 < length l.rest.now = grind (arith, nat_tests) in
     let n = c.argument_len-len.result in
-    rw (take_rest l.rest.now n) (
-      UpTo-more (g.met.O.PieceSink.laws Failed) _ _ _ l.invariant.0 (arguments_more c.args.font c.args.place.line l.column l.rest.now c.argument_len-len.result some c.argument_len-len.ensures.value) c.in_ok-give_argument.ensures.gives,
-      c.in_ok-give_argument.ensures.same ∙ l.invariant.1,
+    rw (take_rest l.rest.now n, c.in_ok-fonts.ensures.fonts) (
+      UpTo-more (g.met.O.PieceSink.laws Failed) _ _ _ l.invariant.0 (arguments_more l.fonts c.args.place.line l.column l.rest.now c.argument_len-len.result some c.argument_len-len.ensures.value) c.in_ok-fonts.ensures.gives,
+      c.in_ok-fonts.ensures.same ∙ l.invariant.1,
       omega (arith, length-drop n l.rest.now, c.argument_len-len.ensures.within, l.invariant.2),
+      omega (arith, length-drop n l.rest.now, l.invariant.3),
     )
 
-pub returns-in_err-give_argument-clause-gives : goal.returns-in_err-give_argument-clause-gives
-returns-in_err-give_argument-clause-gives g c =
+pub returns-in_err-fonts-clause-gives : goal.returns-in_err-fonts-clause-gives
+returns-in_err-fonts-clause-gives g c =
     let l = c.loop-rest in
     let some : 0 < length l.rest.now = grind (arith, nat_tests) in
     let p = err_from_is_err_and c.from_residual.result c.from_residual.ensures.1 in
-    rw (p.1, p.2) (UpTo-within (g.met.O.PieceSink.laws _) _ _ _ l.invariant.0 (arguments_more c.args.font c.args.place.line l.column l.rest.now c.argument_len-len.result some c.argument_len-len.ensures.value) c.in_err-give_argument.ensures.gives)
+    rw (p.1, p.2) (UpTo-within (g.met.O.PieceSink.laws _) _ _ _ l.invariant.0 (arguments_more l.fonts c.args.place.line l.column l.rest.now c.argument_len-len.result some c.argument_len-len.ensures.value) c.in_err-fonts.ensures.gives)
 
 pub returns-clause-gives : goal.returns-clause-gives
 returns-clause-gives g c =
     let l = c.loop-rest in
-    let none : length l.rest.now ≤ 0 = grind (arith, nat_tests) in UpTo-all (rw (arguments_none c.args.font c.args.place.line l.column l.rest.now none) at l.invariant.0)
+    let none : length l.rest.now ≤ 0 = grind (arith, nat_tests) in UpTo-all (rw (arguments_none l.fonts c.args.place.line l.column l.rest.now none) at l.invariant.0)

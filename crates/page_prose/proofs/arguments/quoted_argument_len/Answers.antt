@@ -1,4 +1,3 @@
-use Rattle.std.proofs.Common.{◌≡◌, arith, length, drop, length-drop}
 use Rattle.page_prose.proofs.ArgumentLemmas.{end_some}
 use Rattle.page_prose.proofs.arguments.quoted_argument_len.Goals as goal
 

@@ -1,5 +1,5 @@
-use Rattle.std.proofs.Common.{◌≤◌, ◌<◌, ◌+◌, ◌≡◌, arith, length, drop}
-use Rattle.page_prose.proofs.ArgumentLemmas.{quoted_byte, quoted_pair, quoted_end}
+use Rattle.std.proofs.Common.{arith}
+use Rattle.page_prose.proofs.ArgumentLemmas.{quoted_byte}
 use Rattle.page_prose.proofs.arguments.quoted_len.Goals as goal
 
 pub loop-len-preserved-then-text-len-ne34 : goal.loop-len-preserved-then-text-len-ne34

@@ -1,5 +1,5 @@
 use Rattle.std.proofs.Common.{◌≡◌, ◌≤◌, ◌+◌, ◌-◌, length, drop}
-use Rattle.page_prose.specs.Words.{quoted_len}
+use Rattle.page_prose.specs.Arguments.{quoted_len}
 use Rattle.page_prose.proofs.arguments.quoted_len.Given as goal
 
 abbrev pub invariant-loop-len : goal.invariant-loop-len

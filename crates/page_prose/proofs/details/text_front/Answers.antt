@@ -1,4 +1,3 @@
-use Rattle.page_prose.specs.Cut.{text_front}
 use Rattle.page_prose.proofs.DetailLemmas.{whole_front, short_front}
 use Rattle.page_prose.proofs.details.text_front.Goals as goal
 

@@ -1,7 +1,6 @@
-use Rattle.std.proofs.Common.{◌≤◌, ◌+◌, ◌++◌, [], ◌∷◌, sym, ap, ◌∙◌, arith, take, drop, get_or, append_assoc, ◌<◌}
-use Rattle.std.proofs.lemmas.List.{take_more, take-append-drop}
-use Rattle.page_prose.specs.Forms.{without_comment}
-use Rattle.page_prose.proofs.FormLemmas.{comment_plain, comment_pair, comment_none, comment_here, one_more}
+use Rattle.std.proofs.Common.{◌++◌, sym, ap, ◌∙◌, arith, take}
+use Rattle.std.proofs.lemmas.List.{take-append-drop}
+use Rattle.page_prose.proofs.FormLemmas.{comment_none, one_more}
 use Rattle.page_prose.proofs.forms.without_comment.Goals as goal
 
 pub loop-len-preserved-then-line-len-ne92 : goal.loop-len-preserved-then-line-len-ne92

@@ -1,10 +1,9 @@
-use Rattle.std.proofs.Common.{◌<◌, ◌≤◌, ◌≡◌, ◌+◌, length, sym, ◌∙◌, arith, refl, ap, drop, length-drop, take}
-use Rattle.std.specs.Prelude.{sum_by}
+use Rattle.std.proofs.Common.{◌<◌, ◌≤◌, ◌≡◌, length, ◌∙◌, arith, ap, length-drop, take}
 use Rattle.std.proofs.lemmas.Bool.Decides.{nat_tests}
 use Rattle.std.proofs.lemmas.List.{take_rest, length-take-le}
-use Rattle.page_prose.specs.Words.{unit_len}
-use Rattle.page_prose.specs.Prose.{field_columns, unit_columns, units_of}
-use Rattle.page_prose.proofs.WordFronts.{columns_more, columns_none}
+use Rattle.page_prose.specs.FieldUnits.{unit_len}
+use Rattle.page_prose.specs.FieldUnits.{unit_columns}
+use Rattle.page_prose.proofs.FieldFronts.{columns_more, columns_none}
 use Rattle.page_prose.proofs.headers.field_columns.Goals as goal
 
 pub loop-rest-preserved : goal.loop-rest-preserved

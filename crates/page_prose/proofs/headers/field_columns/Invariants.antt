@@ -1,6 +1,6 @@
 use Rattle.std.proofs.Common.{◌≡◌, ◌≤◌, ◌+◌, length}
 use Rattle.std.specs.Prelude.{sum_by}
-use Rattle.page_prose.specs.Prose.{field_columns, unit_columns, units_of}
+use Rattle.page_prose.specs.FieldUnits.{field_columns, unit_columns, units_of}
 use Rattle.page_prose.proofs.headers.field_columns.Given as goal
 
 abbrev pub invariant-loop-rest : goal.invariant-loop-rest

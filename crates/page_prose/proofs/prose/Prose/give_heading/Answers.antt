@@ -1,26 +1,35 @@
-use Rattle.std.proofs.Common.{refl, sym, ◌∙◌, append-nil}
+use Rattle.std.proofs.Common.{refl}
 use Rattle.std.proofs.lemmas.Result.{err_from_is_err_and}
 use Rattle.page_core.specs.declared.faults.Fault.TheVariants.{Failed}
 use Rattle.page_core.proofs.SinkLemmas.{UpTo-start, UpTo-more, UpTo-within}
 use Rattle.page_prose.proofs.EmitsLemmas.{emits_last}
 use Rattle.page_prose.proofs.prose.Prose.give_heading.Goals as goal
 
+pub returns-in_err-piece-clause-gives : goal.returns-in_err-piece-clause-gives
+returns-in_err-piece-clause-gives g c =
+    let u0 = UpTo-start (g.met.O.PieceSink.laws Failed) _ _ in
+    let p = err_from_is_err_and c.from_residual.result c.from_residual.ensures.1 in
+    rw (p.1, p.2) (UpTo-within (g.met.O.PieceSink.laws _) _ _ _ u0 refl c.in_err-piece.ensures.gives)
+
 pub returns-in_err-give_two-clause-gives : goal.returns-in_err-give_two-clause-gives
 returns-in_err-give_two-clause-gives g c =
     let u0 = UpTo-start (g.met.O.PieceSink.laws Failed) _ _ in
-    let p = err_from_is_err_and c.from_residual.result c.from_residual.ensures.1 in
-    rw (p.1, p.2) (UpTo-within (g.met.O.PieceSink.laws _) _ _ _ u0 refl c.in_err-give_two.ensures.gives)
+    let u1 = UpTo-more (g.met.O.PieceSink.laws Failed) _ _ _ u0 refl c.in_ok-piece.ensures.gives in
+    let p = err_from_is_err_and c.from_residual-in_err-give_two.result c.from_residual-in_err-give_two.ensures.1 in
+    rw (p.1, p.2) (UpTo-within (g.met.O.PieceSink.laws _) _ _ _ u1 refl c.in_err-give_two.ensures.gives)
 
 pub returns-in_err-give_arguments-clause-gives : goal.returns-in_err-give_arguments-clause-gives
 returns-in_err-give_arguments-clause-gives g c =
     let u0 = UpTo-start (g.met.O.PieceSink.laws Failed) _ _ in
-    let u1 = UpTo-more (g.met.O.PieceSink.laws Failed) _ _ _ u0 refl c.in_ok-give_two.ensures.gives in
+    let u1 = UpTo-more (g.met.O.PieceSink.laws Failed) _ _ _ u0 refl c.in_ok-piece.ensures.gives in
+    let u2 = UpTo-more (g.met.O.PieceSink.laws Failed) _ _ _ u1 refl c.in_ok-give_two.ensures.gives in
     let p = err_from_is_err_and c.from_residual-in_err-give_arguments.result c.from_residual-in_err-give_arguments.ensures.1 in
-    rw (p.1, p.2) (UpTo-within (g.met.O.PieceSink.laws _) _ _ _ u1 refl c.in_err-give_arguments.ensures.gives)
+    rw (p.1, p.2) (UpTo-within (g.met.O.PieceSink.laws _) _ _ _ u2 refl c.in_err-give_arguments.ensures.gives)
 
 pub returns-clause-gives : goal.returns-clause-gives
 returns-clause-gives g c =
     let u0 = UpTo-start (g.met.O.PieceSink.laws Failed) _ _ in
-    let u1 = UpTo-more (g.met.O.PieceSink.laws Failed) _ _ _ u0 refl c.in_ok-give_two.ensures.gives in
-    let u2 = UpTo-more (g.met.O.PieceSink.laws Failed) _ _ _ u1 refl c.in_ok-give_arguments.ensures.gives in
-    emits_last g.met.O.PieceSink.laws _ _ c.give_two-2.result u2 (refl) c.give_two-2.ensures.gives
+    let u1 = UpTo-more (g.met.O.PieceSink.laws Failed) _ _ _ u0 refl c.in_ok-piece.ensures.gives in
+    let u2 = UpTo-more (g.met.O.PieceSink.laws Failed) _ _ _ u1 refl c.in_ok-give_two.ensures.gives in
+    let u3 = UpTo-more (g.met.O.PieceSink.laws Failed) _ _ _ u2 refl c.in_ok-give_arguments.ensures.gives in
+    emits_last g.met.O.PieceSink.laws _ _ c.give_two-2.result u3 (refl) c.give_two-2.ensures.gives

@@ -1,0 +1,13 @@
+use Rattle.std.proofs.Common.{◌≡◌, ◌≤◌, length}
+use Rattle.page_core.specs.Sinks.{UpTo}
+use Rattle.page_core.specs.declared.texts.TheConstants.{LINE}
+use Rattle.page_prose.specs.Tokens.{tokens_of}
+use Rattle.page_prose.specs.Words.{word_notes}
+use Rattle.page_prose.proofs.words.note_word.Given as goal
+
+abbrev pub invariant-loop-rest : goal.invariant-loop-rest
+invariant-loop-rest g l = UpTo g.O.PieceSink.gave l.fn.out (word_notes l.place (tokens_of l.quoted l.text)) (word_notes l.place (tokens_of l.quoted l.rest)) l.out
+    × (g.O.PieceSink.loans l.out ≡ g.O.PieceSink.loans l.fn.out) × (length l.rest ≤ LINE)
+
+abbrev pub decreases-loop-rest : goal.decreases-loop-rest
+decreases-loop-rest g l = length l.rest
