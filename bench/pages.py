@@ -1,5 +1,5 @@
 #!/usr/bin/env python3
-"""Times ./mandoc on pages of plain text paragraphs (usage: bench/pages.py [RUNS]).
+"""Times ./mandoc on pages of paragraphs, plain and with fonts (usage: bench/pages.py [RUNS]).
 
 Each page is formatted RUNS times (default 5); the least time counts. Where a `mandoc` is on the PATH it is run in turn
 with ours, and its time over ours is printed: above 1, ours is faster. Times hold for one machine in one run only.
@@ -14,13 +14,18 @@ SIZES = (10_000, 100_000, 1_000_000, 10_000_000)
 WORDS = "the page request of a macro in its scope fills glyphs and escapes registers or diversions with rows that columns hold".split()
 
 
-def page(size):
+def paragraph_line(at, has_fonts):
+    words = [WORDS[(at * 7 + k * 5) % len(WORDS)] for k in range(11)]
+    if has_fonts:
+        words[3] = f"\\fB{words[3]}\\fR"
+        words[7] = f"\\fI{words[7]}\\fP"
+    return " ".join(words) + "."
+
+
+def page(size, has_fonts):
     lines, length, at = [".TH BENCH 1 2026-11-22 Bench", ".SH NAME", "bench \\- a page to time"], 70, 0
     while length < size:
-        if at % 8 == 7:
-            line = ".PP"
-        else:
-            line = " ".join(WORDS[(at * 7 + k * 5) % len(WORDS)] for k in range(11)) + "."
+        line = ".PP" if at % 8 == 7 else paragraph_line(at, has_fonts)
         lines.append(line)
         length += len(line) + 1
         at += 1
@@ -52,18 +57,18 @@ def peak_of(words, name):
 def main():
     runs = int(sys.argv[1]) if len(sys.argv) > 1 else 5
     other = shutil.which("mandoc")
-    print("    bytes     MB/s   peak kB" + (f"   time ratio  peak kB of {other}" if other else ""))
+    print("         bytes     MB/s   peak kB" + (f"   time ratio  peak kB of {other}" if other else ""))
     with tempfile.TemporaryDirectory() as room:
-        for size in SIZES:
+        for kind, size in [(kind, size) for kind in ("plain", "fonts") for size in SIZES]:
             name = f"{room}/page"
             with open(name, "w") as file:
-                written = file.write(page(size))
+                written = file.write(page(size, kind == "fonts"))
             ours, theirs = [], []
             for _ in range(runs):
                 ours.append(timed(["./mandoc"], name))
                 if other:
                     theirs.append(timed([other, "-T", "ascii"], name))
-            line = f"{written:9} {written / min(ours) / 1e6:8.1f} {peak_of(['./mandoc'], name):9}"
+            line = f"{kind} {written:8} {written / min(ours) / 1e6:8.1f} {peak_of(['./mandoc'], name):9}"
             print(line + (f" {min(theirs) / min(ours):12.2f} {peak_of([other, '-T', 'ascii'], name):14}" if other else ""))
 
 

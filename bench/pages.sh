@@ -1,5 +1,5 @@
 #!/bin/sh
-# Times ./mandoc on pages of plain text paragraphs, from 10 kB to 10 MB: MB/s and the peak of memory, and, where
+# Times ./mandoc on pages of paragraphs, plain and with fonts, from 10 kB to 10 MB: MB/s and the peak of memory, and, where
 # another formatter of manual pages is installed as `mandoc`, the ratio of both times in this run.
 # usage: bench/pages.sh [RUNS]
 cd "$(dirname "$0")/.." || exit 1

@@ -7,5 +7,7 @@ mod pages;
 mod runs;
 #[cfg(test)]
 mod tests;
+#[cfg(test)]
+mod text_tests;
 
 pub use runs::{BYTES, Counts, Outcome, READS, run_page};

@@ -84,7 +84,7 @@ impl Write for Store {
 }
 
 // Settings by which each message is given.
-fn all_messages() -> Settings {
+pub(crate) fn all_messages() -> Settings {
     Settings {
         least: Some(Level::Base),
         ..Settings::new()
@@ -171,12 +171,12 @@ const TWO_MESSAGES: &[u8] = b".TH T 1 2020-01-01 S\n.SH A\n.ZZ\na\n\nb\n";
 const TWO_PARAGRAPHS: &str = "A\u{8}A\n       a\n\n       b\n";
 
 // A body between its header and its footer.
-fn framed(alloc: Global, body: &str) -> Result<String, AllocError> {
+pub(crate) fn framed(alloc: Global, body: &str) -> Result<String, AllocError> {
     format!(in alloc; "{HEADER}{body}{FOOTER}")
 }
 
 // The outcome of a run of so many lines.
-fn outcome(worst: Option<Level>, source: u64) -> Result<Outcome, Fault> {
+pub(crate) fn outcome(worst: Option<Level>, source: u64) -> Result<Outcome, Fault> {
     Ok(Outcome {
         worst,
         counts: Counts {
@@ -188,7 +188,7 @@ fn outcome(worst: Option<Level>, source: u64) -> Result<Outcome, Fault> {
 }
 
 // A run over a page gives these rows and messages.
-fn gives<I: Read, R: Abort + AllocGlobal>(
+pub(crate) fn gives<I: Read, R: Abort + AllocGlobal>(
     rt: &R,
     reader: &mut I,
     settings: &Settings,
