@@ -1,5 +1,5 @@
 -- The operators of an expression: roff(7), "Numerical expressions".
-use Rattle.std.specs.Prelude.{ℕ, Bool, true, false, ◌&&◌, ◌||◌, ◌==◌, List, [], ◌∷◌, length, drop, if◌then◌else◌, Option, Some, None, option_map, ℤ, pos, negsuc, ◌+ℤ◌, ◌-ℤ◌, ◌*ℤ◌, int_div, int_rem, int_lt}
+use Rattle.std.specs.Prelude.{ℕ, Bool, true, false, ◌&&◌, ◌||◌, ◌==◌, List, [], ◌∷◌, length, drop, if◌then◌else◌, Option, Some, None, option_map, ℤ, pos, negsuc, ◌+ℤ◌, ◌-ℤ◌, ◌*ℤ◌, int_div, int_rem, int_lt, int_le}
 use Rattle.std.specs.Int.{is_positive}
 use Rattle.page_core_numbers.specs.declared.operators.Operator.{Operator}
 use Rattle.page_core_numbers.specs.declared.operators.Operator.TheVariants.{Add, Subtract, Multiply, Divide, Remainder, Less, Greater, AtMost, AtLeast, Equal, And, Or}
@@ -46,15 +46,11 @@ abbrev pub is_zero : ℤ → Bool
 is_zero (pos n) = n == 0
 is_zero (negsuc n) = false
 
--- equal, which is not below in either way
 abbrev pub is_equal : ℤ → ℤ → Bool
 is_equal (pos a) (pos b) = a == b
 is_equal (pos a) (negsuc b) = false
 is_equal (negsuc a) (pos b) = false
 is_equal (negsuc a) (negsuc b) = a == b
-
-abbrev pub not_above : ℤ → ℤ → Bool
-not_above a b = int_lt a b || is_equal a b
 
 -- Division is cut towards 0, and the remainder has the sign of the dividend; by 0 both give 0. A comparison gives 1 or 0, and `&`
 -- and `:` ask whether both or one of the two are above 0.
@@ -66,8 +62,8 @@ result_of Divide a b = if is_zero b then pos 0 else held (int_div a b)
 result_of Remainder a b = if is_zero b then pos 0 else int_rem a b
 result_of Less a b = truth (int_lt a b)
 result_of Greater a b = truth (int_lt b a)
-result_of AtMost a b = truth (not_above a b)
-result_of AtLeast a b = truth (not_above b a)
+result_of AtMost a b = truth (int_le a b)
+result_of AtLeast a b = truth (int_le b a)
 result_of Equal a b = truth (is_equal a b)
 result_of And a b = truth (is_positive a && is_positive b)
 result_of Or a b = truth (is_positive a || is_positive b)

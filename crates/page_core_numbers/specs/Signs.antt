@@ -7,7 +7,7 @@ use Rattle.page_core_numbers.specs.Expressions.{Read, negated, expression_within
 -- how often the signs at a text's front negate, and what follows them
 abbrev pub minus_count : List ℕ → ℕ
 minus_count [] = 0
-minus_count (b ∷ bs) = if b == 0x2D then 1 + minus_count bs else if b == 0x2B then minus_count bs else 0
+minus_count (b ∷ bs) = if b == 0x2D then suc (minus_count bs) else if b == 0x2B then minus_count bs else 0
 
 abbrev pub after_signs : List ℕ → List ℕ
 after_signs [] = []

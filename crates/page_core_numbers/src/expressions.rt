@@ -46,14 +46,15 @@ fn split_signs(text: &[u8]) -> (usize, &[u8])
 }
 
 // A value that is negated so often.
+#[tactic(auto, using(crate::proofs::SignLemmas::negated_next))]
 fn negate(value: i32, times: usize) -> i32
     ensures { result ≡ negated_value times value }
 {
-    let mut value = value;
+    let mut negated = value;
     for _ in 0..times {
-        value = value.saturating_neg();
+        negated = negated.saturating_neg();
     }
-    value
+    negated
 }
 
 // An operand that is negated so often.

@@ -1,0 +1,71 @@
+-- Operands and operations.
+use Rattle.std.proofs.Common.{◌≡◌, ◌≢◌, ℕ, zero, suc, ◌+◌, ◌-◌, ◌<◌, ◌≤◌, ◌==◌, Bool, true, false, List, [], ◌∷◌, ◌++◌, length, get_or, Option, None, Some, option_map, ℤ, refl, sym, ap, ◌∙◌, arith}
+use Rattle.std.proofs.lemmas.Bool.Decides.{nat_tests}
+use Rattle.page_core_numbers.specs.declared.scales.Scale.{Scale}
+use Rattle.page_core_numbers.specs.declared.operators.Operator.{Operator}
+use Rattle.page_core_numbers.specs.declared.troubles.Trouble.TheVariants.{NotNumeric, Parens}
+use Rattle.page_core_numbers.specs.Numbers.{number_at}
+use Rattle.page_core_numbers.specs.Expressions.{Read, missing, number, opened, parenthesized, operand_by, first, combined, next_operator, operation, operations, expression_by, expression_within}
+use Rattle.page_core_numbers.specs.Signs.{inside_of}
+
+pub number_at-nil : (scale : Scale) → number_at scale [] ≡ None
+unfolding number_at
+number_at-nil scale = refl
+
+-- an operand that begins with no sign and no parenthesis is a number
+pub operand-number : (inside : Option (List ℕ → Read ℤ)) (scale : Scale) (text : List ℕ)
+    → (get_or text 0 0 == 45) ≡ false → (get_or text 0 0 == 43) ≡ false → (get_or text 0 0 == 40) ≡ false → operand_by inside scale text ≡ number text (number_at scale text)
+unfolding operand_by
+operand-number inside scale [] minus plus paren = rw (number_at-nil scale) refl
+operand-number inside scale (b ∷ bs) minus plus paren = rw (minus, plus, paren) refl
+
+-- an operand in parentheses
+pub operand-opened : (inside : Option (List ℕ → Read ℤ)) (scale : Scale) (bs : List ℕ) → operand_by inside scale (40 ∷ bs) ≡ opened inside (40 ∷ bs) bs
+unfolding operand_by
+operand-opened inside scale bs = refl
+
+pub inside-none : (room : ℕ) (scale : Scale) → room ≤ 0 → inside_of room scale ≡ None
+inside-none zero scale h = refl
+inside-none (suc room) scale h = absurd (omega arith)
+
+pub inside-some : (room : ℕ) (scale : Scale) → 0 < room → inside_of room scale ≡ Some (expression_within (room - 1) scale)
+inside-some zero scale h = absurd (omega arith)
+inside-some (suc room) scale h = let e : suc room - 1 ≡ room = omega arith in rw e refl
+
+pub expression-is : (room : ℕ) (scale : Scale) (text : List ℕ) → expression_within room scale text ≡ expression_by (operand_by (inside_of room scale) scale) text
+unfolding expression_within
+expression-is zero scale text = refl
+expression-is (suc room) scale text = refl
+
+-- ---- operations
+
+-- with steps enough all operations that follow are done
+pub record Goes (operand_of : List ℕ → Read (Option ℤ)) (all so_far : Read ℤ) : Type 0 where
+  pub steps : ℕ
+  pub enough : length so_far.rest < steps
+  pub same : all ≡ operations operand_of steps so_far
+
+pub goes-from : (operand_of : List ℕ → Read (Option ℤ)) (text : List ℕ) (all so_far : Read ℤ) → all ≡ expression_by operand_of text
+    → so_far ≡ first (operand_of text) → length so_far.rest ≤ length text → Goes operand_of all so_far
+goes-from operand_of text all so_far e f h = record { steps = suc (length text); enough = omega arith; same = e ∙ ap (operations operand_of (suc (length text))) (sym f) }
+
+pub goes-on : (operand_of : List ℕ → Read (Option ℤ)) (all so_far more : Read ℤ) (operator : Operator) (rest : List ℕ) → Goes operand_of all so_far
+    → next_operator so_far ≡ Some (operator, rest) → more ≡ combined so_far operator (operand_of rest) → length more.rest < length so_far.rest → Goes operand_of all more
+unfolding operations
+goes-on operand_of all so_far more operator rest g next m h = at g.steps g.enough g.same
+  where
+    at : (n : ℕ) → length so_far.rest < n → all ≡ operations operand_of n so_far → Goes operand_of all more
+    at zero enough same = absurd (omega arith)
+    at (suc n) enough same = record {
+      steps = n;
+      enough = omega arith;
+      same = same ∙ ap (operation (operations operand_of n) operand_of so_far) next ∙ ap (operations operand_of n) (sym m);
+    }
+
+pub goes-end : (operand_of : List ℕ → Read (Option ℤ)) (all so_far : Read ℤ) → Goes operand_of all so_far → next_operator so_far ≡ None → so_far ≡ all
+unfolding operations
+goes-end operand_of all so_far g next = at g.steps g.enough g.same
+  where
+    at : (n : ℕ) → length so_far.rest < n → all ≡ operations operand_of n so_far → so_far ≡ all
+    at zero enough same = absurd (omega arith)
+    at (suc n) enough same = sym (same ∙ ap (operation (operations operand_of n) operand_of so_far) next)
