@@ -1,12 +1,12 @@
 -- Operands and operations.
-use Rattle.std.proofs.Common.{◌≡◌, ◌≢◌, ℕ, zero, suc, ◌+◌, ◌-◌, ◌<◌, ◌≤◌, ◌==◌, Bool, true, false, List, [], ◌∷◌, ◌++◌, length, get_or, Option, None, Some, option_map, ℤ, refl, sym, ap, ◌∙◌, arith}
-use Rattle.std.proofs.lemmas.Bool.Decides.{nat_tests}
+use Rattle.std.proofs.Common.{◌≡◌, ◌≢◌, ℕ, zero, suc, ◌+◌, ◌-◌, ◌<◌, ◌≤◌, ◌==◌, Bool, true, false, List, [], ◌∷◌, ◌++◌, length, get_or, Option, None, Some, option_map, ℤ, inl, inr, refl, sym, ap, ◌∙◌, arith}
+use Rattle.std.proofs.lemmas.Bool.{cases_Bool, cond-true, cond-false, eqb-true}
 use Rattle.page_core_numbers.specs.declared.scales.Scale.{Scale}
 use Rattle.page_core_numbers.specs.declared.operators.Operator.{Operator}
 use Rattle.page_core_numbers.specs.declared.troubles.Trouble.TheVariants.{NotNumeric, Parens}
 use Rattle.page_core_numbers.specs.Numbers.{number_at}
 use Rattle.page_core_numbers.specs.Expressions.{Read, missing, number, opened, parenthesized, operand_by, first, combined, next_operator, operation, operations, expression_by, expression_within}
-use Rattle.page_core_numbers.specs.Signs.{inside_of}
+use Rattle.page_core_numbers.specs.Signs.{inside_of, behind_open}
 
 pub number_at-nil : (scale : Scale) → number_at scale [] ≡ None
 unfolding number_at
@@ -14,15 +14,31 @@ number_at-nil scale = refl
 
 -- an operand that begins with no sign and no parenthesis is a number
 pub operand-number : (inside : Option (List ℕ → Read ℤ)) (scale : Scale) (text : List ℕ)
-    → (get_or text 0 0 == 45) ≡ false → (get_or text 0 0 == 43) ≡ false → (get_or text 0 0 == 40) ≡ false → operand_by inside scale text ≡ number text (number_at scale text)
+    → (get_or text 0 0 == 45) ≡ false → (get_or text 0 0 == 43) ≡ false → behind_open text ≡ None → operand_by inside scale text ≡ number text (number_at scale text)
 unfolding operand_by
-operand-number inside scale [] minus plus paren = rw (number_at-nil scale) refl
-operand-number inside scale (b ∷ bs) minus plus paren = rw (minus, plus, paren) refl
+operand-number inside scale [] minus plus none = rw (number_at-nil scale) refl
+operand-number inside scale (b ∷ bs) minus plus none =
+    elim (cases_Bool (b == 40)) [
+      | inl paren ↦ let never : Some bs ≡ None = sym (cond-true _ _ _ paren) ∙ none in cc
+      | inr other ↦ rw (minus, plus, other) refl
+    ]
 
 -- an operand in parentheses
-pub operand-opened : (inside : Option (List ℕ → Read ℤ)) (scale : Scale) (bs : List ℕ) → operand_by inside scale (40 ∷ bs) ≡ opened inside (40 ∷ bs) bs
+operand-opened : (inside : Option (List ℕ → Read ℤ)) (scale : Scale) (text behind : List ℕ) → behind_open text ≡ Some behind
+    → operand_by inside scale text ≡ opened inside text behind
 unfolding operand_by
-operand-opened inside scale bs = refl
+operand-opened inside scale [] behind some = cc
+operand-opened inside scale (b ∷ bs) behind some =
+    elim (cases_Bool (b == 40)) [
+      | inl paren ↦
+          let is : b ≡ 40 = eqb-true b 40 paren in
+          let parts : Some bs ≡ Some behind = sym (cond-true _ _ _ paren) ∙ some in
+          let same : bs ≡ behind = cc in
+          let minus : (b == 45) ≡ false = rw is refl in
+          let plus : (b == 43) ≡ false = rw is refl in
+          rw (minus, plus, paren) (ap (opened inside (b ∷ bs)) same)
+      | inr other ↦ let never : None ≡ Some behind = sym (cond-false _ _ _ other) ∙ some in cc
+    ]
 
 pub inside-none : (room : ℕ) (scale : Scale) → room ≤ 0 → inside_of room scale ≡ None
 inside-none zero scale h = refl
@@ -31,6 +47,17 @@ inside-none (suc room) scale h = absurd (omega arith)
 pub inside-some : (room : ℕ) (scale : Scale) → 0 < room → inside_of room scale ≡ Some (expression_within (room - 1) scale)
 inside-some zero scale h = absurd (omega arith)
 inside-some (suc room) scale h = let e : suc room - 1 ≡ room = omega arith in rw e refl
+
+-- where one more may open, and where none may
+pub operand-inside : (room : ℕ) (scale : Scale) (text behind : List ℕ) → behind_open text ≡ Some behind → 0 < room
+    → operand_by (inside_of room scale) scale text ≡ parenthesized (expression_within (room - 1) scale behind)
+operand-inside room scale text behind some more =
+    operand-opened (inside_of room scale) scale text behind some ∙ ap (λ inside. opened inside text behind) (inside-some room scale more)
+
+pub operand-full : (room : ℕ) (scale : Scale) (text behind : List ℕ) → behind_open text ≡ Some behind → room ≤ 0
+    → operand_by (inside_of room scale) scale text ≡ missing Parens text
+operand-full room scale text behind some full =
+    operand-opened (inside_of room scale) scale text behind some ∙ ap (λ inside. opened inside text behind) (inside-none room scale full)
 
 pub expression-is : (room : ℕ) (scale : Scale) (text : List ℕ) → expression_within room scale text ≡ expression_by (operand_by (inside_of room scale) scale) text
 unfolding expression_within

@@ -107,3 +107,9 @@ negated_times-some times o value r e n =
 -- a value that is negated once more
 pub negated_next : (n : ℕ) (v w r : ℤ) → w ≡ negated_value n v → r ≡ held (neg_ℤ w) → r ≡ negated_value (n + 1) v
 negated_next n v w r e h = rw add-one (h ∙ ap (λ z. held (neg_ℤ z)) e)
+
+-- what was read behind signs, and negated as they say
+pub operand-signed : (inside : Option (List ℕ → Read ℤ)) (scale : Scale) (text : List ℕ) (times : ℕ) (unsigned : List ℕ) (o r : Read (Option ℤ))
+    → times ≡ minus_count text → unsigned ≡ after_signs text → o ≡ operand_by inside scale unsigned → r ≡ negated_times times o → r ≡ operand_by inside scale text
+operand-signed inside scale text times unsigned o r t u e n =
+    n ∙ ap (λ k. negated_times k o) t ∙ ap (negated_times (minus_count text)) (e ∙ ap (operand_by inside scale) u) ∙ sym (operand-signs inside scale text)

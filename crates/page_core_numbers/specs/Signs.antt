@@ -1,4 +1,4 @@
--- Signs before an operand, as the code takes them.
+-- What stands before an operand, as the code takes it: signs and a parenthesis that opens.
 use Rattle.std.specs.Prelude.{ℕ, zero, suc, ◌+◌, Bool, ◌==◌, List, [], ◌∷◌, if◌then◌else◌, Option, None, Some, option_map, ℤ, neg_ℤ}
 use Rattle.page_core_numbers.specs.declared.scales.Scale.{Scale}
 use Rattle.page_core_numbers.specs.Numbers.{held}
@@ -20,6 +20,11 @@ negated_value (suc times) n = held (neg_ℤ (negated_value times n))
 abbrev pub negated_times : ℕ → Read (Option ℤ) → Read (Option ℤ)
 negated_times zero operand = operand
 negated_times (suc times) operand = negated (negated_times times operand)
+
+-- what stands behind a parenthesis that opens
+abbrev pub behind_open : List ℕ → Option (List ℕ)
+behind_open [] = None
+behind_open (b ∷ bs) = if b == 0x28 then Some bs else None
 
 -- what reads an expression in parentheses where so many may be open
 abbrev pub inside_of : ℕ → Scale → Option (List ℕ → Read ℤ)

@@ -1,11 +1,11 @@
 //! Expressions: roff(7), "Numerical expressions". Each operation is done as its operand was read; an expression in parentheses is read
 //! by a call inside the call.
 
-ghost use Rattle.std.specs.Prelude.{◌≡◌, ◌≤◌, ◌<◌, ◌+◌, ◌^◌, length, option_map, IfSome, Some, None, is_some, false};
+ghost use Rattle.std.specs.Prelude.{◌≡◌, ◌≤◌, ◌<◌, ◌+◌, ◌^◌, length, option_map, IfSome, Some, None, is_some, false, option_copied};
 ghost use Rattle.page_core_numbers.specs.Expressions.{expression_within, operand_by, missing, number, parenthesized, first, combined, next_operator, after_close};
 ghost use Rattle.page_core_numbers.specs.Numbers.{number_at};
 ghost use Rattle.page_core_numbers.specs.Readings.{operand_seen, reading_seen, found_seen, troubles_seen, count_of};
-ghost use Rattle.page_core_numbers.specs.Signs.{after_signs, minus_count, negated_times, negated_value, inside_of};
+ghost use Rattle.page_core_numbers.specs.Signs.{after_signs, minus_count, negated_times, negated_value, inside_of, behind_open};
 
 use crate::decimals::read_number;
 use crate::operators::{FoundOperator, Operator, read_operator};
@@ -127,6 +127,17 @@ fn parenthesized(inside: Reading<'_>) -> Operand<'_>
     }
 }
 
+// What stands behind a parenthesis that opens at a text's front.
+fn behind_open(text: &[u8]) -> Option<&[u8]>
+    ensures value { option_copied result ≡ behind_open text.now }
+    ensures bound { IfSome result (λ behind. length behind.now < length text.now) }
+{
+    match text {
+        [b'(', behind @ ..] => Some(behind),
+        _ => None,
+    }
+}
+
 // The operand at a text's front, in which `room` parentheses may be open.
 #[cycle(expression)]
 fn read_operand<'a>(text: &'a [u8], scale: Scale, room: u32) -> Operand<'a>
@@ -134,12 +145,15 @@ fn read_operand<'a>(text: &'a [u8], scale: Scale, room: u32) -> Operand<'a>
     ensures bound { count_of result.troubles + length result.rest.now ≤ length text.now }
 {
     let (minuses, unsigned) = split_signs(text);
-    let operand = match unsigned {
-        [b'(', behind @ ..] if room > 0 => {
-            parenthesized(read_expression(behind, scale, room - 1))
+    let operand = match behind_open(unsigned) {
+        None => read_number_operand(unsigned, scale),
+        Some(behind) => {
+            if room == 0 {
+                missing(Trouble::Parens, unsigned)
+            } else {
+                parenthesized(read_expression(behind, scale, room - 1))
+            }
         }
-        [b'(', ..] => missing(Trouble::Parens, unsigned),
-        _ => read_number_operand(unsigned, scale),
     };
     negate_operand(operand, minuses)
 }
