@@ -37,7 +37,7 @@ pub number_at-none : (scale : Scale) (text whole more fraction : List ℕ) → w
 unfolding number_at
 number_at-none scale text whole more fraction w m f no_whole no_fraction =
     let none : (length (digits_of text) + length (fraction_of (after_digits text)) == 0) ≡ true =
-        rw (← w, ← m, ← f, no_whole, no_fraction) refl in
+    rw (← w, ← m, ← f, no_whole, no_fraction) refl in
     rw none refl
 
 pub number_at-some : (scale : Scale) (text whole more fraction behind : List ℕ) → whole ≡ digits_of text → more ≡ after_digits text → fraction ≡ fraction_of more

@@ -28,8 +28,8 @@ pub stopping : (n m k more : ℕ) (trouble : Trouble) (divides : Bool) → more 
     ≡ (replicate n DivZero ++ []) ++ ((replicate m DivZero ++ (trouble ∷ replicate k DivZero)) ++ (if divides then DivZero ∷ [] else []))
 stopping n m k more trouble divides e =
     rw (append-nil (replicate n DivZero), division_more k more divides e, ← replicate-append-replicate n m DivZero)
-      (append_assoc (replicate n DivZero) (replicate m DivZero) _
-      ∙ ap (λ l. replicate n DivZero ++ l) (sym (append_assoc (replicate m DivZero) (trouble ∷ replicate k DivZero) _)))
+    (append_assoc (replicate n DivZero) (replicate m DivZero) _
+    ∙ ap (λ l. replicate n DivZero ++ l) (sym (append_assoc (replicate m DivZero) (trouble ∷ replicate k DivZero) _)))
 
 -- ---- messages
 

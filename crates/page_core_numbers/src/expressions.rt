@@ -200,7 +200,9 @@ fn combined<'a>(so_far: Reading<'a>, operator: Operator, operand: Operand<'a>) -
     };
     Reading {
         value,
-        troubles: so_far.troubles.followed_by(operand.troubles, divides_by_zero),
+        troubles: so_far
+            .troubles
+            .followed_by(operand.troubles, divides_by_zero),
         rest: operand.rest,
     }
 }

@@ -108,11 +108,7 @@ fn escape_columns(escape: Escape<'_>, output: Output) -> u32
         Escape::Blanks(expression) => {
             blanks_in(read_expression(expression, Scale::Em, PARENS).value)
         }
-        Escape::Nothing
-        | Escape::Glue
-        | Escape::Font(_)
-        | Escape::Unsupported
-        | Escape::Bad => 0,
+        Escape::Nothing | Escape::Glue | Escape::Font(_) | Escape::Unsupported | Escape::Bad => 0,
     }
 }
 

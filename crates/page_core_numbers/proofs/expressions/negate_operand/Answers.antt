@@ -12,4 +12,4 @@ returns-in-Some-clause-value c =
     let fits : FitsSigned w32 c.negate.result = search rules in
     let given : FitsSigned w32 c.in-Some.value = search rules in
     negated_times-some c.args.times (operand_seen c.args.operand) c.in-Some.value _ c.in-Some.is
-      (to_z-of_z w32 c.negate.result fits ∙ (rw (to_z-of_z w32 c.in-Some.value given) at c.negate.ensures))
+    (to_z-of_z w32 c.negate.result fits ∙ (rw (to_z-of_z w32 c.in-Some.value given) at c.negate.ensures))

@@ -10,7 +10,7 @@ loop-first-preserved c =
     let some : 0 < length l.rest.now = omega (arith, front.ensures.some, front.ensures.whole_characters.0) in (
       rest.utf8,
       rw rest.ensures.value
-        (left-next c.args.output c.args.text.now l.sum l.rest.now front.result.0 front.result.1 l.invariant.1 some front.ensures.columns front.ensures.len front.ensures.some),
+          (left-next c.args.output c.args.text.now l.sum l.rest.now front.result.0 front.result.1 l.invariant.1 some front.ensures.columns front.ensures.len front.ensures.some),
       omega (arith, l.invariant.2, rest.ensures.len, front.ensures.bound, front.ensures.some),
     )
 

@@ -14,4 +14,4 @@ pub returns-clause-gives : goal.returns-clause-gives
 returns-clause-gives g c =
     let start = UpTo-start g.met.N.NoteSink.laws c.args.notes.now _ in
     gives_last g.met.N.NoteSink.laws _ _ c.report_stopped.result
-      (UpTo-more g.met.N.NoteSink.laws _ _ _ start (messages-append c.args.line c.args.column _ _) c.in_ok-report_divisions.ensures.gives) refl c.report_stopped.ensures.gives
+    (UpTo-more g.met.N.NoteSink.laws _ _ _ start (messages-append c.args.line c.args.column _ _) c.in_ok-report_divisions.ensures.gives) refl c.report_stopped.ensures.gives

@@ -14,4 +14,4 @@ pub returns-in_ok-note-in-Some-clause-gives : goal.returns-in_ok-note-in-Some-cl
 returns-in_ok-note-in-Some-clause-gives g c =
     let start = UpTo-start g.met.N.NoteSink.laws c.args.notes.now _ in
     rw c.in-Some.is
-      (gives_last g.met.N.NoteSink.laws _ _ c.report_divisions.result (UpTo-more g.met.N.NoteSink.laws _ _ _ start refl (rw c.note.ensures at c.in_ok-note-in-Some.ensures.gives)) refl c.report_divisions.ensures.gives)
+    (gives_last g.met.N.NoteSink.laws _ _ c.report_divisions.result (UpTo-more g.met.N.NoteSink.laws _ _ _ start refl (rw c.note.ensures at c.in_ok-note-in-Some.ensures.gives)) refl c.report_divisions.ensures.gives)
