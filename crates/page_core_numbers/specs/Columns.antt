@@ -9,7 +9,6 @@ use Rattle.page_core_escapes.specs.Meanings.{Meaning}
 use Rattle.page_core_escapes.specs.Escapes.{escape_of}
 use Rattle.page_core_tables.specs.Glyphs.{Symbol, glyph_of, spelling_of}
 use Rattle.page_core_numbers.specs.declared.scales.Scale.TheVariants.{Em}
-use Rattle.page_core_numbers.specs.declared.text_columns.TheConstants.{WIDEST}
 use Rattle.page_core_numbers.specs.Expressions.{expression_of}
 
 -- the columns of a character, none where it has no width, and of characters
@@ -46,9 +45,9 @@ abbrev pub printed_symbol : Output → Option Symbol → List ℕ
 printed_symbol output None = codes "<?>"
 printed_symbol output (Some symbol) = if prints_ascii output then spelled symbol.spelling else symbol.code ∷ []
 
--- as many blanks as columns are in so many basic units
+-- as many blanks as columns are in so many basic units, 1000 at most
 abbrev pub blanks_in : ℤ → ℕ
-blanks_in (pos units) = min (units / 24) WIDEST
+blanks_in (pos units) = min (units / 24) 1000
 blanks_in (negsuc units) = 0
 
 abbrev pub printed_escape : Output → Meaning → List ℕ

@@ -4,7 +4,6 @@ use Rattle.std.specs.Prelude.{ℕ, zero, suc, Bool, true, false, ◌==◌, List,
 use Rattle.page_core.specs.declared.note_kinds.NoteKind.{NoteKind}
 use Rattle.page_core.specs.declared.note_kinds.NoteKind.TheVariants as kinds
 use Rattle.page_core.specs.Messages.{Message}
-use Rattle.page_core_numbers.specs.declared.TheConstants.{PARENS}
 use Rattle.page_core_numbers.specs.declared.scales.Scale.{Scale}
 use Rattle.page_core_numbers.specs.declared.operators.Operator.{Operator}
 use Rattle.page_core_numbers.specs.declared.troubles.Trouble.{Trouble}
@@ -99,9 +98,9 @@ unfoldable pub expression_within : (room : ℕ) → Scale → List ℕ → Read 
 expression_within zero scale text = expression_by (operand_by None scale) text
 expression_within (suc room) scale text = expression_by (operand_by (Some (expression_within room scale)) scale) text
 
--- the expression at a text's front
+-- the expression at a text's front; sixteen parentheses may be open in it
 abbrev pub expression_of : Scale → List ℕ → Read ℤ
-expression_of scale text = expression_within PARENS scale text
+expression_of scale text = expression_within 16 scale text
 
 -- ---- messages
 
