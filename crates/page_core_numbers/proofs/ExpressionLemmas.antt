@@ -1,11 +1,11 @@
 -- Operands and operations.
-use Rattle.std.proofs.Common.{◌≡◌, ◌≢◌, ℕ, zero, suc, ◌+◌, ◌-◌, ◌<◌, ◌≤◌, ◌==◌, Bool, true, false, List, [], ◌∷◌, ◌++◌, length, get_or, Option, None, Some, option_map, ℤ, inl, inr, refl, sym, ap, ◌∙◌, arith}
+use Rattle.std.proofs.Common.{◌≡◌, ◌≢◌, ℕ, zero, suc, ◌+◌, ◌-◌, ◌<◌, ◌≤◌, ◌==◌, Bool, true, false, List, [], ◌∷◌, ◌++◌, length, get_or, Option, None, Some, option_map, fold, ℤ, inl, inr, refl, sym, ap, ◌∙◌, arith}
 use Rattle.std.proofs.lemmas.Bool.{cases_Bool, cond-true, cond-false, eqb-true}
 use Rattle.page_core_numbers.specs.declared.scales.Scale.{Scale}
 use Rattle.page_core_numbers.specs.declared.operators.Operator.{Operator}
 use Rattle.page_core_numbers.specs.declared.troubles.Trouble.TheVariants.{NotNumeric, Parens}
 use Rattle.page_core_numbers.specs.Numbers.{number_at}
-use Rattle.page_core_numbers.specs.Expressions.{Read, missing, number, opened, parenthesized, operand_by, first, combined, next_operator, operation, operations, expression_by, expression_within}
+use Rattle.page_core_numbers.specs.Expressions.{Read, missing, number, opened, parenthesized, operand_by, first, combined, next_operator, operations_at, expression_by, expression_within}
 use Rattle.page_core_numbers.specs.Signs.{inside_of, behind_open}
 
 pub number_at-nil : (scale : Scale) → number_at scale [] ≡ None
@@ -66,33 +66,48 @@ expression-is (suc room) scale text = refl
 
 -- ---- operations
 
+-- the operations that follow what was read so far, done on it
+abbrev pub done : (operand_of : List ℕ → Read (Option ℤ)) → ℕ → Read ℤ → Read ℤ
+done operand_of steps so_far =
+    fold (λ (r : Read ℤ) (operation : Operator × Read (Option ℤ)). combined r operation.0 operation.1) so_far
+      (operations_at operand_of steps (next_operator so_far.ends so_far.rest))
+
+done-next : (operand_of : List ℕ → Read (Option ℤ)) (steps : ℕ) (so_far : Read ℤ) (operator : Operator) (rest : List ℕ)
+    → next_operator so_far.ends so_far.rest ≡ Some (operator, rest) → done operand_of (suc steps) so_far ≡ done operand_of steps (combined so_far operator (operand_of rest))
+unfolding operations_at
+done-next operand_of steps so_far operator rest next = rw next refl
+
+done-none : (operand_of : List ℕ → Read (Option ℤ)) (steps : ℕ) (so_far : Read ℤ) → next_operator so_far.ends so_far.rest ≡ None → done operand_of (suc steps) so_far ≡ so_far
+unfolding operations_at
+done-none operand_of steps so_far next = rw next refl
+
 -- with steps enough all operations that follow are done
 pub record Goes (operand_of : List ℕ → Read (Option ℤ)) (all so_far : Read ℤ) : Type 0 where
   pub steps : ℕ
   pub enough : length so_far.rest < steps
-  pub same : all ≡ operations operand_of steps so_far
+  pub same : all ≡ done operand_of steps so_far
 
 pub goes-from : (operand_of : List ℕ → Read (Option ℤ)) (text : List ℕ) (all so_far : Read ℤ) → all ≡ expression_by operand_of text
     → so_far ≡ first (operand_of text) → length so_far.rest ≤ length text → Goes operand_of all so_far
-goes-from operand_of text all so_far e f h = record { steps = suc (length text); enough = omega arith; same = e ∙ ap (operations operand_of (suc (length text))) (sym f) }
+unfolding expression_by
+goes-from operand_of text all so_far e f h = record { steps = suc (length text); enough = omega arith; same = e ∙ ap (done operand_of (suc (length text))) (sym f) }
 
 pub goes-on : (operand_of : List ℕ → Read (Option ℤ)) (all so_far more : Read ℤ) (operator : Operator) (rest : List ℕ) → Goes operand_of all so_far
-    → next_operator so_far ≡ Some (operator, rest) → more ≡ combined so_far operator (operand_of rest) → length more.rest < length so_far.rest → Goes operand_of all more
-unfolding operations
+    → next_operator so_far.ends so_far.rest ≡ Some (operator, rest) → more ≡ combined so_far operator (operand_of rest) → length more.rest < length so_far.rest
+    → Goes operand_of all more
 goes-on operand_of all so_far more operator rest g next m h = at g.steps g.enough g.same
   where
-    at : (n : ℕ) → length so_far.rest < n → all ≡ operations operand_of n so_far → Goes operand_of all more
+    at : (n : ℕ) → length so_far.rest < n → all ≡ done operand_of n so_far → Goes operand_of all more
     at zero enough same = absurd (omega arith)
     at (suc n) enough same = record {
       steps = n;
       enough = omega arith;
-      same = same ∙ ap (operation (operations operand_of n) operand_of so_far) next ∙ ap (operations operand_of n) (sym m);
+      same = same ∙ done-next operand_of n so_far operator rest next ∙ ap (done operand_of n) (sym m);
     }
 
-pub goes-end : (operand_of : List ℕ → Read (Option ℤ)) (all so_far : Read ℤ) → Goes operand_of all so_far → next_operator so_far ≡ None → so_far ≡ all
-unfolding operations
+pub goes-end : (operand_of : List ℕ → Read (Option ℤ)) (all so_far : Read ℤ) → Goes operand_of all so_far → next_operator so_far.ends so_far.rest ≡ None → so_far ≡ all
 goes-end operand_of all so_far g next = at g.steps g.enough g.same
   where
-    at : (n : ℕ) → length so_far.rest < n → all ≡ operations operand_of n so_far → so_far ≡ all
+    at : (n : ℕ) → length so_far.rest < n → all ≡ done operand_of n so_far → so_far ≡ all
     at zero enough same = absurd (omega arith)
-    at (suc n) enough same = sym (same ∙ ap (operation (operations operand_of n) operand_of so_far) next)
+    at (suc n) enough same = sym (same ∙ done-none operand_of n so_far next)

@@ -1,6 +1,6 @@
 -- An expression at a text's front: roff(7), "Numerical expressions". Operands and operators follow one another, and each operation is
 -- done as it comes.
-use Rattle.std.specs.Prelude.{ℕ, zero, suc, Bool, true, false, ◌==◌, List, [], ◌∷◌, ◌++◌, length, map, codes, if◌then◌else◌, Option, Some, None, option_map, unwrap_or, ℤ, pos, neg_ℤ}
+use Rattle.std.specs.Prelude.{ℕ, zero, suc, Bool, true, false, ◌==◌, List, [], ◌∷◌, ◌++◌, length, fold, map, codes, if◌then◌else◌, Option, Some, None, option_map, unwrap_or, ℤ, pos, neg_ℤ}
 use Rattle.page_core.specs.declared.note_kinds.NoteKind.{NoteKind}
 use Rattle.page_core.specs.declared.note_kinds.NoteKind.TheVariants as kinds
 use Rattle.page_core.specs.Messages.{Message}
@@ -76,22 +76,24 @@ combined so_far operator operand = record {
   rest = operand.rest;
 }
 
--- the operator that goes on with an expression
-abbrev pub next_operator : Read ℤ → Option (Operator × List ℕ)
-next_operator so_far = if so_far.ends then None else operator_at so_far.rest
+-- the operator at a text's front, where the expression goes on
+abbrev pub next_operator : (ends : Bool) → List ℕ → Option (Operator × List ℕ)
+next_operator ends text = if ends then None else operator_at text
 
--- an operation, and what comes after it
-abbrev pub operation : (go_on : Read ℤ → Read ℤ) → (operand_of : List ℕ → Read (Option ℤ)) → Read ℤ → Option (Operator × List ℕ) → Read ℤ
-operation go_on operand_of so_far None = so_far
-operation go_on operand_of so_far (Some found) = go_on (combined so_far found.0 (operand_of found.1))
+-- The operations at a text's front: operators with their operands, up to where the expression ends or no operator follows. `steps` is
+-- above the number of bytes.
+unfoldable pub operations_at : (operand_of : List ℕ → Read (Option ℤ)) → (steps : ℕ) → Option (Operator × List ℕ) → List (Operator × Read (Option ℤ))
+operations_at operand_of zero next = []
+operations_at operand_of (suc steps) None = []
+operations_at operand_of (suc steps) (Some found) =
+    (found.0, operand_of found.1) ∷ operations_at operand_of steps (next_operator (operand_of found.1).ends (operand_of found.1).rest)
 
--- All operations that follow, from left to right. `steps` is above the number of bytes.
-unfoldable pub operations : (operand_of : List ℕ → Read (Option ℤ)) → (steps : ℕ) → Read ℤ → Read ℤ
-operations operand_of zero so_far = so_far
-operations operand_of (suc steps) so_far = operation (operations operand_of steps) operand_of so_far (next_operator so_far)
-
-abbrev pub expression_by : (operand_of : List ℕ → Read (Option ℤ)) → List ℕ → Read ℤ
-expression_by operand_of text = operations operand_of (suc (length text)) (first (operand_of text))
+-- an operand and the operations behind it, which are done from left to right
+unfoldable pub expression_by : (operand_of : List ℕ → Read (Option ℤ)) → List ℕ → Read ℤ
+expression_by operand_of text =
+    let operand = operand_of text in
+    fold (λ so_far operation. combined so_far operation.0 operation.1) (first operand)
+      (operations_at operand_of (suc (length text)) (next_operator operand.ends operand.rest))
 
 -- an expression inside which `room` parentheses more may be open
 unfoldable pub expression_within : (room : ℕ) → Scale → List ℕ → Read ℤ

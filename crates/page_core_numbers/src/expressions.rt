@@ -173,7 +173,7 @@ fn first(operand: Operand<'_>) -> Reading<'_>
 
 // The operator that goes on with an expression.
 fn next_operator(so_far: Reading<'_>) -> Option<FoundOperator<'_>>
-    ensures value { option_map found_seen result ≡ next_operator (reading_seen so_far.entry) }
+    ensures value { option_map found_seen result ≡ next_operator (is_some so_far.entry.troubles.stopped) so_far.entry.rest.now }
     ensures bound { IfSome result (λ found. length found.rest.now < length so_far.entry.rest.now) }
     ensures going { IfSome result (λ _. so_far.entry.troubles.stopped ≡ None) }
 {
