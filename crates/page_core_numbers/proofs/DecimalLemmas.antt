@@ -1,5 +1,5 @@
 -- What digits are worth, and a number in basic units.
-use Rattle.std.proofs.Common.{◌≡◌, ℕ, ◌+◌, ◌-◌, ◌*◌, ◌/◌, ◌^◌, ◌≤◌, min, List, [], ◌∷◌, ◌++◌, take, get_or, fold, Option, None, Some, length, ◌==◌, true, false, ◌<◌, ℤ, refl, sym, ap, ◌∙◌, arith}
+use Rattle.std.proofs.Common.{◌≡◌, ℕ, ◌+◌, ◌-◌, ◌*◌, ◌/◌, ◌^◌, min, List, [], ◌∷◌, get_or, None, Some, length, ◌==◌, true, false, ◌<◌, refl, arith}
 use Rattle.page_core_numbers.specs.declared.scales.Scale.{Scale}
 use Rattle.page_core_numbers.specs.declared.scales.Scale.TheVariants.{Basic, En, Em, Vertical, Pica, Inch, Point, Centimeter}
 use Rattle.page_core_numbers.specs.Numbers.{decimal, ten_thousandths, numerator, denominator, units_of, digits_of, after_digits, fraction_of, after_fraction, scaled, number_at}

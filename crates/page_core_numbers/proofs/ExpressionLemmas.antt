@@ -1,9 +1,9 @@
 -- Operands and operations.
-use Rattle.std.proofs.Common.{◌≡◌, ◌≢◌, ℕ, zero, suc, ◌+◌, ◌-◌, ◌<◌, ◌≤◌, ◌==◌, Bool, true, false, List, [], ◌∷◌, ◌++◌, length, get_or, Option, None, Some, option_map, fold, ℤ, inl, inr, refl, sym, ap, ◌∙◌, arith}
+use Rattle.std.proofs.Common.{◌≡◌, ℕ, zero, suc, ◌-◌, ◌<◌, ◌≤◌, ◌==◌, false, List, [], ◌∷◌, length, get_or, Option, None, Some, fold, ℤ, inl, inr, refl, sym, ap, ◌∙◌, arith}
 use Rattle.std.proofs.lemmas.Bool.{cases_Bool, cond-true, cond-false, eqb-true}
 use Rattle.page_core_numbers.specs.declared.scales.Scale.{Scale}
 use Rattle.page_core_numbers.specs.declared.operators.Operator.{Operator}
-use Rattle.page_core_numbers.specs.declared.troubles.Trouble.TheVariants.{NotNumeric, Parens}
+use Rattle.page_core_numbers.specs.declared.troubles.Trouble.TheVariants.{Parens}
 use Rattle.page_core_numbers.specs.Numbers.{number_at}
 use Rattle.page_core_numbers.specs.Expressions.{Read, missing, number, opened, parenthesized, operand_by, first, combined, next_operator, operations_at, expression_by, expression_within}
 use Rattle.page_core_numbers.specs.Signs.{inside_of, behind_open}
@@ -70,7 +70,7 @@ expression-is (suc room) scale text = refl
 abbrev pub done : (operand_of : List ℕ → Read (Option ℤ)) → ℕ → Read ℤ → Read ℤ
 done operand_of steps so_far =
     fold (λ (r : Read ℤ) (operation : Operator × Read (Option ℤ)). combined r operation.0 operation.1) so_far
-      (operations_at operand_of steps (next_operator so_far.ends so_far.rest))
+    (operations_at operand_of steps (next_operator so_far.ends so_far.rest))
 
 done-next : (operand_of : List ℕ → Read (Option ℤ)) (steps : ℕ) (so_far : Read ℤ) (operator : Operator) (rest : List ℕ)
     → next_operator so_far.ends so_far.rest ≡ Some (operator, rest) → done operand_of (suc steps) so_far ≡ done operand_of steps (combined so_far operator (operand_of rest))

@@ -1,13 +1,13 @@
 -- Signs before an operand.
-use Rattle.std.proofs.Common.{◌≡◌, ◌≢◌, ℕ, zero, suc, ◌+◌, ◌<◌, ◌≤◌, ◌==◌, Bool, true, false, List, [], ◌∷◌, length, drop, get_or, Option, None, Some, ℤ, neg_ℤ, add-one, refl, sym, ap, ◌∙◌, arith}
+use Rattle.std.proofs.Common.{◌≡◌, ◌≢◌, ℕ, zero, suc, ◌+◌, ◌<◌, ◌≤◌, ◌==◌, Bool, false, List, [], ◌∷◌, length, drop, get_or, Option, None, Some, ℤ, neg_ℤ, add-one, refl, sym, ap, ◌∙◌, arith}
 use Rattle.std.proofs.lemmas.List.{drop_more, drop_all}
 use Rattle.std.proofs.lemmas.Bool.{cases_Bool}
 use Rattle.std.proofs.lemmas.Bool.Decides.{nat_tests}
 use Rattle.std.proofs.Common.{inl, inr}
 use Rattle.page_core_numbers.specs.declared.scales.Scale.{Scale}
 use Rattle.page_core_numbers.specs.declared.troubles.Trouble.{Trouble}
-use Rattle.page_core_numbers.specs.Expressions.{Read, negated, operand_by, missing, number}
-use Rattle.page_core_numbers.specs.Numbers.{held, number_at}
+use Rattle.page_core_numbers.specs.Expressions.{Read, negated, operand_by}
+use Rattle.page_core_numbers.specs.Numbers.{held}
 use Rattle.page_core_numbers.specs.Signs.{minus_count, after_signs, negated_value, negated_times}
 
 -- ---- signs from a place on

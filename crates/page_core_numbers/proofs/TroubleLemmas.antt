@@ -1,14 +1,11 @@
 -- What is reported of an expression, one part after another.
-use Rattle.std.proofs.Common.{◌≡◌, ℕ, zero, suc, ◌+◌, ◌-◌, ◌<◌, ◌≤◌, Bool, true, false, List, [], ◌∷◌, ◌++◌, Option, None, Some, Result, Ok, Err, replicate, map, refl, sym, ap, ◌∙◌, arith, append_assoc, append-nil}
+use Rattle.std.proofs.Common.{◌≡◌, ℕ, suc, ◌+◌, ◌-◌, ◌<◌, ◌≤◌, Bool, true, false, List, [], ◌∷◌, ◌++◌, Result, Ok, Err, replicate, refl, sym, ap, ◌∙◌, arith, append_assoc, append-nil}
 use Rattle.std.specs.Prelude.{if◌then◌else◌}
 use Rattle.std.proofs.lemmas.List.{replicate_more, replicate-append-replicate, map-append}
 use Rattle.page_core.specs.Sinks.{IsSink, UpTo, Gives}
 use Rattle.page_core_numbers.specs.declared.troubles.Trouble.{Trouble}
 use Rattle.page_core_numbers.specs.declared.troubles.Trouble.TheVariants.{DivZero}
-use Rattle.page_core_numbers.specs.declared.troubles.Troubles.{Troubles}
-use Rattle.page_core_numbers.specs.declared.troubles.Stopped.{Stopped}
 use Rattle.page_core_numbers.specs.Expressions.{message_at, messages_at}
-use Rattle.page_core_numbers.specs.Readings.{stop_seen, troubles_seen}
 
 -- perhaps one more division by 0
 pub division_more : (n more : ℕ) (divides : Bool) → more ≡ (if divides then 1 else 0) → replicate (n + more) DivZero ≡ replicate n DivZero ++ (if divides then DivZero ∷ [] else [])

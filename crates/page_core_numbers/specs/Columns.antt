@@ -1,5 +1,5 @@
 -- What a finished text prints, and the columns of that: mandoc_char(7); roff(7), "Escape sequences"; mandoc(1), -T ascii and -T utf8.
-use Rattle.std.specs.Prelude.{◌≡◌, ℕ, zero, suc, ◌+◌, ◌/◌, Bool, true, false, ◌==◌, nat_lt, min, List, [], ◌∷◌, ◌++◌, length, drop, replicate, sum_by, codes, encode_utf8, if◌then◌else◌, Option, Some, None, unwrap_or, ℤ, pos, negsuc}
+use Rattle.std.specs.Prelude.{◌≡◌, ℕ, zero, suc, ◌/◌, Bool, true, false, ◌==◌, nat_lt, min, List, [], ◌∷◌, ◌++◌, length, drop, replicate, sum_by, codes, encode_utf8, if◌then◌else◌, Option, Some, None, unwrap_or, ℤ, pos, negsuc}
 use Rattle.std.specs.Str.{chars}
 use Rattle.unicode_width.specs.Width.{char_width}
 use Rattle.page_core.specs.declared.page_settings.Output.{Output}

@@ -93,7 +93,7 @@ unfoldable pub expression_by : (operand_of : List ℕ → Read (Option ℤ)) →
 expression_by operand_of text =
     let operand = operand_of text in
     fold (λ so_far operation. combined so_far operation.0 operation.1) (first operand)
-      (operations_at operand_of (suc (length text)) (next_operator operand.ends operand.rest))
+    (operations_at operand_of (suc (length text)) (next_operator operand.ends operand.rest))
 
 -- an expression inside which `room` parentheses more may be open
 unfoldable pub expression_within : (room : ℕ) → Scale → List ℕ → Read ℤ

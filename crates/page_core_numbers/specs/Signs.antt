@@ -1,5 +1,5 @@
 -- What stands before an operand, as the code takes it: signs and a parenthesis that opens.
-use Rattle.std.specs.Prelude.{ℕ, zero, suc, ◌+◌, Bool, ◌==◌, List, [], ◌∷◌, if◌then◌else◌, Option, None, Some, option_map, ℤ, neg_ℤ}
+use Rattle.std.specs.Prelude.{ℕ, zero, suc, ◌==◌, List, [], ◌∷◌, if◌then◌else◌, Option, None, Some, ℤ, neg_ℤ}
 use Rattle.page_core_numbers.specs.declared.scales.Scale.{Scale}
 use Rattle.page_core_numbers.specs.Numbers.{held}
 use Rattle.page_core_numbers.specs.Expressions.{Read, negated, expression_within}

@@ -1,4 +1,3 @@
-use Rattle.std.proofs.Common.{◌∙◌, ap, sym}
 use Rattle.page_core_numbers.proofs.DecimalLemmas.{ten_thousandths-places}
 use Rattle.page_core_numbers.proofs.decimals.fraction_value.Goals as goal
 

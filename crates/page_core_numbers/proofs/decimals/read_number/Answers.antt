@@ -1,4 +1,4 @@
-use Rattle.std.proofs.Common.{◌≡◌, ◌<◌, ◌+◌, ◌∙◌, ap, sym, arith, length, rules, w32, FitsSigned, Some}
+use Rattle.std.proofs.Common.{◌<◌, ◌+◌, arith, length, rules, w32, FitsSigned}
 use Rattle.std.proofs.lemmas.Bool.Decides.{nat_tests}
 use Rattle.std.proofs.lemmas.Int.{to_z-of_z}
 use Rattle.page_core_numbers.proofs.DecimalLemmas.{number_at-none, number_at-some}

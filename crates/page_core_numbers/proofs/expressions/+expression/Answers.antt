@@ -1,4 +1,4 @@
-use Rattle.std.proofs.Common.{◌≡◌, ◌+◌, ◌<◌, ◌≤◌, ◌∙◌, ap, sym, arith, length, option_map, option_copied}
+use Rattle.std.proofs.Common.{◌≡◌, ◌+◌, ◌≤◌, ◌∙◌, ap, sym, arith, length, option_map, option_copied}
 use Rattle.page_core_numbers.specs.Expressions.{first, combined, operand_by, parenthesized, expression_within}
 use Rattle.page_core_numbers.specs.Readings.{reading_seen, operand_seen, found_seen, count_of}
 use Rattle.page_core_numbers.specs.Signs.{inside_of}

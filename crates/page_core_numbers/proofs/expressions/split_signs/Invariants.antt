@@ -1,4 +1,4 @@
-use Rattle.std.proofs.Common.{◌≡◌, ◌≤◌, ◌+◌, length, drop}
+use Rattle.std.proofs.Common.{◌≡◌, ◌≤◌, ◌+◌, drop}
 use Rattle.page_core_numbers.specs.Signs.{minus_count, after_signs}
 use Rattle.page_core_numbers.proofs.expressions.split_signs.Given as goal
 

@@ -1,4 +1,4 @@
-use Rattle.std.proofs.Common.{◌≡◌, ◌∙◌, refl}
+use Rattle.std.proofs.Common.{◌≡◌}
 use Rattle.std.specs.Prelude.{if◌then◌else◌}
 use Rattle.page_core_numbers.proofs.TroubleLemmas.{going_on, stopping}
 use Rattle.page_core_numbers.proofs.troubles.Troubles.followed_by.Goals as goal
