@@ -3,7 +3,7 @@ use Rattle.std.proofs.Common.{◌≡◌, ℕ, zero, suc, ◌-◌, ◌<◌, ◌�
 use Rattle.std.proofs.lemmas.Bool.{cases_Bool, cond-true, cond-false, eqb-true}
 use Rattle.page_core_numbers.specs.declared.scales.Scale.{Scale}
 use Rattle.page_core_numbers.specs.declared.operators.Operator.{Operator}
-use Rattle.page_core_numbers.specs.declared.troubles.Trouble.TheVariants.{Parens}
+use Rattle.page_core_numbers.specs.declared.troubles.Trouble.TheVariants.{Parentheses}
 use Rattle.page_core_numbers.specs.Numbers.{number_at}
 use Rattle.page_core_numbers.specs.Expressions.{Read, missing, number, opened, parenthesized, operand_by, first, combined, next_operator, operations_at, expression_by, expression_within}
 use Rattle.page_core_numbers.specs.Signs.{inside_of, behind_open}
@@ -55,7 +55,7 @@ operand-inside room scale text behind some more =
     operand-opened (inside_of room scale) scale text behind some ∙ ap (λ inside. opened inside text behind) (inside-some room scale more)
 
 pub operand-full : (room : ℕ) (scale : Scale) (text behind : List ℕ) → behind_open text ≡ Some behind → room ≤ 0
-    → operand_by (inside_of room scale) scale text ≡ missing Parens text
+    → operand_by (inside_of room scale) scale text ≡ missing Parentheses text
 operand-full room scale text behind some full =
     operand-opened (inside_of room scale) scale text behind some ∙ ap (λ inside. opened inside text behind) (inside-none room scale full)
 

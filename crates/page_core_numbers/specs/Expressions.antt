@@ -7,7 +7,7 @@ use Rattle.page_core.specs.Messages.{Message}
 use Rattle.page_core_numbers.specs.declared.scales.Scale.{Scale}
 use Rattle.page_core_numbers.specs.declared.operators.Operator.{Operator}
 use Rattle.page_core_numbers.specs.declared.troubles.Trouble.{Trouble}
-use Rattle.page_core_numbers.specs.declared.troubles.Trouble.TheVariants.{NotNumeric, DivZero, Parens}
+use Rattle.page_core_numbers.specs.declared.troubles.Trouble.TheVariants.{NotNumeric, DivZero, Parentheses}
 use Rattle.page_core_numbers.specs.Numbers.{held, number_at}
 use Rattle.page_core_numbers.specs.Operators.{operator_at, result_of, divides_by_zero}
 
@@ -38,7 +38,7 @@ parenthesized inside = record { value = Some inside.value; troubles = inside.tro
 
 -- what stands behind a parenthesis that opens, if one more may open here
 abbrev pub opened : Option (List ℕ → Read ℤ) → (text behind : List ℕ) → Read (Option ℤ)
-opened None text behind = missing Parens text
+opened None text behind = missing Parentheses text
 opened (Some inside) text behind = parenthesized (inside behind)
 
 abbrev pub negated : Read (Option ℤ) → Read (Option ℤ)
@@ -109,12 +109,12 @@ expression_of scale text = expression_within 16 scale text
 abbrev pub kind_of : Trouble → NoteKind
 kind_of NotNumeric = kinds.NotNumeric
 kind_of DivZero = kinds.DivZero
-kind_of Parens = kinds.Limit
+kind_of Parentheses = kinds.Limit
 
 abbrev pub detail_of : Trouble → List ℕ
 detail_of NotNumeric = []
 detail_of DivZero = []
-detail_of Parens = codes "PARENS"
+detail_of Parentheses = codes "PARENS"
 
 abbrev pub message_at : (line column : ℕ) → Trouble → Message
 message_at line column trouble = record { kind = kind_of trouble; line = line; column = column; detail = detail_of trouble }

@@ -1,7 +1,8 @@
 -- A number at a text's front: roff(7), "Scaling Widths".
-use Rattle.std.specs.Prelude.{ℕ, ◌+◌, ◌-◌, ◌*◌, ◌/◌, Bool, ◌&&◌, ◌==◌, nat_le, List, [], ◌∷◌, ◌++◌, length, take, drop, fold, codes, if◌then◌else◌, Option, Some, None, unwrap_or, is_some, ℤ, pos}
+use Rattle.std.specs.Prelude.{ℕ, ◌+◌, ◌-◌, ◌*◌, ◌/◌, ◌==◌, List, [], ◌∷◌, ◌++◌, length, take, drop, fold, codes, if◌then◌else◌, Option, Some, None, unwrap_or, is_some, ℤ, pos}
 use Rattle.std.specs.List.{prefix_len}
 use Rattle.std.specs.Int.{w32, saturate_signed}
+use Rattle.page_core_escapes.specs.Shapes.{is_among, is_digit}
 use Rattle.page_core_numbers.specs.declared.scales.Scale.{Scale}
 use Rattle.page_core_numbers.specs.declared.scales.Scale.TheVariants.{Basic, En, Em, Vertical, Pica, Inch, Point, Centimeter}
 
@@ -29,14 +30,14 @@ denominator Centimeter = 254
 -- the unit that a letter names
 abbrev pub scale_named : ℕ → Option Scale
 scale_named letter =
-    if letter == 0x75 then Some Basic
-    else if letter == 0x6E then Some En
-    else if letter == 0x6D then Some Em
-    else if letter == 0x76 then Some Vertical
-    else if letter == 0x50 then Some Pica
-    else if letter == 0x69 then Some Inch
-    else if letter == 0x70 then Some Point
-    else if letter == 0x63 then Some Centimeter
+    if is_among letter (codes "u") then Some Basic
+    else if is_among letter (codes "n") then Some En
+    else if is_among letter (codes "m") then Some Em
+    else if is_among letter (codes "v") then Some Vertical
+    else if is_among letter (codes "P") then Some Pica
+    else if is_among letter (codes "i") then Some Inch
+    else if is_among letter (codes "p") then Some Point
+    else if is_among letter (codes "c") then Some Centimeter
     else None
 
 -- the nearest whole number in the range of 32 bits
@@ -44,9 +45,6 @@ abbrev pub held : ℤ → ℤ
 held n = saturate_signed w32 n
 
 -- ---- what is written of a number: digits, perhaps a point and digits, and perhaps a unit
-
-abbrev pub is_digit : ℕ → Bool
-is_digit b = nat_le 0x30 b && nat_le b 0x39
 
 abbrev pub digits_of : List ℕ → List ℕ
 digits_of text = take (prefix_len is_digit text) text

@@ -1,35 +1,33 @@
 -- The operators of an expression: roff(7), "Numerical expressions".
-use Rattle.std.specs.Prelude.{ℕ, Bool, true, false, ◌&&◌, ◌||◌, ◌==◌, List, [], ◌∷◌, drop, if◌then◌else◌, Option, Some, None, option_map, ℤ, pos, negsuc, ◌+ℤ◌, ◌-ℤ◌, ◌*ℤ◌, int_div, int_rem, int_lt, int_le}
+use Rattle.std.specs.Prelude.{ℕ, Bool, true, false, ◌&&◌, ◌||◌, ◌==◌, List, [], ◌∷◌, drop, codes, if◌then◌else◌, Option, Some, None, option_map, ℤ, pos, negsuc, ◌+ℤ◌, ◌-ℤ◌, ◌*ℤ◌, int_div, int_rem, int_lt, int_le}
 use Rattle.std.specs.Int.{is_positive}
+use Rattle.page_core_escapes.specs.Shapes.{is_among}
 use Rattle.page_core_numbers.specs.declared.operators.Operator.{Operator}
 use Rattle.page_core_numbers.specs.declared.operators.Operator.TheVariants.{Add, Subtract, Multiply, Divide, Remainder, Less, Greater, AtMost, AtLeast, Equal, And, Or}
 use Rattle.page_core_numbers.specs.Numbers.{held}
 
 abbrev pub begins_equal : List ℕ → Bool
 begins_equal [] = false
-begins_equal (b ∷ bs) = b == 0x3D
+begins_equal (b ∷ bs) = is_among b (codes "=")
 
 -- the operator that a character begins, where `equal` says that `=` follows
 abbrev pub operator_named : ℕ → (equal : Bool) → Option Operator
 operator_named b equal =
-    if b == 0x2B then Some Add
-    else if b == 0x2D then Some Subtract
-    else if b == 0x2A then Some Multiply
-    else if b == 0x2F then Some Divide
-    else if b == 0x25 then Some Remainder
-    else if b == 0x3C then Some (if equal then AtMost else Less)
-    else if b == 0x3E then Some (if equal then AtLeast else Greater)
-    else if b == 0x3D then Some Equal
-    else if b == 0x26 then Some And
-    else if b == 0x3A then Some Or
+    if is_among b (codes "+") then Some Add
+    else if is_among b (codes "-") then Some Subtract
+    else if is_among b (codes "*") then Some Multiply
+    else if is_among b (codes "/") then Some Divide
+    else if is_among b (codes "%") then Some Remainder
+    else if is_among b (codes "<") then Some (if equal then AtMost else Less)
+    else if is_among b (codes ">") then Some (if equal then AtLeast else Greater)
+    else if is_among b (codes "=") then Some Equal
+    else if is_among b (codes "&") then Some And
+    else if is_among b (codes ":") then Some Or
     else None
 
--- `=` may follow these
-abbrev pub may_have_equal : ℕ → Bool
-may_have_equal b = b == 0x3C || b == 0x3E || b == 0x3D
-
+-- `<=`, `>=` and `==` have two
 abbrev pub operator_len : ℕ → (equal : Bool) → ℕ
-operator_len b equal = if may_have_equal b && equal then 2 else 1
+operator_len b equal = if is_among b (codes "<>=") && equal then 2 else 1
 
 -- the operator at a text's front, and what follows it
 unfoldable pub operator_at : List ℕ → Option (Operator × List ℕ)

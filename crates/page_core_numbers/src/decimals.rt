@@ -2,7 +2,8 @@
 
 ghost use Rattle.std.specs.Prelude.{◌≡◌, ◌≤◌, ◌<◌, ◌^◌, ◌+◌, ◌*◌, ◌-◌, length, slice_index_or, min, pos, option_map, IfSome};
 ghost use Rattle.std.specs.List.{prefix_len};
-ghost use Rattle.page_core_numbers.specs.Numbers.{held, is_digit, digits_of, after_digits, fraction_of, after_fraction, scale_at, after_scale, decimal, ten_thousandths, units_of, number_at};
+ghost use Rattle.page_core_escapes.specs.Shapes.{is_digit};
+ghost use Rattle.page_core_numbers.specs.Numbers.{held, digits_of, after_digits, fraction_of, after_fraction, scale_at, after_scale, decimal, ten_thousandths, units_of, number_at};
 ghost use Rattle.page_core_numbers.specs.Readings.{number_seen};
 
 use crate::scales::{Scale, scale_named};

@@ -149,7 +149,7 @@ fn read_operand<'a>(text: &'a [u8], scale: Scale, room: u32) -> Operand<'a>
         None => read_number_operand(unsigned, scale),
         Some(behind) => {
             if room == 0 {
-                missing(Trouble::Parens, unsigned)
+                missing(Trouble::Parentheses, unsigned)
             } else {
                 parenthesized(read_expression(behind, scale, room - 1))
             }

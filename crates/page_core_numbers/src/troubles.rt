@@ -18,7 +18,7 @@ pub(crate) enum Trouble {
     /// A division by 0.
     DivZero,
     /// A parenthesis more than may be open.
-    Parens,
+    Parentheses,
 }
 
 /// What is reported of an expression, in its order: divisions by 0, and why the expression ended early, if it did.
@@ -98,7 +98,7 @@ impl Trouble {
         let kind = match self {
             Trouble::NotNumeric => NoteKind::NotNumeric,
             Trouble::DivZero => NoteKind::DivZero,
-            Trouble::Parens => {
+            Trouble::Parentheses => {
                 detail.push_str("PARENS");
                 NoteKind::Limit
             }
