@@ -1,0 +1,5 @@
+pub mod DecimalLemmas
+pub mod SignLemmas
+pub mod TroubleLemmas
+pub mod ExpressionLemmas
+pub mod ColumnLemmas

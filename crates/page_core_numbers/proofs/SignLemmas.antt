@@ -1,0 +1,115 @@
+-- Signs before an operand.
+use Rattle.std.proofs.Common.{◌≡◌, ◌≢◌, ℕ, zero, suc, ◌+◌, ◌<◌, ◌≤◌, ◌==◌, Bool, false, List, [], ◌∷◌, length, drop, get_or, Option, None, Some, ℤ, neg_ℤ, add-one, refl, sym, ap, ◌∙◌, arith}
+use Rattle.std.proofs.lemmas.List.{drop_more, drop_all}
+use Rattle.std.proofs.lemmas.Bool.{cases_Bool}
+use Rattle.std.proofs.lemmas.Bool.Decides.{nat_tests}
+use Rattle.std.proofs.Common.{inl, inr}
+use Rattle.page_core_numbers.specs.declared.scales.Scale.{Scale}
+use Rattle.page_core_numbers.specs.declared.troubles.Trouble.{Trouble}
+use Rattle.page_core_numbers.specs.Expressions.{Read, negated, operand_by}
+use Rattle.page_core_numbers.specs.Numbers.{held}
+use Rattle.page_core_numbers.specs.Signs.{minus_count, after_signs, negated_value, negated_times}
+
+-- ---- signs from a place on
+
+pub minus_at : (text : List ℕ) (i : ℕ) → i < length text → get_or text i 0 ≡ 45 → minus_count (drop i text) ≡ suc (minus_count (drop (i + 1) text))
+minus_at text i h e = rw (drop_more text i 0 h, e) refl
+
+pub minus_rest : (text : List ℕ) (i : ℕ) → i < length text → get_or text i 0 ≡ 45 → after_signs (drop i text) ≡ after_signs (drop (i + 1) text)
+minus_rest text i h e = rw (drop_more text i 0 h, e) refl
+
+pub plus_at : (text : List ℕ) (i : ℕ) → i < length text → get_or text i 0 ≡ 43 → minus_count (drop i text) ≡ minus_count (drop (i + 1) text)
+plus_at text i h e = rw (drop_more text i 0 h, e) refl
+
+pub plus_rest : (text : List ℕ) (i : ℕ) → i < length text → get_or text i 0 ≡ 43 → after_signs (drop i text) ≡ after_signs (drop (i + 1) text)
+plus_rest text i h e = rw (drop_more text i 0 h, e) refl
+
+pub other_at : (text : List ℕ) (i : ℕ) → i < length text → get_or text i 0 ≢ 45 → get_or text i 0 ≢ 43 → minus_count (drop i text) ≡ 0
+other_at text i h no_minus no_plus =
+    let m : (get_or text i 0 == 45) ≡ false = grind (arith, nat_tests) in
+    let p : (get_or text i 0 == 43) ≡ false = grind (arith, nat_tests) in
+    rw (drop_more text i 0 h, m, p) refl
+
+pub other_rest : (text : List ℕ) (i : ℕ) → i < length text → get_or text i 0 ≢ 45 → get_or text i 0 ≢ 43 → after_signs (drop i text) ≡ drop i text
+other_rest text i h no_minus no_plus =
+    let m : (get_or text i 0 == 45) ≡ false = grind (arith, nat_tests) in
+    let p : (get_or text i 0 == 43) ≡ false = grind (arith, nat_tests) in
+    rw (drop_more text i 0 h, m, p) refl
+
+pub none_at : (text : List ℕ) (i : ℕ) → length text ≤ i → minus_count (drop i text) ≡ 0
+none_at text i h = rw (drop_all i text h) refl
+
+pub none_rest : (text : List ℕ) (i : ℕ) → length text ≤ i → after_signs (drop i text) ≡ drop i text
+none_rest text i h = rw (drop_all i text h) refl
+
+-- ---- what an operand with signs is
+
+pub operand-signs : (inside : Option (List ℕ → Read ℤ)) (scale : Scale) (text : List ℕ)
+    → operand_by inside scale text ≡ negated_times (minus_count text) (operand_by inside scale (after_signs text))
+unfolding operand_by
+operand-signs inside scale [] = refl
+operand-signs inside scale (b ∷ bs) =
+    elim (cases_Bool (b == 45)) [
+      | inl minus ↦ rw minus (ap negated (operand-signs inside scale bs))
+      | inr no_minus ↦
+          elim (cases_Bool (b == 43)) [
+            | inl plus ↦ rw (no_minus, plus) (operand-signs inside scale bs)
+            | inr no_plus ↦ rw (no_minus, no_plus) (rw (no_minus, no_plus) refl)
+          ]
+    ]
+
+-- behind signs stands no sign
+pub after_signs-front : (text : List ℕ) → (get_or (after_signs text) 0 0 == 45) ≡ false
+after_signs-front [] = refl
+after_signs-front (b ∷ bs) =
+    elim (cases_Bool (b == 45)) [
+      | inl minus ↦ rw minus (after_signs-front bs)
+      | inr no_minus ↦
+          elim (cases_Bool (b == 43)) [
+            | inl plus ↦ rw (no_minus, plus) (after_signs-front bs)
+            | inr no_plus ↦ rw (no_minus, no_plus) no_minus
+          ]
+    ]
+
+pub after_signs-plus : (text : List ℕ) → (get_or (after_signs text) 0 0 == 43) ≡ false
+after_signs-plus [] = refl
+after_signs-plus (b ∷ bs) =
+    elim (cases_Bool (b == 45)) [
+      | inl minus ↦ rw minus (after_signs-plus bs)
+      | inr no_minus ↦
+          elim (cases_Bool (b == 43)) [
+            | inl plus ↦ rw (no_minus, plus) (after_signs-plus bs)
+            | inr no_plus ↦ rw (no_minus, no_plus) no_plus
+          ]
+    ]
+
+-- ---- an operand that is negated so often
+
+pub negated_times-none : (times : ℕ) (o : Read (Option ℤ)) → o.value ≡ None → negated_times times o ≡ o
+negated_times-none zero o e = refl
+negated_times-none (suc times) o e = rw (negated_times-none times o e) (same o e)
+  where
+    same : (o : Read (Option ℤ)) → o.value ≡ None → negated o ≡ o
+    same o e = rw e refl
+
+some_times : (times : ℕ) (value : ℤ) (troubles : List Trouble) (ends : Bool) (rest : List ℕ)
+    → (let made : Read (Option ℤ) = record { value = Some (negated_value times value); troubles = troubles; ends = ends; rest = rest } in made)
+    ≡ negated_times times (record { value = Some value; troubles = troubles; ends = ends; rest = rest })
+some_times zero value troubles ends rest = refl
+some_times (suc times) value troubles ends rest = ap negated (some_times times value troubles ends rest)
+
+pub negated_times-some : (times : ℕ) (o : Read (Option ℤ)) (value r : ℤ) → o.value ≡ Some value → r ≡ negated_value times value
+    → (let made : Read (Option ℤ) = record { value = Some r; troubles = o.troubles; ends = o.ends; rest = o.rest } in made) ≡ negated_times times o
+negated_times-some times o value r e n =
+    let with_value : Option ℤ → Read (Option ℤ) = λ v. record { value = v; troubles = o.troubles; ends = o.ends; rest = o.rest } in
+    ap (λ x. with_value (Some x)) n ∙ some_times times value o.troubles o.ends o.rest ∙ ap (λ v. negated_times times (with_value v)) (sym e)
+
+-- a value that is negated once more
+pub negated_next : (n : ℕ) (v w r : ℤ) → w ≡ negated_value n v → r ≡ held (neg_ℤ w) → r ≡ negated_value (n + 1) v
+negated_next n v w r e h = rw add-one (h ∙ ap (λ z. held (neg_ℤ z)) e)
+
+-- what was read behind signs, and negated as they say
+pub operand-signed : (inside : Option (List ℕ → Read ℤ)) (scale : Scale) (text : List ℕ) (times : ℕ) (unsigned : List ℕ) (o r : Read (Option ℤ))
+    → times ≡ minus_count text → unsigned ≡ after_signs text → o ≡ operand_by inside scale unsigned → r ≡ negated_times times o → r ≡ operand_by inside scale text
+operand-signed inside scale text times unsigned o r t u e n =
+    n ∙ ap (λ k. negated_times k o) t ∙ ap (negated_times (minus_count text)) (e ∙ ap (operand_by inside scale) u) ∙ sym (operand-signs inside scale text)

@@ -1,0 +1,225 @@
+//! Expressions: roff(7), "Numerical expressions". Each operation is done as its operand was read; an expression in parentheses is read
+//! by a call inside the call.
+
+ghost use Rattle.std.specs.Prelude.{◌≡◌, ◌≤◌, ◌<◌, ◌+◌, ◌^◌, length, option_map, IfSome, Some, None, is_some, false, option_copied};
+ghost use Rattle.page_core_numbers.specs.Expressions.{expression_within, operand_by, missing, number, parenthesized, first, combined, next_operator, after_close};
+ghost use Rattle.page_core_numbers.specs.Numbers.{number_at};
+ghost use Rattle.page_core_numbers.specs.Readings.{operand_seen, reading_seen, found_seen, troubles_seen, count_of};
+ghost use Rattle.page_core_numbers.specs.Signs.{after_signs, minus_count, negated_times, negated_value, inside_of, behind_open};
+
+use crate::decimals::read_number;
+use crate::operators::{FoundOperator, Operator, read_operator};
+use crate::scales::Scale;
+use crate::troubles::{Trouble, Troubles};
+
+/// An operand that was wanted: its value where there is one, and what follows it.
+#[derive(Clone, Copy)]
+pub(crate) struct Operand<'a> {
+    pub(crate) value: Option<i32>,
+    pub(crate) troubles: Troubles,
+    pub(crate) rest: &'a [u8],
+}
+
+/// What was read of an expression: its value so far, and what follows it.
+#[derive(Clone, Copy)]
+pub(crate) struct Reading<'a> {
+    pub(crate) value: i32,
+    pub(crate) troubles: Troubles,
+    pub(crate) rest: &'a [u8],
+}
+
+// How often the signs at a text's front negate what follows them, and what follows.
+fn split_signs(text: &[u8]) -> (usize, &[u8])
+    ensures minuses { result.0 ≡ minus_count text.now }
+    ensures rest { result.1.now ≡ after_signs text.now }
+    ensures parts { result.0 + length result.1.now ≤ length text.now }
+{
+    let mut minuses = 0;
+    for (place, byte) in text.iter().enumerate() {
+        match *byte {
+            b'-' => minuses += 1,
+            b'+' => {}
+            _ => return (minuses, &text[place..]),
+        }
+    }
+    (minuses, &text[text.len()..])
+}
+
+// A value that is negated so often.
+#[tactic(auto, using(crate::proofs::SignLemmas::negated_next))]
+fn negate(value: i32, times: usize) -> i32
+    ensures { result ≡ negated_value times value }
+{
+    let mut negated = value;
+    for _ in 0..times {
+        negated = negated.saturating_neg();
+    }
+    negated
+}
+
+// An operand that is negated so often.
+fn negate_operand(operand: Operand<'_>, times: usize) -> Operand<'_>
+    ensures value { operand_seen result ≡ negated_times times (operand_seen operand.entry) }
+    ensures rest { result.rest.now ≡ operand.entry.rest.now }
+    ensures troubles { result.troubles ≡ operand.entry.troubles }
+{
+    match operand.value {
+        None => operand,
+        Some(value) => Operand {
+            value: Some(negate(value, times)),
+            troubles: operand.troubles,
+            rest: operand.rest,
+        },
+    }
+}
+
+// There is no operand where this text begins.
+fn missing(trouble: Trouble, text: &[u8]) -> Operand<'_>
+    ensures value { operand_seen result ≡ missing trouble text.now }
+    ensures bound { count_of result.troubles + length result.rest.now ≤ length text.now }
+{
+    Operand {
+        value: None,
+        troubles: Troubles::stop(trouble),
+        rest: text,
+    }
+}
+
+// The number at a text's front.
+fn read_number_operand(text: &[u8], scale: Scale) -> Operand<'_>
+    ensures value { operand_seen result ≡ number text.now (number_at scale text.now) }
+    ensures bound { count_of result.troubles + length result.rest.now ≤ length text.now }
+{
+    match read_number(text, scale) {
+        None => missing(Trouble::NotNumeric, text),
+        Some(found) => Operand {
+            value: Some(found.value),
+            troubles: Troubles::none(),
+            rest: found.rest,
+        },
+    }
+}
+
+// A text behind the parenthesis that closes, where one is there.
+fn after_close(text: &[u8]) -> &[u8]
+    ensures value { result.now ≡ after_close text.now }
+    ensures bound { length result.now ≤ length text.now }
+{
+    match text {
+        [b')', behind @ ..] => behind,
+        _ => text,
+    }
+}
+
+// An expression that was read in parentheses, as an operand.
+fn parenthesized(inside: Reading<'_>) -> Operand<'_>
+    ensures value { operand_seen result ≡ parenthesized (reading_seen inside.entry) }
+    ensures troubles { result.troubles ≡ inside.entry.troubles }
+    ensures bound { length result.rest.now ≤ length inside.entry.rest.now }
+{
+    Operand {
+        value: Some(inside.value),
+        troubles: inside.troubles,
+        rest: match inside.troubles.stopped {
+            None => after_close(inside.rest),
+            Some(_) => inside.rest,
+        },
+    }
+}
+
+// What stands behind a parenthesis that opens at a text's front.
+fn behind_open(text: &[u8]) -> Option<&[u8]>
+    ensures value { option_copied result ≡ behind_open text.now }
+    ensures bound { IfSome result (λ behind. length behind.now < length text.now) }
+{
+    match text {
+        [b'(', behind @ ..] => Some(behind),
+        _ => None,
+    }
+}
+
+// The operand at a text's front, in which `room` parentheses may be open.
+#[cycle(expression)]
+fn read_operand<'a>(text: &'a [u8], scale: Scale, room: u32) -> Operand<'a>
+    ensures value { operand_seen result ≡ operand_by (inside_of room scale) scale text.now }
+    ensures bound { count_of result.troubles + length result.rest.now ≤ length text.now }
+{
+    let (minuses, unsigned) = split_signs(text);
+    let operand = match behind_open(unsigned) {
+        None => read_number_operand(unsigned, scale),
+        Some(behind) => {
+            if room == 0 {
+                missing(Trouble::Parentheses, unsigned)
+            } else {
+                parenthesized(read_expression(behind, scale, room - 1))
+            }
+        }
+    };
+    negate_operand(operand, minuses)
+}
+
+// An expression of its first operand.
+fn first(operand: Operand<'_>) -> Reading<'_>
+    ensures value { reading_seen result ≡ first (operand_seen operand.entry) }
+    ensures troubles { result.troubles ≡ operand.entry.troubles }
+    ensures rest { result.rest.now ≡ operand.entry.rest.now }
+{
+    Reading {
+        value: operand.value.unwrap_or(0),
+        troubles: operand.troubles,
+        rest: operand.rest,
+    }
+}
+
+// The operator that goes on with an expression.
+fn next_operator(so_far: Reading<'_>) -> Option<FoundOperator<'_>>
+    ensures value { option_map found_seen result ≡ next_operator (is_some so_far.entry.troubles.stopped) so_far.entry.rest.now }
+    ensures bound { IfSome result (λ found. length found.rest.now < length so_far.entry.rest.now) }
+    ensures going { IfSome result (λ _. so_far.entry.troubles.stopped ≡ None) }
+{
+    match so_far.troubles.stopped {
+        None => read_operator(so_far.rest),
+        Some(_) => None,
+    }
+}
+
+// An expression after one more operation.
+fn combined<'a>(so_far: Reading<'a>, operator: Operator, operand: Operand<'a>) -> Reading<'a>
+    requires going { so_far.troubles.stopped ≡ None }
+    requires fits { count_of so_far.troubles + count_of operand.troubles + 1 < 2 ^ 64 }
+    ensures value { reading_seen result ≡ combined (reading_seen so_far.entry) operator (operand_seen operand.entry) }
+    ensures count { count_of result.troubles ≤ count_of so_far.entry.troubles + count_of operand.entry.troubles + 1 }
+    ensures rest { result.rest.now ≡ operand.entry.rest.now }
+{
+    let (value, divides_by_zero) = match operand.value {
+        None => (so_far.value, false),
+        Some(other) => (
+            operator.apply(so_far.value, other),
+            operator.divides_by_zero(other),
+        ),
+    };
+    Reading {
+        value,
+        troubles: so_far
+            .troubles
+            .followed_by(operand.troubles, divides_by_zero),
+        rest: operand.rest,
+    }
+}
+
+/// The expression at a text's front, inside which `room` parentheses more may be open.
+#[cycle(expression)]
+pub(crate) fn read_expression<'a>(text: &'a [u8], scale: Scale, room: u32) -> Reading<'a>
+    ensures value { reading_seen result ≡ expression_within room scale text.now }
+    ensures bound { count_of result.troubles + length result.rest.now ≤ length text.now }
+{
+    let mut so_far = first(read_operand(text, scale, room));
+    while let Some(found) = next_operator(so_far) {
+        so_far = combined(
+            so_far,
+            found.operator,
+            read_operand(found.rest, scale, room),
+        );
+    }
+    so_far
+}

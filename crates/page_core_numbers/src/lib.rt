@@ -1,0 +1,56 @@
+//! Numbers of requests and escapes, and the columns of a finished text: roff(7), "Scaling Widths" and "Numerical expressions". Layers
+//! above read with these what a request, a macro or an escape is given.
+#![tactic(auto)]
+
+ghost use Rattle.std.specs.Prelude.{◌≡◌, ◌≤◌, ◌+◌, length, IfOk, IfErr, OnOk, MatchResult};
+ghost use Rattle.page_core.specs.Fails.{Rose};
+ghost use Rattle.page_core_numbers.specs.Expressions.{expression_of, messages_at};
+
+use expressions::read_expression;
+use page_core::{Fault, NoteSink};
+use troubles::report;
+
+mod decimals;
+mod expressions;
+mod operators;
+mod scales;
+mod text_columns;
+mod troubles;
+
+pub use scales::Scale;
+pub use text_columns::columns;
+
+/// The parentheses that may be open in an expression at most.
+pub const PARENS: u32 = 16;
+
+/// The expression at the front of a text, and how many bytes it takes: roff(7), "Numerical expressions". Its value is in basic units,
+/// held to the range of 32 bits after each operation, and operations are done from left to right. `unit` is the unit of a number
+/// without one. Where an operand is missing the expression ends with its value so far, 0 at the start; so it does before a
+/// parenthesis that would be the 17th open one. These, and divisions by 0, are reported at the given line and column. Its fault is
+/// [`Fault::WriteNotes`], where the sink failed; then the sink got a front of these messages.
+pub fn number<N: NoteSink>(
+    text: &[u8],
+    unit: Scale,
+    line: u32,
+    column: u32,
+    notes: &mut N,
+) -> Result<(i32, usize), Fault>
+    ensures value { IfOk result (λ found. found.0 ≡ (expression_of unit text.now).value) }
+    ensures len { IfOk result (λ found. found.1 + length (expression_of unit text.now).rest ≡ length text.now) }
+
+    // All messages, or a front of them.
+    ensures gives { MatchResult result
+        (λ _. N.gave notes.old (messages_at line column (expression_of unit text.now).troubles) notes.new)
+        (λ _. N.within notes.old (messages_at line column (expression_of unit text.now).troubles) notes.new) }
+    ensures fault { MatchResult result
+        (λ _. N.failed notes.new ≡ N.failed notes.old)
+        (λ fault. (fault ≡ Fault.WriteNotes) × Rose (N.failed notes.old) (N.failed notes.new)) }
+    ensures same { N.loans notes.new ≡ N.loans notes.old }
+{
+    let reading = read_expression(text, unit, PARENS);
+    report(reading.troubles, line, column, notes)?;
+    Ok((reading.value, text.len() - reading.rest.len()))
+}
+
+#[cfg(test)]
+mod tests;

@@ -1,0 +1,159 @@
+//! The columns of a finished text: mandoc_char(7); roff(7), "Escape sequences".
+
+ghost use Rattle.std.specs.Prelude.{◌≡◌, ◌≤◌, ◌<◌, ◌*◌, length, chars, ◌++◌};
+ghost use Rattle.std.specs.Str.{IsUtf8, IsCharBoundary};
+ghost use Rattle.page_core_escapes.specs.Escapes.{meaning_seen};
+ghost use Rattle.page_core_tables.specs.Glyphs.{glyph_of};
+ghost use Rattle.page_core_numbers.specs.Columns.{BeginsWith, prints_ascii, character_columns, characters_columns, spelled, printed_character, printed_symbol, printed_escape, printed_front, front_len, blanks_in, columns_of};
+
+use crate::PARENS;
+use crate::expressions::read_expression;
+use crate::scales::Scale;
+use page_core::{LINE, Output};
+use page_core_escapes::{Escape, escape};
+use page_core_tables::{glyph, spelling};
+use unicode_width::UnicodeWidthChar;
+
+// The columns of `\h` at most.
+const WIDEST: u32 = 1000;
+
+// The basic units of a column.
+const COLUMN: u32 = 24;
+
+// Whether characters above ASCII are spelled. Messages alone are about the text in ASCII.
+fn prints_ascii(output: Output) -> bool
+    ensures { result ≡ prints_ascii output }
+{
+    match output {
+        Output::Ascii | Output::Lint => true,
+        Output::Utf8 => false,
+    }
+}
+
+// The columns of a character that is printed as it is.
+#[tactic(auto, unfolding(unicode_width::specs::Width::char_width))]
+fn cell_columns(c: char) -> u32
+    ensures value { result ≡ character_columns c }
+    ensures bound { result ≤ 3 }
+{
+    if c >= ' ' && c <= '~' {
+        return 1;
+    }
+    c.width().unwrap_or(0) as u32
+}
+
+// The columns of a spelling, or of what stands for a character without one.
+fn spelling_columns(spelling: &str) -> u32
+    requires { length spelling.now ≤ 16 }
+    ensures value { result ≡ characters_columns (spelled spelling.now) }
+    ensures bound { result ≤ 48 }
+{
+    if spelling.is_empty() {
+        return 3;
+    }
+    let mut sum = 0u32;
+    for byte in spelling.as_bytes() {
+        sum += cell_columns(*byte as char);
+    }
+    sum
+}
+
+// The columns of a character; a tab, and a blank that no row breaks at, count as a blank.
+fn printed_columns(c: char, output: Output) -> u32
+    ensures value { result ≡ characters_columns (printed_character output c) }
+    ensures bound { result ≤ 48 }
+{
+    if c == '\t' || c == '\u{A0}' {
+        return 1;
+    }
+    if c < '\u{80}' || !prints_ascii(output) {
+        return cell_columns(c);
+    }
+    spelling_columns(spelling(c))
+}
+
+// The columns of a glyph by its name.
+fn glyph_columns(name: &[u8], output: Output) -> u32
+    ensures value { result ≡ characters_columns (printed_symbol output (glyph_of name.now)) }
+    ensures bound { result ≤ 48 }
+{
+    match glyph(name) {
+        None => 3,
+        Some(found) if prints_ascii(output) => spelling_columns(found.ascii),
+        Some(found) => cell_columns(found.code),
+    }
+}
+
+// As many blanks as columns are in so many basic units.
+fn blanks_in(units: i32) -> u32
+    ensures value { result ≡ blanks_in units }
+    ensures bound { result ≤ WIDEST }
+{
+    if units <= 0 {
+        return 0;
+    }
+    (units as u32 / COLUMN).min(WIDEST)
+}
+
+// The columns of what an escape prints.
+fn escape_columns(escape: Escape<'_>, output: Output) -> u32
+    ensures value { result ≡ characters_columns (printed_escape output (meaning_seen escape.entry)) }
+    ensures bound { result ≤ WIDEST }
+{
+    match escape {
+        Escape::Glyph(name) => glyph_columns(name, output),
+        Escape::Char(c) => printed_columns(c, output),
+        Escape::Undefined(c) => printed_columns(c, output),
+        Escape::Tab | Escape::Blank => 1,
+        Escape::Blanks(expression) => {
+            blanks_in(read_expression(expression, Scale::Em, PARENS).value)
+        }
+        Escape::Nothing | Escape::Glue | Escape::Font(_) | Escape::Unsupported | Escape::Bad => 0,
+    }
+}
+
+// The columns of the escape or the character at a text's front, and how many bytes it takes.
+fn front_columns(text: &str, first: char, output: Output) -> (u32, usize)
+    requires first { BeginsWith text.now first }
+    requires line { length text.now ≤ LINE }
+    ensures columns { result.0 ≡ characters_columns (printed_front output text.now (chars text.now)) }
+    ensures bound { result.0 ≤ WIDEST }
+    ensures len { result.1 ≡ front_len text.now (chars text.now) }
+    ensures some { 0 < result.1 }
+    ensures whole_characters { IsCharBoundary text.now result.1 }
+{
+    if first == '\\' {
+        let (found, len) = escape(text.as_bytes());
+        return (escape_columns(found, output), len);
+    }
+    (printed_columns(first, output), first.len_utf8())
+}
+
+// The columns of a text.
+fn text_columns(text: &str, output: Output) -> u32
+    requires { length text.now ≤ LINE }
+    ensures { result ≡ columns_of output text.now }
+{
+    let mut sum = 0u32;
+    let mut rest = text;
+    while let Some(first) = rest.chars().next() {
+        let (columns, len) = front_columns(rest, first, output);
+        sum += columns;
+        rest = &rest[len..];
+    }
+    sum
+}
+
+/// The columns of what a finished text prints: mandoc_char(7); roff(7), "Escape sequences". A character has the columns that
+/// `unicode_width` gives it, or none. In ASCII, and where messages alone are wanted, a character above ASCII has those of its
+/// spelling; `<?>` stands for what has none, and for a glyph that there is not. A tab counts as a blank. `\h` has 0 to 1,000.
+pub fn columns(text: &[u8], output: Output) -> u32
+    requires utf8 { IsUtf8 text.now }
+    requires line { length text.now ≤ LINE }
+    ensures { result ≡ columns_of output text.now }
+{
+    match str::from_utf8(text) {
+        Ok(text) => text_columns(text, output),
+        Err(_) => unreachable!(),
+    }
+}

@@ -1,0 +1,166 @@
+//! What is reported of an expression: mandoc(1), "DIAGNOSTICS".
+
+ghost use Rattle.std.specs.Prelude.{◌≡◌, ◌≤◌, ◌<◌, ◌+◌, ◌^◌, [], ◌∷◌, ◌++◌, IfErr, MatchResult, OnOk, replicate, is_some, if◌then◌else◌};
+ghost use Rattle.page_core.specs.Fails.{FailsAs};
+ghost use Rattle.page_core.specs.Sinks.{Gives};
+ghost use Rattle.page_core.specs.MessageBytes.{message_of};
+ghost use Rattle.page_core_numbers.specs.Expressions.{message_at, messages_at};
+ghost use Rattle.page_core_numbers.specs.Readings.{troubles_seen, stop_seen, count_of};
+
+use arrayvec::ArrayString;
+use page_core::{Fault, Note, NoteKind, NoteSink};
+
+/// What may be wrong in an expression.
+#[derive(Clone, Copy, Debug, PartialEq, Eq)]
+pub(crate) enum Trouble {
+    /// There is no operand where one is wanted.
+    NotNumeric,
+    /// A division by 0.
+    DivZero,
+    /// A parenthesis more than may be open.
+    Parentheses,
+}
+
+/// What is reported of an expression, in its order: divisions by 0, and why the expression ended early, if it did.
+#[derive(Clone, Copy)]
+pub(crate) struct Troubles {
+    pub(crate) divisions: usize,
+    pub(crate) stopped: Option<Stopped>,
+}
+
+/// Why an expression ended early, and the divisions by 0 after that: of what stood before parentheses that were open there.
+#[derive(Clone, Copy)]
+pub(crate) struct Stopped {
+    pub(crate) trouble: Trouble,
+    pub(crate) divisions: usize,
+}
+
+impl Troubles {
+    /// None.
+    pub(crate) fn none() -> Troubles
+        ensures value { troubles_seen result ≡ [] }
+        ensures count { count_of result ≡ 0 }
+        ensures going { result.stopped ≡ None }
+    {
+        Troubles {
+            divisions: 0,
+            stopped: None,
+        }
+    }
+
+    /// That an expression ends early.
+    pub(crate) fn stop(trouble: Trouble) -> Troubles
+        ensures value { troubles_seen result ≡ trouble ∷ [] }
+        ensures count { count_of result ≡ 0 }
+        ensures stopped { result.stopped ≡ Some (record { trouble = trouble; divisions = 0 }) }
+    {
+        Troubles {
+            divisions: 0,
+            stopped: Some(Stopped {
+                trouble,
+                divisions: 0,
+            }),
+        }
+    }
+
+    /// What is reported of an expression that did not end, then of an operand, and then perhaps that a division is by 0.
+    pub(crate) fn followed_by(self, operand: Troubles, divides_by_zero: bool) -> Troubles
+        requires going { self.stopped ≡ None }
+        requires fits { count_of self + count_of operand + 1 < 2 ^ 64 }
+        ensures value { troubles_seen result ≡ troubles_seen self ++ (troubles_seen operand ++ (if divides_by_zero then Trouble.DivZero ∷ [] else [])) }
+        ensures count { count_of result ≤ count_of self + count_of operand + 1 }
+        ensures stopped { is_some result.stopped ≡ is_some operand.stopped }
+    {
+        let more = if divides_by_zero { 1 } else { 0 };
+        let divisions = self.divisions + operand.divisions;
+        match operand.stopped {
+            None => Troubles {
+                divisions: divisions + more,
+                stopped: None,
+            },
+            Some(stopped) => Troubles {
+                divisions,
+                stopped: Some(Stopped {
+                    trouble: stopped.trouble,
+                    divisions: stopped.divisions + more,
+                }),
+            },
+        }
+    }
+}
+
+impl Trouble {
+    // The message of it at a place.
+    fn note(self, line: u32, column: u32) -> Note
+        ensures { message_of result ≡ message_at line column self }
+    {
+        let mut detail = ArrayString::new();
+        let kind = match self {
+            Trouble::NotNumeric => NoteKind::NotNumeric,
+            Trouble::DivZero => NoteKind::DivZero,
+            Trouble::Parentheses => {
+                detail.push_str("PARENS");
+                NoteKind::Limit
+            }
+        };
+        Note {
+            kind,
+            line,
+            column,
+            detail,
+        }
+    }
+}
+
+// Reports divisions by 0.
+fn report_divisions<N: NoteSink>(
+    count: usize,
+    line: u32,
+    column: u32,
+    notes: &mut N,
+) -> Result<(), Fault>
+    ensures gives { Gives result N.gave N.within notes.old (messages_at line column (replicate count Trouble.DivZero)) notes.new }
+    ensures fault { FailsAs Fault.WriteNotes result (N.failed notes.old) (N.failed notes.new) }
+    ensures same { N.loans notes.new ≡ N.loans notes.old }
+{
+    let note = Trouble::DivZero.note(line, column);
+    for _ in 0..count {
+        notes.note(&note)?;
+    }
+    Ok(())
+}
+
+// Reports why an expression ended early, if it did, and the divisions by 0 after that.
+fn report_stopped<N: NoteSink>(
+    stopped: Option<Stopped>,
+    line: u32,
+    column: u32,
+    notes: &mut N,
+) -> Result<(), Fault>
+    ensures gives { Gives result N.gave N.within notes.old (messages_at line column (stop_seen stopped)) notes.new }
+    ensures fault { FailsAs Fault.WriteNotes result (N.failed notes.old) (N.failed notes.new) }
+    ensures same { N.loans notes.new ≡ N.loans notes.old }
+{
+    match stopped {
+        None => Ok(()),
+        Some(stopped) => {
+            notes.note(&stopped.trouble.note(line, column))?;
+            report_divisions(stopped.divisions, line, column, notes)
+        }
+    }
+}
+
+/// Reports what an expression has to report.
+pub(crate) fn report<N: NoteSink>(
+    troubles: Troubles,
+    line: u32,
+    column: u32,
+    notes: &mut N,
+) -> Result<(), Fault>
+    ensures gives { Gives result N.gave N.within notes.old (messages_at line column (troubles_seen troubles)) notes.new }
+    ensures fault { FailsAs Fault.WriteNotes result (N.failed notes.old) (N.failed notes.new) }
+    ensures same { N.loans notes.new ≡ N.loans notes.old }
+{
+    report_divisions(troubles.divisions, line, column, notes)?;
+    report_stopped(troubles.stopped, line, column, notes)
+}
