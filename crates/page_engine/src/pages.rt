@@ -1,6 +1,6 @@
 //! A page: lines become rows and messages.
 
-ghost use Rattle.std.specs.Prelude.{◌≡◌, ◌<◌, ◌-◌, ◌^◌, ℕ, OnOk, IfOk, IfErr, length, Some, None};
+ghost use Rattle.std.specs.Prelude.{◌≡◌, ◌≤◌, ℕ, OnOk, IfOk, IfErr, length, Some, None};
 ghost use Rattle.page_core.specs.Fails.{FailsBySink};
 ghost use Rattle.page_core.specs.Laid.{Gets};
 ghost use Rattle.page_core.specs.MessageBytes.{message_of};
