@@ -132,7 +132,8 @@ fn front_columns(text: &str, first: char, output: Output) -> (u32, usize)
 // The columns of a text.
 fn text_columns(text: &str, output: Output) -> u32
     requires { length text.now ≤ LINE }
-    ensures { result ≡ columns_of output text.now }
+    ensures value { result ≡ columns_of output text.now }
+    ensures bound { result ≤ 1000 * length text.now }
 {
     let mut sum = 0u32;
     let mut rest = text;
@@ -150,7 +151,8 @@ fn text_columns(text: &str, output: Output) -> u32
 pub fn columns(text: &[u8], output: Output) -> u32
     requires utf8 { IsUtf8 text.now }
     requires line { length text.now ≤ LINE }
-    ensures { result ≡ columns_of output text.now }
+    ensures value { result ≡ columns_of output text.now }
+    ensures bound { result ≤ 1000 * length text.now }
 {
     match str::from_utf8(text) {
         Ok(text) => text_columns(text, output),

@@ -3,6 +3,7 @@
 use crate::tests::{all_messages, framed, gives, outcome};
 use page_core::{Level, Output, Settings};
 use std::alloc::{AllocError, Global};
+use std::process::Abort;
 use std::test::Fail;
 
 // What a page shows, the lines behind its section header A; what stands behind that header's row; its messages and the worst level of these.
@@ -386,7 +387,14 @@ fn formats_text(rt: HostRuntime) -> Result<(), Fail> {
         let rows = rows_of(rt.alloc(), case.body)?;
         let want = outcome(case.worst, source_lines(case.lines));
         let mut reader = page.as_slice();
-        gives(&rt, &mut reader, &all_messages(), rows.as_str(), case.notes, want)?;
+        gives(
+            &rt,
+            &mut reader,
+            &all_messages(),
+            rows.as_str(),
+            case.notes,
+            want,
+        )?;
     }
     Ok(())
 }
@@ -407,12 +415,60 @@ fn formats_in_utf8(rt: HostRuntime) -> Result<(), Fail> {
     Ok(())
 }
 
+// Fields with escapes: header and footer, without a message.
+fn gives_fields<R: Abort + AllocGlobal>(
+    rt: &R,
+    output: Output,
+    header: &str,
+    footer: &str,
+) -> Result<(), Fail> {
+    let settings = Settings {
+        output,
+        ..all_messages()
+    };
+    let mut page =
+        b".TH A\\-B 1 20\\h'3n'20 \"S\\~\"\"T\"\"\" \"V \\(em \\(zz\\(dg\\[u4E00]\\tw\"\n.SH A\na\n".as_slice();
+    let rows = format!(in rt.alloc(); "{header}\n\nA\u{8}A\n       a\n\n{footer}\n")?;
+    gives(
+        rt,
+        &mut page,
+        &settings,
+        rows.as_str(),
+        "",
+        outcome(None, 3),
+    )
+}
+
+#[test]
+fn formats_fields(rt: HostRuntime) -> Result<(), Fail> {
+    let footer = "S \"T\"                              20   20                              A-B(1)";
+    gives_fields(
+        &rt,
+        Output::Ascii,
+        "A-B(1)                         V -- <?><?><?> w                         A-B(1)",
+        footer,
+    )?;
+    gives_fields(
+        &rt,
+        Output::Utf8,
+        "A-B(1)                           V \u{2014} <?>\u{2020}\u{4E00} w                           A-B(1)",
+        footer,
+    )
+}
+
 // Requests before the body have no effect.
 #[test]
 fn formats_requests_before_the_body(rt: HostRuntime) -> Result<(), Fail> {
     let mut page = b".nf\n.ft B\n.br\n.TH T 1 2020-01-01 S\n.SH A\na\nb\n".as_slice();
     let rows = rows_of(rt.alloc(), "       a b\n")?;
-    gives(&rt, &mut page, &all_messages(), rows.as_str(), "", outcome(None, 7))
+    gives(
+        &rt,
+        &mut page,
+        &all_messages(),
+        rows.as_str(),
+        "",
+        outcome(None, 7),
+    )
 }
 
 // A row has 4,096 cells at most.
@@ -430,5 +486,12 @@ fn formats_a_row_of_too_many_cells(rt: HostRuntime) -> Result<(), Fail> {
     let notes = "mandoc: x.1:4:1: ERROR: limit exceeded, skipping: CELLS\n";
     let mut reader = page.as_slice();
     let want = outcome(Some(Level::Error), 4);
-    gives(&rt, &mut reader, &all_messages(), rows.as_str(), notes, want)
+    gives(
+        &rt,
+        &mut reader,
+        &all_messages(),
+        rows.as_str(),
+        notes,
+        want,
+    )
 }

@@ -3,7 +3,7 @@ pub mod ArgumentLemmas
 pub mod CutLemmas
 pub mod EmitsLemmas
 pub mod DetailLemmas
-pub mod FieldFronts
+pub mod FieldLemmas
 pub mod FormLemmas
 pub mod ProseLemmas
 pub mod TokenLemmas

@@ -1,14 +1,18 @@
--- A field of a page's header or footer. Source: man(7), TH.
-use Rattle.std.specs.Prelude.{ℕ, Bool, false, ◌==◌, List, length, if◌then◌else◌}
-
--- a field as it is written; in a quoted one a pair of quotes is a quote
-pub record FieldText : Type 0 where
-  pub text : List ℕ
-  pub quoted : Bool
-
-abbrev pub plain_text : List ℕ → FieldText
-plain_text text = record { text = text; quoted = false }
+-- A field of a page's header or footer, as text. Source: man(7), TH; roff(7), "Macro syntax".
+use Rattle.std.specs.Prelude.{ℕ, ◌==◌, ◌&&◌, List, [], ◌∷◌, length, if◌then◌else◌}
 
 -- a field, or another where it is empty
-abbrev pub or_else : FieldText → List ℕ → FieldText
-or_else f other = if length f.text == 0 then plain_text other else f
+abbrev pub or_else : List ℕ → List ℕ → List ℕ
+or_else text other = if length text == 0 then other else text
+
+-- a pair of quotes in a quoted argument is one quote
+abbrev pub quote_len : List ℕ → ℕ
+quote_len [] = 1
+quote_len (byte ∷ []) = 1
+quote_len (byte ∷ next ∷ bytes) = if byte == 34 && next == 34 then 2 else 1
+
+abbrev pub single_quotes : List ℕ → List ℕ
+single_quotes [] = []
+single_quotes (byte ∷ []) = byte ∷ []
+single_quotes (byte ∷ next ∷ bytes) =
+    if byte == 34 && next == 34 then 34 ∷ single_quotes bytes else byte ∷ single_quotes (next ∷ bytes)

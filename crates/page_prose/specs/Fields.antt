@@ -1,7 +1,7 @@
 -- The fields of a page's header and footer. Source: man(7), TH.
 use Rattle.std.specs.Prelude.{ℕ, Bool, not, ◌==◌, nat_lt, List, [], ◌∷◌, length, filter, codes, if◌then◌else◌, slice_index_or}
 use Rattle.page_prose.specs.declared.fields.Fields.{Fields}
-use Rattle.page_prose.specs.FieldText.{FieldText, plain_text, or_else}
+use Rattle.page_prose.specs.FieldText.{or_else, single_quotes}
 use Rattle.page_prose.specs.Cut.{parts, text_front}
 use Rattle.page_prose.specs.Arguments.{argument_len, argument_text, begins_blank, begins_quoted}
 
@@ -13,10 +13,11 @@ abbrev pub arguments : List ℕ → List (List ℕ)
 arguments rest = filter is_argument (parts argument_len rest)
 
 -- an argument as a field: at most 256 bytes, up to a character's end
-abbrev pub field : List ℕ → FieldText
-field argument = record { text = text_front 256 (argument_text argument); quoted = begins_quoted argument }
+abbrev pub field : List ℕ → List ℕ
+field argument =
+    if begins_quoted argument then single_quotes (text_front 256 (argument_text argument)) else text_front 256 (argument_text argument)
 
-abbrev pub nth_field : ℕ → List ℕ → FieldText
+abbrev pub nth_field : ℕ → List ℕ → List ℕ
 nth_field n rest = field (slice_index_or (arguments rest) n [])
 
 -- the volume of a section, by its first byte
@@ -44,7 +45,7 @@ fields_of os rest = record {
   section = nth_field 1 rest;
   date = nth_field 2 rest;
   source = or_else (nth_field 3 rest) os;
-  volume = or_else (nth_field 4 rest) (volume_of (nth_field 1 rest).text);
+  volume = or_else (nth_field 4 rest) (volume_of (nth_field 1 rest));
 }
 
 -- whether the n-th argument is cut as a field
@@ -53,4 +54,4 @@ is_cut n rest = nat_lt 256 (length (argument_text (slice_index_or (arguments res
 
 -- before any TH
 abbrev pub no_fields : List ℕ → Fields
-no_fields os = record { title = plain_text []; section = plain_text []; date = plain_text []; source = plain_text os; volume = plain_text [] }
+no_fields os = record { title = []; section = []; date = []; source = os; volume = [] }

@@ -7,6 +7,6 @@ pub mod Tokens
 pub mod Words
 pub mod Sentences
 pub mod FieldText
-pub mod FieldUnits
+pub mod FieldPieces
 pub mod Fields
 pub mod Prose

@@ -19,8 +19,9 @@ use Rattle.page_prose.specs.Cut.{Part, parts, placed}
 use Rattle.std.specs.List.{prefix_len}
 use Rattle.page_prose.specs.Forms.{is_white, is_blank, is_name, without_comment, kept_len}
 use Rattle.page_prose.specs.Arguments.{argument_len, begins_blank, begins_quoted, is_closed, argument_text}
-use Rattle.page_prose.specs.FieldText.{FieldText}
-use Rattle.page_prose.specs.FieldUnits.{field_pieces, field_columns}
+use Rattle.page_core.specs.declared.page_settings.Output.{Output}
+use Rattle.page_prose.specs.declared.headers.Measure.{Measure}
+use Rattle.page_prose.specs.FieldPieces.{field_pieces, field_columns}
 use Rattle.page_prose.specs.Says.{at, says}
 use Rattle.page_prose.specs.Sentences.{is_sentence}
 use Rattle.page_core.specs.declared.texts.TheConstants.{LINE}
@@ -83,12 +84,12 @@ has_arguments rest = nat_lt (prefix_len is_blank rest) (length rest)
 -- ---- header and footer
 
 -- title(section)
-abbrev pub name_pieces : Place → Fields → List Item
-name_pieces place f =
-    field_pieces place f.title ++ (shown (Char 40 R place) ∷ (field_pieces place f.section ++ shown (Char 41 R place) ∷ []))
+abbrev pub name_pieces : Output → Place → Fields → List Item
+name_pieces output place f =
+    field_pieces output place f.title ++ (shown (Char 40 R place) ∷ (field_pieces output place f.section ++ shown (Char 41 R place) ∷ []))
 
-abbrev pub name_columns : Fields → ℕ
-name_columns f = field_columns f.title + field_columns f.section + 2
+abbrev pub name_columns : Output → Fields → ℕ
+name_columns output f = field_columns output f.title + field_columns output f.section + 2
 
 -- a row of three parts is kept as it is: the second is centered, the third stands at the right, each at least one blank from the one before
 abbrev pub row_start : List Item
@@ -97,34 +98,35 @@ row_start = shown (Literal true) ∷ shown (Indent 0 0) ∷ []
 abbrev pub row_end : List Item
 row_end = shown Break ∷ shown (Literal false) ∷ []
 
-abbrev pub center_column : ℕ → FieldText → ℕ
-center_column width f = (width - field_columns f) / 2
+abbrev pub center_column : Measure → List ℕ → ℕ
+center_column m text = (m.width - field_columns m.output text) / 2
 
-abbrev pub right_column : ℕ → Fields → ℕ
-right_column width f = width - name_columns f
+abbrev pub right_column : Measure → Fields → ℕ
+right_column m f = m.width - name_columns m.output f
 
-abbrev pub other_parts : ℕ → Place → FieldText → Fields → List Item
-other_parts width place middle f =
-    shown (Column (center_column width middle)) ∷ (field_pieces place middle ++ (shown (Column (right_column width f)) ∷ (name_pieces place f ++ row_end)))
+abbrev pub other_parts : Measure → Place → List ℕ → Fields → List Item
+other_parts m place middle f =
+    shown (Column (center_column m middle))
+    ∷ (field_pieces m.output place middle ++ (shown (Column (right_column m f)) ∷ (name_pieces m.output place f ++ row_end)))
 
-abbrev pub header_row : ℕ → Place → Fields → List Item
-header_row width place f = row_start ++ (name_pieces place f ++ other_parts width place f.volume f)
+abbrev pub header_row : Measure → Place → Fields → List Item
+header_row m place f = row_start ++ (name_pieces m.output place f ++ other_parts m place f.volume f)
 
-abbrev pub footer_row : ℕ → Place → Fields → List Item
-footer_row width place f = row_start ++ (field_pieces place f.source ++ other_parts width place f.date f)
+abbrev pub footer_row : Measure → Place → Fields → List Item
+footer_row m place f = row_start ++ (field_pieces m.output place f.source ++ other_parts m place f.date f)
 
 -- a message about an empty field
-abbrev pub if_empty : FieldText → NoteKind → ℕ → List ℕ → List Item
-if_empty f kind line detail = if length f.text == 0 then says kind line 1 detail ∷ [] else []
+abbrev pub if_empty : List ℕ → NoteKind → ℕ → List ℕ → List Item
+if_empty f kind line detail = if length f == 0 then says kind line 1 detail ∷ [] else []
 
 abbrev pub header_notes : ℕ → Fields → List Item
 header_notes line f =
-    if_empty f.title MissingTitle line [] ++ (if_empty f.volume UnknownSection line f.section.text ++ if_empty f.date MissingDate line [])
+    if_empty f.title MissingTitle line [] ++ (if_empty f.volume UnknownSection line f.section ++ if_empty f.date MissingDate line [])
 
 -- the header, a blank row and the header's messages; then text stands at the indent
-unfoldable pub header_items : ℕ → ℕ → ℕ → Fields → List Item
-header_items width indent line f =
-    header_row width (at line 1) f ++ (shown (Space 1) ∷ (header_notes line f ++ shown (Indent indent indent) ∷ []))
+unfoldable pub header_items : Measure → ℕ → Fields → List Item
+header_items m line f =
+    header_row m (at line 1) f ++ (shown (Space 1) ∷ (header_notes line f ++ shown (Indent m.indent m.indent) ∷ []))
 
 -- ---- lines
 
@@ -169,10 +171,10 @@ IsShort (Call name column rest rest_column) = (length rest ≤ LINE) × (rest_co
 
 -- the body begins: with a section header, or otherwise
 abbrev pub begin_items : Prose → ℕ → List Item
-begin_items p line = if p.has_begun then [] else header_items p.width p.indent line p.fields
+begin_items p line = if p.has_begun then [] else header_items p.measure line p.fields
 
 abbrev pub begin_otherwise : Prose → ℕ → List Item
-begin_otherwise p line = if p.has_begun then [] else (header_items p.width p.indent line p.fields ++ says BeforeSection line 1 [] ∷ [])
+begin_otherwise p line = if p.has_begun then [] else (header_items p.measure line p.fields ++ says BeforeSection line 1 [] ∷ [])
 
 -- ---- text lines
 
@@ -244,7 +246,7 @@ heading_fonts = record { font = B; former = R }
 abbrev pub heading_items : Prose → ℕ → List ℕ → ℕ → List Item
 heading_items p line rest rest_column =
     shown (Para 1) ∷ (shown (Literal false) ∷ (shown (Indent 0 0)
-    ∷ (arguments_items heading_fonts line (placed rest_column (parts argument_len rest)) ++ (shown Heading ∷ (shown (Indent p.indent p.indent) ∷ [])))))
+    ∷ (arguments_items heading_fonts line (placed rest_column (parts argument_len rest)) ++ (shown Heading ∷ (shown (Indent p.measure.indent p.measure.indent) ∷ [])))))
 
 abbrev pub section_line : Prose → ℕ → List ℕ → ℕ → List ℕ → ℕ → List Item
 section_line p line name column rest rest_column =
@@ -253,7 +255,7 @@ section_line p line name column rest rest_column =
 -- a paragraph
 abbrev pub paragraph_items : Prose → ℕ → List ℕ → ℕ → List Item
 paragraph_items p line name column =
-    if p.has_content then shown (Para 1) ∷ (shown (Indent p.indent p.indent) ∷ []) else says SkipPara line column name ∷ []
+    if p.has_content then shown (Para 1) ∷ (shown (Indent p.measure.indent p.measure.indent) ∷ []) else says SkipPara line column name ∷ []
 
 abbrev pub paragraph_line : Prose → ℕ → List ℕ → ℕ → List ℕ → ℕ → List Item
 paragraph_line p line name column rest rest_column =
@@ -402,7 +404,7 @@ line_after p text = form_after p (form_of text)
 -- ---- the end of a page, behind the line of a number
 
 abbrev pub no_body : Prose → ℕ → List Item
-no_body p line = if p.has_begun then [] else (header_items p.width p.indent line p.fields ++ says NoBody line 1 [] ∷ [])
+no_body p line = if p.has_begun then [] else (header_items p.measure line p.fields ++ says NoBody line 1 [] ∷ [])
 
 unfoldable pub end_items : Prose → ℕ → List Item
 end_items p line = no_body p line ++ shown Break ∷ []
@@ -410,8 +412,12 @@ end_items p line = no_body p line ++ shown Break ∷ []
 -- a blank row, unless one stands there, and the footer
 unfoldable pub footer_items : Prose → ℕ → ℕ → List Item
 footer_items p line blank_rows =
-    (if blank_rows == 0 then shown (Space 1) ∷ [] else []) ++ footer_row p.width (at line 1) p.fields
+    (if blank_rows == 0 then shown (Space 1) ∷ [] else []) ++ footer_row p.measure (at line 1) p.fields
+
+-- the measure of a page's rows
+abbrev pub measure_of : Settings → Measure
+measure_of s = record { width = s.width; indent = unwrap_or s.indent 7; output = s.output }
 
 -- the start of a page
 abbrev pub start_of : Settings → Prose
-start_of s = record { width = s.width; indent = unwrap_or s.indent 7; os = s.os; fields = no_fields s.os.bytes; fonts = roman_fonts; is_literal = false; has_cells = false; has_begun = false; has_content = false }
+start_of s = record { measure = measure_of s; os = s.os; fields = no_fields s.os.bytes; fonts = roman_fonts; is_literal = false; has_cells = false; has_begun = false; has_content = false }

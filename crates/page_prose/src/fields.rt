@@ -1,8 +1,8 @@
 //! The fields of a page's header and footer (man(7), `TH`).
 
-ghost use Rattle.std.specs.Prelude.{◌≡◌, ◌≤◌, ◌==◌, length};
+ghost use Rattle.std.specs.Prelude.{◌≡◌, ◌≤◌, ◌<◌, ◌==◌, length, if◌then◌else◌};
 ghost use Rattle.page_prose.specs.Cut.{text_front};
-ghost use Rattle.page_prose.specs.FieldText.{plain_text, or_else};
+ghost use Rattle.page_prose.specs.FieldText.{or_else, quote_len, single_quotes};
 ghost use Rattle.page_prose.specs.Fields.{nth_field, volume_at, volume_of, fields_of, no_fields, is_cut};
 
 use crate::arguments::{nth_argument, unquote};
@@ -13,46 +13,73 @@ use std::marker::Model;
 /// The bytes of a field at most; a longer one is cut at a character's end.
 pub const FIELD: usize = 256;
 
-/// A field as it is written.
+/// A field as text.
 #[derive(Drop)]
 pub struct Field {
     text: ArrayVec<u8, 256>,
-    is_quoted: bool,
 }
 
 impl Model for Field {
-    ghost use Rattle.page_prose.specs.FieldText.{FieldText};
+    ghost use Rattle.std.specs.Prelude.{List, ℕ};
 
-    ghost Value = { FieldText };
+    ghost Value = { List ℕ };
 
-    ghost view = { λ f. record { text = f.text.items; quoted = f.is_quoted } };
+    ghost view = { λ f. f.text.items };
+}
+
+// The bytes of the byte at a text's front, or of a pair of quotes there.
+fn quote_len(text: &[u8]) -> usize
+    ensures value { result ≡ quote_len text.now }
+    ensures within { 0 < length text.now → result ≤ length text.now }
+{
+    match text {
+        [first, next, ..] => {
+            if *first == b'"' && *next == b'"' {
+                2
+            } else {
+                1
+            }
+        }
+        _ => 1,
+    }
+}
+
+// A text of at most 256 bytes in which a pair of quotes is one quote.
+fn single_quotes(text: &[u8]) -> ArrayVec<u8, 256>
+    requires { length text.now ≤ 256 }
+    ensures { result.items ≡ single_quotes text.now }
+{
+    let mut kept = ArrayVec::new();
+    let mut rest = text;
+    while !rest.is_empty() {
+        kept.push(rest[0]);
+        rest = &rest[quote_len(rest)..];
+    }
+    kept
 }
 
 impl Field {
-    /// A field of a text, of which the first 256 bytes are kept, up to a character's end.
+    /// A field of an argument, of which the first 256 bytes are kept, up to a character's end.
     pub(crate) fn new(text: &[u8], is_quoted: bool) -> Field
-        ensures text { result.text ≡ text_front 256 text.now }
-        ensures quoted { result.quoted ≡ is_quoted }
+        ensures { result ≡ (if is_quoted then single_quotes (text_front 256 text.now) else text_front 256 text.now) }
     {
-        let mut kept = ArrayVec::new();
-        let _ = kept.try_extend_from_slice(text_front(text, FIELD).as_bytes());
-        Field {
-            text: kept,
-            is_quoted,
+        let front = text_front(text, FIELD).as_bytes();
+        if is_quoted {
+            return Field {
+                text: single_quotes(front),
+            };
         }
+        Field::plain(front)
     }
 
     /// A field of a text of at most 256 bytes.
     pub(crate) fn plain(text: &[u8]) -> Field
         requires { length text.now ≤ 256 }
-        ensures { result ≡ plain_text text.now }
+        ensures { result ≡ text.now }
     {
         let mut kept = ArrayVec::new();
         let _ = kept.try_extend_from_slice(text);
-        Field {
-            text: kept,
-            is_quoted: false,
-        }
+        Field { text: kept }
     }
 
     /// This field, or another text of at most 256 bytes where it is empty.
@@ -68,22 +95,15 @@ impl Field {
 
     /// The bytes of the field.
     pub(crate) fn text(&self) -> &[u8]
-        ensures text { result.now ≡ self.now.text }
+        ensures text { result.now ≡ self.now }
         ensures within { length result.now ≤ 256 }
     {
         self.text.as_slice()
     }
 
-    /// Whether a pair of quotes in it is one quote.
-    pub(crate) fn is_quoted(&self) -> bool
-        ensures { result ≡ self.now.quoted }
-    {
-        self.is_quoted
-    }
-
     /// Whether the field has no bytes.
     pub(crate) fn is_empty(&self) -> bool
-        ensures { result ≡ (length self.now.text == 0) }
+        ensures { result ≡ (length self.now == 0) }
     {
         self.text.is_empty()
     }

@@ -3,7 +3,7 @@
 
 mod arguments;
 mod details;
-mod field_units;
+mod field_pieces;
 mod fields;
 mod forms;
 mod headers;
@@ -15,6 +15,7 @@ mod walks;
 mod words;
 
 pub use forms::Form;
+pub use headers::Measure;
 pub use macros::Macro;
 pub use prose::Prose;
 pub use tokens::Token;

@@ -16,7 +16,7 @@ use crate::arguments::{give_arguments, has_arguments, note_closings, nth_argumen
 use crate::details::{say, say_if};
 use crate::fields::{Fields, is_cut};
 use crate::forms::{Form, form_of, has_word, kept_len, white_len};
-use crate::headers::{give_footer_row, give_header};
+use crate::headers::{Measure, give_footer_row, give_header};
 use crate::macros::{Macro, macro_of};
 use crate::sentences::is_sentence;
 use crate::walks::{Fonts, Style, Walk};
@@ -28,9 +28,7 @@ use page_core_escapes::{FontName, read_font};
 /// What decides the pieces of the lines to come.
 #[derive(Drop)]
 pub struct Prose {
-    // The width and the indent in columns.
-    width: u32,
-    indent: u32,
+    measure: Measure,
     os: ArrayString<256>,
     fields: Fields,
     fonts: Fonts,
@@ -128,8 +126,11 @@ impl Prose {
         ensures { result ≡ prose.start_of settings.now }
     {
         Prose {
-            width: settings.width,
-            indent: settings.indent.unwrap_or(7),
+            measure: Measure {
+                width: settings.width,
+                indent: settings.indent.unwrap_or(7),
+                output: settings.output,
+            },
             os: settings.os,
             fields: Fields::new(settings.os.as_str().as_bytes()),
             fonts: ROMAN,
@@ -148,7 +149,7 @@ impl Prose {
         if self.has_begun {
             return Ok(());
         }
-        give_header(out, self.width, self.indent, line, &self.fields)
+        give_header(out, self.measure, line, &self.fields)
     }
 
     // Gives the header where the body begins otherwise than by a section header.
@@ -164,10 +165,10 @@ impl Prose {
 
     // Gives the header and a message.
     fn begin_with<O: PieceSink>(&self, out: &mut O, line: u32, kind: NoteKind) -> Result<(), Fault>
-        ensures gives { Emits result O.gave O.broke out.old (header_items self.now.width self.now.indent line self.now.fields ++ says kind line 1 [] ∷ []) out.new }
+        ensures gives { Emits result O.gave O.broke out.old (header_items self.now.measure line self.now.fields ++ says kind line 1 [] ∷ []) out.new }
         ensures same { O.loans out.new ≡ O.loans out.old }
     {
-        give_header(out, self.width, self.indent, line, &self.fields)?;
+        give_header(out, self.measure, line, &self.fields)?;
         say(out, kind, line, 1, b"")
     }
 
@@ -286,8 +287,8 @@ impl Prose {
         ensures same { O.loans out.new ≡ O.loans out.old }
     {
         let margin = Piece::Indent {
-            first: self.indent,
-            rest: self.indent,
+            first: self.measure.indent,
+            rest: self.measure.indent,
         };
         out.piece(Piece::Para(1))?;
         give_two(
@@ -353,8 +354,8 @@ impl Prose {
             return say(out, NoteKind::SkipPara, place.line, place.column, name);
         }
         let margin = Piece::Indent {
-            first: self.indent,
-            rest: self.indent,
+            first: self.measure.indent,
+            rest: self.measure.indent,
         };
         give_two(out, Piece::Para(1), margin)
     }
@@ -740,7 +741,7 @@ impl Prose {
         ensures same { O.loans out.new ≡ O.loans out.old }
     {
         give_blank_row_if(out, blank_rows == 0)?;
-        give_footer_row(out, self.width, Place { line, column: 1 }, &self.fields)
+        give_footer_row(out, self.measure, Place { line, column: 1 }, &self.fields)
     }
 }
 

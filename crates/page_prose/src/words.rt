@@ -14,7 +14,7 @@ use crate::walks::{Style, Walk};
 use page_core::{Fault, Font, LINE, NoteKind, Piece, PieceSink, Place};
 use page_core_escapes::{Escape, FontName};
 
-// Reports a font that there is not.
+/// Reports a font that there is not.
 pub(crate) fn note_font<O: PieceSink>(
     out: &mut O,
     place: Place,
@@ -99,8 +99,8 @@ fn escape_piece(font: Font, place: Place, meaning: Escape<'_>) -> Option<Piece<&
     }
 }
 
-// What a token of a word prints.
-fn token_piece(font: Font, place: Place, token: Token<'_>) -> Option<Piece<&[u8]>>
+/// What a token of a word prints.
+pub(crate) fn token_piece(font: Font, place: Place, token: Token<'_>) -> Option<Piece<&[u8]>>
     ensures { option_map piece_of result ≡ words.token_piece font place (token_seen token.entry) }
 {
     match token {
@@ -115,8 +115,8 @@ fn token_piece(font: Font, place: Place, token: Token<'_>) -> Option<Piece<&[u8]
     }
 }
 
-// Gives a piece, where there is one.
-fn give_if<O: PieceSink>(out: &mut O, piece: Option<Piece<&[u8]>>) -> Result<(), Fault>
+/// Gives a piece, where there is one.
+pub(crate) fn give_if<O: PieceSink>(out: &mut O, piece: Option<Piece<&[u8]>>) -> Result<(), Fault>
     ensures gives { Emits result O.gave O.broke out.old (words.piece_items (option_map piece_of piece.entry)) out.new }
     ensures same { O.loans out.new ≡ O.loans out.old }
 {

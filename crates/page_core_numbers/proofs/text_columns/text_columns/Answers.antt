@@ -14,7 +14,7 @@ loop-first-preserved c =
       omega (arith, l.invariant.2, rest.ensures.len, front.ensures.bound, front.ensures.some),
     )
 
-pub returns : goal.returns
-returns c =
+pub returns-clause-value : goal.returns-clause-value
+returns-clause-value c =
     let none : length c.loop-first.rest.now ≡ 0 = ap length (sym c.chars.ensures.rest) ∙ c.in_default.ensures.steps.0.0 in
     left-none c.args.output c.args.text.now c.loop-first.sum c.loop-first.rest.now c.loop-first.invariant.1 none

@@ -16,11 +16,11 @@ returns-in_err-give_field-clause-gives g c =
     let u0 = UpTo-start (g.met.O.PieceSink.laws Failed) _ _ in
     let u1 = UpTo-more (g.met.O.PieceSink.laws Failed) _ _ _ u0 refl c.in_ok-begin_row.ensures.gives in
     let p = err_from_is_err_and c.from_residual-in_err-give_field.result c.from_residual-in_err-give_field.ensures.1 in
-    rw (p.1, p.2) (UpTo-within (g.met.O.PieceSink.laws _) _ _ _ u1 refl c.in_err-give_field.ensures.gives)
+    rw (p.1, p.2) (UpTo-within (g.met.O.PieceSink.laws _) _ _ _ u1 refl (rw c.text.ensures.text at c.in_err-give_field.ensures.gives))
 
 pub returns-clause-gives : goal.returns-clause-gives
 returns-clause-gives g c =
     let u0 = UpTo-start (g.met.O.PieceSink.laws Failed) _ _ in
     let u1 = UpTo-more (g.met.O.PieceSink.laws Failed) _ _ _ u0 refl c.in_ok-begin_row.ensures.gives in
-    let u2 = UpTo-more (g.met.O.PieceSink.laws Failed) _ _ _ u1 refl c.in_ok-give_field.ensures.gives in
+    let u2 = UpTo-more (g.met.O.PieceSink.laws Failed) _ _ _ u1 refl (rw c.text.ensures.text at c.in_ok-give_field.ensures.gives) in
     emits_last g.met.O.PieceSink.laws _ _ c.give_parts.result u2 (refl) c.give_parts.ensures.gives

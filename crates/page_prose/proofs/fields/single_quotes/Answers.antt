@@ -1,0 +1,1 @@
+use Rattle.page_prose.proofs.fields.single_quotes.Goals as goal
