@@ -1,8 +1,8 @@
 //! The cases of each rule, cut whole, byte by byte, and in two pieces at each place.
 ghost use Rattle.std.specs.Prelude.{◌≡◌, ◌+◌, ◌^◌, ◌<◌, ◌≤◌, length, false, true, OnOk};
 
-use crate::Cutter;
-use page_core::{Encoding, KeptNotes, NoteKind};
+use crate::{Cutter, OpenLine};
+use page_core::{Encoding, KeptNotes, LINE, NoteKind};
 use std::alloc::Global;
 use std::process::Abort;
 use std::test::Fail;
@@ -301,5 +301,48 @@ fn cuts_long_lines(rt: HostRuntime) -> Result<(), Fail> {
         assert!(rt; lines.as_str().starts_with(want), "{count} and {tail:?}");
         assert_eq!(rt; lines.len(), len, "{count} and {tail:?}");
     }
+    Ok(())
+}
+
+// Feeds a piece that ends no line 160 times, also to an open line of its own, and tells how many bytes that were.
+fn feed_often<R: Abort>(rt: &R, cutter: &mut Cutter, open: &mut OpenLine, piece: &[u8]) -> u32
+    requires ready { cutter.old.ready ≡ false }
+    requires taken { cutter.old.place.line.taken ≡ 0 }
+    requires open { open.old.taken ≡ 0 }
+    ensures ready { cutter.new.ready ≡ false }
+    ensures taken { cutter.new.place.line.taken ≤ 20000000 }
+{
+    let mut bytes = 0;
+    'pieces: for _ in 0..160 {
+        if piece.len() > 65_536 || bytes > 15_000_000 {
+            break 'pieces;
+        }
+        let (taken, whole) = cutter.feed(piece);
+        if whole {
+            panic!(rt; "a line is whole after {bytes} bytes");
+        }
+        bytes += taken as u32;
+        let _ = open.read(piece);
+        assert!(rt; open.text().len() <= LINE, "after {bytes} bytes");
+    }
+    bytes
+}
+
+#[test]
+fn keeps_the_front_of_a_line_of_ten_megabytes(rt: HostRuntime) -> Result<(), Fail> {
+    let piece = page_of(rt.alloc(), b'x', 65_536, b"")?;
+    let mut cutter = Cutter::new(rt.alloc(), Encoding::Auto)?;
+    let mut open = OpenLine::new(rt.alloc())?;
+    let bytes = feed_often(&rt, &mut cutter, &mut open, piece.as_slice());
+    assert_eq!(rt; bytes, 10_485_760);
+    let mut shown = String::new(rt.alloc());
+    feed_all(rt.alloc(), &mut cutter, b"\nb", &mut shown)?;
+    assert!(rt; shown.as_str().starts_with("limit 1:1 LINE, 1 x"));
+    assert_eq!(rt; shown.len(), 65_555);
+    if cutter.end() {
+        show_line(rt.alloc(), &mut cutter, &mut shown)?;
+    }
+    assert!(rt; shown.as_str().ends_with("x|2 b|"));
+    assert_eq!(rt; shown.len(), 65_559);
     Ok(())
 }
