@@ -9,15 +9,12 @@ use Rattle.page_roff_lines.specs.Limit.{line_limit}
 use Rattle.page_roff_lines.specs.Logical.{Kept}
 use Rattle.page_roff_lines.specs.Characters.{Character, good, is_printable, character, later_length, characters_after, characters, all_bytes}
 use Rattle.page_roff_lines.specs.Decoding.{choice_of, decoded, fitting, bad_notes, limit_notes}
+use Rattle.page_roff_lines.proofs.ScanLemmas.{and_true}
 
 -- each byte by itself
 abbrev pub singles : List ℕ → List Character
 singles [] = []
 singles (b ∷ bs) = good (b ∷ []) ∷ singles bs
-
-and_true : (a b : Bool) → (a && b) ≡ true → (a ≡ true) × (b ≡ true)
-and_true true b h = (refl, h)
-and_true false b h = cc
 
 printable_low : (b : ℕ) → is_printable b ≡ true → nat_lt b 128 ≡ true
 printable_low b h = grind (arith, nat_tests)

@@ -109,7 +109,8 @@ fn pair_mode(byte: u8) -> Mode
 
 impl OpenLine {
     ghost use Rattle.page_roff_lines.specs.Open.{first_open, restarted, put, put_plain, put_pair, put_in, without_return, newline_in, put_newline, put_byte, open_after, ended, counted, closed, ends_mark, left, whole_lines, kept_of, is_marked};
-    ghost use Rattle.page_roff_lines.specs.Run.{IsRun, with_run};
+    ghost use Rattle.page_roff_lines.specs.Bytes.{newline};
+    ghost use Rattle.page_roff_lines.specs.Run.{IsRun, InText, with_run};
 
     /// Before the first byte of a page, with the memory that it will ever hold.
     pub fn new(alloc: Global) -> Result<OpenLine, AllocError>
@@ -238,6 +239,14 @@ impl OpenLine {
         }
     }
 
+    // The next physical line.
+    fn begin_physical(&mut self)
+        requires { self.old.physical ≤ self.old.taken }
+        ensures { self.new ≡ record self.old { physical = self.old.physical + 1 } }
+    {
+        self.physical += 1;
+    }
+
     // A line feed.
     #[tactic(auto, unfolding(crate::specs::Open::put_newline, crate::specs::Open::without_return, crate::specs::Open::newline_in, crate::specs::Open::closed))]
     fn put_newline(&mut self)
@@ -246,7 +255,7 @@ impl OpenLine {
     {
         self.drop_return();
         self.end_physical();
-        self.physical += 1;
+        self.begin_physical();
     }
 
     // One byte more of the page.
@@ -261,6 +270,29 @@ impl OpenLine {
         self.mark = self.mark.after(byte);
     }
 
+    // Whether a line feed here ends a line that is open, and takes nothing away.
+    fn is_in_text(&self) -> bool
+        ensures { result ≡ true → InText self.now }
+    {
+        self.mark.is_settled()
+            && !self.whole
+            && !self.after_return
+            && matches!(self.mode, Mode::Plain)
+    }
+
+    // A line feed behind text.
+    #[tactic(auto, unfolding(crate::specs::Open::closed))]
+    fn end_text(&mut self)
+        requires text { InText self.old }
+        requires taken { self.old.taken + 1 < 2 ^ 31 }
+        ensures after { self.new ≡ open_after self.old newline }
+        ensures whole { self.new.whole ≡ true }
+    {
+        self.taken += 1;
+        self.close();
+        self.begin_physical();
+    }
+
     // One byte more; whether the line is whole with it.
     #[tactic(auto, unfolding(crate::specs::Open::open_after, crate::specs::Open::put_byte, crate::specs::Open::counted, crate::specs::Open::restarted))]
     fn take_byte(&mut self, byte: u8) -> bool
@@ -268,6 +300,10 @@ impl OpenLine {
         ensures after { self.new ≡ open_after self.old byte }
         ensures whole { result ≡ self.new.whole }
     {
+        if byte == NEWLINE && self.is_in_text() {
+            self.end_text();
+            return true;
+        }
         let ends_mark = self.mark.ends_at(byte);
         self.restart();
         self.count(byte);

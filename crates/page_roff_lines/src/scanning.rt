@@ -15,6 +15,9 @@ use std::simd::prelude::*;
 // The bytes that are tested at a time.
 const LANES: usize = 32;
 
+// How far the last printable byte of ASCII is above the first, the blank.
+const PRINTABLE_SPAN: u8 = b'~' - b' ';
+
 // Whether a byte is a printable one of ASCII or a tab, and no backslash.
 fn is_text(byte: u8) -> bool
     ensures { result ≡ spec_is_text byte }
@@ -27,10 +30,10 @@ fn is_text(byte: u8) -> bool
 fn stops(bytes: u8x32) -> u64
     ensures { result ≡ mask_l (map is_stop bytes) }
 {
-    let controls = bytes.simd_lt(u8x32::splat(b' ')) & bytes.simd_ne(u8x32::splat(b'\t'));
+    let others = bytes.simd_ne(u8x32::splat(b'\t'));
     let backslashes = bytes.simd_eq(u8x32::splat(BACKSLASH));
-    let high = u8x32::splat(b'~').simd_lt(bytes);
-    (controls | backslashes | high).to_bitmask()
+    let outside = (bytes - u8x32::splat(b' ')).simd_gt(u8x32::splat(PRINTABLE_SPAN));
+    ((outside & others) | backslashes).to_bitmask()
 }
 
 // Where the text ends that begins at a place, a byte at a time.

@@ -1,10 +1,8 @@
-use Rattle.std.proofs.Common.{◌≡◌, ◌+◌, ◌-◌, ◌<◌, false, take, length, slice_index, inl, inr, ap, sym, subst, ◌∙◌, arith}
-use Rattle.std.specs.List.{prefix_len, list_all}
+use Rattle.std.proofs.Common.{◌≡◌, ◌+◌, ◌-◌, false, slice_index, inl, inr, ap, subst, ◌∙◌, arith}
 use Rattle.std.proofs.lemmas.Bool.{cases_lt}
 use Rattle.std.proofs.lemmas.List.{get_or-drop}
 use Rattle.std.proofs.lemmas.List.Sums.{prefix_len_passes}
 use Rattle.page_roff_lines.specs.declared.Mode.TheVariants.{Plain}
-use Rattle.page_roff_lines.specs.Characters.{is_printable}
 use Rattle.page_roff_lines.specs.Run.{ends_run}
 use Rattle.page_roff_lines.specs.Scan.{is_text}
 use Rattle.page_roff_lines.proofs.OpenLaws.{rest_of}

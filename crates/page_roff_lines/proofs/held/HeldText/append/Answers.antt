@@ -1,5 +1,4 @@
-use Rattle.std.proofs.Common.{◌≡◌, ◌++◌, ◌-◌, true, take, length, min, ap, refl, sym, ◌∙◌, arith}
-use Rattle.std.specs.List.{list_all}
+use Rattle.std.proofs.Common.{◌≡◌, ◌++◌, ◌-◌, take, length, min, ap, refl, sym, ◌∙◌, arith}
 use Rattle.std.proofs.lemmas.List.{take_min, length-take-le}
 use Rattle.page_roff_lines.specs.Characters.{is_printable}
 use Rattle.page_roff_lines.specs.Limit.{line_limit, line_limit_is}

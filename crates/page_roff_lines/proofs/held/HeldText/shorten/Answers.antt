@@ -1,5 +1,4 @@
 use Rattle.std.proofs.Common.{arith}
-use Rattle.std.proofs.lemmas.List.{length-take-le}
 use Rattle.page_roff_lines.specs.Characters.{is_printable}
 use Rattle.page_roff_lines.proofs.ScanLemmas.{all-take}
 use Rattle.page_roff_lines.proofs.held.HeldText.shorten.Goals as goal
