@@ -28,18 +28,19 @@ all-take p (suc n) (x ∷ xs) h = let both = and_true (p x) (list_all p xs) h in
 pub all-append : (p : ℕ → Bool) (xs ys : List ℕ) → list_all p xs ≡ true → list_all p ys ≡ true → list_all p (xs ++ ys) ≡ true
 all-append p xs ys h g = rw (list_all-append p xs ys, h, g) refl
 
--- the front of a list up to where it first fails a test
-front-step : (b : Bool) (q : ℕ → Bool) (x : ℕ) (xs : List ℕ) (n : ℕ) → (b ≡ true → q x ≡ true) → list_all q (take n xs) ≡ true
-    → list_all q (take (cond b (1 + n) 0) (x ∷ xs)) ≡ true
-front-step true q x xs n w h = let one : 1 + n ≡ suc n = omega arith in rw (one, w refl) h
-front-step false q x xs n w h = refl
+-- the front of a list, no longer than where it first fails a test
+front-step : (b : Bool) (q : ℕ → Bool) (x : ℕ) (xs : List ℕ) (n m : ℕ) → (b ≡ true → q x ≡ true) → suc n ≤ cond b (1 + m) 0
+    → (n ≤ m → list_all q (take n xs) ≡ true) → list_all q (take (suc n) (x ∷ xs)) ≡ true
+front-step true q x xs n m w h g = rw (w refl) (g (omega arith))
+front-step false q x xs n m w h g = absurd (omega arith)
 
-pub all-front : (p q : ℕ → Bool) → ((x : ℕ) → p x ≡ true → q x ≡ true) → (xs : List ℕ) → list_all q (take (prefix_len p xs) xs) ≡ true
-all-front p q w [] = refl
-all-front p q w (x ∷ xs) = front-step (p x) q x xs (prefix_len p xs) (w x) (all-front p q w xs)
+pub all-front : (p q : ℕ → Bool) → ((x : ℕ) → p x ≡ true → q x ≡ true) → (xs : List ℕ) (n : ℕ) → n ≤ prefix_len p xs → list_all q (take n xs) ≡ true
+all-front p q w xs zero h = refl
+all-front p q w [] (suc n) h = refl
+all-front p q w (x ∷ xs) (suc n) h = front-step (p x) q x xs n (prefix_len p xs) (w x) h (all-front p q w xs n)
 
-pub text-printable : (xs : List ℕ) → list_all is_printable (take (prefix_len is_text xs) xs) ≡ true
-text-printable xs = all-front is_text is_printable (λ x h. (and_true (is_printable x) _ h).0) xs
+pub text-printable : (xs : List ℕ) (n : ℕ) → n ≤ prefix_len is_text xs → list_all is_printable (take n xs) ≡ true
+text-printable = all-front is_text is_printable (λ x h. (and_true (is_printable x) _ h).0)
 
 -- text ends no run
 pub text-run : (b : ℕ) → is_text b ≡ true → ends_run Plain b ≡ false

@@ -65,6 +65,15 @@ fn text_len(bytes: &[u8]) -> usize
     text_end(bytes, at)
 }
 
+/// How many bytes at the front are text, printable ones and no backslashes, of those for which there is room.
+pub fn text_within(bytes: &[u8], room: usize) -> usize
+    ensures within { result ≤ length bytes.now }
+    ensures room { result ≤ room }
+    ensures text { list_all is_printable (take result bytes.now) ≡ true }
+{
+    text_len(bytes).min(room)
+}
+
 // How many bytes come before the first line feed or backslash.
 fn run_len(piece: &[u8]) -> usize
     ensures within { result ≤ length piece.now }

@@ -249,7 +249,7 @@ type LongCase = (Encoding, u8, usize, &'static [u8], &'static str, usize);
 
 #[test]
 fn cuts_long_lines(rt: HostRuntime) -> Result<(), Fail> {
-    let cases: [LongCase; 9] = [
+    let cases: [LongCase; 11] = [
         (Encoding::Auto, b'x', 65535, b"\n", "1 x", 65538),
         (Encoding::Auto, b'x', 65536, b"\r\n", "1 x", 65539),
         (Encoding::Auto, b'x', 65536, b"\\\n", "1 x", 65539),
@@ -285,7 +285,23 @@ fn cuts_long_lines(rt: HostRuntime) -> Result<(), Fail> {
             "limit 1:1 LINE, 1 x",
             65560,
         ),
+        (
+            Encoding::Latin1,
+            b'x',
+            65535,
+            b"\xe9\n",
+            "limit 1:1 LINE, 1 x",
+            65554,
+        ),
         (Encoding::Latin1, 0xe9, 32768, b"\n", "1 \u{e9}", 65539),
+        (
+            Encoding::Latin1,
+            0xe9,
+            32767,
+            b"xxx\n",
+            "limit 1:1 LINE, 1 \u{e9}",
+            65555,
+        ),
         (
             Encoding::Latin1,
             0xe9,

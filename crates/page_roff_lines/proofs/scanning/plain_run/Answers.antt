@@ -14,7 +14,7 @@ returns-then-len-piece-clause-run c = λ k below.
     text-run (slice_index c.args.piece.now k) (prefix_len_passes is_text c.args.piece.now k 0 (omega (arith, c.text_len-len.ensures.value)))
 
 pub returns-then-len-piece-clause-printable : goal.returns-then-len-piece-clause-printable
-returns-then-len-piece-clause-printable c = λ _. rw c.text_len-len.ensures.value (text-printable c.args.piece.now)
+returns-then-len-piece-clause-printable c = λ _. text-printable c.args.piece.now c.text_len-len.result (omega (arith, c.text_len-len.ensures.value))
 
 pub returns-clause-run : goal.returns-clause-run
 returns-clause-run c = λ k below.
