@@ -320,11 +320,11 @@ fn cuts_long_lines(rt: HostRuntime) -> Result<(), Fail> {
     Ok(())
 }
 
-// Feeds a piece that ends no line 160 times, also to an open line of its own, and tells how many bytes that were.
-fn feed_often<R: Abort>(rt: &R, cutter: &mut Cutter, open: &mut OpenLine, piece: &[u8]) -> u32
+// Feeds a piece that ends no line 160 times, and to an open line by itself, and tells how many bytes that were.
+fn feed_often<R: Abort>(rt: &R, cutter: &mut Cutter, line: &mut OpenLine, piece: &[u8]) -> u32
     requires ready { cutter.old.ready ≡ false }
     requires taken { cutter.old.place.line.taken ≡ 0 }
-    requires open { open.old.taken ≡ 0 }
+    requires line { line.old.taken ≡ 0 }
     ensures ready { cutter.new.ready ≡ false }
     ensures taken { cutter.new.place.line.taken ≤ 20000000 }
 {
@@ -338,8 +338,8 @@ fn feed_often<R: Abort>(rt: &R, cutter: &mut Cutter, open: &mut OpenLine, piece:
             panic!(rt; "a line is whole after {bytes} bytes");
         }
         bytes += taken as u32;
-        let _ = open.read(piece);
-        assert!(rt; open.text().len() <= LINE, "after {bytes} bytes");
+        let _ = line.read(piece);
+        assert!(rt; line.text().len() <= LINE, "after {bytes} bytes");
     }
     bytes
 }
@@ -348,8 +348,8 @@ fn feed_often<R: Abort>(rt: &R, cutter: &mut Cutter, open: &mut OpenLine, piece:
 fn keeps_the_front_of_a_line_of_ten_megabytes(rt: HostRuntime) -> Result<(), Fail> {
     let piece = page_of(rt.alloc(), b'x', 65_536, b"")?;
     let mut cutter = Cutter::new(rt.alloc(), Encoding::Auto)?;
-    let mut open = OpenLine::new(rt.alloc())?;
-    let bytes = feed_often(&rt, &mut cutter, &mut open, piece.as_slice());
+    let mut line = OpenLine::new(rt.alloc())?;
+    let bytes = feed_often(&rt, &mut cutter, &mut line, piece.as_slice());
     assert_eq!(rt; bytes, 10_485_760);
     let mut shown = String::new(rt.alloc());
     feed_all(rt.alloc(), &mut cutter, b"\nb", &mut shown)?;
