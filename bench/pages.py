@@ -72,4 +72,5 @@ def main():
             print(line + (f" {min(theirs) / min(ours):12.2f} {peak_of([other, '-T', 'ascii'], name):14}" if other else ""))
 
 
-main()
+if __name__ == "__main__":
+    main()

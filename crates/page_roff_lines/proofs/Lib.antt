@@ -1,4 +1,5 @@
 pub mod HeldLemmas
+pub mod ScanLemmas
 pub mod OpenLaws
 pub mod RunLemmas
 pub mod Spots

@@ -8,8 +8,8 @@ use Rattle.page_roff_lines.specs.declared.Mark.TheVariants.{Unread, First, Secon
 use Rattle.page_roff_lines.specs.Bytes.{newline, carriage_return, backslash}
 use Rattle.page_roff_lines.specs.Limit.{line_limit}
 use Rattle.page_roff_lines.specs.Held.{Held, nothing_held, extended}
-use Rattle.page_roff_lines.specs.Open.{Open, restarted, open_after, put_byte, put_in, put_plain, put, counted, ends_mark, mark_after, if_whole, whole_lines, left}
-use Rattle.page_roff_lines.specs.Run.{IsRun, ends_run, is_settled, run_in, with_run}
+use Rattle.page_roff_lines.specs.Open.{Open, restarted, open_after, put_byte, put_in, put_plain, put_newline, without_return, newline_in, closed, put, counted, ends_mark, mark_after, if_whole, whole_lines, left}
+use Rattle.page_roff_lines.specs.Run.{IsRun, InText, ends_run, is_settled, run_in, with_run}
 
 -- an open line that is not whole
 abbrev pub st : Mode → Held → Bool → Bool → ℕ → ℕ → ℕ → Mark → Open
@@ -169,3 +169,20 @@ left-run o run some is = any-left o.whole o.mode o.text o.after_return o.begun o
 
 pub whole_lines-run : (o : Open) (run : List ℕ) → IsRun o run → whole_lines o run ≡ []
 whole_lines-run o run is = any-none o.whole o.mode o.text o.after_return o.begun o.number o.physical o.taken o.mark run is
+
+-- a line feed behind text ends the line, and takes nothing away
+newline-st : (t : Held) (g : Bool) (n p k : ℕ) (a : Mark) → is_settled a ≡ true
+    → open_after (st Plain t false g n p k a) newline ≡ any true Plain t false false n (p + 1) (k + 1) a
+unfolding open_after put_byte put_newline without_return newline_in closed counted restarted ends_mark mark_after
+newline-st t g n p k Absent h = refl
+newline-st t g n p k Present h = refl
+newline-st t g n p k Unread h = cc
+newline-st t g n p k First h = cc
+newline-st t g n p k Second h = cc
+
+newline-any : (w : Bool) (m : Mode) (t : Held) (r g : Bool) (n p k : ℕ) (a : Mark) → w ≡ false → m ≡ Plain → r ≡ false → is_settled a ≡ true
+    → open_after (any w m t r g n p k a) newline ≡ any true Plain t false false n (p + 1) (k + 1) a
+newline-any w m t r g n p k a e f h s = rw (e, f, h) (newline-st t g n p k a s)
+
+pub text-newline : (o : Open) → InText o → open_after o newline ≡ any true Plain o.text false false o.number (o.physical + 1) (o.taken + 1) o.mark
+text-newline o is = newline-any o.whole o.mode o.text o.after_return o.begun o.number o.physical o.taken o.mark is.unfinished is.plain is.no_return is.settled

@@ -9,3 +9,4 @@ pub mod Logical
 pub mod Open
 pub mod Reading
 pub mod Run
+pub mod Scan

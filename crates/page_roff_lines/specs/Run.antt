@@ -38,3 +38,10 @@ run_in Dropped o run = o
 
 abbrev pub with_run : Open → List ℕ → Open
 with_run o run = record (run_in o.mode o run) { taken = o.taken + length run }
+
+-- a line feed here ends a line that is open, and takes nothing away
+pub record InText (o : Open) : Type 0 where
+  pub settled : is_settled o.mark ≡ true
+  pub unfinished : o.whole ≡ false
+  pub no_return : o.after_return ≡ false
+  pub plain : o.mode ≡ Plain

@@ -9,7 +9,7 @@ ghost use Rattle.page_core.specs.Sinks.{Gives};
 ghost use Rattle.page_core.specs.Fails.{FailsAs, Rose};
 ghost use Rattle.page_core.specs.Texts.{IsLine};
 
-use crate::choosing::{choose, is_plain};
+use crate::choosing::choose;
 use crate::decoding::DecodedText;
 use crate::open::OpenLine;
 use crate::reporting::{report, report_limit};
@@ -120,7 +120,7 @@ impl Cutter {
         ensures fault { FailsAs Fault.WriteNotes result (N.failed notes.old) (N.failed notes.new) }
         ensures same { N.loans notes.new ≡ N.loans notes.old }
     {
-        let plain = is_plain(self.line.text());
+        let plain = self.line.is_printable();
         self.encoding = self.settled_encoding(plain);
         self.ready = false;
         self.plain = plain;

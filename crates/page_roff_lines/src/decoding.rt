@@ -1,12 +1,14 @@
 //! The decoded text of a line (mandoc(1), -K).
-ghost use Rattle.std.specs.Prelude.{◌≡◌, ◌-◌, ◌+◌, ◌<◌, ◌≤◌, ◌++◌, [], length, nat_le, nat_lt, IfOk, if◌then◌else◌};
+ghost use Rattle.std.specs.Prelude.{◌≡◌, ◌-◌, ◌+◌, ◌<◌, ◌≤◌, ◌++◌, [], length, take, true, nat_le, nat_lt, IfOk, if◌then◌else◌};
+ghost use Rattle.std.specs.List.{list_all};
 ghost use Rattle.page_core.specs.Texts.{IsLine};
 ghost use Rattle.page_roff_lines.specs.Limit.{line_limit};
-ghost use Rattle.page_roff_lines.specs.Characters.{characters, bytes_of, all_bytes};
+ghost use Rattle.page_roff_lines.specs.Characters.{characters, bytes_of, all_bytes, is_printable};
 ghost use Rattle.page_roff_lines.specs.Fronts.{as_character, width_of};
 ghost use Rattle.page_roff_lines.specs.Decoding.{fitting};
 
 use crate::characters::Front;
+use crate::scanning::text_within;
 use page_core::{Encoding, LINE};
 use std::alloc::{AllocError, Global};
 use std::marker::Model;
@@ -64,6 +66,19 @@ impl DecodedText {
         true
     }
 
+    // The text at the front of some bytes at the end, as far as it fits; how many bytes that are.
+    #[tactic(auto, using(crate::specs::Limit::line_limit_is))]
+    fn put_text(&mut self, bytes: &[u8]) -> usize
+        ensures within { result ≤ length bytes.now }
+        ensures fits { result ≤ line_limit - length self.old }
+        ensures text { list_all is_printable (take result bytes.now) ≡ true }
+        ensures after { self.new ≡ self.old ++ take result bytes.now }
+    {
+        let len = text_within(bytes, LINE - self.bytes.len());
+        let _ = self.bytes.extend_from_slice(&bytes[..len]);
+        len
+    }
+
     // The character at the front of `text` at the end, where it fits; whether it does.
     fn put_front(&mut self, front: Front, text: &[u8]) -> bool
         requires { width_of front ≤ length text.now }
@@ -86,12 +101,15 @@ impl DecodedText {
         self.clear();
         let mut at = 0;
         while at < text.len() {
-            let rest = &text[at..];
-            let front = Front::of(rest, encoding);
-            if !self.put_front(front, rest) {
-                return true;
+            at += self.put_text(&text[at..]);
+            if at < text.len() {
+                let rest = &text[at..];
+                let front = Front::of(rest, encoding);
+                if !self.put_front(front, rest) {
+                    return true;
+                }
+                at += front.width();
             }
-            at += front.width();
         }
         false
     }

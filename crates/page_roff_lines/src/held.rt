@@ -1,7 +1,11 @@
 //! The first bytes of a text that grows and shrinks at its end.
-ghost use Rattle.std.specs.Prelude.{◌≡◌, ◌+◌, ◌^◌, ◌<◌, ◌≤◌, ◌∷◌, [], length, OnOk, IfOk};
+ghost use Rattle.std.specs.Prelude.{◌≡◌, ◌+◌, ◌^◌, ◌<◌, ◌≤◌, ◌∷◌, [], length, true, OnOk, IfOk};
+ghost use Rattle.std.specs.List.{list_all};
+ghost use Rattle.page_roff_lines.specs.Characters.{is_printable};
 ghost use Rattle.page_roff_lines.specs.Held.{extended, shortened, nothing_held};
 
+use crate::characters::is_printable;
+use crate::choosing::is_plain;
 use page_core::LINE;
 use std::alloc::{AllocError, Global};
 use std::marker::Model;
@@ -11,18 +15,22 @@ use std::marker::Model;
 pub struct HeldText {
     bytes: Vec<u8>,
     total: u32,
+    // Whether the bytes that are held are known to be printable.
+    printable: bool,
 }
 
 impl Model for HeldText {
-    ghost use Rattle.std.specs.Prelude.{◌≤◌, vec_len, vec_capacity};
+    ghost use Rattle.std.specs.Prelude.{◌≡◌, ◌≤◌, true, vec_len, vec_capacity};
+    ghost use Rattle.std.specs.List.{list_all};
     ghost use Rattle.page_core.specs.declared.texts.TheConstants.{LINE};
+    ghost use Rattle.page_roff_lines.specs.Characters.{is_printable};
     ghost use Rattle.page_roff_lines.specs.Held.{Held};
 
     ghost Value = { Held };
 
     ghost view = { λ h. record { bytes = h.bytes.items; total = h.total } };
 
-    ghost invariant = { λ h. (vec_len h.bytes ≤ LINE) × (LINE ≤ vec_capacity h.bytes) };
+    ghost invariant = { λ h. (vec_len h.bytes ≤ LINE) × (LINE ≤ vec_capacity h.bytes) × (h.printable ≡ true → list_all is_printable h.bytes.items ≡ true) };
 }
 
 impl HeldText {
@@ -31,7 +39,11 @@ impl HeldText {
         ensures { IfOk result (λ h. h ≡ nothing_held) }
     {
         let bytes = Vec::with_capacity(alloc, LINE)?;
-        Ok(HeldText { bytes, total: 0 })
+        Ok(HeldText {
+            bytes,
+            total: 0,
+            printable: true,
+        })
     }
 
     /// The bytes that are held.
@@ -57,20 +69,40 @@ impl HeldText {
     {
         if self.bytes.len() < LINE {
             self.bytes.push_reserved(byte);
+            self.printable = self.printable && is_printable(byte);
         }
         self.total += 1;
     }
 
     /// More bytes at the end.
-    #[tactic(auto, unfolding(crate::specs::Held::extended))]
     pub fn extend(&mut self, more: &[u8])
         requires { self.old.total + length more.now < 2 ^ 31 }
+        ensures { self.new ≡ extended self.old more.now }
+    {
+        self.append(more, false);
+    }
+
+    /// More bytes at the end, which may be known to be printable.
+    #[inline(always)]
+    #[tactic(auto, unfolding(crate::specs::Held::extended))]
+    pub fn append(&mut self, more: &[u8], printable: bool)
+        requires total { self.old.total + length more.now < 2 ^ 31 }
+        requires printable { printable ≡ true → list_all is_printable more.now ≡ true }
         ensures { self.new ≡ extended self.old more.now }
     {
         let room = LINE - self.bytes.len();
         let fits = room.min(more.len());
         let _ = self.bytes.extend_from_slice(&more[..fits]);
         self.total += more.len() as u32;
+        self.printable = self.printable && printable;
+    }
+
+    /// Whether each byte that is held is a printable one of ASCII or a tab.
+    pub fn is_printable(&self) -> bool
+        ensures value { result ≡ list_all is_printable self.now.bytes }
+        ensures bound { length self.now.bytes ≤ LINE }
+    {
+        self.printable || is_plain(self.bytes())
     }
 
     /// Without the last byte.
@@ -88,5 +120,6 @@ impl HeldText {
     {
         self.bytes.clear();
         self.total = 0;
+        self.printable = true;
     }
 }

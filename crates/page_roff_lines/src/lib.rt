@@ -8,6 +8,7 @@ mod decoding;
 mod held;
 mod open;
 mod reporting;
+mod scanning;
 #[cfg(test)]
 mod tests;
 

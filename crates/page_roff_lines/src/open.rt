@@ -1,18 +1,23 @@
 //! The open logical line of a page.
 ghost use Rattle.std.specs.Prelude.{◌≡◌, ◌+◌, ◌-◌, ◌^◌, ◌<◌, ◌≤◌, ◌∷◌, [], length, take, true, false, nat_lt, IfOk, IsTrue, if◌then◌else◌};
+ghost use Rattle.std.specs.List.{list_all};
 ghost use Rattle.page_roff_lines.specs.Open.{pair_mode as spec_pair_mode};
+ghost use Rattle.page_roff_lines.specs.Characters.{is_printable};
 
+use crate::scanning::plain_run;
 use crate::{HeldText, Mark, Mode};
-use memchr::{memchr, memchr2};
+use memchr::memchr;
 use page_core::LINE;
 use std::alloc::{AllocError, Global};
 use std::marker::Model;
 
-const NEWLINE: u8 = b'\n';
+/// The line feed, which ends a physical line.
+pub(crate) const NEWLINE: u8 = b'\n';
 
 const CARRIAGE_RETURN: u8 = b'\r';
 
-const BACKSLASH: u8 = b'\\';
+/// The backslash, which is read with the byte behind it.
+pub(crate) const BACKSLASH: u8 = b'\\';
 
 const QUOTE: u8 = b'"';
 
@@ -104,7 +109,8 @@ fn pair_mode(byte: u8) -> Mode
 
 impl OpenLine {
     ghost use Rattle.page_roff_lines.specs.Open.{first_open, restarted, put, put_plain, put_pair, put_in, without_return, newline_in, put_newline, put_byte, open_after, ended, counted, closed, ends_mark, left, whole_lines, kept_of, is_marked};
-    ghost use Rattle.page_roff_lines.specs.Run.{IsRun, with_run};
+    ghost use Rattle.page_roff_lines.specs.Bytes.{newline};
+    ghost use Rattle.page_roff_lines.specs.Run.{IsRun, InText, with_run};
 
     /// Before the first byte of a page, with the memory that it will ever hold.
     pub fn new(alloc: Global) -> Result<OpenLine, AllocError>
@@ -233,6 +239,14 @@ impl OpenLine {
         }
     }
 
+    // The next physical line.
+    fn begin_physical(&mut self)
+        requires { self.old.physical ≤ self.old.taken }
+        ensures { self.new ≡ record self.old { physical = self.old.physical + 1 } }
+    {
+        self.physical += 1;
+    }
+
     // A line feed.
     #[tactic(auto, unfolding(crate::specs::Open::put_newline, crate::specs::Open::without_return, crate::specs::Open::newline_in, crate::specs::Open::closed))]
     fn put_newline(&mut self)
@@ -241,7 +255,7 @@ impl OpenLine {
     {
         self.drop_return();
         self.end_physical();
-        self.physical += 1;
+        self.begin_physical();
     }
 
     // One byte more of the page.
@@ -256,6 +270,29 @@ impl OpenLine {
         self.mark = self.mark.after(byte);
     }
 
+    // Whether a line feed here ends a line that is open, and takes nothing away.
+    fn is_in_text(&self) -> bool
+        ensures { result ≡ true → InText self.now }
+    {
+        self.mark.is_settled()
+            && !self.whole
+            && !self.after_return
+            && matches!(self.mode, Mode::Plain)
+    }
+
+    // A line feed behind text.
+    #[tactic(auto, unfolding(crate::specs::Open::closed))]
+    fn end_text(&mut self)
+        requires text { InText self.old }
+        requires taken { self.old.taken + 1 < 2 ^ 31 }
+        ensures after { self.new ≡ open_after self.old newline }
+        ensures whole { self.new.whole ≡ true }
+    {
+        self.taken += 1;
+        self.close();
+        self.begin_physical();
+    }
+
     // One byte more; whether the line is whole with it.
     #[tactic(auto, unfolding(crate::specs::Open::open_after, crate::specs::Open::put_byte, crate::specs::Open::counted, crate::specs::Open::restarted))]
     fn take_byte(&mut self, byte: u8) -> bool
@@ -263,6 +300,10 @@ impl OpenLine {
         ensures after { self.new ≡ open_after self.old byte }
         ensures whole { result ≡ self.new.whole }
     {
+        if byte == NEWLINE && self.is_in_text() {
+            self.end_text();
+            return true;
+        }
         let ends_mark = self.mark.ends_at(byte);
         self.restart();
         self.count(byte);
@@ -277,33 +318,36 @@ impl OpenLine {
         self.whole
     }
 
-    // How many bytes at the front of a piece are read alike.
-    fn run_len(&self, piece: &[u8]) -> usize
-        ensures within { result ≤ length piece.now }
-        ensures run { 0 < result → IsRun self.now (take result piece.now) }
+    // How many bytes at the front of a piece are read alike, and whether they are known to be printable.
+    fn run_len(&self, piece: &[u8]) -> (usize, bool)
+        ensures within { result.0 ≤ length piece.now }
+        ensures run { 0 < result.0 → IsRun self.now (take result.0 piece.now) }
+        ensures printable { result.1 ≡ true → list_all is_printable (take result.0 piece.now) ≡ true }
     {
         if !self.mark.is_settled() {
-            return 0;
+            return (0, false);
         }
-        let end = match self.mode {
-            Mode::Plain => memchr2(NEWLINE, BACKSLASH, piece),
-            Mode::Comment | Mode::Dropped => memchr(NEWLINE, piece),
-            Mode::Backslash => Some(0),
-        };
-        end.unwrap_or(piece.len())
+        match self.mode {
+            Mode::Plain => plain_run(piece),
+            Mode::Comment | Mode::Dropped => {
+                (memchr(NEWLINE, piece).unwrap_or(piece.len()), false)
+            }
+            Mode::Backslash => (0, false),
+        }
     }
 
-    // Bytes that are read alike.
+    // Bytes that are read alike, which may be known to be printable.
     #[tactic(auto, unfolding(crate::specs::Run::run_in, crate::specs::Held::extended))]
-    fn put_run(&mut self, run: &[u8])
+    fn put_run(&mut self, run: &[u8], printable: bool)
         requires taken { self.old.taken + length run.now < 2 ^ 31 }
         requires some { 0 < length run.now }
+        requires printable { printable ≡ true → list_all is_printable run.now ≡ true }
         ensures { self.new ≡ with_run self.old run.now }
     {
         self.taken += run.len() as u32;
         match self.mode {
             Mode::Plain | Mode::Comment => {
-                self.text.extend(run);
+                self.text.append(run, printable);
                 self.after_return = run[run.len() - 1] == CARRIAGE_RETURN;
                 self.begun = true;
             }
@@ -318,10 +362,10 @@ impl OpenLine {
         ensures after { self.new ≡ left self.old (take result piece.now) }
         ensures none { whole_lines self.old (take result piece.now) ≡ [] }
     {
-        let len = self.run_len(piece);
+        let (len, printable) = self.run_len(piece);
         if len > 0 {
             self.restart();
-            self.put_run(&piece[..len]);
+            self.put_run(&piece[..len], printable);
         }
         len
     }
@@ -376,6 +420,14 @@ impl OpenLine {
         ensures bound { length result.now ≤ LINE }
     {
         self.text.bytes()
+    }
+
+    /// Whether each byte that is kept is a printable one of ASCII or a tab, so that it's the same under each encoding.
+    pub fn is_printable(&self) -> bool
+        ensures value { result ≡ list_all is_printable self.now.text.bytes }
+        ensures bound { length self.now.text.bytes ≤ LINE }
+    {
+        self.text.is_printable()
     }
 
     /// Whether the line has more bytes than are kept.

@@ -10,6 +10,7 @@ ghost use Rattle.page_roff_lines.specs.Fronts.{as_character};
 ghost use Rattle.page_roff_lines.specs.Decoding.{bad_character as spec_bad_character, limit_note as spec_limit_note, notes_of, bad_notes, limit_notes, fitting};
 
 use crate::characters::Front;
+use crate::scanning::text_within;
 use arrayvec::ArrayString;
 use page_core::{Encoding, Fault, LINE, Note, NoteKind, NoteSink};
 
@@ -86,17 +87,22 @@ fn report_bad<N: NoteSink>(
     let mut at = 0;
     let mut room = LINE;
     while at < text.len() {
-        let front = Front::of(&text[at..], encoding);
-        let size = front.size();
-        if size > room {
-            break;
+        let passed = text_within(&text[at..], room);
+        room -= passed;
+        at += passed;
+        if at < text.len() {
+            let front = Front::of(&text[at..], encoding);
+            let size = front.size();
+            if size > room {
+                break;
+            }
+            let column = (LINE - room + 1) as u32;
+            if let Err(fault) = report_front(front, number, column, notes) {
+                return Err(fault);
+            }
+            room -= size;
+            at += front.width();
         }
-        let column = (LINE - room + 1) as u32;
-        if let Err(fault) = report_front(front, number, column, notes) {
-            return Err(fault);
-        }
-        room -= size;
-        at += front.width();
     }
     Ok(())
 }

@@ -1,8 +1,8 @@
 //! The cases of each rule, cut whole, byte by byte, and in two pieces at each place.
 ghost use Rattle.std.specs.Prelude.{◌≡◌, ◌+◌, ◌^◌, ◌<◌, ◌≤◌, length, false, true, OnOk};
 
-use crate::Cutter;
-use page_core::{Encoding, KeptNotes, NoteKind};
+use crate::{Cutter, OpenLine};
+use page_core::{Encoding, KeptNotes, LINE, NoteKind};
 use std::alloc::Global;
 use std::process::Abort;
 use std::test::Fail;
@@ -249,7 +249,7 @@ type LongCase = (Encoding, u8, usize, &'static [u8], &'static str, usize);
 
 #[test]
 fn cuts_long_lines(rt: HostRuntime) -> Result<(), Fail> {
-    let cases: [LongCase; 9] = [
+    let cases: [LongCase; 11] = [
         (Encoding::Auto, b'x', 65535, b"\n", "1 x", 65538),
         (Encoding::Auto, b'x', 65536, b"\r\n", "1 x", 65539),
         (Encoding::Auto, b'x', 65536, b"\\\n", "1 x", 65539),
@@ -285,7 +285,23 @@ fn cuts_long_lines(rt: HostRuntime) -> Result<(), Fail> {
             "limit 1:1 LINE, 1 x",
             65560,
         ),
+        (
+            Encoding::Latin1,
+            b'x',
+            65535,
+            b"\xe9\n",
+            "limit 1:1 LINE, 1 x",
+            65554,
+        ),
         (Encoding::Latin1, 0xe9, 32768, b"\n", "1 \u{e9}", 65539),
+        (
+            Encoding::Latin1,
+            0xe9,
+            32767,
+            b"xxx\n",
+            "limit 1:1 LINE, 1 \u{e9}",
+            65555,
+        ),
         (
             Encoding::Latin1,
             0xe9,
@@ -301,5 +317,48 @@ fn cuts_long_lines(rt: HostRuntime) -> Result<(), Fail> {
         assert!(rt; lines.as_str().starts_with(want), "{count} and {tail:?}");
         assert_eq!(rt; lines.len(), len, "{count} and {tail:?}");
     }
+    Ok(())
+}
+
+// Feeds a piece that ends no line 160 times, and to an open line by itself, and tells how many bytes that were.
+fn feed_often<R: Abort>(rt: &R, cutter: &mut Cutter, line: &mut OpenLine, piece: &[u8]) -> u32
+    requires ready { cutter.old.ready ≡ false }
+    requires taken { cutter.old.place.line.taken ≡ 0 }
+    requires line { line.old.taken ≡ 0 }
+    ensures ready { cutter.new.ready ≡ false }
+    ensures taken { cutter.new.place.line.taken ≤ 20000000 }
+{
+    let mut bytes = 0;
+    'pieces: for _ in 0..160 {
+        if piece.len() > 65_536 || bytes > 15_000_000 {
+            break 'pieces;
+        }
+        let (taken, whole) = cutter.feed(piece);
+        if whole {
+            panic!(rt; "a line is whole after {bytes} bytes");
+        }
+        bytes += taken as u32;
+        let _ = line.read(piece);
+        assert!(rt; line.text().len() <= LINE, "after {bytes} bytes");
+    }
+    bytes
+}
+
+#[test]
+fn keeps_the_front_of_a_line_of_ten_megabytes(rt: HostRuntime) -> Result<(), Fail> {
+    let piece = page_of(rt.alloc(), b'x', 65_536, b"")?;
+    let mut cutter = Cutter::new(rt.alloc(), Encoding::Auto)?;
+    let mut line = OpenLine::new(rt.alloc())?;
+    let bytes = feed_often(&rt, &mut cutter, &mut line, piece.as_slice());
+    assert_eq!(rt; bytes, 10_485_760);
+    let mut shown = String::new(rt.alloc());
+    feed_all(rt.alloc(), &mut cutter, b"\nb", &mut shown)?;
+    assert!(rt; shown.as_str().starts_with("limit 1:1 LINE, 1 x"));
+    assert_eq!(rt; shown.len(), 65_555);
+    if cutter.end() {
+        show_line(rt.alloc(), &mut cutter, &mut shown)?;
+    }
+    assert!(rt; shown.as_str().ends_with("x|2 b|"));
+    assert_eq!(rt; shown.len(), 65_559);
     Ok(())
 }

@@ -6,6 +6,7 @@ use Rattle.page_roff_lines.specs.Limit.{line_limit, line_limit_is}
 use Rattle.page_roff_lines.specs.Characters.{characters}
 use Rattle.page_roff_lines.specs.Decoding.{fitting, bad_notes}
 use Rattle.page_roff_lines.proofs.OpenLaws.{rest_of}
+use Rattle.page_roff_lines.proofs.PlainLemmas.{bad_notes-text}
 use Rattle.page_roff_lines.proofs.ReportLemmas.{bad_notes-more, bad_notes-stop, bad_notes-end}
 use Rattle.page_roff_lines.proofs.reporting.report_bad.Goals as goal
 
@@ -30,32 +31,59 @@ overflow_sub-column g c = let limit = line_limit_is in omega (arith, limit, c.lo
 pub returns-in-Err-clause-gives : goal.returns-in-Err-clause-gives
 returns-in-Err-clause-gives g c =
     let text = c.args.text.now in
-    let at = c.loop-at.at in
+    let i = c.loop-at.at in
+    let n = c.text_within-passed.result in
+    let at = i + n in
+    let room = c.loop-at.room - n in
+    let run = bad_notes-text c.args.encoding c.args.number text i n c.loop-at.room c.text_within-passed.ensures.within c.text_within-passed.ensures.text
+    c.text_within-passed.ensures.room c.loop-at.invariant.1 in
+    let before = rw run at c.loop-at.invariant.2 in
     let rest = rest_of text at in
     let value = rw rest at c.of-front.ensures.value in
     let later = rw rest at c.of-front.ensures.later in
     let within = rw rest at c.of-front.ensures.within in
     let limit = line_limit_is in
-    let more = bad_notes-more c.args.encoding c.args.number text at c.loop-at.room (65536 - c.loop-at.room + 1) c.size-size.result c.of-front.result
-    c.loop-at-test.true value later c.of-front.ensures.some within c.size-size.ensures (omega arith) c.loop-at.invariant.1 (omega arith) in
-    UpTo-within g.met.N.NoteSink.laws _ _ _ c.loop-at.invariant.2 more (c.in-Err.ensures.gives _)
+    let more = bad_notes-more c.args.encoding c.args.number text at room (65536 - room + 1) c.size-size.result c.of-front.result
+    c.if-at-text.true value later c.of-front.ensures.some within c.size-size.ensures (omega arith) (omega (arith, c.loop-at.invariant.1)) (omega arith) in
+    UpTo-within g.met.N.NoteSink.laws _ _ _ before more (c.in-Err.ensures.gives _)
+
+pub loop-at-preserved-then-at-text : goal.loop-at-preserved-then-at-text
+loop-at-preserved-then-at-text g c =
+    let text = c.args.text.now in
+    let i = c.loop-at.at in
+    let n = c.text_within-passed.result in
+    let at = i + n in
+    let room = c.loop-at.room - n in
+    let run = bad_notes-text c.args.encoding c.args.number text i n c.loop-at.room c.text_within-passed.ensures.within c.text_within-passed.ensures.text
+    c.text_within-passed.ensures.room c.loop-at.invariant.1 in
+    let before = rw run at c.loop-at.invariant.2 in
+    let rest = rest_of text at in
+    let value = rw rest at c.of-front.ensures.value in
+    let later = rw rest at c.of-front.ensures.later in
+    let within = rw rest at c.of-front.ensures.within in
+    let limit = line_limit_is in
+    let more = bad_notes-more c.args.encoding c.args.number text at room (65536 - room + 1) c.size-size.result c.of-front.result
+    c.if-at-text.true value later c.of-front.ensures.some within c.size-size.ensures (omega arith) (omega (arith, c.loop-at.invariant.1)) (omega arith) in (
+      omega (arith, within, length-drop at text, c.width-at.ensures),
+      omega (arith, c.loop-at.invariant.1),
+      rw c.width-at.ensures (UpTo-more g.met.N.NoteSink.laws _ _ _ before more (c.in_default.ensures.gives _)),
+      c.in_default.ensures.fault ∙ c.loop-at.invariant.3,
+      c.in_default.ensures.same ∙ c.loop-at.invariant.4,
+    )
 
 pub loop-at-preserved : goal.loop-at-preserved
 loop-at-preserved g c =
     let text = c.args.text.now in
-    let at = c.loop-at.at in
-    let rest = rest_of text at in
-    let value = rw rest at c.of-front.ensures.value in
-    let later = rw rest at c.of-front.ensures.later in
-    let within = rw rest at c.of-front.ensures.within in
-    let limit = line_limit_is in
-    let more = bad_notes-more c.args.encoding c.args.number text at c.loop-at.room (65536 - c.loop-at.room + 1) c.size-size.result c.of-front.result
-    c.loop-at-test.true value later c.of-front.ensures.some within c.size-size.ensures (omega arith) c.loop-at.invariant.1 (omega arith) in (
-      omega (arith, within, length-drop at text, c.width-at.ensures),
+    let i = c.loop-at.at in
+    let n = c.text_within-passed.result in
+    let run = bad_notes-text c.args.encoding c.args.number text i n c.loop-at.room c.text_within-passed.ensures.within c.text_within-passed.ensures.text
+    c.text_within-passed.ensures.room c.loop-at.invariant.1 in
+    let within = rw (rest_of text i) at c.text_within-passed.ensures.within in (
+      omega (arith, within, length-drop i text),
       omega (arith, c.loop-at.invariant.1),
-      rw c.width-at.ensures (UpTo-more g.met.N.NoteSink.laws _ _ _ c.loop-at.invariant.2 more (c.in_default.ensures.gives _)),
-      c.in_default.ensures.fault ∙ c.loop-at.invariant.3,
-      c.in_default.ensures.same ∙ c.loop-at.invariant.4,
+      rw run at c.loop-at.invariant.2,
+      c.loop-at.invariant.3,
+      c.loop-at.invariant.4,
     )
 
 pub returns-after-loop-at-clause-gives : goal.returns-after-loop-at-clause-gives
@@ -66,11 +94,17 @@ returns-after-loop-at-clause-gives g c =
 pub returns-then-size-room-clause-gives : goal.returns-then-size-room-clause-gives
 returns-then-size-room-clause-gives g c =
     let text = c.args.text.now in
-    let at = c.loop-at.at in
+    let i = c.loop-at.at in
+    let n = c.text_within-passed.result in
+    let at = i + n in
+    let room = c.loop-at.room - n in
+    let run = bad_notes-text c.args.encoding c.args.number text i n c.loop-at.room c.text_within-passed.ensures.within c.text_within-passed.ensures.text
+    c.text_within-passed.ensures.room c.loop-at.invariant.1 in
+    let before = rw run at c.loop-at.invariant.2 in
     let rest = rest_of text at in
     let value = rw rest at c.of-front.ensures.value in
     let later = rw rest at c.of-front.ensures.later in
     let within = rw rest at c.of-front.ensures.within in
-    let none = bad_notes-stop c.args.encoding c.args.number text at c.loop-at.room (line_limit - c.loop-at.room + 1) c.size-size.result c.of-front.result
-    c.loop-at-test.true value later c.of-front.ensures.some within c.size-size.ensures c.if-size-room.true in
-    UpTo-all (rw none at c.loop-at.invariant.2)
+    let none = bad_notes-stop c.args.encoding c.args.number text at room (line_limit - room + 1) c.size-size.result c.of-front.result
+    c.if-at-text.true value later c.of-front.ensures.some within c.size-size.ensures c.if-size-room.true in
+    UpTo-all (rw none at before)

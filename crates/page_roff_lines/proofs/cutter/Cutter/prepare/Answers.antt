@@ -22,9 +22,9 @@ returns-then-self-clause-text g c =
     ap (λ (o : Open). decoded v.place.encoding (kept_of o)) (ap (λ (p : Place). p.line) place)
     ∙ ap (λ e. decoded e (kept_of line)) (sym c.settled_encoding-self-inside.ensures) in
     let plain : list_all is_printable line.text.bytes ≡ true =
-    ap (λ l. list_all is_printable l) (sym c.text.ensures.value) ∙ sym c.is_plain-plain.ensures ∙ c.if-self.true in
+    sym c.is_printable-plain.ensures.value ∙ c.if-self.true in
     let limit = line_limit_is in
-    let short : length line.text.bytes ≤ line_limit = omega (arith, limit, c.text.ensures.bound, ap length c.text.ensures.value) in
+    let short : length line.text.bytes ≤ line_limit = omega (arith, limit, c.is_printable-plain.ensures.bound) in
     rw c.if-self.true (sym (ap (λ (l : Line). l.text) same ∙ (decoded-plain e (kept_of line) plain short).0))
 
 pub returns-then-self-clause-gives : goal.returns-then-self-clause-gives
@@ -37,9 +37,9 @@ returns-then-self-clause-gives g c =
     ap (λ (o : Open). decoded v.place.encoding (kept_of o)) (ap (λ (p : Place). p.line) place)
     ∙ ap (λ e. decoded e (kept_of line)) (sym c.settled_encoding-self-inside.ensures) in
     let plain : list_all is_printable line.text.bytes ≡ true =
-    ap (λ l. list_all is_printable l) (sym c.text.ensures.value) ∙ sym c.is_plain-plain.ensures ∙ c.if-self.true in
+    sym c.is_printable-plain.ensures.value ∙ c.if-self.true in
     let limit = line_limit_is in
-    let short : length line.text.bytes ≤ line_limit = omega (arith, limit, c.text.ensures.bound, ap length c.text.ensures.value) in
+    let short : length line.text.bytes ≤ line_limit = omega (arith, limit, c.is_printable-plain.ensures.bound) in
     let notes : (line_of v.place).notes ≡ limit_notes c.is_cut-cut.result c.number-number.result =
     ap (λ (l : Line). l.notes) same ∙ (decoded-plain e (kept_of line) plain short).1
     ∙ ap (λ b. limit_notes b line.number) (sym c.is_cut-cut.ensures) ∙ ap (λ n. limit_notes c.is_cut-cut.result n) (sym c.number-number.ensures) in
@@ -55,7 +55,7 @@ returns-clause-text g c =
     let same : line_of v.place ≡ decoded e (kept_of line) =
     ap (λ (o : Open). decoded v.place.encoding (kept_of o)) (ap (λ (p : Place). p.line) place)
     ∙ ap (λ e. decoded e (kept_of line)) (sym c.settled_encoding-self-inside.ensures) in
-    rw c.if-self.false (c.decode-passed.ensures.after ∙ ap (λ l. all_bytes (fitting line_limit (characters e l))) c.text-2.ensures.value
+    rw c.if-self.false (c.decode-passed.ensures.after ∙ ap (λ l. all_bytes (fitting line_limit (characters e l))) c.text.ensures.value
     ∙ sym (ap (λ (l : Line). l.text) same))
 
 pub returns-clause-gives : goal.returns-clause-gives
@@ -70,19 +70,19 @@ returns-clause-gives g c =
     ∙ ap (λ e. decoded e (kept_of line)) (sym c.settled_encoding-self-inside.ensures) in
     let chars = characters e line.text.bytes in
     let passed : c.decode-passed.result ≡ nat_lt (length (fitting line_limit chars)) (length chars) =
-    c.decode-passed.ensures.passed ∙ ap (λ l. nat_lt (length (fitting line_limit (characters e l))) (length (characters e l))) c.text-2.ensures.value in
+    c.decode-passed.ensures.passed ∙ ap (λ l. nat_lt (length (fitting line_limit (characters e l))) (length (characters e l))) c.text.ensures.value in
     let cut : c.if-cut.report ≡ (c.is_cut-cut.result || c.decode-passed.result) =
     elim c.if-cut.branch [ then-cut w ↦ rw (w.report-is, w.if-cut.true) refl | else-cut w ↦ rw (w.report-is, w.if-cut.false) refl ] in
-    let notes : (line_of v.place).notes ≡ limit_notes c.if-cut.report c.number-number.result ++ bad_notes c.number-number.result 1 (fitting line_limit (characters e c.text-3.result.now)) =
-    ap (λ (l : Line). l.notes) same ∙ rw (cut, c.is_cut-cut.ensures, passed, c.number-number.ensures, c.text-3.ensures.value) refl in
+    let notes : (line_of v.place).notes ≡ limit_notes c.if-cut.report c.number-number.result ++ bad_notes c.number-number.result 1 (fitting line_limit (characters e c.text-2.result.now)) =
+    ap (λ (l : Line). l.notes) same ∙ rw (cut, c.is_cut-cut.ensures, passed, c.number-number.ensures, c.text-2.ensures.value) refl in
     rw notes c.report.ensures.gives
 
 pub returns-then-self-clause-line : goal.returns-then-self-clause-line
 returns-then-self-clause-line g c =
     let text = c.self.inside.line.text.bytes in
     let plain : list_all is_printable text ≡ true =
-    ap (λ l. list_all is_printable l) (sym c.text.ensures.value) ∙ sym c.is_plain-plain.ensures ∙ c.if-self.true in
-    rw c.if-self.true (plain-is_line text plain (omega (arith, c.text.ensures.bound, ap length c.text.ensures.value)))
+    sym c.is_printable-plain.ensures.value ∙ c.if-self.true in
+    rw c.if-self.true (plain-is_line text plain (omega (arith, c.is_printable-plain.ensures.bound)))
 
 pub returns-clause-line : goal.returns-clause-line
 returns-clause-line g c = rw c.if-self.false c.decode-passed.ensures.line
@@ -91,5 +91,5 @@ pub settled_encoding-self-inside-requires-clause-plain : goal.settled_encoding-s
 settled_encoding-self-inside-requires-clause-plain g c = λ is.
     let place = waiting_place c.args.self.now c.self.inside.line c.self.inside.encoding c.self.inside.ready _ c.self.view_is c.requires in
     let plain : list_all is_printable c.self.inside.line.text.bytes ≡ true =
-    ap (λ l. list_all is_printable l) (sym c.text.ensures.value) ∙ sym c.is_plain-plain.ensures ∙ is in
+    sym c.is_printable-plain.ensures.value ∙ is in
     ap (λ (p : Place). choice_of p.line.text.bytes) place ∙ choice_of-plain c.self.inside.line.text.bytes plain

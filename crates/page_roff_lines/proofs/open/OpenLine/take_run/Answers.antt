@@ -7,13 +7,13 @@ use Rattle.page_roff_lines.proofs.open.OpenLine.take_run.Goals as goal
 
 pub put_run-requires-clause-taken : goal.put_run-requires-clause-taken
 put_run-requires-clause-taken c =
-    let len = length-take-le c.run_len-len.result c.args.piece.now c.run_len-len.ensures.within in
+    let len = length-take-le c.run_len-len.result.0 c.args.piece.now c.run_len-len.ensures.within in
     omega (arith, len, c.restart.ensures.taken)
 
 pub returns-then-len-gt0-clause-after : goal.returns-then-len-gt0-clause-after
 returns-then-len-gt0-clause-after c =
-    let run = take c.run_len-len.result c.args.piece.now in
-    let len = length-take-le c.run_len-len.result c.args.piece.now c.run_len-len.ensures.within in
+    let run = take c.run_len-len.result.0 c.args.piece.now in
+    let len = length-take-le c.run_len-len.result.0 c.args.piece.now c.run_len-len.ensures.within in
     c.put_run.ensures ∙ ap (λ o. with_run o run) c.restart.ensures.restarted
     ∙ sym (left-run c.args.self.now run (omega (arith, len)) (c.run_len-len.ensures.run c.if-len-gt0.true))
 
@@ -22,8 +22,8 @@ returns-then-len-gt0-clause-none c = whole_lines-run c.args.self.now _ (c.run_le
 
 pub returns-else-len-gt0-clause-after : goal.returns-else-len-gt0-clause-after
 unfolding left
-returns-else-len-gt0-clause-after c = let none : c.run_len-len.result ≡ 0 = omega arith in rw none refl
+returns-else-len-gt0-clause-after c = let none : c.run_len-len.result.0 ≡ 0 = omega arith in rw none refl
 
 pub returns-else-len-gt0-clause-none : goal.returns-else-len-gt0-clause-none
 unfolding whole_lines
-returns-else-len-gt0-clause-none c = let none : c.run_len-len.result ≡ 0 = omega arith in rw none refl
+returns-else-len-gt0-clause-none c = let none : c.run_len-len.result.0 ≡ 0 = omega arith in rw none refl
