@@ -34,7 +34,12 @@ after_close (b ∷ bs) = if b == 0x29 then bs else b ∷ bs
 
 -- An expression in parentheses. Where it ends early, what stands around it ends with it, and its value so far is the operand.
 abbrev pub parenthesized : Read ℤ → Read (Option ℤ)
-parenthesized inside = record { value = Some inside.value; troubles = inside.troubles; ends = inside.ends; rest = (if inside.ends then inside.rest else after_close inside.rest) }
+parenthesized inside = record {
+  value = Some inside.value;
+  troubles = inside.troubles;
+  ends = inside.ends;
+  rest = (if inside.ends then inside.rest else after_close inside.rest);
+}
 
 -- what stands behind a parenthesis that opens, if one more may open here
 abbrev pub opened : Option (List ℕ → Read ℤ) → (text behind : List ℕ) → Read (Option ℤ)

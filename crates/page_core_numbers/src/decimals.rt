@@ -1,6 +1,6 @@
-//! Numbers with a fraction and a unit: roff(7), "Scaling Widths".
+//! Numbers with a fraction and a unit: roff(7), "Scaling Widths". They are the operands that an expression (`expressions`) is made of.
 
-ghost use Rattle.std.specs.Prelude.{◌≡◌, ◌≤◌, ◌<◌, ◌^◌, ◌+◌, ◌*◌, ◌-◌, length, slice_index_or, min, pos, option_map, IfSome};
+ghost use Rattle.std.specs.Prelude.{◌≡◌, ◌≤◌, ◌+◌, ◌-◌, length, slice_index_or, min, pos, option_map, IfSome};
 ghost use Rattle.std.specs.List.{prefix_len};
 ghost use Rattle.page_core_escapes.specs.Shapes.{is_digit};
 ghost use Rattle.page_core_numbers.specs.Numbers.{held, digits_of, after_digits, fraction_of, after_fraction, scale_at, after_scale, decimal, ten_thousandths, units_of, number_at};

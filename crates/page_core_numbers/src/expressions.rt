@@ -1,10 +1,10 @@
 //! Expressions: roff(7), "Numerical expressions". Each operation is done as its operand was read; an expression in parentheses is read
 //! by a call inside the call.
 
-ghost use Rattle.std.specs.Prelude.{◌≡◌, ◌≤◌, ◌<◌, ◌+◌, ◌^◌, length, option_map, IfSome, Some, None, is_some, false, option_copied};
+ghost use Rattle.std.specs.Prelude.{◌≡◌, ◌≤◌, ◌<◌, ◌+◌, ◌^◌, length, option_map, IfSome, None, is_some, option_copied};
 ghost use Rattle.page_core_numbers.specs.Expressions.{expression_within, operand_by, missing, number, parenthesized, first, combined, next_operator, after_close};
 ghost use Rattle.page_core_numbers.specs.Numbers.{number_at};
-ghost use Rattle.page_core_numbers.specs.Readings.{operand_seen, reading_seen, found_seen, troubles_seen, count_of};
+ghost use Rattle.page_core_numbers.specs.Readings.{operand_seen, reading_seen, found_seen, count_of};
 ghost use Rattle.page_core_numbers.specs.Signs.{after_signs, minus_count, negated_times, negated_value, inside_of, behind_open};
 
 use crate::decimals::read_number;

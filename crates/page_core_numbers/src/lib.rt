@@ -2,7 +2,7 @@
 //! above read with these what a request, a macro or an escape is given.
 #![tactic(auto)]
 
-ghost use Rattle.std.specs.Prelude.{◌≡◌, ◌≤◌, ◌+◌, length, IfOk, IfErr, OnOk, MatchResult};
+ghost use Rattle.std.specs.Prelude.{◌≡◌, ◌+◌, length, IfOk, MatchResult};
 ghost use Rattle.page_core.specs.Fails.{Rose};
 ghost use Rattle.page_core_numbers.specs.Expressions.{expression_of, messages_at};
 

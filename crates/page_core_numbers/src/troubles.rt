@@ -1,6 +1,7 @@
-//! What is reported of an expression: mandoc(1), "DIAGNOSTICS".
+//! What is reported of an expression: mandoc(1), "DIAGNOSTICS". It is collected as the expression is read (`expressions`), and then given
+//! to a sink of messages.
 
-ghost use Rattle.std.specs.Prelude.{◌≡◌, ◌≤◌, ◌<◌, ◌+◌, ◌^◌, [], ◌∷◌, ◌++◌, IfErr, MatchResult, OnOk, replicate, is_some, if◌then◌else◌};
+ghost use Rattle.std.specs.Prelude.{◌≡◌, ◌≤◌, ◌<◌, ◌+◌, ◌^◌, [], ◌∷◌, ◌++◌, replicate, is_some, if◌then◌else◌};
 ghost use Rattle.page_core.specs.Fails.{FailsAs};
 ghost use Rattle.page_core.specs.Sinks.{Gives};
 ghost use Rattle.page_core.specs.MessageBytes.{message_of};
