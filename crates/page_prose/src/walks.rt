@@ -123,27 +123,22 @@ impl Walk {
     }
 
     /// The column of the open word, or of one that begins here.
-    pub(crate) fn word_column(self) -> u32
-        ensures { result ≡ word_column self }
+    pub(crate) fn word_column(&self) -> u32
+        ensures { result ≡ word_column self.now }
     {
         self.word.unwrap_or(self.column)
     }
 
-    /// What is known after a token.
-    pub(crate) fn after(self, token: Token<'_>) -> Walk
-        requires { self.column + length (token_bytes (token_seen token)) < 2 ^ 32 }
-        ensures { result ≡ walk_after self (token_seen token.entry) }
+    /// Passes a token.
+    pub(crate) fn pass(&mut self, token: Token<'_>)
+        requires { self.old.column + length (token_bytes (token_seen token)) < 2 ^ 32 }
+        ensures { self.new ≡ walk_after self.old (token_seen token.entry) }
     {
-        Walk {
-            fonts: self.fonts.after(token),
-            column: self.column + token.len() as u32,
-            word: if token.is_space() {
-                None
-            } else {
-                Some(self.word_column())
-            },
-            glues: is_glue(token),
-            prints: self.prints || token_prints(token),
-        }
+        let word = self.word_column();
+        self.word = if token.is_space() { None } else { Some(word) };
+        self.column += token.len() as u32;
+        self.fonts = self.fonts.after(token);
+        self.glues = is_glue(token);
+        self.prints = self.prints || token_prints(token);
     }
 }

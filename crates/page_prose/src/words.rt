@@ -126,6 +126,22 @@ pub(crate) fn give_if<O: PieceSink>(out: &mut O, piece: Option<Piece<&[u8]>>) ->
     }
 }
 
+// Gives what a token of a word prints.
+fn give_piece<O: PieceSink>(
+    out: &mut O,
+    font: Font,
+    place: Place,
+    token: Token<'_>,
+) -> Result<(), Fault>
+    ensures gives { Emits result O.gave O.broke out.old (words.piece_items (words.token_piece font place (token_seen token.entry))) out.new }
+    ensures same { O.loans out.new ≡ O.loans out.old }
+{
+    if let Token::Plain(text) = token {
+        return out.piece(Piece::Text { text, font, place });
+    }
+    give_if(out, token_piece(font, place, token))
+}
+
 // What a blank or a tab is in a row that keeps it.
 fn white_piece(place: Place, byte: u8) -> Piece<&'static [u8]>
     ensures { piece_of result ≡ words.white_piece place byte }
@@ -204,13 +220,13 @@ fn note_begun<O: PieceSink>(
 fn note_if_begun<O: PieceSink>(
     out: &mut O,
     line: u32,
-    walk: Walk,
+    walk: &Walk,
     quoted: bool,
     token: Token<'_>,
     rest: &[u8],
 ) -> Result<(), Fault>
     requires { length rest.now ≤ LINE }
-    ensures gives { Emits result O.gave O.broke out.old (words.begun_notes line walk (token_seen token.entry) (tokens_of quoted rest.now)) out.new }
+    ensures gives { Emits result O.gave O.broke out.old (words.begun_notes line walk.now (token_seen token.entry) (tokens_of quoted rest.now)) out.new }
     ensures same { O.loans out.new ≡ O.loans out.old }
 {
     if walk.word.is_some() {
@@ -227,22 +243,21 @@ fn note_if_begun<O: PieceSink>(
 fn give_part<O: PieceSink>(
     out: &mut O,
     line: u32,
-    walk: Walk,
+    walk: &Walk,
     quoted: bool,
     token: Token<'_>,
     rest: &[u8],
 ) -> Result<(), Fault>
     requires { length rest.now ≤ LINE }
-    ensures gives { Emits result O.gave O.broke out.old (words.part_items line walk (token_seen token.entry) (tokens_of quoted rest.now)) out.new }
+    ensures gives { Emits result O.gave O.broke out.old (words.part_items line walk.now (token_seen token.entry) (tokens_of quoted rest.now)) out.new }
     ensures same { O.loans out.new ≡ O.loans out.old }
 {
     let place = Place {
         line,
         column: walk.word_column(),
     };
-    let piece = token_piece(walk.fonts.font, place, token);
     note_if_begun(out, line, walk, quoted, token, rest)?;
-    give_if(out, piece)
+    give_piece(out, walk.fonts.font, place, token)
 }
 
 // Gives a token.
@@ -250,13 +265,13 @@ fn give_token<O: PieceSink>(
     out: &mut O,
     style: Style,
     line: u32,
-    walk: Walk,
+    walk: &Walk,
     token: Token<'_>,
     rest: &[u8],
 ) -> Result<(), Fault>
     requires short { length rest.now ≤ LINE }
-    requires room { walk.column + length (token_bytes (token_seen token)) < 2 ^ 32 }
-    ensures gives { Emits result O.gave O.broke out.old (words.token_items style line walk (token_seen token.entry) (tokens_of style.is_quoted rest.now)) out.new }
+    requires room { walk.now.column + length (token_bytes (token_seen token)) < 2 ^ 32 }
+    ensures gives { Emits result O.gave O.broke out.old (words.token_items style line walk.now (token_seen token.entry) (tokens_of style.is_quoted rest.now)) out.new }
     ensures same { O.loans out.new ≡ O.loans out.old }
 {
     if let Token::White(white) = token {
@@ -288,8 +303,8 @@ pub(crate) fn give_words<O: PieceSink>(
     while !rest.is_empty() {
         let token = read_token(style.is_quoted, rest);
         rest = &rest[token.len()..];
-        give_token(out, style, line, walk, token, rest)?;
-        walk = walk.after(token);
+        give_token(out, style, line, &walk, token, rest)?;
+        walk.pass(token);
     }
     Ok(walk)
 }
