@@ -28,27 +28,27 @@ pub enum Token<'a> {
 
 impl<'a> Token<'a> {
     // The bytes of the token.
-    fn bytes(self) -> &'a [u8]
-        ensures { result.now ≡ token_bytes (token_seen self.entry) }
+    fn bytes(&self) -> &'a [u8]
+        ensures { result.now ≡ token_bytes (token_seen self.now) }
     {
-        match self {
+        match *self {
             Token::White(bytes) | Token::Plain(bytes) | Token::Quotes(bytes) => bytes,
             Token::Escaped { bytes, .. } => bytes,
         }
     }
 
     /// The number of bytes of the token.
-    pub(crate) fn len(self) -> usize
-        ensures { result ≡ length (token_bytes (token_seen self.entry)) }
+    pub(crate) fn len(&self) -> usize
+        ensures { result ≡ length (token_bytes (token_seen self.now)) }
     {
         self.bytes().len()
     }
 
     /// Whether the token is white space.
-    pub(crate) fn is_space(self) -> bool
-        ensures { result ≡ is_space (token_seen self.entry) }
+    pub(crate) fn is_space(&self) -> bool
+        ensures { result ≡ is_space (token_seen self.now) }
     {
-        matches!(self, Token::White(_))
+        matches!(*self, Token::White(_))
     }
 }
 

@@ -52,10 +52,10 @@ impl Fonts {
     }
 
     // The fonts after a token.
-    fn after(self, token: Token<'_>) -> Fonts
-        ensures { result ≡ token_fonts (token_seen token.entry) self }
+    fn after(self, token: &Token<'_>) -> Fonts
+        ensures { result ≡ token_fonts (token_seen token.now) self }
     {
-        match token {
+        match *token {
             Token::Escaped { meaning, .. } => self.escaped(meaning),
             _ => self,
         }
@@ -86,20 +86,20 @@ pub struct Walk {
 }
 
 // Whether an escape glues the next line's text.
-fn is_glue(token: Token<'_>) -> bool
-    ensures { result ≡ is_glue (token_seen token.entry) }
+fn is_glue(token: &Token<'_>) -> bool
+    ensures { result ≡ is_glue (token_seen token.now) }
 {
-    match token {
+    match *token {
         Token::Escaped { meaning, .. } => matches!(meaning, Escape::Glue),
         _ => false,
     }
 }
 
 // Whether a token prints a cell.
-fn token_prints(token: Token<'_>) -> bool
-    ensures { result ≡ token_prints (token_seen token.entry) }
+fn token_prints(token: &Token<'_>) -> bool
+    ensures { result ≡ token_prints (token_seen token.now) }
 {
-    match token {
+    match *token {
         Token::White(_) | Token::Plain(_) | Token::Quotes(_) => true,
         Token::Escaped { meaning, .. } => matches!(
             meaning,
@@ -130,9 +130,9 @@ impl Walk {
     }
 
     /// Passes a token.
-    pub(crate) fn pass(&mut self, token: Token<'_>)
-        requires { self.old.column + length (token_bytes (token_seen token)) < 2 ^ 32 }
-        ensures { self.new ≡ walk_after self.old (token_seen token.entry) }
+    pub(crate) fn pass(&mut self, token: &Token<'_>)
+        requires { self.old.column + length (token_bytes (token_seen token.now)) < 2 ^ 32 }
+        ensures { self.new ≡ walk_after self.old (token_seen token.now) }
     {
         let word = self.word_column();
         self.word = if token.is_space() { None } else { Some(word) };

@@ -52,11 +52,11 @@ fn note_escape<O: PieceSink>(
 }
 
 // Gives the message of a token.
-fn note_token<O: PieceSink>(out: &mut O, place: Place, token: Token<'_>) -> Result<(), Fault>
-    ensures gives { Emits result O.gave O.broke out.old (words.token_notes place (token_seen token.entry)) out.new }
+fn note_token<O: PieceSink>(out: &mut O, place: Place, token: &Token<'_>) -> Result<(), Fault>
+    ensures gives { Emits result O.gave O.broke out.old (words.token_notes place (token_seen token.now)) out.new }
     ensures same { O.loans out.new ≡ O.loans out.old }
 {
-    match token {
+    match *token {
         Token::Escaped { bytes, meaning } => note_escape(out, place, bytes, meaning),
         _ => Ok(()),
     }
@@ -76,7 +76,7 @@ fn note_word<O: PieceSink>(
     let mut rest = text;
     while begins_word(rest) {
         let token = read_token(quoted, rest);
-        note_token(out, place, token)?;
+        note_token(out, place, &token)?;
         rest = &rest[token.len()..];
     }
     Ok(())
@@ -100,10 +100,10 @@ fn escape_piece(font: Font, place: Place, meaning: Escape<'_>) -> Option<Piece<&
 }
 
 /// What a token of a word prints.
-pub(crate) fn token_piece(font: Font, place: Place, token: Token<'_>) -> Option<Piece<&[u8]>>
-    ensures { option_map piece_of result ≡ words.token_piece font place (token_seen token.entry) }
+pub(crate) fn token_piece<'a>(font: Font, place: Place, token: &Token<'a>) -> Option<Piece<&'a [u8]>>
+    ensures { option_map piece_of result ≡ words.token_piece font place (token_seen token.now) }
 {
-    match token {
+    match *token {
         Token::White(_) => None,
         Token::Plain(text) => Some(Piece::Text { text, font, place }),
         Token::Quotes(_) => Some(Piece::Char {
@@ -131,12 +131,12 @@ fn give_piece<O: PieceSink>(
     out: &mut O,
     font: Font,
     place: Place,
-    token: Token<'_>,
+    token: &Token<'_>,
 ) -> Result<(), Fault>
-    ensures gives { Emits result O.gave O.broke out.old (words.piece_items (words.token_piece font place (token_seen token.entry))) out.new }
+    ensures gives { Emits result O.gave O.broke out.old (words.piece_items (words.token_piece font place (token_seen token.now))) out.new }
     ensures same { O.loans out.new ≡ O.loans out.old }
 {
-    if let Token::Plain(text) = token {
+    if let Token::Plain(text) = *token {
         return out.piece(Piece::Text { text, font, place });
     }
     give_if(out, token_piece(font, place, token))
@@ -205,11 +205,11 @@ fn note_begun<O: PieceSink>(
     out: &mut O,
     place: Place,
     quoted: bool,
-    token: Token<'_>,
+    token: &Token<'_>,
     rest: &[u8],
 ) -> Result<(), Fault>
     requires { length rest.now ≤ LINE }
-    ensures gives { Emits result O.gave O.broke out.old (words.token_notes place (token_seen token.entry) ++ words.word_notes place (tokens_of quoted rest.now)) out.new }
+    ensures gives { Emits result O.gave O.broke out.old (words.token_notes place (token_seen token.now) ++ words.word_notes place (tokens_of quoted rest.now)) out.new }
     ensures same { O.loans out.new ≡ O.loans out.old }
 {
     note_token(out, place, token)?;
@@ -222,11 +222,11 @@ fn note_if_begun<O: PieceSink>(
     line: u32,
     walk: &Walk,
     quoted: bool,
-    token: Token<'_>,
+    token: &Token<'_>,
     rest: &[u8],
 ) -> Result<(), Fault>
     requires { length rest.now ≤ LINE }
-    ensures gives { Emits result O.gave O.broke out.old (words.begun_notes line walk.now (token_seen token.entry) (tokens_of quoted rest.now)) out.new }
+    ensures gives { Emits result O.gave O.broke out.old (words.begun_notes line walk.now (token_seen token.now) (tokens_of quoted rest.now)) out.new }
     ensures same { O.loans out.new ≡ O.loans out.old }
 {
     if walk.word.is_some() {
@@ -245,11 +245,11 @@ fn give_part<O: PieceSink>(
     line: u32,
     walk: &Walk,
     quoted: bool,
-    token: Token<'_>,
+    token: &Token<'_>,
     rest: &[u8],
 ) -> Result<(), Fault>
     requires { length rest.now ≤ LINE }
-    ensures gives { Emits result O.gave O.broke out.old (words.part_items line walk.now (token_seen token.entry) (tokens_of quoted rest.now)) out.new }
+    ensures gives { Emits result O.gave O.broke out.old (words.part_items line walk.now (token_seen token.now) (tokens_of quoted rest.now)) out.new }
     ensures same { O.loans out.new ≡ O.loans out.old }
 {
     let place = Place {
@@ -266,15 +266,15 @@ fn give_token<O: PieceSink>(
     style: Style,
     line: u32,
     walk: &Walk,
-    token: Token<'_>,
+    token: &Token<'_>,
     rest: &[u8],
 ) -> Result<(), Fault>
     requires short { length rest.now ≤ LINE }
-    requires room { walk.now.column + length (token_bytes (token_seen token)) < 2 ^ 32 }
-    ensures gives { Emits result O.gave O.broke out.old (words.token_items style line walk.now (token_seen token.entry) (tokens_of style.is_quoted rest.now)) out.new }
+    requires room { walk.now.column + length (token_bytes (token_seen token.now)) < 2 ^ 32 }
+    ensures gives { Emits result O.gave O.broke out.old (words.token_items style line walk.now (token_seen token.now) (tokens_of style.is_quoted rest.now)) out.new }
     ensures same { O.loans out.new ≡ O.loans out.old }
 {
-    if let Token::White(white) = token {
+    if let Token::White(white) = *token {
         let place = Place {
             line,
             column: walk.column + white.len() as u32,
@@ -303,8 +303,8 @@ pub(crate) fn give_words<O: PieceSink>(
     while !rest.is_empty() {
         let token = read_token(style.is_quoted, rest);
         rest = &rest[token.len()..];
-        give_token(out, style, line, &walk, token, rest)?;
-        walk.pass(token);
+        give_token(out, style, line, &walk, &token, rest)?;
+        walk.pass(&token);
     }
     Ok(walk)
 }
