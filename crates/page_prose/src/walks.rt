@@ -16,6 +16,12 @@ pub struct Fonts {
     pub former: Font,
 }
 
+/// The fonts of a paragraph.
+pub(crate) const ROMAN: Fonts = Fonts {
+    font: Font::R,
+    former: Font::R,
+};
+
 impl Fonts {
     // Another font is in use.
     fn with(self, font: Font) -> Fonts

@@ -1,7 +1,7 @@
 //! Words: their messages, and what they print, as pieces.
 
 ghost use Rattle.std.specs.Prelude.{◌≡◌, ◌≤◌, ◌<◌, ◌+◌, ◌^◌, ◌++◌, ◌∷◌, [], length, option_map, IfOk, if◌then◌else◌};
-ghost use Rattle.page_core.specs.Pieces.{piece_of};
+ghost use Rattle.page_core.specs.Pieces.{piece_of, shown};
 ghost use Rattle.page_core_escapes.specs.Escapes.{face_seen, meaning_seen};
 ghost use Rattle.page_prose.specs.Emits.{Emits};
 ghost use Rattle.page_prose.specs.Says.{at};
@@ -100,7 +100,11 @@ fn escape_piece(font: Font, place: Place, meaning: Escape<'_>) -> Option<Piece<&
 }
 
 /// What a token of a word prints.
-pub(crate) fn token_piece<'a>(font: Font, place: Place, token: &Token<'a>) -> Option<Piece<&'a [u8]>>
+pub(crate) fn token_piece<'a>(
+    font: Font,
+    place: Place,
+    token: &Token<'a>,
+) -> Option<Piece<&'a [u8]>>
     ensures { option_map piece_of result ≡ words.token_piece font place (token_seen token.now) }
 {
     match *token {
@@ -124,6 +128,19 @@ pub(crate) fn give_if<O: PieceSink>(out: &mut O, piece: Option<Piece<&[u8]>>) ->
         Some(piece) => out.piece(piece),
         None => Ok(()),
     }
+}
+
+/// Gives two pieces without a text.
+pub(crate) fn give_two<O: PieceSink>(
+    out: &mut O,
+    first: Piece<&[u8]>,
+    second: Piece<&[u8]>,
+) -> Result<(), Fault>
+    ensures gives { Emits result O.gave O.broke out.old (shown (piece_of first.entry) ∷ (shown (piece_of second.entry) ∷ [])) out.new }
+    ensures same { O.loans out.new ≡ O.loans out.old }
+{
+    out.piece(first)?;
+    out.piece(second)
 }
 
 // Gives what a token of a word prints.
