@@ -1,5 +1,6 @@
 pub mod Sheets
 pub mod Room
+pub mod Plain
 pub mod Characters
 pub mod Fill
 pub mod InWords
