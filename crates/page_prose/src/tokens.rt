@@ -93,6 +93,7 @@ fn plain_len(quoted: bool, text: &[u8]) -> usize
 }
 
 /// The token at a text's front; `quoted` says whether it is that of a quoted argument.
+#[inline(always)]
 #[tactic(auto, unfolding(crate::specs::Tokens::token_at))]
 pub(crate) fn read_token(quoted: bool, text: &[u8]) -> Token<'_>
     requires { length text.now ≤ LINE }

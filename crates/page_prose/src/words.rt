@@ -233,6 +233,13 @@ fn note_begun<O: PieceSink>(
     note_word(out, place, quoted, rest)
 }
 
+// Whether a token is a word of plain characters, which says nothing, or goes on with one that is open.
+fn says_nothing(walk: &Walk, token: &Token<'_>, rest: &[u8]) -> bool
+    ensures { result ≡ words.says_nothing walk.now (token_seen token.now) rest.now }
+{
+    walk.word.is_some() || (matches!(*token, Token::Plain(_)) && !begins_word(rest))
+}
+
 // Gives the messages of a word, where none is open.
 fn note_if_begun<O: PieceSink>(
     out: &mut O,
@@ -246,7 +253,7 @@ fn note_if_begun<O: PieceSink>(
     ensures gives { Emits result O.gave O.broke out.old (words.begun_notes line walk.now (token_seen token.now) (tokens_of quoted rest.now)) out.new }
     ensures same { O.loans out.new ≡ O.loans out.old }
 {
-    if walk.word.is_some() {
+    if says_nothing(walk, token, rest) {
         return Ok(());
     }
     let place = Place {
