@@ -1,5 +1,5 @@
 -- A plain text that the open row has room for.
-use Rattle.std.proofs.Common.{◌≡◌, ℕ, ◌+◌, ◌<◌, ◌≤◌, suc, Bool, true, false, ◌&&◌, ◌==◌, List, [], ◌∷◌, ◌++◌, length, min, take, drop, set, get_or, append_assoc, length-append, length-drop, ◌-◌, nat_lt, ◌<◌, refl, ap, sym, ◌∙◌, arith}
+use Rattle.std.proofs.Common.{◌≡◌, ℕ, ◌+◌, ◌<◌, ◌≤◌, suc, true, false, ◌==◌, List, [], ◌∷◌, ◌++◌, length, min, take, drop, set, get_or, append_assoc, length-append, length-drop, ◌-◌, nat_lt, ◌<◌, refl, ap, sym, ◌∙◌, arith}
 use Rattle.std.proofs.lemmas.Bool.Decides.{nat_tests}
 use Rattle.std.proofs.lemmas.List.{length-map, length-take-le, get_or-append_right, get_or-drop, take_more, drop_more, set_at}
 use Rattle.std.proofs.lemmas.List.Sums.{sum_by-append}
@@ -202,9 +202,9 @@ moved-more old now start i d within is =
     let room : i < length (drop start old) = omega (arith, dropped) in
     let len : length (take i (drop start old)) ≡ i = length-take-le i (drop start old) (omega arith) in
     let from : get_or now (start + i) d ≡ get_or old (start + i) d =
-        rw is (get_or-append_right (take i (drop start old)) (drop i old) i (start + i) d len (omega arith) ∙ (get_or-drop i old (start + i - i) d ∙ ap (λ k. get_or old k d) (omega arith))) in
+    rw is (get_or-append_right (take i (drop start old)) (drop i old) i (start + i) d len (omega arith) ∙ (get_or-drop i old (start + i - i) d ∙ ap (λ k. get_or old k d) (omega arith))) in
     let front : take (i + 1) (drop start old) ≡ take i (drop start old) ++ get_or old (start + i) d ∷ [] =
-        take_more (drop start old) i d room ∙ ap (λ x. take i (drop start old) ++ x ∷ []) (get_or-drop start old i d) in
+    take_more (drop start old) i d room ∙ ap (λ x. take i (drop start old) ++ x ∷ []) (get_or-drop start old i d) in
     let back : drop i old ≡ get_or old i d ∷ drop (i + 1) old = drop_more old i d (omega arith) in
     rw (from, front, append_assoc (take i (drop start old)) (get_or old (start + i) d ∷ []) (drop (i + 1) old))
     (ap (λ l. set l i (get_or old (start + i) d)) (is ∙ ap (λ l. take i (drop start old) ++ l) back)

@@ -1,5 +1,5 @@
 -- Plain texts: bytes of printable ASCII, each a cell of one column, so that an open row with room for them takes them as a whole.
-use Rattle.std.specs.Prelude.{ℕ, ◌+◌, Bool, true, false, not, ◌&&◌, ◌||◌, ◌==◌, nat_le, min, List, [], ◌∷◌, ◌++◌, length, if◌then◌else◌}
+use Rattle.std.specs.Prelude.{ℕ, ◌+◌, Bool, true, not, ◌&&◌, ◌||◌, ◌==◌, nat_le, min, List, [], ◌∷◌, ◌++◌, length, if◌then◌else◌}
 use Rattle.std.specs.List.{list_all}
 use Rattle.page_core.specs.declared.cells.Cell.{Cell}
 use Rattle.page_fill.specs.Sheets.{Sheet, begins, columns, blank, counted, opens}

@@ -1,4 +1,4 @@
-use Rattle.std.proofs.Common.{◌≡◌, ◌+◌, ◌<◌, length, arith}
+use Rattle.std.proofs.Common.{◌+◌, ◌<◌, length, arith}
 use Rattle.page_fill.proofs.PlainLemmas.{moved-more}
 use Rattle.page_fill.proofs.sheets.move_to_front.Goals as goal
 
