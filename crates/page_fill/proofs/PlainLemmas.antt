@@ -1,25 +1,25 @@
 -- A plain text that the open row has room for.
-use Rattle.std.proofs.Common.{◌≡◌, ℕ, ◌+◌, ◌<◌, ◌≤◌, suc, Bool, true, false, ◌&&◌, ◌==◌, List, [], ◌∷◌, ◌++◌, length, min, append_assoc, length-append, nat_lt, ◌<◌, refl, ap, sym, ◌∙◌, arith}
+use Rattle.std.proofs.Common.{◌≡◌, ℕ, ◌+◌, ◌<◌, ◌≤◌, suc, true, false, ◌==◌, List, [], ◌∷◌, ◌++◌, length, min, take, drop, set, get_or, append_assoc, length-append, length-drop, ◌-◌, nat_lt, ◌<◌, refl, ap, sym, ◌∙◌, arith}
 use Rattle.std.proofs.lemmas.Bool.Decides.{nat_tests}
-use Rattle.std.proofs.lemmas.List.{length-map}
+use Rattle.std.proofs.lemmas.List.{length-map, length-take-le, get_or-append_right, get_or-drop, take_more, drop_more, set_at}
 use Rattle.std.proofs.lemmas.List.Sums.{sum_by-append}
 use Rattle.unicode_width.specs.Width.{char_width}
 use Rattle.page_core.specs.declared.cells.Cell.{Cell}
 use Rattle.page_core.specs.declared.cells.Font.{Font}
 use Rattle.page_core.specs.declared.pieces.Place.{Place}
 use Rattle.page_core.specs.Laid.{join, nothing}
-use Rattle.page_fill.specs.Sheets.{Sheet, cell_columns, columns, counted, passes, letter, letters}
+use Rattle.page_fill.specs.Sheets.{Sheet, cell_columns, columns, counted, passes, blank, opens, letter, letters, space, spaces}
 use Rattle.page_fill.specs.declared.TheConstants.{CELLS, TAG_COLUMNS}
 use Rattle.page_fill.specs.Sheets.{over}
 use Rattle.page_fill.specs.Characters.{cell_of, cells_of, character, characters, characters_of}
-use Rattle.page_fill.specs.Fill.{Edge, text, opening, on_sheet}
+use Rattle.page_fill.specs.Fill.{Edge, text, opening, on_sheet, begun_word, stands}
 use Rattle.page_fill.specs.Room.{IsSound}
 use Rattle.page_fill.proofs.CharacterLemmas.{characters_of-text}
 use Rattle.page_core.specs.declared.page_settings.Output.{Output}
 use Rattle.std.proofs.lemmas.Str.{chars-IsAscii, IsUtf8-from_ascii}
 use Rattle.std.proofs.lemmas.Str.Ascii.{IsAscii-nil, IsAscii-cons}
 use Rattle.std.specs.Str.{IsAscii}
-use Rattle.page_fill.specs.Plain.{is_plain_byte, is_plain, has_room, taken}
+use Rattle.page_fill.specs.Plain.{is_plain_byte, is_plain, has_room, taken, has_word_room, takes_word, spaced}
 
 -- a plain byte has a column
 pub plain-columns : (font : Font) (b : ℕ) → is_plain_byte b ≡ true → cell_columns (cell_of font b) ≡ 1
@@ -157,3 +157,55 @@ pub text-plain : (e : Edge) (bytes : List ℕ) (font : Font) (place : Place) →
 unfolding text
 text-plain e bytes font place plain some =
     rw (some, characters-plain (opening e place).edge.output (opening e place).edge.sheet bytes font place plain) refl
+
+-- ---- a word behind one blank
+
+space-fits : (s : Sheet) (n : ℕ) (place : Place) → has_word_room s n ≡ true → space (opens s) place ≡ nothing (spaced s)
+unfolding space char_width
+space-fits s n place room =
+    let some : (length s.cells == 0) ≡ false = grind (arith, nat_tests, room) in
+    let full : (length s.cells == CELLS) ≡ false = grind (arith, nat_tests, room) in
+    let passed : passes (opens s) blank ≡ false = grind (arith, nat_tests, room) in
+    rw (some, passed, full) refl
+
+spaced-room : (s : Sheet) (n : ℕ) → has_word_room s n ≡ true → has_room (spaced s) n ≡ true
+unfolding char_width
+spaced-room s n room =
+    let sum : columns (s.cells ++ blank ∷ []) ≡ columns s.cells + 1 = sum_by-append cell_columns s.cells (blank ∷ []) in
+    rw (sum, length-append s.cells (blank ∷ [])) (grind (arith, nat_tests, room))
+
+opening-fits : (e : Edge) (n : ℕ) (place : Place) → takes_word e n ≡ true → opening e place ≡ nothing (record e { sheet = spaced e.sheet; word = begun_word false })
+unfolding opening spaces
+opening-fits e n place takes =
+    let joined : e.word.is_joined ≡ false = grind (arith, takes) in
+    let tab : e.word.has_tab ≡ false = grind (arith, takes) in
+    let one : e.word.blanks ≡ 1 = grind (arith, nat_tests, takes) in
+    let room : has_word_room e.sheet n ≡ true = grind (arith, takes) in
+    let literal : e.sheet.literal ≡ false = grind (arith, room) in
+    let some : (length e.sheet.cells == 0) ≡ false = grind (arith, nat_tests, room) in
+    let stood : stands e ≡ false = grind (arith, literal, some) in
+    rw (joined, tab, one, stood, space-fits e.sheet n place room) refl
+
+pub text-word : (e : Edge) (bytes : List ℕ) (font : Font) (place : Place) → is_plain bytes ≡ true → (length bytes == 0) ≡ false → takes_word e (length bytes) ≡ true
+    → text e bytes font place ≡ nothing (record e { sheet = taken (spaced e.sheet) (cells_of font bytes); word = begun_word false })
+text-word e bytes font place plain some takes =
+    let room : has_word_room e.sheet (length bytes) ≡ true = grind (arith, takes) in
+    rw (text-plain e bytes font place plain some, opening-fits e (length bytes) place takes, letters-fits (spaced e.sheet) bytes font place some plain (spaced-room e.sheet (length bytes) room)) refl
+
+-- ---- a word that goes on in the next row
+
+-- one more cell came to the front
+pub moved-more : (old now : List Cell) (start i : ℕ) (d : Cell) → start + i < length old → now ≡ take i (drop start old) ++ drop i old
+    → set now i (get_or now (start + i) d) ≡ take (i + 1) (drop start old) ++ drop (i + 1) old
+moved-more old now start i d within is =
+    let dropped = length-drop start old in
+    let room : i < length (drop start old) = omega (arith, dropped) in
+    let len : length (take i (drop start old)) ≡ i = length-take-le i (drop start old) (omega arith) in
+    let from : get_or now (start + i) d ≡ get_or old (start + i) d =
+    rw is (get_or-append_right (take i (drop start old)) (drop i old) i (start + i) d len (omega arith) ∙ (get_or-drop i old (start + i - i) d ∙ ap (λ k. get_or old k d) (omega arith))) in
+    let front : take (i + 1) (drop start old) ≡ take i (drop start old) ++ get_or old (start + i) d ∷ [] =
+    take_more (drop start old) i d room ∙ ap (λ x. take i (drop start old) ++ x ∷ []) (get_or-drop start old i d) in
+    let back : drop i old ≡ get_or old i d ∷ drop (i + 1) old = drop_more old i d (omega arith) in
+    rw (from, front, append_assoc (take i (drop start old)) (get_or old (start + i) d ∷ []) (drop (i + 1) old))
+    (ap (λ l. set l i (get_or old (start + i) d)) (is ∙ ap (λ l. take i (drop start old) ++ l) back)
+    ∙ set_at (take i (drop start old)) (get_or old i d) (drop (i + 1) old) (get_or old (start + i) d) i len)

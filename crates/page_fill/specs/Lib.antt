@@ -1,7 +1,7 @@
 pub mod Sheets
 pub mod Room
-pub mod Plain
 pub mod Characters
 pub mod Fill
+pub mod Plain
 pub mod InWords
 pub mod Words

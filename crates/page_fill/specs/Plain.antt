@@ -1,8 +1,9 @@
 -- Plain texts: bytes of printable ASCII, each a cell of one column, so that an open row with room for them takes them as a whole.
-use Rattle.std.specs.Prelude.{ℕ, ◌+◌, Bool, true, false, ◌&&◌, ◌||◌, ◌==◌, nat_le, min, List, [], ◌++◌, length, if◌then◌else◌}
+use Rattle.std.specs.Prelude.{ℕ, ◌+◌, Bool, true, not, ◌&&◌, ◌||◌, ◌==◌, nat_le, min, List, [], ◌∷◌, ◌++◌, length, if◌then◌else◌}
 use Rattle.std.specs.List.{list_all}
 use Rattle.page_core.specs.declared.cells.Cell.{Cell}
-use Rattle.page_fill.specs.Sheets.{Sheet, begins, columns}
+use Rattle.page_fill.specs.Sheets.{Sheet, begins, columns, blank, counted, opens}
+use Rattle.page_fill.specs.Fill.{Edge}
 use Rattle.page_fill.specs.declared.TheConstants.{CELLS, TAG_COLUMNS}
 
 -- a byte from ' ' to '~'
@@ -17,6 +18,21 @@ abbrev pub has_room : Sheet → ℕ → Bool
 has_room s count =
     nat_le (length s.cells + count) CELLS
     && (s.literal || (s.gap == 0 || nat_le (s.margin + columns s.cells + count) s.width))
+
+-- an open row that is filled has room for a blank and so many cells of a column each behind it
+abbrev pub has_word_room : Sheet → ℕ → Bool
+has_word_room s count =
+    not s.literal
+    && (not (length s.cells == 0)
+    && (nat_le (length s.cells + 1 + count) CELLS && nat_le (s.margin + columns s.cells + 1 + count) s.width))
+
+-- a word behind one blank, with so many cells of a column each, goes into the open row
+abbrev pub takes_word : Edge → ℕ → Bool
+takes_word e count = not e.word.is_joined && (not e.word.has_tab && (e.word.blanks == 1 && has_word_room e.sheet count))
+
+-- the row took a blank before its next word
+abbrev pub spaced : Sheet → Sheet
+spaced s = let t = counted (opens s) blank in record t { cells = t.cells ++ blank ∷ []; word = length t.cells + 1 }
 
 -- a row is open, perhaps without cells
 abbrev pub opened : Sheet → Sheet

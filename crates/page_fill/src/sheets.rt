@@ -242,7 +242,7 @@ impl OpenRow {
         ensures { self.new ≡ sheet.begins self.old (drop self.old.word self.old.cells ++ cell ∷ []) }
     {
         let kept = self.row.len() - self.word;
-        self.row.rotate_left(self.word);
+        move_to_front(&mut self.row, self.word);
         self.row.truncate(kept);
         self.row.push_reserved(cell);
         self.columns = columns(self.row.as_slice());
@@ -392,6 +392,29 @@ impl OpenRow {
         }
         let columns = u64::from(self.margin) + u64::from(self.columns) + count as u64;
         self.is_literal || self.gap == 0 || columns <= u64::from(self.width)
+    }
+
+    /// Whether a filled row takes a blank and so many cells of a column each behind it before it ends.
+    pub(crate) fn has_word_room(&self, count: usize) -> bool
+        ensures { result ≡ plain.has_word_room self.now count }
+    {
+        if self.is_literal || self.row.is_empty() || CELLS - self.row.len() <= count {
+            return false;
+        }
+        let columns = u64::from(self.margin) + u64::from(self.columns) + 1 + count as u64;
+        columns <= u64::from(self.width)
+    }
+
+    /// The row takes a blank, and behind it a word of bytes that are a column each.
+    pub(crate) fn add_word(&mut self, bytes: &[u8], font: Font)
+        requires plain { plain.is_plain bytes.now ≡ true }
+        requires room { length self.old.cells + 1 + length bytes.now ≤ CELLS }
+        ensures { self.new ≡ plain.taken (plain.spaced self.old) (shown.cells_of font bytes.now) }
+    {
+        self.open_word();
+        self.count(BLANK);
+        self.add_space();
+        self.add_plain(bytes, font);
     }
 
     /// The row takes cells of bytes that are a column each.
@@ -577,6 +600,17 @@ impl OpenRow {
         self.blank_rows = self.blank_rows.saturating_add(count);
         self.has_heading = self.has_heading && count == 0;
         Ok(())
+    }
+}
+
+// The cells from a start on come to the front.
+fn move_to_front(cells: &mut [Cell], start: usize)
+    requires { start ≤ length cells.old }
+    ensures front { take (length cells.old - start) cells.new ≡ drop start cells.old }
+    ensures len { length cells.new ≡ length cells.old }
+{
+    for i in 0..cells.len() - start {
+        cells[i] = cells[start + i];
     }
 }
 

@@ -213,6 +213,14 @@ impl Edge {
         put_characters(&mut self.sheet, self.output, text, font, place, rows, notes)
     }
 
+    // Whether the next word, with so many cells of a column each, goes into the row behind one blank.
+    fn takes_word(&self, count: usize) -> bool
+        ensures { result ≡ plain.takes_word self.now count }
+    {
+        let word = &self.word;
+        !word.is_joined && !word.has_tab && word.blanks == 1 && self.sheet.has_word_room(count)
+    }
+
     // Takes a plain text.
     #[tactic(auto, unfolding(crate::specs::Fill::text))]
     fn plain<R: RowSink, N: NoteSink>(
@@ -232,6 +240,11 @@ impl Edge {
     {
         if bytes.is_empty() {
             self.word.is_open = true;
+            return Ok(());
+        }
+        if self.takes_word(bytes.len()) {
+            self.sheet.add_word(bytes, font);
+            self.word = OpenWord::begun(false);
             return Ok(());
         }
         self.open_word(place, rows, notes)?;

@@ -1,4 +1,4 @@
-use Rattle.std.proofs.Common.{◌≡◌, ◌++◌, take, length, ◌+◌, vec_len, vec_capacity}
+use Rattle.std.proofs.Common.{◌≡◌, ◌++◌, take, ◌+◌, vec_len, vec_capacity}
 use Rattle.page_fill.specs.Characters as shown
 use Rattle.page_fill.proofs.sheets.append_plain.Given as goal
 

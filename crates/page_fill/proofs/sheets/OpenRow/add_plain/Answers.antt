@@ -1,4 +1,4 @@
-use Rattle.std.proofs.Common.{◌≡◌, ◌+◌, ◌≤◌, length, arith, refl, rules}
+use Rattle.std.proofs.Common.{◌+◌, ◌≤◌, length, rules}
 use Rattle.page_fill.proofs.PlainLemmas.{sound-more}
 use Rattle.page_fill.proofs.sheets.OpenRow.add_plain.Goals as goal
 use Rattle.page_fill.proofs.sheets.OpenRow.add_plain.Goals.{then-is_empty, else-is_empty}
