@@ -1,9 +1,12 @@
 -- The blanks at a row's end, and cells one by one.
-use Rattle.std.proofs.Common.{◌≡◌, ◌≢◌, ℕ, ◌+◌, ◌<◌, ◌≤◌, ◌==◌, Bool, true, false, List, [], ◌∷◌, ◌++◌, length, take, drop, get_or, refl, sym, ap, ◌∙◌, append_assoc, arith, replicate, ◌-◌, suc}
+use Rattle.std.proofs.Common.{◌≡◌, ◌≢◌, ℕ, ◌+◌, ◌<◌, ◌≤◌, ◌==◌, Bool, true, false, List, [], ◌∷◌, ◌++◌, length, take, drop, get_or, refl, sym, ap, ◌∙◌, append_assoc, append-nil, arith, replicate, ◌-◌}
 use Rattle.std.specs.List.{flat_map}
-use Rattle.std.proofs.lemmas.List.{drop_more, drop_all, take_more}
+use Rattle.std.proofs.lemmas.List.{take_more, take-append-drop, replicate-append-replicate}
+use Rattle.std.proofs.lemmas.Grind.{flat_map-append}
+use Rattle.std.proofs.lemmas.Str.{encode_ascii}
 use Rattle.std.proofs.lemmas.Bool.Decides.{nat_tests}
 use Rattle.page_core.specs.declared.cells.Cell.{Cell}
+use Rattle.page_core.specs.declared.cells.Font.TheVariants.{R}
 use Rattle.page_core.specs.Rows.{trimmed, trimmed_before, is_blank, cell_bytes_of, printed}
 
 trimmed_one : (b : Bool) (x : Cell) → is_blank x ≡ b → b ≡ true → trimmed (x ∷ []) ≡ []
@@ -22,16 +25,35 @@ trimmed-full [] x h = let t : is_blank x ≡ false = grind (arith, nat_tests) in
 trimmed-full (y ∷ ys) x h = ap (trimmed_before y) (trimmed-full ys x h) ∙ before_last y ys x
 
 -- one cell more of a row
-pub cells_more : (cells : List Cell) (i : ℕ) (x : Cell) → i < length cells
-    → flat_map cell_bytes_of (drop i cells) ≡ cell_bytes_of (get_or cells i x) ++ flat_map cell_bytes_of (drop (i + 1) cells)
-cells_more cells i x h = rw (drop_more cells i x h) refl
+pub cells_taken : (cells : List Cell) (i : ℕ) (x : Cell) → i < length cells
+    → flat_map cell_bytes_of (take (i + 1) cells) ≡ flat_map cell_bytes_of (take i cells) ++ cell_bytes_of (get_or cells i x)
+cells_taken cells i x h =
+    rw (take_more cells i x h, flat_map-append) (ap (λ l. flat_map cell_bytes_of (take i cells) ++ l) (append-nil (cell_bytes_of (get_or cells i x))))
 
-pub cells_done : (cells : List Cell) (i : ℕ) → length cells ≤ i → flat_map cell_bytes_of (drop i cells) ≡ []
-cells_done cells i h = rw (drop_all i cells h) refl
+-- a character of ASCII in roman is one byte, also where it is a blank
+pub plain_cell : (cell : Cell) (b : Bool) → is_blank cell ≡ b → cell.font ≡ R → cell.c < 128 → cell_bytes_of cell ≡ cell.c ∷ []
+plain_cell cell true e f h = let c : cell.c ≡ 32 = grind (arith, nat_tests) in rw (e, c) refl
+plain_cell cell false e f h = rw (e, f) (encode_ascii cell.c h)
 
--- one blank more of a margin
-pub blanks_more : (m i : ℕ) → i < m → replicate {A = ℕ} (m - i) 32 ≡ 32 ∷ replicate {A = ℕ} (m - (i + 1)) 32
-blanks_more m i h = let e : m - i ≡ suc (m - (i + 1)) = omega arith in rw e refl
+-- the first cells of a row come before the others
+pub cells_moved : (front : List ℕ) (cells : List Cell) (n : ℕ)
+    → front ++ (flat_map cell_bytes_of cells ++ 10 ∷ []) ≡ (front ++ flat_map cell_bytes_of (take n cells)) ++ (flat_map cell_bytes_of (drop n cells) ++ 10 ∷ [])
+cells_moved front cells n =
+    let f = flat_map cell_bytes_of (take n cells) in
+    let l = flat_map cell_bytes_of (drop n cells) in
+    let e : flat_map cell_bytes_of cells ≡ f ++ l = ap (flat_map cell_bytes_of) (sym (take-append-drop n cells)) ∙ flat_map-append cell_bytes_of (take n cells) (drop n cells) in
+    ap (λ bytes. front ++ (bytes ++ 10 ∷ [])) e ∙ (ap (λ bytes. front ++ bytes) (append_assoc f l (10 ∷ [])) ∙ sym (append_assoc front f (l ++ 10 ∷ [])))
+
+-- no cell is left
+pub cells_done : (front : List ℕ) (cells : List Cell) → (length cells == 0) ≡ true → front ++ (flat_map cell_bytes_of cells ++ 10 ∷ []) ≡ front ++ 10 ∷ []
+cells_done front [] h = refl
+cells_done front (x ∷ xs) h = grind (arith, nat_tests)
+
+-- the first blanks of a margin come before the others
+pub blanks_moved : (n left : ℕ) → n ≤ left → replicate {A = ℕ} left 32 ≡ replicate {A = ℕ} n 32 ++ replicate {A = ℕ} (left - n) 32
+blanks_moved n left h =
+    let e : left ≡ n + (left - n) = omega arith in
+    ap (λ m. replicate {A = ℕ} m 32) e ∙ sym (replicate-append-replicate n (left - n) 32)
 
 -- the parts of a row that has a cell
 pub printed_parts : (margin : ℕ) (cells : List Cell) → (length cells == 0) ≡ false

@@ -1,5 +1,5 @@
 -- How what sinks were given follows one another.
-use Rattle.std.proofs.Common.{◌≡◌, ℕ, List, [], ◌++◌, refl, sym, ap, ◌∙◌, append_assoc, append-nil, Result, Ok, Err}
+use Rattle.std.proofs.Common.{◌≡◌, List, [], ◌++◌, refl, sym, ap, ◌∙◌, append_assoc, append-nil, Result, Ok, Err}
 use Rattle.page_core.specs.Messages.{Message}
 use Rattle.page_core.specs.Rows.{LaidRow}
 use Rattle.page_core.specs.Sinks.{IsSink, UpTo, Gives}

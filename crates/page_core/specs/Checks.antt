@@ -1,5 +1,5 @@
 -- Settings that a page can be formatted by. Source: mandoc(1), -O and -I.
-use Rattle.std.specs.Prelude.{◌≡◌, ℕ, ◌<◌, ◌≤◌, Option, None, Some, Result, MatchResult}
+use Rattle.std.specs.Prelude.{◌≡◌, ℕ, ◌≤◌, Option, None, Some, Result, MatchResult}
 use Rattle.page_core.specs.declared.page_settings.Settings.{Settings}
 use Rattle.page_core.specs.declared.page_settings.SettingFault.{SettingFault}
 use Rattle.page_core.specs.declared.page_settings.SettingFault.TheVariants.{Width, Indent, Os}

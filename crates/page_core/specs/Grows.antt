@@ -1,5 +1,5 @@
 -- A sink that is seen as a list, where the list is known.
-use Rattle.std.specs.Prelude.{◌≡◌, List, [], ◌∷◌, ◌++◌, ⊤, Option, None, Some, MatchResult, Result, refl}
+use Rattle.std.specs.Prelude.{◌≡◌, List, [], ◌++◌, ⊤, Option, None, Some, refl}
 use Rattle.std.specs.List.{flat_map}
 use Rattle.std.proofs.Common.{append_assoc, append-nil, sym, ◌∙◌, ap, subst}
 use Rattle.std.proofs.lemmas.Grind.{flat_map-append}

@@ -1,5 +1,5 @@
 -- The rows and messages that are settled, and the edge from which the rest goes on.
-use Rattle.std.specs.Prelude.{◌≡◌, ℕ, List, [], ◌∷◌, ◌++◌, Result, MatchResult, Option, Some, None, refl}
+use Rattle.std.specs.Prelude.{◌≡◌, List, [], ◌++◌, Result, MatchResult, refl}
 use Rattle.std.proofs.Common.{append_assoc}
 use Rattle.page_core.specs.Messages.{Message}
 use Rattle.page_core.specs.Rows.{LaidRow}

@@ -8,3 +8,4 @@ pub mod Fails
 pub mod Laid
 pub mod MessageBytes
 pub mod Pieces
+pub mod Events

@@ -1,5 +1,5 @@
 -- The bytes of cells and rows. Source: mandoc(1), "ASCII Output".
-use Rattle.std.specs.Prelude.{ℕ, Bool, true, false, ◌==◌, List, [], ◌∷◌, ◌++◌, length, replicate, encode_utf8, if◌then◌else◌}
+use Rattle.std.specs.Prelude.{ℕ, Bool, ◌==◌, List, [], ◌∷◌, ◌++◌, length, replicate, encode_utf8, if◌then◌else◌}
 use Rattle.std.specs.List.{flat_map}
 use Rattle.page_core.specs.declared.cells.Font.{Font}
 use Rattle.page_core.specs.declared.cells.Font.TheVariants.{R, B, I, BI}

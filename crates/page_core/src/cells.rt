@@ -1,6 +1,7 @@
 //! Cells: the characters of a row with their fonts, and their bytes.
 
-ghost use Rattle.std.specs.Prelude.{◌≡◌, ℕ, ◌+◌, ◌≤◌, [], ◌∷◌, ◌++◌, length, encode_utf8};
+ghost use Rattle.std.specs.Prelude.{◌≡◌, ℕ, ◌+◌, ◌*◌, ◌≤◌, [], ◌∷◌, ◌++◌, length, take, encode_utf8};
+ghost use Rattle.std.specs.List.{flat_map};
 ghost use Rattle.page_core.specs.Rows.{cell_bytes_of, trimmed};
 
 use arrayvec::ArrayVec;
@@ -29,70 +30,105 @@ pub(crate) const CELL_BYTES: usize = 16;
 pub fn cell_bytes(cell: Cell) -> ArrayVec<u8, 16>
     ensures { result.items ≡ cell_bytes_of cell }
 {
+    let mut places = [0u8; CELL_BYTES];
+    let end = write_cell(&mut places, 0, cell);
     let mut bytes = ArrayVec::new();
-    append_cell(&mut bytes, cell);
+    let _fits = bytes.try_extend_from_slice(&places[..end]);
     bytes
 }
 
-/// Appends the bytes of a cell.
-pub(crate) fn append_cell<const N: usize>(bytes: &mut ArrayVec<u8, N>, cell: Cell)
-    requires { length bytes.old.items + 16 ≤ N }
-    ensures items { bytes.new.items ≡ bytes.old.items ++ cell_bytes_of cell }
-    ensures len { length bytes.new.items ≤ length bytes.old.items + 16 }
+/// Writes the bytes of cells behind those before `start`, and answers where they end.
+pub(crate) fn write_cells(bytes: &mut [u8], start: usize, cells: &[Cell]) -> usize
+    requires { start + 16 * length cells.now ≤ length bytes.old }
+    ensures front { take result bytes.new ≡ take start bytes.old ++ flat_map cell_bytes_of cells.now }
+    ensures end { result ≤ start + 16 * length cells.now }
+{
+    let mut end = start;
+    for cell in cells {
+        end = match cell.font {
+            Font::R if cell.c.is_ascii() => {
+                bytes[end] = cell.c as u8;
+                end + 1
+            }
+            _ => write_cell(bytes, end, *cell),
+        };
+    }
+    end
+}
+
+// Writes the bytes of a cell.
+fn write_cell(bytes: &mut [u8], start: usize, cell: Cell) -> usize
+    requires { start + 16 ≤ length bytes.old }
+    ensures front { take result bytes.new ≡ take start bytes.old ++ cell_bytes_of cell }
+    ensures end { result ≤ start + 16 }
 {
     if cell.c == ' ' {
-        bytes.push(32);
-        return;
+        bytes[start] = b' ';
+        return start + 1;
     }
     match cell.font {
-        Font::R => append_char(bytes, cell.c),
-        Font::B => append_twice(bytes, cell.c),
+        Font::R => write_char(bytes, start, cell.c),
+        Font::B => write_twice(bytes, start, cell.c),
         Font::I => {
-            append_low_line(bytes);
-            append_char(bytes, cell.c);
+            let start = write_low_line(bytes, start);
+            write_char(bytes, start, cell.c)
         }
         Font::BI => {
-            append_low_line(bytes);
-            append_twice(bytes, cell.c);
+            let start = write_low_line(bytes, start);
+            write_twice(bytes, start, cell.c)
         }
     }
 }
 
-// Appends a low line and a backspace.
-fn append_low_line<const N: usize>(bytes: &mut ArrayVec<u8, N>)
-    requires { length bytes.old.items + 2 ≤ N }
-    ensures items { bytes.new.items ≡ bytes.old.items ++ 95 ∷ 8 ∷ [] }
-    ensures len { length bytes.new.items ≡ length bytes.old.items + 2 }
+// Writes a low line and a backspace.
+fn write_low_line(bytes: &mut [u8], start: usize) -> usize
+    requires { start + 2 ≤ length bytes.old }
+    ensures front { take result bytes.new ≡ take start bytes.old ++ 95 ∷ 8 ∷ [] }
+    ensures end { result ≡ start + 2 }
 {
-    bytes.push(b'_');
-    bytes.push(8);
+    bytes[start] = b'_';
+    bytes[start + 1] = 8;
+    start + 2
 }
 
-// Appends a character, a backspace and the character again.
-fn append_twice<const N: usize>(bytes: &mut ArrayVec<u8, N>, c: char)
-    requires { length bytes.old.items + 9 ≤ N }
-    ensures items { bytes.new.items ≡ bytes.old.items ++ (encode_utf8 c ++ 8 ∷ encode_utf8 c) }
-    ensures len { length bytes.new.items ≤ length bytes.old.items + 9 }
+// Writes a character, a backspace and the character again.
+fn write_twice(bytes: &mut [u8], start: usize, c: char) -> usize
+    requires { start + 9 ≤ length bytes.old }
+    ensures front { take result bytes.new ≡ take start bytes.old ++ (encode_utf8 c ++ 8 ∷ encode_utf8 c) }
+    ensures end { result ≤ start + 9 }
 {
-    append_char(bytes, c);
-    bytes.push(8);
-    append_char(bytes, c);
+    let middle = write_char(bytes, start, c);
+    bytes[middle] = 8;
+    write_char(bytes, middle + 1, c)
 }
 
-// Appends a character.
-fn append_char<const N: usize>(bytes: &mut ArrayVec<u8, N>, c: char)
-    requires { length bytes.old.items + 4 ≤ N }
-    ensures items { bytes.new.items ≡ bytes.old.items ++ encode_utf8 c }
-    ensures len { length bytes.new.items ≤ length bytes.old.items + 4 }
+// Writes a character.
+fn write_char(bytes: &mut [u8], start: usize, c: char) -> usize
+    requires { start + 4 ≤ length bytes.old }
+    ensures front { take result bytes.new ≡ take start bytes.old ++ encode_utf8 c }
+    ensures end { result ≤ start + 4 }
 {
-    if c.is_ascii() {
-        bytes.push(c as u8);
-        return;
+    if !c.is_ascii() {
+        return write_wide(bytes, start, c);
     }
+    bytes[start] = c as u8;
+    start + 1
+}
+
+// Writes a character of any number of bytes.
+#[inline(never)]
+fn write_wide(bytes: &mut [u8], start: usize, c: char) -> usize
+    requires { start + 4 ≤ length bytes.old }
+    ensures front { take result bytes.new ≡ take start bytes.old ++ encode_utf8 c }
+    ensures end { result ≤ start + 4 }
+{
     let mut buffer = [0u8; 4];
+    let mut end = start;
     for byte in c.encode_utf8(&mut buffer).as_bytes() {
-        bytes.push(*byte);
+        bytes[end] = *byte;
+        end += 1;
     }
+    end
 }
 
 /// The cells without the blanks at their end.

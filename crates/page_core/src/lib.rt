@@ -3,7 +3,9 @@
 #![tactic(auto)]
 
 mod cells;
+mod events;
 mod faults;
+mod lines_taken;
 mod note_kinds;
 mod note_sinks;
 mod notes;
@@ -16,7 +18,9 @@ mod texts;
 mod writing;
 
 pub use cells::{Cell, Font, cell_bytes};
+pub use events::{Closer, Deed, Event, Join, Leaf, LineOpener, Opener};
 pub use faults::Fault;
+pub use lines_taken::{Form, Taken};
 pub use note_kinds::{Level, NoteKind};
 pub use note_sinks::{KeptNotes, NoteSink, TextNotes};
 pub use notes::{DETAIL, Note, write_note};

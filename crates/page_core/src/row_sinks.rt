@@ -1,6 +1,6 @@
 //! Sinks that take finished rows.
 
-ghost use Rattle.std.specs.Prelude.{◌≡◌, ℕ, ◌++◌, List, [], ◌∷◌, Some, replicate};
+ghost use Rattle.std.specs.Prelude.{◌≡◌, ℕ, ◌≤◌, ◌++◌, List, [], ◌∷◌, Some, MatchOption, length, take, replicate};
 ghost use Rattle.std.specs.Bool.{MatchBool};
 ghost use Rattle.std.specs.Borrow.{GName};
 ghost use Rattle.std.specs.List.{flat_map};
@@ -9,12 +9,15 @@ ghost use Rattle.page_core.specs.Grows.{Grows, GrowsInto, GrowsUpTo, Adds, AddsI
 ghost use Rattle.page_core.specs.Fails.{FailsAs};
 ghost use Rattle.page_core.specs.Rows.{LaidRow, row_of, row_bytes, printed, cell_bytes_of};
 
-use crate::cells::{CELL_BYTES, append_cell, without_blanks_at_end};
-use crate::writing::{Unsent, make_room, put};
+use crate::cells::{CELL_BYTES, without_blanks_at_end, write_cells};
+use crate::writing::{BUFFER, put};
 use crate::{Cell, Fault};
 use std::alloc::Global;
 use std::io::Write;
 use std::marker::Model;
+
+// The bytes of a row that may wait before more of its cells come.
+const WAITING: usize = 256;
 
 /// Takes finished rows.
 pub trait RowSink {
@@ -66,34 +69,59 @@ impl<'a, W: Write> TextRows<'a, W> {
     }
 }
 
-// Writes a margin in blanks.
-fn put_margin<W: Write>(out: &mut W, unsent: &mut Unsent, margin: u32) -> bool
-    ensures { MatchBool result
-        (GrowsUpTo (W.contents out.old) (W.contents out.new) (unsent.old.items ++ replicate margin 32) unsent.new.items)
-        (GrowsInto (W.contents out.old) (W.contents out.new) (unsent.old.items ++ replicate margin 32)) }
+// Writes a margin in blanks, but for a few that wait, and answers how many.
+fn put_margin<W: Write>(out: &mut W, margin: u32) -> Option<usize>
+    ensures { MatchOption result
+        (GrowsInto (W.contents out.old) (W.contents out.new) (replicate margin 32))
+        (λ left. (left ≤ 256) × GrowsUpTo (W.contents out.old) (W.contents out.new) (replicate margin 32) (replicate left 32)) }
 {
-    for _ in 0..margin {
-        if !make_room(out, unsent, 1) {
-            return false;
+    let mut left = margin as usize;
+    while left > WAITING {
+        let blanks = [b' '; WAITING];
+        if !put(out, &blanks) {
+            return None;
         }
-        unsent.push(32);
+        left -= WAITING;
     }
-    true
+    Some(left)
 }
 
-// Writes cells.
-fn put_cells<W: Write>(out: &mut W, unsent: &mut Unsent, cells: &[Cell]) -> bool
-    ensures { MatchBool result
-        (GrowsUpTo (W.contents out.old) (W.contents out.new) (unsent.old.items ++ flat_map cell_bytes_of cells.now) unsent.new.items)
-        (GrowsInto (W.contents out.old) (W.contents out.new) (unsent.old.items ++ flat_map cell_bytes_of cells.now)) }
+// Makes room behind the bytes before a place, by a write where too many wait, and answers the place of the next.
+fn room_behind<W: Write>(out: &mut W, bytes: &[u8], end: usize) -> Option<usize>
+    requires { end ≤ length bytes.now }
+    ensures { MatchOption result
+        (GrowsInto (W.contents out.old) (W.contents out.new) (take end bytes.now))
+        (λ at. (at ≤ 256) × GrowsUpTo (W.contents out.old) (W.contents out.new) (take end bytes.now) (take at bytes.now)) }
 {
-    for cell in cells {
-        if !make_room(out, unsent, CELL_BYTES) {
-            return false;
-        }
-        append_cell(unsent, *cell);
+    if end <= WAITING {
+        return Some(end);
     }
-    true
+    if put(out, &bytes[..end]) {
+        Some(0)
+    } else {
+        None
+    }
+}
+
+// Writes the bytes before a place, and then cells and a line feed.
+fn put_cells<W: Write>(out: &mut W, bytes: &mut [u8; BUFFER], start: usize, cells: &[Cell]) -> bool
+    requires { start ≤ 256 }
+    ensures { MatchBool result
+        (Grows (W.contents out.old) (W.contents out.new) (take start bytes.old ++ (flat_map cell_bytes_of cells.now ++ 10 ∷ [])))
+        (GrowsInto (W.contents out.old) (W.contents out.new) (take start bytes.old ++ (flat_map cell_bytes_of cells.now ++ 10 ∷ []))) }
+{
+    let mut rest = cells;
+    let mut end = start;
+    while !rest.is_empty() {
+        let Some(room) = room_behind(out, bytes, end) else {
+            return false;
+        };
+        let count = rest.len().min((BUFFER - 1 - room) / CELL_BYTES);
+        end = write_cells(bytes, room, &rest[..count]);
+        rest = &rest[count..];
+    }
+    bytes[end] = b'\n';
+    put(out, &bytes[..end + 1])
 }
 
 // Writes a margin, cells and a line feed, or the line feed alone where there is no cell.
@@ -105,18 +133,11 @@ fn put_row<W: Write>(out: &mut W, margin: u32, cells: &[Cell]) -> bool
     if cells.is_empty() {
         return put(out, b"\n");
     }
-    let mut unsent = Unsent::new();
-    if !put_margin(out, &mut unsent, margin) {
+    let Some(left) = put_margin(out, margin) else {
         return false;
-    }
-    if !put_cells(out, &mut unsent, cells) {
-        return false;
-    }
-    if !make_room(out, &mut unsent, 1) {
-        return false;
-    }
-    unsent.push(b'\n');
-    put(out, unsent.as_slice())
+    };
+    let mut bytes = [b' '; BUFFER];
+    put_cells(out, &mut bytes, left, cells)
 }
 
 impl<W: Write> RowSink for TextRows<'_, W> {

@@ -77,6 +77,8 @@ pub(crate) fn quoted_len(text: &[u8]) -> Option<usize>
 }
 
 // The same where arguments stand inside the argument: the places of the open ones' delimiters are kept, from the outside in.
+// No call but one that needs these places pays for them.
+#[inline(never)]
 fn nested_len(text: &[u8]) -> Option<usize>
     requires { length text.now ≤ LINE }
     ensures value { result ≡ quoted_len content_len text.now }

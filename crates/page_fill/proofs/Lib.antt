@@ -1,6 +1,7 @@
 pub mod LaidLemmas
 pub mod SheetLemmas
 pub mod CharacterLemmas
+pub mod PlainLemmas
 pub mod WordLemmas
 pub mod CutLaw
 pub mod InWordsRun

@@ -2,5 +2,6 @@ pub mod Sheets
 pub mod Room
 pub mod Characters
 pub mod Fill
+pub mod Plain
 pub mod InWords
 pub mod Words

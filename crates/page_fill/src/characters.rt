@@ -1,12 +1,13 @@
 //! What characters and glyphs print (mandoc_char(7)).
 
-ghost use Rattle.std.specs.Prelude.{◌≡◌, ◌+◌, ◌<◌, ◌≤◌, [], ◌∷◌, length, encode_utf8};
+ghost use Rattle.std.specs.Prelude.{◌≡◌, ◌+◌, ◌<◌, ◌≤◌, [], ◌∷◌, length, true, encode_utf8};
 ghost use Rattle.std.specs.Str.{chars};
 ghost use Rattle.page_core.specs.Fails.{FailsBySink};
 ghost use Rattle.page_core.specs.Laid.{Lays};
 ghost use Rattle.page_core.specs.MessageBytes.{message_of};
 ghost use Rattle.page_fill.specs.Sheets as sheet;
 ghost use Rattle.page_fill.specs.Characters as shown;
+ghost use Rattle.page_fill.specs.Plain as plain;
 
 use crate::sheets::OpenRow;
 use arrayvec::ArrayString;
@@ -66,6 +67,41 @@ fn no_glyph(detail: ArrayString<64>, place: Place) -> Note
         column: place.column,
         detail,
     }
+}
+
+/// Whether bytes are printable ASCII, of a column each.
+pub(crate) fn is_plain(bytes: &[u8]) -> bool
+    ensures { result ≡ plain.is_plain bytes.now }
+{
+    for byte in bytes {
+        if *byte < b' ' || b'~' < *byte {
+            return false;
+        }
+    }
+    true
+}
+
+/// Puts the characters of a plain text: all of them together if the row has room for them.
+pub(crate) fn put_plain<R: RowSink, N: NoteSink>(
+    row: &mut OpenRow,
+    bytes: &[u8],
+    font: Font,
+    place: Place,
+    rows: &mut R,
+    notes: &mut N,
+) -> Result<(), Fault>
+    requires { plain.is_plain bytes.now ≡ true }
+    ensures lays { Lays result R.gave R.within N.gave N.within rows.old rows.new notes.old notes.new row.new
+        (sheet.letters row.old (shown.cells_of font bytes.now) place) }
+    ensures faults { FailsBySink result (R.failed rows.old) (R.failed rows.new) (N.failed notes.old) (N.failed notes.new) }
+    ensures rows_same { R.loans rows.new ≡ R.loans rows.old }
+    ensures notes_same { N.loans notes.new ≡ N.loans notes.old }
+{
+    if !bytes.is_empty() && row.has_room(bytes.len()) {
+        row.add_plain(bytes, font);
+        return Ok(());
+    }
+    put_bytes(row, bytes, font, place, rows, notes)
 }
 
 // Puts cells of bytes, each a character.

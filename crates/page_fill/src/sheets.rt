@@ -1,17 +1,19 @@
 //! The open row, cell by cell.
 
-ghost use Rattle.std.specs.Prelude.{◌≡◌, ℕ, ◌+◌, ◌*◌, ◌^◌, ◌-◌, ◌<◌, ◌≤◌, List, [], ◌∷◌, ◌++◌, length, take, drop, replicate, IfOk, true, false, if◌then◌else◌};
+ghost use Rattle.std.specs.Prelude.{◌≡◌, ℕ, ◌+◌, ◌*◌, ◌^◌, ◌-◌, ◌<◌, ◌≤◌, List, [], ◌∷◌, ◌++◌, length, take, drop, replicate, vec_capacity, IfOk, true, false, if◌then◌else◌};
 ghost use Rattle.page_core.specs.Fails.{FailsAs, FailsBySink};
 ghost use Rattle.page_core.specs.Sinks.{Gives};
 ghost use Rattle.page_core.specs.Laid.{Lays, Gets};
 ghost use Rattle.page_core.specs.MessageBytes.{message_of};
 ghost use Rattle.page_core.specs.Rows.{row_of};
+ghost use Rattle.page_fill.specs.Characters as shown;
+ghost use Rattle.page_fill.specs.Plain as plain;
 ghost use Rattle.page_fill.specs.Sheets as sheet;
 
 use crate::cell_widths::{BLANK, cell_columns, columns, is_blank};
 use crate::{CELLS, TAG_COLUMNS};
 use arrayvec::ArrayString;
-use page_core::{Cell, Fault, Note, NoteKind, NoteSink, Place, RowSink};
+use page_core::{Cell, Fault, Font, Note, NoteKind, NoteSink, Place, RowSink};
 use std::alloc::{AllocError, Global};
 use std::marker::Model;
 
@@ -240,7 +242,7 @@ impl OpenRow {
         ensures { self.new ≡ sheet.begins self.old (drop self.old.word self.old.cells ++ cell ∷ []) }
     {
         let kept = self.row.len() - self.word;
-        self.row.rotate_left(self.word);
+        move_to_front(&mut self.row, self.word);
         self.row.truncate(kept);
         self.row.push_reserved(cell);
         self.columns = columns(self.row.as_slice());
@@ -257,6 +259,18 @@ impl OpenRow {
         self.row.clear();
         self.row.push_reserved(cell);
         self.columns = cell_columns(cell);
+        self.margin = self.first;
+        self.first = self.rest;
+        self.gap = 0;
+        self.word = 0;
+    }
+
+    // A row begins without cells.
+    fn open_row(&mut self)
+        ensures { self.new ≡ sheet.begins self.old [] }
+    {
+        self.row.clear();
+        self.columns = 0;
         self.margin = self.first;
         self.first = self.rest;
         self.gap = 0;
@@ -367,6 +381,56 @@ impl OpenRow {
         self.give_full(gap, place, rows, notes)?;
         self.empty();
         Ok(())
+    }
+
+    /// Whether the row takes so many cells of a column each before it ends.
+    pub(crate) fn has_room(&self, count: usize) -> bool
+        ensures { result ≡ plain.has_room self.now count }
+    {
+        if CELLS - self.row.len() < count {
+            return false;
+        }
+        let columns = u64::from(self.margin) + u64::from(self.columns) + count as u64;
+        self.is_literal || self.gap == 0 || columns <= u64::from(self.width)
+    }
+
+    /// Whether a filled row takes a blank and so many cells of a column each behind it before it ends.
+    pub(crate) fn has_word_room(&self, count: usize) -> bool
+        ensures { result ≡ plain.has_word_room self.now count }
+    {
+        if self.is_literal || self.row.is_empty() || CELLS - self.row.len() <= count {
+            return false;
+        }
+        let columns = u64::from(self.margin) + u64::from(self.columns) + 1 + count as u64;
+        columns <= u64::from(self.width)
+    }
+
+    /// The row takes a blank, and behind it a word of bytes that are a column each.
+    pub(crate) fn add_word(&mut self, bytes: &[u8], font: Font)
+        requires plain { plain.is_plain bytes.now ≡ true }
+        requires room { length self.old.cells + 1 + length bytes.now ≤ CELLS }
+        ensures { self.new ≡ plain.taken (plain.spaced self.old) (shown.cells_of font bytes.now) }
+    {
+        self.open_word();
+        self.count(BLANK);
+        self.add_space();
+        self.add_plain(bytes, font);
+    }
+
+    /// The row takes cells of bytes that are a column each.
+    pub(crate) fn add_plain(&mut self, bytes: &[u8], font: Font)
+        requires plain { plain.is_plain bytes.now ≡ true }
+        requires room { length self.old.cells + length bytes.now ≤ CELLS }
+        ensures { self.new ≡ plain.taken self.old (shown.cells_of font bytes.now) }
+    {
+        if self.row.is_empty() {
+            self.open_row();
+        }
+        append_plain(&mut self.row, bytes, font);
+        let count = bytes.len() as u32;
+        self.columns += count;
+        self.tag_columns = self.tag_columns.saturating_add(count).min(TAG_COLUMNS);
+        self.has_tag_cell = true;
     }
 
     /// Puts a cell of the row's last word.
@@ -536,6 +600,31 @@ impl OpenRow {
         self.blank_rows = self.blank_rows.saturating_add(count);
         self.has_heading = self.has_heading && count == 0;
         Ok(())
+    }
+}
+
+// The cells from a start on come to the front.
+fn move_to_front(cells: &mut [Cell], start: usize)
+    requires { start ≤ length cells.old }
+    ensures front { take (length cells.old - start) cells.new ≡ drop start cells.old }
+    ensures len { length cells.new ≡ length cells.old }
+{
+    for i in 0..cells.len() - start {
+        cells[i] = cells[start + i];
+    }
+}
+
+// Appends a cell of each byte.
+fn append_plain(row: &mut Vec<Cell>, bytes: &[u8], font: Font)
+    requires { length row.old.items + length bytes.now ≤ vec_capacity row.old }
+    ensures cells { row.new.items ≡ row.old.items ++ shown.cells_of font bytes.now }
+    ensures capacity { vec_capacity row.new ≡ vec_capacity row.old }
+{
+    for byte in bytes {
+        row.push_reserved(Cell {
+            c: *byte as char,
+            font,
+        });
     }
 }
 

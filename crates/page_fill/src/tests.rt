@@ -486,6 +486,30 @@ fn each_message_may_fail(rt: HostRuntime) -> Result<(), Fail> {
     Ok(())
 }
 
+// A row is given as soon as a cell comes that it has no room for, or a break: by each piece the rows so far, and the open row's cells.
+#[test]
+fn rows_come_as_they_settle(rt: HostRuntime) -> Result<(), Fail> {
+    let alloc = rt.alloc();
+    let mut rows = Counter::new(9);
+    let mut notes = Counter::new(9);
+    let mut filler = Filler::new(alloc, &Settings::new())?;
+    let steps = [
+        (Piece::Indent { first: 7, rest: 7 }, 0, 0),
+        (text("aaaaaaaaaaaaaaaaaaaaaaaaaaaaaaaaaaa"), 0, 35),
+        (blank(1), 0, 35),
+        (text("bbbbbbbbbbbbbbbbbbbbbbbbbbbbbbbbbbbb"), 1, 36),
+        (blank(1), 1, 36),
+        (text("c"), 1, 38),
+        (Piece::Para(1), 3, 0),
+    ];
+    for (piece, given, open) in steps {
+        assert_eq!(&rt; filler.piece(piece, &mut rows, &mut notes), Ok(()));
+        assert_eq!(&rt; rows.calls, given);
+        assert_eq!(&rt; filler.pending().len(), open);
+    }
+    Ok(())
+}
+
 #[test]
 fn nothing_is_taken_after_the_end(rt: HostRuntime) -> Result<(), Fail> {
     let alloc = rt.alloc();

@@ -1,6 +1,6 @@
 //! Words, breaks and tags: what is held between two pieces.
 
-ghost use Rattle.std.specs.Prelude.{◌≡◌, ◌+◌, ◌-◌, ◌<◌, ◌≤◌, ◌==◌, not, [], ◌∷◌, length};
+ghost use Rattle.std.specs.Prelude.{◌≡◌, ◌+◌, ◌-◌, ◌<◌, ◌≤◌, ◌==◌, not, true, [], ◌∷◌, length};
 ghost use Rattle.std.specs.Str.{chars};
 ghost use Rattle.page_core.specs.Fails.{FailsAs, FailsBySink};
 ghost use Rattle.page_core.specs.Laid.{Lays};
@@ -8,9 +8,10 @@ ghost use Rattle.page_core.specs.MessageBytes.{message_of};
 ghost use Rattle.page_core.specs.Sinks.{Gives};
 ghost use Rattle.page_fill.specs.Characters.{characters_of};
 ghost use Rattle.page_fill.specs.Fill as fill;
+ghost use Rattle.page_fill.specs.Plain as plain;
 
 use crate::cell_widths::columns;
-use crate::characters::{put_character, put_characters, put_glyph};
+use crate::characters::{is_plain, put_character, put_characters, put_glyph, put_plain};
 use crate::sheets::OpenRow;
 use crate::{HANG_MAX, TAB_STOP};
 use arrayvec::ArrayString;
@@ -212,6 +213,44 @@ impl Edge {
         put_characters(&mut self.sheet, self.output, text, font, place, rows, notes)
     }
 
+    // Whether the next word, with so many cells of a column each, goes into the row behind one blank.
+    fn takes_word(&self, count: usize) -> bool
+        ensures { result ≡ plain.takes_word self.now count }
+    {
+        let word = &self.word;
+        !word.is_joined && !word.has_tab && word.blanks == 1 && self.sheet.has_word_room(count)
+    }
+
+    // Takes a plain text.
+    #[tactic(auto, unfolding(crate::specs::Fill::text))]
+    fn plain<R: RowSink, N: NoteSink>(
+        &mut self,
+        bytes: &[u8],
+        font: Font,
+        place: Place,
+        rows: &mut R,
+        notes: &mut N,
+    ) -> Result<(), Fault>
+        requires { plain.is_plain bytes.now ≡ true }
+        ensures lays { Lays result R.gave R.within N.gave N.within rows.old rows.new notes.old notes.new self.new
+            (fill.text self.old bytes.now font place) }
+        ensures faults { FailsBySink result (R.failed rows.old) (R.failed rows.new) (N.failed notes.old) (N.failed notes.new) }
+        ensures rows_same { R.loans rows.new ≡ R.loans rows.old }
+        ensures notes_same { N.loans notes.new ≡ N.loans notes.old }
+    {
+        if bytes.is_empty() {
+            self.word.is_open = true;
+            return Ok(());
+        }
+        if self.takes_word(bytes.len()) {
+            self.sheet.add_word(bytes, font);
+            self.word = OpenWord::begun(false);
+            return Ok(());
+        }
+        self.open_word(place, rows, notes)?;
+        put_plain(&mut self.sheet, bytes, font, place, rows, notes)
+    }
+
     /// Takes bytes that are a text.
     pub(crate) fn bytes<R: RowSink, N: NoteSink>(
         &mut self,
@@ -227,6 +266,9 @@ impl Edge {
         ensures rows_same { R.loans rows.new ≡ R.loans rows.old }
         ensures notes_same { N.loans notes.new ≡ N.loans notes.old }
     {
+        if is_plain(bytes) {
+            return self.plain(bytes, font, place, rows, notes);
+        }
         match str::from_utf8(bytes) {
             Ok(text) => self.text(text, font, place, rows, notes),
             Err(_) => self.text("", font, place, rows, notes),

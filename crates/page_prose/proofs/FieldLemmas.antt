@@ -1,11 +1,11 @@
 -- The fields of a header or footer.
-use Rattle.std.proofs.Common.{◌≡◌, ℕ, suc, ◌+◌, ◌-◌, ◌<◌, ◌≤◌, ◌==◌, ◌&&◌, true, false, IsUtf8, List, [], ◌∷◌, ◌++◌, length, take, drop, get_or, refl, ap, sym, ◌∙◌, arith, inl, inr, append_assoc}
+use Rattle.std.proofs.Common.{◌≡◌, ℕ, suc, ◌+◌, ◌-◌, ◌<◌, ◌≤◌, ◌==◌, ◌&&◌, true, false, IsUtf8, List, [], ◌∷◌, ◌++◌, length, drop, get_or, refl, ap, sym, ◌∙◌, arith, inl, inr, append_assoc}
 use Rattle.std.specs.Str.{is_utf8}
 use Rattle.std.specs.List.{flat_map}
 use Rattle.std.proofs.lemmas.Bool.{cases_Bool}
 use Rattle.std.proofs.lemmas.Bool.Decides.{nat_tests}
 use Rattle.std.proofs.lemmas.Str.{is_utf8-from_IsUtf8, IsUtf8-from_is_utf8}
-use Rattle.page_core.specs.Pieces.{Item, shown}
+use Rattle.page_core.specs.Pieces.{shown}
 use Rattle.page_core.specs.declared.cells.Font.TheVariants.{R}
 use Rattle.page_core.specs.declared.page_settings.Output.{Output}
 use Rattle.page_core.specs.declared.pieces.Place.{Place}
@@ -13,7 +13,7 @@ use Rattle.page_core.specs.declared.pieces.Piece.TheVariants.{Text}
 use Rattle.page_core_numbers.specs.Columns.{columns_of}
 use Rattle.page_prose.specs.FieldText.{quote_len, single_quotes}
 use Rattle.page_prose.specs.FieldPieces.{field_columns, blank_cells, field_items, field_pieces}
-use Rattle.page_prose.specs.Tokens.{token_at, token_len, tokens_of}
+use Rattle.page_prose.specs.Tokens.{token_at, token_len}
 use Rattle.page_prose.proofs.TokenLemmas.{tokens_more, tokens_none}
 
 pub columns-text : (output : Output) (text : List ℕ) → IsUtf8 text → columns_of output text ≡ field_columns output text

@@ -1,5 +1,5 @@
 -- The tokens of a text, one by one.
-use Rattle.std.proofs.Common.{◌≡◌, ℕ, zero, suc, ◌+◌, ◌-◌, ◌<◌, ◌≤◌, ◌==◌, ◌&&◌, Bool, true, false, List, [], ◌∷◌, ◌++◌, length, take, drop, get_or, refl, ap, ◌∙◌, arith, inl, inr, length-drop}
+use Rattle.std.proofs.Common.{◌≡◌, ℕ, zero, suc, ◌+◌, ◌-◌, ◌<◌, ◌≤◌, ◌==◌, ◌&&◌, Bool, true, false, not, is_some, List, [], ◌∷◌, ◌++◌, length, take, drop, get_or, refl, ap, ◌∙◌, arith, inl, inr, length-drop}
 use Rattle.std.specs.Prelude.{slice_index}
 use Rattle.std.specs.List.{prefix_len}
 use Rattle.std.proofs.lemmas.Bool.{cases_Bool}
@@ -18,10 +18,11 @@ use Rattle.page_prose.specs.declared.tokens.Token.{Token}
 use Rattle.page_prose.specs.declared.tokens.Token.TheVariants.{White, Plain, Quotes, Escaped}
 use Rattle.page_prose.specs.declared.walks.Style.{Style}
 use Rattle.page_prose.specs.declared.walks.Walk.{Walk}
-use Rattle.page_prose.specs.Words.{face_notes, meaning_notes, token_notes, word_notes, token_items, words_items, walk_after, walk_through, white_piece, white_cells}
+use Rattle.page_prose.specs.Words.{is_plain_token, says_nothing, begun_notes, face_notes, meaning_notes, token_notes, word_notes, token_items, words_items, walk_after, walk_through, white_piece, white_cells}
+use Rattle.page_prose.specs.Says.{at}
 use Rattle.page_prose.specs.Prose.{white_front}
 use Rattle.page_prose.specs.Forms.{is_white}
-use Rattle.page_prose.specs.Tokens.{token_seen, begins_escape, begins_word, is_space, is_plain, token_at, token_bytes, token_len, tokens_within, tokens_of}
+use Rattle.page_prose.specs.Tokens.{TextToken, white, plain, quotes, escaped, token_seen, begins_escape, begins_word, is_space, is_plain, token_at, token_bytes, token_len, tokens_within, tokens_of}
 
 take_some : (n : ℕ) (text : List ℕ) → 0 < n → 0 < length text → 0 < length (take n text)
 take_some zero text h k = absurd (omega arith)
@@ -149,6 +150,35 @@ walk_none walk quoted text h = ap (walk_through walk) (tokens_none quoted text h
 
 -- ---- what gives nothing
 
+rest_nothing : (quoted : Bool) (place : Place) (rest : List ℕ) → not (begins_word rest) ≡ true → word_notes place (tokens_of quoted rest) ≡ []
+rest_nothing quoted place rest h =
+    elim (cases_Bool (begins_word rest)) [ inl t ↦ absurd (never (rw t at h)) | inr f ↦ notes_none quoted place rest f ]
+  where
+    never : false ≡ true → ⊥
+    never e = grind (arith, e)
+
+plain_nothing : (line : ℕ) (walk : Walk) (quoted : Bool) (token : TextToken) (rest : List ℕ) → (is_plain_token token && not (begins_word rest)) ≡ true
+    → token_notes (at line walk.column) token ++ word_notes (at line walk.column) (tokens_of quoted rest) ≡ []
+plain_nothing line walk quoted (white bytes) rest h = grind (arith, h)
+plain_nothing line walk quoted (quotes bytes) rest h = grind (arith, h)
+plain_nothing line walk quoted (escaped bytes meaning) rest h = grind (arith, h)
+plain_nothing line walk quoted (plain bytes) rest h = rest_nothing quoted (at line walk.column) rest h
+
+said_here : (walk : Walk) (token : TextToken) (rest : List ℕ) → says_nothing walk token rest ≡ false → is_some walk.word ≡ false
+said_here walk token rest h = elim (cases_Bool (is_some walk.word)) [ inl t ↦ absurd (never (rw t at h)) | inr f ↦ f ]
+  where
+    never : true ≡ false → ⊥
+    never e = grind (arith, e)
+
+pub something_said : (line : ℕ) (walk : Walk) (token : TextToken) (tokens : List TextToken) (rest : List ℕ) → says_nothing walk token rest ≡ false
+    → begun_notes line walk token tokens ≡ token_notes (at line walk.column) token ++ word_notes (at line walk.column) tokens
+something_said line walk token tokens rest h = rw (said_here walk token rest h) refl
+
+pub nothing_said : (line : ℕ) (walk : Walk) (quoted : Bool) (token : TextToken) (rest : List ℕ) → says_nothing walk token rest ≡ true
+    → begun_notes line walk token (tokens_of quoted rest) ≡ []
+nothing_said line walk quoted token rest h =
+    elim (cases_Bool (is_some walk.word)) [ inl t ↦ rw t refl | inr f ↦ rw f (plain_nothing line walk quoted token rest (rw f at h)) ]
+
 pub no_face_note : (place : Place) (name : FontName) → ((x : Bor (List ℕ)) → name ≡ Unknown x → ⊥) → face_notes place (face_seen name) ≡ []
 no_face_note place R h = refl
 no_face_note place I h = refl
@@ -179,13 +209,13 @@ no_token_note place (Escaped x m) h = absurd (h x m refl)
 
 -- ---- white space, byte by byte
 
-pub cells_more : (place : Place) (white : List ℕ) (i : ℕ) → i < length white
-    → white_cells place (drop i white) ≡ (shown (white_piece place (get_or white i 0)) ∷ []) ++ white_cells place (drop (i + 1) white)
-cells_more place white i h = rw (drop_more white i 0 h) refl
+pub cells_more : (place : Place) (blanks : List ℕ) (i : ℕ) → i < length blanks
+    → white_cells place (drop i blanks) ≡ (shown (white_piece place (get_or blanks i 0)) ∷ []) ++ white_cells place (drop (i + 1) blanks)
+cells_more place blanks i h = rw (drop_more blanks i 0 h) refl
 
-pub cells_none : (place : Place) (white : List ℕ) (i : ℕ) → length white ≤ i → white_cells place (drop i white) ≡ []
-cells_none place white i h = rw (drop_all i white h) refl
+pub cells_none : (place : Place) (blanks : List ℕ) (i : ℕ) → length blanks ≤ i → white_cells place (drop i blanks) ≡ []
+cells_none place blanks i h = rw (drop_all i blanks h) refl
 
-pub no_white : (line : ℕ) (white : List ℕ) → length white < 1 → white_front line white ≡ []
+pub no_white : (line : ℕ) (blanks : List ℕ) → length blanks < 1 → white_front line blanks ≡ []
 no_white line [] h = refl
 no_white line (b ∷ bs) h = absurd (omega arith)

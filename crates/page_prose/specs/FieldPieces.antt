@@ -1,6 +1,6 @@
 -- What a field of a header or footer prints: its text with its escapes, in roman, without a message about an escape. Source: man(7), TH;
 -- mandoc_char(7).
-use Rattle.std.specs.Prelude.{ℕ, Bool, true, false, not, ◌==◌, ◌||◌, nat_lt, List, [], ◌∷◌, length, replicate, codes, if◌then◌else◌, Option, None, Some, option_map}
+use Rattle.std.specs.Prelude.{ℕ, Bool, false, not, ◌==◌, ◌||◌, nat_lt, List, [], ◌∷◌, length, replicate, codes, if◌then◌else◌, Option, None, Some, option_map}
 use Rattle.std.specs.List.{flat_map}
 use Rattle.std.specs.Str.{is_utf8}
 use Rattle.page_core.specs.Pieces.{Item, shown}

@@ -1,5 +1,5 @@
 -- Words as pieces and messages, with their fonts. Source: roff(7), "ESCAPE SEQUENCES", `\f`, `\c`; mandoc(1), "DIAGNOSTICS".
-use Rattle.std.specs.Prelude.{ℕ, ◌+◌, Bool, true, false, ◌==◌, ◌||◌, List, [], ◌∷◌, ◌++◌, length, take, map, if◌then◌else◌, Option, None, Some, unwrap_or, is_some}
+use Rattle.std.specs.Prelude.{not, ℕ, ◌+◌, Bool, true, false, ◌==◌, ◌||◌, ◌&&◌, List, [], ◌∷◌, ◌++◌, length, take, map, if◌then◌else◌, Option, None, Some, unwrap_or, is_some}
 use Rattle.std.specs.List.{list_any}
 use Rattle.page_core.specs.Pieces.{Item, shown}
 use Rattle.page_core.specs.declared.note_kinds.NoteKind.TheVariants.{UndefEscape, BadEscape, UnsuppEscape, UnknownFont}
@@ -14,7 +14,7 @@ use Rattle.page_prose.specs.declared.walks.Fonts.{Fonts}
 use Rattle.page_prose.specs.declared.walks.Style.{Style}
 use Rattle.page_prose.specs.declared.walks.Walk.{Walk}
 use Rattle.page_prose.specs.Says.{at, says}
-use Rattle.page_prose.specs.Tokens.{TextToken, white, plain, quotes, escaped, token_bytes, is_space}
+use Rattle.page_prose.specs.Tokens.{TextToken, white, plain, quotes, escaped, token_bytes, is_space, begins_word}
 
 -- ---- fonts
 
@@ -128,6 +128,14 @@ walk_through walk (token ∷ tokens) = walk_through (walk_after walk token) toke
 abbrev pub begun_notes : ℕ → Walk → TextToken → List TextToken → List Item
 begun_notes line walk token tokens =
     if is_some walk.word then [] else (token_notes (at line walk.column) token ++ word_notes (at line walk.column) tokens)
+
+-- no message comes with a token of an open word, nor with a word of plain characters alone
+abbrev pub is_plain_token : TextToken → Bool
+is_plain_token (plain bytes) = true
+is_plain_token token = false
+
+abbrev pub says_nothing : Walk → TextToken → List ℕ → Bool
+says_nothing walk token rest = is_some walk.word || (is_plain_token token && not (begins_word rest))
 
 abbrev pub part_items : ℕ → Walk → TextToken → List TextToken → List Item
 part_items line walk token tokens =

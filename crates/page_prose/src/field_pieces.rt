@@ -110,9 +110,9 @@ fn give_quiet<O: PieceSink>(
     out: &mut O,
     output: Output,
     place: Place,
-    token: Token<'_>,
+    token: &Token<'_>,
 ) -> Result<(), Fault>
-    ensures gives { Emits result O.gave O.broke out.old (quiet_items output place (token_seen token.entry)) out.new }
+    ensures gives { Emits result O.gave O.broke out.old (quiet_items output place (token_seen token.now)) out.new }
     ensures same { O.loans out.new ≡ O.loans out.old }
 {
     let piece = match token_piece(Font::R, place, token) {
@@ -127,13 +127,13 @@ fn give_field_token<O: PieceSink>(
     out: &mut O,
     output: Output,
     place: Place,
-    token: Token<'_>,
+    token: &Token<'_>,
 ) -> Result<(), Fault>
-    requires { length (token_bytes (token_seen token)) ≤ LINE }
-    ensures gives { Emits result O.gave O.broke out.old (field_items output place (token_seen token.entry)) out.new }
+    requires { length (token_bytes (token_seen token.now)) ≤ LINE }
+    ensures gives { Emits result O.gave O.broke out.old (field_items output place (token_seen token.now)) out.new }
     ensures same { O.loans out.new ≡ O.loans out.old }
 {
-    match token {
+    match *token {
         Token::White(white) => give_blanks(out, white.len(), place),
         Token::Escaped {
             bytes,
@@ -157,7 +157,7 @@ pub(crate) fn give_field<O: PieceSink>(
     let mut rest = text;
     while !rest.is_empty() {
         let token = read_token(false, rest);
-        give_field_token(out, output, place, token)?;
+        give_field_token(out, output, place, &token)?;
         rest = &rest[token.len()..];
     }
     Ok(())

@@ -28,27 +28,27 @@ pub enum Token<'a> {
 
 impl<'a> Token<'a> {
     // The bytes of the token.
-    fn bytes(self) -> &'a [u8]
-        ensures { result.now ≡ token_bytes (token_seen self.entry) }
+    fn bytes(&self) -> &'a [u8]
+        ensures { result.now ≡ token_bytes (token_seen self.now) }
     {
-        match self {
+        match *self {
             Token::White(bytes) | Token::Plain(bytes) | Token::Quotes(bytes) => bytes,
             Token::Escaped { bytes, .. } => bytes,
         }
     }
 
     /// The number of bytes of the token.
-    pub(crate) fn len(self) -> usize
-        ensures { result ≡ length (token_bytes (token_seen self.entry)) }
+    pub(crate) fn len(&self) -> usize
+        ensures { result ≡ length (token_bytes (token_seen self.now)) }
     {
         self.bytes().len()
     }
 
     /// Whether the token is white space.
-    pub(crate) fn is_space(self) -> bool
-        ensures { result ≡ is_space (token_seen self.entry) }
+    pub(crate) fn is_space(&self) -> bool
+        ensures { result ≡ is_space (token_seen self.now) }
     {
-        matches!(self, Token::White(_))
+        matches!(*self, Token::White(_))
     }
 }
 
@@ -93,6 +93,7 @@ fn plain_len(quoted: bool, text: &[u8]) -> usize
 }
 
 /// The token at a text's front; `quoted` says whether it is that of a quoted argument.
+#[inline(always)]
 #[tactic(auto, unfolding(crate::specs::Tokens::token_at))]
 pub(crate) fn read_token(quoted: bool, text: &[u8]) -> Token<'_>
     requires { length text.now ≤ LINE }

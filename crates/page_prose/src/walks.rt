@@ -16,6 +16,12 @@ pub struct Fonts {
     pub former: Font,
 }
 
+/// The fonts of a paragraph.
+pub(crate) const ROMAN: Fonts = Fonts {
+    font: Font::R,
+    former: Font::R,
+};
+
 impl Fonts {
     // Another font is in use.
     fn with(self, font: Font) -> Fonts
@@ -52,10 +58,10 @@ impl Fonts {
     }
 
     // The fonts after a token.
-    fn after(self, token: Token<'_>) -> Fonts
-        ensures { result ≡ token_fonts (token_seen token.entry) self }
+    fn after(self, token: &Token<'_>) -> Fonts
+        ensures { result ≡ token_fonts (token_seen token.now) self }
     {
-        match token {
+        match *token {
             Token::Escaped { meaning, .. } => self.escaped(meaning),
             _ => self,
         }
@@ -86,20 +92,20 @@ pub struct Walk {
 }
 
 // Whether an escape glues the next line's text.
-fn is_glue(token: Token<'_>) -> bool
-    ensures { result ≡ is_glue (token_seen token.entry) }
+fn is_glue(token: &Token<'_>) -> bool
+    ensures { result ≡ is_glue (token_seen token.now) }
 {
-    match token {
+    match *token {
         Token::Escaped { meaning, .. } => matches!(meaning, Escape::Glue),
         _ => false,
     }
 }
 
 // Whether a token prints a cell.
-fn token_prints(token: Token<'_>) -> bool
-    ensures { result ≡ token_prints (token_seen token.entry) }
+fn token_prints(token: &Token<'_>) -> bool
+    ensures { result ≡ token_prints (token_seen token.now) }
 {
-    match token {
+    match *token {
         Token::White(_) | Token::Plain(_) | Token::Quotes(_) => true,
         Token::Escaped { meaning, .. } => matches!(
             meaning,
@@ -123,27 +129,22 @@ impl Walk {
     }
 
     /// The column of the open word, or of one that begins here.
-    pub(crate) fn word_column(self) -> u32
-        ensures { result ≡ word_column self }
+    pub(crate) fn word_column(&self) -> u32
+        ensures { result ≡ word_column self.now }
     {
         self.word.unwrap_or(self.column)
     }
 
-    /// What is known after a token.
-    pub(crate) fn after(self, token: Token<'_>) -> Walk
-        requires { self.column + length (token_bytes (token_seen token)) < 2 ^ 32 }
-        ensures { result ≡ walk_after self (token_seen token.entry) }
+    /// Passes a token.
+    pub(crate) fn pass(&mut self, token: &Token<'_>)
+        requires { self.old.column + length (token_bytes (token_seen token.now)) < 2 ^ 32 }
+        ensures { self.new ≡ walk_after self.old (token_seen token.now) }
     {
-        Walk {
-            fonts: self.fonts.after(token),
-            column: self.column + token.len() as u32,
-            word: if token.is_space() {
-                None
-            } else {
-                Some(self.word_column())
-            },
-            glues: is_glue(token),
-            prints: self.prints || token_prints(token),
-        }
+        let word = self.word_column();
+        self.word = if token.is_space() { None } else { Some(word) };
+        self.column += token.len() as u32;
+        self.fonts = self.fonts.after(token);
+        self.glues = is_glue(token);
+        self.prints = self.prints || token_prints(token);
     }
 }

@@ -1,7 +1,7 @@
 //! Words: their messages, and what they print, as pieces.
 
 ghost use Rattle.std.specs.Prelude.{◌≡◌, ◌≤◌, ◌<◌, ◌+◌, ◌^◌, ◌++◌, ◌∷◌, [], length, option_map, IfOk, if◌then◌else◌};
-ghost use Rattle.page_core.specs.Pieces.{piece_of};
+ghost use Rattle.page_core.specs.Pieces.{piece_of, shown};
 ghost use Rattle.page_core_escapes.specs.Escapes.{face_seen, meaning_seen};
 ghost use Rattle.page_prose.specs.Emits.{Emits};
 ghost use Rattle.page_prose.specs.Says.{at};
@@ -52,11 +52,11 @@ fn note_escape<O: PieceSink>(
 }
 
 // Gives the message of a token.
-fn note_token<O: PieceSink>(out: &mut O, place: Place, token: Token<'_>) -> Result<(), Fault>
-    ensures gives { Emits result O.gave O.broke out.old (words.token_notes place (token_seen token.entry)) out.new }
+fn note_token<O: PieceSink>(out: &mut O, place: Place, token: &Token<'_>) -> Result<(), Fault>
+    ensures gives { Emits result O.gave O.broke out.old (words.token_notes place (token_seen token.now)) out.new }
     ensures same { O.loans out.new ≡ O.loans out.old }
 {
-    match token {
+    match *token {
         Token::Escaped { bytes, meaning } => note_escape(out, place, bytes, meaning),
         _ => Ok(()),
     }
@@ -76,7 +76,7 @@ fn note_word<O: PieceSink>(
     let mut rest = text;
     while begins_word(rest) {
         let token = read_token(quoted, rest);
-        note_token(out, place, token)?;
+        note_token(out, place, &token)?;
         rest = &rest[token.len()..];
     }
     Ok(())
@@ -100,10 +100,14 @@ fn escape_piece(font: Font, place: Place, meaning: Escape<'_>) -> Option<Piece<&
 }
 
 /// What a token of a word prints.
-pub(crate) fn token_piece(font: Font, place: Place, token: Token<'_>) -> Option<Piece<&[u8]>>
-    ensures { option_map piece_of result ≡ words.token_piece font place (token_seen token.entry) }
+pub(crate) fn token_piece<'a>(
+    font: Font,
+    place: Place,
+    token: &Token<'a>,
+) -> Option<Piece<&'a [u8]>>
+    ensures { option_map piece_of result ≡ words.token_piece font place (token_seen token.now) }
 {
-    match token {
+    match *token {
         Token::White(_) => None,
         Token::Plain(text) => Some(Piece::Text { text, font, place }),
         Token::Quotes(_) => Some(Piece::Char {
@@ -124,6 +128,35 @@ pub(crate) fn give_if<O: PieceSink>(out: &mut O, piece: Option<Piece<&[u8]>>) ->
         Some(piece) => out.piece(piece),
         None => Ok(()),
     }
+}
+
+/// Gives two pieces without a text.
+pub(crate) fn give_two<O: PieceSink>(
+    out: &mut O,
+    first: Piece<&[u8]>,
+    second: Piece<&[u8]>,
+) -> Result<(), Fault>
+    ensures gives { Emits result O.gave O.broke out.old (shown (piece_of first.entry) ∷ (shown (piece_of second.entry) ∷ [])) out.new }
+    ensures same { O.loans out.new ≡ O.loans out.old }
+{
+    out.piece(first)?;
+    out.piece(second)
+}
+
+// Gives what a token of a word prints.
+fn give_piece<O: PieceSink>(
+    out: &mut O,
+    font: Font,
+    place: Place,
+    token: &Token<'_>,
+) -> Result<(), Fault>
+    ensures gives { Emits result O.gave O.broke out.old (words.piece_items (words.token_piece font place (token_seen token.now))) out.new }
+    ensures same { O.loans out.new ≡ O.loans out.old }
+{
+    if let Token::Plain(text) = *token {
+        return out.piece(Piece::Text { text, font, place });
+    }
+    give_if(out, token_piece(font, place, token))
 }
 
 // What a blank or a tab is in a row that keeps it.
@@ -189,31 +222,38 @@ fn note_begun<O: PieceSink>(
     out: &mut O,
     place: Place,
     quoted: bool,
-    token: Token<'_>,
+    token: &Token<'_>,
     rest: &[u8],
 ) -> Result<(), Fault>
     requires { length rest.now ≤ LINE }
-    ensures gives { Emits result O.gave O.broke out.old (words.token_notes place (token_seen token.entry) ++ words.word_notes place (tokens_of quoted rest.now)) out.new }
+    ensures gives { Emits result O.gave O.broke out.old (words.token_notes place (token_seen token.now) ++ words.word_notes place (tokens_of quoted rest.now)) out.new }
     ensures same { O.loans out.new ≡ O.loans out.old }
 {
     note_token(out, place, token)?;
     note_word(out, place, quoted, rest)
 }
 
+// Whether a token is a word of plain characters, which says nothing, or goes on with one that is open.
+fn says_nothing(walk: &Walk, token: &Token<'_>, rest: &[u8]) -> bool
+    ensures { result ≡ words.says_nothing walk.now (token_seen token.now) rest.now }
+{
+    walk.word.is_some() || (matches!(*token, Token::Plain(_)) && !begins_word(rest))
+}
+
 // Gives the messages of a word, where none is open.
 fn note_if_begun<O: PieceSink>(
     out: &mut O,
     line: u32,
-    walk: Walk,
+    walk: &Walk,
     quoted: bool,
-    token: Token<'_>,
+    token: &Token<'_>,
     rest: &[u8],
 ) -> Result<(), Fault>
     requires { length rest.now ≤ LINE }
-    ensures gives { Emits result O.gave O.broke out.old (words.begun_notes line walk (token_seen token.entry) (tokens_of quoted rest.now)) out.new }
+    ensures gives { Emits result O.gave O.broke out.old (words.begun_notes line walk.now (token_seen token.now) (tokens_of quoted rest.now)) out.new }
     ensures same { O.loans out.new ≡ O.loans out.old }
 {
-    if walk.word.is_some() {
+    if says_nothing(walk, token, rest) {
         return Ok(());
     }
     let place = Place {
@@ -227,22 +267,21 @@ fn note_if_begun<O: PieceSink>(
 fn give_part<O: PieceSink>(
     out: &mut O,
     line: u32,
-    walk: Walk,
+    walk: &Walk,
     quoted: bool,
-    token: Token<'_>,
+    token: &Token<'_>,
     rest: &[u8],
 ) -> Result<(), Fault>
     requires { length rest.now ≤ LINE }
-    ensures gives { Emits result O.gave O.broke out.old (words.part_items line walk (token_seen token.entry) (tokens_of quoted rest.now)) out.new }
+    ensures gives { Emits result O.gave O.broke out.old (words.part_items line walk.now (token_seen token.now) (tokens_of quoted rest.now)) out.new }
     ensures same { O.loans out.new ≡ O.loans out.old }
 {
     let place = Place {
         line,
         column: walk.word_column(),
     };
-    let piece = token_piece(walk.fonts.font, place, token);
     note_if_begun(out, line, walk, quoted, token, rest)?;
-    give_if(out, piece)
+    give_piece(out, walk.fonts.font, place, token)
 }
 
 // Gives a token.
@@ -250,16 +289,16 @@ fn give_token<O: PieceSink>(
     out: &mut O,
     style: Style,
     line: u32,
-    walk: Walk,
-    token: Token<'_>,
+    walk: &Walk,
+    token: &Token<'_>,
     rest: &[u8],
 ) -> Result<(), Fault>
     requires short { length rest.now ≤ LINE }
-    requires room { walk.column + length (token_bytes (token_seen token)) < 2 ^ 32 }
-    ensures gives { Emits result O.gave O.broke out.old (words.token_items style line walk (token_seen token.entry) (tokens_of style.is_quoted rest.now)) out.new }
+    requires room { walk.now.column + length (token_bytes (token_seen token.now)) < 2 ^ 32 }
+    ensures gives { Emits result O.gave O.broke out.old (words.token_items style line walk.now (token_seen token.now) (tokens_of style.is_quoted rest.now)) out.new }
     ensures same { O.loans out.new ≡ O.loans out.old }
 {
-    if let Token::White(white) = token {
+    if let Token::White(white) = *token {
         let place = Place {
             line,
             column: walk.column + white.len() as u32,
@@ -288,8 +327,8 @@ pub(crate) fn give_words<O: PieceSink>(
     while !rest.is_empty() {
         let token = read_token(style.is_quoted, rest);
         rest = &rest[token.len()..];
-        give_token(out, style, line, walk, token, rest)?;
-        walk = walk.after(token);
+        give_token(out, style, line, &walk, &token, rest)?;
+        walk.pass(&token);
     }
     Ok(walk)
 }

@@ -1,4 +1,4 @@
-use Rattle.std.proofs.Common.{◌≤◌, sym, ◌∙◌, arith, ap}
+use Rattle.std.proofs.Common.{sym, ◌∙◌, arith}
 use Rattle.page_core.specs.declared.cells.Font.TheVariants.{R}
 use Rattle.page_core.specs.declared.cells.Cell.{Cell}
 use Rattle.page_core.proofs.RowLemmas.{trimmed_less, trimmed_same, trimmed_nothing}

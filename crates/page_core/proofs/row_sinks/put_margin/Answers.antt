@@ -1,10 +1,14 @@
-use Rattle.std.proofs.Common.{◌≡◌, ◌++◌, refl, append_assoc}
-use Rattle.page_core.proofs.GrowsLemmas.{GrowsUpTo-flow}
-use Rattle.page_core.proofs.RowLemmas.{blanks_more}
+use Rattle.std.proofs.Common.{◌-◌, replicate, arith}
+use Rattle.page_core.proofs.GrowsLemmas.{GrowsUpTo-more, GrowsUpTo-broken}
+use Rattle.page_core.proofs.RowLemmas.{blanks_moved}
 use Rattle.page_core.proofs.row_sinks.put_margin.Goals as goal
 
-pub loop-preserved : goal.loop-preserved
-loop-preserved g c =
-    let more = blanks_more c.args.margin c.loop.counter c.loop-test.true in
-    let f = GrowsUpTo-flow _ c.loop.unsent.items c.make_room.new.unsent.items _ c.loop.invariant refl c.if-not-make_room.ensures.sent in
-    rw (c.push.ensures.items, append_assoc) (rw more at f)
+pub returns-then-not-put : goal.returns-then-not-put
+returns-then-not-put g c =
+    let left = c.loop-left.left in
+    GrowsUpTo-broken _ (replicate 256 32) (replicate (left - 256) 32) c.loop-left.invariant (blanks_moved 256 left (omega arith)) c.if-not-put.ensures
+
+pub loop-left-preserved : goal.loop-left-preserved
+loop-left-preserved g c =
+    let left = c.loop-left.left in
+    GrowsUpTo-more _ (replicate 256 32) (replicate (left - 256) 32) c.loop-left.invariant (blanks_moved 256 left (omega arith)) c.if-not-put.ensures

@@ -1,5 +1,5 @@
-use Rattle.std.proofs.Common.{◌≡◌, ◌++◌, [], refl, append-nil, sym}
-use Rattle.page_core.proofs.GrowsLemmas.{GrowsUpTo-start, Grows-two, sends}
+use Rattle.std.proofs.Common.{refl}
+use Rattle.page_core.proofs.GrowsLemmas.{sends}
 use Rattle.page_core.proofs.writing.add.Goals as goal
 
 pub returns-then-send : goal.returns-then-send

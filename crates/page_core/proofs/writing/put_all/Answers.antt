@@ -1,4 +1,4 @@
-use Rattle.std.proofs.Common.{◌≡◌, ◌++◌, [], ℕ, List, drop, get_or, length, ◌<◌, ◌≤◌, ◌+◌, refl, append_assoc, append-nil, arith, sym, ap, ◌∙◌}
+use Rattle.std.proofs.Common.{◌≡◌, ◌++◌, [], ℕ, List, drop, get_or, length, ◌<◌, ◌≤◌, ◌+◌, append_assoc, append-nil, arith, sym, ◌∙◌}
 use Rattle.std.specs.Borrow.{Bor}
 use Rattle.std.specs.List.{flat_map}
 use Rattle.std.proofs.lemmas.List.{drop_more, drop_all}

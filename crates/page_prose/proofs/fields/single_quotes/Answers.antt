@@ -1,1 +1,0 @@
-use Rattle.page_prose.proofs.fields.single_quotes.Goals as goal

@@ -15,4 +15,4 @@ pub returns-clause-gives : goal.returns-clause-gives
 returns-clause-gives g c =
     let u0 = UpTo-start (g.met.O.PieceSink.laws Failed) _ _ in
     let u1 = UpTo-more (g.met.O.PieceSink.laws Failed) _ _ _ u0 refl c.in_ok-note_if_begun.ensures.gives in
-    emits_last g.met.O.PieceSink.laws _ _ c.give_if.result u1 (refl) (rw (c.token_piece-piece.ensures, c.word_column.ensures) at c.give_if.ensures.gives)
+    emits_last g.met.O.PieceSink.laws _ _ c.give_piece.result u1 (refl) (rw c.word_column.ensures at c.give_piece.ensures.gives)

@@ -35,7 +35,7 @@ loop-rest-preserved g c =
     let walk = walk_more l.walk c.args.style.is_quoted l.rest.now n less is in
     let d = length-drop n l.rest.now in
     let w = rw v.value at v.within in
-    rw (take_rest l.rest.now n, c.after-walk.ensures, v.value) (
+    rw (take_rest l.rest.now n, c.pass.ensures, v.value) (
       UpTo-more (g.met.O.PieceSink.laws Failed) _ _ _ l.invariant.0 more (rw (v.value, take_rest l.rest.now n) at c.in_ok-give_token.ensures.gives),
       c.in_ok-give_token.ensures.same ∙ l.invariant.1,
       l.invariant.2 ∙ walk,

@@ -6,6 +6,6 @@ use Rattle.page_prose.proofs.words.note_token.Goals as goal
 
 pub returns-in_default : goal.returns-in_default
 returns-in_default g c = record {
-  gives = gave_none (g.met.O.PieceSink.laws Failed) _ _ (no_token_note c.args.place c.args.token c.in_default.not-Escaped);
+  gives = gave_none (g.met.O.PieceSink.laws Failed) _ _ (no_token_note c.args.place c.args.token.now c.in_default.not-Escaped);
   same = refl;
 }

@@ -1,6 +1,11 @@
+use Rattle.std.proofs.Common.{sym, ◌∙◌}
 use Rattle.std.proofs.lemmas.Str.{chars-nil}
 use Rattle.page_fill.proofs.CharacterLemmas.{characters_of-text, characters_of-none}
+use Rattle.page_fill.proofs.PlainLemmas.{characters_of-plain}
 use Rattle.page_fill.proofs.words.Edge.bytes.Goals as goal
+
+pub returns-then-is_plain-clause-lays : goal.returns-then-is_plain-clause-lays
+returns-then-is_plain-clause-lays g c = rw (characters_of-plain c.args.bytes.now (sym c.is_plain.ensures ∙ c.if-is_plain.true)) c.plain.ensures.lays
 
 pub returns-in-Ok-clause-lays : goal.returns-in-Ok-clause-lays
 returns-in-Ok-clause-lays g c = rw (characters_of-text c.args.bytes.now c.in-Ok.ensures.cases.1, ← c.in-Ok.ensures.cases.0) c.text.ensures.lays

@@ -3,16 +3,16 @@ use Rattle.std.proofs.lemmas.Result.{err_from_is_err_and}
 use Rattle.page_core.specs.declared.faults.Fault.TheVariants.{Failed}
 use Rattle.page_core.proofs.SinkLemmas.{UpTo-start, UpTo-more, UpTo-within}
 use Rattle.page_prose.proofs.EmitsLemmas.{emits_last}
-use Rattle.page_prose.proofs.prose.give_two.Goals as goal
+use Rattle.page_prose.proofs.text_lines.give_blank_fill.Goals as goal
 
-pub returns-in_err-piece-clause-gives : goal.returns-in_err-piece-clause-gives
-returns-in_err-piece-clause-gives g c =
+pub returns-in_err-say-clause-gives : goal.returns-in_err-say-clause-gives
+returns-in_err-say-clause-gives g c =
     let u0 = UpTo-start (g.met.O.PieceSink.laws Failed) _ _ in
     let p = err_from_is_err_and c.from_residual.result c.from_residual.ensures.1 in
-    rw (p.1, p.2) (UpTo-within (g.met.O.PieceSink.laws _) _ _ _ u0 refl c.in_err-piece.ensures.gives)
+    rw (p.1, p.2) (UpTo-within (g.met.O.PieceSink.laws _) _ _ _ u0 refl c.in_err-say.ensures.gives)
 
 pub returns-clause-gives : goal.returns-clause-gives
 returns-clause-gives g c =
     let u0 = UpTo-start (g.met.O.PieceSink.laws Failed) _ _ in
-    let u1 = UpTo-more (g.met.O.PieceSink.laws Failed) _ _ _ u0 refl c.in_ok-piece.ensures.gives in
-    emits_last g.met.O.PieceSink.laws _ _ c.piece-2.result u1 (refl) c.piece-2.ensures.gives
+    let u1 = UpTo-more (g.met.O.PieceSink.laws Failed) _ _ _ u0 refl c.in_ok-say.ensures.gives in
+    emits_last g.met.O.PieceSink.laws _ _ c.piece.result u1 (refl) c.piece.ensures.gives

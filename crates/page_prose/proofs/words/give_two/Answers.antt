@@ -3,7 +3,7 @@ use Rattle.std.proofs.lemmas.Result.{err_from_is_err_and}
 use Rattle.page_core.specs.declared.faults.Fault.TheVariants.{Failed}
 use Rattle.page_core.proofs.SinkLemmas.{UpTo-start, UpTo-more, UpTo-within}
 use Rattle.page_prose.proofs.EmitsLemmas.{emits_last}
-use Rattle.page_prose.proofs.prose.give_white_front.Goals as goal
+use Rattle.page_prose.proofs.words.give_two.Goals as goal
 
 pub returns-in_err-piece-clause-gives : goal.returns-in_err-piece-clause-gives
 returns-in_err-piece-clause-gives g c =
@@ -15,4 +15,4 @@ pub returns-clause-gives : goal.returns-clause-gives
 returns-clause-gives g c =
     let u0 = UpTo-start (g.met.O.PieceSink.laws Failed) _ _ in
     let u1 = UpTo-more (g.met.O.PieceSink.laws Failed) _ _ _ u0 refl c.in_ok-piece.ensures.gives in
-    emits_last g.met.O.PieceSink.laws _ _ c.give_white_cells.result u1 (refl) c.give_white_cells.ensures.gives
+    emits_last g.met.O.PieceSink.laws _ _ c.piece-2.result u1 (refl) c.piece-2.ensures.gives

@@ -3,7 +3,7 @@ use Rattle.std.proofs.lemmas.Bool.Decides.{nat_tests}
 use Rattle.page_core.specs.declared.faults.Fault.TheVariants.{Failed}
 use Rattle.page_prose.proofs.EmitsLemmas.{gave_none}
 use Rattle.page_prose.proofs.TokenLemmas.{no_white}
-use Rattle.page_prose.proofs.prose.give_front.Goals as goal
+use Rattle.page_prose.proofs.text_lines.give_front.Goals as goal
 
 pub returns-then-is_empty-clause-gives : goal.returns-then-is_empty-clause-gives
 returns-then-is_empty-clause-gives g c =

@@ -3,7 +3,7 @@ use Rattle.std.proofs.lemmas.Result.{err_from_is_err_and}
 use Rattle.page_core.specs.declared.faults.Fault.TheVariants.{Failed}
 use Rattle.page_core.proofs.SinkLemmas.{UpTo-start, UpTo-more, UpTo-within}
 use Rattle.page_prose.proofs.EmitsLemmas.{emits_last}
-use Rattle.page_prose.proofs.prose.note_cuts.Goals as goal
+use Rattle.page_prose.proofs.sections.note_cuts.Goals as goal
 
 pub returns-in_err-note_cut-clause-gives : goal.returns-in_err-note_cut-clause-gives
 returns-in_err-note_cut-clause-gives g c =

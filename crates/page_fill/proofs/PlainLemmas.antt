@@ -1,0 +1,211 @@
+-- A plain text that the open row has room for.
+use Rattle.std.proofs.Common.{◌≡◌, ℕ, ◌+◌, ◌<◌, ◌≤◌, suc, true, false, ◌==◌, List, [], ◌∷◌, ◌++◌, length, min, take, drop, set, get_or, append_assoc, length-append, length-drop, ◌-◌, nat_lt, ◌<◌, refl, ap, sym, ◌∙◌, arith}
+use Rattle.std.proofs.lemmas.Bool.Decides.{nat_tests}
+use Rattle.std.proofs.lemmas.List.{length-map, length-take-le, get_or-append_right, get_or-drop, take_more, drop_more, set_at}
+use Rattle.std.proofs.lemmas.List.Sums.{sum_by-append}
+use Rattle.unicode_width.specs.Width.{char_width}
+use Rattle.page_core.specs.declared.cells.Cell.{Cell}
+use Rattle.page_core.specs.declared.cells.Font.{Font}
+use Rattle.page_core.specs.declared.pieces.Place.{Place}
+use Rattle.page_core.specs.Laid.{join, nothing}
+use Rattle.page_fill.specs.Sheets.{Sheet, cell_columns, columns, counted, passes, blank, opens, letter, letters, space, spaces}
+use Rattle.page_fill.specs.declared.TheConstants.{CELLS, TAG_COLUMNS}
+use Rattle.page_fill.specs.Sheets.{over}
+use Rattle.page_fill.specs.Characters.{cell_of, cells_of, character, characters, characters_of}
+use Rattle.page_fill.specs.Fill.{Edge, text, opening, on_sheet, begun_word, stands}
+use Rattle.page_fill.specs.Room.{IsSound}
+use Rattle.page_fill.proofs.CharacterLemmas.{characters_of-text}
+use Rattle.page_core.specs.declared.page_settings.Output.{Output}
+use Rattle.std.proofs.lemmas.Str.{chars-IsAscii, IsUtf8-from_ascii}
+use Rattle.std.proofs.lemmas.Str.Ascii.{IsAscii-nil, IsAscii-cons}
+use Rattle.std.specs.Str.{IsAscii}
+use Rattle.page_fill.specs.Plain.{is_plain_byte, is_plain, has_room, taken, has_word_room, takes_word, spaced}
+
+-- a plain byte has a column
+pub plain-columns : (font : Font) (b : ℕ) → is_plain_byte b ≡ true → cell_columns (cell_of font b) ≡ 1
+unfolding char_width
+plain-columns font b h = grind (arith, nat_tests)
+
+first-plain : (b : ℕ) (bytes : List ℕ) → is_plain (b ∷ bytes) ≡ true → is_plain_byte b ≡ true
+first-plain b bytes h = grind (arith, h)
+
+rest-plain : (b : ℕ) (bytes : List ℕ) → is_plain (b ∷ bytes) ≡ true → is_plain bytes ≡ true
+rest-plain b bytes h = grind (arith, h)
+
+-- ---- one cell
+
+not-passed : (s : Sheet) (cell : Cell) (n : ℕ) → cell_columns cell ≡ 1 → has_room s (suc n) ≡ true → passes (counted s cell) cell ≡ false
+not-passed s cell n one room = grind (arith, nat_tests, one, room)
+
+not-full : (s : Sheet) (n : ℕ) → has_room s (suc n) ≡ true → (length s.cells == CELLS) ≡ false
+not-full s n room = grind (arith, nat_tests, room)
+
+has-some : (cells : List Cell) (n : ℕ) → length cells ≡ suc n → (length cells == 0) ≡ false
+has-some cells n is = grind (arith, nat_tests, is)
+
+has-more : (cells : List Cell) (cell : Cell) → (length (cells ++ cell ∷ []) == 0) ≡ false
+has-more cells cell = has-some (cells ++ cell ∷ []) (length cells) (length-append cells (cell ∷ []) ∙ omega arith)
+
+letter-at : (s : Sheet) (cells : List Cell) (cell : Cell) (n : ℕ) (place : Place) → s.cells ≡ cells → cell_columns cell ≡ 1 → has_room s (suc n) ≡ true
+    → letter s cell place ≡ nothing (taken s (cell ∷ []))
+unfolding letter
+letter-at s [] cell n place is one room = rw (not-passed s cell n one room, not-full s n room, is, one) refl
+letter-at s (c ∷ cs) cell n place is one room = rw (not-passed s cell n one room, not-full s n room, has-some s.cells (length cs) (ap length is), one) refl
+
+pub letter-fits : (s : Sheet) (cell : Cell) (n : ℕ) (place : Place) → cell_columns cell ≡ 1 → has_room s (suc n) ≡ true
+    → letter s cell place ≡ nothing (taken s (cell ∷ []))
+letter-fits s cell n place one room = letter-at s s.cells cell n place refl one room
+
+-- ---- the others
+
+room-at : (s : Sheet) (cells : List Cell) (cell : Cell) (n : ℕ) → s.cells ≡ cells → cell_columns cell ≡ 1 → has_room s (suc n) ≡ true
+    → has_room (taken s (cell ∷ [])) n ≡ true
+room-at s [] cell n is one room = rw is (grind (arith, nat_tests, one, rw is at room))
+room-at s (c ∷ cs) cell n is one room =
+    let last : columns (cell ∷ []) ≡ 1 = omega (arith, one) in
+    let sum : columns (s.cells ++ cell ∷ []) ≡ columns s.cells + 1 = sum_by-append cell_columns s.cells (cell ∷ []) ∙ ap (λ k. columns s.cells + k) last in
+    rw (has-some s.cells (length cs) (ap length is), sum, length-append s.cells (cell ∷ [])) (grind (arith, nat_tests, room))
+
+-- room for the others
+pub room-less : (s : Sheet) (cell : Cell) (n : ℕ) → cell_columns cell ≡ 1 → has_room s (suc n) ≡ true → has_room (taken s (cell ∷ [])) n ≡ true
+room-less s cell n one room = room-at s s.cells cell n refl one room
+
+counts-more : (columns n : ℕ) → min (min (columns + 1) TAG_COLUMNS + suc n) TAG_COLUMNS ≡ min (columns + suc (suc n)) TAG_COLUMNS
+counts-more columns n = omega arith
+
+taken-at : (s : Sheet) (front : List Cell) (cell next : Cell) (cells : List Cell) → s.cells ≡ front
+    → taken (taken s (cell ∷ [])) (next ∷ cells) ≡ taken s (cell ∷ next ∷ cells)
+taken-at s [] cell next cells is =
+    rw (has-more s.cells cell, counts-more s.tag_columns (length cells), append_assoc s.cells (cell ∷ []) (next ∷ cells)) refl
+taken-at s (c ∷ cs) cell next cells is =
+    rw (has-more s.cells cell, has-some s.cells (length cs) (ap length is), counts-more s.tag_columns (length cells), append_assoc s.cells (cell ∷ []) (next ∷ cells)) refl
+
+pub taken-more : (s : Sheet) (cell next : Cell) (cells : List Cell) → taken (taken s (cell ∷ [])) (next ∷ cells) ≡ taken s (cell ∷ next ∷ cells)
+taken-more s cell next cells = taken-at s s.cells cell next cells refl
+
+-- ---- a text
+
+pub letters-fit : (s : Sheet) (b : ℕ) (bytes : List ℕ) (font : Font) (place : Place) → is_plain (b ∷ bytes) ≡ true → has_room s (length (b ∷ bytes)) ≡ true
+    → letters s (cells_of font (b ∷ bytes)) place ≡ nothing (taken s (cells_of font (b ∷ bytes)))
+unfolding letters
+letters-fit s b [] font place plain room =
+    rw (letter-fits s (cell_of font b) 0 place (plain-columns font b (first-plain b [] plain)) room) refl
+letters-fit s b (next ∷ bytes) font place plain room =
+    let one : cell_columns (cell_of font b) ≡ 1 = plain-columns font b (first-plain b (next ∷ bytes) plain) in
+    let less = room-less s (cell_of font b) (suc (length bytes)) one room in
+    let others = letters-fit (taken s (cell_of font b ∷ [])) next bytes font place (rest-plain b (next ∷ bytes) plain) less in
+    rw (letter-fits s (cell_of font b) (suc (length bytes)) place one room) (others ∙ ap nothing (taken-more s (cell_of font b) (cell_of font next) (cells_of font bytes)))
+
+-- a text with a byte
+pub letters-fits : (s : Sheet) (bytes : List ℕ) (font : Font) (place : Place) → (length bytes == 0) ≡ false → is_plain bytes ≡ true → has_room s (length bytes) ≡ true
+    → letters s (cells_of font bytes) place ≡ nothing (taken s (cells_of font bytes))
+letters-fits s [] font place some plain room = absurd (grind (arith, some))
+letters-fits s (b ∷ bytes) font place some plain room = letters-fit s b bytes font place plain room
+
+-- ---- its columns
+
+columns-plain : (font : Font) (bytes : List ℕ) → is_plain bytes ≡ true → columns (cells_of font bytes) ≡ length bytes
+columns-plain font [] plain = refl
+columns-plain font (b ∷ bytes) plain =
+    let one : cell_columns (cell_of font b) ≡ 1 = plain-columns font b (first-plain b bytes plain) in
+    let others : columns (cells_of font bytes) ≡ length bytes = columns-plain font bytes (rest-plain b bytes plain) in
+    let last : columns (cell_of font b ∷ []) ≡ 1 = omega (arith, one) in
+    sum_by-append cell_columns (cell_of font b ∷ []) (cells_of font bytes) ∙ omega (arith, last, others)
+
+-- a sound row with the cells of a plain text is sound
+pub sound-more : (cells : List Cell) (bytes : List ℕ) (font : Font) (capacity count gap word : ℕ) → IsSound cells capacity count gap word → is_plain bytes ≡ true
+    → length cells + length bytes ≤ CELLS → IsSound (cells ++ cells_of font bytes) capacity (count + length bytes) gap word
+sound-more cells bytes font capacity count gap word sound plain room =
+    let len : length (cells ++ cells_of font bytes) ≡ length cells + length bytes = length-append cells (cells_of font bytes) ∙ ap (λ k. length cells + k) (length-map bytes (cell_of font)) in
+    let more : columns (cells ++ cells_of font bytes) ≡ columns cells + length bytes = sum_by-append cell_columns cells (cells_of font bytes) ∙ ap (λ k. columns cells + k) (columns-plain font bytes plain) in
+    record {
+      bounded = omega (arith, len, room);
+      reserved = sound.reserved;
+      counted = ap (λ k. k + length bytes) sound.counted ∙ sym more;
+      narrow = omega (arith, len, sound.narrow);
+      gap_within = sound.gap_within;
+      word_within = omega (arith, len, sound.word_within);
+    }
+
+-- ---- its characters
+
+ascii-plain : (bytes : List ℕ) → is_plain bytes ≡ true → IsAscii bytes
+ascii-plain [] plain = IsAscii-nil
+ascii-plain (b ∷ bytes) plain =
+    let byte = first-plain b bytes plain in
+    let below : b < 128 = grind (arith, nat_tests, byte) in
+    IsAscii-cons b bytes below (ascii-plain bytes (rest-plain b bytes plain))
+
+pub characters_of-plain : (bytes : List ℕ) → is_plain bytes ≡ true → characters_of bytes ≡ bytes
+characters_of-plain bytes plain =
+    let ascii = ascii-plain bytes plain in
+    characters_of-text bytes (IsUtf8-from_ascii bytes ascii) ∙ chars-IsAscii bytes ascii
+
+pub characters-plain : (output : Output) (s : Sheet) (bytes : List ℕ) (font : Font) (place : Place) → is_plain bytes ≡ true
+    → characters output s bytes font place ≡ letters s (cells_of font bytes) place
+unfolding characters character letters
+characters-plain output s [] font place plain = refl
+characters-plain output s (b ∷ bytes) font place plain =
+    let byte = first-plain b bytes plain in
+    let ascii : nat_lt b 128 ≡ true = grind (arith, nat_tests, byte) in
+    let others = characters-plain output (letter s (cell_of font b) place).edge bytes font place (rest-plain b bytes plain) in
+    rw (ascii, others) refl
+
+pub text-plain : (e : Edge) (bytes : List ℕ) (font : Font) (place : Place) → is_plain bytes ≡ true → (length bytes == 0) ≡ false
+    → text e bytes font place
+    ≡ join (opening e place) (over (letters (opening e place).edge.sheet (cells_of font bytes) place) (on_sheet (opening e place).edge))
+unfolding text
+text-plain e bytes font place plain some =
+    rw (some, characters-plain (opening e place).edge.output (opening e place).edge.sheet bytes font place plain) refl
+
+-- ---- a word behind one blank
+
+space-fits : (s : Sheet) (n : ℕ) (place : Place) → has_word_room s n ≡ true → space (opens s) place ≡ nothing (spaced s)
+unfolding space char_width
+space-fits s n place room =
+    let some : (length s.cells == 0) ≡ false = grind (arith, nat_tests, room) in
+    let full : (length s.cells == CELLS) ≡ false = grind (arith, nat_tests, room) in
+    let passed : passes (opens s) blank ≡ false = grind (arith, nat_tests, room) in
+    rw (some, passed, full) refl
+
+spaced-room : (s : Sheet) (n : ℕ) → has_word_room s n ≡ true → has_room (spaced s) n ≡ true
+unfolding char_width
+spaced-room s n room =
+    let sum : columns (s.cells ++ blank ∷ []) ≡ columns s.cells + 1 = sum_by-append cell_columns s.cells (blank ∷ []) in
+    rw (sum, length-append s.cells (blank ∷ [])) (grind (arith, nat_tests, room))
+
+opening-fits : (e : Edge) (n : ℕ) (place : Place) → takes_word e n ≡ true → opening e place ≡ nothing (record e { sheet = spaced e.sheet; word = begun_word false })
+unfolding opening spaces
+opening-fits e n place takes =
+    let joined : e.word.is_joined ≡ false = grind (arith, takes) in
+    let tab : e.word.has_tab ≡ false = grind (arith, takes) in
+    let one : e.word.blanks ≡ 1 = grind (arith, nat_tests, takes) in
+    let room : has_word_room e.sheet n ≡ true = grind (arith, takes) in
+    let literal : e.sheet.literal ≡ false = grind (arith, room) in
+    let some : (length e.sheet.cells == 0) ≡ false = grind (arith, nat_tests, room) in
+    let stood : stands e ≡ false = grind (arith, literal, some) in
+    rw (joined, tab, one, stood, space-fits e.sheet n place room) refl
+
+pub text-word : (e : Edge) (bytes : List ℕ) (font : Font) (place : Place) → is_plain bytes ≡ true → (length bytes == 0) ≡ false → takes_word e (length bytes) ≡ true
+    → text e bytes font place ≡ nothing (record e { sheet = taken (spaced e.sheet) (cells_of font bytes); word = begun_word false })
+text-word e bytes font place plain some takes =
+    let room : has_word_room e.sheet (length bytes) ≡ true = grind (arith, takes) in
+    rw (text-plain e bytes font place plain some, opening-fits e (length bytes) place takes, letters-fits (spaced e.sheet) bytes font place some plain (spaced-room e.sheet (length bytes) room)) refl
+
+-- ---- a word that goes on in the next row
+
+-- one more cell came to the front
+pub moved-more : (old now : List Cell) (start i : ℕ) (d : Cell) → start + i < length old → now ≡ take i (drop start old) ++ drop i old
+    → set now i (get_or now (start + i) d) ≡ take (i + 1) (drop start old) ++ drop (i + 1) old
+moved-more old now start i d within is =
+    let dropped = length-drop start old in
+    let room : i < length (drop start old) = omega (arith, dropped) in
+    let len : length (take i (drop start old)) ≡ i = length-take-le i (drop start old) (omega arith) in
+    let from : get_or now (start + i) d ≡ get_or old (start + i) d =
+    rw is (get_or-append_right (take i (drop start old)) (drop i old) i (start + i) d len (omega arith) ∙ (get_or-drop i old (start + i - i) d ∙ ap (λ k. get_or old k d) (omega arith))) in
+    let front : take (i + 1) (drop start old) ≡ take i (drop start old) ++ get_or old (start + i) d ∷ [] =
+    take_more (drop start old) i d room ∙ ap (λ x. take i (drop start old) ++ x ∷ []) (get_or-drop start old i d) in
+    let back : drop i old ≡ get_or old i d ∷ drop (i + 1) old = drop_more old i d (omega arith) in
+    rw (from, front, append_assoc (take i (drop start old)) (get_or old (start + i) d ∷ []) (drop (i + 1) old))
+    (ap (λ l. set l i (get_or old (start + i) d)) (is ∙ ap (λ l. take i (drop start old) ++ l) back)
+    ∙ set_at (take i (drop start old)) (get_or old i d) (drop (i + 1) old) (get_or old (start + i) d) i len)

@@ -1,0 +1,52 @@
+-- Plain texts: bytes of printable ASCII, each a cell of one column, so that an open row with room for them takes them as a whole.
+use Rattle.std.specs.Prelude.{ℕ, ◌+◌, Bool, true, not, ◌&&◌, ◌||◌, ◌==◌, nat_le, min, List, [], ◌∷◌, ◌++◌, length, if◌then◌else◌}
+use Rattle.std.specs.List.{list_all}
+use Rattle.page_core.specs.declared.cells.Cell.{Cell}
+use Rattle.page_fill.specs.Sheets.{Sheet, begins, columns, blank, counted, opens}
+use Rattle.page_fill.specs.Fill.{Edge}
+use Rattle.page_fill.specs.declared.TheConstants.{CELLS, TAG_COLUMNS}
+
+-- a byte from ' ' to '~'
+abbrev pub is_plain_byte : ℕ → Bool
+is_plain_byte b = nat_le 32 b && nat_le b 126
+
+abbrev pub is_plain : List ℕ → Bool
+is_plain bytes = list_all is_plain_byte bytes
+
+-- neither the width nor the row's end comes before the end of so many cells of a column each
+abbrev pub has_room : Sheet → ℕ → Bool
+has_room s count =
+    nat_le (length s.cells + count) CELLS
+    && (s.literal || (s.gap == 0 || nat_le (s.margin + columns s.cells + count) s.width))
+
+-- an open row that is filled has room for a blank and so many cells of a column each behind it
+abbrev pub has_word_room : Sheet → ℕ → Bool
+has_word_room s count =
+    not s.literal
+    && (not (length s.cells == 0)
+    && (nat_le (length s.cells + 1 + count) CELLS && nat_le (s.margin + columns s.cells + 1 + count) s.width))
+
+-- a word behind one blank, with so many cells of a column each, goes into the open row
+abbrev pub takes_word : Edge → ℕ → Bool
+takes_word e count = not e.word.is_joined && (not e.word.has_tab && (e.word.blanks == 1 && has_word_room e.sheet count))
+
+-- the row took a blank before its next word
+abbrev pub spaced : Sheet → Sheet
+spaced s = let t = counted (opens s) blank in record t { cells = t.cells ++ blank ∷ []; word = length t.cells + 1 }
+
+-- a row is open, perhaps without cells
+abbrev pub opened : Sheet → Sheet
+opened s = if length s.cells == 0 then begins s [] else s
+
+-- the row took cells of a column each
+abbrev pub taken : Sheet → List Cell → Sheet
+taken s cells =
+    record s {
+      margin = (opened s).margin;
+      first = (opened s).first;
+      cells = s.cells ++ cells;
+      gap = (opened s).gap;
+      word = (opened s).word;
+      tag_columns = min (s.tag_columns + length cells) TAG_COLUMNS;
+      tag_begun = true;
+    }
