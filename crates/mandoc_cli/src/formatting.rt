@@ -2,7 +2,7 @@
 
 use crate::SYSTEM_FAILURE;
 use mandoc_command::{Format, status_of};
-use page_core::{Fault, Output, Settings};
+use page_core_base::{Fault, Output, Settings};
 use page_engine::run_page;
 use std::alloc::Global;
 use std::fs::{self, Files};

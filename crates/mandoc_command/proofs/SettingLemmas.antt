@@ -1,13 +1,13 @@
 -- The settings, step by step.
 use Rattle.std.proofs.Common.{ap, ◌≡◌, [], Option, Some, None}
 use Rattle.std.specs.Prelude.{unwrap_or, option_and_then}
-use Rattle.page_core.specs.declared.note_kinds.Level.{Level}
-use Rattle.page_core.specs.declared.page_settings.Output.{Output}
-use Rattle.page_core.specs.declared.page_settings.Output.TheVariants as output
-use Rattle.page_core.specs.declared.page_settings.Encoding.{Encoding}
-use Rattle.page_core.specs.declared.page_settings.Encoding.TheVariants as encoding
-use Rattle.page_core.specs.declared.page_settings.Language.{Language}
-use Rattle.page_core.specs.declared.page_settings.Language.TheVariants as language
+use Rattle.page_core_base.specs.declared.note_kinds.Level.{Level}
+use Rattle.page_core_base.specs.declared.page_settings.Output.{Output}
+use Rattle.page_core_base.specs.declared.page_settings.Output.TheVariants as output
+use Rattle.page_core_base.specs.declared.page_settings.Encoding.{Encoding}
+use Rattle.page_core_base.specs.declared.page_settings.Encoding.TheVariants as encoding
+use Rattle.page_core_base.specs.declared.page_settings.Language.{Language}
+use Rattle.page_core_base.specs.declared.page_settings.Language.TheVariants as language
 use Rattle.mandoc_command.specs.declared.measures.Measures.{Measures}
 use Rattle.mandoc_command.specs.Names.{Text, output_named, encoding_named, language_named}
 use Rattle.mandoc_command.specs.Measures.{no_measures, measures_of}

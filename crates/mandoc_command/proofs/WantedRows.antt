@@ -1,10 +1,10 @@
 -- Worked rows of what command lines ask for.
 use Rattle.std.proofs.Common.{◌≡◌, [], ◌∷◌, Some, None, codes, refl}
 use Rattle.clap.proofs.OnLiterals.{clap_on_literals}
-use Rattle.page_core.specs.declared.note_kinds.Level.TheVariants as level
-use Rattle.page_core.specs.declared.page_settings.Output.TheVariants as output
-use Rattle.page_core.specs.declared.page_settings.Encoding.TheVariants as encoding
-use Rattle.page_core.specs.declared.page_settings.Language.TheVariants as language
+use Rattle.page_core_base.specs.declared.note_kinds.Level.TheVariants as level
+use Rattle.page_core_base.specs.declared.page_settings.Output.TheVariants as output
+use Rattle.page_core_base.specs.declared.page_settings.Encoding.TheVariants as encoding
+use Rattle.page_core_base.specs.declared.page_settings.Language.TheVariants as language
 use Rattle.mandoc_command.specs.Names.{output_named, level_named, language_named}
 use Rattle.mandoc_command.specs.Measures.{number_of, with_key, with_part, measures_of}
 use Rattle.mandoc_command.specs.Asked.{Asked, asked, checked, least_of}

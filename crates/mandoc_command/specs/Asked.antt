@@ -3,16 +3,16 @@ use Rattle.std.specs.Prelude.{ℕ, Bool, true, ◌&&◌, if◌then◌else◌, na
 use Rattle.std.specs.List.{starts_with}
 use Rattle.std.specs.Option.{option_map_or}
 use Rattle.std.specs.Borrow.{Bor}
-use Rattle.page_core.specs.Texts.{is_plain}
-use Rattle.page_core.specs.declared.note_kinds.Level.{Level}
-use Rattle.page_core.specs.declared.note_kinds.Level.TheVariants as level
-use Rattle.page_core.specs.declared.page_settings.Output.{Output}
-use Rattle.page_core.specs.declared.page_settings.Output.TheVariants as output
-use Rattle.page_core.specs.declared.page_settings.Encoding.{Encoding}
-use Rattle.page_core.specs.declared.page_settings.Encoding.TheVariants as encoding
-use Rattle.page_core.specs.declared.page_settings.Language.{Language}
-use Rattle.page_core.specs.declared.page_settings.Language.TheVariants as language
-use Rattle.page_core.specs.declared.page_settings.Settings.{Settings}
+use Rattle.page_core_base.specs.Texts.{is_plain}
+use Rattle.page_core_base.specs.declared.note_kinds.Level.{Level}
+use Rattle.page_core_base.specs.declared.note_kinds.Level.TheVariants as level
+use Rattle.page_core_base.specs.declared.page_settings.Output.{Output}
+use Rattle.page_core_base.specs.declared.page_settings.Output.TheVariants as output
+use Rattle.page_core_base.specs.declared.page_settings.Encoding.{Encoding}
+use Rattle.page_core_base.specs.declared.page_settings.Encoding.TheVariants as encoding
+use Rattle.page_core_base.specs.declared.page_settings.Language.{Language}
+use Rattle.page_core_base.specs.declared.page_settings.Language.TheVariants as language
+use Rattle.page_core_base.specs.declared.page_settings.Settings.{Settings}
 use Rattle.mandoc_command.specs.Names.{Text, output_named, level_named, encoding_named, language_named}
 use Rattle.mandoc_command.specs.Measures.{◌>>=◌, no_measures, measures_of}
 use Rattle.mandoc_command.specs.declared.given.Given.{Given}

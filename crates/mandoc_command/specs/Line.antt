@@ -8,7 +8,7 @@ use Rattle.clap.specs.declared.error.kind.ErrorKind.{ErrorKind}
 use Rattle.clap.specs.declared.error.kind.ErrorKind.TheVariants.{OutOfMemory}
 use Rattle.mandoc_command.specs.declared.commands.Refusal.{Refusal}
 use Rattle.mandoc_command.specs.declared.commands.Refusal.TheVariants.{Words, Memory}
-use Rattle.page_core.specs.declared.page_settings.Settings.{Settings}
+use Rattle.page_core_base.specs.declared.page_settings.Settings.{Settings}
 use Rattle.mandoc_command.specs.Names.{Text}
 use Rattle.mandoc_command.specs.Asked.{Asked, Values, asked, asked_of}
 use Rattle.mandoc_command.specs.declared.commands.Command.{Command}

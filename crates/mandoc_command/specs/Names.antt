@@ -1,14 +1,14 @@
 -- The names of the values of options. Source: mandoc(1), -K, -m, -T and -W.
 use Rattle.std.specs.Prelude.{ℕ, List, [], ◌∷◌, Option, option_map, find, codes}
 use Rattle.std.specs.Str.{bytes_eq}
-use Rattle.page_core.specs.declared.note_kinds.Level.{Level}
-use Rattle.page_core.specs.declared.note_kinds.Level.TheVariants as level
-use Rattle.page_core.specs.declared.page_settings.Output.{Output}
-use Rattle.page_core.specs.declared.page_settings.Output.TheVariants as output
-use Rattle.page_core.specs.declared.page_settings.Encoding.{Encoding}
-use Rattle.page_core.specs.declared.page_settings.Encoding.TheVariants as encoding
-use Rattle.page_core.specs.declared.page_settings.Language.{Language}
-use Rattle.page_core.specs.declared.page_settings.Language.TheVariants as language
+use Rattle.page_core_base.specs.declared.note_kinds.Level.{Level}
+use Rattle.page_core_base.specs.declared.note_kinds.Level.TheVariants as level
+use Rattle.page_core_base.specs.declared.page_settings.Output.{Output}
+use Rattle.page_core_base.specs.declared.page_settings.Output.TheVariants as output
+use Rattle.page_core_base.specs.declared.page_settings.Encoding.{Encoding}
+use Rattle.page_core_base.specs.declared.page_settings.Encoding.TheVariants as encoding
+use Rattle.page_core_base.specs.declared.page_settings.Language.{Language}
+use Rattle.page_core_base.specs.declared.page_settings.Language.TheVariants as language
 
 -- the bytes of a text
 abbrev pub Text : Type 0

@@ -1,7 +1,7 @@
 //! Commands, and why a command line is refused (mandoc(1), SYNOPSIS).
 
 use crate::Files;
-use page_core::Settings;
+use page_core_base::Settings;
 use thiserror::Error;
 
 /// Pages to format.

@@ -1,7 +1,7 @@
 //! What a command line asks for (mandoc(1), SYNOPSIS).
 
 ghost use Rattle.std.specs.Prelude.{◌≡◌, MatchResult, IfOk, None, Some};
-ghost use Rattle.page_core.specs.Checks.{IsGood};
+ghost use Rattle.page_core_base.specs.Checks.{IsGood};
 ghost use Rattle.mandoc_command.specs.Line.{wanted, formats_of, settings_of, texts, is_index_command};
 
 use crate::given::{Given, matches_in};

@@ -3,7 +3,7 @@
 ghost use Rattle.std.specs.Prelude.{◌≡◌};
 ghost use Rattle.mandoc_command.specs.Names.{output_named, level_named, encoding_named, language_named};
 
-use page_core::{Encoding, Language, Level, Output};
+use page_core_base::{Encoding, Language, Level, Output};
 
 /// What is written (mandoc(1), -T).
 #[tactic(auto, unfolding(crate::specs::Names::output_named))]

@@ -1,14 +1,14 @@
 //! The settings that a command line asks for (mandoc(1), OPTIONS).
 
 ghost use Rattle.std.specs.Prelude.{◌≡◌, IfSome, option_map};
-ghost use Rattle.page_core.specs.Checks.{IsGood};
-ghost use Rattle.page_core.specs.Texts.{IsLine};
+ghost use Rattle.page_core_base.specs.Checks.{IsGood};
+ghost use Rattle.page_core_base.specs.Texts.{IsLine};
 ghost use Rattle.mandoc_command.specs.Asked.{values_of, asked_of, asked, text_in, least_of, system_of, checked, checked_system, chosen, with_os};
 
 use crate::given::Given;
 use crate::measures::Measures;
 use crate::names::{encoding_named, language_named, level_named, output_named};
-use page_core::{Encoding, Language, Level, Output, Settings};
+use page_core_base::{Encoding, Language, Level, Output, Settings};
 
 /// The settings by the values of the options; none where a value is refused.
 #[tactic(auto, unfolding(crate::specs::Asked::asked))]

@@ -3,7 +3,7 @@
 ghost use Rattle.std.specs.Prelude.{◌≡◌};
 ghost use Rattle.mandoc_command.specs.Status.{status};
 
-use page_core::Level;
+use page_core_base::Level;
 
 /// The status that the program ends with where no fault came, by the worst level of the messages that were given (mandoc(1), EXIT STATUS).
 pub fn status_of(worst: Option<Level>) -> u8

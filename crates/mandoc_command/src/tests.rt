@@ -1,7 +1,7 @@
 //! Command lines that the program takes, and others that it refuses (mandoc(1), OPTIONS).
 
 use crate::{Command, Refusal, command, status_of};
-use page_core::{Encoding, Language, Level, Output, Settings};
+use page_core_base::{Encoding, Language, Level, Output, Settings};
 use std::alloc::Global;
 use std::process::Abort;
 use std::test::Fail;

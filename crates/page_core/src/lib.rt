@@ -1,30 +1,13 @@
-//! What every layer of the formatter stands on: messages and their levels, settings, faults, cells, what is filled, and the sinks that
-//! take rows and messages.
+//! The door to what the layers of the formatter share: settings, messages, sinks, cells, glyphs, escapes, columns and numbers.
 #![tactic(auto)]
 
-mod cells;
-mod events;
-mod faults;
-mod lines_taken;
-mod note_kinds;
-mod note_sinks;
-mod notes;
-mod page_settings;
-mod pieces;
-mod row_sinks;
-#[cfg(test)]
-mod tests;
-mod texts;
-mod writing;
-
-pub use cells::{Cell, Font, cell_bytes};
-pub use events::{Closer, Deed, Event, Join, Leaf, LineOpener, Opener};
-pub use faults::Fault;
-pub use lines_taken::{Form, Taken};
-pub use note_kinds::{Level, NoteKind};
-pub use note_sinks::{KeptNotes, NoteSink, TextNotes};
-pub use notes::{DETAIL, Note, write_note};
-pub use page_settings::{Encoding, Language, Output, SettingFault, Settings};
-pub use pieces::{Piece, PieceSink, Place, TagForm};
-pub use row_sinks::{KeptRows, Row, RowSink, TextRows};
-pub use texts::{LINE, is_line};
+pub use page_core_base::{
+    Cell, Closer, Deed, Encoding, Event, Fault, Font, Form, Join, Language, Leaf, Level, LineOpener,
+    Note, NoteKind, NoteSink, Opener, Output, Piece, PieceSink, Place, RowSink, SettingFault,
+    Settings, TagForm, Taken, is_line,
+};
+pub use page_core_escapes::{Escape, FontName, escape};
+pub use page_core_limits::{CELLS, FIELD, LINE, Limit, PARENS};
+pub use page_core_numbers::{Scale, columns, number};
+pub use page_core_tables::{Glyph, glyph, spelling};
+pub use page_core_writers::{KeptNotes, KeptRows, Row, TextNotes, TextRows, cell_bytes, write_note};

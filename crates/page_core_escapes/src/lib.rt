@@ -8,6 +8,7 @@ ghost use Rattle.page_core_escapes.specs.Escapes.{escape_of, meaning_seen, HasTe
 
 use form::{Form, read_form};
 use meaning::read_meaning;
+use page_core_limits::LINE;
 use quoted::quoted_len;
 
 mod form;
@@ -16,9 +17,6 @@ mod quoted;
 mod shape;
 
 pub use meaning::{Escape, FontName, read_font};
-
-/// The bytes of the longest line.
-pub const LINE: usize = 65_536;
 
 /// The escape at the front of a text, where a backslash is, and how many bytes it takes: roff(7),
 /// "Escape sequences". One that has no end takes the rest of the text. What it lends of

@@ -4,7 +4,7 @@ ghost use Rattle.page_core_escapes.specs.Forms.{character_len};
 ghost use Rattle.page_core_escapes.specs.Lengths.{quoted_len, content_len};
 ghost use Rattle.page_core_escapes.specs.Steps.{first_character, opening_of, step_of, StepFits};
 
-use crate::LINE;
+use page_core_limits::LINE;
 use crate::form::{Form, character_len, read_form};
 use arrayvec::ArrayVec;
 

@@ -10,7 +10,7 @@ use Rattle.std.proofs.lemmas.List.Sums.{sum_by-append}
 use Rattle.std.proofs.lemmas.List.Folds.{sum_by-replicate}
 use Rattle.std.proofs.lemmas.Str.{chars_past_char, IsCharBoundary-past_char}
 use Rattle.unicode_width.specs.Width.{char_width}
-use Rattle.page_core.specs.declared.page_settings.Output.{Output}
+use Rattle.page_core_base.specs.declared.page_settings.Output.{Output}
 use Rattle.page_core_escapes.specs.Escapes.{escape_of}
 use Rattle.page_core_tables.specs.Glyphs.{Symbol, Entry, table, entry_named, glyph_of, first_spelling, spelling_of}
 use Rattle.page_core_numbers.specs.Columns.{character_columns, characters_columns, spelled, printed_character, printed_symbol, printed_escape, printed_front, front_len, printed_within, columns_of}

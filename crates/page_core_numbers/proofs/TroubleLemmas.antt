@@ -2,7 +2,7 @@
 use Rattle.std.proofs.Common.{◌≡◌, ℕ, suc, ◌+◌, ◌-◌, ◌<◌, ◌≤◌, Bool, true, false, List, [], ◌∷◌, ◌++◌, Result, Ok, Err, replicate, refl, sym, ap, ◌∙◌, arith, append_assoc, append-nil}
 use Rattle.std.specs.Prelude.{if◌then◌else◌}
 use Rattle.std.proofs.lemmas.List.{replicate_more, replicate-append-replicate, map-append}
-use Rattle.page_core.specs.Sinks.{IsSink, UpTo, Gives}
+use Rattle.page_core_base.specs.Sinks.{IsSink, UpTo, Gives}
 use Rattle.page_core_numbers.specs.declared.troubles.Trouble.{Trouble}
 use Rattle.page_core_numbers.specs.declared.troubles.Trouble.TheVariants.{DivZero}
 use Rattle.page_core_numbers.specs.Expressions.{message_at, messages_at}

@@ -2,8 +2,8 @@
 use Rattle.std.specs.Prelude.{◌≡◌, ℕ, zero, suc, ◌/◌, Bool, true, false, ◌==◌, nat_lt, min, List, [], ◌∷◌, ◌++◌, length, drop, replicate, sum_by, codes, encode_utf8, if◌then◌else◌, Option, Some, None, unwrap_or, ℤ, pos, negsuc}
 use Rattle.std.specs.Str.{chars}
 use Rattle.unicode_width.specs.Width.{char_width}
-use Rattle.page_core.specs.declared.page_settings.Output.{Output}
-use Rattle.page_core.specs.declared.page_settings.Output.TheVariants.{Ascii, Utf8, Lint}
+use Rattle.page_core_base.specs.declared.page_settings.Output.{Output}
+use Rattle.page_core_base.specs.declared.page_settings.Output.TheVariants.{Ascii, Utf8, Lint}
 use Rattle.page_core_escapes.specs.Meanings as escapes
 use Rattle.page_core_escapes.specs.Meanings.{Meaning}
 use Rattle.page_core_escapes.specs.Escapes.{escape_of}

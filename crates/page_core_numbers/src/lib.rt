@@ -3,11 +3,12 @@
 #![tactic(auto)]
 
 ghost use Rattle.std.specs.Prelude.{◌≡◌, ◌+◌, length, IfOk, MatchResult};
-ghost use Rattle.page_core.specs.Fails.{Rose};
+ghost use Rattle.page_core_base.specs.Fails.{Rose};
 ghost use Rattle.page_core_numbers.specs.Expressions.{expression_of, messages_at};
 
 use expressions::read_expression;
-use page_core::{Fault, NoteSink};
+use page_core_base::{Fault, NoteSink};
+use page_core_limits::PARENS;
 use troubles::report;
 
 mod decimals;
@@ -19,9 +20,6 @@ mod troubles;
 
 pub use scales::Scale;
 pub use text_columns::columns;
-
-/// The parentheses that may be open in an expression at most.
-pub const PARENS: u32 = 16;
 
 /// The expression at the front of a text, and how many bytes it takes: roff(7), "Numerical expressions". Its value is in basic units,
 /// held to the range of 32 bits after each operation, and operations are done from left to right. `unit` is the unit of a number

@@ -7,10 +7,10 @@ ghost use Rattle.page_core_escapes.specs.Escapes.{meaning_seen};
 ghost use Rattle.page_core_tables.specs.Glyphs.{glyph_of};
 ghost use Rattle.page_core_numbers.specs.Columns.{BeginsWith, prints_ascii, character_columns, characters_columns, spelled, printed_character, printed_symbol, printed_escape, printed_front, front_len, blanks_in, columns_of};
 
-use crate::PARENS;
 use crate::expressions::read_expression;
 use crate::scales::Scale;
-use page_core::{LINE, Output};
+use page_core_base::Output;
+use page_core_limits::{LINE, PARENS};
 use page_core_escapes::{Escape, escape};
 use page_core_tables::{glyph, spelling};
 use unicode_width::UnicodeWidthChar;

@@ -2,14 +2,14 @@
 //! to a sink of messages.
 
 ghost use Rattle.std.specs.Prelude.{◌≡◌, ◌≤◌, ◌<◌, ◌+◌, ◌^◌, [], ◌∷◌, ◌++◌, replicate, is_some, if◌then◌else◌};
-ghost use Rattle.page_core.specs.Fails.{FailsAs};
-ghost use Rattle.page_core.specs.Sinks.{Gives};
-ghost use Rattle.page_core.specs.MessageBytes.{message_of};
+ghost use Rattle.page_core_base.specs.Fails.{FailsAs};
+ghost use Rattle.page_core_base.specs.Sinks.{Gives};
+ghost use Rattle.page_core_base.specs.Messages.{message_of};
 ghost use Rattle.page_core_numbers.specs.Expressions.{message_at, messages_at};
 ghost use Rattle.page_core_numbers.specs.Readings.{troubles_seen, stop_seen, count_of};
 
 use arrayvec::ArrayString;
-use page_core::{Fault, Note, NoteKind, NoteSink};
+use page_core_base::{Fault, Note, NoteKind, NoteSink};
 
 /// What may be wrong in an expression.
 #[derive(Clone, Copy, Debug, PartialEq, Eq)]

@@ -2,14 +2,14 @@
 use Rattle.std.proofs.Common.{◌≡◌, ℕ, ◌+◌, ◌<◌, ◌≤◌, List, [], ◌∷◌, ◌++◌, length, take, refl, sym, ap, subst, ◌∙◌, append_assoc, append-nil, arith, length-append, Option, Some, None, Result, Ok, Err}
 use Rattle.std.specs.Io.KnownBytes.{Consumes, Keeps, IsAtEnd}
 use Rattle.std.proofs.Math.Seq.{take-length}
-use Rattle.page_core.specs.Messages.{Message}
-use Rattle.page_core.specs.Rows.{LaidRow}
-use Rattle.page_core.specs.Sinks.{IsSink}
-use Rattle.page_core.specs.Laid.{Laid, Gave, nothing, join, join_assoc}
-use Rattle.page_core.specs.declared.faults.Fault.{Fault}
-use Rattle.page_core.specs.declared.faults.Fault.TheVariants.{Memory, Read, WriteText, WriteNotes, TooLong, Settings, Failed, Ended, BadIndex}
-use Rattle.page_core.specs.declared.note_kinds.Level.{Level}
-use Rattle.page_core.proofs.SinkLemmas.{within-join}
+use Rattle.page_core_base.specs.Messages.{Message}
+use Rattle.page_core_base.specs.Rows.{LaidRow}
+use Rattle.page_core_base.specs.Sinks.{IsSink}
+use Rattle.page_core_base.specs.Laid.{Laid, Gave, nothing, join, join_assoc}
+use Rattle.page_core_base.specs.declared.faults.Fault.{Fault}
+use Rattle.page_core_base.specs.declared.faults.Fault.TheVariants.{Memory, Read, WriteText, WriteNotes, TooLong, Settings, Failed, Ended, BadIndex}
+use Rattle.page_core_base.specs.declared.note_kinds.Level.{Level}
+use Rattle.page_core_base.proofs.SinkLemmas.{within-join}
 use Rattle.page_roff_lines.specs.Decoding.{Line}
 use Rattle.page_roff_lines.specs.Cutting.{Place, place_of, lines_within, last_line, lines_from}
 use Rattle.page_roff_lines.proofs.PlaceLemmas.{place_of-append, lines_within-append}

@@ -1,12 +1,12 @@
 -- A line that was cut, and then what it says.
 use Rattle.std.proofs.Common.{◌≡◌, ℕ, List, [], ◌∷◌, ◌++◌, Option, Some, None, Result, Ok, Err, MatchResult, OnOk, refl, sym, ◌∙◌, ap}
-use Rattle.page_core.specs.Messages.{Message}
-use Rattle.page_core.specs.Rows.{LaidRow}
-use Rattle.page_core.specs.Sinks.{IsSink}
-use Rattle.page_core.specs.declared.faults.Fault.{Fault}
-use Rattle.page_core.specs.declared.note_kinds.Level.{Level}
-use Rattle.page_core.specs.Laid.{Laid, Gave, Gets, join}
-use Rattle.page_core.specs.Fails.{FailsBySink}
+use Rattle.page_core_base.specs.Messages.{Message}
+use Rattle.page_core_base.specs.Rows.{LaidRow}
+use Rattle.page_core_base.specs.Sinks.{IsSink}
+use Rattle.page_core_base.specs.declared.faults.Fault.{Fault}
+use Rattle.page_core_base.specs.declared.note_kinds.Level.{Level}
+use Rattle.page_core_base.specs.Laid.{Laid, Gave, Gets, join}
+use Rattle.page_core_base.specs.Fails.{FailsBySink}
 use Rattle.page_fill.specs.declared.words.Edge.{Edge as FillEdge}
 use Rattle.page_prose.specs.declared.prose.Prose.{Prose}
 use Rattle.page_engine.specs.Levels.{given, worst_of}

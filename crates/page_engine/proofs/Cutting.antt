@@ -2,11 +2,11 @@
 use Rattle.std.proofs.Common.{◌≡◌, ℕ, zero, suc, ◌+◌, ◌-◌, ◌<◌, ◌≤◌, ◌^◌, Bool, true, false, List, [], ◌∷◌, ◌++◌, length, take, drop, refl, sym, ap, subst, ◌∙◌, append_assoc, append-nil, arith, length-append}
 use Rattle.std.specs.Prelude.{if◌then◌else◌}
 use Rattle.std.proofs.lemmas.List.{take-append-drop}
-use Rattle.page_core.specs.Messages.{Message}
-use Rattle.page_core.specs.Rows.{LaidRow}
-use Rattle.page_core.specs.Sinks.{IsSink}
-use Rattle.page_core.specs.Laid.{Laid, Gave, nothing, join, join_assoc, LaidUpTo}
-use Rattle.page_core.proofs.SinkLemmas.{within-join, Laid-more, Laid-within, Laid-all}
+use Rattle.page_core_base.specs.Messages.{Message}
+use Rattle.page_core_base.specs.Rows.{LaidRow}
+use Rattle.page_core_base.specs.Sinks.{IsSink}
+use Rattle.page_core_base.specs.Laid.{Laid, Gave, nothing, join, join_assoc, LaidUpTo}
+use Rattle.page_core_base.proofs.SinkLemmas.{within-join, Laid-more, Laid-within, Laid-all}
 use Rattle.page_roff_lines.specs.Decoding.{Line}
 use Rattle.page_roff_lines.specs.Cutting.{Place, place_of, lines_within, line_of, line_at, place_after, place_at}
 use Rattle.page_roff_lines.specs.Open.{open_after, left}
@@ -15,7 +15,7 @@ use Rattle.page_roff_lines.proofs.PlaceLemmas.{place_of-append, lines_within-app
 use Rattle.page_engine.specs.Page.{Edge, IsAt, laid, laid_line}
 use Rattle.page_prose.specs.declared.prose.Prose.{Prose}
 use Rattle.page_fill.specs.declared.words.Edge.{Edge as FillEdge}
-use Rattle.page_core.specs.declared.note_kinds.Level.{Level}
+use Rattle.page_core_base.specs.declared.note_kinds.Level.{Level}
 use Rattle.std.specs.Prelude.{Option}
 
 pub laid_none : (e : Edge) → laid e [] ≡ nothing e

@@ -1,15 +1,15 @@
 -- One item through a filler.
 use Rattle.std.proofs.Common.{◌≡◌, ℕ, List, [], ◌∷◌, Option, Some, None, Result, Ok, Err, MatchResult, OnOk, refl, ap, append-nil, ◌∙◌}
-use Rattle.page_core.specs.Sinks.{IsSink}
-use Rattle.page_core.specs.Messages.{Message}
-use Rattle.page_core.specs.Rows.{LaidRow}
-use Rattle.page_core.specs.declared.faults.Fault.{Fault}
-use Rattle.page_core.specs.declared.pieces.Piece.{Piece}
-use Rattle.page_core.specs.Laid.{Laid, Gets, join}
-use Rattle.page_core.specs.Fails.{FailsBySink}
+use Rattle.page_core_base.specs.Sinks.{IsSink}
+use Rattle.page_core_base.specs.Messages.{Message}
+use Rattle.page_core_base.specs.Rows.{LaidRow}
+use Rattle.page_core_base.specs.declared.faults.Fault.{Fault}
+use Rattle.page_core_base.specs.declared.pieces.Piece.{Piece}
+use Rattle.page_core_base.specs.Laid.{Laid, Gets, join}
+use Rattle.page_core_base.specs.Fails.{FailsBySink}
 use Rattle.page_fill.specs.declared.words.Edge.{Edge as FillEdge}
 use Rattle.page_fill.specs.Fill as fill
-use Rattle.page_core.specs.Pieces.{Item, shown}
+use Rattle.page_core_base.specs.Pieces.{Item, shown}
 use Rattle.page_engine.specs.Items.{laid_item, laid_items}
 use Rattle.page_engine.specs.Below.{Passed, Broken, Ends, cause_later}
 

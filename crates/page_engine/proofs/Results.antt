@@ -1,9 +1,9 @@
 -- The faults of sinks.
 use Rattle.std.proofs.Common.{ℕ, Result, Ok, Err}
 use Rattle.std.specs.Prelude.{IfErr}
-use Rattle.page_core.specs.declared.faults.Fault.{Fault}
-use Rattle.page_core.specs.declared.faults.Fault.TheVariants.{Memory, Read, WriteText, WriteNotes, TooLong, Settings, Failed, Ended, BadIndex}
-use Rattle.page_core.specs.Fails.{FailsBySink}
+use Rattle.page_core_base.specs.declared.faults.Fault.{Fault}
+use Rattle.page_core_base.specs.declared.faults.Fault.TheVariants.{Memory, Read, WriteText, WriteNotes, TooLong, Settings, Failed, Ended, BadIndex}
+use Rattle.page_core_base.specs.Fails.{FailsBySink}
 use Rattle.page_engine.specs.Runs.{IsWrite}
 
 -- a call that fails by its sinks alone answers one of their faults

@@ -1,15 +1,15 @@
 -- Whole runs.
 use Rattle.std.proofs.Common.{◌≡◌, ℕ, List, [], length, Option, Result, Ok, Err, MatchResult, refl, sym, ap, ◌∙◌}
 use Rattle.std.specs.Io.KnownBytes.{IsAtEnd}
-use Rattle.page_core.specs.Messages.{Message}
-use Rattle.page_core.specs.Rows.{LaidRow}
-use Rattle.page_core.specs.Sinks.{IsSink}
-use Rattle.page_core.specs.Laid.{Laid, Gave, nothing}
-use Rattle.page_core.specs.Checks.{IsGood}
-use Rattle.page_core.specs.declared.faults.Fault.{Fault}
-use Rattle.page_core.specs.declared.faults.Fault.TheVariants.{Memory, Read, WriteText, WriteNotes, TooLong, Settings, Failed, Ended, BadIndex}
-use Rattle.page_core.specs.declared.page_settings.Settings.{Settings as PageSettings}
-use Rattle.page_core.specs.declared.note_kinds.Level.{Level}
+use Rattle.page_core_base.specs.Messages.{Message}
+use Rattle.page_core_base.specs.Rows.{LaidRow}
+use Rattle.page_core_base.specs.Sinks.{IsSink}
+use Rattle.page_core_base.specs.Laid.{Laid, Gave, nothing}
+use Rattle.page_core_base.specs.Checks.{IsGood}
+use Rattle.page_core_base.specs.declared.faults.Fault.{Fault}
+use Rattle.page_core_base.specs.declared.faults.Fault.TheVariants.{Memory, Read, WriteText, WriteNotes, TooLong, Settings, Failed, Ended, BadIndex}
+use Rattle.page_core_base.specs.declared.page_settings.Settings.{Settings as PageSettings}
+use Rattle.page_core_base.specs.declared.note_kinds.Level.{Level}
 use Rattle.page_roff_lines.specs.Decoding.{lines}
 use Rattle.page_roff_lines.specs.Cutting.{Place, first_place, lines_from, lines_within}
 use Rattle.page_roff_lines.proofs.LineAgreement.{lines-one_by_one}

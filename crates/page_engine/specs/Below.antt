@@ -1,13 +1,13 @@
 -- A filler between pieces and a pair of sinks is a sink of pieces.
 use Rattle.std.specs.Prelude.{◌≡◌, ℕ, List, [], ◌∷◌, ◌++◌, Option, Some, None, Result, MatchResult, refl}
 use Rattle.std.proofs.Common.{◌∙◌, ap, sym}
-use Rattle.page_core.specs.Messages.{Message}
-use Rattle.page_core.specs.Rows.{LaidRow}
-use Rattle.page_core.specs.declared.faults.Fault.{Fault}
-use Rattle.page_core.specs.Sinks.{IsSink}
-use Rattle.page_core.specs.Fails.{IsSinkFault, Rose}
-use Rattle.page_core.specs.Laid.{Laid, Gave, join, join_assoc}
-use Rattle.page_core.specs.Pieces.{Item}
+use Rattle.page_core_base.specs.Messages.{Message}
+use Rattle.page_core_base.specs.Rows.{LaidRow}
+use Rattle.page_core_base.specs.declared.faults.Fault.{Fault}
+use Rattle.page_core_base.specs.Sinks.{IsSink}
+use Rattle.page_core_base.specs.Fails.{IsSinkFault, Rose}
+use Rattle.page_core_base.specs.Laid.{Laid, Gave, join, join_assoc}
+use Rattle.page_core_base.specs.Pieces.{Item}
 use Rattle.page_fill.specs.declared.words.Edge.{Edge as FillEdge}
 use Rattle.page_fill.specs.Fill as fill
 use Rattle.page_engine.specs.Items.{laid_item, laid_items, laid_items-append}

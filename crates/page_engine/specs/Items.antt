@@ -1,8 +1,8 @@
 -- What is filled of pieces and the messages between them.
 use Rattle.std.specs.Prelude.{◌≡◌, List, [], ◌∷◌, ◌++◌, refl}
 use Rattle.std.proofs.Common.{◌∙◌, ap, sym}
-use Rattle.page_core.specs.Laid.{Laid, nothing, join, seq, join_assoc}
-use Rattle.page_core.specs.Pieces.{Item, shown, noted}
+use Rattle.page_core_base.specs.Laid.{Laid, nothing, join, seq, join_assoc}
+use Rattle.page_core_base.specs.Pieces.{Item, shown, noted}
 use Rattle.page_fill.specs.declared.words.Edge.{Edge as FillEdge}
 use Rattle.page_fill.specs.Fill as fill
 

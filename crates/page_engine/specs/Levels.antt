@@ -2,9 +2,9 @@
 use Rattle.std.specs.Prelude.{◌≡◌, ℕ, Bool, not, false, List, [], ◌∷◌, ◌++◌, refl, filter, Option, None, Some, if◌then◌else◌}
 use Rattle.std.proofs.Common.{◌∙◌}
 use Rattle.std.proofs.lemmas.List.Elements.{filter-append}
-use Rattle.page_core.specs.declared.note_kinds.Level.{Level}
-use Rattle.page_core.specs.Messages.{Message, level_of, is_below}
-use Rattle.page_core.specs.Sinks.{IsSink}
+use Rattle.page_core_base.specs.declared.note_kinds.Level.{Level}
+use Rattle.page_core_base.specs.Messages.{Message, level_of, is_below}
+use Rattle.page_core_base.specs.Sinks.{IsSink}
 
 -- whether messages of a level are given: those at or above the least, and none where there is no least
 abbrev pub is_given_level : Option Level → Level → Bool

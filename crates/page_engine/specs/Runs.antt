@@ -1,16 +1,16 @@
 -- What a run over the bytes of a page did. Source: mandoc(1).
 use Rattle.std.specs.Prelude.{◌≡◌, ◌≤◌, ℕ, List, Option, Result, MatchResult, ⊤, [], length, take}
 use Rattle.std.specs.Io.KnownBytes.{Consumes, IsAtEnd, Keeps}
-use Rattle.page_core.specs.Messages.{Message}
-use Rattle.page_core.specs.Rows.{LaidRow}
-use Rattle.page_core.specs.declared.faults.Fault.{Fault}
-use Rattle.page_core.specs.declared.faults.Fault.TheVariants.{Memory, Read, WriteText, WriteNotes, TooLong, Settings, Failed, Ended, BadIndex}
-use Rattle.page_core.specs.declared.page_settings.Settings.{Settings as PageSettings}
-use Rattle.page_core.specs.Laid.{Laid, Gave, nothing}
+use Rattle.page_core_base.specs.Messages.{Message}
+use Rattle.page_core_base.specs.Rows.{LaidRow}
+use Rattle.page_core_base.specs.declared.faults.Fault.{Fault}
+use Rattle.page_core_base.specs.declared.faults.Fault.TheVariants.{Memory, Read, WriteText, WriteNotes, TooLong, Settings, Failed, Ended, BadIndex}
+use Rattle.page_core_base.specs.declared.page_settings.Settings.{Settings as PageSettings}
+use Rattle.page_core_base.specs.Laid.{Laid, Gave, nothing}
 use Rattle.page_roff_lines.specs.Decoding.{lines}
 use Rattle.page_roff_lines.specs.Cutting.{Place, first_place, lines_within, lines_from}
-use Rattle.page_core.specs.Checks.{IsGood, IsFirst}
-use Rattle.page_core.specs.declared.note_kinds.Level.{Level}
+use Rattle.page_core_base.specs.Checks.{IsGood, IsFirst}
+use Rattle.page_core_base.specs.declared.note_kinds.Level.{Level}
 use Rattle.page_engine.specs.declared.runs.Outcome.{Outcome}
 use Rattle.page_engine.specs.declared.runs.Reading.{Reading}
 use Rattle.page_engine.specs.declared.runs.Reading.TheVariants.{End, Bytes, Failure}

@@ -1,10 +1,10 @@
 -- Rows that are shown or not. Source: mandoc(1), -T lint.
 use Rattle.std.specs.Prelude.{◌≡◌, Bool, List, [], ◌++◌, refl, if◌then◌else◌}
 use Rattle.std.proofs.Common.{◌∙◌, true, false, subst, inl, inr}
-use Rattle.page_core.specs.Rows.{LaidRow}
-use Rattle.page_core.specs.Sinks.{IsSink}
-use Rattle.page_core.specs.declared.page_settings.Output.{Output}
-use Rattle.page_core.specs.declared.page_settings.Output.TheVariants.{Ascii, Utf8, Lint}
+use Rattle.page_core_base.specs.Rows.{LaidRow}
+use Rattle.page_core_base.specs.Sinks.{IsSink}
+use Rattle.page_core_base.specs.declared.page_settings.Output.{Output}
+use Rattle.page_core_base.specs.declared.page_settings.Output.TheVariants.{Ascii, Utf8, Lint}
 
 -- lint gives no row
 abbrev pub is_silent : Output → Bool

@@ -1,10 +1,11 @@
 -- What a run writes: the bytes of rows, unless they are not shown, and of messages. Source: mandoc(1), "ASCII Output" and "DIAGNOSTICS".
 use Rattle.std.specs.Prelude.{ℕ, Bool, List, Option}
 use Rattle.std.specs.List.{flat_map}
-use Rattle.page_core.specs.Grows.{Grows, GrowsInto}
-use Rattle.page_core.specs.Messages.{Message}
-use Rattle.page_core.specs.Rows.{LaidRow, row_bytes}
-use Rattle.page_core.specs.MessageBytes.{message_bytes}
+use Rattle.page_core_writers.specs.Grows.{Grows, GrowsInto}
+use Rattle.page_core_base.specs.Messages.{Message}
+use Rattle.page_core_base.specs.Rows.{LaidRow}
+use Rattle.page_core_writers.specs.RowBytes.{row_bytes}
+use Rattle.page_core_writers.specs.MessageBytes.{message_bytes}
 use Rattle.page_engine.specs.Shown.{shown_rows}
 
 -- a writer whose bytes are known got those of these rows; of a front of them

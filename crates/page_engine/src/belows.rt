@@ -6,7 +6,7 @@ ghost use Rattle.page_engine.specs.Levels.{filter-sink};
 ghost use Rattle.page_engine.specs.Below.{BelowGave, BelowBroke, below-sink};
 
 use crate::filters::Filter;
-use page_core::{Fault, Note, NoteSink, Piece, PieceSink, RowSink};
+use page_core_base::{Fault, Note, NoteSink, Piece, PieceSink, RowSink};
 use page_fill::Filler;
 
 /// Fills pieces, and passes rows and messages on.

@@ -5,7 +5,7 @@ ghost use Rattle.std.specs.Borrow.{GName};
 ghost use Rattle.page_engine.specs.Levels.{is_given_level, worse, FilterGave, FilterWithin, filter-sink, filter-whole};
 ghost use Rattle.page_engine.specs.Shown.{is_silent, ShownGave, ShownWithin, shown-sink, shown-whole};
 
-use page_core::{Cell, Fault, Level, Note, NoteSink, Output, RowSink};
+use page_core_base::{Cell, Fault, Level, Note, NoteSink, Output, RowSink};
 
 /// Passes on the messages at or above a level, and keeps the worst level of these (mandoc(1), -W).
 #[derive(Drop)]

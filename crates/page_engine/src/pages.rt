@@ -1,16 +1,17 @@
 //! A page: lines become rows and messages.
 
 ghost use Rattle.std.specs.Prelude.{◌≡◌, ◌≤◌, ℕ, OnOk, IfOk, IfErr, length, Some, None};
-ghost use Rattle.page_core.specs.Fails.{FailsBySink};
-ghost use Rattle.page_core.specs.Laid.{Gets};
-ghost use Rattle.page_core.specs.MessageBytes.{message_of};
+ghost use Rattle.page_core_base.specs.Fails.{FailsBySink};
+ghost use Rattle.page_core_base.specs.Laid.{Gets};
+ghost use Rattle.page_core_base.specs.Messages.{message_of};
 ghost use Rattle.page_fill.specs.declared.words.Edge.{Edge as FillEdge};
 ghost use Rattle.page_engine.specs.Page.{Edge, IsAt, laid_text, ended, end_laid, start};
 ghost use Rattle.page_engine.specs.Below.{Ends};
 
 use crate::belows::Below;
 use crate::filters::Filter;
-use page_core::{Fault, LINE, Level, NoteSink, RowSink, Settings};
+use page_core_base::{Fault, Level, NoteSink, RowSink, Settings};
+use page_core_limits::LINE;
 use page_fill::Filler;
 use page_prose::Prose;
 use std::alloc::Global;

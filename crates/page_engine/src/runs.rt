@@ -2,9 +2,9 @@
 
 ghost use Rattle.std.specs.Prelude.{◌≡◌, ◌<◌, ◌≤◌, ◌+◌, ◌-◌, ◌^◌, ℕ, List, [], ◌∷◌, ◌++◌, false, true, length, OnOk, OnErr, IfOk, IfErr, MatchResult, take};
 ghost use Rattle.std.specs.Io.KnownBytes.{Consumes};
-ghost use Rattle.page_core.specs.Fails.{FailsBySink};
-ghost use Rattle.page_core.specs.Laid.{Gets, Gave};
-ghost use Rattle.page_core.specs.Checks.{IsGood};
+ghost use Rattle.page_core_base.specs.Fails.{FailsBySink};
+ghost use Rattle.page_core_base.specs.Laid.{Gets, Gave};
+ghost use Rattle.page_core_base.specs.Checks.{IsGood};
 ghost use Rattle.page_roff_lines.specs.Cutting.{lines_within, place_of, line_of, last_line};
 ghost use Rattle.page_engine.specs.Page.{Edge, IsAt, laid, laid_line, page as pages};
 ghost use Rattle.page_engine.specs.Shown.{is_silent};
@@ -13,7 +13,8 @@ ghost use Rattle.page_engine.specs.Runs.{Runs, RunsFrom, IsWrite, HasRead};
 
 use crate::filters::{Filter, Shown, is_silent};
 use crate::pages::Page;
-use page_core::{Fault, Level, NoteSink, RowSink, Settings, TextNotes, TextRows};
+use page_core_base::{Fault, Level, NoteSink, RowSink, Settings};
+use page_core_writers::{TextNotes, TextRows};
 use page_roff_lines::Cutter;
 use std::alloc::Global;
 use std::io::{ErrorKind, Read, Write};

@@ -1,7 +1,7 @@
 //! Worked pages from their bytes to rows and messages, however the bytes come and go; and runs whose reader, writer or settings fail.
 
 use crate::{Counts, Outcome, run_page};
-use page_core::{Fault, Level, Output, SettingFault, Settings};
+use page_core_base::{Fault, Level, Output, SettingFault, Settings};
 use std::alloc::{AllocError, Global};
 use std::io::{self, ErrorKind, Read, Write};
 use std::process::Abort;

@@ -1,7 +1,7 @@
 //! Worked pages of text: escapes, fonts, glyphs, sentences, tabs, and rows that are kept as they are.
 
 use crate::tests::{all_messages, framed, gives, outcome};
-use page_core::{Level, Output, Settings};
+use page_core_base::{Level, Output, Settings};
 use std::alloc::{AllocError, Global};
 use std::process::Abort;
 use std::test::Fail;

@@ -6,10 +6,10 @@ use Rattle.std.proofs.lemmas.Bool.Decides.{nat_tests}
 use Rattle.std.specs.Char.{len_utf8}
 use Rattle.std.specs.Str.{is_utf8}
 use Rattle.std.proofs.lemmas.Str.{chars-nil, chars_past_char, encodes-chars, length-encode, is_utf8-from_IsUtf8, IsUtf8-from_is_utf8}
-use Rattle.page_core.specs.declared.cells.Font.{Font}
-use Rattle.page_core.specs.declared.pieces.Place.{Place}
-use Rattle.page_core.specs.declared.page_settings.Output.{Output}
-use Rattle.page_core.specs.Laid.{join, nothing}
+use Rattle.page_core_base.specs.declared.cells.Font.{Font}
+use Rattle.page_core_base.specs.declared.places.Place.{Place}
+use Rattle.page_core_base.specs.declared.page_settings.Output.{Output}
+use Rattle.page_core_base.specs.Laid.{join, nothing}
 use Rattle.page_fill.specs.Sheets.{Sheet, letter, letters}
 use Rattle.page_fill.specs.Characters.{cell_of, cells_of, character, characters, characters_of, front_of}
 

@@ -1,7 +1,7 @@
 -- A list of pieces may be cut anywhere.
 use Rattle.std.proofs.Common.{◌≡◌, ℕ, List, [], ◌∷◌, ◌++◌, refl, sym, ap, ◌∙◌}
-use Rattle.page_core.specs.declared.pieces.Piece.{Piece}
-use Rattle.page_core.specs.Laid.{Laid, join, join_assoc}
+use Rattle.page_core_base.specs.declared.pieces.Piece.{Piece}
+use Rattle.page_core_base.specs.Laid.{Laid, join, join_assoc}
 use Rattle.page_fill.specs.Fill.{Edge, laid_piece, laid, filled, ended}
 
 pub laid-append : (e : Edge) (front rest : List (Piece (List ℕ))) → laid e (front ++ rest) ≡ join (laid e front) (laid (laid e front).edge rest)

@@ -1,11 +1,11 @@
 -- Small rows, computed.
 use Rattle.std.proofs.Common.{◌≡◌, ℕ, false, List, [], ◌∷◌, None, refl}
 use Rattle.unicode_width.specs.Width.{char_width}
-use Rattle.page_core.specs.declared.cells.Font.TheVariants.{R}
-use Rattle.page_core.specs.declared.page_settings.Output.TheVariants.{Ascii}
-use Rattle.page_core.specs.declared.pieces.Piece.{Piece}
-use Rattle.page_core.specs.declared.pieces.Piece.TheVariants.{Char, Blank, Glue, Para}
-use Rattle.page_core.specs.Rows.{row_of}
+use Rattle.page_core_base.specs.declared.cells.Font.TheVariants.{R}
+use Rattle.page_core_base.specs.declared.page_settings.Output.TheVariants.{Ascii}
+use Rattle.page_core_base.specs.declared.pieces.Piece.{Piece}
+use Rattle.page_core_base.specs.declared.pieces.Piece.TheVariants.{Char, Blank, Glue, Para}
+use Rattle.page_core_base.specs.Rows.{row_of}
 use Rattle.page_fill.specs.Sheets.{letter, letters, space, spaces, broken, empty_rows, fresh}
 use Rattle.page_fill.specs.Characters.{character, cells_of}
 use Rattle.page_fill.specs.Fill.{Edge, filled, laid, laid_piece, ended, paragraph, opening, one_character, no_word}

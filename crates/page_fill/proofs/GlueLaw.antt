@@ -2,11 +2,11 @@
 use Rattle.std.proofs.Common.{◌≡◌, ℕ, ◌<◌, ◌==◌, Bool, true, false, List, [], ◌∷◌, ◌++◌, length, IsUtf8, chars, refl, sym, ap, ◌∙◌, arith, append-nil}
 use Rattle.std.proofs.lemmas.Bool.Decides.{nat_tests}
 use Rattle.std.proofs.lemmas.Str.{chars-append, IsUtf8-append}
-use Rattle.page_core.specs.declared.cells.Font.{Font}
-use Rattle.page_core.specs.declared.page_settings.Output.{Output}
-use Rattle.page_core.specs.declared.pieces.Piece.TheVariants.{Text, Blank, Glue}
-use Rattle.page_core.specs.declared.pieces.Place.{Place}
-use Rattle.page_core.specs.Laid.{Laid, nothing, join, seq, join_assoc}
+use Rattle.page_core_base.specs.declared.cells.Font.{Font}
+use Rattle.page_core_base.specs.declared.page_settings.Output.{Output}
+use Rattle.page_core_base.specs.declared.pieces.Piece.TheVariants.{Text, Blank, Glue}
+use Rattle.page_core_base.specs.declared.places.Place.{Place}
+use Rattle.page_core_base.specs.Laid.{Laid, nothing, join, seq, join_assoc}
 use Rattle.page_fill.specs.Sheets.{Sheet, over, new_word}
 use Rattle.page_fill.specs.Characters.{characters, character, with_notes}
 use Rattle.page_fill.specs.Fill.{Edge, laid, laid_piece, text, opening, on_sheet, begun_word, tells_tab, tab_notes, stands, blanks_wait, glued_word}

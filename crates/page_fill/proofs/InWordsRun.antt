@@ -1,11 +1,11 @@
 -- Rows cut at the first offending cell, one after another, are the rows that come mark by mark.
 use Rattle.std.proofs.Common.{◌≡◌, ℕ, zero, suc, ◌<◌, ◌==◌, true, false, List, [], ◌∷◌, ◌++◌, length, inl, inr, refl, sym, ap, ◌∙◌, arith, append_assoc, append-nil}
 use Rattle.std.proofs.lemmas.Bool.{cases_Bool}
-use Rattle.page_core.specs.declared.cells.Cell.{Cell}
-use Rattle.page_core.specs.declared.pieces.Place.{Place}
-use Rattle.page_core.specs.Messages.{Message}
-use Rattle.page_core.specs.Laid.{Laid, nothing, join, seq, join_assoc}
-use Rattle.page_fill.specs.declared.TheConstants.{CELLS}
+use Rattle.page_core_base.specs.declared.cells.Cell.{Cell}
+use Rattle.page_core_base.specs.declared.places.Place.{Place}
+use Rattle.page_core_base.specs.Messages.{Message}
+use Rattle.page_core_base.specs.Laid.{Laid, nothing, join, seq, join_assoc}
+use Rattle.page_core_limits.specs.declared.TheConstants.{CELLS}
 use Rattle.page_fill.specs.Sheets.{Sheet, blank, passes, letter, space, opens}
 use Rattle.page_fill.specs.Characters.{with_notes}
 use Rattle.page_fill.specs.InWords.{Mark, told, opened, spaced, lettered, told_by, offends, taken, ended_at, Found, none, here, after_messages, first_offending, rows_in_words}

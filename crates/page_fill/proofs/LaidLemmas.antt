@@ -1,10 +1,10 @@
 -- How a row and a message follow one another.
 use Rattle.std.proofs.Common.{◌≡◌, List, [], Result, Ok, Err, ap}
-use Rattle.page_core.specs.Messages.{Message}
-use Rattle.page_core.specs.Rows.{LaidRow}
-use Rattle.page_core.specs.Sinks.{IsSink, Gives}
-use Rattle.page_core.specs.Laid.{Laid, Lays, Gave}
-use Rattle.page_core.proofs.SinkLemmas.{within-none}
+use Rattle.page_core_base.specs.Messages.{Message}
+use Rattle.page_core_base.specs.Rows.{LaidRow}
+use Rattle.page_core_base.specs.Sinks.{IsSink, Gives}
+use Rattle.page_core_base.specs.Laid.{Laid, Lays, Gave}
+use Rattle.page_core_base.proofs.SinkLemmas.{within-none}
 use Rattle.page_fill.specs.Sheets.{over}
 use Rattle.page_fill.specs.Characters.{with_notes}
 

@@ -4,18 +4,19 @@ use Rattle.std.proofs.lemmas.Bool.Decides.{nat_tests}
 use Rattle.std.proofs.lemmas.List.{length-map, length-take-le, get_or-append_right, get_or-drop, take_more, drop_more, set_at}
 use Rattle.std.proofs.lemmas.List.Sums.{sum_by-append}
 use Rattle.unicode_width.specs.Width.{char_width}
-use Rattle.page_core.specs.declared.cells.Cell.{Cell}
-use Rattle.page_core.specs.declared.cells.Font.{Font}
-use Rattle.page_core.specs.declared.pieces.Place.{Place}
-use Rattle.page_core.specs.Laid.{join, nothing}
+use Rattle.page_core_base.specs.declared.cells.Cell.{Cell}
+use Rattle.page_core_base.specs.declared.cells.Font.{Font}
+use Rattle.page_core_base.specs.declared.places.Place.{Place}
+use Rattle.page_core_base.specs.Laid.{join, nothing}
 use Rattle.page_fill.specs.Sheets.{Sheet, cell_columns, columns, counted, passes, blank, opens, letter, letters, space, spaces}
-use Rattle.page_fill.specs.declared.TheConstants.{CELLS, TAG_COLUMNS}
+use Rattle.page_core_limits.specs.declared.TheConstants.{CELLS}
+use Rattle.page_fill.specs.declared.TheConstants.{TAG_COLUMNS}
 use Rattle.page_fill.specs.Sheets.{over}
 use Rattle.page_fill.specs.Characters.{cell_of, cells_of, character, characters, characters_of}
 use Rattle.page_fill.specs.Fill.{Edge, text, opening, on_sheet, begun_word, stands}
 use Rattle.page_fill.specs.Room.{IsSound}
 use Rattle.page_fill.proofs.CharacterLemmas.{characters_of-text}
-use Rattle.page_core.specs.declared.page_settings.Output.{Output}
+use Rattle.page_core_base.specs.declared.page_settings.Output.{Output}
 use Rattle.std.proofs.lemmas.Str.{chars-IsAscii, IsUtf8-from_ascii}
 use Rattle.std.proofs.lemmas.Str.Ascii.{IsAscii-nil, IsAscii-cons}
 use Rattle.std.specs.Str.{IsAscii}

@@ -1,7 +1,7 @@
 -- Blanks and cells one by one.
 use Rattle.std.proofs.Common.{◌≡◌, ℕ, suc, ◌+◌, ◌-◌, ◌<◌, ◌≤◌, refl, arith}
-use Rattle.page_core.specs.declared.pieces.Place.{Place}
-use Rattle.page_core.specs.Laid.{join, nothing}
+use Rattle.page_core_base.specs.declared.places.Place.{Place}
+use Rattle.page_core_base.specs.Laid.{join, nothing}
 use Rattle.page_fill.specs.Sheets.{Sheet, space, spaces, letter, letters, fixed_blanks, blank}
 
 pub spaces-more : (s : Sheet) (n i : ℕ) (place : Place) → i < n

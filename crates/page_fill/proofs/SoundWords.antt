@@ -2,13 +2,13 @@
 use Rattle.std.proofs.Common.{◌≡◌, ℕ, ◌==◌, true, false, List, length, Option, None, Some, inl, inr, refl}
 use Rattle.std.specs.Prelude.{if◌then◌else◌}
 use Rattle.std.proofs.lemmas.Bool.{cases_Bool}
-use Rattle.page_core.specs.declared.cells.Font.{Font}
-use Rattle.page_core.specs.declared.pieces.Piece.{Piece}
-use Rattle.page_core.specs.declared.pieces.Piece.TheVariants.{Text, Glyph, Char, Tab, Blank, Glue, Break, Para, Space, Indent, Literal, Tag, TagEnd, Heading, Column}
-use Rattle.page_core.specs.declared.pieces.Place.{Place}
-use Rattle.page_core.specs.declared.pieces.TagForm.{TagForm}
-use Rattle.page_core.specs.declared.pieces.TagForm.TheVariants as forms
-use Rattle.page_core.specs.Laid.{nothing}
+use Rattle.page_core_base.specs.declared.cells.Font.{Font}
+use Rattle.page_core_base.specs.declared.pieces.Piece.{Piece}
+use Rattle.page_core_base.specs.declared.pieces.Piece.TheVariants.{Text, Glyph, Char, Tab, Blank, Glue, Break, Para, Space, Indent, Literal, Tag, TagEnd, Heading, Column}
+use Rattle.page_core_base.specs.declared.places.Place.{Place}
+use Rattle.page_core_base.specs.declared.pieces.TagForm.{TagForm}
+use Rattle.page_core_base.specs.declared.pieces.TagForm.TheVariants as forms
+use Rattle.page_core_base.specs.Laid.{nothing}
 use Rattle.page_fill.specs.declared.words.OpenTag.{OpenTag}
 use Rattle.page_fill.specs.Characters.{characters_of}
 use Rattle.page_fill.specs.Fill.{Edge, laid_piece, text, one_character, one_glyph, tab, opening, ended, paragraph, spaced, heading, tag_ended, after_tag, fits_hang, without_tag}

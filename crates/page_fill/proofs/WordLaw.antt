@@ -6,10 +6,11 @@ use Rattle.std.proofs.lemmas.Bool.Decides.{nat_tests}
 use Rattle.std.proofs.lemmas.List.{take-append-le, drop-append-le, length-replicate, take_at, drop_all}
 use Rattle.std.proofs.lemmas.List.Sums.{sum_by-append, sum_by-cons}
 use Rattle.unicode_width.specs.Width.{char_width}
-use Rattle.page_core.specs.declared.cells.Cell.{Cell}
-use Rattle.page_core.specs.declared.pieces.Place.{Place}
-use Rattle.page_core.specs.Laid.{Laid, nothing, join, seq, join_assoc}
-use Rattle.page_fill.specs.declared.TheConstants.{CELLS, TAG_COLUMNS}
+use Rattle.page_core_base.specs.declared.cells.Cell.{Cell}
+use Rattle.page_core_base.specs.declared.places.Place.{Place}
+use Rattle.page_core_base.specs.Laid.{Laid, nothing, join, seq, join_assoc}
+use Rattle.page_core_limits.specs.declared.TheConstants.{CELLS}
+use Rattle.page_fill.specs.declared.TheConstants.{TAG_COLUMNS}
 use Rattle.page_fill.specs.Sheets.{Sheet, over, columns, cell_columns, blank, passes, counted, begins, given, gives, emptied, letter, letters, space, spaces, opens, new_word}
 use Rattle.page_fill.specs.Words.{tally, has_cell, tallied, fitting, with_word, word_wrapped, word_behind, word_first}
 

@@ -1,8 +1,8 @@
 -- A text, with cells or without.
 use Rattle.std.proofs.Common.{◌≡◌, ℕ, ◌==◌, true, false, List, length, IsUtf8, chars, refl, ◌∙◌}
-use Rattle.page_core.specs.declared.cells.Font.{Font}
-use Rattle.page_core.specs.declared.pieces.Place.{Place}
-use Rattle.page_core.specs.Laid.{nothing, seq}
+use Rattle.page_core_base.specs.declared.cells.Font.{Font}
+use Rattle.page_core_base.specs.declared.places.Place.{Place}
+use Rattle.page_core_base.specs.Laid.{nothing, seq}
 use Rattle.page_fill.specs.Sheets.{over}
 use Rattle.page_fill.specs.Characters.{characters}
 use Rattle.page_fill.specs.Fill.{Edge, text, opening, opened_word, on_sheet}

@@ -1,14 +1,14 @@
 -- What a character and a glyph print. Source: mandoc_char(7); mandoc(1), -T ascii and -T utf8.
 use Rattle.std.specs.Prelude.{ℕ, ◌-◌, Bool, true, false, ◌==◌, nat_lt, nat_le, List, [], ◌∷◌, ◌++◌, length, map, Option, None, Some, codes, encode_utf8, if◌then◌else◌}
 use Rattle.std.specs.Str.{chars, is_utf8}
-use Rattle.page_core.specs.declared.cells.Cell.{Cell}
-use Rattle.page_core.specs.declared.cells.Font.{Font}
-use Rattle.page_core.specs.declared.note_kinds.NoteKind.TheVariants.{NoGlyph}
-use Rattle.page_core.specs.declared.page_settings.Output.{Output}
-use Rattle.page_core.specs.declared.page_settings.Output.TheVariants.{Ascii, Utf8, Lint}
-use Rattle.page_core.specs.declared.pieces.Place.{Place}
-use Rattle.page_core.specs.Messages.{Message}
-use Rattle.page_core.specs.Laid.{Laid, nothing, seq}
+use Rattle.page_core_base.specs.declared.cells.Cell.{Cell}
+use Rattle.page_core_base.specs.declared.cells.Font.{Font}
+use Rattle.page_core_base.specs.declared.note_kinds.NoteKind.TheVariants.{NoGlyph}
+use Rattle.page_core_base.specs.declared.page_settings.Output.{Output}
+use Rattle.page_core_base.specs.declared.page_settings.Output.TheVariants.{Ascii, Utf8, Lint}
+use Rattle.page_core_base.specs.declared.places.Place.{Place}
+use Rattle.page_core_base.specs.Messages.{Message}
+use Rattle.page_core_base.specs.Laid.{Laid, nothing, seq}
 use Rattle.page_core_tables.specs.Glyphs.{Symbol, glyph_of, spelling_of}
 use Rattle.page_fill.specs.Sheets.{Sheet, letter, letters}
 

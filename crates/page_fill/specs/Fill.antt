@@ -1,17 +1,17 @@
 -- Filling: how pieces become rows, with the messages between them. A start is what is held between two pieces; from it and a list of
 -- pieces follow the rows and messages that are settled, and what is held then. Source: roff(7), "Filling and adjusting"; mandoc(1).
 use Rattle.std.specs.Prelude.{ℕ, ◌+◌, ◌-◌, ◌%◌, Bool, true, false, not, ◌&&◌, ◌||◌, ◌==◌, nat_lt, nat_le, min, List, [], ◌∷◌, length, Option, None, Some, if◌then◌else◌}
-use Rattle.page_core.specs.declared.cells.Cell.{Cell}
-use Rattle.page_core.specs.declared.cells.Font.{Font}
-use Rattle.page_core.specs.declared.note_kinds.NoteKind.TheVariants as notes
-use Rattle.page_core.specs.declared.page_settings.Settings.{Settings}
-use Rattle.page_core.specs.declared.pieces.Piece.{Piece}
-use Rattle.page_core.specs.declared.pieces.Piece.TheVariants.{Text, Glyph, Char, Tab, Blank, Glue, Break, Para, Space, Indent, Literal, Tag, TagEnd, Heading, Column}
-use Rattle.page_core.specs.declared.pieces.Place.{Place}
-use Rattle.page_core.specs.declared.pieces.TagForm.{TagForm}
-use Rattle.page_core.specs.declared.pieces.TagForm.TheVariants as forms
-use Rattle.page_core.specs.Messages.{Message}
-use Rattle.page_core.specs.Laid.{Laid, nothing, seq}
+use Rattle.page_core_base.specs.declared.cells.Cell.{Cell}
+use Rattle.page_core_base.specs.declared.cells.Font.{Font}
+use Rattle.page_core_base.specs.declared.note_kinds.NoteKind.TheVariants as notes
+use Rattle.page_core_base.specs.declared.page_settings.Settings.{Settings}
+use Rattle.page_core_base.specs.declared.pieces.Piece.{Piece}
+use Rattle.page_core_base.specs.declared.pieces.Piece.TheVariants.{Text, Glyph, Char, Tab, Blank, Glue, Break, Para, Space, Indent, Literal, Tag, TagEnd, Heading, Column}
+use Rattle.page_core_base.specs.declared.places.Place.{Place}
+use Rattle.page_core_base.specs.declared.pieces.TagForm.{TagForm}
+use Rattle.page_core_base.specs.declared.pieces.TagForm.TheVariants as forms
+use Rattle.page_core_base.specs.Messages.{Message}
+use Rattle.page_core_base.specs.Laid.{Laid, nothing, seq}
 use Rattle.page_fill.specs.Sheets.{Sheet, over, columns, letter, fixed_blanks, new_word, broken, empty_rows, fresh}
 use Rattle.page_fill.specs.Characters.{with_notes, cell_of, characters_of, characters, character, glyph}
 use Rattle.page_fill.specs.declared.words.OpenWord.{OpenWord}

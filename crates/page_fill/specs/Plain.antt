@@ -1,10 +1,11 @@
 -- Plain texts: bytes of printable ASCII, each a cell of one column, so that an open row with room for them takes them as a whole.
 use Rattle.std.specs.Prelude.{ℕ, ◌+◌, Bool, true, not, ◌&&◌, ◌||◌, ◌==◌, nat_le, min, List, [], ◌∷◌, ◌++◌, length, if◌then◌else◌}
 use Rattle.std.specs.List.{list_all}
-use Rattle.page_core.specs.declared.cells.Cell.{Cell}
+use Rattle.page_core_base.specs.declared.cells.Cell.{Cell}
 use Rattle.page_fill.specs.Sheets.{Sheet, begins, columns, blank, counted, opens}
 use Rattle.page_fill.specs.Fill.{Edge}
-use Rattle.page_fill.specs.declared.TheConstants.{CELLS, TAG_COLUMNS}
+use Rattle.page_core_limits.specs.declared.TheConstants.{CELLS}
+use Rattle.page_fill.specs.declared.TheConstants.{TAG_COLUMNS}
 
 -- a byte from ' ' to '~'
 abbrev pub is_plain_byte : ℕ → Bool

@@ -1,8 +1,8 @@
 -- What an open row keeps to: it never wants more memory than it began with.
 use Rattle.std.specs.Prelude.{◌≡◌, ℕ, ◌*◌, ◌≤◌, List, length}
-use Rattle.page_core.specs.declared.cells.Cell.{Cell}
+use Rattle.page_core_base.specs.declared.cells.Cell.{Cell}
 use Rattle.page_fill.specs.Sheets.{columns}
-use Rattle.page_fill.specs.declared.TheConstants.{CELLS}
+use Rattle.page_core_limits.specs.declared.TheConstants.{CELLS}
 
 pub record IsSound (cells : List Cell) (capacity count gap word : ℕ) : Type 0 where
   pub bounded : length cells ≤ CELLS

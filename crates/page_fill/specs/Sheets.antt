@@ -2,14 +2,15 @@
 -- Source: roff(7), "Filling and adjusting"; mandoc(1), "ASCII Output".
 use Rattle.std.specs.Prelude.{ℕ, zero, suc, ◌+◌, ◌^◌, ◌-◌, Bool, true, false, not, ◌&&◌, ◌==◌, nat_lt, min, List, [], ◌∷◌, ◌++◌, length, take, drop, replicate, sum_by, unwrap_or, codes, if◌then◌else◌}
 use Rattle.unicode_width.specs.Width.{char_width}
-use Rattle.page_core.specs.declared.cells.Cell.{Cell}
-use Rattle.page_core.specs.declared.cells.Font.TheVariants.{R}
-use Rattle.page_core.specs.declared.note_kinds.NoteKind.TheVariants.{Limit}
-use Rattle.page_core.specs.declared.pieces.Place.{Place}
-use Rattle.page_core.specs.Messages.{Message}
-use Rattle.page_core.specs.Rows.{row_of, is_blank_row}
-use Rattle.page_core.specs.Laid.{Laid, nothing, seq}
-use Rattle.page_fill.specs.declared.TheConstants.{CELLS, TAG_COLUMNS}
+use Rattle.page_core_base.specs.declared.cells.Cell.{Cell}
+use Rattle.page_core_base.specs.declared.cells.Font.TheVariants.{R}
+use Rattle.page_core_base.specs.declared.note_kinds.NoteKind.TheVariants.{Limit}
+use Rattle.page_core_base.specs.declared.places.Place.{Place}
+use Rattle.page_core_base.specs.Messages.{Message}
+use Rattle.page_core_base.specs.Rows.{row_of, is_blank_row}
+use Rattle.page_core_base.specs.Laid.{Laid, nothing, seq}
+use Rattle.page_core_limits.specs.declared.TheConstants.{CELLS}
+use Rattle.page_fill.specs.declared.TheConstants.{TAG_COLUMNS}
 
 -- the columns of a cell, and of cells
 abbrev pub cell_columns : Cell → ℕ

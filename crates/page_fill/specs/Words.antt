@@ -1,7 +1,7 @@
 -- A word with its blanks in a row: taken whole, or at the beginning of the next row. Source: roff(7), "Filling and adjusting".
 use Rattle.std.specs.Prelude.{ℕ, ◌+◌, ◌-◌, min, Bool, true, List, [], ◌∷◌, ◌++◌, length, replicate}
-use Rattle.page_core.specs.declared.cells.Cell.{Cell}
-use Rattle.page_core.specs.Laid.{Laid}
+use Rattle.page_core_base.specs.declared.cells.Cell.{Cell}
+use Rattle.page_core_base.specs.Laid.{Laid}
 use Rattle.page_fill.specs.declared.TheConstants.{TAG_COLUMNS}
 use Rattle.page_fill.specs.Sheets.{Sheet, over, columns, cell_columns, blank, gives, begins}
 

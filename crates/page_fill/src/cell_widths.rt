@@ -2,9 +2,9 @@
 
 ghost use Rattle.std.specs.Prelude.{◌≡◌, ◌*◌, ◌≤◌, length};
 ghost use Rattle.page_fill.specs.Sheets as sheet;
-ghost use Rattle.page_core.specs.Rows.{is_blank_row, row_of};
+ghost use Rattle.page_core_base.specs.Rows.{is_blank_row, row_of};
 
-use page_core::{Cell, Font};
+use page_core_base::{Cell, Font};
 use unicode_width::UnicodeWidthChar;
 
 /// A blank.

@@ -2,16 +2,16 @@
 
 ghost use Rattle.std.specs.Prelude.{◌≡◌, ◌+◌, ◌<◌, ◌≤◌, [], ◌∷◌, length, true, encode_utf8};
 ghost use Rattle.std.specs.Str.{chars};
-ghost use Rattle.page_core.specs.Fails.{FailsBySink};
-ghost use Rattle.page_core.specs.Laid.{Lays};
-ghost use Rattle.page_core.specs.MessageBytes.{message_of};
+ghost use Rattle.page_core_base.specs.Fails.{FailsBySink};
+ghost use Rattle.page_core_base.specs.Laid.{Lays};
+ghost use Rattle.page_core_base.specs.Messages.{message_of};
 ghost use Rattle.page_fill.specs.Sheets as sheet;
 ghost use Rattle.page_fill.specs.Characters as shown;
 ghost use Rattle.page_fill.specs.Plain as plain;
 
 use crate::sheets::OpenRow;
 use arrayvec::ArrayString;
-use page_core::{Cell, Fault, Font, Note, NoteKind, NoteSink, Output, Place, RowSink};
+use page_core_base::{Cell, Fault, Font, Note, NoteKind, NoteSink, Output, Place, RowSink};
 use page_core_tables::{glyph, spelling};
 
 // Whether characters above ASCII are spelled. Messages alone are laid out in ASCII.

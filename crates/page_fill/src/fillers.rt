@@ -1,15 +1,15 @@
 //! The filler of a page.
 
 ghost use Rattle.std.specs.Prelude.{◌≡◌, ◌≤◌, length, IfOk, IfErr, IfSome, OnOk, OnErr, Some, None};
-ghost use Rattle.page_core.specs.Fails.{FailsBySink};
-ghost use Rattle.page_core.specs.Laid.{Lays, Gets};
-ghost use Rattle.page_core.specs.Pieces.{piece_of};
+ghost use Rattle.page_core_base.specs.Fails.{FailsBySink};
+ghost use Rattle.page_core_base.specs.Laid.{Lays, Gets};
+ghost use Rattle.page_core_base.specs.Pieces.{piece_of};
 ghost use Rattle.page_fill.specs.Fill as fill;
 
-use crate::CELLS;
 use crate::sheets::OpenRow;
 use crate::words::{Edge, NO_WORD};
-use page_core::{Cell, Fault, NoteSink, Piece, RowSink, Settings};
+use page_core_base::{Cell, Fault, NoteSink, Piece, RowSink, Settings};
+use page_core_limits::CELLS;
 use std::alloc::Global;
 use std::marker::Model;
 

@@ -1,19 +1,19 @@
 //! Laws of filling.
 
 ghost use Rattle.std.specs.Prelude.{◌≡◌, ℕ, ◌+◌, ◌<◌, ◌≤◌, Bool, true, false, List, [], ◌∷◌, ◌++◌, length, IsUtf8};
-ghost use Rattle.page_core.specs.Laid.{join, seq, nothing};
-ghost use Rattle.page_core.specs.declared.cells.Font.{Font};
-ghost use Rattle.page_core.specs.declared.pieces.Piece.{Piece};
-ghost use Rattle.page_core.specs.declared.pieces.Piece.TheVariants.{Text, Blank, Glue};
-ghost use Rattle.page_core.specs.declared.pieces.Place.{Place};
+ghost use Rattle.page_core_base.specs.Laid.{join, seq, nothing};
+ghost use Rattle.page_core_base.specs.declared.cells.Font.{Font};
+ghost use Rattle.page_core_base.specs.declared.pieces.Piece.{Piece};
+ghost use Rattle.page_core_base.specs.declared.pieces.Piece.TheVariants.{Text, Blank, Glue};
+ghost use Rattle.page_core_base.specs.declared.places.Place.{Place};
 ghost use Rattle.page_fill.specs.Fill as fill;
 ghost use Rattle.page_fill.specs.InWords as words;
 ghost use Rattle.page_fill.specs.Sheets as sheet;
 ghost use Rattle.page_fill.specs.Sheets.{Sheet};
 ghost use Rattle.page_fill.specs.Words as taken;
-ghost use Rattle.page_core.specs.declared.cells.Cell.{Cell};
+ghost use Rattle.page_core_base.specs.declared.cells.Cell.{Cell};
 
-use crate::CELLS;
+use page_core_limits::CELLS;
 
 /// Pieces may be cut anywhere: what is settled is that of the front, and that of the rest from what is held behind the front.
 pub fn cut_law()

@@ -10,9 +10,6 @@ mod laws;
 mod sheets;
 mod words;
 
-/// The cells of a row at most, its margin not counted.
-pub const CELLS: usize = 4096;
-
 /// The columns up to which those of a tag are counted. The greatest hang is 1,000 columns, so more of them make no difference.
 pub const TAG_COLUMNS: u32 = 1002;
 

@@ -1,19 +1,20 @@
 //! The open row, cell by cell.
 
 ghost use Rattle.std.specs.Prelude.{◌≡◌, ℕ, ◌+◌, ◌*◌, ◌^◌, ◌-◌, ◌<◌, ◌≤◌, List, [], ◌∷◌, ◌++◌, length, take, drop, replicate, vec_capacity, IfOk, true, false, if◌then◌else◌};
-ghost use Rattle.page_core.specs.Fails.{FailsAs, FailsBySink};
-ghost use Rattle.page_core.specs.Sinks.{Gives};
-ghost use Rattle.page_core.specs.Laid.{Lays, Gets};
-ghost use Rattle.page_core.specs.MessageBytes.{message_of};
-ghost use Rattle.page_core.specs.Rows.{row_of};
+ghost use Rattle.page_core_base.specs.Fails.{FailsAs, FailsBySink};
+ghost use Rattle.page_core_base.specs.Sinks.{Gives};
+ghost use Rattle.page_core_base.specs.Laid.{Lays, Gets};
+ghost use Rattle.page_core_base.specs.Messages.{message_of};
+ghost use Rattle.page_core_base.specs.Rows.{row_of};
 ghost use Rattle.page_fill.specs.Characters as shown;
 ghost use Rattle.page_fill.specs.Plain as plain;
 ghost use Rattle.page_fill.specs.Sheets as sheet;
 
 use crate::cell_widths::{BLANK, cell_columns, columns, is_blank};
-use crate::{CELLS, TAG_COLUMNS};
+use crate::TAG_COLUMNS;
 use arrayvec::ArrayString;
-use page_core::{Cell, Fault, Font, Note, NoteKind, NoteSink, Place, RowSink};
+use page_core_base::{Cell, Fault, Font, Note, NoteKind, NoteSink, Place, RowSink};
+use page_core_limits::CELLS;
 use std::alloc::{AllocError, Global};
 use std::marker::Model;
 

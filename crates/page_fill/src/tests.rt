@@ -2,13 +2,11 @@
 
 ghost use Rattle.std.specs.Prelude.{◌≡◌, ◌<◌, length};
 ghost use Rattle.std.specs.Bool.{MatchBool};
-ghost use Rattle.page_core.specs.Fails.{Rose};
+ghost use Rattle.page_core_base.specs.Fails.{Rose};
 
 use crate::Filler;
-use page_core::{
-    Cell, Fault, Font, Note, NoteSink, Output, Piece, Place, RowSink, Settings, TagForm, TextNotes,
-    TextRows,
-};
+use page_core_base::{Cell, Fault, Font, Note, NoteSink, Output, Piece, Place, RowSink, Settings, TagForm};
+use page_core_writers::{TextNotes, TextRows};
 use std::alloc::Global;
 use std::process::Abort;
 use std::test::Fail;

@@ -2,10 +2,10 @@
 
 ghost use Rattle.std.specs.Prelude.{◌≡◌, ◌+◌, ◌-◌, ◌<◌, ◌≤◌, ◌==◌, not, true, [], ◌∷◌, length};
 ghost use Rattle.std.specs.Str.{chars};
-ghost use Rattle.page_core.specs.Fails.{FailsAs, FailsBySink};
-ghost use Rattle.page_core.specs.Laid.{Lays};
-ghost use Rattle.page_core.specs.MessageBytes.{message_of};
-ghost use Rattle.page_core.specs.Sinks.{Gives};
+ghost use Rattle.page_core_base.specs.Fails.{FailsAs, FailsBySink};
+ghost use Rattle.page_core_base.specs.Laid.{Lays};
+ghost use Rattle.page_core_base.specs.Messages.{message_of};
+ghost use Rattle.page_core_base.specs.Sinks.{Gives};
 ghost use Rattle.page_fill.specs.Characters.{characters_of};
 ghost use Rattle.page_fill.specs.Fill as fill;
 ghost use Rattle.page_fill.specs.Plain as plain;
@@ -15,7 +15,7 @@ use crate::characters::{is_plain, put_character, put_characters, put_glyph, put_
 use crate::sheets::OpenRow;
 use crate::{HANG_MAX, TAB_STOP};
 use arrayvec::ArrayString;
-use page_core::{Cell, Fault, Font, Note, NoteKind, NoteSink, Output, Place, RowSink, TagForm};
+use page_core_base::{Cell, Fault, Font, Note, NoteKind, NoteSink, Output, Place, RowSink, TagForm};
 
 /// The open word, and what waits before the next one.
 #[derive(Clone, Copy)]

@@ -1,10 +1,10 @@
 -- What calls emit one after another.
 use Rattle.std.proofs.Common.{◌≡◌, List, [], ◌++◌, Result, Ok, Err, ap, ◌∙◌}
-use Rattle.page_core.specs.Sinks.{IsSink, UpTo}
-use Rattle.page_core.specs.Pieces.{Item}
-use Rattle.page_core.specs.declared.faults.Fault.{Fault}
-use Rattle.page_core.specs.declared.faults.Fault.TheVariants.{Failed}
-use Rattle.page_prose.specs.Emits.{Emits}
+use Rattle.page_core_base.specs.Sinks.{IsSink, UpTo}
+use Rattle.page_core_base.specs.Pieces.{Item}
+use Rattle.page_core_base.specs.declared.faults.Fault.{Fault}
+use Rattle.page_core_base.specs.declared.faults.Fault.TheVariants.{Failed}
+use Rattle.page_core_base.specs.Latches.{Emits}
 
 -- all came but a part, and then a call emitted that
 pub emits_last : {S : Type 0} {gave : S → List Item → S → Type 0} {broke : S → Fault → List Item → S → Type 0}

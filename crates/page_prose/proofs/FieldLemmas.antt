@@ -5,11 +5,11 @@ use Rattle.std.specs.List.{flat_map}
 use Rattle.std.proofs.lemmas.Bool.{cases_Bool}
 use Rattle.std.proofs.lemmas.Bool.Decides.{nat_tests}
 use Rattle.std.proofs.lemmas.Str.{is_utf8-from_IsUtf8, IsUtf8-from_is_utf8}
-use Rattle.page_core.specs.Pieces.{shown}
-use Rattle.page_core.specs.declared.cells.Font.TheVariants.{R}
-use Rattle.page_core.specs.declared.page_settings.Output.{Output}
-use Rattle.page_core.specs.declared.pieces.Place.{Place}
-use Rattle.page_core.specs.declared.pieces.Piece.TheVariants.{Text}
+use Rattle.page_core_base.specs.Pieces.{shown}
+use Rattle.page_core_base.specs.declared.cells.Font.TheVariants.{R}
+use Rattle.page_core_base.specs.declared.page_settings.Output.{Output}
+use Rattle.page_core_base.specs.declared.places.Place.{Place}
+use Rattle.page_core_base.specs.declared.pieces.Piece.TheVariants.{Text}
 use Rattle.page_core_numbers.specs.Columns.{columns_of}
 use Rattle.page_prose.specs.FieldText.{quote_len, single_quotes}
 use Rattle.page_prose.specs.FieldPieces.{field_columns, blank_cells, field_items, field_pieces}

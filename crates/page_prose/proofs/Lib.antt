@@ -2,7 +2,6 @@ pub mod ArgumentWords
 pub mod ArgumentLemmas
 pub mod CutLemmas
 pub mod EmitsLemmas
-pub mod DetailLemmas
 pub mod FieldLemmas
 pub mod FormLemmas
 pub mod ProseLemmas

@@ -1,6 +1,6 @@
 -- Lines and what they give.
 use Rattle.std.proofs.Common.{◌≡◌, ℕ, List, [], refl}
-use Rattle.page_core.specs.declared.pieces.Place.{Place}
+use Rattle.page_core_base.specs.declared.places.Place.{Place}
 use Rattle.page_prose.specs.declared.macros.Macro.{Macro}
 use Rattle.page_prose.specs.declared.macros.Macro.TheVariants.{Empty, Title, Section, Paragraph, EndRow, NoFill, Fill, SetFont, Unknown}
 use Rattle.page_prose.specs.Prose.{effect_of}

@@ -7,8 +7,8 @@ use Rattle.std.proofs.lemmas.Bool.Decides.{nat_tests}
 use Rattle.std.proofs.lemmas.List.{drop_more, drop_all}
 use Rattle.page_core_escapes.specs.Escapes.{escape_of}
 use Rattle.std.specs.Borrow.{Bor}
-use Rattle.page_core.specs.Pieces.{shown}
-use Rattle.page_core.specs.declared.pieces.Place.{Place}
+use Rattle.page_core_base.specs.Pieces.{shown}
+use Rattle.page_core_base.specs.declared.places.Place.{Place}
 use Rattle.page_core_escapes.specs.Escapes.{face_seen, meaning_seen}
 use Rattle.page_core_escapes.specs.declared.meaning.FontName.{FontName}
 use Rattle.page_core_escapes.specs.declared.meaning.FontName.TheVariants.{R, I, B, BI, Former, Unknown}

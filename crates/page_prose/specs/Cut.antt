@@ -1,6 +1,5 @@
 -- A text that is cut into parts, from its front on.
 use Rattle.std.specs.Prelude.{ℕ, zero, suc, ◌+◌, ◌≤◌, ◌<◌, List, [], ◌∷◌, length, take, drop}
-use Rattle.std.specs.Str.Lossy.{utf8_valid_len}
 
 -- a part of a line, and the column of its first byte
 pub record Part : Type 0 where
@@ -27,7 +26,3 @@ placed column (text ∷ texts) = record { text = text; column = column } ∷ pla
 pub record IsFront (front : List ℕ → ℕ) : Type 0 where
   pub some : (byte : ℕ) (bytes : List ℕ) → 0 < front (byte ∷ bytes)
   pub within : (byte : ℕ) (bytes : List ℕ) → front (byte ∷ bytes) ≤ length (byte ∷ bytes)
-
--- the front of a text of at most n bytes, up to a character's end
-unfoldable pub text_front : ℕ → List ℕ → List ℕ
-text_front n text = take (utf8_valid_len (take n text)) (take n text)

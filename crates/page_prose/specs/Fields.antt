@@ -2,7 +2,8 @@
 use Rattle.std.specs.Prelude.{ℕ, Bool, not, ◌==◌, nat_lt, List, [], ◌∷◌, length, filter, codes, if◌then◌else◌, slice_index_or}
 use Rattle.page_prose.specs.declared.fields.Fields.{Fields}
 use Rattle.page_prose.specs.FieldText.{or_else, single_quotes}
-use Rattle.page_prose.specs.Cut.{parts, text_front}
+use Rattle.page_core_base.specs.Messages.{text_front}
+use Rattle.page_prose.specs.Cut.{parts}
 use Rattle.page_prose.specs.Arguments.{argument_len, argument_text, begins_blank, begins_quoted}
 
 -- the arguments of a macro, with their quotes

@@ -1,5 +1,4 @@
 pub mod Cut
-pub mod Emits
 pub mod Says
 pub mod Forms
 pub mod Arguments

@@ -1,13 +1,13 @@
 -- The lines of a page as pieces and messages: text, TH, SH, paragraphs and requests. Source: man(7); roff(7); mandoc(1), "DIAGNOSTICS".
 use Rattle.std.specs.Prelude.{ℕ, ◌+◌, ◌-◌, ◌/◌, ◌≤◌, Bool, true, false, not, ◌==◌, ◌||◌, ◌&&◌, nat_lt, List, [], ◌∷◌, ◌++◌, length, take, drop, codes, if◌then◌else◌, unwrap_or, slice_index_or}
 use Rattle.std.specs.List.{flat_map}
-use Rattle.page_core.specs.Pieces.{Item, shown}
-use Rattle.page_core.specs.declared.note_kinds.NoteKind.{NoteKind}
-use Rattle.page_core.specs.declared.note_kinds.NoteKind.TheVariants.{TrailingBlank, Limit, MissingTitle, UnknownSection, MissingDate, LateMacro, NoBody, BeforeSection, SkipPara, EmptyMacro, BlankFill, Unterminated, UnknownMacro}
-use Rattle.page_core.specs.declared.cells.Font.TheVariants.{R, B}
-use Rattle.page_core.specs.declared.pieces.Place.{Place}
-use Rattle.page_core.specs.declared.pieces.Piece.TheVariants.{Char, Blank, Break, Para, Space, Indent, Literal, Heading, Column}
-use Rattle.page_core.specs.declared.page_settings.Settings.{Settings}
+use Rattle.page_core_base.specs.Pieces.{Item, shown}
+use Rattle.page_core_base.specs.declared.note_kinds.NoteKind.{NoteKind}
+use Rattle.page_core_base.specs.declared.note_kinds.NoteKind.TheVariants.{TrailingBlank, Limit, MissingTitle, UnknownSection, MissingDate, LateMacro, NoBody, BeforeSection, SkipPara, EmptyMacro, BlankFill, Unterminated, UnknownMacro}
+use Rattle.page_core_base.specs.declared.cells.Font.TheVariants.{R, B}
+use Rattle.page_core_base.specs.declared.places.Place.{Place}
+use Rattle.page_core_base.specs.declared.pieces.Piece.TheVariants.{Char, Blank, Break, Para, Space, Indent, Literal, Heading, Column}
+use Rattle.page_core_base.specs.declared.page_settings.Settings.{Settings}
 use Rattle.std.specs.Str.{bytes_eq}
 use Rattle.std.specs.Borrow.{Bor}
 use Rattle.page_prose.specs.declared.prose.Prose.{Prose}
@@ -19,12 +19,12 @@ use Rattle.page_prose.specs.Cut.{Part, parts, placed}
 use Rattle.std.specs.List.{prefix_len}
 use Rattle.page_prose.specs.Forms.{is_white, is_blank, is_name, without_comment, kept_len}
 use Rattle.page_prose.specs.Arguments.{argument_len, begins_blank, begins_quoted, is_closed, argument_text}
-use Rattle.page_core.specs.declared.page_settings.Output.{Output}
+use Rattle.page_core_base.specs.declared.page_settings.Output.{Output}
 use Rattle.page_prose.specs.declared.headers.Measure.{Measure}
 use Rattle.page_prose.specs.FieldPieces.{field_pieces, field_columns}
 use Rattle.page_prose.specs.Says.{at, says}
 use Rattle.page_prose.specs.Sentences.{is_sentence}
-use Rattle.page_core.specs.declared.texts.TheConstants.{LINE}
+use Rattle.page_core_limits.specs.declared.TheConstants.{LINE}
 use Rattle.page_prose.specs.Tokens.{TextToken, tokens_of}
 use Rattle.page_prose.specs.declared.walks.Fonts.{Fonts}
 use Rattle.page_prose.specs.declared.walks.Style.{Style}

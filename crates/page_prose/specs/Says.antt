@@ -1,9 +1,9 @@
 -- Messages about a place in a line.
 use Rattle.std.specs.Prelude.{ℕ, List}
-use Rattle.page_core.specs.Pieces.{Item, noted}
-use Rattle.page_core.specs.declared.note_kinds.NoteKind.{NoteKind}
-use Rattle.page_core.specs.declared.pieces.Place.{Place}
-use Rattle.page_prose.specs.Cut.{text_front}
+use Rattle.page_core_base.specs.Pieces.{Item, noted}
+use Rattle.page_core_base.specs.declared.note_kinds.NoteKind.{NoteKind}
+use Rattle.page_core_base.specs.declared.places.Place.{Place}
+use Rattle.page_core_base.specs.Messages.{text_front}
 
 abbrev pub at : ℕ → ℕ → Place
 at line column = record { line = line; column = column }

@@ -1,13 +1,13 @@
 -- Words as pieces and messages, with their fonts. Source: roff(7), "ESCAPE SEQUENCES", `\f`, `\c`; mandoc(1), "DIAGNOSTICS".
 use Rattle.std.specs.Prelude.{not, ℕ, ◌+◌, Bool, true, false, ◌==◌, ◌||◌, ◌&&◌, List, [], ◌∷◌, ◌++◌, length, take, map, if◌then◌else◌, Option, None, Some, unwrap_or, is_some}
 use Rattle.std.specs.List.{list_any}
-use Rattle.page_core.specs.Pieces.{Item, shown}
-use Rattle.page_core.specs.declared.note_kinds.NoteKind.TheVariants.{UndefEscape, BadEscape, UnsuppEscape, UnknownFont}
-use Rattle.page_core.specs.declared.cells.Font.{Font}
-use Rattle.page_core.specs.declared.cells.Font.TheVariants.{R, I, B, BI}
-use Rattle.page_core.specs.declared.pieces.Place.{Place}
-use Rattle.page_core.specs.declared.pieces.Piece.{Piece}
-use Rattle.page_core.specs.declared.pieces.Piece.TheVariants.{Text, Glyph, Char, Tab, Blank}
+use Rattle.page_core_base.specs.Pieces.{Item, shown}
+use Rattle.page_core_base.specs.declared.note_kinds.NoteKind.TheVariants.{UndefEscape, BadEscape, UnsuppEscape, UnknownFont}
+use Rattle.page_core_base.specs.declared.cells.Font.{Font}
+use Rattle.page_core_base.specs.declared.cells.Font.TheVariants.{R, I, B, BI}
+use Rattle.page_core_base.specs.declared.places.Place.{Place}
+use Rattle.page_core_base.specs.declared.pieces.Piece.{Piece}
+use Rattle.page_core_base.specs.declared.pieces.Piece.TheVariants.{Text, Glyph, Char, Tab, Blank}
 use Rattle.page_core_escapes.specs.Meanings as meanings
 use Rattle.page_core_escapes.specs.Meanings.{Face, Meaning}
 use Rattle.page_prose.specs.declared.walks.Fonts.{Fonts}

@@ -2,7 +2,7 @@
 
 ghost use Rattle.std.specs.Prelude.{◌≡◌, ◌≤◌, ◌<◌, ◌+◌, ◌-◌, ◌^◌, [], true, length, slice_index_or, IfOk};
 ghost use Rattle.std.specs.List.{prefix_len};
-ghost use Rattle.page_prose.specs.Emits.{Emits};
+ghost use Rattle.page_core_base.specs.Latches.{Emits};
 ghost use Rattle.page_prose.specs.Forms.{is_blank};
 ghost use Rattle.page_prose.specs.Arguments.{parts_words, word_len, quoted_len, quoted_argument_len, argument_len, argument_text, begins_blank, begins_quoted, is_closed};
 ghost use Rattle.page_prose.specs.Fields.{arguments};
@@ -13,7 +13,8 @@ ghost use Rattle.page_prose.specs.Cut.{parts, placed};
 use crate::details::say_if;
 use crate::walks::{Fonts, Style, Walk};
 use crate::words::give_words;
-use page_core::{Fault, LINE, NoteKind, Piece, PieceSink, Place};
+use page_core_base::{Fault, NoteKind, Piece, PieceSink, Place};
+use page_core_limits::LINE;
 
 // Whether a byte parts words: a blank, and a tab or not.
 fn parts_words(tabs: bool, byte: u8) -> bool

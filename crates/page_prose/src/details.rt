@@ -1,27 +1,13 @@
 //! Messages about a place in a line.
 
 ghost use Rattle.std.specs.Prelude.{◌≡◌, ◌≤◌, [], ◌∷◌, length, if◌then◌else◌};
-ghost use Rattle.page_core.specs.Pieces.{noted};
-ghost use Rattle.page_core.specs.MessageBytes.{message_of};
-ghost use Rattle.page_prose.specs.Cut.{text_front};
-ghost use Rattle.page_prose.specs.Emits.{Emits};
+ghost use Rattle.page_core_base.specs.Pieces.{noted};
+ghost use Rattle.page_core_base.specs.Messages.{message_of};
+ghost use Rattle.page_core_base.specs.Latches.{Emits};
 ghost use Rattle.page_prose.specs.Says.{says};
 
 use arrayvec::ArrayString;
-use page_core::{DETAIL, Fault, Note, NoteKind, PieceSink};
-
-/// The front of a text of at most `most` bytes, up to a character's end.
-#[tactic(auto, unfolding(crate::specs::Cut::text_front))]
-pub(crate) fn text_front(text: &[u8], most: usize) -> &str
-    ensures value { result.now ≡ text_front most text.now }
-    ensures len { length result.now ≤ most }
-{
-    let front = &text[..most.min(text.len())];
-    match std::str::from_utf8(front) {
-        Ok(whole) => whole,
-        Err(error) => std::str::from_utf8(&front[..error.valid_up_to()]).unwrap_or(""),
-    }
-}
+use page_core_base::{DETAIL, Fault, Note, NoteKind, PieceSink, text_front};
 
 /// A message with a detail, which is cut to 64 bytes at a character's end.
 pub(crate) fn note(kind: NoteKind, line: u32, column: u32, detail: &[u8]) -> Note

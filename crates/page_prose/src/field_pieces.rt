@@ -1,15 +1,16 @@
 //! What a field of a header or footer prints (man(7), `TH`): its text with its escapes, in roman and without a message about an escape.
 
 ghost use Rattle.std.specs.Prelude.{◌≡◌, ◌≤◌, ◌*◌, length, option_map};
-ghost use Rattle.page_core.specs.Pieces.{piece_of};
-ghost use Rattle.page_prose.specs.Emits.{Emits};
+ghost use Rattle.page_core_base.specs.Pieces.{piece_of};
+ghost use Rattle.page_core_base.specs.Latches.{Emits};
 ghost use Rattle.page_prose.specs.Tokens.{token_bytes, token_seen};
 ghost use Rattle.page_prose.specs.FieldPieces.{field_columns, is_spelled, is_symbol, is_character, no_character, lacks_character, quiet_piece, blank_cells, quiet_items, field_items, field_pieces};
 ghost use Rattle.page_core_tables.specs.Glyphs.{glyph_of};
 
 use crate::tokens::{Token, read_token};
 use crate::words::{give_if, token_piece};
-use page_core::{Fault, Font, LINE, Output, Piece, PieceSink, Place};
+use page_core_base::{Fault, Font, Output, Piece, PieceSink, Place};
+use page_core_limits::LINE;
 use page_core_escapes::Escape;
 use page_core_numbers::columns;
 use page_core_tables::{glyph, spelling};

@@ -1,17 +1,15 @@
 //! The fields of a page's header and footer (man(7), `TH`).
 
 ghost use Rattle.std.specs.Prelude.{◌≡◌, ◌≤◌, ◌<◌, ◌==◌, length, if◌then◌else◌};
-ghost use Rattle.page_prose.specs.Cut.{text_front};
+ghost use Rattle.page_core_base.specs.Messages.{text_front};
 ghost use Rattle.page_prose.specs.FieldText.{or_else, quote_len, single_quotes};
 ghost use Rattle.page_prose.specs.Fields.{nth_field, volume_at, volume_of, fields_of, no_fields, is_cut};
 
 use crate::arguments::{nth_argument, unquote};
-use crate::details::text_front;
 use arrayvec::ArrayVec;
+use page_core_base::text_front;
+use page_core_limits::FIELD;
 use std::marker::Model;
-
-/// The bytes of a field at most; a longer one is cut at a character's end.
-pub const FIELD: usize = 256;
 
 /// A field as text.
 #[derive(Drop)]

@@ -5,7 +5,7 @@ ghost use Rattle.std.specs.List.{prefix_len};
 ghost use Rattle.page_prose.specs.Forms.{is_white, is_name, kept_len, without_comment};
 ghost use Rattle.page_prose.specs.Prose.{has_word, IsShort, form_view, call_of, form_of};
 
-use page_core::LINE;
+use page_core_limits::LINE;
 
 /// Whether a byte is a blank or a tab.
 pub(crate) fn is_white(byte: u8) -> bool

@@ -1,17 +1,18 @@
 //! The header and the footer of a page (man(7), `TH`; mandoc(1), "ASCII Output").
 
 ghost use Rattle.std.specs.Prelude.{◌≡◌, ◌≤◌, ◌+◌, [], ◌∷◌, ◌++◌, length};
-ghost use Rattle.page_core.specs.Pieces.{shown};
-ghost use Rattle.page_core.specs.declared.pieces.Piece.TheVariants.{Char};
-ghost use Rattle.page_core.specs.declared.cells.Font.TheVariants.{R};
-ghost use Rattle.page_prose.specs.Emits.{Emits};
+ghost use Rattle.page_core_base.specs.Pieces.{shown};
+ghost use Rattle.page_core_base.specs.declared.pieces.Piece.TheVariants.{Char};
+ghost use Rattle.page_core_base.specs.declared.cells.Font.TheVariants.{R};
+ghost use Rattle.page_core_base.specs.Latches.{Emits};
 ghost use Rattle.page_prose.specs.FieldPieces.{field_pieces};
 ghost use Rattle.page_prose.specs.Prose.{name_columns, center_column, right_column, name_pieces, row_start, row_end, other_parts, header_row, footer_row, if_empty, header_notes, header_items};
 
 use crate::details::say_if;
 use crate::field_pieces::{field_columns, give_field};
 use crate::fields::{Field, Fields};
-use page_core::{Fault, Font, LINE, NoteKind, Output, Piece, PieceSink, Place};
+use page_core_base::{Fault, Font, NoteKind, Output, Piece, PieceSink, Place};
+use page_core_limits::LINE;
 
 /// The measure of a page's rows.
 #[derive(Clone, Copy, Debug, PartialEq, Eq)]

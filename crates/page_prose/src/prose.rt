@@ -1,10 +1,10 @@
 //! The body of a page: text, titles, section headers, paragraphs and requests become pieces and messages (man(7), roff(7)).
 
 ghost use Rattle.std.specs.Prelude.{◌≡◌, ◌≤◌, ◌+◌, ◌++◌, [], ◌∷◌, length, OnOk, IfOk, if◌then◌else◌};
-ghost use Rattle.page_core.specs.Checks.{IsGood};
-ghost use Rattle.page_core.specs.Pieces.{shown};
-ghost use Rattle.page_core.specs.declared.pieces.Piece.TheVariants.{Space};
-ghost use Rattle.page_prose.specs.Emits.{Emits};
+ghost use Rattle.page_core_base.specs.Checks.{IsGood};
+ghost use Rattle.page_core_base.specs.Pieces.{shown};
+ghost use Rattle.page_core_base.specs.declared.pieces.Piece.TheVariants.{Space};
+ghost use Rattle.page_core_base.specs.Latches.{Emits};
 ghost use Rattle.page_prose.specs.Prose as prose;
 ghost use Rattle.page_prose.specs.Prose.{header_items};
 ghost use Rattle.page_prose.specs.Says.{says};
@@ -17,7 +17,8 @@ use crate::headers::{Measure, give_footer_row, give_header};
 use crate::macros::{Macro, macro_of};
 use crate::walks::{Fonts, ROMAN, Walk};
 use arrayvec::ArrayString;
-use page_core::{Fault, LINE, NoteKind, Piece, PieceSink, Place, Settings};
+use page_core_base::{Fault, NoteKind, Piece, PieceSink, Place, Settings};
+use page_core_limits::LINE;
 
 /// What decides the pieces of the lines to come.
 #[derive(Drop)]

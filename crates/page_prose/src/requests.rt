@@ -2,14 +2,15 @@
 
 ghost use Rattle.std.specs.Prelude.{◌≡◌, ◌≤◌, ◌+◌, length};
 ghost use Rattle.page_core_escapes.specs.Escapes.{face_seen};
-ghost use Rattle.page_prose.specs.Emits.{Emits};
+ghost use Rattle.page_core_base.specs.Latches.{Emits};
 ghost use Rattle.page_prose.specs.Prose as prose;
 
 use crate::arguments::{note_closings, nth_argument, unquote};
 use crate::macros::Macro;
 use crate::prose::Prose;
 use crate::words::{give_two, note_font};
-use page_core::{Fault, LINE, Piece, PieceSink, Place};
+use page_core_base::{Fault, Piece, PieceSink, Place};
+use page_core_limits::LINE;
 use page_core_escapes::{FontName, read_font};
 
 // The font that a request names.

@@ -1,7 +1,7 @@
 //! Section headers, paragraphs and the title (man(7), `SH`, `PP` and `TH`).
 
 ghost use Rattle.std.specs.Prelude.{◌≡◌, ◌≤◌, ◌+◌, ◌++◌, length};
-ghost use Rattle.page_prose.specs.Emits.{Emits};
+ghost use Rattle.page_core_base.specs.Latches.{Emits};
 ghost use Rattle.page_prose.specs.Prose as prose;
 
 use crate::arguments::{give_arguments, has_arguments, note_closings};
@@ -10,7 +10,8 @@ use crate::fields::is_cut;
 use crate::prose::Prose;
 use crate::walks::{Fonts, ROMAN};
 use crate::words::give_two;
-use page_core::{Fault, Font, LINE, NoteKind, Piece, PieceSink, Place};
+use page_core_base::{Fault, Font, NoteKind, Piece, PieceSink, Place};
+use page_core_limits::LINE;
 
 // The fonts of a heading.
 const HEADING: Fonts = Fonts {

@@ -1,10 +1,10 @@
 //! Text lines and blank lines of the body: words, and rows that are filled or kept as they are (roff(7), `nf` and `fi`).
 
 ghost use Rattle.std.specs.Prelude.{◌≡◌, ◌≤◌, ◌++◌, [], ◌∷◌, length, IfOk};
-ghost use Rattle.page_core.specs.Pieces.{shown};
-ghost use Rattle.page_core.specs.declared.pieces.Piece.TheVariants.{Space};
-ghost use Rattle.page_core.specs.declared.note_kinds.NoteKind.TheVariants.{BlankFill};
-ghost use Rattle.page_prose.specs.Emits.{Emits};
+ghost use Rattle.page_core_base.specs.Pieces.{shown};
+ghost use Rattle.page_core_base.specs.declared.pieces.Piece.TheVariants.{Space};
+ghost use Rattle.page_core_base.specs.declared.note_kinds.NoteKind.TheVariants.{BlankFill};
+ghost use Rattle.page_core_base.specs.Latches.{Emits};
 ghost use Rattle.page_prose.specs.Prose as prose;
 ghost use Rattle.page_prose.specs.Says.{says};
 
@@ -14,7 +14,8 @@ use crate::prose::Prose;
 use crate::sentences::is_sentence;
 use crate::walks::{Style, Walk};
 use crate::words::{give_white_cells, give_words};
-use page_core::{Fault, LINE, NoteKind, Piece, PieceSink, Place};
+use page_core_base::{Fault, NoteKind, Piece, PieceSink, Place};
+use page_core_limits::LINE;
 
 // Gives the blanks at a text line's front, which break the row and are kept.
 fn give_front<O: PieceSink>(out: &mut O, line: u32, white: &[u8]) -> Result<(), Fault>

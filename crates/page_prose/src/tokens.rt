@@ -7,7 +7,7 @@ ghost use Rattle.page_prose.specs.Tokens.{begins_escape, begins_word, is_plain, 
 
 use crate::arguments::begins_quoted;
 use crate::forms::{is_white, white_len};
-use page_core::LINE;
+use page_core_limits::LINE;
 use page_core_escapes::{Escape, escape};
 
 /// A token of a text, as it is written.

@@ -6,7 +6,7 @@ ghost use Rattle.page_prose.specs.Tokens.{token_bytes, token_seen};
 ghost use Rattle.page_prose.specs.Words.{with_font, face_fonts, meaning_fonts, token_fonts, is_glue, token_prints, word_column, walk_after, walk_from};
 
 use crate::tokens::Token;
-use page_core::Font;
+use page_core_base::Font;
 use page_core_escapes::{Escape, FontName};
 
 /// The font in use, and the former one (roff(7), `\f`).

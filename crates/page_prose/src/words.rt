@@ -1,9 +1,9 @@
 //! Words: their messages, and what they print, as pieces.
 
 ghost use Rattle.std.specs.Prelude.{◌≡◌, ◌≤◌, ◌<◌, ◌+◌, ◌^◌, ◌++◌, ◌∷◌, [], length, option_map, IfOk, if◌then◌else◌};
-ghost use Rattle.page_core.specs.Pieces.{piece_of, shown};
+ghost use Rattle.page_core_base.specs.Pieces.{piece_of, shown};
 ghost use Rattle.page_core_escapes.specs.Escapes.{face_seen, meaning_seen};
-ghost use Rattle.page_prose.specs.Emits.{Emits};
+ghost use Rattle.page_core_base.specs.Latches.{Emits};
 ghost use Rattle.page_prose.specs.Says.{at};
 ghost use Rattle.page_prose.specs.Tokens.{tokens_of, token_bytes, token_seen};
 ghost use Rattle.page_prose.specs.Words as words;
@@ -11,7 +11,8 @@ ghost use Rattle.page_prose.specs.Words as words;
 use crate::details::say;
 use crate::tokens::{Token, begins_word, read_token};
 use crate::walks::{Style, Walk};
-use page_core::{Fault, Font, LINE, NoteKind, Piece, PieceSink, Place};
+use page_core_base::{Fault, Font, NoteKind, Piece, PieceSink, Place};
+use page_core_limits::LINE;
 use page_core_escapes::{Escape, FontName};
 
 /// Reports a font that there is not.

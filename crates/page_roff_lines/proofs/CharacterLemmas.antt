@@ -3,7 +3,7 @@ use Rattle.std.proofs.Common.{◌≡◌, ℕ, zero, suc, ◌+◌, ◌-◌, ◌<�
 use Rattle.std.specs.Prelude.{nat_le, nat_lt}
 use Rattle.std.proofs.lemmas.Bool.Decides.{nat_tests}
 use Rattle.std.proofs.lemmas.List.{drop-drop, length-drop}
-use Rattle.page_core.specs.declared.page_settings.Encoding.{Encoding}
+use Rattle.page_core_base.specs.declared.page_settings.Encoding.{Encoding}
 use Rattle.page_roff_lines.specs.declared.characters.Front.{Front}
 use Rattle.page_roff_lines.specs.Characters.{Character, character, later_length, characters_after, characters, bytes_of, all_bytes}
 use Rattle.page_roff_lines.specs.Limit.{line_limit}

@@ -3,7 +3,7 @@ use Rattle.std.proofs.Common.{◌≡◌, ℕ, ◌+◌, ◌<◌, ◌≤◌, true,
 use Rattle.std.specs.Prelude.{nat_lt, ◌==◌, ◌≢◌}
 use Rattle.std.proofs.lemmas.Bool.Decides.{nat_tests}
 use Rattle.std.proofs.lemmas.List.{drop_more, drop_all}
-use Rattle.page_core.specs.declared.page_settings.Encoding.TheVariants.{Auto, Latin1, Utf8}
+use Rattle.page_core_base.specs.declared.page_settings.Encoding.TheVariants.{Auto, Latin1, Utf8}
 use Rattle.page_roff_lines.specs.Characters.{sequence_length}
 use Rattle.page_roff_lines.specs.Decoding.{choice_of}
 

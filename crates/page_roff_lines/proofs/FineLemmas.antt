@@ -6,9 +6,9 @@ use Rattle.std.proofs.lemmas.Bool.Decides.{nat_tests, eqb_tells, leb_tells}
 use Rattle.std.proofs.lemmas.Str.{IsUtf8-append, IsUtf8-nil, IsUtf8-from_ascii}
 use Rattle.std.proofs.lemmas.Str.Ascii.{IsAscii-cons, IsAscii-nil}
 use Rattle.std.proofs.str.Valid.{of_two}
-use Rattle.page_core.specs.Texts.{IsLine, is_plain}
-use Rattle.page_core.specs.declared.page_settings.Encoding.{Encoding}
-use Rattle.page_core.specs.declared.page_settings.Encoding.TheVariants.{Auto, Ascii, Latin1, Utf8}
+use Rattle.page_core_base.specs.Texts.{IsLine, is_plain}
+use Rattle.page_core_base.specs.declared.page_settings.Encoding.{Encoding}
+use Rattle.page_core_base.specs.declared.page_settings.Encoding.TheVariants.{Auto, Ascii, Latin1, Utf8}
 use Rattle.page_roff_lines.specs.Limit.{line_limit, line_limit_is}
 use Rattle.page_roff_lines.specs.Characters.{Character, good, bad, is_printable, latin1_bytes, sequence_length, high_character, character, later_length, characters_after, characters, bytes_of, all_bytes}
 use Rattle.page_roff_lines.specs.Decoding.{fitting}

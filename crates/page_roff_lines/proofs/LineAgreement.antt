@@ -4,8 +4,8 @@ use Rattle.std.specs.Prelude.{◌==◌, nat_lt, nat_eq}
 use lib.Pointwise.{pointwise}
 use borrow.Author.Tests.{ne_eqb}
 use Rattle.std.proofs.lemmas.Bool.Decides.{eqb_tells}
-use Rattle.page_core.specs.declared.page_settings.Encoding.{Encoding}
-use Rattle.page_core.specs.declared.page_settings.Encoding.TheVariants.{Auto, Ascii, Latin1, Utf8}
+use Rattle.page_core_base.specs.declared.page_settings.Encoding.{Encoding}
+use Rattle.page_core_base.specs.declared.page_settings.Encoding.TheVariants.{Auto, Ascii, Latin1, Utf8}
 use Rattle.page_roff_lines.specs.declared.Mode.{Mode}
 use Rattle.page_roff_lines.specs.declared.Mode.TheVariants.{Plain, Backslash, Comment, Dropped}
 use Rattle.page_roff_lines.specs.declared.Mark.{Mark}

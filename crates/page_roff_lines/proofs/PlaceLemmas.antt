@@ -1,7 +1,7 @@
 -- Places of a page, and the lines between them.
 use Rattle.std.proofs.Common.{◌≡◌, ℕ, zero, suc, ◌-◌, ◌≤◌, Bool, true, false, cond, List, [], ◌∷◌, ◌++◌, length, take, get_or, refl, sym, ap, ◌∙◌, append_assoc, append-nil, add-one, arith}
 use Rattle.std.proofs.lemmas.List.{take_more}
-use Rattle.page_core.specs.declared.page_settings.Encoding.{Encoding}
+use Rattle.page_core_base.specs.declared.page_settings.Encoding.{Encoding}
 use Rattle.page_roff_lines.specs.Logical.{Kept}
 use Rattle.page_roff_lines.specs.Open.{Open, open_after, ended, kept_of, if_whole, whole_lines, left}
 use Rattle.page_roff_lines.specs.Cutting.{Place, Cutting, settled, place_at, place_after, ended_place, line_of, line_at, lines_within, place_of}

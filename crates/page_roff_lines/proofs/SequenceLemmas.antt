@@ -5,7 +5,7 @@ use Rattle.std.specs.Int.{is_in_range}
 use Rattle.std.proofs.lemmas.Bool.Decides.{nat_tests, eqb_tells, leb_tells}
 use Rattle.std.proofs.str.Valid.{of_two, of_three, of_four}
 use Rattle.std.proofs.str.Laws.{Follows}
-use Rattle.page_core.specs.Texts.{is_plain, is_plain_byte}
+use Rattle.page_core_base.specs.Texts.{is_plain, is_plain_byte}
 use Rattle.page_roff_lines.specs.Characters.{is_second, is_later, sequence_length}
 
 three_low : (x y z : ℕ) → 224 ≤ x → 128 ≤ y → (x ≡ 224 → 160 ≤ y) → 2048 ≤ (x - 224) * 4096 + (y - 128) * 64 + (z - 128)

@@ -1,7 +1,7 @@
 -- Cutting a page into lines, from any place between two of its bytes on.
 use Rattle.std.specs.Prelude.{ℕ, Bool, List, [], ◌∷◌, ◌++◌, if◌then◌else◌}
-use Rattle.page_core.specs.declared.page_settings.Encoding.{Encoding}
-use Rattle.page_core.specs.declared.page_settings.Encoding.TheVariants.{Utf8}
+use Rattle.page_core_base.specs.declared.page_settings.Encoding.{Encoding}
+use Rattle.page_core_base.specs.declared.page_settings.Encoding.TheVariants.{Utf8}
 use Rattle.page_roff_lines.specs.Open.{Open, first_open, open_after, ended, is_marked, kept_of}
 use Rattle.page_roff_lines.specs.Decoding.{Line, decoded, or_else, choice_of}
 

@@ -1,10 +1,10 @@
 -- The decoded lines of a page. Source: mandoc(1), -K.
 use Rattle.std.specs.Prelude.{ℕ, ◌+◌, ◌-◌, ◌/◌, ◌%◌, Bool, ◌==◌, ◌||◌, nat_lt, nat_le, List, [], ◌∷◌, ◌++◌, map, length, codes, if◌then◌else◌}
 use Rattle.std.specs.Char.{digit_char}
-use Rattle.page_core.specs.declared.page_settings.Encoding.{Encoding}
-use Rattle.page_core.specs.declared.page_settings.Encoding.TheVariants.{Auto, Ascii, Latin1, Utf8}
-use Rattle.page_core.specs.declared.note_kinds.NoteKind.TheVariants.{BadChar, Limit}
-use Rattle.page_core.specs.Messages.{Message}
+use Rattle.page_core_base.specs.declared.page_settings.Encoding.{Encoding}
+use Rattle.page_core_base.specs.declared.page_settings.Encoding.TheVariants.{Auto, Ascii, Latin1, Utf8}
+use Rattle.page_core_base.specs.declared.note_kinds.NoteKind.TheVariants.{BadChar, Limit}
+use Rattle.page_core_base.specs.Messages.{Message}
 use Rattle.page_roff_lines.specs.Limit.{line_limit}
 use Rattle.page_roff_lines.specs.Logical.{Kept, kept_lines, has_mark}
 use Rattle.page_roff_lines.specs.Characters.{Character, good, bad, sequence_length, characters, bytes_of, all_bytes}

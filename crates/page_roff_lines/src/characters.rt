@@ -3,7 +3,7 @@ ghost use Rattle.std.specs.Prelude.{◌≡◌, ◌+◌, ◌<◌, ◌≤◌, leng
 ghost use Rattle.page_roff_lines.specs.Characters.{sequence_length, is_second, is_later, is_printable, character, later_length};
 ghost use Rattle.page_roff_lines.specs.Fronts.{as_character, later_of, width_of, size_of};
 
-use page_core::Encoding;
+use page_core_base::Encoding;
 
 /// The character at the front of some bytes.
 #[derive(Clone, Copy)]

@@ -5,7 +5,7 @@ ghost use Rattle.page_roff_lines.specs.Characters.{is_printable};
 ghost use Rattle.page_roff_lines.specs.Decoding.{choice_of};
 
 use crate::characters::{is_printable, sequence_len};
-use page_core::Encoding;
+use page_core_base::Encoding;
 
 /// Whether each byte of a text is a printable one of ASCII or a tab, so that it's the same under each encoding.
 pub fn is_plain(text: &[u8]) -> bool

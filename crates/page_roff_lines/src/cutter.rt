@@ -2,18 +2,19 @@
 ghost use Rattle.std.specs.Prelude.{◌≡◌, ℕ, List, ◌++◌, ◌+◌, ◌-◌, ◌^◌, ◌<◌, ◌≤◌, ⊤, ◌∷◌, [], length, take, true, false, IfOk, OnOk, OnErr, MatchResult, if◌then◌else◌};
 ghost use mathlib.Core.Option.{none};
 ghost use Rattle.std.specs.Borrow.{sem, follows_so};
-ghost use Rattle.page_core.specs.declared.page_settings.Encoding.{Encoding as AnyEncoding};
+ghost use Rattle.page_core_base.specs.declared.page_settings.Encoding.{Encoding as AnyEncoding};
 ghost use Rattle.page_roff_lines.specs.Decoding.{lines, choice_of};
 ghost use Rattle.page_roff_lines.specs.Cutting.{Place, first_place, place_of, lines_within, lines_from};
-ghost use Rattle.page_core.specs.Sinks.{Gives};
-ghost use Rattle.page_core.specs.Fails.{FailsAs, Rose};
-ghost use Rattle.page_core.specs.Texts.{IsLine};
+ghost use Rattle.page_core_base.specs.Sinks.{Gives};
+ghost use Rattle.page_core_base.specs.Fails.{FailsAs, Rose};
+ghost use Rattle.page_core_base.specs.Texts.{IsLine};
 
 use crate::choosing::choose;
 use crate::decoding::DecodedText;
 use crate::open::OpenLine;
 use crate::reporting::{report, report_limit};
-use page_core::{Encoding, Fault, LINE, NoteSink};
+use page_core_base::{Encoding, Fault, NoteSink};
+use page_core_limits::LINE;
 use std::alloc::Global;
 use std::marker::Model;
 

@@ -1,7 +1,7 @@
 //! The decoded text of a line (mandoc(1), -K).
 ghost use Rattle.std.specs.Prelude.{◌≡◌, ◌-◌, ◌+◌, ◌<◌, ◌≤◌, ◌++◌, [], length, take, true, nat_le, nat_lt, IfOk, if◌then◌else◌};
 ghost use Rattle.std.specs.List.{list_all};
-ghost use Rattle.page_core.specs.Texts.{IsLine};
+ghost use Rattle.page_core_base.specs.Texts.{IsLine};
 ghost use Rattle.page_roff_lines.specs.Limit.{line_limit};
 ghost use Rattle.page_roff_lines.specs.Characters.{characters, bytes_of, all_bytes, is_printable};
 ghost use Rattle.page_roff_lines.specs.Fronts.{as_character, width_of};
@@ -9,7 +9,8 @@ ghost use Rattle.page_roff_lines.specs.Decoding.{fitting};
 
 use crate::characters::Front;
 use crate::scanning::text_within;
-use page_core::{Encoding, LINE};
+use page_core_base::Encoding;
+use page_core_limits::LINE;
 use std::alloc::{AllocError, Global};
 use std::marker::Model;
 
@@ -21,7 +22,7 @@ pub struct DecodedText {
 
 impl Model for DecodedText {
     ghost use Rattle.std.specs.Prelude.{ℕ, List, ◌≤◌, vec_len, vec_capacity};
-    ghost use Rattle.page_core.specs.declared.texts.TheConstants.{LINE};
+    ghost use Rattle.page_core_limits.specs.declared.TheConstants.{LINE};
 
     ghost Value = { List ℕ };
 

@@ -7,7 +7,7 @@ ghost use Rattle.page_roff_lines.specs.Characters.{is_printable};
 use crate::scanning::plain_run;
 use crate::{HeldText, Mark, Mode};
 use memchr::memchr;
-use page_core::LINE;
+use page_core_limits::LINE;
 use std::alloc::{AllocError, Global};
 use std::marker::Model;
 

@@ -1,9 +1,9 @@
 //! The messages about a line that is cut (mandoc(1), "DIAGNOSTICS").
 ghost use Rattle.std.specs.Prelude.{◌≡◌, ℕ, ◌+◌, ◌<◌, ◌≤◌, ◌^◌, List, ◌∷◌, [], ◌++◌, length, codes};
 ghost use Rattle.std.specs.Char.{digit_char};
-ghost use Rattle.page_core.specs.Sinks.{Gives};
-ghost use Rattle.page_core.specs.Fails.{FailsAs};
-ghost use Rattle.page_core.specs.MessageBytes.{message_of};
+ghost use Rattle.page_core_base.specs.Sinks.{Gives};
+ghost use Rattle.page_core_base.specs.Fails.{FailsAs};
+ghost use Rattle.page_core_base.specs.Messages.{message_of};
 ghost use Rattle.page_roff_lines.specs.Limit.{line_limit};
 ghost use Rattle.page_roff_lines.specs.Characters.{characters};
 ghost use Rattle.page_roff_lines.specs.Fronts.{as_character};
@@ -12,7 +12,8 @@ ghost use Rattle.page_roff_lines.specs.Decoding.{bad_character as spec_bad_chara
 use crate::characters::Front;
 use crate::scanning::text_within;
 use arrayvec::ArrayString;
-use page_core::{Encoding, Fault, LINE, Note, NoteKind, NoteSink};
+use page_core_base::{Encoding, Fault, Note, NoteKind, NoteSink};
+use page_core_limits::LINE;
 
 // A hexadecimal digit.
 fn hex_digit(value: u8) -> char

@@ -2,7 +2,9 @@
 ghost use Rattle.std.specs.Prelude.{◌≡◌, ◌+◌, ◌^◌, ◌<◌, ◌≤◌, length, false, true, OnOk};
 
 use crate::{Cutter, OpenLine};
-use page_core::{Encoding, KeptNotes, LINE, NoteKind};
+use page_core_base::{Encoding, NoteKind};
+use page_core_limits::LINE;
+use page_core_writers::KeptNotes;
 use std::alloc::Global;
 use std::process::Abort;
 use std::test::Fail;

@@ -1,5 +1,6 @@
 use crate::*;
-use page_core::{LINE, Output};
+use page_core_base::Output;
+use page_core_limits::LINE;
 use std::process::Abort;
 use std::test::Fail;
 

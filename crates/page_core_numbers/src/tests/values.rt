@@ -1,6 +1,7 @@
 use crate::*;
 use arrayvec::ArrayString;
-use page_core::{KeptNotes, Note, NoteKind, TextNotes};
+use page_core_base::{Note, NoteKind};
+use page_core_writers::{KeptNotes, TextNotes};
 use std::alloc::Global;
 use std::io;
 use std::io::{ErrorKind, Write};

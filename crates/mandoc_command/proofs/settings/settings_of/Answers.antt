@@ -1,7 +1,7 @@
 use Rattle.std.proofs.Common.{rules, ◌∙◌, ◌≡◌, Some, []}
-use Rattle.page_core.specs.declared.page_settings.Output.TheVariants as output
-use Rattle.page_core.specs.declared.page_settings.Encoding.TheVariants as encoding
-use Rattle.page_core.specs.declared.page_settings.Language.TheVariants as language
+use Rattle.page_core_base.specs.declared.page_settings.Output.TheVariants as output
+use Rattle.page_core_base.specs.declared.page_settings.Encoding.TheVariants as encoding
+use Rattle.page_core_base.specs.declared.page_settings.Language.TheVariants as language
 use Rattle.mandoc_command.specs.Names.{output_named, encoding_named, language_named}
 use Rattle.mandoc_command.specs.Measures.{no_measures, measures_of}
 use Rattle.mandoc_command.specs.Asked.{asked_of, chosen, least_of, system_of, text_in, values_of, with_os}

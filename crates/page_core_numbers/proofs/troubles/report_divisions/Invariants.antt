@@ -1,5 +1,5 @@
 use Rattle.std.proofs.Common.{◌≡◌, ◌-◌, replicate}
-use Rattle.page_core.specs.Sinks.{UpTo}
+use Rattle.page_core_base.specs.Sinks.{UpTo}
 use Rattle.page_core_numbers.specs.declared.troubles.Trouble.TheVariants.{DivZero}
 use Rattle.page_core_numbers.specs.Expressions.{messages_at}
 use Rattle.page_core_numbers.proofs.troubles.report_divisions.Given as goal

@@ -1,7 +1,7 @@
 use Rattle.std.proofs.Common.{◌≡◌, ◌<◌, ◌≤◌, ◌+◌, ◌++◌, [], refl, ◌∙◌, sym, ap, take, drop, length, length-append, arith}
 use Rattle.std.proofs.lemmas.Result.{err_from_is_err_and}
 use Rattle.std.proofs.lemmas.List.{length-take-le}
-use Rattle.page_core.specs.Laid.{nothing}
+use Rattle.page_core_base.specs.Laid.{nothing}
 use Rattle.page_roff_lines.specs.Cutting.{lines_within, place_of, last_line}
 use Rattle.page_roff_lines.proofs.PlaceLemmas.{place_of-append}
 use Rattle.page_engine.specs.Page.{laid, page, IsAt}

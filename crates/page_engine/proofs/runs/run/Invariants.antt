@@ -1,6 +1,6 @@
 use Rattle.std.proofs.Common.{◌≡◌, ◌+◌, ◌<◌, ◌^◌, false, ℕ, List, length}
 use Rattle.std.specs.Io.KnownBytes.{Consumes}
-use Rattle.page_core.specs.Laid.{Gave}
+use Rattle.page_core_base.specs.Laid.{Gave}
 use Rattle.page_roff_lines.specs.Cutting.{lines_within, place_of}
 use Rattle.page_engine.specs.Page.{Edge, IsAt, laid}
 use Rattle.page_engine.proofs.runs.run.Given as goal

@@ -1,7 +1,7 @@
 use Rattle.std.proofs.Common.{refl, [], sym, append-nil}
-use Rattle.page_core.specs.Rows.{row_bytes}
-use Rattle.page_core.specs.MessageBytes.{message_bytes}
-use Rattle.page_core.specs.Grows.{Grows-nil}
+use Rattle.page_core_writers.specs.RowBytes.{row_bytes}
+use Rattle.page_core_writers.specs.MessageBytes.{message_bytes}
+use Rattle.page_core_writers.specs.Grows.{Grows-nil}
 use Rattle.page_engine.specs.Shown.{shown_rows-nil}
 use Rattle.page_engine.proofs.BytesRead.{consumes_none}
 use Rattle.page_engine.proofs.runs.run_page.Goals as goal

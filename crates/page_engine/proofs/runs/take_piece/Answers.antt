@@ -2,7 +2,7 @@ use Rattle.std.proofs.Common.{◌≡◌, ◌<◌, ◌≤◌, ◌+◌, refl, ◌�
 use Rattle.std.proofs.lemmas.Result.{err_from_is_err_and}
 use Rattle.std.proofs.lemmas.Bool.Decides.{nat_tests}
 use Rattle.std.proofs.lemmas.List.{take_rest, length-take-le}
-use Rattle.page_core.proofs.SinkLemmas.{Laid-more, Laid-all}
+use Rattle.page_core_base.proofs.SinkLemmas.{Laid-more, Laid-all}
 use Rattle.page_roff_lines.specs.Cutting.{lines_within, place_of}
 use Rattle.page_engine.specs.Page.{laid}
 use Rattle.page_engine.proofs.Cutting.{laid_more, laid_over, place_cut, place_over, count_more, count_over, count_most, taken_more, laid_end}

@@ -1,5 +1,5 @@
 use Rattle.std.proofs.Common.{◌≡◌, ◌+◌, ◌<◌, ◌^◌, false, length}
-use Rattle.page_core.specs.Laid.{LaidUpTo}
+use Rattle.page_core_base.specs.Laid.{LaidUpTo}
 use Rattle.page_roff_lines.specs.Cutting.{lines_within, place_of}
 use Rattle.page_engine.specs.Page.{Edge, IsAt, laid}
 use Rattle.page_engine.proofs.runs.take_piece.Given as goal

@@ -1,5 +1,5 @@
 use Rattle.std.proofs.Common.{◌≡◌, drop}
-use Rattle.page_core.specs.Rows.{is_blank_row, row_of}
+use Rattle.page_core_base.specs.Rows.{is_blank_row, row_of}
 use Rattle.page_fill.proofs.cell_widths.is_blank.Given as goal
 
 abbrev pub invariant-loop-cell : goal.invariant-loop-cell

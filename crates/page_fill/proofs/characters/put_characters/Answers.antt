@@ -2,7 +2,7 @@ use Rattle.std.proofs.Common.{refl, ap, ◌∙◌}
 use Rattle.std.proofs.lemmas.Result.{err_from_is_err_and}
 use Rattle.std.specs.Str.Iter.{chars_rest}
 use Rattle.std.proofs.lemmas.Str.{IsUtf8-past_char}
-use Rattle.page_core.proofs.SinkLemmas.{Laid-start, Laid-more, Laid-within, Laid-all}
+use Rattle.page_core_base.proofs.SinkLemmas.{Laid-start, Laid-more, Laid-within, Laid-all}
 use Rattle.page_fill.proofs.CharacterLemmas.{characters-more, characters-done}
 use Rattle.page_fill.proofs.characters.put_characters.Goals as goal
 

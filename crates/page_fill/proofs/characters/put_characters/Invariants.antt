@@ -1,6 +1,6 @@
 use Rattle.std.proofs.Common.{◌≡◌, IsUtf8, chars}
 use Rattle.std.specs.Str.Iter.{chars_rest}
-use Rattle.page_core.specs.Laid.{LaidUpTo}
+use Rattle.page_core_base.specs.Laid.{LaidUpTo}
 use Rattle.page_fill.specs.Characters as shown
 use Rattle.page_fill.proofs.characters.put_characters.Given as goal
 

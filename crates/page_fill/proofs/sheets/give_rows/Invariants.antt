@@ -1,6 +1,6 @@
 use Rattle.std.proofs.Common.{◌≡◌, ◌-◌, [], replicate}
-use Rattle.page_core.specs.Rows.{row_of}
-use Rattle.page_core.specs.Sinks.{UpTo}
+use Rattle.page_core_base.specs.Rows.{row_of}
+use Rattle.page_core_base.specs.Sinks.{UpTo}
 use Rattle.page_fill.proofs.sheets.give_rows.Given as goal
 
 abbrev pub invariant-loop : goal.invariant-loop

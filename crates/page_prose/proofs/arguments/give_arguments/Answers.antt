@@ -2,8 +2,8 @@ use Rattle.std.proofs.Common.{refl, ◌∙◌, arith, ◌<◌, ◌≤◌, length
 use Rattle.std.proofs.lemmas.Result.{err_from_is_err_and}
 use Rattle.std.proofs.lemmas.Bool.Decides.{nat_tests}
 use Rattle.std.proofs.lemmas.List.{take_rest}
-use Rattle.page_core.specs.declared.faults.Fault.TheVariants.{Failed}
-use Rattle.page_core.proofs.SinkLemmas.{UpTo-start, UpTo-more, UpTo-within, UpTo-all}
+use Rattle.page_core_base.specs.declared.faults.Fault.TheVariants.{Failed}
+use Rattle.page_core_base.proofs.SinkLemmas.{UpTo-start, UpTo-more, UpTo-within, UpTo-all}
 use Rattle.page_prose.proofs.ArgumentLemmas.{arguments_more, arguments_none}
 use Rattle.page_prose.proofs.arguments.give_arguments.Goals as goal
 

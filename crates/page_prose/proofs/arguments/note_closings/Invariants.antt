@@ -1,5 +1,5 @@
 use Rattle.std.proofs.Common.{◌≡◌, ◌+◌, length}
-use Rattle.page_core.specs.Sinks.{UpTo}
+use Rattle.page_core_base.specs.Sinks.{UpTo}
 use Rattle.page_prose.specs.Prose.{closings_items}
 use Rattle.page_prose.proofs.arguments.note_closings.Given as goal
 

@@ -1,7 +1,7 @@
 use Rattle.std.proofs.Common.{◌≡◌, ◌≤◌, ◌-◌, refl, ◌∙◌, arith}
 use Rattle.std.proofs.lemmas.Result.{err_from_is_err_and}
-use Rattle.page_core.specs.declared.faults.Fault.TheVariants.{Failed}
-use Rattle.page_core.proofs.SinkLemmas.{UpTo-start, UpTo-more, UpTo-within, UpTo-all}
+use Rattle.page_core_base.specs.declared.faults.Fault.TheVariants.{Failed}
+use Rattle.page_core_base.proofs.SinkLemmas.{UpTo-start, UpTo-more, UpTo-within, UpTo-all}
 use Rattle.page_prose.proofs.FieldLemmas.{blanks_more, blanks_none}
 use Rattle.page_prose.proofs.field_pieces.give_blanks.Goals as goal
 

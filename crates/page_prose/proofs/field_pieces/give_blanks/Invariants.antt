@@ -1,5 +1,5 @@
 use Rattle.std.proofs.Common.{◌≡◌, ◌-◌}
-use Rattle.page_core.specs.Sinks.{UpTo}
+use Rattle.page_core_base.specs.Sinks.{UpTo}
 use Rattle.page_prose.specs.FieldPieces.{blank_cells}
 use Rattle.page_prose.proofs.field_pieces.give_blanks.Given as goal
 

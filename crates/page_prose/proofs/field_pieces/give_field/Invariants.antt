@@ -1,6 +1,6 @@
 use Rattle.std.proofs.Common.{◌≡◌, ◌≤◌, length}
-use Rattle.page_core.specs.Sinks.{UpTo}
-use Rattle.page_core.specs.declared.texts.TheConstants.{LINE}
+use Rattle.page_core_base.specs.Sinks.{UpTo}
+use Rattle.page_core_limits.specs.declared.TheConstants.{LINE}
 use Rattle.page_prose.specs.FieldPieces.{field_pieces}
 use Rattle.page_prose.proofs.field_pieces.give_field.Given as goal
 

@@ -1,7 +1,7 @@
 use Rattle.std.proofs.Common.{refl}
 use Rattle.std.proofs.lemmas.Result.{err_from_is_err_and}
-use Rattle.page_core.specs.declared.faults.Fault.TheVariants.{Failed}
-use Rattle.page_core.proofs.SinkLemmas.{UpTo-start, UpTo-more, UpTo-within}
+use Rattle.page_core_base.specs.declared.faults.Fault.TheVariants.{Failed}
+use Rattle.page_core_base.proofs.SinkLemmas.{UpTo-start, UpTo-more, UpTo-within}
 use Rattle.page_prose.proofs.EmitsLemmas.{emits_last}
 use Rattle.page_prose.proofs.headers.note_header.Goals as goal
 

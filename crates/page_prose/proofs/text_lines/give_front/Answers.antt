@@ -1,6 +1,6 @@
 use Rattle.std.proofs.Common.{length, arith, ◌<◌}
 use Rattle.std.proofs.lemmas.Bool.Decides.{nat_tests}
-use Rattle.page_core.specs.declared.faults.Fault.TheVariants.{Failed}
+use Rattle.page_core_base.specs.declared.faults.Fault.TheVariants.{Failed}
 use Rattle.page_prose.proofs.EmitsLemmas.{gave_none}
 use Rattle.page_prose.proofs.TokenLemmas.{no_white}
 use Rattle.page_prose.proofs.text_lines.give_front.Goals as goal

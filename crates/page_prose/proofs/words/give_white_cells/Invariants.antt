@@ -1,5 +1,5 @@
 use Rattle.std.proofs.Common.{◌≡◌, drop}
-use Rattle.page_core.specs.Sinks.{UpTo}
+use Rattle.page_core_base.specs.Sinks.{UpTo}
 use Rattle.page_prose.specs.Words.{white_cells}
 use Rattle.page_prose.proofs.words.give_white_cells.Given as goal
 

@@ -1,8 +1,8 @@
 use Rattle.std.proofs.Common.{◌≡◌, ◌<◌, true, false, length, ap, refl, sym, ◌∙◌, arith, length-drop}
 use Rattle.std.proofs.lemmas.Result.{err_from_is_err_and}
 use Rattle.std.proofs.lemmas.List.{take_rest}
-use Rattle.page_core.specs.declared.faults.Fault.TheVariants.{Failed}
-use Rattle.page_core.proofs.SinkLemmas.{UpTo-start, UpTo-more, UpTo-within, UpTo-all}
+use Rattle.page_core_base.specs.declared.faults.Fault.TheVariants.{Failed}
+use Rattle.page_core_base.proofs.SinkLemmas.{UpTo-start, UpTo-more, UpTo-within, UpTo-all}
 use Rattle.page_prose.specs.Tokens.{begins_word, token_bytes, token_seen}
 use Rattle.page_prose.proofs.TokenLemmas.{notes_more, notes_none, word_some}
 use Rattle.page_prose.proofs.words.note_word.Goals as goal

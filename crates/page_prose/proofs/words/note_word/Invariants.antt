@@ -1,6 +1,6 @@
 use Rattle.std.proofs.Common.{◌≡◌, ◌≤◌, length}
-use Rattle.page_core.specs.Sinks.{UpTo}
-use Rattle.page_core.specs.declared.texts.TheConstants.{LINE}
+use Rattle.page_core_base.specs.Sinks.{UpTo}
+use Rattle.page_core_limits.specs.declared.TheConstants.{LINE}
 use Rattle.page_prose.specs.Tokens.{tokens_of}
 use Rattle.page_prose.specs.Words.{word_notes}
 use Rattle.page_prose.proofs.words.note_word.Given as goal

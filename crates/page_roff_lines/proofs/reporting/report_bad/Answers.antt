@@ -1,7 +1,7 @@
 use Rattle.std.proofs.Common.{ℕ, ◌≡◌, ◌+◌, ◌-◌, refl, subst, ◌∙◌, arith}
 use Rattle.std.proofs.lemmas.List.{length-drop}
-use Rattle.page_core.specs.Sinks.{UpTo}
-use Rattle.page_core.proofs.SinkLemmas.{UpTo-start, UpTo-more, UpTo-within, UpTo-all}
+use Rattle.page_core_base.specs.Sinks.{UpTo}
+use Rattle.page_core_base.proofs.SinkLemmas.{UpTo-start, UpTo-more, UpTo-within, UpTo-all}
 use Rattle.page_roff_lines.specs.Limit.{line_limit, line_limit_is}
 use Rattle.page_roff_lines.specs.Characters.{characters}
 use Rattle.page_roff_lines.specs.Decoding.{fitting, bad_notes}

@@ -1,5 +1,5 @@
 use Rattle.std.proofs.Common.{◌≡◌, ◌≤◌, ◌-◌, ◌+◌, length, drop}
-use Rattle.page_core.specs.Sinks.{UpTo}
+use Rattle.page_core_base.specs.Sinks.{UpTo}
 use Rattle.page_roff_lines.specs.Limit.{line_limit}
 use Rattle.page_roff_lines.specs.Characters.{characters}
 use Rattle.page_roff_lines.specs.Decoding.{fitting, bad_notes}

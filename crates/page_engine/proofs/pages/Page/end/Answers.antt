@@ -1,6 +1,6 @@
 use Rattle.std.proofs.Common.{rules, refl, ◌∙◌, sym, ◌≡◌, OnOk}
-use Rattle.page_core.specs.Laid.{Gets}
-use Rattle.page_core.specs.Fails.{FailsBySink}
+use Rattle.page_core_base.specs.Laid.{Gets}
+use Rattle.page_core_base.specs.Fails.{FailsBySink}
 use Rattle.page_engine.specs.Page.{ended, end_laid}
 use Rattle.page_engine.proofs.Feeds.{ends_gets, ends_worst, ends_faults}
 use Rattle.page_engine.proofs.pages.Page.end.Goals as goal

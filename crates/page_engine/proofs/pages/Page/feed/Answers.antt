@@ -1,6 +1,6 @@
 use Rattle.std.proofs.Common.{rules, refl, ◌∙◌, sym, ◌≡◌, OnOk}
-use Rattle.page_core.specs.Laid.{Gets}
-use Rattle.page_core.specs.Fails.{FailsBySink}
+use Rattle.page_core_base.specs.Laid.{Gets}
+use Rattle.page_core_base.specs.Fails.{FailsBySink}
 use Rattle.page_prose.specs.Prose.{line_items}
 use Rattle.page_engine.specs.Items.{laid_items}
 use Rattle.page_engine.specs.Page.{IsAt, laid_text, passed}

@@ -1,5 +1,5 @@
 use Rattle.std.proofs.Common.{◌≡◌, ◌-◌}
-use Rattle.page_core.specs.Laid.{LaidUpTo}
+use Rattle.page_core_base.specs.Laid.{LaidUpTo}
 use Rattle.page_fill.specs.Sheets as sheet
 use Rattle.page_fill.proofs.sheets.OpenRow.put_blanks.Given as goal
 

@@ -1,6 +1,6 @@
 use Rattle.std.proofs.Common.{◌≡◌, ◌-◌, refl, ◌∙◌, arith}
 use Rattle.std.proofs.lemmas.Result.{err_from_is_err_and}
-use Rattle.page_core.proofs.SinkLemmas.{Laid-start, Laid-more, Laid-within, Laid-all}
+use Rattle.page_core_base.proofs.SinkLemmas.{Laid-start, Laid-more, Laid-within, Laid-all}
 use Rattle.page_fill.proofs.SheetLemmas.{spaces-more, spaces-done}
 use Rattle.page_fill.proofs.sheets.OpenRow.put_spaces.Goals as goal
 

@@ -1,5 +1,5 @@
 use Rattle.std.proofs.Common.{sym, ◌∙◌, refl}
-use Rattle.page_core.proofs.SinkLemmas.{Lays-after}
+use Rattle.page_core_base.proofs.SinkLemmas.{Lays-after}
 use Rattle.page_fill.specs.Fill.{on_sheet}
 use Rattle.page_fill.proofs.LaidLemmas.{Lays-over}
 use Rattle.page_fill.proofs.PlainLemmas.{text-plain, text-word}

@@ -1,6 +1,6 @@
 use Rattle.std.proofs.Common.{sym, ◌∙◌, refl}
 use Rattle.std.proofs.lemmas.Result.{err_from_is_err_and}
-use Rattle.page_core.proofs.SinkLemmas.{Lays-after, within-join}
+use Rattle.page_core_base.proofs.SinkLemmas.{Lays-after, within-join}
 use Rattle.page_fill.specs.Fill.{on_sheet}
 use Rattle.page_fill.proofs.LaidLemmas.{Lays-over}
 use Rattle.page_fill.proofs.WordLemmas.{text-none, text-some}

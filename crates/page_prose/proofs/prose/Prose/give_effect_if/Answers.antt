@@ -1,5 +1,5 @@
 use Rattle.std.proofs.Common.{refl}
-use Rattle.page_core.specs.declared.faults.Fault.TheVariants.{Failed}
+use Rattle.page_core_base.specs.declared.faults.Fault.TheVariants.{Failed}
 use Rattle.page_prose.proofs.EmitsLemmas.{gave_none}
 use Rattle.page_prose.proofs.prose.Prose.give_effect_if.Goals as goal
 

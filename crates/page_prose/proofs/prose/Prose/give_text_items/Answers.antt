@@ -1,7 +1,7 @@
 use Rattle.std.proofs.Common.{refl, sym, append-nil}
 use Rattle.std.proofs.lemmas.Result.{err_from_is_err_and}
-use Rattle.page_core.specs.declared.faults.Fault.TheVariants.{Failed}
-use Rattle.page_core.proofs.SinkLemmas.{UpTo-start, UpTo-more, UpTo-within, UpTo-all}
+use Rattle.page_core_base.specs.declared.faults.Fault.TheVariants.{Failed}
+use Rattle.page_core_base.proofs.SinkLemmas.{UpTo-start, UpTo-more, UpTo-within, UpTo-all}
 use Rattle.std.proofs.lemmas.List.{take_rest}
 use Rattle.page_prose.proofs.prose.Prose.give_text_items.Goals as goal
 

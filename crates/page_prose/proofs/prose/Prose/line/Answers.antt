@@ -1,5 +1,5 @@
 use Rattle.std.proofs.lemmas.Result.{err_from_is_err_and}
-use Rattle.page_core.specs.declared.faults.Fault.TheVariants.{Failed}
+use Rattle.page_core_base.specs.declared.faults.Fault.TheVariants.{Failed}
 use Rattle.page_prose.specs.Prose.{line_items}
 use Rattle.page_prose.proofs.prose.Prose.line.Goals as goal
 

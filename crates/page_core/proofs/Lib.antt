@@ -1,3 +1,0 @@
-pub mod GrowsLemmas
-pub mod SinkLemmas
-pub mod RowLemmas

@@ -1,0 +1,4 @@
+pub mod SinkLemmas
+pub mod PieceLatchLemmas
+pub mod RowLatchLemmas
+pub mod TextLemmas

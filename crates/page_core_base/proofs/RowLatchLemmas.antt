@@ -1,0 +1,137 @@
+-- How a latch over a sink of rows and a sink of messages takes items.
+use Rattle.std.proofs.Common.{◌≡◌, ℕ, List, [], ◌++◌, Option, None, Some, is_some, false, refl, Result, Ok, Err, MatchResult, ◌∙◌, append-nil, sym}
+use Rattle.std.specs.Borrow.{GName}
+use Rattle.std.specs.Result.{result_err}
+use Rattle.page_core_base.specs.Laid.{Laid, Gets}
+use Rattle.page_core_base.specs.RowPlans.{Planned, Left, Seen}
+use Rattle.page_core_base.proofs.SinkLemmas.{UpTo-all, UpTo-more, UpTo-within}
+use Rattle.page_core_base.specs.Fails.{FailsAs, FailsBySink}
+use Rattle.page_core_base.specs.Sinks.{Gives, IsSink, UpTo}
+use Rattle.page_core_base.specs.declared.faults.Fault.{Fault}
+use Rattle.page_core_base.specs.declared.faults.Fault.TheVariants.{WriteText, WriteNotes}
+use Rattle.page_core_base.specs.Messages.{Message}
+use Rattle.page_core_base.specs.Rows.{LaidRow}
+
+-- what came up to a rest is a front of all
+front : {S I : Type 0} {gave within : S → List I → S → Type 0} → IsSink gave within → ((s t : S) (xs : List I) → gave s xs t → within s xs t)
+    → {s t : S} {all : List I} (rest : List I) → UpTo gave s all rest t → within s all t
+front k whole {s} {t} rest w = rw w.parts (k.before s t w.done rest (whole s t w.done w.given))
+
+-- with no fault yet, a call of the sink of rows gave rows
+pub row_given : {R N K L : Type 0} {rs : Seen R LaidRow K} {ns : Seen N Message L} → IsSink rs.gave rs.within → IsSink ns.gave ns.within
+    → ((s t : N) (xs : List Message) → ns.gave s xs t → ns.within s xs t)
+    → {plan : Planned R N K L} {a b : GName} {r : R} {n : N} (t : R) {fault : Option Fault} (res : Result (Unit {0}) Fault) (rows more : List LaidRow) (notes : List Message)
+    → is_some fault ≡ false → Left rs ns plan a b r n fault (rows ++ more) notes → Gives res rs.gave rs.within r rows t
+    → FailsAs WriteText res (rs.failed r) (rs.failed t) → rs.loans t ≡ rs.loans r → Left rs ns plan a b t n (result_err res) more notes
+row_given k l whole t {fault = Some f} res rows more notes none h g fails same = let no : ⊥ = cc in absurd no
+row_given k l whole t {fault = None} (Ok x) rows more notes none h g fails same = record {
+  rows_loan = h.rows_loan;
+  notes_loan = h.notes_loan;
+  rows_same = same ∙ h.rows_same;
+  notes_same = h.notes_same;
+  came = record {
+    rows_came = UpTo-more k t rows more h.came.rows_came refl g;
+    notes_came = h.came.notes_came;
+    rows_failed = fails ∙ h.came.rows_failed;
+    notes_failed = h.came.notes_failed;
+  };
+}
+row_given k l whole t {fault = None} (Err f) rows more notes none h g fails same = record {
+  rows_loan = h.rows_loan;
+  notes_loan = h.notes_loan;
+  rows_same = same ∙ h.rows_same;
+  notes_same = h.notes_same;
+  came = record {
+    rows_came = UpTo-within k t rows more h.came.rows_came refl g;
+    notes_came = front l whole notes h.came.notes_came;
+    cause = rw fails.0 (rw h.came.rows_failed at fails.1);
+  };
+}
+
+-- the same of the sink of messages
+pub note_given : {R N K L : Type 0} {rs : Seen R LaidRow K} {ns : Seen N Message L} → IsSink rs.gave rs.within → IsSink ns.gave ns.within
+    → ((s t : R) (xs : List LaidRow) → rs.gave s xs t → rs.within s xs t)
+    → {plan : Planned R N K L} {a b : GName} {r : R} {n : N} (t : N) {fault : Option Fault} (res : Result (Unit {0}) Fault) (rows : List LaidRow) (notes more : List Message)
+    → is_some fault ≡ false → Left rs ns plan a b r n fault rows (notes ++ more) → Gives res ns.gave ns.within n notes t
+    → FailsAs WriteNotes res (ns.failed n) (ns.failed t) → ns.loans t ≡ ns.loans n → Left rs ns plan a b r t (result_err res) rows more
+note_given k l whole t {fault = Some f} res rows notes more none h g fails same = let no : ⊥ = cc in absurd no
+note_given k l whole t {fault = None} (Ok x) rows notes more none h g fails same = record {
+  rows_loan = h.rows_loan;
+  notes_loan = h.notes_loan;
+  rows_same = h.rows_same;
+  notes_same = same ∙ h.notes_same;
+  came = record {
+    rows_came = h.came.rows_came;
+    notes_came = UpTo-more l t notes more h.came.notes_came refl g;
+    rows_failed = h.came.rows_failed;
+    notes_failed = fails ∙ h.came.notes_failed;
+  };
+}
+note_given k l whole t {fault = None} (Err f) rows notes more none h g fails same = record {
+  rows_loan = h.rows_loan;
+  notes_loan = h.notes_loan;
+  rows_same = h.rows_same;
+  notes_same = same ∙ h.notes_same;
+  came = record {
+    rows_came = front k whole rows h.came.rows_came;
+    notes_came = UpTo-within l t notes more h.came.notes_came refl g;
+    cause = rw fails.0 (rw h.came.notes_failed at fails.1);
+  };
+}
+
+-- what a call over the two sinks did
+pub record Done {R N K L E : Type 0} (rs : Seen R LaidRow K) (ns : Seen N Message L) (a a' b b' : GName) (r r' : R) (n n' : N) (res : Result (Unit {0}) Fault)
+    (given : Laid E) : Type 0 where
+  pub rows_loan : a' ≡ a
+  pub notes_loan : b' ≡ b
+  pub rows_same : rs.loans r' ≡ rs.loans r
+  pub notes_same : ns.loans n' ≡ ns.loans n
+  pub gets : Gets res rs.gave rs.within ns.gave ns.within r r' n n' given
+  pub faults : FailsBySink res (rs.failed r) (rs.failed r') (ns.failed n) (ns.failed n')
+
+-- nothing is still to come, and the latch says what it holds
+left_done : {R N K L E : Type 0} {rs : Seen R LaidRow K} {ns : Seen N Message L} {a a' b b' : GName} {r r' : R} {n n' : N} {fault : Option Fault}
+    (res : Result (Unit {0}) Fault) (given : Laid E) → MatchResult res (λ _. fault ≡ None) (λ f. fault ≡ Some f)
+    → Left rs ns (record { rows_name = a; notes_name = b; rows = r; notes = n; rows_loans = rs.loans r; notes_loans = ns.loans n; all_rows = given.rows; all_notes = given.notes })
+    a' b' r' n' fault [] []
+    → Done rs ns a a' b b' r r' n n' res given
+left_done (Ok x) given e h =
+    let c = (rw e at h).came in record {
+      rows_loan = h.rows_loan;
+      notes_loan = h.notes_loan;
+      rows_same = h.rows_same;
+      notes_same = h.notes_same;
+      gets = record { rows = UpTo-all c.rows_came; notes = UpTo-all c.notes_came };
+      faults = (c.rows_failed, c.notes_failed);
+    }
+left_done (Err f) given e h =
+    let c = (rw e at h).came in record {
+      rows_loan = h.rows_loan;
+      notes_loan = h.notes_loan;
+      rows_same = h.rows_same;
+      notes_same = h.notes_same;
+      gets = record { rows = c.rows_came; notes = c.notes_came };
+      faults = c.cause;
+    }
+
+-- a whole call: it begins with no fault, and ends with what the latch says
+pub latched : {R N K L E : Type 0} (rs : Seen R LaidRow K) (ns : Seen N Message L) → IsSink rs.gave rs.within → IsSink ns.gave ns.within
+    → {a a' b b' : GName} {r r' : R} {n n' : N} {none fault : Option Fault} (given : Laid E) (res : Result (Unit {0}) Fault) → none ≡ None
+    → ((plan : Planned R N K L) (more : List LaidRow) (said : List Message) → Left rs ns plan a b r n none (given.rows ++ more) (given.notes ++ said)
+    → Left rs ns plan a' b' r' n' fault more said)
+    → MatchResult res (λ _. fault ≡ None) (λ f. fault ≡ Some f) → Done rs ns a a' b b' r r' n n' res given
+latched rs ns k l {a} {b = b} {r} {n = n} given res start came done =
+    left_done res given done
+    (came (record { rows_name = a; notes_name = b; rows = r; notes = n; rows_loans = rs.loans r; notes_loans = ns.loans n; all_rows = given.rows; all_notes = given.notes }) [] []
+    (rw start (record {
+      rows_loan = refl;
+      notes_loan = refl;
+      rows_same = refl;
+      notes_same = refl;
+      came = record {
+        rows_came = record { done = []; parts = sym (append-nil given.rows); given = k.none r };
+        notes_came = record { done = []; parts = sym (append-nil given.notes); given = l.none n };
+        rows_failed = refl;
+        notes_failed = refl;
+      };
+    })))

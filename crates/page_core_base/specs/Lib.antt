@@ -1,0 +1,12 @@
+pub mod Messages
+pub mod Rows
+pub mod Texts
+pub mod Checks
+pub mod Sinks
+pub mod Fails
+pub mod Laid
+pub mod Pieces
+pub mod Events
+pub mod Latches
+pub mod PiecePlans
+pub mod RowPlans

@@ -1,0 +1,33 @@
+//! What the layers of the formatter share: messages and their levels, settings, faults, cells, what is filled, events, the traits of the
+//! sinks that take rows, messages and pieces, and the latches through which inner functions give to them.
+#![tactic(auto)]
+
+mod cells;
+mod events;
+mod faults;
+mod lines_taken;
+mod note_kinds;
+mod note_sinks;
+mod notes;
+mod page_settings;
+mod piece_latches;
+mod pieces;
+mod places;
+mod row_latches;
+mod row_sinks;
+mod texts;
+
+pub use cells::{Cell, Font};
+pub use events::{Closer, Deed, Event, Join, Leaf, LineOpener, Opener};
+pub use faults::Fault;
+pub use lines_taken::{Form, Taken};
+pub use note_kinds::{Level, NoteKind};
+pub use note_sinks::NoteSink;
+pub use notes::{DETAIL, Note, text_front};
+pub use page_settings::{Encoding, Language, Output, SettingFault, Settings};
+pub use piece_latches::{PieceLatch, PieceOut};
+pub use pieces::{Piece, PieceSink, TagForm};
+pub use places::Place;
+pub use row_latches::{RowLatch, RowOut};
+pub use row_sinks::RowSink;
+pub use texts::is_line;

@@ -1,0 +1,209 @@
+//! The kinds of messages, their levels and texts (mandoc(1), "DIAGNOSTICS").
+
+ghost use Rattle.std.specs.Prelude.{◌≡◌};
+ghost use Rattle.page_core_base.specs.Messages.{level_of, text_of, level_name, is_below};
+
+/// The level of a message, from the least to the greatest (mandoc(1), -W).
+#[derive(Clone, Copy, Debug, PartialEq, Eq)]
+pub enum Level {
+    Base,
+    Style,
+    Warning,
+    Error,
+    Unsupp,
+}
+
+impl Level {
+    /// The name that a message shows, in capitals.
+    pub fn name(self) -> &'static str
+        ensures { result.now ≡ level_name self }
+    {
+        match self {
+            Level::Base => "BASE",
+            Level::Style => "STYLE",
+            Level::Warning => "WARNING",
+            Level::Error => "ERROR",
+            Level::Unsupp => "UNSUPP",
+        }
+    }
+
+    /// Whether this level is less than another.
+    pub fn is_below(self, other: Level) -> bool
+        ensures { result ≡ is_below self other }
+    {
+        (self as u8) < (other as u8)
+    }
+}
+
+/// What a message says. A message's detail, where its kind has one, is named beside the kind.
+#[derive(Clone, Copy, Debug, PartialEq, Eq)]
+pub enum NoteKind {
+    /// A source line ends in a blank or tab.
+    TrailingBlank,
+    /// The title is empty at the header.
+    MissingTitle,
+    /// No volume is known for the section; the section.
+    UnknownSection,
+    /// The date is empty at the header.
+    MissingDate,
+    /// No operating system is named in an mdoc page.
+    MissingOs,
+    /// A prologue macro comes after the body began; its name.
+    LateMacro,
+    /// The page ended before its body.
+    NoBody,
+    /// The body begins otherwise than by a section header.
+    BeforeSection,
+    /// A paragraph macro has nothing before it since a heading; its name.
+    SkipPara,
+    /// A macro's scope to the next line is broken; the scope's name.
+    LineScope,
+    /// A macro that needs an argument has none; its name.
+    EmptyMacro,
+    /// An explicit scope is ended by the closer of another; the opener.
+    BadNest,
+    /// A blank line in fill mode.
+    BlankFill,
+    /// A word in fill mode has tabs before it or in it.
+    TabFill,
+    /// No string has the name; the name.
+    UndefString,
+    /// An escape is undefined; the escape.
+    UndefEscape,
+    /// An escape has no end on its line; the escape.
+    BadEscape,
+    /// No glyph has the name, or the character has no spelling; the name or character.
+    NoGlyph,
+    /// No font has the name; the font.
+    UnknownFont,
+    /// A quoted argument has no end.
+    Unterminated,
+    /// A tag list has no width.
+    MissingWidth,
+    /// A byte is no character; the byte.
+    BadChar,
+    /// No macro or request has the name; the name.
+    UnknownMacro,
+    /// A list item stands outside a list.
+    ItemOutside,
+    /// An end has no open block; the end.
+    NotOpen,
+    /// More relative margins are ended than are open.
+    FewerRs,
+    /// A block has no end; its opener.
+    MissingEnd,
+    /// A macro argument is used outside a macro; the escape.
+    ArgOutside,
+    /// An expression lacks an operand.
+    NotNumeric,
+    /// A division by zero.
+    DivZero,
+    /// A list has no type.
+    NoListType,
+    /// No manual name is known.
+    MissingName,
+    /// A condition is unknown; its letter.
+    BadCondition,
+    /// A bound on repeated work is passed; its name.
+    Loop,
+    /// Another limit is passed; its name.
+    Limit,
+    /// A request is not supported; its name.
+    UnsuppRequest,
+    /// An escape is not supported; its first two bytes.
+    UnsuppEscape,
+    /// A table, equation or picture is not supported.
+    Table,
+}
+
+impl NoteKind {
+    /// The level of messages of this kind.
+    pub fn level(self) -> Level
+        ensures { result ≡ level_of self }
+    {
+        match self {
+            NoteKind::TrailingBlank => Level::Style,
+            NoteKind::MissingTitle
+            | NoteKind::UnknownSection
+            | NoteKind::MissingDate
+            | NoteKind::MissingOs
+            | NoteKind::LateMacro
+            | NoteKind::NoBody
+            | NoteKind::BeforeSection
+            | NoteKind::SkipPara
+            | NoteKind::LineScope
+            | NoteKind::EmptyMacro
+            | NoteKind::BadNest
+            | NoteKind::BlankFill
+            | NoteKind::TabFill
+            | NoteKind::UndefString
+            | NoteKind::UndefEscape
+            | NoteKind::BadEscape
+            | NoteKind::NoGlyph
+            | NoteKind::UnknownFont
+            | NoteKind::Unterminated
+            | NoteKind::MissingWidth => Level::Warning,
+            NoteKind::BadChar
+            | NoteKind::UnknownMacro
+            | NoteKind::ItemOutside
+            | NoteKind::NotOpen
+            | NoteKind::FewerRs
+            | NoteKind::MissingEnd
+            | NoteKind::ArgOutside
+            | NoteKind::NotNumeric
+            | NoteKind::DivZero
+            | NoteKind::NoListType
+            | NoteKind::MissingName
+            | NoteKind::BadCondition
+            | NoteKind::Loop
+            | NoteKind::Limit => Level::Error,
+            NoteKind::UnsuppRequest | NoteKind::UnsuppEscape | NoteKind::Table => Level::Unsupp,
+        }
+    }
+
+    /// The text of messages of this kind.
+    pub fn text(self) -> &'static str
+        ensures { result.now ≡ text_of self }
+    {
+        match self {
+            NoteKind::TrailingBlank => "whitespace at end of input line",
+            NoteKind::MissingTitle => "missing manual title, using \"\"",
+            NoteKind::UnknownSection => "unknown manual section",
+            NoteKind::MissingDate => "missing date, using \"\"",
+            NoteKind::MissingOs => "missing Os macro, using \"\"",
+            NoteKind::LateMacro => "skipping late prologue macro",
+            NoteKind::NoBody => "no document body",
+            NoteKind::BeforeSection => "content before first section header",
+            NoteKind::SkipPara => "skipping paragraph macro",
+            NoteKind::LineScope => "line scope broken",
+            NoteKind::EmptyMacro => "skipping empty macro",
+            NoteKind::BadNest => "blocks badly nested",
+            NoteKind::BlankFill => "blank line in fill mode, using .sp",
+            NoteKind::TabFill => "tab in filled text",
+            NoteKind::UndefString => "undefined string, using \"\"",
+            NoteKind::UndefEscape => "undefined escape, printing literally",
+            NoteKind::BadEscape => "invalid escape sequence",
+            NoteKind::NoGlyph => "unknown character, using <?>",
+            NoteKind::UnknownFont => "unknown font, skipping request",
+            NoteKind::Unterminated => "unterminated quoted argument",
+            NoteKind::MissingWidth => "missing -width in -tag list, using 6n",
+            NoteKind::BadChar => "skipping bad character",
+            NoteKind::UnknownMacro => "skipping unknown macro",
+            NoteKind::ItemOutside => "skipping item outside list",
+            NoteKind::NotOpen => "skipping end of block that is not open",
+            NoteKind::FewerRs => "fewer RS blocks open, skipping",
+            NoteKind::MissingEnd => "appending missing end of block",
+            NoteKind::ArgOutside => "using macro argument outside macro",
+            NoteKind::NotNumeric => "argument is not numeric, using 0",
+            NoteKind::DivZero => "divide by zero",
+            NoteKind::NoListType => "missing list type, using -item",
+            NoteKind::MissingName => "missing manual name, using \"\"",
+            NoteKind::BadCondition => "unknown condition, using false",
+            NoteKind::Loop => "input stack limit exceeded, infinite loop?",
+            NoteKind::Limit => "limit exceeded, skipping",
+            NoteKind::UnsuppRequest => "unsupported roff request",
+            NoteKind::UnsuppEscape => "unsupported escape sequence",
+            NoteKind::Table => "unsupported table, equation or picture",
+        }
+    }
+}

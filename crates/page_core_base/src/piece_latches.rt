@@ -1,0 +1,81 @@
+//! The latch over a sink of pieces: what inner functions give to, so that they need not hand on its faults.
+
+ghost use Rattle.std.specs.Prelude.{◌≡◌, List, [], ◌∷◌, IsTrue, None, Some, MatchResult};
+ghost use Rattle.page_core_base.specs.Latches.{Came};
+ghost use Rattle.page_core_base.specs.Messages.{message_of};
+ghost use Rattle.page_core_base.specs.PiecePlans.{Planned, Left};
+ghost use Rattle.page_core_base.specs.Pieces.{Item, shown, noted, piece_of};
+
+use crate::{Fault, Note, Piece, PieceSink};
+
+/// Takes pieces and messages, and never fails: after a fault of the sink below it takes nothing.
+pub trait PieceOut {
+    ghost use Rattle.page_core_base.specs.Pieces.{Item};
+
+    // What is planned; what of a plan is still to come.
+    ghost Plan: { Type 0 };
+
+    ghost left: { Plan → Self → List Item → Type 0 };
+
+    /// Takes a piece.
+    fn give(&mut self, piece: Piece<&[u8]>)
+        ensures { Came left self.old (shown (piece_of piece.entry) ∷ []) self.new };
+
+    /// Takes a message.
+    fn report(&mut self, note: &Note)
+        ensures { Came left self.old (noted (message_of note.now) ∷ []) self.new };
+
+    /// Whether a fault has come. Then a caller may stop early.
+    fn has_failed(&self) -> bool
+        ensures { IsTrue result → (plan : Plan) (rest other : List Item) → left plan self.now rest → left plan self.now other };
+}
+
+/// A sink of pieces, and its fault once it has failed.
+#[derive(Drop)]
+pub struct PieceLatch<'a, O> {
+    out: &'a mut O,
+    fault: Option<Fault>,
+}
+
+impl<'a, O: PieceSink> PieceLatch<'a, O> {
+    /// A latch over a sink.
+    pub fn new(out: &'a mut O) -> PieceLatch<'a, O>
+        ensures loan { result.out.ghost_name ≡ out.entry.ghost_name }
+        ensures out { result.out.now ≡ out.entry.now }
+        ensures fault { result.fault ≡ None }
+    {
+        PieceLatch { out, fault: None }
+    }
+
+    /// The fault that came, if one did.
+    pub fn done(&self) -> Result<(), Fault>
+        ensures { MatchResult result (λ _. self.now.fault ≡ None) (λ fault. self.now.fault ≡ Some fault) }
+    {
+        match self.fault {
+            None => Ok(()),
+            Some(fault) => Err(fault),
+        }
+    }
+}
+
+impl<O: PieceSink> PieceOut for PieceLatch<'_, O> {
+    ghost Plan = { Planned O O.Loans };
+
+    ghost left = { λ plan s rest. Left O.gave O.broke O.loans plan s.out.ghost_name s.out.now s.fault rest };
+
+    fn give(&mut self, piece: Piece<&[u8]>) {
+        if self.fault.is_none() {
+            self.fault = self.out.piece(piece).err();
+        }
+    }
+
+    fn report(&mut self, note: &Note) {
+        if self.fault.is_none() {
+            self.fault = self.out.note(note).err();
+        }
+    }
+
+    fn has_failed(&self) -> bool {
+        self.fault.is_some()
+    }
+}

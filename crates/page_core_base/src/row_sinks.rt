@@ -1,0 +1,40 @@
+//! Sinks that take finished rows.
+
+ghost use Rattle.std.specs.Prelude.{◌≡◌, ℕ, List, [], ◌∷◌};
+ghost use Rattle.page_core_base.specs.Sinks.{IsSink, Gives};
+ghost use Rattle.page_core_base.specs.Fails.{FailsAs};
+ghost use Rattle.page_core_base.specs.Rows.{LaidRow, row_of};
+
+use crate::{Cell, Fault};
+
+/// Takes finished rows.
+pub trait RowSink {
+    ghost use Rattle.page_core_base.specs.Rows.{LaidRow};
+
+    // These rows came, and no other; a front of them came, perhaps with a part of the next.
+    ghost gave: { Self → List LaidRow → Self → Type 0 };
+
+    ghost within: { Self → List LaidRow → Self → Type 0 };
+
+    // How often the sink has failed, up to the greatest number.
+    ghost failed: { Self → ℕ };
+
+    // The loans that the sink holds, which stay.
+    ghost Loans: { Type 0 };
+
+    ghost loans: { Self → Loans };
+
+    /// Takes a row: its margin in columns, and its cells. Its fault is [`Fault::WriteText`].
+    fn row(&mut self, margin: u32, cells: &[Cell]) -> Result<(), Fault>
+        ensures gives { Gives result gave within self.old (row_of margin cells.now ∷ []) self.new }
+        ensures fault { FailsAs Fault.WriteText result (failed self.old) (failed self.new) }
+        ensures same { loans self.new ≡ loans self.old };
+
+    /// How often a call failed, up to 2^64 - 1.
+    fn failures(&self) -> u64
+        ensures { result ≡ failed self.now };
+
+    ghost laws: { IsSink gave within };
+
+    ghost whole: { (s t : Self) (xs : List LaidRow) → gave s xs t → within s xs t };
+}

@@ -1,0 +1,37 @@
+//! What a text line of a page may hold.
+
+ghost use Rattle.std.specs.Prelude.{◌≡◌, ◌↔◌, IsTrue};
+ghost use Rattle.page_core_base.specs.Texts.{IsLine, is_plain, is_plain_byte};
+
+use page_core_limits::LINE;
+
+/// Whether a text may be a line of a page: UTF-8, at most [`LINE`] bytes, and no control character but the tab.
+pub fn is_line(text: &[u8]) -> bool
+    ensures { IsTrue result ↔ IsLine text.now }
+{
+    text.len() <= LINE && has_no_control(text) && std::str::from_utf8(text).is_ok()
+}
+
+// Whether no control character but the tab stands in a text. Those above ASCII are the byte 0xC2 and one below 0xA0.
+fn has_no_control(text: &[u8]) -> bool
+    ensures { result ≡ is_plain 0 text.now }
+{
+    let mut before = 0u8;
+    for byte in text {
+        if !is_plain_byte(before, *byte) {
+            return false;
+        }
+        before = *byte;
+    }
+    true
+}
+
+// Whether a byte that follows another belongs to no control character but the tab.
+fn is_plain_byte(before: u8, byte: u8) -> bool
+    ensures { result ≡ is_plain_byte before byte }
+{
+    if byte == b'\t' {
+        return true;
+    }
+    byte >= b' ' && byte != 0x7f && !(before == 0xc2 && byte < 0xa0)
+}

@@ -1,0 +1,2 @@
+pub mod GrowsLemmas
+pub mod RowLemmas

@@ -1,0 +1,25 @@
+use Rattle.std.proofs.Common.{◌≡◌, ◌++◌, ◌∷◌, [], ap, sym, replicate, take, arith}
+use Rattle.std.specs.List.{flat_map}
+use Rattle.std.proofs.lemmas.List.{take-replicate}
+use Rattle.page_core_writers.specs.RowBytes.{cell_bytes_of, printed}
+use Rattle.page_core_writers.proofs.GrowsLemmas.{GrowsUpTo-start, GrowsUpTo-flow, GrowsUpTo-broken, GrowsUpTo-last}
+use Rattle.page_core_writers.proofs.RowLemmas.{printed_parts}
+use Rattle.page_core_writers.proofs.text_rows.put_row.Goals as goal
+
+pub returns-in_default : goal.returns-in_default
+returns-in_default g c =
+    let margin = c.args.margin in
+    let cells = c.args.cells.now in
+    let e = printed_parts margin cells (rw c.is_empty.ensures at c.if-is_empty.false) in
+    GrowsUpTo-broken _ (replicate margin 32) (flat_map cell_bytes_of cells ++ 10 ∷ []) (GrowsUpTo-start _ (printed margin cells)) e c.in_default.ensures
+
+pub returns : goal.returns
+returns g c =
+    let margin = c.args.margin in
+    let cells = c.args.cells.now in
+    let left = c.in-Some.left in
+    let end = flat_map cell_bytes_of cells ++ 10 ∷ [] in
+    let e = printed_parts margin cells (rw c.is_empty.ensures at c.if-is_empty.false) in
+    let f = GrowsUpTo-flow _ (replicate margin 32) (replicate left 32) end (GrowsUpTo-start _ (printed margin cells)) e c.in-Some.ensures.1 in
+    let b : take left (replicate 512 32) ≡ replicate left 32 = take-replicate left 512 32 (omega (arith, c.in-Some.ensures.0)) in
+    GrowsUpTo-last _ (take left (replicate 512 32) ++ end) _ f (ap (λ l. l ++ end) (sym b)) c.put_cells.ensures

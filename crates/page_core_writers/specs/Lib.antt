@@ -1,0 +1,3 @@
+pub mod Grows
+pub mod MessageBytes
+pub mod RowBytes

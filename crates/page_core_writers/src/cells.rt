@@ -1,0 +1,129 @@
+//! The bytes of cells (mandoc(1), "ASCII Output").
+
+ghost use Rattle.std.specs.Prelude.{◌≡◌, ℕ, ◌+◌, ◌*◌, ◌≤◌, [], ◌∷◌, ◌++◌, length, take, encode_utf8};
+ghost use Rattle.std.specs.List.{flat_map};
+ghost use Rattle.page_core_base.specs.Rows.{trimmed};
+ghost use Rattle.page_core_writers.specs.RowBytes.{cell_bytes_of};
+
+use arrayvec::ArrayVec;
+use page_core_base::{Cell, Font};
+
+/// The bytes of a cell at most.
+pub(crate) const CELL_BYTES: usize = 16;
+
+/// The bytes that a cell is printed as: a backspace between a character and itself is bold, and between a low line and a character
+/// italic; a blank is never marked (mandoc(1), "ASCII Output").
+pub fn cell_bytes(cell: Cell) -> ArrayVec<u8, 16>
+    ensures { result.items ≡ cell_bytes_of cell }
+{
+    let mut places = [0u8; CELL_BYTES];
+    let end = write_cell(&mut places, 0, cell);
+    let mut bytes = ArrayVec::new();
+    let _fits = bytes.try_extend_from_slice(&places[..end]);
+    bytes
+}
+
+/// Writes the bytes of cells behind those before `start`, and answers where they end.
+pub(crate) fn write_cells(bytes: &mut [u8], start: usize, cells: &[Cell]) -> usize
+    requires { start + 16 * length cells.now ≤ length bytes.old }
+    ensures front { take result bytes.new ≡ take start bytes.old ++ flat_map cell_bytes_of cells.now }
+    ensures end { result ≤ start + 16 * length cells.now }
+{
+    let mut end = start;
+    for cell in cells {
+        end = match cell.font {
+            Font::R if cell.c.is_ascii() => {
+                bytes[end] = cell.c as u8;
+                end + 1
+            }
+            _ => write_cell(bytes, end, *cell),
+        };
+    }
+    end
+}
+
+// Writes the bytes of a cell.
+fn write_cell(bytes: &mut [u8], start: usize, cell: Cell) -> usize
+    requires { start + 16 ≤ length bytes.old }
+    ensures front { take result bytes.new ≡ take start bytes.old ++ cell_bytes_of cell }
+    ensures end { result ≤ start + 16 }
+{
+    if cell.c == ' ' {
+        bytes[start] = b' ';
+        return start + 1;
+    }
+    match cell.font {
+        Font::R => write_char(bytes, start, cell.c),
+        Font::B => write_twice(bytes, start, cell.c),
+        Font::I => {
+            let start = write_low_line(bytes, start);
+            write_char(bytes, start, cell.c)
+        }
+        Font::BI => {
+            let start = write_low_line(bytes, start);
+            write_twice(bytes, start, cell.c)
+        }
+    }
+}
+
+// Writes a low line and a backspace.
+fn write_low_line(bytes: &mut [u8], start: usize) -> usize
+    requires { start + 2 ≤ length bytes.old }
+    ensures front { take result bytes.new ≡ take start bytes.old ++ 95 ∷ 8 ∷ [] }
+    ensures end { result ≡ start + 2 }
+{
+    bytes[start] = b'_';
+    bytes[start + 1] = 8;
+    start + 2
+}
+
+// Writes a character, a backspace and the character again.
+fn write_twice(bytes: &mut [u8], start: usize, c: char) -> usize
+    requires { start + 9 ≤ length bytes.old }
+    ensures front { take result bytes.new ≡ take start bytes.old ++ (encode_utf8 c ++ 8 ∷ encode_utf8 c) }
+    ensures end { result ≤ start + 9 }
+{
+    let middle = write_char(bytes, start, c);
+    bytes[middle] = 8;
+    write_char(bytes, middle + 1, c)
+}
+
+// Writes a character.
+fn write_char(bytes: &mut [u8], start: usize, c: char) -> usize
+    requires { start + 4 ≤ length bytes.old }
+    ensures front { take result bytes.new ≡ take start bytes.old ++ encode_utf8 c }
+    ensures end { result ≤ start + 4 }
+{
+    if !c.is_ascii() {
+        return write_wide(bytes, start, c);
+    }
+    bytes[start] = c as u8;
+    start + 1
+}
+
+// Writes a character of any number of bytes.
+#[inline(never)]
+fn write_wide(bytes: &mut [u8], start: usize, c: char) -> usize
+    requires { start + 4 ≤ length bytes.old }
+    ensures front { take result bytes.new ≡ take start bytes.old ++ encode_utf8 c }
+    ensures end { result ≤ start + 4 }
+{
+    let mut buffer = [0u8; 4];
+    let mut end = start;
+    for byte in c.encode_utf8(&mut buffer).as_bytes() {
+        bytes[end] = *byte;
+        end += 1;
+    }
+    end
+}
+
+/// The cells without the blanks at their end.
+pub(crate) fn without_blanks_at_end(cells: &[Cell]) -> &[Cell]
+    ensures { result.now ≡ trimmed cells.now }
+{
+    let mut len = cells.len();
+    while len > 0 && cells[len - 1].c == ' ' {
+        len -= 1;
+    }
+    &cells[..len]
+}

@@ -1,0 +1,133 @@
+//! Rows as bytes of a writer (mandoc(1), "ASCII Output").
+
+ghost use Rattle.std.specs.Prelude.{◌≡◌, ◌≤◌, ◌++◌, [], ◌∷◌, MatchOption, length, take, replicate};
+ghost use Rattle.std.specs.Bool.{MatchBool};
+ghost use Rattle.std.specs.Borrow.{GName};
+ghost use Rattle.std.specs.List.{flat_map};
+ghost use Rattle.page_core_writers.specs.Grows.{Grows, GrowsInto, GrowsUpTo, Adds, AddsInto, adds-sink, adds-whole};
+ghost use Rattle.page_core_writers.specs.RowBytes.{row_bytes, printed, cell_bytes_of};
+
+use crate::cells::{CELL_BYTES, without_blanks_at_end, write_cells};
+use crate::writing::{BUFFER, put};
+use page_core_base::{Cell, Fault, RowSink};
+use std::io::Write;
+
+// The bytes of a row that may wait before more of its cells come.
+const WAITING: usize = 256;
+
+/// Writes rows as bytes (mandoc(1), "ASCII Output").
+#[derive(Drop)]
+pub struct TextRows<'a, W> {
+    out: &'a mut W,
+    failures: u64,
+}
+
+impl<'a, W: Write> TextRows<'a, W> {
+    /// A sink over a writer.
+    pub fn new(out: &'a mut W) -> TextRows<'a, W>
+        ensures loan { result.out.ghost_name ≡ out.entry.ghost_name }
+        ensures out { result.out.now ≡ out.entry.now }
+        ensures failures { result.failures ≡ 0 }
+    {
+        TextRows { out, failures: 0 }
+    }
+}
+
+// Writes a margin in blanks, but for a few that wait, and answers how many.
+fn put_margin<W: Write>(out: &mut W, margin: u32) -> Option<usize>
+    ensures { MatchOption result
+        (GrowsInto (W.contents out.old) (W.contents out.new) (replicate margin 32))
+        (λ left. (left ≤ 256) × GrowsUpTo (W.contents out.old) (W.contents out.new) (replicate margin 32) (replicate left 32)) }
+{
+    let mut left = margin as usize;
+    while left > WAITING {
+        let blanks = [b' '; WAITING];
+        if !put(out, &blanks) {
+            return None;
+        }
+        left -= WAITING;
+    }
+    Some(left)
+}
+
+// Makes room behind the bytes before a place, by a write where too many wait, and answers the place of the next.
+fn room_behind<W: Write>(out: &mut W, bytes: &[u8], end: usize) -> Option<usize>
+    requires { end ≤ length bytes.now }
+    ensures { MatchOption result
+        (GrowsInto (W.contents out.old) (W.contents out.new) (take end bytes.now))
+        (λ at. (at ≤ 256) × GrowsUpTo (W.contents out.old) (W.contents out.new) (take end bytes.now) (take at bytes.now)) }
+{
+    if end <= WAITING {
+        return Some(end);
+    }
+    if put(out, &bytes[..end]) {
+        Some(0)
+    } else {
+        None
+    }
+}
+
+// Writes the bytes before a place, and then cells and a line feed.
+fn put_cells<W: Write>(out: &mut W, bytes: &mut [u8; BUFFER], start: usize, cells: &[Cell]) -> bool
+    requires { start ≤ 256 }
+    ensures { MatchBool result
+        (Grows (W.contents out.old) (W.contents out.new) (take start bytes.old ++ (flat_map cell_bytes_of cells.now ++ 10 ∷ [])))
+        (GrowsInto (W.contents out.old) (W.contents out.new) (take start bytes.old ++ (flat_map cell_bytes_of cells.now ++ 10 ∷ []))) }
+{
+    let mut rest = cells;
+    let mut end = start;
+    while !rest.is_empty() {
+        let Some(room) = room_behind(out, bytes, end) else {
+            return false;
+        };
+        let count = rest.len().min((BUFFER - 1 - room) / CELL_BYTES);
+        end = write_cells(bytes, room, &rest[..count]);
+        rest = &rest[count..];
+    }
+    bytes[end] = b'\n';
+    put(out, &bytes[..end + 1])
+}
+
+// Writes a margin, cells and a line feed, or the line feed alone where there is no cell.
+fn put_row<W: Write>(out: &mut W, margin: u32, cells: &[Cell]) -> bool
+    ensures { MatchBool result
+        (Grows (W.contents out.old) (W.contents out.new) (printed margin cells.now))
+        (GrowsInto (W.contents out.old) (W.contents out.new) (printed margin cells.now)) }
+{
+    if cells.is_empty() {
+        return put(out, b"\n");
+    }
+    let Some(left) = put_margin(out, margin) else {
+        return false;
+    };
+    let mut bytes = [b' '; BUFFER];
+    put_cells(out, &mut bytes, left, cells)
+}
+
+impl<W: Write> RowSink for TextRows<'_, W> {
+    ghost gave = { Adds (λ s. W.contents s.out.now) row_bytes };
+
+    ghost within = { AddsInto (λ s. W.contents s.out.now) row_bytes };
+
+    ghost failed = { λ s. s.failures };
+
+    ghost Loans = { GName };
+
+    ghost loans = { λ s. s.out.ghost_name };
+
+    ghost laws = { adds-sink (λ s. W.contents s.out.now) row_bytes };
+
+    ghost whole = { adds-whole (λ s. W.contents s.out.now) row_bytes };
+
+    fn row(&mut self, margin: u32, cells: &[Cell]) -> Result<(), Fault> {
+        if put_row(self.out, margin, without_blanks_at_end(cells)) {
+            return Ok(());
+        }
+        self.failures = self.failures.saturating_add(1);
+        Err(Fault::WriteText)
+    }
+
+    fn failures(&self) -> u64 {
+        self.failures
+    }
+}
