@@ -2,7 +2,7 @@
 use Rattle.std.specs.Prelude.{List, ℕ, [], ◌∷◌, ◌++◌, codes, decimal}
 use Rattle.page_core_base.specs.Messages.{Message, level_of, level_name, text_of}
 
--- a detail is shown behind a colon
+-- a detail is shown after a colon
 abbrev pub detail_bytes : List ℕ → List ℕ
 detail_bytes [] = []
 detail_bytes (byte ∷ bytes) = codes ": " ++ byte ∷ bytes

@@ -50,8 +50,8 @@ fn put_margin<W: Write>(out: &mut W, margin: u32) -> Option<usize>
     Some(left)
 }
 
-// Makes room behind the bytes before a place, by a write where too many wait, and answers the place of the next.
-fn room_behind<W: Write>(out: &mut W, bytes: &[u8], end: usize) -> Option<usize>
+// Makes room after the bytes that wait, by a write where they are too many, and answers where the next one goes.
+fn room_after<W: Write>(out: &mut W, bytes: &[u8], end: usize) -> Option<usize>
     requires { end ≤ length bytes.now }
     ensures { MatchOption result
         (GrowsInto (W.contents out.old) (W.contents out.new) (take end bytes.now))
@@ -77,7 +77,7 @@ fn put_cells<W: Write>(out: &mut W, bytes: &mut [u8; BUFFER], start: usize, cell
     let mut rest = cells;
     let mut end = start;
     while !rest.is_empty() {
-        let Some(room) = room_behind(out, bytes, end) else {
+        let Some(room) = room_after(out, bytes, end) else {
             return false;
         };
         let count = rest.len().min((BUFFER - 1 - room) / CELL_BYTES);
