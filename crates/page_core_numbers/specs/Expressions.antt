@@ -4,6 +4,8 @@ use Rattle.std.specs.Prelude.{ℕ, zero, suc, Bool, true, false, ◌==◌, List,
 use Rattle.page_core_base.specs.declared.note_kinds.NoteKind.{NoteKind}
 use Rattle.page_core_base.specs.declared.note_kinds.NoteKind.TheVariants as kinds
 use Rattle.page_core_base.specs.Messages.{Message}
+use Rattle.page_core_limits.specs.declared.Limit.TheVariants.{Parens}
+use Rattle.page_core_limits.specs.Limits.{name_of}
 use Rattle.page_core_numbers.specs.declared.scales.Scale.{Scale}
 use Rattle.page_core_numbers.specs.declared.operators.Operator.{Operator}
 use Rattle.page_core_numbers.specs.declared.troubles.Trouble.{Trouble}
@@ -119,7 +121,7 @@ kind_of Parentheses = kinds.Limit
 abbrev pub detail_of : Trouble → List ℕ
 detail_of NotNumeric = []
 detail_of DivZero = []
-detail_of Parentheses = codes "PARENS"
+detail_of Parentheses = name_of Parens
 
 abbrev pub message_at : (line column : ℕ) → Trouble → Message
 message_at line column trouble = record { kind = kind_of trouble; line = line; column = column; detail = detail_of trouble }
