@@ -15,7 +15,7 @@ characters_columns cs = sum_by char_columns cs
 
 -- ---- what is printed
 
--- as many blanks as columns are in so many basic units, 1000 at most
+-- the blanks that a number of basic units is worth, one a column, 1000 at most
 abbrev pub blanks_in : ℤ → ℕ
 blanks_in (pos units) = min (units / 24) 1000
 blanks_in (negsuc units) = 0
@@ -57,12 +57,12 @@ printed_within (suc steps) output (b ∷ bs) =
     printed_front output (b ∷ bs) (chars (b ∷ bs)) ++ printed_within steps output (drop (front_len (b ∷ bs) (chars (b ∷ bs))) (b ∷ bs))
 
 -- what a finished text prints
-abbrev pub printed : Output → List ℕ → List ℕ
-printed output text = printed_within (suc (length text)) output text
+abbrev pub printed_text : Output → List ℕ → List ℕ
+printed_text output text = printed_within (suc (length text)) output text
 
 -- the columns of a finished text
 abbrev pub columns_of : Output → List ℕ → ℕ
-columns_of output text = characters_columns (printed output text)
+columns_of output text = characters_columns (printed_text output text)
 
 -- a text begins with this character
 pub record BeginsWith (text : List ℕ) (c : ℕ) : Type 0 where

@@ -46,7 +46,7 @@ fn printed_columns(printed: Printed<'_>) -> u32
     }
 }
 
-// As many blanks as columns are in so many basic units.
+// The blanks that a number of basic units is worth, one a column.
 fn blanks_in(units: i32) -> u32
     ensures value { result ≡ blanks_in units }
     ensures bound { result ≤ WIDEST }

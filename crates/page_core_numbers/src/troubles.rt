@@ -6,7 +6,7 @@ ghost use Rattle.page_core_base.specs.Fails.{FailsAs};
 ghost use Rattle.page_core_base.specs.Sinks.{Gives};
 ghost use Rattle.page_core_base.specs.Messages.{message_of};
 ghost use Rattle.page_core_numbers.specs.Expressions.{message_at, messages_at};
-ghost use Rattle.page_core_numbers.specs.Readings.{troubles_seen, stop_seen, count_of};
+ghost use Rattle.page_core_numbers.specs.CodeValues.{troubles_seen, stop_seen, count_of};
 
 use page_core_base::{Fault, Note, NoteKind, NoteSink, Place};
 use page_core_limits::Limit;
