@@ -65,4 +65,4 @@ abbrev pub FitsLine : LineForm (List ℕ) → Type 0
 FitsLine Comment = Unit {0}
 FitsLine BlankLine = Unit {0}
 FitsLine (Text text) = length text ≤ LINE
-FitsLine (Control name column rest rest_column) = rest_column + length rest ≤ LINE + 1
+FitsLine (Control name column rest rest_column) = (length rest ≤ LINE) × (rest_column + length rest ≤ LINE + 1)

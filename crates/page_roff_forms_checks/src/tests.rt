@@ -3,6 +3,7 @@
 use page_roff_forms::{
     Argument, Arguments, LineForm, Quoting, form_of, has_arguments, is_white, kept_len,
 };
+use std::process::Abort;
 
 // What a form is called here.
 fn kind(form: LineForm<&[u8]>) -> &'static str {
@@ -30,12 +31,17 @@ fn check_column(rt: &impl Abort, got: u32, want: u32, line: &str) {
     assert_eq!(rt; got, want, "in {line}");
 }
 
+fn form<'a>(rt: &impl Abort, line: &'a str) -> LineForm<&'a [u8]> {
+    assert!(rt; line.len() < 100);
+    form_of(line.as_bytes())
+}
+
 fn check_kind(rt: &impl Abort, line: &str, want: &str) {
-    check_bytes(rt, kind(form_of(line.as_bytes())).as_bytes(), want, line);
+    check_bytes(rt, kind(form(rt, line)).as_bytes(), want, line);
 }
 
 fn check_text(rt: &impl Abort, line: &str, want: &str) {
-    let text = match form_of(line.as_bytes()) {
+    let text = match form(rt, line) {
         LineForm::Text(text) => text,
         _ => b"another form",
     };
@@ -44,8 +50,7 @@ fn check_text(rt: &impl Abort, line: &str, want: &str) {
 
 // Checks a control line: its name and the rest, each with its column.
 fn check_control(rt: &impl Abort, line: &str, want_name: &str, want_column: u32, want_rest: &str, want_rest_column: u32) {
-    let form = form_of(line.as_bytes());
-    match form {
+    match form(rt, line) {
         LineForm::Control {
             name,
             column,
