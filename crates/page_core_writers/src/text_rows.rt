@@ -1,10 +1,10 @@
 //! Rows as bytes of a writer (mandoc(1), "ASCII Output").
 
 ghost use Rattle.std.specs.Prelude.{◌≡◌, ◌≤◌, ◌++◌, [], ◌∷◌, MatchOption, length, take, replicate};
-ghost use Rattle.std.specs.Bool.{MatchBool};
 ghost use Rattle.std.specs.Borrow.{GName};
 ghost use Rattle.std.specs.List.{flat_map};
-ghost use Rattle.page_core_writers.specs.Grows.{Grows, GrowsInto, GrowsUpTo, Adds, AddsInto, adds-sink, adds-whole};
+ghost use Rattle.page_core_writers.specs.Grows.{GrowsInto, GrowsUpTo, Writes};
+ghost use Rattle.page_core_writers.specs.Grows.{Adds, AddsInto, adds-sink, adds-whole};
 ghost use Rattle.page_core_writers.specs.RowBytes.{row_bytes, printed, cell_bytes_of};
 
 use crate::cells::{CELL_BYTES, without_blanks_at_end, write_cells};
@@ -70,9 +70,8 @@ fn room_after<W: Write>(out: &mut W, bytes: &[u8], end: usize) -> Option<usize>
 // Writes the bytes before a place, and then cells and a line feed.
 fn put_cells<W: Write>(out: &mut W, bytes: &mut [u8; BUFFER], start: usize, cells: &[Cell]) -> bool
     requires { start ≤ 256 }
-    ensures { MatchBool result
-        (Grows (W.contents out.old) (W.contents out.new) (take start bytes.old ++ (flat_map cell_bytes_of cells.now ++ 10 ∷ [])))
-        (GrowsInto (W.contents out.old) (W.contents out.new) (take start bytes.old ++ (flat_map cell_bytes_of cells.now ++ 10 ∷ []))) }
+    ensures { Writes result (W.contents out.old) (W.contents out.new)
+        (take start bytes.old ++ (flat_map cell_bytes_of cells.now ++ 10 ∷ [])) }
 {
     let mut rest = cells;
     let mut end = start;
@@ -90,9 +89,7 @@ fn put_cells<W: Write>(out: &mut W, bytes: &mut [u8; BUFFER], start: usize, cell
 
 // Writes a margin, cells and a line feed, or the line feed alone where there is no cell.
 fn put_row<W: Write>(out: &mut W, margin: u32, cells: &[Cell]) -> bool
-    ensures { MatchBool result
-        (Grows (W.contents out.old) (W.contents out.new) (printed margin cells.now))
-        (GrowsInto (W.contents out.old) (W.contents out.new) (printed margin cells.now)) }
+    ensures { Writes result (W.contents out.old) (W.contents out.new) (printed margin cells.now) }
 {
     if cells.is_empty() {
         return put(out, b"\n");
