@@ -91,7 +91,9 @@ impl DecodedText {
         ensures after { self.new ≡ self.old ++ take result bytes.now }
     {
         let len = text_within(bytes, LINE - self.bytes.len());
-        let _ = self.bytes.extend_from_slice(&bytes[..len]);
+        if len > 0 {
+            let _ = self.bytes.extend_from_slice(&bytes[..len]);
+        }
         len
     }
 
@@ -110,6 +112,7 @@ impl DecodedText {
     }
 
     /// Decodes a text, as far as it fits; whether less than all of it does.
+    #[inline(never)]
     pub fn decode(&mut self, text: &[u8], encoding: Encoding) -> bool
         ensures after { self.new ≡ all_bytes (characters_within line_limit (characters encoding text.now)) }
         ensures passed { result ≡ nat_lt (length (characters_within line_limit (characters encoding text.now))) (length (characters encoding text.now)) }

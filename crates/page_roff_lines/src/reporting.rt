@@ -67,6 +67,7 @@ fn report_front<N: NoteSink>(
 }
 
 // Reports the bytes that are no characters, of what fits of a text.
+#[inline(never)]
 fn report_bad<N: NoteSink>(
     text: &[u8],
     encoding: Encoding,
