@@ -1,15 +1,15 @@
-//! The cases of each rule, cut whole, byte by byte, and in two pieces at each place.
+//! The cases of each rule, cut whole, byte by byte, and in two chunks at each point.
 ghost use Rattle.std.specs.Prelude.{◌≡◌, ◌+◌, ◌^◌, ◌<◌, ◌≤◌, length, false, true, OnOk};
 
-use crate::{Cutter, OpenLine};
-use page_core_base::{Encoding, NoteKind};
+use page_core_base::{Encoding, Fault, Note, NoteKind, NoteSink};
 use page_core_limits::LINE;
 use page_core_writers::KeptNotes;
+use page_roff::Cutter;
 use std::alloc::Global;
 use std::process::Abort;
 use std::test::Fail;
 
-// Asks for the line that waits, and shows it: each message as its kind, line, column and detail, then its number and its text.
+// Appends the line that waits: each message as its kind, line, column and detail, then its number and its text.
 fn show_line(alloc: Global, cutter: &mut Cutter, shown: &mut String) -> Result<(), Fail>
     requires { cutter.old.ready ≡ true }
     ensures ready { OnOk result (cutter.new.ready ≡ false) }
@@ -32,7 +32,7 @@ fn show_line(alloc: Global, cutter: &mut Cutter, shown: &mut String) -> Result<(
     Ok(())
 }
 
-// Feeds a piece, and shows the lines that are whole in it.
+// Feeds a chunk, and shows the lines that are whole in it.
 fn feed_all(
     alloc: Global,
     cutter: &mut Cutter,
@@ -57,7 +57,7 @@ fn feed_all(
     Ok(())
 }
 
-// The lines of a page that comes in pieces of a size, the first of another one.
+// The lines of a page that comes in chunks of a size, the first of another one.
 fn lines_of(
     alloc: Global,
     encoding: Encoding,
@@ -66,13 +66,13 @@ fn lines_of(
     size: usize,
 ) -> Result<String, Fail> {
     let mut shown = String::new(alloc);
-    if page.len() > 100000 {
+    if page.len() > 100_000 {
         return Ok(shown);
     }
     let mut cutter = Cutter::new(alloc, encoding)?;
     let mut at = first.min(page.len());
     feed_all(alloc, &mut cutter, &page[..at], &mut shown)?;
-    'pieces: for _ in 0..page.len() {
+    'chunks: for _ in 0..page.len() {
         let end = page.len().min(at.saturating_add(size));
         feed_all(alloc, &mut cutter, &page[at..end], &mut shown)?;
         at = end;
@@ -83,6 +83,18 @@ fn lines_of(
     Ok(shown)
 }
 
+fn check_text(rt: &impl Abort, got: &str, want: &str, page: &[u8]) {
+    assert_eq!(rt; got, want, "of {page:?}");
+}
+
+fn check_front(rt: &impl Abort, got: &str, want: &str, page: &[u8]) {
+    assert!(rt; got.starts_with(want), "of {page:?}");
+}
+
+fn check_number(rt: &impl Abort, got: usize, want: usize) {
+    assert_eq!(rt; got, want);
+}
+
 // A page, its encoding and its lines.
 type Case = (Encoding, &'static [u8], &'static str);
 
@@ -90,11 +102,11 @@ type Case = (Encoding, &'static [u8], &'static str);
 fn check<R: Abort + AllocGlobal>(rt: &R, case: Case) -> Result<(), Fail> {
     let (encoding, page, want) = case;
     for first in 0..page.len() + 1 {
-        let lines = lines_of(rt.alloc(), encoding, page, first, 100000)?;
-        assert_eq!(rt; lines.as_str(), want, "cut at {first}: {page:?}");
+        let lines = lines_of(rt.alloc(), encoding, page, first, 100_000)?;
+        check_text(rt, lines.as_str(), want, page);
     }
     let lines = lines_of(rt.alloc(), encoding, page, 0, 1)?;
-    assert_eq!(rt; lines.as_str(), want, "byte by byte: {page:?}");
+    check_text(rt, lines.as_str(), want, page);
     Ok(())
 }
 
@@ -316,51 +328,114 @@ fn cuts_long_lines(rt: HostRuntime) -> Result<(), Fail> {
     for (encoding, byte, count, tail, want, len) in cases {
         let page = page_of(rt.alloc(), byte, count, tail)?;
         let lines = lines_of(rt.alloc(), encoding, page.as_slice(), 65530, 3)?;
-        assert!(rt; lines.as_str().starts_with(want), "{count} and {tail:?}");
-        assert_eq!(rt; lines.len(), len, "{count} and {tail:?}");
+        check_front(&rt, lines.as_str(), want, tail);
+        check_number(&rt, lines.len(), len);
     }
     Ok(())
 }
 
-// Feeds a piece that ends no line 160 times, and to an open line by itself, and tells how many bytes that were.
-fn feed_often<R: Abort>(rt: &R, cutter: &mut Cutter, line: &mut OpenLine, chunk: &[u8]) -> u32
+// Feeds a chunk that ends no line 160 times, and tells how many bytes that were.
+fn feed_often(rt: &impl Abort, cutter: &mut Cutter, chunk: &[u8]) -> u32
     requires ready { cutter.old.ready ≡ false }
     requires consumed { cutter.old.point.line.consumed ≡ 0 }
-    requires line { line.old.consumed ≡ 0 }
     ensures ready { cutter.new.ready ≡ false }
     ensures consumed { cutter.new.point.line.consumed ≤ 20000000 }
 {
     let mut bytes = 0;
-    'pieces: for _ in 0..160 {
-        if chunk.len() > 65_536 || bytes > 15_000_000 {
-            break 'pieces;
+    'chunks: for _ in 0..160 {
+        if chunk.len() > LINE || bytes > 15_000_000 {
+            break 'chunks;
         }
         let (consumed, whole) = cutter.feed(chunk);
         if whole {
             panic!(rt; "a line is whole after {bytes} bytes");
         }
         bytes += consumed as u32;
-        let _ = line.read(chunk);
-        assert!(rt; line.text().len() <= LINE, "after {bytes} bytes");
     }
     bytes
 }
 
 #[test]
 fn keeps_the_front_of_a_line_of_ten_megabytes(rt: HostRuntime) -> Result<(), Fail> {
-    let chunk = page_of(rt.alloc(), b'x', 65_536, b"")?;
+    let chunk = page_of(rt.alloc(), b'x', LINE, b"")?;
     let mut cutter = Cutter::new(rt.alloc(), Encoding::Auto)?;
-    let mut line = OpenLine::new(rt.alloc())?;
-    let bytes = feed_often(&rt, &mut cutter, &mut line, chunk.as_slice());
-    assert_eq!(rt; bytes, 10_485_760);
+    let bytes = feed_often(&rt, &mut cutter, chunk.as_slice());
+    check_number(&rt, bytes as usize, 10_485_760);
     let mut shown = String::new(rt.alloc());
     feed_all(rt.alloc(), &mut cutter, b"\nb", &mut shown)?;
-    assert!(rt; shown.as_str().starts_with("limit 1:1 LINE, 1 x"));
-    assert_eq!(rt; shown.len(), 65_555);
+    check_front(&rt, shown.as_str(), "limit 1:1 LINE, 1 x", b"x");
+    check_number(&rt, shown.len(), 65_555);
     if cutter.end() {
         show_line(rt.alloc(), &mut cutter, &mut shown)?;
     }
     assert!(rt; shown.as_str().ends_with("x|2 b|"));
-    assert_eq!(rt; shown.len(), 65_559);
+    check_number(&rt, shown.len(), 65_559);
+    Ok(())
+}
+
+// Counts the messages that are given, and takes none about a byte that is no character.
+#[derive(Drop)]
+struct Counting {
+    count: u64,
+}
+
+impl NoteSink for Counting {
+    ghost gave = { λ _ _ _. Unit {0} };
+
+    ghost within = { λ _ _ _. Unit {0} };
+
+    ghost failed = { λ _. 0 };
+
+    ghost Loans = { Unit {0} };
+
+    ghost loans = { λ _. tt };
+
+    ghost laws = { record { none = λ _. tt; more = λ _ _ _ _ _ _ _. tt; after = λ _ _ _ _ _ _ _. tt; before = λ _ _ _ _ _. tt } };
+
+    ghost whole = { λ _ _ _ _. tt };
+
+    fn note(&mut self, note: &Note) -> Result<(), Fault> {
+        let _ = note;
+        self.count = self.count.saturating_add(1);
+        Ok(())
+    }
+
+    fn takes(&self, kind: NoteKind) -> bool {
+        !matches!(kind, NoteKind::BadChar)
+    }
+
+    fn failures(&self) -> u64 {
+        0
+    }
+}
+
+// How many messages come of a page's last line, and how many bytes it has.
+fn messages_of(alloc: Global, page: &[u8]) -> Result<(u64, usize), Fail> {
+    let mut notes = Counting { count: 0 };
+    let mut len = 0;
+    if page.len() > 100_000 {
+        return Ok((0, 0));
+    }
+    let mut cutter = Cutter::new(alloc, Encoding::Auto)?;
+    let (_, whole) = cutter.feed(page);
+    if whole {
+        return Ok((0, 0));
+    }
+    if cutter.end() {
+        let (text, _) = cutter.line(&mut notes)?;
+        len = text.len();
+    }
+    Ok((notes.count, len))
+}
+
+#[test]
+fn gives_no_message_that_is_not_taken(rt: HostRuntime) -> Result<(), Fail> {
+    let (count, len) = messages_of(rt.alloc(), b"a\x01\x7f")?;
+    check_number(&rt, count as usize, 0);
+    check_number(&rt, len, 3);
+    let page = page_of(rt.alloc(), 0x01, LINE + 1, b"")?;
+    let (count, len) = messages_of(rt.alloc(), page.as_slice())?;
+    check_number(&rt, count as usize, 1);
+    check_number(&rt, len, LINE);
     Ok(())
 }
