@@ -49,8 +49,8 @@ impl<'a> Token<'a> {
     }
 }
 
-// Whether a byte is a blank or a tab.
-fn is_white(byte: u8) -> bool
+/// Whether a byte is a blank or a tab.
+pub fn is_white(byte: u8) -> bool
     ensures { result ≡ is_white byte }
 {
     byte == b' ' || byte == b'\t'

@@ -1,5 +1,6 @@
 -- What a character, and the glyph of a name, print in an output. Source: mandoc_char(7); mandoc(1), -T ascii, -T utf8 and -T lint.
-use Rattle.std.specs.Prelude.{ℕ, Bool, true, false, ◌==◌, ◌||◌, nat_lt, List, [], ◌∷◌, if◌then◌else◌, Option, None, Some, codes, encode_utf8}
+use Rattle.std.specs.Prelude.{ℕ, Bool, true, false, ◌==◌, ◌||◌, nat_lt, List, [], ◌∷◌, if◌then◌else◌, Option, None, Some, unwrap_or, codes, encode_utf8}
+use Rattle.unicode_width.specs.Width.{char_width}
 use Rattle.page_core_base.specs.declared.page_settings.Output.{Output}
 use Rattle.page_core_base.specs.declared.page_settings.Output.TheVariants.{Ascii, Utf8, Lint}
 use Rattle.page_core_tables.specs.declared.printing.Printed as code
@@ -45,6 +46,10 @@ symbol_printed output name (Some symbol) = if prints_ascii output then by_spelli
 -- the glyph of a name
 abbrev pub glyph_printed : Output → (name : List ℕ) → Printing
 glyph_printed output name = symbol_printed output name (glyph_of name)
+
+-- the columns of a character that is printed, none where it has no width
+abbrev pub char_columns : ℕ → ℕ
+char_columns c = unwrap_or (char_width false c) 0
 
 -- a `Printed` of the code
 abbrev pub printed_seen : code.Printed → Printing

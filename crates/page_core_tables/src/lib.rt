@@ -7,7 +7,7 @@ ghost use Rattle.page_core_tables.specs.Glyphs.{glyph_of, spelling_of, symbol_of
 mod printing;
 mod rows;
 
-pub use printing::{Printed, printed_char, printed_glyph};
+pub use printing::{Printed, char_columns, printed_char, printed_glyph};
 pub use rows::Glyph;
 
 /// What a name stands for, as `em` in `\(em`: mandoc_char(7).

@@ -1,9 +1,10 @@
 //! What a character, and the glyph of a name, print in an output (mandoc_char(7); mandoc(1), -T).
-ghost use Rattle.std.specs.Prelude.{◌≡◌};
-ghost use Rattle.page_core_tables.specs.Printed.{prints_ascii, by_spelling, char_printed, glyph_printed, printed_seen};
+ghost use Rattle.std.specs.Prelude.{◌≡◌, ◌≤◌, length};
+ghost use Rattle.page_core_tables.specs.Printed.{prints_ascii, by_spelling, char_printed, glyph_printed, printed_seen, char_columns};
 
 use crate::{glyph, spelling};
 use page_core_base::Output;
+use unicode_width::UnicodeWidthChar;
 
 /// What is printed for a character or for the glyph of a name.
 #[derive(Clone, Copy)]
@@ -40,7 +41,8 @@ fn by_spelling<'a>(spelling: &'static str, c: char) -> Printed<'a>
 
 /// What a character prints. A tab, and a blank that no row breaks at (U+00A0), print a blank.
 pub fn printed_char(output: Output, c: char) -> Printed<'static>
-    ensures { printed_seen result ≡ char_printed output c }
+    ensures value { printed_seen result ≡ char_printed output c }
+    ensures short { length (printed_seen result).characters ≤ 8 }
 {
     match c {
         ' '..='~' => Printed::Char(c),
@@ -52,11 +54,24 @@ pub fn printed_char(output: Output, c: char) -> Printed<'static>
 
 /// What the glyph of a name prints.
 pub fn printed_glyph(output: Output, name: &[u8]) -> Printed<'_>
-    ensures { printed_seen result ≡ glyph_printed output name.now }
+    ensures value { printed_seen result ≡ glyph_printed output name.now }
+    ensures short { length (printed_seen result).characters ≤ 8 }
 {
     match glyph(name) {
         None => Printed::NoGlyph(name),
         Some(found) if prints_ascii(output) => by_spelling(found.ascii, found.code),
         Some(found) => Printed::Char(found.code),
+    }
+}
+
+/// The columns of a character that is printed, none where it has no width.
+#[tactic(auto, unfolding(unicode_width::specs::Width::char_width))]
+pub fn char_columns(c: char) -> u32
+    ensures value { result ≡ char_columns c }
+    ensures bound { result ≤ 3 }
+{
+    match c {
+        ' '..='~' => 1,
+        _ => c.width().unwrap_or(0) as u32,
     }
 }

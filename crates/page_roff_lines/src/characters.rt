@@ -16,7 +16,7 @@ pub enum Front {
     Bad(u8),
 }
 
-// The byte at a place, or 0 behind the end.
+// The byte at a place, or 0 after the end.
 fn byte_at(text: &[u8], at: usize) -> u8
     ensures value { result ≡ slice_index text.now at }
     ensures within { 0 < result → at < length text.now }

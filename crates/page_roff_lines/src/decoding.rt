@@ -5,7 +5,7 @@ ghost use Rattle.page_core_base.specs.Texts.{IsLine};
 ghost use Rattle.page_roff_lines.specs.Limit.{line_limit};
 ghost use Rattle.page_roff_lines.specs.Characters.{characters, bytes_of, all_bytes, is_printable};
 ghost use Rattle.page_roff_lines.specs.Fronts.{as_character, width_of};
-ghost use Rattle.page_roff_lines.specs.Decoding.{fitting};
+ghost use Rattle.page_roff_lines.specs.Decoding.{characters_within};
 
 use crate::characters::Front;
 use crate::scanning::text_within;
@@ -95,8 +95,8 @@ impl DecodedText {
 
     /// Decodes a text, as far as it fits; whether less than all of it does.
     pub fn decode(&mut self, text: &[u8], encoding: Encoding) -> bool
-        ensures after { self.new ≡ all_bytes (fitting line_limit (characters encoding text.now)) }
-        ensures passed { result ≡ nat_lt (length (fitting line_limit (characters encoding text.now))) (length (characters encoding text.now)) }
+        ensures after { self.new ≡ all_bytes (characters_within line_limit (characters encoding text.now)) }
+        ensures passed { result ≡ nat_lt (length (characters_within line_limit (characters encoding text.now))) (length (characters encoding text.now)) }
         ensures line { IsLine self.new }
     {
         self.clear();

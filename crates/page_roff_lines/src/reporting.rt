@@ -7,7 +7,7 @@ ghost use Rattle.page_core_base.specs.Messages.{message_of};
 ghost use Rattle.page_roff_lines.specs.Limit.{line_limit};
 ghost use Rattle.page_roff_lines.specs.Characters.{characters};
 ghost use Rattle.page_roff_lines.specs.Fronts.{as_character};
-ghost use Rattle.page_roff_lines.specs.Decoding.{bad_character as spec_bad_character, limit_note as spec_limit_note, notes_of, bad_notes, limit_notes, fitting};
+ghost use Rattle.page_roff_lines.specs.Decoding.{bad_character as spec_bad_character, limit_note as spec_limit_note, notes_of, bad_notes, limit_notes, characters_within};
 
 use crate::characters::Front;
 use crate::scanning::text_within;
@@ -81,7 +81,7 @@ fn report_bad<N: NoteSink>(
     number: u32,
     notes: &mut N,
 ) -> Result<(), Fault>
-    ensures gives { Gives result N.gave N.within notes.old (bad_notes number 1 (fitting line_limit (characters encoding text.now))) notes.new }
+    ensures gives { Gives result N.gave N.within notes.old (bad_notes number 1 (characters_within line_limit (characters encoding text.now))) notes.new }
     ensures fault { FailsAs Fault.WriteNotes result (N.failed notes.old) (N.failed notes.new) }
     ensures same { N.loans notes.new ≡ N.loans notes.old }
 {
@@ -130,7 +130,7 @@ pub fn report<N: NoteSink>(
     passed: bool,
     notes: &mut N,
 ) -> Result<(), Fault>
-    ensures gives { Gives result N.gave N.within notes.old (limit_notes passed number ++ bad_notes number 1 (fitting line_limit (characters encoding text.now))) notes.new }
+    ensures gives { Gives result N.gave N.within notes.old (limit_notes passed number ++ bad_notes number 1 (characters_within line_limit (characters encoding text.now))) notes.new }
     ensures fault { FailsAs Fault.WriteNotes result (N.failed notes.old) (N.failed notes.new) }
     ensures same { N.loans notes.new ≡ N.loans notes.old }
 {

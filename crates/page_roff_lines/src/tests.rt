@@ -13,7 +13,7 @@ use std::test::Fail;
 fn show_line(alloc: Global, cutter: &mut Cutter, shown: &mut String) -> Result<(), Fail>
     requires { cutter.old.ready ≡ true }
     ensures ready { OnOk result (cutter.new.ready ≡ false) }
-    ensures place { OnOk result (cutter.new.place ≡ cutter.old.place) }
+    ensures point { OnOk result (cutter.new.point ≡ cutter.old.point) }
 {
     let mut notes = KeptNotes::new(alloc);
     let (text, number) = cutter.line(&mut notes)?;
@@ -36,19 +36,19 @@ fn show_line(alloc: Global, cutter: &mut Cutter, shown: &mut String) -> Result<(
 fn feed_all(
     alloc: Global,
     cutter: &mut Cutter,
-    piece: &[u8],
+    chunk: &[u8],
     shown: &mut String,
 ) -> Result<(), Fail>
     requires ready { cutter.old.ready ≡ false }
-    requires taken { cutter.old.place.line.taken + length piece.now < 2 ^ 31 }
+    requires consumed { cutter.old.point.line.consumed + length chunk.now < 2 ^ 31 }
     ensures ready { OnOk result (cutter.new.ready ≡ false) }
-    ensures taken { OnOk result (cutter.new.place.line.taken ≤ cutter.old.place.line.taken + length piece.now) }
+    ensures consumed { OnOk result (cutter.new.point.line.consumed ≤ cutter.old.point.line.consumed + length chunk.now) }
 {
     let mut at = 0;
-    'parts: for _ in 0..piece.len() {
-        if at < piece.len() {
-            let (taken, whole) = cutter.feed(&piece[at..]);
-            at += taken;
+    'parts: for _ in 0..chunk.len() {
+        if at < chunk.len() {
+            let (consumed, whole) = cutter.feed(&chunk[at..]);
+            at += consumed;
             if whole {
                 show_line(alloc, cutter, shown)?;
             }
@@ -323,24 +323,24 @@ fn cuts_long_lines(rt: HostRuntime) -> Result<(), Fail> {
 }
 
 // Feeds a piece that ends no line 160 times, and to an open line by itself, and tells how many bytes that were.
-fn feed_often<R: Abort>(rt: &R, cutter: &mut Cutter, line: &mut OpenLine, piece: &[u8]) -> u32
+fn feed_often<R: Abort>(rt: &R, cutter: &mut Cutter, line: &mut OpenLine, chunk: &[u8]) -> u32
     requires ready { cutter.old.ready ≡ false }
-    requires taken { cutter.old.place.line.taken ≡ 0 }
-    requires line { line.old.taken ≡ 0 }
+    requires consumed { cutter.old.point.line.consumed ≡ 0 }
+    requires line { line.old.consumed ≡ 0 }
     ensures ready { cutter.new.ready ≡ false }
-    ensures taken { cutter.new.place.line.taken ≤ 20000000 }
+    ensures consumed { cutter.new.point.line.consumed ≤ 20000000 }
 {
     let mut bytes = 0;
     'pieces: for _ in 0..160 {
-        if piece.len() > 65_536 || bytes > 15_000_000 {
+        if chunk.len() > 65_536 || bytes > 15_000_000 {
             break 'pieces;
         }
-        let (taken, whole) = cutter.feed(piece);
+        let (consumed, whole) = cutter.feed(chunk);
         if whole {
             panic!(rt; "a line is whole after {bytes} bytes");
         }
-        bytes += taken as u32;
-        let _ = line.read(piece);
+        bytes += consumed as u32;
+        let _ = line.read(chunk);
         assert!(rt; line.text().len() <= LINE, "after {bytes} bytes");
     }
     bytes
@@ -348,10 +348,10 @@ fn feed_often<R: Abort>(rt: &R, cutter: &mut Cutter, line: &mut OpenLine, piece:
 
 #[test]
 fn keeps_the_front_of_a_line_of_ten_megabytes(rt: HostRuntime) -> Result<(), Fail> {
-    let piece = page_of(rt.alloc(), b'x', 65_536, b"")?;
+    let chunk = page_of(rt.alloc(), b'x', 65_536, b"")?;
     let mut cutter = Cutter::new(rt.alloc(), Encoding::Auto)?;
     let mut line = OpenLine::new(rt.alloc())?;
-    let bytes = feed_often(&rt, &mut cutter, &mut line, piece.as_slice());
+    let bytes = feed_often(&rt, &mut cutter, &mut line, chunk.as_slice());
     assert_eq!(rt; bytes, 10_485_760);
     let mut shown = String::new(rt.alloc());
     feed_all(rt.alloc(), &mut cutter, b"\nb", &mut shown)?;
