@@ -36,7 +36,12 @@ fn report_escape<O: PieceOut>(out: &mut O, place: Place, bytes: &[u8], meaning: 
         Escape::Undefined(_) => report(out, NoteKind::UndefEscape, place, bytes),
         Escape::Bad => report(out, NoteKind::BadEscape, place, bytes),
         Escape::Unsupported | Escape::Blanks(_) => {
-            report(out, NoteKind::UnsuppEscape, place, &bytes[..bytes.len().min(2)])
+            report(
+                out,
+                NoteKind::UnsuppEscape,
+                place,
+                &bytes[..bytes.len().min(2)],
+            )
         }
         Escape::Font(name) => report_font(out, place, name),
         _ => {}

@@ -74,7 +74,13 @@ fn give_white<O: PieceOut>(out: &mut O, is_literal: bool, place: Place, white: &
 
 // Gives the messages of the word that begins with a token and goes on with a text.
 #[inline(always)]
-fn report_begun<O: PieceOut>(out: &mut O, place: Place, quoted: bool, token: &Token<'_>, rest: &[u8])
+fn report_begun<O: PieceOut>(
+    out: &mut O,
+    place: Place,
+    quoted: bool,
+    token: &Token<'_>,
+    rest: &[u8],
+)
     requires { length rest.now ≤ LINE }
     ensures { Came O.left out.old (words.token_notes place (token_seen token.now)
         ++ words.word_notes place (tokens_of quoted rest.now)) out.new }
@@ -87,9 +93,17 @@ fn report_begun<O: PieceOut>(out: &mut O, place: Place, quoted: bool, token: &To
 
 // Gives a token of a word: where the word begins, its messages come first.
 #[inline(always)]
-fn give_part<O: PieceOut>(out: &mut O, line: u32, walk: &Walk, quoted: bool, token: &Token<'_>, rest: &[u8])
+fn give_part<O: PieceOut>(
+    out: &mut O,
+    line: u32,
+    walk: &Walk,
+    quoted: bool,
+    token: &Token<'_>,
+    rest: &[u8],
+)
     requires { length rest.now ≤ LINE }
-    ensures { Came O.left out.old (words.part_items line walk.now (token_seen token.now) (tokens_of quoted rest.now)) out.new }
+    ensures { Came O.left out.old
+        (words.part_items line walk.now (token_seen token.now) (tokens_of quoted rest.now)) out.new }
 {
     let place = Place {
         line,
@@ -105,11 +119,18 @@ fn give_part<O: PieceOut>(out: &mut O, line: u32, walk: &Walk, quoted: bool, tok
 
 // Gives a token.
 #[inline(always)]
-fn give_token<O: PieceOut>(out: &mut O, style: Style, line: u32, walk: &Walk, token: &Token<'_>, rest: &[u8])
+fn give_token<O: PieceOut>(
+    out: &mut O,
+    style: Style,
+    line: u32,
+    walk: &Walk,
+    token: &Token<'_>,
+    rest: &[u8],
+)
     requires short { length rest.now ≤ LINE }
     requires room { walk.now.column + length (token_bytes (token_seen token.now)) < 2 ^ 32 }
-    ensures { Came O.left out.old
-        (words.token_items style line walk.now (token_seen token.now) (tokens_of style.is_quoted rest.now)) out.new }
+    ensures { Came O.left out.old (words.token_items style line walk.now (token_seen token.now)
+        (tokens_of style.is_quoted rest.now)) out.new }
 {
     if let Token::White(white) = *token {
         let place = Place {
@@ -123,10 +144,17 @@ fn give_token<O: PieceOut>(out: &mut O, style: Style, line: u32, walk: &Walk, to
 }
 
 /// Gives the words of a text, from what is known before it; what is known after it.
-pub fn give_words<O: PieceOut>(out: &mut O, style: Style, line: u32, start: Walk, text: &[u8]) -> Walk
+pub fn give_words<O: PieceOut>(
+    out: &mut O,
+    style: Style,
+    line: u32,
+    start: Walk,
+    text: &[u8],
+) -> Walk
     requires short { length text.now ≤ LINE }
     requires room { start.column + length text.now < 2 ^ 32 }
-    ensures came { Came O.left out.old (words.words_items style line start (tokens_of style.is_quoted text.now)) out.new }
+    ensures came { Came O.left out.old
+        (words.words_items style line start (tokens_of style.is_quoted text.now)) out.new }
     ensures walk { result ≡ words.walk_through start (tokens_of style.is_quoted text.now) }
 {
     let mut rest = text;
