@@ -41,8 +41,8 @@ scale_named letter =
     else None
 
 -- the nearest whole number in the range of 32 bits
-abbrev pub held : ℤ → ℤ
-held n = saturate_signed w32 n
+abbrev pub in_range : ℤ → ℤ
+in_range n = saturate_signed w32 n
 
 -- ---- what is written of a number: digits, perhaps a point and digits, and perhaps a unit
 
@@ -52,7 +52,7 @@ digits_of text = take (prefix_len is_digit text) text
 abbrev pub after_digits : List ℕ → List ℕ
 after_digits text = drop (prefix_len is_digit text) text
 
--- the digits behind a point, where a text begins with one
+-- the digits after a point, where a text begins with one
 abbrev pub fraction_of : List ℕ → List ℕ
 fraction_of [] = []
 fraction_of (b ∷ bs) = if b == 0x2E then digits_of bs else []
@@ -74,7 +74,7 @@ after_scale text = if is_some (scale_at text) then drop 1 text else text
 abbrev pub decimal : List ℕ → ℕ
 decimal digits = fold (λ n b. n * 10 + (b - 0x30)) 0 digits
 
--- the digits behind a point in ten-thousandths: four of them count
+-- the digits after a point in ten-thousandths: four of them count
 abbrev pub ten_thousandths : List ℕ → ℕ
 ten_thousandths digits = decimal (take 4 (digits ++ codes "0000"))
 
@@ -82,13 +82,13 @@ ten_thousandths digits = decimal (take 4 (digits ++ codes "0000"))
 unfoldable pub units_of : (whole fraction : List ℕ) → Scale → ℕ
 units_of whole fraction scale = (decimal whole * 10000 + ten_thousandths fraction) * numerator scale / (10000 * denominator scale)
 
--- a number of these digits, where `text` stands behind them: its value in basic units, and what follows
-abbrev pub scaled : Scale → (whole fraction text : List ℕ) → ℤ × List ℕ
-scaled scale whole fraction text = (held (pos (units_of whole fraction (unwrap_or (scale_at text) scale))), after_scale text)
+-- a number of these digits, where `text` stands after them: its value in basic units, and what follows
+abbrev pub number_of : Scale → (whole fraction text : List ℕ) → ℤ × List ℕ
+number_of scale whole fraction text = (in_range (pos (units_of whole fraction (unwrap_or (scale_at text) scale))), after_scale text)
 
 -- the number at a text's front, none where there is no digit; `scale` is the unit of a number without one
 unfoldable pub number_at : Scale → List ℕ → Option (ℤ × List ℕ)
 number_at scale text =
     let more = after_digits text in
     if length (digits_of text) + length (fraction_of more) == 0 then None
-    else Some (scaled scale (digits_of text) (fraction_of more) (after_fraction more))
+    else Some (number_of scale (digits_of text) (fraction_of more) (after_fraction more))

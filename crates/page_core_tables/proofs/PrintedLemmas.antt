@@ -1,11 +1,14 @@
--- A spelling has eight characters at most.
+-- What is printed is short, and a character of printable ASCII has one column.
 use Rattle.std.proofs.Common.{◌≡◌, ℕ, ◌≤◌, ◌==◌, nat_le, ◌&&◌, Bool, true, List, [], ◌∷◌, length, Option, None, Some, option_map, inl, inr, refl, sym, ap, ◌∙◌, arith}
 use Rattle.std.specs.Str.{bytes_eq}
 use Rattle.std.specs.List.{list_all}
 use Rattle.std.proofs.lemmas.Bool.{cases_Bool, cond-true, cond-false, and_parts}
 use Rattle.std.proofs.lemmas.Bool.Decides.{nat_tests}
 use Rattle.page_core_tables.specs.Glyphs.{Symbol, Entry, table, entry_named, glyph_of, first_spelling, spelling_of}
-use Rattle.page_core_tables.specs.Printed.{by_spelling}
+use Rattle.unicode_width.specs.Width.{char_width}
+use Rattle.page_core_tables.specs.Printed.{by_spelling, char_columns}
+
+-- ---- spellings have eight characters at most
 
 abbrev is_short : Entry → Bool
 is_short e = nat_le (length e.symbol.spelling) 8
@@ -68,3 +71,9 @@ by_spelling_of-short c text is = by_spelling-short text c (rw is (spelling_of-sh
 
 pub by_spelling_of_glyph-short : (name : List ℕ) (symbol : Symbol) → Some symbol ≡ glyph_of name → length (by_spelling symbol.spelling symbol.code).characters ≤ 8
 by_spelling_of_glyph-short name symbol is = by_spelling-short symbol.spelling symbol.code (glyph_of-short name symbol is)
+
+-- ---- columns
+
+pub char_columns-printable : (c : ℕ) → 32 ≤ c → c ≤ 126 → char_columns c ≡ 1
+unfolding char_width
+char_columns-printable c low high = grind (arith, nat_tests, low, high)

@@ -1,4 +1,4 @@
--- What the code holds of an expression, as definitions speak of it.
+-- Of the code's own steps, which no public clause cites: what its values hold of an expression, as definitions speak of it.
 use Rattle.std.specs.Prelude.{ℕ, ◌+◌, List, [], ◌∷◌, ◌++◌, replicate, Option, Some, None, is_some, ℤ}
 use Rattle.page_core_numbers.specs.declared.decimals.Number.{Number}
 use Rattle.page_core_numbers.specs.declared.operators.Operator.{Operator}
@@ -8,7 +8,7 @@ use Rattle.page_core_numbers.specs.declared.troubles.Trouble.TheVariants.{DivZer
 use Rattle.page_core_numbers.specs.declared.troubles.Troubles.{Troubles}
 use Rattle.page_core_numbers.specs.declared.troubles.Stopped.{Stopped}
 use Rattle.page_core_numbers.specs.declared.expressions.Operand.{Operand}
-use Rattle.page_core_numbers.specs.declared.expressions.Reading.{Reading}
+use Rattle.page_core_numbers.specs.declared.expressions.Expression.{Expression}
 use Rattle.page_core_numbers.specs.Expressions.{Read}
 
 abbrev pub number_seen : Number → ℤ × List ℕ
@@ -36,5 +36,5 @@ count_of t = t.divisions + stop_count t.stopped
 abbrev pub operand_seen : Operand → Read (Option ℤ)
 operand_seen o = record { value = o.value; troubles = troubles_seen o.troubles; ends = is_some o.troubles.stopped; rest = o.rest.now }
 
-abbrev pub reading_seen : Reading → Read ℤ
-reading_seen r = record { value = r.value; troubles = troubles_seen r.troubles; ends = is_some r.troubles.stopped; rest = r.rest.now }
+abbrev pub expression_seen : Expression → Read ℤ
+expression_seen r = record { value = r.value; troubles = troubles_seen r.troubles; ends = is_some r.troubles.stopped; rest = r.rest.now }
