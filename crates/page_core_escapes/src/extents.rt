@@ -1,13 +1,12 @@
 //! What is read before an escape's quoted argument, or the whole escape where it has none.
 ghost use Rattle.std.specs.Prelude.{◌≡◌, ◌<◌, ◌≤◌, ◌+◌, ◌==◌, ℕ, length, position, IfSome};
-ghost use Rattle.page_core_escapes.specs.Shapes.{after_sign};
-ghost use Rattle.page_core_escapes.specs.Forms.{sign_len, character_len, two_characters_len, bracketed_len, name_len, number_len, number_form, form_of, FormFits};
+ghost use Rattle.page_core_escapes.specs.Extents.{after_sign, begins_size, shape_of, sign_len, character_len, two_characters_len, bracketed_len, name_len, number_len, number_extent, extent_of, ExtentFits};
 
-use crate::shape::{Shape, argument_shape, without_sign};
+use crate::letters::{Shape, letter_of};
 
 /// An escape as far as its quoted argument.
 #[derive(Clone, Copy)]
-pub(crate) enum Form {
+pub(crate) enum Extent {
     /// It has no such argument and takes this many bytes.
     Whole(usize),
     /// Its quoted argument begins after this many bytes.
@@ -80,35 +79,65 @@ fn number_len(text: &[u8]) -> Option<usize>
     }
 }
 
-// An escape with a size, where what follows the escape's character is `rest`.
-fn size_form(rest: &[u8]) -> Option<Form>
-    ensures value { result ≡ number_form (2 + sign_len rest.now) (after_sign rest.now) }
-    ensures bound { IfSome result (FormFits (2 + length rest.now)) }
+// A size without its sign.
+fn without_sign(text: &[u8]) -> &[u8]
+    ensures { result.now ≡ after_sign text.now }
+{
+    match text.first() {
+        Some(b'+' | b'-') => &text[1..],
+        _ => text,
+    }
+}
+
+// Whether a size begins here, or the text ends.
+fn begins_size(text: &[u8]) -> bool
+    ensures { result ≡ begins_size text.now }
+{
+    match text.first() {
+        Some(first) => matches!(first, b'(' | b'[' | b'\'' | b'0'..=b'9'),
+        None => true,
+    }
+}
+
+// What follows an escape's letter, where `rest` stands after that.
+fn shape_of(key: u8, rest: &[u8]) -> Shape
+    ensures { result ≡ shape_of key rest.now }
+{
+    match letter_of(key).shape {
+        Shape::Size if !begins_size(without_sign(rest)) => Shape::Alone,
+        shape => shape,
+    }
+}
+
+// An escape with a size, where what follows the escape's letter is `rest`.
+fn size_extent(rest: &[u8]) -> Option<Extent>
+    ensures value { result ≡ number_extent (2 + sign_len rest.now) (after_sign rest.now) }
+    ensures bound { IfSome result (ExtentFits (2 + length rest.now)) }
 {
     let number = without_sign(rest);
     let before = 2 + rest.len() - number.len();
     if number.first() == Some(&b'\'') {
-        return Some(Form::QuotedFrom(before));
+        return Some(Extent::QuotedFrom(before));
     }
-    Some(Form::Whole(before + number_len(number)?))
+    Some(Extent::Whole(before + number_len(number)?))
 }
 
 /// Reads an escape as far as its quoted argument; none where the text ends before.
-pub(crate) fn read_form(text: &[u8]) -> Option<Form>
+pub(crate) fn read_extent(text: &[u8]) -> Option<Extent>
     requires { 0 < length text.now }
-    ensures value { result ≡ form_of text.now }
-    ensures bound { IfSome result (FormFits (length text.now)) }
+    ensures value { result ≡ extent_of text.now }
+    ensures bound { IfSome result (ExtentFits (length text.now)) }
 {
     if text.len() == 1 {
-        return Some(Form::Whole(1));
+        return Some(Extent::Whole(1));
     }
     let rest = &text[2..];
-    let len = match argument_shape(text[1], rest) {
+    let len = match shape_of(text[1], rest) {
         Shape::Alone => character_len(&text[1..])? + 1,
         Shape::Glyph => name_len(&text[1..])? + 1,
         Shape::Name => name_len(rest)? + 2,
-        Shape::Size => return size_form(rest),
-        Shape::Quoted => return Some(Form::QuotedFrom(2)),
+        Shape::Size => return size_extent(rest),
+        Shape::Quoted => return Some(Extent::QuotedFrom(2)),
     };
-    Some(Form::Whole(len))
+    Some(Extent::Whole(len))
 }
