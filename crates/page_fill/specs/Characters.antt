@@ -7,7 +7,7 @@ use Rattle.page_core_base.specs.declared.note_kinds.NoteKind.TheVariants.{NoGlyp
 use Rattle.page_core_base.specs.declared.page_settings.Output.{Output}
 use Rattle.page_core_base.specs.declared.page_settings.Output.TheVariants.{Ascii, Utf8, Lint}
 use Rattle.page_core_base.specs.declared.places.Place.{Place}
-use Rattle.page_core_base.specs.Messages.{Message}
+use Rattle.page_core_base.specs.Messages.{Message, message_about}
 use Rattle.page_core_base.specs.Laid.{Laid, nothing, seq}
 use Rattle.page_core_tables.specs.Glyphs.{Symbol, glyph_of, spelling_of}
 use Rattle.page_fill.specs.Sheets.{Sheet, letter, letters}
@@ -28,21 +28,12 @@ cell_of font c = record { c = c; font = font }
 abbrev pub cells_of : Font → List ℕ → List Cell
 cells_of font cs = map (cell_of font) cs
 
--- the longest front of so many bytes that ends at a character's end
-unfoldable pub front_of : ℕ → List ℕ → List ℕ
-front_of n [] = []
-front_of n (c ∷ cs) = if nat_le (length (encode_utf8 c)) n then encode_utf8 c ++ front_of (n - length (encode_utf8 c)) cs else []
-
 -- the characters of a text; bytes that are not UTF-8 have none
 unfoldable pub characters_of : List ℕ → List ℕ
 characters_of bytes = if is_utf8 bytes then chars bytes else []
 
--- what is shown of a name in a message
-abbrev pub name_detail : List ℕ → List ℕ
-name_detail name = front_of 64 (characters_of name)
-
 abbrev pub no_glyph : List ℕ → Place → Message
-no_glyph detail place = record { kind = NoGlyph; line = place.line; column = place.column; detail = detail }
+no_glyph detail place = message_about NoGlyph place detail
 
 -- what has no glyph is reported, and <?> stands for it
 abbrev pub unknown : Sheet → List ℕ → Font → Place → Laid Sheet
@@ -67,7 +58,7 @@ characters output s (c ∷ cs) font place = seq (character output s c font place
 
 -- a glyph by what its name stands for
 abbrev pub symbol : Output → Sheet → List ℕ → Option Symbol → Font → Place → Laid Sheet
-symbol output s name None font place = unknown s (name_detail name) font place
+symbol output s name None font place = unknown s name font place
 symbol output s name (Some g) font place = if prints_ascii output then spelled s g.spelling g.code font place else letter s (cell_of font g.code) place
 
 unfoldable pub glyph : Output → Sheet → List ℕ → Font → Place → Laid Sheet

@@ -1,14 +1,16 @@
 -- The open row, cell by cell: when a row takes a cell and when it ends, and what stands at the end of the rows that were given.
 -- Source: roff(7), "Filling and adjusting"; mandoc(1), "ASCII Output".
-use Rattle.std.specs.Prelude.{ℕ, zero, suc, ◌+◌, ◌^◌, ◌-◌, Bool, true, false, not, ◌&&◌, ◌==◌, nat_lt, min, List, [], ◌∷◌, ◌++◌, length, take, drop, replicate, sum_by, unwrap_or, codes, if◌then◌else◌}
+use Rattle.std.specs.Prelude.{ℕ, zero, suc, ◌+◌, ◌^◌, ◌-◌, Bool, true, false, not, ◌&&◌, ◌==◌, nat_lt, min, List, [], ◌∷◌, ◌++◌, length, take, drop, replicate, sum_by, unwrap_or, if◌then◌else◌}
 use Rattle.unicode_width.specs.Width.{char_width}
 use Rattle.page_core_base.specs.declared.cells.Cell.{Cell}
 use Rattle.page_core_base.specs.declared.cells.Font.TheVariants.{R}
 use Rattle.page_core_base.specs.declared.note_kinds.NoteKind.TheVariants.{Limit}
 use Rattle.page_core_base.specs.declared.places.Place.{Place}
-use Rattle.page_core_base.specs.Messages.{Message}
+use Rattle.page_core_base.specs.Messages.{Message, message_about}
 use Rattle.page_core_base.specs.Rows.{row_of, is_blank_row}
 use Rattle.page_core_base.specs.Laid.{Laid, nothing, seq}
+use Rattle.page_core_limits.specs.Limits.{name_of}
+use Rattle.page_core_limits.specs.declared.Limit.TheVariants.{Cells}
 use Rattle.page_core_limits.specs.declared.TheConstants.{CELLS}
 use Rattle.page_fill.specs.declared.TheConstants.{TAG_COLUMNS}
 
@@ -48,7 +50,7 @@ abbrev pub over : {E F : Type 0} → Laid E → (E → F) → Laid F
 over l f = record { rows = l.rows; notes = l.notes; edge = f l.edge }
 
 abbrev pub cells_note : Place → Message
-cells_note place = record { kind = Limit; line = place.line; column = place.column; detail = codes "CELLS" }
+cells_note place = message_about Limit place (name_of Cells)
 
 -- ---- rows
 

@@ -1,5 +1,5 @@
-use Rattle.page_fill.proofs.WordLaw.{word-fits, word-passes, word-behind, letters-begin}
-use Rattle.page_fill.proofs.laws.word_law.Goals as goal
+use Rattle.page_fill_laws.proofs.WordLaw.{word-fits, word-passes, word-behind, letters-begin}
+use Rattle.page_fill_laws.proofs.laws.word_law.Goals as goal
 
 pub returns-clause-fits : goal.returns-clause-fits
 returns-clause-fits c = word-fits

@@ -12,7 +12,7 @@ use Rattle.page_core_base.specs.Laid.{Laid, nothing, join, seq, join_assoc}
 use Rattle.page_core_limits.specs.declared.TheConstants.{CELLS}
 use Rattle.page_fill.specs.declared.TheConstants.{TAG_COLUMNS}
 use Rattle.page_fill.specs.Sheets.{Sheet, over, columns, cell_columns, blank, passes, counted, begins, given, gives, emptied, letter, letters, space, spaces, opens, new_word}
-use Rattle.page_fill.specs.Words.{tally, has_cell, tallied, fitting, with_word, word_wrapped, word_behind, word_first}
+use Rattle.page_fill_laws.specs.Words.{tally, has_cell, tallied, fitting, with_word, word_wrapped, word_behind, word_first}
 
 columns-cons : (c : Cell) (cs : List Cell) → columns (c ∷ cs) ≡ cell_columns c + columns cs
 columns-cons c cs = sum_by-cons cell_columns c cs

@@ -12,8 +12,8 @@ use Rattle.page_core_base.specs.Laid.{nothing}
 use Rattle.page_fill.specs.declared.words.OpenTag.{OpenTag}
 use Rattle.page_fill.specs.Characters.{characters_of}
 use Rattle.page_fill.specs.Fill.{Edge, laid_piece, text, one_character, one_glyph, tab, opening, ended, paragraph, spaced, heading, tag_ended, after_tag, fits_hang, without_tag}
-use Rattle.page_fill.specs.InWords.{is_sound}
-use Rattle.page_fill.proofs.InWordsPieces.{sound-behind}
+use Rattle.page_fill_laws.specs.InWords.{is_sound}
+use Rattle.page_fill_laws.proofs.InWordsPieces.{sound-behind}
 
 opening-sound : (e : Edge) (place : Place) → is_sound e.word ≡ true → is_sound (opening e place).edge.word ≡ true
 unfolding opening

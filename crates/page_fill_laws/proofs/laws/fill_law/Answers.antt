@@ -1,7 +1,7 @@
 use Rattle.std.proofs.Common.{refl}
-use Rattle.page_fill.proofs.InWordsPieces.{laid-in-words}
-use Rattle.page_fill.proofs.SoundWords.{piece-sound}
-use Rattle.page_fill.proofs.laws.fill_law.Goals as goal
+use Rattle.page_fill_laws.proofs.InWordsPieces.{laid-in-words}
+use Rattle.page_fill_laws.proofs.SoundWords.{piece-sound}
+use Rattle.page_fill_laws.proofs.laws.fill_law.Goals as goal
 
 pub returns-clause-rows : goal.returns-clause-rows
 returns-clause-rows c = laid-in-words

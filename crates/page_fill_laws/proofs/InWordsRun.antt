@@ -8,7 +8,7 @@ use Rattle.page_core_base.specs.Laid.{Laid, nothing, join, seq, join_assoc}
 use Rattle.page_core_limits.specs.declared.TheConstants.{CELLS}
 use Rattle.page_fill.specs.Sheets.{Sheet, blank, passes, letter, space, opens}
 use Rattle.page_fill.specs.Characters.{with_notes}
-use Rattle.page_fill.specs.InWords.{Mark, told, opened, spaced, lettered, told_by, offends, taken, ended_at, Found, none, here, after_messages, first_offending, rows_in_words}
+use Rattle.page_fill_laws.specs.InWords.{Mark, told, opened, spaced, lettered, told_by, offends, taken, ended_at, Found, none, here, after_messages, first_offending, rows_in_words}
 
 -- what one mark does
 abbrev pub step : Sheet → Mark → Laid Sheet

@@ -16,8 +16,8 @@ use Rattle.page_fill.specs.declared.words.OpenWord.{OpenWord}
 use Rattle.page_fill.specs.Sheets.{Sheet, over, blank, letter, letters, space, spaces, new_word, opens, passes}
 use Rattle.page_fill.specs.Characters.{with_notes, prints_ascii, cell_of, cells_of, characters_of, name_detail, no_glyph, unknown, spelled, character, characters, symbol, glyph}
 use Rattle.page_fill.specs.Fill.{Edge, laid, laid_piece, text, one_character, one_glyph, tab, opening, tab_notes, tells_tab, stands, fixed_tab, filled_tab, on_sheet, begun_word, blanks_wait, opened_word, glued_word}
-use Rattle.page_fill.specs.InWords.{Mark, told, opened, spaced, lettered, letters_of, unknown_marks, spelled_marks, character_marks, text_marks, symbol_marks, tab_marks, blank_marks, opening_marks, after_cell, is_of_words, are_of_words, piece_marks, word_behind, marks, words_behind, is_sound, laid_in_words}
-use Rattle.page_fill.proofs.InWordsRun.{step, run, run-append, rows-run}
+use Rattle.page_fill_laws.specs.InWords.{Mark, told, opened, spaced, lettered, letters_of, unknown_marks, spelled_marks, character_marks, text_marks, symbol_marks, tab_marks, blank_marks, opening_marks, after_cell, is_of_words, are_of_words, piece_marks, word_behind, marks, words_behind, is_sound, laid_in_words}
+use Rattle.page_fill_laws.proofs.InWordsRun.{step, run, run-append, rows-run}
 
 letters-run : (s : Sheet) (cells : List Cell) (place : Place) → letters s cells place ≡ run s (letters_of place cells)
 unfolding letters run
