@@ -7,3 +7,4 @@ pub mod Characters
 pub mod Boundaries
 pub mod ArgumentTexts
 pub mod EscapeTexts
+pub mod TokenLemmas

@@ -4,3 +4,4 @@ pub mod Lengths
 pub mod Steps
 pub mod Meanings
 pub mod Escapes
+pub mod Tokens

@@ -15,8 +15,10 @@ mod form;
 mod meaning;
 mod quoted;
 mod shape;
+mod tokens;
 
 pub use meaning::{Escape, FontName, read_font};
+pub use tokens::{Token, begins_word, read_token, white_len};
 
 /// The escape at the front of a text, where a backslash is, and how many bytes it takes: roff(7),
 /// "Escape sequences". One that has no end takes the rest of the text. What it lends of

@@ -6,7 +6,7 @@ use Rattle.std.proofs.lemmas.Bool.Decides.{nat_tests, eqb_tells, leb_tells}
 use Rattle.std.proofs.lemmas.Str.{IsUtf8-append, IsUtf8-nil, IsUtf8-from_ascii}
 use Rattle.std.proofs.lemmas.Str.Ascii.{IsAscii-cons, IsAscii-nil}
 use Rattle.std.proofs.str.Valid.{of_two}
-use Rattle.page_core_base.specs.Texts.{IsLine, is_plain}
+use Rattle.page_core_base.specs.Texts.{IsLine, has_no_control}
 use Rattle.page_core_base.specs.declared.page_settings.Encoding.{Encoding}
 use Rattle.page_core_base.specs.declared.page_settings.Encoding.TheVariants.{Auto, Ascii, Latin1, Utf8}
 use Rattle.page_roff_lines.specs.Limit.{line_limit, line_limit_is}
@@ -98,7 +98,7 @@ all_bytes-utf8 : (cs : List Character) → AllFine cs → IsUtf8 (all_bytes cs)
 all_bytes-utf8 [] h = IsUtf8-nil
 all_bytes-utf8 (c ∷ cs) h = IsUtf8-append (bytes_of c) (all_bytes cs) h.0.utf8 (all_bytes-utf8 cs h.1)
 
-all_bytes-plain : (cs : List Character) (before : ℕ) → before ≢ 194 → AllFine cs → is_plain before (all_bytes cs) ≡ true
+all_bytes-plain : (cs : List Character) (before : ℕ) → before ≢ 194 → AllFine cs → has_no_control before (all_bytes cs) ≡ true
 all_bytes-plain [] before n h = refl
 all_bytes-plain (c ∷ cs) before n h = h.0.plain before (all_bytes cs) n (λ last m. all_bytes-plain cs last m h.1)
 
@@ -130,7 +130,7 @@ decoded-is_line e text h =
     }
 
 -- a text of printable bytes
-singles_fine : (text : List ℕ) → list_all is_printable text ≡ true → IsUtf8 text × ((before : ℕ) → before ≢ 194 → is_plain before text ≡ true)
+singles_fine : (text : List ℕ) → list_all is_printable text ≡ true → IsUtf8 text × ((before : ℕ) → before ≢ 194 → has_no_control before text ≡ true)
 singles_fine [] h = (IsUtf8-nil, λ before n. refl)
 singles_fine (b ∷ bs) h =
     let both = split_true (is_printable b) (list_all is_printable bs) h in
