@@ -1,34 +1,16 @@
 //! What characters and glyphs print (mandoc_char(7)).
 
-ghost use Rattle.std.specs.Prelude.{◌≡◌, ◌+◌, ◌<◌, ◌≤◌, [], ◌∷◌, length, true, encode_utf8};
+ghost use Rattle.std.specs.Prelude.{◌≡◌, ◌+◌, ◌<◌, ◌≤◌, [], ◌∷◌, length, true};
 ghost use Rattle.std.specs.Str.{chars};
 ghost use Rattle.page_core_base.specs.Latches.{LaysOut};
-ghost use Rattle.page_core_base.specs.Messages.{message_of};
+ghost use Rattle.page_core_tables.specs.Printed.{printed_seen, unknown_text};
 ghost use Rattle.page_fill.specs.Sheets as sheet;
 ghost use Rattle.page_fill.specs.Characters as shown;
 ghost use Rattle.page_fill.specs.Plain as plain;
 
 use crate::sheets::OpenRow;
-use arrayvec::ArrayString;
 use page_core_base::{Cell, Font, Note, NoteKind, Output, Place, RowOut};
-use page_core_tables::{glyph, spelling};
-
-// Whether characters above ASCII are spelled. Messages alone are laid out in ASCII.
-fn prints_ascii(output: Output) -> bool
-    ensures { result ≡ shown.prints_ascii output }
-{
-    match output {
-        Output::Ascii | Output::Lint => true,
-        Output::Utf8 => false,
-    }
-}
-
-// The report that there is no glyph.
-fn no_glyph(detail: &[u8], place: Place) -> Note
-    ensures { message_of result ≡ shown.no_glyph detail.now place }
-{
-    Note::about(NoteKind::NoGlyph, place, detail)
-}
+use page_core_tables::{Printed, printed_char, printed_glyph};
 
 /// Whether bytes are printable ASCII, of a column each.
 pub(crate) fn is_plain(bytes: &[u8]) -> bool
@@ -75,30 +57,38 @@ fn put_bytes<O: RowOut>(row: &mut OpenRow, bytes: &[u8], font: Font, place: Plac
 
 // Reports that there is no glyph, and puts what stands for it.
 fn put_unknown<O: RowOut>(row: &mut OpenRow, detail: &[u8], font: Font, place: Place, out: &mut O)
-    ensures { LaysOut O.left out.old (shown.unknown row.old detail.now font place) out.new row.new }
+    ensures { LaysOut O.left out.old (shown.put row.old (unknown_text detail.now) font place) out.new row.new }
 {
-    out.report(&no_glyph(detail, place));
+    out.report(&Note::about(NoteKind::NoGlyph, place, detail));
     put_bytes(row, b"<?>", font, place, out);
 }
 
-// Puts a spelling, or what stands for a character without one.
-#[tactic(auto, unfolding(crate::specs::Characters::spelled))]
-fn put_spelled<O: RowOut>(
+// Puts a cell of a character.
+fn put_char<O: RowOut>(row: &mut OpenRow, c: char, font: Font, place: Place, out: &mut O)
+    ensures { LaysOut O.left out.old (sheet.letters row.old (shown.cells_of font (c ∷ [])) place) out.new row.new }
+{
+    row.put_letter(Cell { c, font }, place, out);
+}
+
+// Puts what is printed.
+fn put_printed<O: RowOut>(
     row: &mut OpenRow,
-    spelling: &str,
-    c: char,
+    printed: Printed<'_>,
     font: Font,
     place: Place,
     out: &mut O,
 )
-    ensures { LaysOut O.left out.old (shown.spelled row.old spelling.now c font place) out.new row.new }
+    ensures { LaysOut O.left out.old (shown.put row.old (printed_seen printed.entry) font place) out.new row.new }
 {
-    if spelling.is_empty() {
-        let mut detail = ArrayString::<4>::new();
-        detail.push(c);
-        return put_unknown(row, detail.as_bytes(), font, place, out);
+    match printed {
+        Printed::Char(c) => put_char(row, c, font, place, out),
+        Printed::Spelling(text) => put_bytes(row, text.as_bytes(), font, place, out),
+        Printed::NoSpelling(c) => {
+            let mut buffer = [0; 4];
+            put_unknown(row, c.encode_utf8(&mut buffer).as_bytes(), font, place, out);
+        }
+        Printed::NoGlyph(name) => put_unknown(row, name, font, place, out),
     }
-    put_bytes(row, spelling.as_bytes(), font, place, out);
 }
 
 /// Puts a character.
@@ -113,16 +103,7 @@ pub(crate) fn put_character<O: RowOut>(
 )
     ensures { LaysOut O.left out.old (shown.character output row.old c font place) out.new row.new }
 {
-    if c.is_ascii() {
-        return row.put_letter(Cell { c, font }, place, out);
-    }
-    if c == '\u{a0}' {
-        return row.put_letter(Cell { c: ' ', font }, place, out);
-    }
-    if prints_ascii(output) {
-        return put_spelled(row, spelling(c), c, font, place, out);
-    }
-    row.put_letter(Cell { c, font }, place, out);
+    put_printed(row, printed_char(output, c), font, place, out);
 }
 
 /// Puts the characters of a text.
@@ -153,15 +134,5 @@ pub(crate) fn put_glyph<O: RowOut>(
 )
     ensures { LaysOut O.left out.old (shown.glyph output row.old name.now font place) out.new row.new }
 {
-    let Some(found) = glyph(name) else {
-        return put_unknown(row, name, font, place, out);
-    };
-    if prints_ascii(output) {
-        return put_spelled(row, found.ascii, found.code, font, place, out);
-    }
-    let cell = Cell {
-        c: found.code,
-        font,
-    };
-    row.put_letter(cell, place, out);
+    put_printed(row, printed_glyph(output, name), font, place, out);
 }
