@@ -8,7 +8,8 @@ use Rattle.page_core_base.specs.declared.pieces.Piece.TheVariants.{Char, Blank, 
 use Rattle.page_core_base.specs.Rows.{row_of}
 use Rattle.page_fill.specs.Sheets.{letter, letters, space, spaces, broken, empty_rows, fresh}
 use Rattle.page_fill.specs.Characters.{character, cells_of}
-use Rattle.page_fill.specs.Fill.{Edge, filled, laid, laid_piece, ended, paragraph, opening, one_character, no_word}
+use Rattle.page_fill.specs.declared.words.Edge.{Edge}
+use Rattle.page_fill.specs.Fill.{filled, laid, laid_piece, ended, paragraph, opening, one_character, no_word}
 
 -- the start of a page of so many columns
 abbrev at_start : ℕ → Edge

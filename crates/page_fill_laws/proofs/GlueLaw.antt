@@ -9,7 +9,8 @@ use Rattle.page_core_base.specs.declared.places.Place.{Place}
 use Rattle.page_core_base.specs.Laid.{Laid, nothing, join, seq, join_assoc}
 use Rattle.page_fill.specs.Sheets.{Sheet, over, new_word}
 use Rattle.page_fill.specs.Characters.{characters, character, with_notes}
-use Rattle.page_fill.specs.Fill.{Edge, laid, laid_piece, text, opening, on_sheet, begun_word, tells_tab, tab_notes, stands, blanks_wait, glued_word}
+use Rattle.page_fill.specs.declared.words.Edge.{Edge}
+use Rattle.page_fill.specs.Fill.{laid, laid_piece, text, opening, on_sheet, begun_word, tells_tab, tab_notes, stands, blanks_wait, glued_word}
 use Rattle.page_fill.proofs.CharacterLemmas.{characters_of-text, chars-empty}
 
 characters-append : (output : Output) (s : Sheet) (xs ys : List ℕ) (font : Font) (place : Place)

@@ -1,5 +1,5 @@
 -- What pieces of words lay is what their marks do.
-use Rattle.std.proofs.Common.{◌≡◌, ℕ, zero, suc, ◌==◌, nat_lt, Bool, true, false, not, ◌&&◌, ◌||◌, List, [], ◌∷◌, ◌++◌, length, replicate, Option, None, Some, inl, inr, refl, sym, subst, ap, ◌∙◌, arith, append-nil, encode_utf8, codes}
+use Rattle.std.proofs.Common.{◌≡◌, ℕ, zero, suc, ◌==◌, nat_lt, Bool, true, false, not, ◌&&◌, ◌||◌, List, [], ◌∷◌, ◌++◌, length, replicate, map, Option, None, Some, inl, inr, refl, sym, subst, ap, ◌∙◌, arith, append-nil}
 use Rattle.std.specs.Prelude.{if◌then◌else◌}
 use Rattle.std.proofs.lemmas.Bool.{cases_Bool, and_parts}
 use Rattle.page_core_base.specs.declared.cells.Cell.{Cell}
@@ -10,13 +10,14 @@ use Rattle.page_core_base.specs.declared.pieces.Piece.TheVariants.{Text, Glyph, 
 use Rattle.page_core_base.specs.declared.places.Place.{Place}
 use Rattle.page_core_base.specs.Messages.{Message}
 use Rattle.page_core_base.specs.Laid.{Laid, nothing, join, seq}
-use Rattle.page_core_tables.specs.Glyphs.{Symbol, glyph_of, spelling_of}
+use Rattle.page_core_tables.specs.Printed.{Printing, char_printed, glyph_printed}
 use Rattle.page_core_limits.specs.declared.TheConstants.{CELLS}
 use Rattle.page_fill.specs.declared.words.OpenWord.{OpenWord}
 use Rattle.page_fill.specs.Sheets.{Sheet, over, blank, letter, letters, space, spaces, new_word, opens, passes}
-use Rattle.page_fill.specs.Characters.{with_notes, prints_ascii, cell_of, cells_of, characters_of, name_detail, no_glyph, unknown, spelled, character, characters, symbol, glyph}
-use Rattle.page_fill.specs.Fill.{Edge, laid, laid_piece, text, one_character, one_glyph, tab, opening, tab_notes, tells_tab, stands, fixed_tab, filled_tab, on_sheet, begun_word, blanks_wait, opened_word, glued_word}
-use Rattle.page_fill_laws.specs.InWords.{Mark, told, opened, spaced, lettered, letters_of, unknown_marks, spelled_marks, character_marks, text_marks, symbol_marks, tab_marks, blank_marks, opening_marks, after_cell, is_of_words, are_of_words, piece_marks, word_behind, marks, words_behind, is_sound, laid_in_words}
+use Rattle.page_fill.specs.Characters.{with_notes, cell_of, cells_of, characters_of, unknown_notes, put, character, characters, glyph}
+use Rattle.page_fill.specs.declared.words.Edge.{Edge}
+use Rattle.page_fill.specs.Fill.{laid, laid_piece, text, one_character, one_glyph, tab, opening, tab_notes, tells_tab, stands, fixed_tab, filled_tab, on_sheet, begun_word, blanks_wait, opened_word, glued_word}
+use Rattle.page_fill_laws.specs.InWords.{Mark, told, opened, spaced, lettered, letters_of, printed_marks, character_marks, text_marks, tab_marks, blank_marks, opening_marks, after_cell, is_of_words, are_of_words, piece_marks, word_after, marks, words_after, is_sound, laid_in_words}
 use Rattle.page_fill_laws.proofs.InWordsRun.{step, run, run-append, rows-run}
 
 letters-run : (s : Sheet) (cells : List Cell) (place : Place) → letters s cells place ≡ run s (letters_of place cells)
@@ -42,27 +43,19 @@ opened-run : (s : Sheet) (ms : List Mark) → run s (opened ∷ ms) ≡ run (ope
 unfolding run
 opened-run s ms = refl
 
-unknown-run : (s : Sheet) (detail : List ℕ) (font : Font) (place : Place) → unknown s detail font place ≡ run s (unknown_marks detail font place)
-unknown-run s detail font place =
-    ap (with_notes (no_glyph detail place ∷ [])) (letters-run s (cells_of font (codes "<?>")) place) ∙ sym (told-run s (no_glyph detail place) (letters_of place (cells_of font (codes "<?>"))))
+notes-run : (s : Sheet) (unknown : Option (List ℕ)) (place : Place) (l : Laid Sheet) (ms : List Mark) → l ≡ run s ms
+    → with_notes (unknown_notes unknown place) l ≡ run s (map told (unknown_notes unknown place) ++ ms)
+unfolding run
+notes-run s None place l ms e = e
+notes-run s (Some text) place l ms e = ap (with_notes (unknown_notes (Some text) place)) e
 
-spelled-run : (s : Sheet) (bs : List ℕ) (c : ℕ) (font : Font) (place : Place) → spelled s bs c font place ≡ run s (spelled_marks bs c font place)
-unfolding spelled spelled_marks
-spelled-run s [] c font place = unknown-run s (encode_utf8 c) font place
-spelled-run s (b ∷ bs) c font place = letters-run s (cells_of font (b ∷ bs)) place
+printed-run : (s : Sheet) (p : Printing) (font : Font) (place : Place) → put s p font place ≡ run s (printed_marks p font place)
+printed-run s p font place =
+    notes-run s p.unknown place (letters s (cells_of font p.characters) place) (letters_of place (cells_of font p.characters)) (letters-run s (cells_of font p.characters) place)
 
 character-run : (output : Output) (s : Sheet) (c : ℕ) (font : Font) (place : Place) → character output s c font place ≡ run s (character_marks output c font place)
 unfolding character character_marks
-character-run output s c font place = elim (cases_Bool (nat_lt c 128)) [
-  | inl p ↦ rw p (one-run s (cell_of font c) place)
-  | inr p ↦ elim (cases_Bool (c == 160)) [
-    | inl q ↦ rw (p, q) (one-run s (cell_of font 32) place)
-    | inr q ↦ elim (cases_Bool (prints_ascii output)) [
-      | inl r ↦ rw (p, q, r) (spelled-run s (spelling_of c) c font place)
-      | inr r ↦ rw (p, q, r) (one-run s (cell_of font c) place)
-    ]
-  ]
-]
+character-run output s c font place = printed-run s (char_printed output c) font place
 
 characters-run : (output : Output) (s : Sheet) (cs : List ℕ) (font : Font) (place : Place) → characters output s cs font place ≡ run s (text_marks output cs font place)
 unfolding characters text_marks run
@@ -74,16 +67,10 @@ characters-run output s (c ∷ cs) font place =
     ∙ (ap (λ l. seq l (λ t. run t (text_marks output cs font place))) (character-run output s c font place)
     ∙ sym (run-append s (character_marks output c font place) (text_marks output cs font place)))
 
-symbol-run : (output : Output) (s : Sheet) (name : List ℕ) (found : Option Symbol) (font : Font) (place : Place) → symbol output s name found font place ≡ run s (symbol_marks output name found font place)
-symbol-run output s name None font place = unknown-run s (name_detail name) font place
-symbol-run output s name (Some g) font place = elim (cases_Bool (prints_ascii output)) [
-  | inl r ↦ rw r (spelled-run s g.spelling g.code font place)
-  | inr r ↦ rw r (one-run s (cell_of font g.code) place)
-]
-
-glyph-run : (output : Output) (s : Sheet) (name : List ℕ) (font : Font) (place : Place) → glyph output s name font place ≡ run s (symbol_marks output name (glyph_of name) font place)
+glyph-run : (output : Output) (s : Sheet) (name : List ℕ) (font : Font) (place : Place)
+    → glyph output s name font place ≡ run s (printed_marks (glyph_printed output name) font place)
 unfolding glyph
-glyph-run output s name font place = symbol-run output s name (glyph_of name) font place
+glyph-run output s name font place = printed-run s (glyph_printed output name) font place
 
 tabs-run : (s : Sheet) (tells : Bool) (place : Place) (ms : List Mark) → with_notes (tab_notes tells place) (run s ms) ≡ run s (tab_marks tells place ++ ms)
 unfolding run
@@ -179,16 +166,16 @@ one_character-run e empty c font place h =
     ∙ two-runs e w xs (character_marks e.output c font place))
 
 one_glyph-run : (e : Edge) (empty : Bool) (name : List ℕ) (font : Font) (place : Place) → AreStanding e empty
-    → one_glyph e name font place ≡ over (run e.sheet (opening_marks e.sheet.literal empty e.word place ++ symbol_marks e.output name (glyph_of name) font place)) (with_word e (after_cell e.sheet.literal e.word))
+    → one_glyph e name font place ≡ over (run e.sheet (opening_marks e.sheet.literal empty e.word place ++ printed_marks (glyph_printed e.output name) font place)) (with_word e (after_cell e.sheet.literal e.word))
 unfolding one_glyph
 one_glyph-run e empty name font place h =
     let xs = opening_marks e.sheet.literal empty e.word place in
     let w = after_cell e.sheet.literal e.word in
     ap (λ (l : Laid Edge). seq l (λ f. over (glyph f.output f.sheet name font place) (on_sheet f))) (opening-run e empty place h)
     ∙ (ap (λ (l : Laid Sheet). seq (over (run e.sheet xs) (with_word e w)) (λ f. over l (on_sheet f))) (glyph-run e.output (run e.sheet xs).edge name font place)
-    ∙ two-runs e w xs (symbol_marks e.output name (glyph_of name) font place))
+    ∙ two-runs e w xs (printed_marks (glyph_printed e.output name) font place))
 
--- a tab behind an opening
+-- a tab after an opening
 tab_cell-run : (e : Edge) (w : OpenWord) (xs : List Mark) (font : Font) (place : Place)
     → seq (over (run e.sheet xs) (with_word e w)) (λ f. filled_tab f font place)
     ≡ over (run e.sheet (xs ++ (tab_marks (not w.is_told) place ++ lettered (cell_of font 32) place ∷ []))) (with_word e (record w { is_told = true }))
@@ -214,7 +201,7 @@ unfolding text
 text-empty e cs font place z = rw z refl
 
 pub piece-run : (e : Edge) (empty : Bool) (p : Piece (List ℕ)) → AreStanding e empty → is_of_words e.sheet.literal p ≡ true
-    → laid_piece e p ≡ over (run e.sheet (piece_marks e.output e.sheet.literal empty e.word p)) (with_word e (word_behind e.sheet.literal e.word p))
+    → laid_piece e p ≡ over (run e.sheet (piece_marks e.output e.sheet.literal empty e.word p)) (with_word e (word_after e.sheet.literal e.word p))
 unfolding laid_piece run
 piece-run e empty (Text bytes font place) h k = elim (cases_Bool (length (characters_of bytes) == 0)) [
   | inl z ↦ rw z (text-empty e (characters_of bytes) font place z)
@@ -235,10 +222,10 @@ piece-run e empty TagEnd h k = cc
 piece-run e empty Heading h k = cc
 piece-run e empty (Column n) h k = cc
 
--- ---- what waits behind a piece
+-- ---- what waits after a piece
 
-sound-after : (literal : Bool) (w : OpenWord) → is_sound w ≡ true → (after_cell literal w).is_placed ≡ false
-sound-after literal w h = elim (cases_Bool w.is_joined) [
+unplaced-cell : (literal : Bool) (w : OpenWord) → is_sound w ≡ true → (after_cell literal w).is_placed ≡ false
+unplaced-cell literal w h = elim (cases_Bool w.is_joined) [
   | inl j ↦ rw j (elim (cases_Bool w.is_placed) [ inl p ↦ absurd (let q : false ≡ true = rw (j, p) at h in cc) | inr p ↦ p ])
   | inr j ↦ rw j refl
 ]
@@ -246,22 +233,22 @@ sound-after literal w h = elim (cases_Bool w.is_joined) [
 sound-unplaced : (w : OpenWord) → w.is_placed ≡ false → is_sound w ≡ true
 sound-unplaced w h = elim (cases_Bool w.is_joined) [ inl j ↦ rw (j, h) refl | inr j ↦ rw j refl ]
 
-pub sound-behind : (literal : Bool) (w : OpenWord) (p : Piece (List ℕ)) → is_sound w ≡ true → is_sound (word_behind literal w p) ≡ true
-sound-behind literal w (Text bytes font place) h = elim (cases_Bool (length (characters_of bytes) == 0)) [ inl z ↦ rw z h | inr z ↦ rw z (sound-unplaced (after_cell literal w) (sound-after literal w h)) ]
-sound-behind literal w (Glyph name font place) h = sound-unplaced (after_cell literal w) (sound-after literal w h)
-sound-behind literal w (Char c font place) h = sound-unplaced (after_cell literal w) (sound-after literal w h)
-sound-behind literal w (Tab font place) h = sound-unplaced (record (after_cell literal w) { is_told = true }) (sound-after literal w h)
-sound-behind literal w (Blank count has_tab) h = elim (cases_Bool w.is_placed) [ inl p ↦ rw p (rw p at h) | inr p ↦ rw p refl ]
-sound-behind literal w Glue h = elim (cases_Bool w.is_open) [ inl o ↦ rw o h | inr o ↦ rw o refl ]
-sound-behind literal w Break h = h
-sound-behind literal w (Para n) h = h
-sound-behind literal w (Space n) h = h
-sound-behind literal w (Indent first rest) h = h
-sound-behind literal w (Literal b) h = h
-sound-behind literal w (Tag hang form) h = h
-sound-behind literal w TagEnd h = h
-sound-behind literal w Heading h = h
-sound-behind literal w (Column n) h = h
+pub sound-after : (literal : Bool) (w : OpenWord) (p : Piece (List ℕ)) → is_sound w ≡ true → is_sound (word_after literal w p) ≡ true
+sound-after literal w (Text bytes font place) h = elim (cases_Bool (length (characters_of bytes) == 0)) [ inl z ↦ rw z h | inr z ↦ rw z (sound-unplaced (after_cell literal w) (unplaced-cell literal w h)) ]
+sound-after literal w (Glyph name font place) h = sound-unplaced (after_cell literal w) (unplaced-cell literal w h)
+sound-after literal w (Char c font place) h = sound-unplaced (after_cell literal w) (unplaced-cell literal w h)
+sound-after literal w (Tab font place) h = sound-unplaced (record (after_cell literal w) { is_told = true }) (unplaced-cell literal w h)
+sound-after literal w (Blank count has_tab) h = elim (cases_Bool w.is_placed) [ inl p ↦ rw p (rw p at h) | inr p ↦ rw p refl ]
+sound-after literal w Glue h = elim (cases_Bool w.is_open) [ inl o ↦ rw o h | inr o ↦ rw o refl ]
+sound-after literal w Break h = h
+sound-after literal w (Para n) h = h
+sound-after literal w (Space n) h = h
+sound-after literal w (Indent first rest) h = h
+sound-after literal w (Literal b) h = h
+sound-after literal w (Tag hang form) h = h
+sound-after literal w TagEnd h = h
+sound-after literal w Heading h = h
+sound-after literal w (Column n) h = h
 
 -- a word that isn't placed
 unplaced-stands : (e : Edge) (empty : Bool) (w : OpenWord) (s : Sheet) → w.is_placed ≡ false → AreStanding (with_word e w s) empty
@@ -274,53 +261,53 @@ same-stands e empty w keeps same = elim (cases_Bool e.word.is_placed) [
   | inr p ↦ unplaced-stands e empty w e.sheet (keeps p)
 ]
 
-pub stands-behind : (e : Edge) (empty : Bool) (p : Piece (List ℕ)) → is_sound e.word ≡ true → AreStanding e empty
-    → AreStanding (with_word e (word_behind e.sheet.literal e.word p) (run e.sheet (piece_marks e.output e.sheet.literal empty e.word p)).edge) empty
+pub stands-after : (e : Edge) (empty : Bool) (p : Piece (List ℕ)) → is_sound e.word ≡ true → AreStanding e empty
+    → AreStanding (with_word e (word_after e.sheet.literal e.word p) (run e.sheet (piece_marks e.output e.sheet.literal empty e.word p)).edge) empty
 unfolding run
-stands-behind e empty (Text bytes font place) h same = elim (cases_Bool (length (characters_of bytes) == 0)) [
+stands-after e empty (Text bytes font place) h same = elim (cases_Bool (length (characters_of bytes) == 0)) [
   | inl z ↦ rw z (same-stands e empty (opened_word e.word) (λ u. u) same)
   | inr z ↦
       let ms = opening_marks e.sheet.literal empty e.word place ++ text_marks e.output (characters_of bytes) font place in
-      rw z (unplaced-stands e empty (after_cell e.sheet.literal e.word) (run e.sheet ms).edge (sound-after e.sheet.literal e.word h))
+      rw z (unplaced-stands e empty (after_cell e.sheet.literal e.word) (run e.sheet ms).edge (unplaced-cell e.sheet.literal e.word h))
 ]
-stands-behind e empty (Glyph name font place) h same = unplaced-stands e empty (after_cell e.sheet.literal e.word) (run e.sheet (opening_marks e.sheet.literal empty e.word place ++ symbol_marks e.output name (glyph_of name) font place)).edge (sound-after e.sheet.literal e.word h)
-stands-behind e empty (Char c font place) h same = unplaced-stands e empty (after_cell e.sheet.literal e.word) (run e.sheet (opening_marks e.sheet.literal empty e.word place ++ character_marks e.output c font place)).edge (sound-after e.sheet.literal e.word h)
-stands-behind e empty (Tab font place) h same = unplaced-stands e empty (record (after_cell e.sheet.literal e.word) { is_told = true }) (run e.sheet (opening_marks e.sheet.literal empty e.word place ++ (tab_marks (not (after_cell e.sheet.literal e.word).is_told) place ++ lettered (cell_of font 32) place ∷ []))).edge (sound-after e.sheet.literal e.word h)
-stands-behind e empty (Blank count has_tab) h same = same-stands e empty (blanks_wait e.word count has_tab) (λ u. rw u refl) same
-stands-behind e empty Glue h same = same-stands e empty (glued_word e.word) (λ u. elim (cases_Bool e.word.is_open) [ inl o ↦ rw o u | inr o ↦ rw o refl ]) same
-stands-behind e empty Break h same = same-stands e empty e.word (λ u. u) same
-stands-behind e empty (Para n) h same = same-stands e empty e.word (λ u. u) same
-stands-behind e empty (Space n) h same = same-stands e empty e.word (λ u. u) same
-stands-behind e empty (Indent first rest) h same = same-stands e empty e.word (λ u. u) same
-stands-behind e empty (Literal b) h same = same-stands e empty e.word (λ u. u) same
-stands-behind e empty (Tag hang form) h same = same-stands e empty e.word (λ u. u) same
-stands-behind e empty TagEnd h same = same-stands e empty e.word (λ u. u) same
-stands-behind e empty Heading h same = same-stands e empty e.word (λ u. u) same
-stands-behind e empty (Column n) h same = same-stands e empty e.word (λ u. u) same
+stands-after e empty (Glyph name font place) h same = unplaced-stands e empty (after_cell e.sheet.literal e.word) (run e.sheet (opening_marks e.sheet.literal empty e.word place ++ printed_marks (glyph_printed e.output name) font place)).edge (unplaced-cell e.sheet.literal e.word h)
+stands-after e empty (Char c font place) h same = unplaced-stands e empty (after_cell e.sheet.literal e.word) (run e.sheet (opening_marks e.sheet.literal empty e.word place ++ character_marks e.output c font place)).edge (unplaced-cell e.sheet.literal e.word h)
+stands-after e empty (Tab font place) h same = unplaced-stands e empty (record (after_cell e.sheet.literal e.word) { is_told = true }) (run e.sheet (opening_marks e.sheet.literal empty e.word place ++ (tab_marks (not (after_cell e.sheet.literal e.word).is_told) place ++ lettered (cell_of font 32) place ∷ []))).edge (unplaced-cell e.sheet.literal e.word h)
+stands-after e empty (Blank count has_tab) h same = same-stands e empty (blanks_wait e.word count has_tab) (λ u. rw u refl) same
+stands-after e empty Glue h same = same-stands e empty (glued_word e.word) (λ u. elim (cases_Bool e.word.is_open) [ inl o ↦ rw o u | inr o ↦ rw o refl ]) same
+stands-after e empty Break h same = same-stands e empty e.word (λ u. u) same
+stands-after e empty (Para n) h same = same-stands e empty e.word (λ u. u) same
+stands-after e empty (Space n) h same = same-stands e empty e.word (λ u. u) same
+stands-after e empty (Indent first rest) h same = same-stands e empty e.word (λ u. u) same
+stands-after e empty (Literal b) h same = same-stands e empty e.word (λ u. u) same
+stands-after e empty (Tag hang form) h same = same-stands e empty e.word (λ u. u) same
+stands-after e empty TagEnd h same = same-stands e empty e.word (λ u. u) same
+stands-after e empty Heading h same = same-stands e empty e.word (λ u. u) same
+stands-after e empty (Column n) h same = same-stands e empty e.word (λ u. u) same
 
 -- ---- pieces one after another
 
 pub laid-run : (e : Edge) (literal empty : Bool) (ps : List (Piece (List ℕ))) → e.sheet.literal ≡ literal → is_sound e.word ≡ true → AreStanding e empty → are_of_words literal ps ≡ true
-    → laid e ps ≡ over (run e.sheet (marks e.output literal empty e.word ps)) (with_word e (words_behind literal e.word ps))
-unfolding laid marks words_behind run
+    → laid e ps ≡ over (run e.sheet (marks e.output literal empty e.word ps)) (with_word e (words_after literal e.word ps))
+unfolding laid marks words_after run
 laid-run e literal empty [] same h stand k = refl
 laid-run e literal empty (p ∷ ps) same h stand k =
     let parts = and_parts (is_of_words literal p) (are_of_words literal ps) k in
     let x = run e.sheet (piece_marks e.output literal empty e.word p) in
-    let w = word_behind literal e.word p in
-    let Runs : Bool → Type 0 = λ b. laid_piece e p ≡ over (run e.sheet (piece_marks e.output b empty e.word p)) (with_word e (word_behind b e.word p)) in
+    let w = word_after literal e.word p in
+    let Runs : Bool → Type 0 = λ b. laid_piece e p ≡ over (run e.sheet (piece_marks e.output b empty e.word p)) (with_word e (word_after b e.word p)) in
     let Fits : Bool → Type 0 = λ b. is_of_words b p ≡ true in
-    let Stands : Bool → Type 0 = λ b. AreStanding (with_word e (word_behind b e.word p) (run e.sheet (piece_marks e.output b empty e.word p)).edge) empty in
+    let Stands : Bool → Type 0 = λ b. AreStanding (with_word e (word_after b e.word p) (run e.sheet (piece_marks e.output b empty e.word p)).edge) empty in
     let first = subst Runs same (piece-run e empty p stand (subst Fits (sym same) parts.0)) in
-    let still = subst Stands same (stands-behind e empty p h stand) in
-    let later = laid-run (with_word e w x.edge) literal empty ps (run-literal e.sheet (piece_marks e.output literal empty e.word p) ∙ same) (sound-behind literal e.word p h) still parts.1 in
+    let still = subst Stands same (stands-after e empty p h stand) in
+    let later = laid-run (with_word e w x.edge) literal empty ps (run-literal e.sheet (piece_marks e.output literal empty e.word p) ∙ same) (sound-after literal e.word p h) still parts.1 in
     ap (λ (l : Laid Edge). seq l (λ f. laid f ps)) first
     ∙ (ap (λ (l : Laid Edge). join (over x (with_word e w)) l) later
-    ∙ ap (λ l. over l (with_word e (words_behind literal w ps))) (sym (run-append e.sheet (piece_marks e.output literal empty e.word p) (marks e.output literal empty w ps))))
+    ∙ ap (λ l. over l (with_word e (words_after literal w ps))) (sym (run-append e.sheet (piece_marks e.output literal empty e.word p) (marks e.output literal empty w ps))))
 
 pub laid-in-words : (e : Edge) (ps : List (Piece (List ℕ))) → is_sound e.word ≡ true → are_of_words e.sheet.literal ps ≡ true → laid e ps ≡ laid_in_words e ps
 laid-in-words e ps h k =
     let empty = length e.sheet.cells == 0 in
     let ms = marks e.output e.sheet.literal empty e.word ps in
     laid-run e e.sheet.literal empty ps refl h refl k
-    ∙ ap (λ l. over l (with_word e (words_behind e.sheet.literal e.word ps))) (sym (rows-run (suc (length ms)) e.sheet ms (omega arith)))
+    ∙ ap (λ l. over l (with_word e (words_after e.sheet.literal e.word ps))) (sym (rows-run (suc (length ms)) e.sheet ms (omega arith)))

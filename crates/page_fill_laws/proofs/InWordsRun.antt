@@ -79,19 +79,19 @@ with_notes-twice xs ys l = rw (append_assoc xs ys l.notes) refl
 with_notes-seq : (notes : List Message) (s : Sheet) (f : Sheet → Laid Sheet) → with_notes notes (f s) ≡ seq (with_notes notes (nothing s)) f
 with_notes-seq notes s f = rw (append-nil notes) refl
 
-abbrev behind : ℕ → Found → Laid Sheet
-behind n f = elim f [
+abbrev after : ℕ → Found → Laid Sheet
+after n f = elim f [
   | none notes t ↦ with_notes notes (nothing t)
   | here notes t m rest ↦ with_notes notes (seq (ended_at t m) (λ u. rows_in_words n u rest))
 ]
 
-behind-messages : (n : ℕ) (notes : List Message) (f : Found) → behind n (after_messages notes f) ≡ with_notes notes (behind n f)
-behind-messages n notes (none more t) = with_notes-twice notes more (nothing t)
-behind-messages n notes (here more t m rest) = with_notes-twice notes more (seq (ended_at t m) (λ u. rows_in_words n u rest))
+after-messages : (n : ℕ) (notes : List Message) (f : Found) → after n (after_messages notes f) ≡ with_notes notes (after n f)
+after-messages n notes (none more t) = with_notes-twice notes more (nothing t)
+after-messages n notes (here more t m rest) = with_notes-twice notes more (seq (ended_at t m) (λ u. rows_in_words n u rest))
 
-rows-found : (n : ℕ) (s : Sheet) (ms : List Mark) (f : Found) → first_offending s ms ≡ f → rows_in_words (suc n) s ms ≡ behind n f
+rows-found : (n : ℕ) (s : Sheet) (ms : List Mark) (f : Found) → first_offending s ms ≡ f → rows_in_words (suc n) s ms ≡ after n f
 unfolding rows_in_words
-rows-found n s ms f e = ap (behind n) e
+rows-found n s ms f e = ap (after n) e
 
 pub rows-run : (n : ℕ) (s : Sheet) (ms : List Mark) → length ms < n → rows_in_words n s ms ≡ run s ms
 unfolding run first_offending
@@ -104,7 +104,7 @@ rows-run (suc n) s (m ∷ ms) h =
           ∙ (ap (λ l. join (ended_at s m) l) (rows-run n (ended_at s m).edge ms (omega arith)) ∙ ap (λ l. seq l (λ t. run t ms)) (sym (step-offends s m p)))
       | inr p ↦
           rows-found n s (m ∷ ms) (after_messages (told_by m) (first_offending (taken s m) ms)) (rw p refl)
-          ∙ (behind-messages n (told_by m) (first_offending (taken s m) ms)
+          ∙ (after-messages n (told_by m) (first_offending (taken s m) ms)
           ∙ (ap (with_notes (told_by m)) (sym (rows-found n (taken s m) ms (first_offending (taken s m) ms) refl) ∙ rows-run (suc n) (taken s m) ms (omega arith))
           ∙ (with_notes-seq (told_by m) (taken s m) (λ t. run t ms) ∙ ap (λ l. seq l (λ t. run t ms)) (sym (step-taken s m p)))))
     ]

@@ -11,9 +11,10 @@ use Rattle.page_core_base.specs.declared.pieces.TagForm.TheVariants as forms
 use Rattle.page_core_base.specs.Laid.{nothing}
 use Rattle.page_fill.specs.declared.words.OpenTag.{OpenTag}
 use Rattle.page_fill.specs.Characters.{characters_of}
-use Rattle.page_fill.specs.Fill.{Edge, laid_piece, text, one_character, one_glyph, tab, opening, ended, paragraph, spaced, heading, tag_ended, after_tag, fits_hang, without_tag}
+use Rattle.page_fill.specs.declared.words.Edge.{Edge}
+use Rattle.page_fill.specs.Fill.{laid_piece, text, one_character, one_glyph, tab, opening, ended, paragraph, spaced, heading, tag_ended, after_tag, fits_hang, without_tag}
 use Rattle.page_fill_laws.specs.InWords.{is_sound}
-use Rattle.page_fill_laws.proofs.InWordsPieces.{sound-behind}
+use Rattle.page_fill_laws.proofs.InWordsPieces.{sound-after}
 
 opening-sound : (e : Edge) (place : Place) → is_sound e.word ≡ true → is_sound (opening e place).edge.word ≡ true
 unfolding opening
@@ -56,8 +57,8 @@ piece-sound e (Text bytes font place) h = text-sound e (characters_of bytes) fon
 piece-sound e (Glyph name font place) h = glyph-sound e name font place h
 piece-sound e (Char c font place) h = character-sound e c font place h
 piece-sound e (Tab font place) h = tab-sound e font place h
-piece-sound e (Blank count has_tab) h = sound-behind false e.word (Blank count has_tab) h
-piece-sound e Glue h = sound-behind false e.word Glue h
+piece-sound e (Blank count has_tab) h = sound-after false e.word (Blank count has_tab) h
+piece-sound e Glue h = sound-after false e.word Glue h
 piece-sound e Break h = refl
 piece-sound e (Para n) h = refl
 piece-sound e (Space n) h = refl

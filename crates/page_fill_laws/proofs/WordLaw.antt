@@ -12,7 +12,7 @@ use Rattle.page_core_base.specs.Laid.{Laid, nothing, join, seq, join_assoc}
 use Rattle.page_core_limits.specs.declared.TheConstants.{CELLS}
 use Rattle.page_fill.specs.declared.TheConstants.{TAG_COLUMNS}
 use Rattle.page_fill.specs.Sheets.{Sheet, over, columns, cell_columns, blank, passes, counted, begins, given, gives, emptied, letter, letters, space, spaces, opens, new_word}
-use Rattle.page_fill_laws.specs.Words.{tally, has_cell, tallied, fitting, with_word, word_wrapped, word_behind, word_first}
+use Rattle.page_fill_laws.specs.Words.{tally, has_cell, tallied, fitting, with_word, word_wrapped, word_after_end, word_first}
 
 columns-cons : (c : Cell) (cs : List Cell) → columns (c ∷ cs) ≡ cell_columns c + columns cs
 columns-cons c cs = sum_by-cons cell_columns c cs
@@ -236,7 +236,7 @@ blanks-behind s n k m place f parts front step later =
 
 pub word-behind : (s : Sheet) (n : ℕ) (c : Cell) (cs : List Cell) (place : Place) → s.literal ≡ false → 0 < length s.cells → 0 < n → length s.cells + n ≤ CELLS
     → s.width < s.margin + columns s.cells + n → length (c ∷ cs) ≤ CELLS
-    → seq (new_word s n false place) (λ t. letters t (c ∷ cs) place) ≡ word_behind s (c ∷ cs)
+    → seq (new_word s n false place) (λ t. letters t (c ∷ cs) place) ≡ word_after_end s (c ∷ cs)
 word-behind s n c cs place fill some blanks room past short =
     let k = fitting s in
     let m = n - (k + 1) in

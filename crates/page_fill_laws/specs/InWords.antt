@@ -3,7 +3,7 @@
 -- width while its word isn't the row's first, or else that would be one cell too many. In the first case the row ends before that word, in the
 -- second before that cell; blanks before a word are dropped where a row ends before or among them. A row without an offending cell goes on.
 -- Source: roff(7), "Filling and adjusting".
-use Rattle.std.specs.Prelude.{ℕ, zero, suc, ◌+◌, Bool, true, false, not, ◌&&◌, ◌||◌, ◌==◌, nat_lt, List, [], ◌∷◌, ◌++◌, length, take, map, replicate, Option, None, Some, codes, encode_utf8, if◌then◌else◌}
+use Rattle.std.specs.Prelude.{ℕ, zero, suc, ◌+◌, Bool, true, false, not, ◌&&◌, ◌||◌, ◌==◌, List, [], ◌∷◌, ◌++◌, length, take, map, replicate, if◌then◌else◌}
 use Rattle.page_core_base.specs.declared.cells.Cell.{Cell}
 use Rattle.page_core_base.specs.declared.cells.Font.{Font}
 use Rattle.page_core_base.specs.declared.page_settings.Output.{Output}
@@ -12,12 +12,13 @@ use Rattle.page_core_base.specs.declared.pieces.Piece.TheVariants.{Text, Glyph, 
 use Rattle.page_core_base.specs.declared.places.Place.{Place}
 use Rattle.page_core_base.specs.Messages.{Message}
 use Rattle.page_core_base.specs.Laid.{Laid, nothing, seq}
-use Rattle.page_core_tables.specs.Glyphs.{Symbol, glyph_of, spelling_of}
+use Rattle.page_core_tables.specs.Printed.{Printing, char_printed, glyph_printed}
 use Rattle.page_core_limits.specs.declared.TheConstants.{CELLS}
-use Rattle.page_fill.specs.declared.words.OpenWord.{OpenWord}
 use Rattle.page_fill.specs.Sheets.{Sheet, over, blank, passes, counted, begins, emptied, gives, gives_full, wraps, splits, opens}
-use Rattle.page_fill.specs.Characters.{with_notes, prints_ascii, cell_of, cells_of, characters_of, name_detail, no_glyph}
-use Rattle.page_fill.specs.Fill.{Edge, tab_notes, begun_word, blanks_wait, opened_word, glued_word}
+use Rattle.page_fill.specs.Characters.{with_notes, cell_of, cells_of, characters_of, unknown_notes}
+use Rattle.page_fill.specs.declared.words.Edge.{Edge}
+use Rattle.page_fill.specs.declared.words.OpenWord.{OpenWord}
+use Rattle.page_fill.specs.Fill.{tab_notes, begun_word, blanks_wait, opened_word, glued_word}
 
 -- ---- marks
 
@@ -52,14 +53,14 @@ taken s opened = opens s
 taken s (spaced place) = if length s.cells == 0 then s else record (counted s blank) { cells = s.cells ++ blank ∷ []; word = length s.cells + 1 }
 taken s (lettered cell place) = if length s.cells == 0 then begins (counted s cell) (cell ∷ []) else record (counted s cell) { cells = s.cells ++ cell ∷ [] }
 
--- the row that ends at an offending one, and the open row behind it
+-- the row that ends at an offending one, and the open row after it
 abbrev pub ended_at : Sheet → Mark → Laid Sheet
 ended_at s (told m) = nothing s
 ended_at s opened = nothing s
 ended_at s (spaced place) = if passes s blank then over (gives s (take s.gap s.cells)) emptied else over (gives_full s (take s.gap s.cells) place) emptied
 ended_at s (lettered cell place) = if passes s cell then wraps (counted s cell) cell else splits (counted s cell) cell place
 
--- what a search for the first offending cell finds, with the messages up to it: none, or the row before it, it, and the marks behind it
+-- what a search for the first offending cell finds, with the messages up to it: none, or the row before it, it, and the marks after it
 pub data Found : Type 0 where
   none : List Message → Sheet → Found
   here : List Message → Sheet → Mark → List Mark → Found
@@ -86,27 +87,16 @@ rows_in_words (suc n) s ms = elim (first_offending s ms) [
 abbrev pub letters_of : Place → List Cell → List Mark
 letters_of place cells = map (λ cell. lettered cell place) cells
 
-abbrev pub unknown_marks : List ℕ → Font → Place → List Mark
-unknown_marks detail font place = told (no_glyph detail place) ∷ letters_of place (cells_of font (codes "<?>"))
-
-unfoldable pub spelled_marks : List ℕ → ℕ → Font → Place → List Mark
-spelled_marks [] c font place = unknown_marks (encode_utf8 c) font place
-spelled_marks (b ∷ bs) c font place = letters_of place (cells_of font (b ∷ bs))
+-- what is printed, after a report of what can't be
+abbrev pub printed_marks : Printing → Font → Place → List Mark
+printed_marks printing font place = map told (unknown_notes printing.unknown place) ++ letters_of place (cells_of font printing.characters)
 
 unfoldable pub character_marks : Output → ℕ → Font → Place → List Mark
-character_marks output c font place =
-    if nat_lt c 128 then lettered (cell_of font c) place ∷ []
-    else if c == 160 then lettered (cell_of font 32) place ∷ []
-    else if prints_ascii output then spelled_marks (spelling_of c) c font place
-    else lettered (cell_of font c) place ∷ []
+character_marks output c font place = printed_marks (char_printed output c) font place
 
 unfoldable pub text_marks : Output → List ℕ → Font → Place → List Mark
 text_marks output [] font place = []
 text_marks output (c ∷ cs) font place = character_marks output c font place ++ text_marks output cs font place
-
-abbrev pub symbol_marks : Output → List ℕ → Option Symbol → Font → Place → List Mark
-symbol_marks output name None font place = unknown_marks (name_detail name) font place
-symbol_marks output name (Some g) font place = if prints_ascii output then spelled_marks g.spelling g.code font place else lettered (cell_of font g.code) place ∷ []
 
 -- the messages of tabs
 abbrev pub tab_marks : Bool → Place → List Mark
@@ -149,28 +139,28 @@ are_of_words literal (p ∷ ps) = is_of_words literal p && are_of_words literal 
 
 abbrev pub piece_marks : Output → Bool → Bool → OpenWord → Piece (List ℕ) → List Mark
 piece_marks output literal empty w (Text bytes font place) = if length (characters_of bytes) == 0 then [] else opening_marks literal empty w place ++ text_marks output (characters_of bytes) font place
-piece_marks output literal empty w (Glyph name font place) = opening_marks literal empty w place ++ symbol_marks output name (glyph_of name) font place
+piece_marks output literal empty w (Glyph name font place) = opening_marks literal empty w place ++ printed_marks (glyph_printed output name) font place
 piece_marks output literal empty w (Char c font place) = opening_marks literal empty w place ++ character_marks output c font place
 piece_marks output literal empty w (Tab font place) = opening_marks literal empty w place ++ (tab_marks (not (after_cell literal w).is_told) place ++ lettered (cell_of font 32) place ∷ [])
 piece_marks output literal empty w _ = []
 
--- what waits behind a piece
-abbrev pub word_behind : Bool → OpenWord → Piece (List ℕ) → OpenWord
-word_behind literal w (Text bytes font place) = if length (characters_of bytes) == 0 then opened_word w else after_cell literal w
-word_behind literal w (Glyph name font place) = after_cell literal w
-word_behind literal w (Char c font place) = after_cell literal w
-word_behind literal w (Tab font place) = record (after_cell literal w) { is_told = true }
-word_behind literal w (Blank count has_tab) = blanks_wait w count has_tab
-word_behind literal w Glue = glued_word w
-word_behind literal w _ = w
+-- what waits after a piece
+abbrev pub word_after : Bool → OpenWord → Piece (List ℕ) → OpenWord
+word_after literal w (Text bytes font place) = if length (characters_of bytes) == 0 then opened_word w else after_cell literal w
+word_after literal w (Glyph name font place) = after_cell literal w
+word_after literal w (Char c font place) = after_cell literal w
+word_after literal w (Tab font place) = record (after_cell literal w) { is_told = true }
+word_after literal w (Blank count has_tab) = blanks_wait w count has_tab
+word_after literal w Glue = glued_word w
+word_after literal w _ = w
 
 unfoldable pub marks : Output → Bool → Bool → OpenWord → List (Piece (List ℕ)) → List Mark
 marks output literal empty w [] = []
-marks output literal empty w (p ∷ ps) = piece_marks output literal empty w p ++ marks output literal empty (word_behind literal w p) ps
+marks output literal empty w (p ∷ ps) = piece_marks output literal empty w p ++ marks output literal empty (word_after literal w p) ps
 
-unfoldable pub words_behind : Bool → OpenWord → List (Piece (List ℕ)) → OpenWord
-words_behind literal w [] = w
-words_behind literal w (p ∷ ps) = words_behind literal (word_behind literal w p) ps
+unfoldable pub words_after : Bool → OpenWord → List (Piece (List ℕ)) → OpenWord
+words_after literal w [] = w
+words_after literal w (p ∷ ps) = words_after literal (word_after literal w p) ps
 
 -- a word that goes on with the row's last one is not placed: no edge that a page comes to has another
 abbrev pub is_sound : OpenWord → Bool
@@ -180,4 +170,4 @@ is_sound w = not (w.is_joined && w.is_placed)
 abbrev pub laid_in_words : Edge → List (Piece (List ℕ)) → Laid Edge
 laid_in_words e ps =
     let ms = marks e.output e.sheet.literal (length e.sheet.cells == 0) e.word ps in
-    over (rows_in_words (suc (length ms)) e.sheet ms) (λ s. record e { sheet = s; word = words_behind e.sheet.literal e.word ps })
+    over (rows_in_words (suc (length ms)) e.sheet ms) (λ s. record e { sheet = s; word = words_after e.sheet.literal e.word ps })

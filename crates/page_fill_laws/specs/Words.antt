@@ -31,8 +31,8 @@ abbrev pub word_wrapped : Sheet → ℕ → List Cell → Laid Sheet
 word_wrapped s n cells = over (gives (tallied s (replicate n blank ++ cells)) s.cells) (λ t. begins t cells)
 
 -- the same where the blanks before it don't fit
-abbrev pub word_behind : Sheet → List Cell → Laid Sheet
-word_behind s cells = over (gives (tallied s (replicate (fitting s) blank ++ cells)) s.cells) (λ t. begins t cells)
+abbrev pub word_after_end : Sheet → List Cell → Laid Sheet
+word_after_end s cells = over (gives (tallied s (replicate (fitting s) blank ++ cells)) s.cells) (λ t. begins t cells)
 
 -- the word begins a row
 abbrev pub word_first : Sheet → List Cell → Sheet

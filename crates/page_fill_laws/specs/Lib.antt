@@ -1,0 +1,3 @@
+pub mod InWords
+pub mod Words
+pub mod Filled
