@@ -4,12 +4,26 @@ ghost use Rattle.std.specs.Prelude.{◌≡◌, ◌<◌, length};
 ghost use Rattle.std.specs.Bool.{MatchBool};
 ghost use Rattle.page_core_base.specs.Fails.{Rose};
 
-use crate::Filler;
-use page_core_base::{Cell, Fault, Font, Note, NoteSink, Output, Piece, Place, RowSink, Settings, TagForm};
+use page_core_base::{
+    Cell, Fault, Font, Note, NoteSink, Output, Piece, Place, RowSink, Settings, TagForm,
+};
 use page_core_writers::{TextNotes, TextRows};
+use page_fill::Filler;
 use std::alloc::Global;
 use std::process::Abort;
 use std::test::Fail;
+
+fn check_bytes(rt: &impl Abort, got: &[u8], wanted: &[u8]) {
+    assert_eq!(rt; got, wanted);
+}
+
+fn check_count(rt: &impl Abort, got: u32, wanted: u32) {
+    assert_eq!(rt; got, wanted);
+}
+
+fn check_answer(rt: &impl Abort, got: Result<(), Fault>, wanted: Result<(), Fault>) {
+    assert_eq!(rt; got, wanted);
+}
 
 const HERE: Place = Place { line: 3, column: 7 };
 
@@ -101,8 +115,8 @@ fn filled(alloc: Global, script: &str) -> Result<(Vec<u8>, Vec<u8>), Fail> {
 fn gives_rows(rt: &impl Abort, alloc: Global, cases: &[(&str, &str)]) -> Result<(), Fail> {
     for (script, rows) in cases {
         let (out, notes) = filled(alloc, *script)?;
-        assert_eq!(rt; out.as_slice(), rows.as_bytes());
-        assert!(rt; notes.is_empty());
+        check_bytes(rt, out.as_slice(), rows.as_bytes());
+        check_bytes(rt, notes.as_slice(), b"");
     }
     Ok(())
 }
@@ -216,7 +230,7 @@ fn wrapped_tags_count_all_their_rows(rt: HostRuntime) -> Result<(), Fail> {
             filler.piece(scripted(b"abc_defEg", at), &mut sink, &mut notes)?;
         }
         filler.finish(&mut sink, &mut notes)?;
-        assert_eq!(&rt; out.as_slice(), rows.as_bytes());
+        check_bytes(&rt, out.as_slice(), rows.as_bytes());
     }
     Ok(())
 }
@@ -234,10 +248,11 @@ fn tabs_are_blanks_or_stops(rt: HostRuntime) -> Result<(), Fail> {
     gives_rows(&rt, alloc, &cases)?;
     for (script, rows) in [("aTbT", "a b\n"), ("a>b", "a b\n"), ("a>bTc", "a b c\n")] {
         let (out, notes) = filled(alloc, script)?;
-        assert_eq!(&rt; out.as_slice(), rows.as_bytes());
-        assert_eq!(&rt;
+        check_bytes(&rt, out.as_slice(), rows.as_bytes());
+        check_bytes(
+            &rt,
             notes.as_slice(),
-            b"mandoc: t:3:7: WARNING: tab in filled text\n".as_slice()
+            b"mandoc: t:3:7: WARNING: tab in filled text\n".as_slice(),
         );
     }
     Ok(())
@@ -273,8 +288,8 @@ fn glyphs_are_spelled(rt: HostRuntime) -> Result<(), Fail> {
             place: HERE,
         };
         let (out, notes) = one_row(rt.alloc(), output, glyph)?;
-        assert_eq!(&rt; out.as_slice(), row.as_bytes());
-        assert_eq!(&rt; notes.as_slice(), message.as_bytes());
+        check_bytes(&rt, out.as_slice(), row.as_bytes());
+        check_bytes(&rt, notes.as_slice(), message.as_bytes());
     }
     Ok(())
 }
@@ -291,8 +306,8 @@ fn characters_are_spelled(rt: HostRuntime) -> Result<(), Fail> {
         (Output::Utf8, "\u{a0}a", " a\n", ""),
     ] {
         let (out, notes) = one_row(rt.alloc(), output, text(shown))?;
-        assert_eq!(&rt; out.as_slice(), row.as_bytes());
-        assert_eq!(&rt; notes.as_slice(), message.as_bytes());
+        check_bytes(&rt, out.as_slice(), row.as_bytes());
+        check_bytes(&rt, notes.as_slice(), message.as_bytes());
     }
     Ok(())
 }
@@ -308,7 +323,7 @@ fn long_names_are_cut(rt: HostRuntime) -> Result<(), Fail> {
     let (_, notes) = one_row(rt.alloc(), Output::Ascii, glyph)?;
     let message =
         "mandoc: t:3:7: WARNING: unknown character, using <?>: aaaaaaaaaaaaaaaaaaaaaaaaaaaaaaaaaaaaaaaaaaaaaaaaaaaaaaaaaaaaaaa\n";
-    assert_eq!(&rt; notes.as_slice(), message.as_bytes());
+    check_bytes(&rt, notes.as_slice(), message.as_bytes());
     Ok(())
 }
 
@@ -424,21 +439,25 @@ const FIVE_ROWS: [Piece<&'static [u8]>; 9] = [
     Piece::Indent { first: 1, rest: 1 },
 ];
 
-// The pieces that succeed, and the fault that the first one with a failure answers, after which the filler has failed.
+// Takes the pieces up to the first one that fails, after which the filler has failed.
 fn run_to_fault(
     rt: &impl Abort,
     filler: &mut Filler,
     rows: &mut Counter,
     notes: &mut Counter,
-) -> Option<Fault> {
+) -> Result<(), Fault> {
     for piece in &FIVE_ROWS {
         if let Err(fault) = filler.piece(*piece, rows, notes) {
-            assert_eq!(rt; filler.piece(Piece::Break, rows, notes), Err(Fault::Failed));
-            assert_eq!(rt; filler.finish(rows, notes), Err(Fault::Failed));
-            return Some(fault);
+            check_answer(
+                rt,
+                filler.piece(Piece::Break, rows, notes),
+                Err(Fault::Failed),
+            );
+            check_answer(rt, filler.finish(rows, notes), Err(Fault::Failed));
+            return Err(fault);
         }
     }
-    None
+    Ok(())
 }
 
 #[test]
@@ -452,13 +471,13 @@ fn each_row_may_fail(rt: HostRuntime) -> Result<(), Fail> {
         let mut notes = Counter::new(9);
         let fault = run_to_fault(&rt, &mut filler, &mut rows, &mut notes);
         if good < 5 {
-            assert_eq!(&rt; fault, Some(Fault::WriteText));
-            assert_eq!(&rt; rows.calls, good + 1);
-            assert_eq!(&rt; rows.failures, 1);
+            check_answer(&rt, fault, Err(Fault::WriteText));
+            check_count(&rt, rows.calls, good + 1);
+            check_count(&rt, rows.failures as u32, 1);
         } else {
-            assert_eq!(&rt; fault, None);
-            assert_eq!(&rt; rows.calls, 5);
-            assert_eq!(&rt; notes.calls, 2);
+            check_answer(&rt, fault, Ok(()));
+            check_count(&rt, rows.calls, 5);
+            check_count(&rt, notes.calls, 2);
         }
     }
     Ok(())
@@ -475,10 +494,10 @@ fn each_message_may_fail(rt: HostRuntime) -> Result<(), Fail> {
         let mut notes = Counter::new(good);
         let fault = run_to_fault(&rt, &mut filler, &mut rows, &mut notes);
         if good < 2 {
-            assert_eq!(&rt; fault, Some(Fault::WriteNotes));
-            assert_eq!(&rt; notes.calls, good + 1);
+            check_answer(&rt, fault, Err(Fault::WriteNotes));
+            check_count(&rt, notes.calls, good + 1);
         } else {
-            assert_eq!(&rt; fault, None);
+            check_answer(&rt, fault, Ok(()));
         }
     }
     Ok(())
@@ -501,9 +520,9 @@ fn rows_come_as_they_settle(rt: HostRuntime) -> Result<(), Fail> {
         (Piece::Para(1), 3, 0),
     ];
     for (piece, given, open) in steps {
-        assert_eq!(&rt; filler.piece(piece, &mut rows, &mut notes), Ok(()));
-        assert_eq!(&rt; rows.calls, given);
-        assert_eq!(&rt; filler.pending().len(), open);
+        check_answer(&rt, filler.piece(piece, &mut rows, &mut notes), Ok(()));
+        check_count(&rt, rows.calls, given);
+        check_count(&rt, filler.pending().len() as u32, open);
     }
     Ok(())
 }
@@ -514,15 +533,20 @@ fn nothing_is_taken_after_the_end(rt: HostRuntime) -> Result<(), Fail> {
     let mut rows = Counter::new(9);
     let mut notes = Counter::new(9);
     let mut filler = Filler::new(alloc, &Settings::new())?;
-    assert_eq!(&rt; filler.piece(text("a"), &mut rows, &mut notes), Ok(()));
-    assert_eq!(&rt; filler.finish(&mut rows, &mut notes), Ok(()));
-    assert_eq!(&rt; rows.calls, 1);
-    assert_eq!(&rt;
+    check_answer(&rt, filler.piece(text("a"), &mut rows, &mut notes), Ok(()));
+    check_answer(&rt, filler.finish(&mut rows, &mut notes), Ok(()));
+    check_count(&rt, rows.calls, 1);
+    check_answer(
+        &rt,
         filler.piece(text("b"), &mut rows, &mut notes),
-        Err(Fault::Failed)
+        Err(Fault::Failed),
     );
-    assert_eq!(&rt; filler.finish(&mut rows, &mut notes), Err(Fault::Failed));
-    assert_eq!(&rt; rows.calls, 1);
+    check_answer(
+        &rt,
+        filler.finish(&mut rows, &mut notes),
+        Err(Fault::Failed),
+    );
+    check_count(&rt, rows.calls, 1);
     Ok(())
 }
 
@@ -541,12 +565,12 @@ fn long_rows_are_split(rt: HostRuntime) -> Result<(), Fail> {
         for _ in 0..4096 {
             filler.piece(text("x"), &mut rows, &mut notes)?;
         }
-        assert_eq!(&rt; filler.pending().len(), 4096);
-        assert_eq!(&rt; rows.calls, 0);
+        check_count(&rt, filler.pending().len() as u32, 4096);
+        check_count(&rt, rows.calls, 0);
         filler.piece(text("x"), &mut rows, &mut notes)?;
-        assert_eq!(&rt; filler.pending().len(), 1);
-        assert_eq!(&rt; rows.calls, 1);
-        assert_eq!(&rt; messages.as_slice(), TOO_MANY.as_bytes());
+        check_count(&rt, filler.pending().len() as u32, 1);
+        check_count(&rt, rows.calls, 1);
+        check_bytes(&rt, messages.as_slice(), TOO_MANY.as_bytes());
     }
     Ok(())
 }
@@ -568,9 +592,9 @@ fn blanks_of_a_full_row_are_dropped(rt: HostRuntime) -> Result<(), Fail> {
         }
         filler.piece(blank(2), &mut rows, &mut notes)?;
         filler.piece(text("y"), &mut rows, &mut notes)?;
-        assert_eq!(&rt; filler.pending().len(), cells);
-        assert_eq!(&rt; rows.calls, 1);
-        assert_eq!(&rt; messages.as_slice(), TOO_MANY.as_bytes());
+        check_count(&rt, filler.pending().len() as u32, cells);
+        check_count(&rt, rows.calls, 1);
+        check_bytes(&rt, messages.as_slice(), TOO_MANY.as_bytes());
     }
     Ok(())
 }
@@ -581,7 +605,7 @@ fn blank_rows_at_the_end_are_counted(rt: HostRuntime) -> Result<(), Fail> {
     let mut rows = Counter::new(99);
     let mut notes = Counter::new(9);
     let mut filler = Filler::new(alloc, &Settings::new())?;
-    assert_eq!(&rt; filler.blank_rows(), 1);
+    check_count(&rt, filler.blank_rows(), 1);
     for (piece, count) in [
         (Piece::Space(2), 3),
         (text("a"), 3),
@@ -590,7 +614,7 @@ fn blank_rows_at_the_end_are_counted(rt: HostRuntime) -> Result<(), Fail> {
         (Piece::Para(3), 3),
     ] {
         filler.piece(piece, &mut rows, &mut notes)?;
-        assert_eq!(&rt; filler.blank_rows(), count);
+        check_count(&rt, filler.blank_rows(), count);
     }
     Ok(())
 }

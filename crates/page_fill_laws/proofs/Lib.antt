@@ -5,3 +5,4 @@ pub mod GlueLaw
 pub mod WordLaw
 pub mod Examples
 pub mod FilledWords
+pub mod FilledPieces
