@@ -1,6 +1,6 @@
 //! Command lines that the program takes, and others that it refuses (mandoc(1), OPTIONS).
 
-use crate::{Command, Refusal, command, status_of};
+use mandoc_command::{Command, Refusal, command, status_of};
 use page_core_base::{Encoding, Language, Level, Output, Settings};
 use std::alloc::Global;
 use std::process::Abort;
@@ -23,14 +23,24 @@ fn takes(rt: &impl Abort, alloc: Global, words: &[&str], settings: &Settings, fi
     match command(alloc, words) {
         Ok(Command::Format(format)) => {
             assert_eq!(rt; format.settings, *settings, "at {words:?}");
-            let names = format.files.names();
-            assert_eq!(rt; names.len(), files.len(), "at {words:?}");
-            for (name, file) in names.iter().zip(files) {
-                assert_eq!(rt; name.as_str(), *file, "at {words:?}");
-            }
+            check_names(rt, format.files.names(), files);
         }
         Err(refusal) => assert!(rt; false, "{refusal} at {words:?}"),
     }
+}
+
+// The files have these names.
+fn check_names(rt: &impl Abort, names: &[String], files: &[&str]) {
+    assert!(rt; names.len() == files.len(), "{names:?} for {files:?}");
+    for (name, file) in names.iter().zip(files) {
+        assert!(rt; name.as_str() == *file, "{names:?} for {files:?}");
+    }
+}
+
+// The words are refused, for what they are.
+fn refuses(rt: &impl Abort, alloc: Global, words: &[&str]) {
+    let refused = command(alloc, words).is_err_and(|refusal| refusal == Refusal::Words);
+    assert!(rt; refused, "at {words:?}");
 }
 
 fn takes_lines(
@@ -303,17 +313,12 @@ static REFUSED: [&str; 70] = [
 ];
 
 #[test]
-fn refuses(rt: HostRuntime) -> Result<(), Fail> {
+fn refuses_bad_words(rt: HostRuntime) {
     for line in REFUSED.iter() {
         let words = words_of(&rt, rt.alloc(), *line);
-        assert!(rt;
-            command(rt.alloc(), words.as_slice()).is_err_and(|refusal| refusal == Refusal::Words),
-            "at {line:?}"
-        );
+        refuses(&rt, rt.alloc(), words.as_slice());
     }
-    let refused = command(rt.alloc(), &["-I", "os=a\u{1}b"]);
-    assert!(rt; refused.is_err_and(|refusal| refusal == Refusal::Words));
-    Ok(())
+    refuses(&rt, rt.alloc(), &["-I", "os=a\u{1}b"]);
 }
 
 #[test]
@@ -324,8 +329,7 @@ fn takes_256_bytes_of_a_system(rt: HostRuntime) -> Result<(), Fail> {
     }
     assert!(rt; command(rt.alloc(), &["-I", value.as_str()]).is_ok());
     value.push('o')?;
-    let refused = command(rt.alloc(), &["-I", value.as_str()]);
-    assert!(rt; refused.is_err_and(|refusal| refusal == Refusal::Words));
+    refuses(&rt, rt.alloc(), &["-I", value.as_str()]);
     Ok(())
 }
 
@@ -344,10 +348,10 @@ fn answers_want_of_memory(rt: HostRuntime) {
                 least: Some(Level::Base),
                 ..plain()
             };
-            assert_eq!(rt; format.settings, lint);
-            assert_eq!(rt; format.files.names().len(), 2);
+            assert!(rt; format.settings == lint);
+            check_names(&rt, format.files.names(), &["a.1", "b.1"]);
         }
-        Err(refusal) => assert_eq!(rt; refusal, Refusal::Memory),
+        Err(refusal) => assert!(rt; refusal == Refusal::Memory),
     }
     assert!(rt; command(rt.alloc(), &["-Tlint", "-Wall", "-Wall"]).is_err());
 }
@@ -363,15 +367,18 @@ fn has_statuses(rt: HostRuntime) {
         (Some(Level::Unsupp), 4),
     ];
     for (worst, status) in statuses.iter() {
-        assert_eq!(rt; status_of(*worst), *status);
+        assert!(rt; status_of(*worst) == *status, "at {worst:?}");
     }
 }
 
 #[test]
 fn prints_refusals(rt: HostRuntime) -> Result<(), Fail> {
-    let words = format!(in rt.alloc(); "{}", Refusal::Words)?;
-    assert_eq!(rt; words.as_str(), "bad command line");
-    let memory = format!(in rt.alloc(); "{}", Refusal::Memory)?;
-    assert_eq!(rt; memory.as_str(), "out of memory");
+    for (refusal, wanted) in [
+        (Refusal::Words, "bad command line"),
+        (Refusal::Memory, "out of memory"),
+    ] {
+        let text = format!(in rt.alloc(); "{refusal}")?;
+        assert!(rt; text.as_str() == wanted, "{text:?}");
+    }
     Ok(())
 }
