@@ -1,28 +1,30 @@
-use crate::*;
+//! The columns of texts.
+
 use page_core_base::Output;
 use page_core_limits::LINE;
+use page_core_numbers::columns;
 use std::process::Abort;
 use std::test::Fail;
 
 // Texts, each with its columns in ASCII and in UTF-8.
 type Cases<'a> = &'a [(&'a str, u32, u32)];
 
-fn count(rt: &impl Abort, text: &str, output: Output, want: u32) {
+fn check_columns(rt: &impl Abort, text: &str, output: Output, want: u32) {
     assert!(rt; text.len() <= LINE, "{text}");
     assert_eq!(rt; columns(text.as_bytes(), output), want, "{text} {output:?}");
 }
 
-fn count_all(rt: &impl Abort, cases: Cases<'_>) {
+fn check_all(rt: &impl Abort, cases: Cases<'_>) {
     for (text, ascii, utf8) in cases {
-        count(rt, text, Output::Ascii, *ascii);
-        count(rt, text, Output::Lint, *ascii);
-        count(rt, text, Output::Utf8, *utf8);
+        check_columns(rt, text, Output::Ascii, *ascii);
+        check_columns(rt, text, Output::Lint, *ascii);
+        check_columns(rt, text, Output::Utf8, *utf8);
     }
 }
 
 #[test]
 fn characters(rt: HostRuntime) {
-    count_all(
+    check_all(
         &rt,
         &[
             ("", 0, 0),
@@ -47,7 +49,7 @@ fn characters(rt: HostRuntime) {
 
 #[test]
 fn glyphs(rt: HostRuntime) {
-    count_all(
+    check_all(
         &rt,
         &[
             ("\\(em", 2, 1),
@@ -68,7 +70,7 @@ fn glyphs(rt: HostRuntime) {
 
 #[test]
 fn characters_of_escapes(rt: HostRuntime) {
-    count_all(
+    check_all(
         &rt,
         &[
             ("\\e", 1, 1),
@@ -91,7 +93,7 @@ fn characters_of_escapes(rt: HostRuntime) {
 
 #[test]
 fn blanks(rt: HostRuntime) {
-    count_all(
+    check_all(
         &rt,
         &[
             ("\\h'2n'", 2, 2),
@@ -121,9 +123,9 @@ fn print_nothing(rt: HostRuntime) {
         "\\Mx", "\\k(ab", "\\Fx", "\\s+2", "\\s'10'", "\\Z'ab'", "\\X'a'", "\\gx", "\\p", "\\",
         "\\(e", "\\[em", "\\C'em", "\\h'1",
     ] {
-        count_all(&rt, &[(text, 0, 0)]);
+        check_all(&rt, &[(text, 0, 0)]);
     }
-    count_all(&rt, &[("a\\fBb\\fRc\\&d", 4, 4), ("a\\[em", 1, 1)]);
+    check_all(&rt, &[("a\\fBb\\fRc\\&d", 4, 4), ("a\\[em", 1, 1)]);
 }
 
 #[test]
@@ -132,11 +134,11 @@ fn a_long_line(rt: HostRuntime) -> Result<(), Fail> {
     for _ in 0..8192 {
         line.push_str("\\h'999i'")?;
     }
-    count(&rt, line.as_str(), Output::Utf8, 8_192_000);
+    check_columns(&rt, line.as_str(), Output::Utf8, 8_192_000);
     let mut line = String::new(rt.alloc());
     for _ in 0..32_768 {
         line.push_str("\u{3b1}")?;
     }
-    count(&rt, line.as_str(), Output::Ascii, 229_376);
+    check_columns(&rt, line.as_str(), Output::Ascii, 229_376);
     Ok(())
 }

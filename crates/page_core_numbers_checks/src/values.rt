@@ -1,6 +1,7 @@
-use crate::*;
-use arrayvec::ArrayString;
-use page_core_base::{Note, NoteKind};
+//! The values of expressions, and what is reported of them.
+
+use page_core_base::{Fault, Note, NoteKind, NoteSink};
+use page_core_numbers::{Scale, number};
 use page_core_writers::{KeptNotes, TextNotes};
 use std::alloc::Global;
 use std::io;
@@ -20,15 +21,25 @@ const NOT_NUMERIC: NoteKind = NoteKind::NotNumeric;
 
 const LIMIT: NoteKind = NoteKind::Limit;
 
-fn detail(kind: NoteKind) -> ArrayString<64> {
-    let mut text = ArrayString::new();
-    if kind == LIMIT {
-        text.push_str("PARENS");
-    }
-    text
+fn check_count(rt: &impl Abort, got: usize, want: usize, text: &str) {
+    assert_eq!(rt; got, want, "{text}");
 }
 
-fn read(
+fn check_value(rt: &impl Abort, got: i32, want: i32, text: &str) {
+    assert_eq!(rt; got, want, "{text}");
+}
+
+// Checks a message at line 3 and column 7.
+fn check_note(rt: &impl Abort, note: &Note, kind: NoteKind, text: &str) {
+    assert!(rt; note.kind == kind && note.line == 3 && note.column == 7, "{text}");
+    let detail = match kind {
+        NoteKind::Limit => "PARENS",
+        _ => "",
+    };
+    assert!(rt; note.detail.as_str() == detail, "{text}");
+}
+
+fn check_number(
     rt: &(impl Abort + AllocGlobal),
     text: &str,
     unit: Scale,
@@ -38,35 +49,29 @@ fn read(
 ) {
     let mut notes = KeptNotes::new(rt.alloc());
     let (value, taken) = number(text.as_bytes(), unit, 3, 7, &mut notes).expect(rt, "memory");
-    assert_eq!(rt; value, want, "{text}");
-    assert_eq!(rt; taken, len, "{text}");
-    assert_eq!(rt; notes.notes.len(), kinds.len(), "{text}");
+    check_value(rt, value, want, text);
+    check_count(rt, taken, len, text);
+    check_count(rt, notes.notes.len(), kinds.len(), text);
     for (note, kind) in notes.notes.iter().zip(kinds) {
-        let told = Note {
-            kind: *kind,
-            line: 3,
-            column: 7,
-            detail: detail(*kind),
-        };
-        assert_eq!(rt; *note, told, "{text}");
+        check_note(rt, note, *kind, text);
     }
 }
 
-fn read_all(rt: &(impl Abort + AllocGlobal), cases: Cases<'_>) {
+fn check_all(rt: &(impl Abort + AllocGlobal), cases: Cases<'_>) {
     for (text, value, len, kinds) in cases {
-        read(rt, text, Scale::Basic, *value, *len, kinds);
+        check_number(rt, text, Scale::Basic, *value, *len, kinds);
     }
 }
 
-fn read_wholes(rt: &(impl Abort + AllocGlobal), cases: Wholes<'_>) {
+fn check_wholes(rt: &(impl Abort + AllocGlobal), cases: Wholes<'_>) {
     for (text, value) in cases {
-        read(rt, text, Scale::Basic, *value, text.len(), &[]);
+        check_number(rt, text, Scale::Basic, *value, text.len(), &[]);
     }
 }
 
 #[test]
 fn operators(rt: HostRuntime) {
-    read_wholes(
+    check_wholes(
         &rt,
         &[
             ("7+5", 12),
@@ -107,7 +112,7 @@ fn operators(rt: HostRuntime) {
 
 #[test]
 fn from_left_to_right(rt: HostRuntime) {
-    read_wholes(
+    check_wholes(
         &rt,
         &[
             ("1+2*3", 9),
@@ -125,7 +130,7 @@ fn from_left_to_right(rt: HostRuntime) {
 
 #[test]
 fn units(rt: HostRuntime) {
-    read_wholes(
+    check_wholes(
         &rt,
         &[
             ("1u", 1),
@@ -153,15 +158,15 @@ fn units(rt: HostRuntime) {
         (Scale::Point, 6),
         (Scale::Centimeter, 188),
     ] {
-        read(&rt, "2", unit, two, 1, &[]);
-        read(&rt, "2u", unit, 2, 2, &[]);
-        read(&rt, "2v", unit, 80, 2, &[]);
+        check_number(&rt, "2", unit, two, 1, &[]);
+        check_number(&rt, "2u", unit, 2, 2, &[]);
+        check_number(&rt, "2v", unit, 80, 2, &[]);
     }
 }
 
 #[test]
 fn fractions(rt: HostRuntime) {
-    read_wholes(
+    check_wholes(
         &rt,
         &[
             ("1.5v", 60),
@@ -180,7 +185,7 @@ fn fractions(rt: HostRuntime) {
             ("0.5+0.5", 0),
         ],
     );
-    read_all(
+    check_all(
         &rt,
         &[
             ("1.5.5", 1, 3, &[]),
@@ -196,7 +201,7 @@ fn fractions(rt: HostRuntime) {
 
 #[test]
 fn saturate(rt: HostRuntime) {
-    read_wholes(
+    check_wholes(
         &rt,
         &[
             ("2147483647", i32::MAX),
@@ -221,7 +226,7 @@ fn saturate(rt: HostRuntime) {
 
 #[test]
 fn signs_and_parentheses(rt: HostRuntime) {
-    read_wholes(
+    check_wholes(
         &rt,
         &[
             ("-5", -5),
@@ -243,7 +248,7 @@ fn signs_and_parentheses(rt: HostRuntime) {
             ("((1+2)*3", 9),
         ],
     );
-    read_all(
+    check_all(
         &rt,
         &[
             ("(1)i", 1, 3, &[]),
@@ -257,7 +262,7 @@ fn signs_and_parentheses(rt: HostRuntime) {
 
 #[test]
 fn divide_by_zero(rt: HostRuntime) {
-    read_all(
+    check_all(
         &rt,
         &[
             ("7/0", 0, 3, &[DIV_ZERO]),
@@ -272,7 +277,7 @@ fn divide_by_zero(rt: HostRuntime) {
 
 #[test]
 fn miss_an_operand(rt: HostRuntime) {
-    read_all(
+    check_all(
         &rt,
         &[
             ("", 0, 0, &[NOT_NUMERIC]),
@@ -306,7 +311,7 @@ fn miss_an_operand(rt: HostRuntime) {
 
 #[test]
 fn many_parentheses(rt: HostRuntime) {
-    read_wholes(
+    check_wholes(
         &rt,
         &[
             ("((((((((((((((((1))))))))))))))))", 1),
@@ -318,7 +323,7 @@ fn many_parentheses(rt: HostRuntime) {
             ),
         ],
     );
-    read_all(
+    check_all(
         &rt,
         &[
             ("(((((((((((((((((1", 0, 16, &[LIMIT]),
@@ -330,7 +335,7 @@ fn many_parentheses(rt: HostRuntime) {
     );
 }
 
-// A writer that takes so many bytes in all.
+// A writer that takes `room` bytes in all.
 #[derive(Drop)]
 struct Narrow {
     got: Vec<u8>,
@@ -360,6 +365,16 @@ fn narrow_writer(alloc: Global, room: usize) -> Narrow {
     }
 }
 
+fn check_read(rt: &impl Abort, got: Result<(i32, usize), Fault>, want: Result<(i32, usize), Fault>) {
+    assert_eq!(rt; got, want);
+}
+
+// Checks what was written by a sink of messages, and how often it failed.
+fn check_written(rt: &impl Abort, failures: u64, want: u64, got: &[u8], front: &[u8]) {
+    assert_eq!(rt; failures, want);
+    assert_eq!(rt; got, front);
+}
+
 #[test]
 fn a_failing_sink_gets_a_front(rt: HostRuntime) -> Result<(), Fail> {
     let all =
@@ -370,13 +385,11 @@ fn a_failing_sink_gets_a_front(rt: HostRuntime) -> Result<(), Fail> {
         let read = number(b"7/0/(", Scale::Basic, 3, 7, &mut notes);
         let failures = notes.failures();
         if room < all.len() {
-            assert_eq!(rt; read, Err(Fault::WriteNotes), "{room}");
-            assert_eq!(rt; failures, 1, "{room}");
-            assert_eq!(rt; out.got.as_slice(), &all.as_bytes()[..room], "{room}");
+            check_read(&rt, read, Err(Fault::WriteNotes));
+            check_written(&rt, failures, 1, out.got.as_slice(), &all.as_bytes()[..room]);
         } else {
-            assert_eq!(rt; read, Ok((0, 5)), "{room}");
-            assert_eq!(rt; failures, 0, "{room}");
-            assert_eq!(rt; out.got.as_slice(), all.as_bytes(), "{room}");
+            check_read(&rt, read, Ok((0, 5)));
+            check_written(&rt, failures, 0, out.got.as_slice(), all.as_bytes());
         }
     }
     Ok(())
@@ -386,10 +399,8 @@ fn a_failing_sink_gets_a_front(rt: HostRuntime) -> Result<(), Fail> {
 fn without_messages_a_failing_sink_is_not_called(rt: HostRuntime) -> Result<(), Fail> {
     let mut out = narrow_writer(rt.alloc(), 0);
     let mut notes = TextNotes::new(&mut out, "f");
-    assert_eq!(rt;
-        number(b"1+2*3", Scale::Basic, 1, 1, &mut notes),
-        Ok((9, 5))
-    );
-    assert_eq!(rt; notes.failures(), 0);
+    let read = number(b"1+2*3", Scale::Basic, 1, 1, &mut notes);
+    check_read(&rt, read, Ok((9, 5)));
+    check_written(&rt, notes.failures(), 0, b"", b"");
     Ok(())
 }
