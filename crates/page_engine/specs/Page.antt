@@ -9,6 +9,7 @@ use Rattle.page_fill.specs.Fill as fill
 use Rattle.page_prose.specs.declared.prose.Prose.{Prose}
 use Rattle.page_prose.specs.Prose.{line_items, line_after, end_items, footer_items, start_of}
 use Rattle.page_roff_lines.specs.Decoding.{Line}
+use Rattle.page_engine.specs.declared.pages.Page.{Page}
 use Rattle.page_engine.specs.Levels.{given, worst_of}
 use Rattle.page_engine.specs.Items.{laid_items}
 
@@ -65,10 +66,10 @@ page e lines = seq (laid e lines) ended
 abbrev pub start : Settings → Edge
 start s = record { least = s.least; worst = None; prose = start_of s; fill = fill.start s; last = 1 }
 
--- the parts of a page are those of an edge
-pub record IsAt (filler : Option FillEdge) (prose : Prose) (least worst : Option Level) (last : ℕ) (e : Edge) : Type 0 where
-  pub filled : filler ≡ Some e.fill
-  pub lines : prose ≡ e.prose
-  pub levels : least ≡ e.least
-  pub worst_level : worst ≡ e.worst
-  pub last_line : last ≡ e.last
+-- a page is at an edge
+pub record IsAt (here : Page) (e : Edge) : Type 0 where
+  pub filled : here.filler ≡ Some e.fill
+  pub lines : here.prose ≡ e.prose
+  pub levels : here.least ≡ e.least
+  pub worst_level : here.worst ≡ e.worst
+  pub last_line : here.last ≡ e.last

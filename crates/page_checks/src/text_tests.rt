@@ -1,12 +1,12 @@
 //! Worked pages of text: escapes, fonts, glyphs, sentences, tabs, and rows that are kept as they are.
 
-use crate::tests::{all_messages, framed, gives, outcome};
+use crate::checks::{all_messages, framed, gives, outcome};
 use page_core_base::{Level, Output, Settings};
 use std::alloc::{AllocError, Global};
 use std::process::Abort;
 use std::test::Fail;
 
-// What a page shows, the lines behind its section header A; what stands behind that header's row; its messages and the worst level of these.
+// What a page shows, the lines after its section header A; what stands after that header's row; its messages and the worst level of these.
 struct Case {
     what: &'static str,
     lines: &'static [u8],
@@ -73,14 +73,14 @@ const CASES: [Case; 48] = [
         worst: None,
     },
     Case {
-        what: "two blanks behind a sentence",
+        what: "two blanks after a sentence",
         lines: b"One.\nTwo\n",
         body: "       One.  Two\n",
         notes: "",
         worst: None,
     },
     Case {
-        what: "closing marks behind a sentence's end",
+        what: "closing marks after a sentence's end",
         lines: b"(One!)\n\"Two?'\"]\nx\n",
         body: "       (One!)  \"Two?'\"]  x\n",
         notes: "",
@@ -115,7 +115,7 @@ const CASES: [Case; 48] = [
         worst: None,
     },
     Case {
-        what: "a blank behind it parts",
+        what: "a blank after it parts",
         lines: b"ab\\c \ncd\n",
         body: "       ab cd\n",
         notes: "mandoc: x.1:3:5: STYLE: whitespace at end of input line\n",
@@ -339,7 +339,7 @@ const CASES: [Case; 48] = [
         worst: Some(Level::Warning),
     },
     Case {
-        what: "a comment behind blanks breaks the row",
+        what: "a comment after blanks breaks the row",
         lines: b"a\n  \\\" c\nb\n",
         body: "       a\n       b\n",
         notes: "",
@@ -362,7 +362,7 @@ const UTF8_CASES: [(&[u8], &str); 4] = [
     (b"\\'\xc3\xa9\n", "       \u{B4}é\n"),
 ];
 
-// The source lines of a page of these lines behind its title and its section header.
+// The source lines of a page of these lines after its title and its section header.
 fn source_lines(lines: &[u8]) -> u64 {
     lines.iter().filter(|byte| **byte == b'\n').count() as u64 + 2
 }
@@ -374,7 +374,7 @@ fn page_of(alloc: Global, lines: &[u8]) -> Result<Vec<u8>, AllocError> {
     Ok(page)
 }
 
-// The rows of a page with this body behind its header's row.
+// The rows of a page with this body after its header's row.
 fn rows_of(alloc: Global, body: &str) -> Result<String, AllocError> {
     let body = format!(in alloc; "A\u{8}A\n{body}")?;
     framed(alloc, body.as_str())

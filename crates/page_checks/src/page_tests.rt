@@ -1,15 +1,19 @@
 //! Worked pages from their bytes to rows and messages, however the bytes come and go; and runs whose reader, writer or settings fail.
 
-use crate::{Counts, Outcome, run_page};
+use crate::checks::{
+    FOOTER, HEADER, all_messages, check, check_count, check_outcome, check_text, framed, gives,
+    outcome,
+};
 use page_core_base::{Fault, Level, Output, SettingFault, Settings};
-use std::alloc::{AllocError, Global};
+use page_engine::run_page;
+use std::alloc::Global;
 use std::io::{self, ErrorKind, Read, Write};
 use std::process::Abort;
 use std::test::Fail;
 
-// Gives a page in pieces of at most so many bytes.
+// Gives a page in chunks of at most this number of bytes.
 #[derive(Drop)]
-struct Pieces<'a> {
+struct Chunks<'a> {
     page: &'a [u8],
     size: usize,
     calls: usize,
@@ -19,9 +23,9 @@ struct Pieces<'a> {
     failing: usize,
 }
 
-impl<'a> Pieces<'a> {
-    fn new(page: &'a [u8], size: usize) -> Pieces<'a> {
-        Pieces {
+impl<'a> Chunks<'a> {
+    fn new(page: &'a [u8], size: usize) -> Chunks<'a> {
+        Chunks {
             page,
             size,
             calls: 0,
@@ -31,7 +35,7 @@ impl<'a> Pieces<'a> {
     }
 }
 
-impl Read for Pieces<'_> {
+impl Read for Chunks<'_> {
     fn read(&mut self, buffer: &mut [u8]) -> io::Result<usize> {
         self.calls = self.calls.saturating_add(1);
         if self.calls == self.failing {
@@ -41,14 +45,14 @@ impl Read for Pieces<'_> {
             return Err(io::Error::from(ErrorKind::Interrupted));
         }
         let count = self.page.len().min(self.size).min(buffer.len());
-        let (piece, rest) = self.page.split_at(count);
-        buffer[..count].copy_from_slice(piece);
+        let (chunk, rest) = self.page.split_at(count);
+        buffer[..count].copy_from_slice(chunk);
         self.page = rest;
         Ok(count)
     }
 }
 
-// Keeps what is written, at most so many bytes a call. It fails once, where its room is at its end, and then goes on.
+// Keeps what is written, at most a number of bytes a call. It fails once, where its room is at its end, and then goes on.
 #[derive(Drop)]
 struct Store {
     kept: Vec<u8>,
@@ -82,20 +86,6 @@ impl Write for Store {
         Ok(())
     }
 }
-
-// Settings by which each message is given.
-pub(crate) fn all_messages() -> Settings {
-    Settings {
-        least: Some(Level::Base),
-        ..Settings::new()
-    }
-}
-
-const HEADER: &str =
-    "T(1)                       General Commands Manual                        T(1)\n\n";
-
-const FOOTER: &str =
-    "\nS                                 2020-01-01                              T(1)\n";
 
 // A page; what stands between its header and its footer; its messages and the worst level of these; how many lines it has.
 struct Case {
@@ -165,44 +155,22 @@ const CASES: [Case; 8] = [
     },
 ];
 
-// A page with an unknown macro, and behind it a blank line; and its body.
+// A page with an unknown macro, and after it a blank line; and its body.
 const TWO_MESSAGES: &[u8] = b".TH T 1 2020-01-01 S\n.SH A\n.ZZ\na\n\nb\n";
 
 const TWO_PARAGRAPHS: &str = "A\u{8}A\n       a\n\n       b\n";
 
-// A body between its header and its footer.
-pub(crate) fn framed(alloc: Global, body: &str) -> Result<String, AllocError> {
-    format!(in alloc; "{HEADER}{body}{FOOTER}")
-}
-
-// The outcome of a run of so many lines.
-pub(crate) fn outcome(worst: Option<Level>, source: u64) -> Result<Outcome, Fault> {
-    Ok(Outcome {
-        worst,
-        counts: Counts {
-            source,
-            taken: source,
-            expansions: 0,
-        },
-    })
-}
-
-// A run over a page gives these rows and messages.
-pub(crate) fn gives<I: Read, R: Abort + AllocGlobal>(
+// A run over a page that ends by a fault, into the writers.
+fn faults<I: Read, R: Abort + AllocGlobal>(
     rt: &R,
     reader: &mut I,
-    settings: &Settings,
-    rows: &str,
-    notes: &str,
-    want: Result<Outcome, Fault>,
-) -> Result<(), Fail> {
-    let mut out = Vec::new(rt.alloc());
-    let mut messages = Vec::new(rt.alloc());
-    let result = run_page(rt.alloc(), reader, &mut out, &mut messages, "x.1", settings);
-    assert_eq!(rt; std::str::from_utf8(out.as_slice())?, rows);
-    assert_eq!(rt; std::str::from_utf8(messages.as_slice())?, notes);
-    assert_eq!(rt; result, want);
-    Ok(())
+    out: &mut Store,
+    messages: &mut Store,
+    want: Fault,
+) {
+    let settings = all_messages();
+    let result = run_page(rt.alloc(), reader, out, messages, "x.1", &settings);
+    check_outcome(rt, result, Err(want));
 }
 
 #[test]
@@ -213,9 +181,9 @@ fn formats_pages(rt: HostRuntime) -> Result<(), Fail> {
         let want = outcome(case.worst, case.source);
         let mut whole = case.page;
         gives(&rt, &mut whole, &settings, rows.as_str(), case.notes, want)?;
-        let mut bytes = Pieces::new(case.page, 1);
+        let mut bytes = Chunks::new(case.page, 1);
         gives(&rt, &mut bytes, &settings, rows.as_str(), case.notes, want)?;
-        let mut interrupted = Pieces::new(case.page, 3);
+        let mut interrupted = Chunks::new(case.page, 3);
         interrupted.is_interrupted = true;
         gives(
             &rt,
@@ -313,10 +281,10 @@ fn refuses_bad_settings(rt: HostRuntime) -> Result<(), Fail> {
             indent,
             ..all_messages()
         };
-        let mut reader = Pieces::new(TWO_MESSAGES, 1);
+        let mut reader = Chunks::new(TWO_MESSAGES, 1);
         let want = Err(Fault::Settings(fault));
         gives(&rt, &mut reader, &settings, "", "", want)?;
-        assert_eq!(rt; reader.calls, 0);
+        check_count(&rt, reader.calls as u64, 0);
     }
     Ok(())
 }
@@ -324,7 +292,7 @@ fn refuses_bad_settings(rt: HostRuntime) -> Result<(), Fail> {
 // For runs in which an allocation is refused: then nothing was read, and else all is well.
 #[test]
 fn wants_memory_before_it_reads(rt: HostRuntime) {
-    let mut reader = Pieces::new(TWO_MESSAGES, 3);
+    let mut reader = Chunks::new(TWO_MESSAGES, 3);
     let (mut out, mut messages) = (io::sink(), io::sink());
     match run_page(
         rt.alloc(),
@@ -334,10 +302,10 @@ fn wants_memory_before_it_reads(rt: HostRuntime) {
         "x.1",
         &all_messages(),
     ) {
-        Ok(outcome) => assert_eq!(rt; outcome.worst, Some(Level::Error)),
+        Ok(done) => check_outcome(&rt, Ok(done), outcome(Some(Level::Error), 6)),
         Err(fault) => {
-            assert_eq!(rt; fault, Fault::Memory);
-            assert_eq!(rt; reader.calls, 0);
+            check_outcome(&rt, Err(fault), Err(Fault::Memory));
+            check_count(&rt, reader.calls as u64, 0);
         }
     }
 }
@@ -345,32 +313,20 @@ fn wants_memory_before_it_reads(rt: HostRuntime) {
 // Each call fails in turn: what was written is the front of the page, and no less than at an earlier call.
 #[test]
 fn ends_by_a_failing_read(rt: HostRuntime) -> Result<(), Fail> {
-    let settings = all_messages();
     let whole = framed(rt.alloc(), TWO_PARAGRAPHS)?;
     let mut written = 0;
     for failing in 1..TWO_MESSAGES.len() + 2 {
-        let mut reader = Pieces::new(TWO_MESSAGES, 1);
+        let mut reader = Chunks::new(TWO_MESSAGES, 1);
         reader.failing = failing;
-        let mut out = Vec::new(rt.alloc());
-        let mut messages = Vec::new(rt.alloc());
-        let result = run_page(
-            rt.alloc(),
-            &mut reader,
-            &mut out,
-            &mut messages,
-            "x.1",
-            &settings,
-        );
-        assert_eq!(rt; result, Err(Fault::Read), "at call {failing}");
-        assert!(rt;
-            whole.as_bytes().starts_with(out.as_slice()),
-            "at call {failing}"
-        );
-        assert!(rt; out.len() >= written, "at call {failing}");
-        written = out.len();
+        let mut out = Store::new(rt.alloc(), usize::MAX, usize::MAX);
+        let mut messages = Store::new(rt.alloc(), usize::MAX, usize::MAX);
+        faults(&rt, &mut reader, &mut out, &mut messages, Fault::Read);
+        check(&rt, whole.as_bytes().starts_with(out.kept.as_slice()));
+        check(&rt, out.kept.len() >= written);
+        written = out.kept.len();
     }
     let settled = format!(in rt.alloc(); "{HEADER}A\u{8}A\n       a\n")?;
-    assert!(rt; written >= settled.len() && written < whole.len());
+    check(&rt, written >= settled.len() && written < whole.len());
     Ok(())
 }
 
@@ -390,45 +346,35 @@ fn writes_a_byte_at_a_time(rt: HostRuntime) -> Result<(), Fail> {
             "x.1",
             &settings,
         );
-        assert_eq!(rt; result, outcome(case.worst, case.source));
-        assert_eq!(rt; out.kept.as_slice(), rows.as_bytes());
-        assert_eq!(rt; messages.kept.as_slice(), case.notes.as_bytes());
+        check_outcome(&rt, result, outcome(case.worst, case.source));
+        check_text(&rt, out.kept.as_slice(), rows.as_str())?;
+        check_text(&rt, messages.kept.as_slice(), case.notes)?;
     }
     Ok(())
 }
 
+// Where a writer fails, each has the front of what it would have, and nothing that is written after it.
 #[test]
 fn ends_by_a_failing_write(rt: HostRuntime) -> Result<(), Fail> {
-    let settings = all_messages();
-    let whole = framed(rt.alloc(), TWO_PARAGRAPHS)?;
+    let three_rows = format!(in rt.alloc(); "{HEADER}A\u{8}A\n")?;
     let cases = [
         (10, usize::MAX, Fault::WriteText, "T(1)      ", ""),
-        (usize::MAX, 0, Fault::WriteNotes, "", ""),
-        (usize::MAX, 10, Fault::WriteNotes, "", "mandoc: x."),
+        (usize::MAX, 0, Fault::WriteNotes, three_rows.as_str(), ""),
+        (
+            usize::MAX,
+            10,
+            Fault::WriteNotes,
+            three_rows.as_str(),
+            "mandoc: x.",
+        ),
     ];
-    for (room, room_of_messages, fault, start, start_of_messages) in cases {
+    for (room, room_of_messages, fault, rows, notes) in cases {
         let mut out = Store::new(rt.alloc(), usize::MAX, room);
         let mut messages = Store::new(rt.alloc(), usize::MAX, room_of_messages);
         let mut page = TWO_MESSAGES;
-        let result = run_page(
-            rt.alloc(),
-            &mut page,
-            &mut out,
-            &mut messages,
-            "x.1",
-            &settings,
-        );
-        assert_eq!(rt; result, Err(fault));
-        assert!(rt; whole.as_bytes().starts_with(out.kept.as_slice()));
-        assert!(rt; out.kept.as_slice().starts_with(start.as_bytes()));
-        assert!(rt; out.kept.len() <= room);
-        assert!(rt;
-            messages
-                .kept
-                .as_slice()
-                .starts_with(start_of_messages.as_bytes())
-        );
-        assert!(rt; messages.kept.len() <= room_of_messages);
+        faults(&rt, &mut page, &mut out, &mut messages, fault);
+        check_text(&rt, out.kept.as_slice(), rows)?;
+        check_text(&rt, messages.kept.as_slice(), notes)?;
     }
     Ok(())
 }
