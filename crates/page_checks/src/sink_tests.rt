@@ -146,86 +146,65 @@ impl NoteSink for Notes {
 // An unknown macro in line 3, and a blank line in line 5.
 const PAGE: &[u8] = b".TH T 1 2020-01-01 S\n.SH A\n.ZZ\na\n\nb\n";
 
-// The call that fails of the source, of the rows and of the messages, 0 for none; the outcome; and the numbers of calls of the source, of
-// bytes, of rows and of messages.
-struct Case {
-    failing: (u64, u64, u64),
-    fault: Option<Fault>,
-    calls: u64,
-    given: u64,
-    rows: u64,
-    notes: u64,
-}
+// The call that fails of the source, of the rows and of the messages, 0 for none; the fault; and the calls of the source, its bytes, and
+// the calls of the rows and of the messages.
+type Case = ((u64, u64, u64), Option<Fault>, (u64, u64, u64, u64));
 
-const fn case(
-    failing: (u64, u64, u64),
-    fault: Option<Fault>,
-    counts: (u64, u64, u64, u64),
-) -> Case {
-    Case {
-        failing,
-        fault,
-        calls: counts.0,
-        given: counts.1,
-        rows: counts.2,
-        notes: counts.3,
-    }
-}
-
-// A run that counts.
+// A run that counts its calls.
 fn counts<R: Abort + AllocGlobal>(
     rt: &R,
     settings: &Settings,
-    case: &Case,
+    failing: (u64, u64, u64),
+    counts: (u64, u64, u64, u64),
     want: Result<Outcome, Fault>,
 ) {
-    let mut source = Bytes::new(PAGE, case.failing.0);
+    let mut source = Bytes::new(PAGE, failing.0);
     let mut rows = Rows {
-        failing: case.failing.1,
+        failing: failing.1,
         calls: 0,
         failures: 0,
     };
     let mut notes = Notes {
-        failing: case.failing.2,
+        failing: failing.2,
         calls: 0,
         failures: 0,
     };
     let result = run_sinks(rt.alloc(), &mut source, &mut rows, &mut notes, settings);
     check_outcome(rt, result, want);
-    check_count(rt, source.calls, case.calls);
-    check_count(rt, source.given, case.given);
-    check_count(rt, rows.calls, case.rows);
-    check_count(rt, notes.calls, case.notes);
+    check_count(rt, source.calls, counts.0);
+    check_count(rt, source.given, counts.1);
+    check_count(rt, rows.calls, counts.2);
+    check_count(rt, notes.calls, counts.3);
 }
 
 // The first row comes with the section header, the first message with line 3, and the footer at the end.
 const CASES: [Case; 14] = [
-    case((0, 0, 0), None, (38, 37, 8, 2)),
-    case((1, 0, 0), Some(Fault::Read), (1, 0, 0, 0)),
-    case((22, 0, 0), Some(Fault::Read), (22, 21, 0, 0)),
-    case((28, 0, 0), Some(Fault::Read), (28, 27, 3, 0)),
-    case((38, 0, 0), Some(Fault::Read), (38, 37, 5, 2)),
-    case((0, 1, 0), Some(Fault::WriteText), (27, 27, 1, 0)),
-    case((0, 3, 0), Some(Fault::WriteText), (27, 27, 3, 0)),
-    case((0, 4, 0), Some(Fault::WriteText), (35, 35, 4, 2)),
-    case((0, 5, 0), Some(Fault::WriteText), (35, 35, 5, 2)),
-    case((0, 6, 0), Some(Fault::WriteText), (38, 37, 6, 2)),
-    case((0, 8, 0), Some(Fault::WriteText), (38, 37, 8, 2)),
-    case((0, 0, 1), Some(Fault::WriteNotes), (31, 31, 3, 1)),
-    case((0, 0, 2), Some(Fault::WriteNotes), (35, 35, 3, 2)),
-    case((0, 9, 3), None, (38, 37, 8, 2)),
+    ((0, 0, 0), None, (37, 36, 8, 2)),
+    ((1, 0, 0), Some(Fault::Read), (1, 0, 0, 0)),
+    ((22, 0, 0), Some(Fault::Read), (22, 21, 0, 0)),
+    ((28, 0, 0), Some(Fault::Read), (28, 27, 3, 0)),
+    ((37, 0, 0), Some(Fault::Read), (37, 36, 5, 2)),
+    ((0, 1, 0), Some(Fault::WriteText), (27, 27, 1, 0)),
+    ((0, 3, 0), Some(Fault::WriteText), (27, 27, 3, 0)),
+    ((0, 4, 0), Some(Fault::WriteText), (34, 34, 4, 2)),
+    ((0, 5, 0), Some(Fault::WriteText), (34, 34, 5, 2)),
+    ((0, 6, 0), Some(Fault::WriteText), (37, 36, 6, 2)),
+    ((0, 8, 0), Some(Fault::WriteText), (37, 36, 8, 2)),
+    ((0, 0, 1), Some(Fault::WriteNotes), (31, 31, 3, 1)),
+    ((0, 0, 2), Some(Fault::WriteNotes), (34, 34, 3, 2)),
+    ((0, 9, 3), None, (37, 36, 8, 2)),
 ];
 
 // After a fault nothing is read, and nothing is given to the other sink.
 #[test]
 fn stops_where_something_fails(rt: HostRuntime) {
     let settings = all_messages();
-    for case in &CASES {
-        let want = match case.fault {
+    for (failing, fault, calls) in CASES {
+        let want = match fault {
             None => outcome(Some(Level::Error), 6),
             Some(fault) => Err(fault),
         };
-        counts(&rt, &settings, case, want);
+        counts(&rt, &settings, failing, calls, want);
     }
 }
 
@@ -236,10 +215,10 @@ fn gives_no_message_below_the_level(rt: HostRuntime) {
         least: Some(Level::Error),
         ..Settings::new()
     };
-    let one = case((0, 0, 2), None, (38, 37, 8, 1));
-    counts(&rt, &of_errors, &one, outcome(Some(Level::Error), 6));
-    let none = case((0, 0, 1), None, (38, 37, 8, 0));
-    counts(&rt, &Settings::new(), &none, outcome(None, 6));
+    let error = outcome(Some(Level::Error), 6);
+    counts(&rt, &of_errors, (0, 0, 2), (37, 36, 8, 1), error);
+    let none = Settings::new();
+    counts(&rt, &none, (0, 0, 1), (37, 36, 8, 0), outcome(None, 6));
 }
 
 // Refused settings come before all else: nothing is read and nothing is given, whatever would fail.
@@ -256,7 +235,7 @@ fn reads_nothing_with_refused_settings(rt: HostRuntime) {
             indent,
             ..all_messages()
         };
-        let nothing = case((1, 1, 1), None, (0, 0, 0, 0));
-        counts(&rt, &settings, &nothing, Err(Fault::Settings(fault)));
+        let want = Err(Fault::Settings(fault));
+        counts(&rt, &settings, (1, 1, 1), (0, 0, 0, 0), want);
     }
 }
