@@ -3,7 +3,7 @@ use Rattle.std.specs.Prelude.{ℕ, Bool, true, ◌&&◌, if◌then◌else◌, na
 use Rattle.std.specs.List.{starts_with}
 use Rattle.std.specs.Option.{option_map_or}
 use Rattle.std.specs.Borrow.{Bor}
-use Rattle.page_core_base.specs.Texts.{is_plain}
+use Rattle.page_core_base.specs.Texts.{has_no_control}
 use Rattle.page_core_base.specs.declared.note_kinds.Level.{Level}
 use Rattle.page_core_base.specs.declared.note_kinds.Level.TheVariants as level
 use Rattle.page_core_base.specs.declared.page_settings.Output.{Output}
@@ -78,7 +78,7 @@ least_of value output = chosen (default_level output) level_given value
 
 -- a name of at most 256 bytes without a control character but the tab
 abbrev pub is_system : Text → Bool
-is_system name = nat_le (length name) 256 && is_plain 0 name
+is_system name = nat_le (length name) 256 && has_no_control 0 name
 
 abbrev pub checked_system : Text → Option Text
 checked_system name = if is_system name then Some name else None

@@ -23,12 +23,12 @@ opener_of openers.Paragraph = openers.Paragraph
 opener_of (openers.Tagged hang) = openers.Tagged (held hang)
 opener_of (openers.Indented tag hang) = openers.Indented (held tag) (held hang)
 opener_of (openers.Hanging hang) = openers.Hanging (held hang)
-opener_of (openers.Inset columns) = openers.Inset (held columns)
+opener_of (openers.RelativeMargin columns) = openers.RelativeMargin (held columns)
 opener_of (openers.Target target) = openers.Target target.now
 opener_of (openers.Synopsis name) = openers.Synopsis name.now
 
 abbrev pub closer_of : Closer (Bor (List ℕ)) → Closer (List ℕ)
-closer_of (closers.Inset number) = closers.Inset (held number)
+closer_of (closers.RelativeMargin number) = closers.RelativeMargin (held number)
 closer_of (closers.Target suffix) = closers.Target (held suffix)
 closer_of closers.Synopsis = closers.Synopsis
 

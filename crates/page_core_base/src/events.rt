@@ -14,7 +14,7 @@ pub enum Join {
     Glued,
 }
 
-/// What opens a node that goes on behind its line; `W` is a text, a number in it still an expression.
+/// What opens a node that goes on after its line; `W` is a text, a number in it still an expression.
 pub enum Opener<W> {
     /// `SH`: ends all nodes.
     Section,
@@ -29,7 +29,7 @@ pub enum Opener<W> {
     /// `HP`, with its hang.
     Hanging(Option<W>),
     /// `RS`, with the columns further in.
-    Inset(Option<W>),
+    RelativeMargin(Option<W>),
     /// `UR` and `MT`, with their target.
     Target(W),
     /// `SY`, with its name.
@@ -39,7 +39,7 @@ pub enum Opener<W> {
 /// What closes a node.
 pub enum Closer<W> {
     /// `RE`: the innermost, or all from that of a number on.
-    Inset(Option<W>),
+    RelativeMargin(Option<W>),
     /// `UE` and `ME`, with what is glued to the target.
     Target(Option<W>),
     /// `YS`.

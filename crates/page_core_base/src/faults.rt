@@ -3,7 +3,7 @@
 use crate::SettingFault;
 use thiserror::Error;
 
-/// Why a call gave up. The texts are those that the program prints behind a file's name.
+/// Why a call gave up. The texts are those that the program prints after a file's name.
 #[derive(Clone, Copy, Debug, PartialEq, Eq, Error)]
 pub enum Fault {
     /// Memory was wanted and refused.

@@ -27,7 +27,8 @@ pub trait PieceOut {
 
     /// Whether a fault has come. Then a caller may stop early.
     fn has_failed(&self) -> bool
-        ensures { IsTrue result → (plan : Plan) (rest other : List Item) → left plan self.now rest → left plan self.now other };
+        ensures { IsTrue result → (plan : Plan) (rest other : List Item)
+            → left plan self.now rest → left plan self.now other };
 }
 
 /// A sink of pieces, and its fault once it has failed.

@@ -30,15 +30,15 @@ pub enum Piece<W> {
     Char { c: char, font: Font, place: Place },
     /// A tab in the open word.
     Tab { font: Font, place: Place },
-    /// The open word ends, and so many blanks stand before the next one, for which a tab stands or not.
+    /// The open word ends, and this count of blanks stands before the next one; for one of them a tab stands or not.
     Blank { count: u32, has_tab: bool },
     /// The next text goes on with the open word, without the blanks that wait.
     Glue,
     /// The row ends.
     Break,
-    /// A paragraph: the row ends, and blank rows are written until so many stand there; none after a heading's row.
+    /// A paragraph: the row ends, and blank rows are written until this count of them stands there; none after a heading's row.
     Para(u32),
-    /// The row ends, and so many blank rows are written.
+    /// The row ends, and this count of blank rows is written.
     Space(u32),
     /// The margin of the row that begins next, and of the rows after it.
     Indent { first: u32, rest: u32 },
@@ -50,7 +50,7 @@ pub enum Piece<W> {
     TagEnd,
     /// The row ends as a heading's row, if it has a cell.
     Heading,
-    /// The next text stands so many columns from the margin, or one blank after what passes that.
+    /// The next text stands at this column from the margin, or one blank after what passes that.
     Column(u32),
 }
 

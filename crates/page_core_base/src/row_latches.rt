@@ -28,7 +28,8 @@ pub trait RowOut {
 
     /// Whether a fault has come. Then a caller may stop early.
     fn has_failed(&self) -> bool
-        ensures { IsTrue result → (plan : Plan) (rows more : List LaidRow) (notes said : List Message) → left plan self.now rows notes → left plan self.now more said };
+        ensures { IsTrue result → (plan : Plan) (rows more : List LaidRow) (notes said : List Message)
+            → left plan self.now rows notes → left plan self.now more said };
 }
 
 /// Two sinks, and the fault of the one that has failed.
@@ -69,8 +70,9 @@ impl<'r, 'n, R: RowSink, N: NoteSink> RowLatch<'r, 'n, R, N> {
 impl<R: RowSink, N: NoteSink> RowOut for RowLatch<'_, '_, R, N> {
     ghost Plan = { Planned R N R.Loans N.Loans };
 
-    ghost left = { λ plan s rows notes. Left (seen R.gave R.within R.failed R.loans) (seen N.gave N.within N.failed N.loans)
-        plan s.rows.ghost_name s.notes.ghost_name s.rows.now s.notes.now s.fault rows notes };
+    ghost left = { λ plan s rows notes. Left
+        (seen R.gave R.within R.failed R.loans) (seen N.gave N.within N.failed N.loans) plan
+        s.rows.ghost_name s.notes.ghost_name s.rows.now s.notes.now s.fault rows notes };
 
     fn give(&mut self, margin: u32, cells: &[Cell]) {
         if self.fault.is_none() {

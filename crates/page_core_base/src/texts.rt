@@ -1,7 +1,7 @@
 //! What a text line of a page may hold.
 
 ghost use Rattle.std.specs.Prelude.{◌≡◌, ◌↔◌, IsTrue};
-ghost use Rattle.page_core_base.specs.Texts.{IsLine, is_plain, is_plain_byte};
+ghost use Rattle.page_core_base.specs.Texts.{IsLine, has_no_control, is_no_control};
 
 use page_core_limits::LINE;
 
@@ -14,11 +14,11 @@ pub fn is_line(text: &[u8]) -> bool
 
 // Whether no control character but the tab stands in a text. Those above ASCII are the byte 0xC2 and one below 0xA0.
 fn has_no_control(text: &[u8]) -> bool
-    ensures { result ≡ is_plain 0 text.now }
+    ensures { result ≡ has_no_control 0 text.now }
 {
     let mut before = 0u8;
     for byte in text {
-        if !is_plain_byte(before, *byte) {
+        if !is_no_control(before, *byte) {
             return false;
         }
         before = *byte;
@@ -27,8 +27,8 @@ fn has_no_control(text: &[u8]) -> bool
 }
 
 // Whether a byte that follows another belongs to no control character but the tab.
-fn is_plain_byte(before: u8, byte: u8) -> bool
-    ensures { result ≡ is_plain_byte before byte }
+fn is_no_control(before: u8, byte: u8) -> bool
+    ensures { result ≡ is_no_control before byte }
 {
     if byte == b'\t' {
         return true;

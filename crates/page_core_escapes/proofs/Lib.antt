@@ -4,6 +4,8 @@ pub mod Unwinding
 pub mod HexNumbers
 pub mod MeaningLemmas
 pub mod Characters
+pub mod LetterLemmas
 pub mod Boundaries
 pub mod ArgumentTexts
 pub mod EscapeTexts
+pub mod TokenLemmas

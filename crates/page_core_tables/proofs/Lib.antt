@@ -1,2 +1,3 @@
 pub mod Search
 pub mod Tables
+pub mod PrintedLemmas

@@ -1,11 +1,13 @@
-//! The glyphs that have a name in mandoc_char(7), and how characters are spelled in ASCII.
+//! The glyphs that have a name in mandoc_char(7), how characters are spelled in ASCII, and what characters and glyphs print.
 #![tactic(auto)]
 
 ghost use Rattle.std.specs.Prelude.{◌≡◌, option_map};
 ghost use Rattle.page_core_tables.specs.Glyphs.{glyph_of, spelling_of, symbol_of, first_spelling, table};
 
+mod printing;
 mod rows;
 
+pub use printing::{Printed, char_columns, printed_char, printed_glyph};
 pub use rows::Glyph;
 
 /// What a name stands for, as `em` in `\(em`: mandoc_char(7).

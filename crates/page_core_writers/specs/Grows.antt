@@ -1,5 +1,6 @@
 -- A sink that is seen as a list, where the list is known.
-use Rattle.std.specs.Prelude.{◌≡◌, List, [], ◌++◌, ⊤, Option, None, Some, refl}
+use Rattle.std.specs.Prelude.{◌≡◌, Bool, List, [], ◌++◌, ⊤, Option, None, Some, refl}
+use Rattle.std.specs.Bool.{MatchBool}
 use Rattle.std.specs.List.{flat_map}
 use Rattle.std.proofs.Common.{append_assoc, append-nil, sym, ◌∙◌, ap, subst}
 use Rattle.std.proofs.lemmas.Grind.{flat_map-append}
@@ -35,6 +36,10 @@ Adds held stands s xs t = Grows (held s) (held t) (flat_map stands xs)
 abbrev pub AddsInto : {S I A : Type 0} → (S → Option (List A)) → (I → List A) → S → List I → S → Type 0
 AddsInto held stands s xs t = GrowsInto (held s) (held t) (flat_map stands xs)
 
+-- what a call did that writes all: the known list grew by it, or by a prefix of it where the call failed
+abbrev pub Writes : {A : Type 0} → Bool → Option (List A) → Option (List A) → List A → Type 0
+Writes result old new all = MatchBool result (Grows old new all) (GrowsInto old new all)
+
 -- such a sink is one
 pub adds-sink : {S I A : Type 0} (held : S → Option (List A)) (stands : I → List A) → IsSink (Adds held stands) (AddsInto held stands)
 adds-sink held stands = record {
@@ -62,6 +67,10 @@ pub record GrowsUpTo {A : Type 0} (old new : Option (List A)) (all rest : List A
   pub done : List A
   pub parts : all ≡ done ++ rest
   pub grows : Grows old new done
+
+-- what a call did that writes the front of all, and leaves a rest
+abbrev pub WritesUpTo : {A : Type 0} → Bool → Option (List A) → Option (List A) → List A → List A → Type 0
+WritesUpTo result old new all rest = MatchBool result (GrowsUpTo old new all rest) (GrowsInto old new all)
 
 -- what stands for each item under a key of the sink comes to the list, and the key stays
 abbrev pub AddsBy : {S K I A : Type 0} → (S → Option (List A)) → (S → K) → (K → I → List A) → S → List I → S → Type 0

@@ -23,7 +23,7 @@ pub fn cell_bytes(cell: Cell) -> ArrayVec<u8, 16>
     bytes
 }
 
-/// Writes the bytes of cells behind those before `start`, and answers where they end.
+/// Writes the bytes of cells from `start` on, and answers where they end.
 pub(crate) fn write_cells(bytes: &mut [u8], start: usize, cells: &[Cell]) -> usize
     requires { start + 16 * length cells.now ≤ length bytes.old }
     ensures front { take result bytes.new ≡ take start bytes.old ++ flat_map cell_bytes_of cells.now }

@@ -1,10 +1,9 @@
 //! The bytes of messages (mandoc(1), "DIAGNOSTICS").
 
 ghost use Rattle.std.specs.Prelude.{◌≡◌, MatchResult, IfErr};
-ghost use Rattle.std.specs.Bool.{MatchBool};
 ghost use Rattle.page_core_base.specs.Messages.{message_of};
-ghost use Rattle.page_core_writers.specs.Grows.{Grows, GrowsInto};
-ghost use Rattle.page_core_writers.specs.MessageBytes.{message_bytes, parts_bytes};
+ghost use Rattle.page_core_writers.specs.Grows.{Grows, GrowsInto, Writes};
+ghost use Rattle.page_core_writers.specs.MessageBytes.{message_bytes, shown_bytes};
 
 use crate::writing::put_all;
 use itoa::Buffer;
@@ -28,9 +27,7 @@ pub fn write_note<W: Write>(out: &mut W, file: &str, note: &Note) -> Result<(), 
 
 // Writes a message, and says whether that succeeded.
 pub(crate) fn put_note<W: Write>(out: &mut W, file: &str, note: &Note) -> bool
-    ensures { MatchBool result
-        (Grows (W.contents out.old) (W.contents out.new) (message_bytes file.now (message_of note.now)))
-        (GrowsInto (W.contents out.old) (W.contents out.new) (message_bytes file.now (message_of note.now))) }
+    ensures { Writes result (W.contents out.old) (W.contents out.new) (message_bytes file.now (message_of note.now)) }
 {
     let mut line = Buffer::new();
     let mut column = Buffer::new();
@@ -64,9 +61,8 @@ fn put_parts<'a, W: Write>(
     text: &'a [u8],
     detail: &'a [u8],
 ) -> bool
-    ensures { MatchBool result
-        (Grows (W.contents out.old) (W.contents out.new) (parts_bytes place.entry.file.now place.entry.line.now place.entry.column.now level.now text.now detail.now))
-        (GrowsInto (W.contents out.old) (W.contents out.new) (parts_bytes place.entry.file.now place.entry.line.now place.entry.column.now level.now text.now detail.now)) }
+    ensures { Writes result (W.contents out.old) (W.contents out.new)
+        (shown_bytes place.entry level.now text.now detail.now) }
 {
     let program: &'a [u8] = b"mandoc: ";
     let colon: &'a [u8] = b":";

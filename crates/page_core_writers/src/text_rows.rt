@@ -1,10 +1,10 @@
 //! Rows as bytes of a writer (mandoc(1), "ASCII Output").
 
 ghost use Rattle.std.specs.Prelude.{◌≡◌, ◌≤◌, ◌++◌, [], ◌∷◌, MatchOption, length, take, replicate};
-ghost use Rattle.std.specs.Bool.{MatchBool};
 ghost use Rattle.std.specs.Borrow.{GName};
 ghost use Rattle.std.specs.List.{flat_map};
-ghost use Rattle.page_core_writers.specs.Grows.{Grows, GrowsInto, GrowsUpTo, Adds, AddsInto, adds-sink, adds-whole};
+ghost use Rattle.page_core_writers.specs.Grows.{GrowsInto, GrowsUpTo, Writes};
+ghost use Rattle.page_core_writers.specs.Grows.{Adds, AddsInto, adds-sink, adds-whole};
 ghost use Rattle.page_core_writers.specs.RowBytes.{row_bytes, printed, cell_bytes_of};
 
 use crate::cells::{CELL_BYTES, without_blanks_at_end, write_cells};
@@ -50,8 +50,8 @@ fn put_margin<W: Write>(out: &mut W, margin: u32) -> Option<usize>
     Some(left)
 }
 
-// Makes room behind the bytes before a place, by a write where too many wait, and answers the place of the next.
-fn room_behind<W: Write>(out: &mut W, bytes: &[u8], end: usize) -> Option<usize>
+// Makes room after the bytes that wait, by a write where they are too many, and answers where the next one goes.
+fn room_after<W: Write>(out: &mut W, bytes: &[u8], end: usize) -> Option<usize>
     requires { end ≤ length bytes.now }
     ensures { MatchOption result
         (GrowsInto (W.contents out.old) (W.contents out.new) (take end bytes.now))
@@ -70,14 +70,13 @@ fn room_behind<W: Write>(out: &mut W, bytes: &[u8], end: usize) -> Option<usize>
 // Writes the bytes before a place, and then cells and a line feed.
 fn put_cells<W: Write>(out: &mut W, bytes: &mut [u8; BUFFER], start: usize, cells: &[Cell]) -> bool
     requires { start ≤ 256 }
-    ensures { MatchBool result
-        (Grows (W.contents out.old) (W.contents out.new) (take start bytes.old ++ (flat_map cell_bytes_of cells.now ++ 10 ∷ [])))
-        (GrowsInto (W.contents out.old) (W.contents out.new) (take start bytes.old ++ (flat_map cell_bytes_of cells.now ++ 10 ∷ []))) }
+    ensures { Writes result (W.contents out.old) (W.contents out.new)
+        (take start bytes.old ++ (flat_map cell_bytes_of cells.now ++ 10 ∷ [])) }
 {
     let mut rest = cells;
     let mut end = start;
     while !rest.is_empty() {
-        let Some(room) = room_behind(out, bytes, end) else {
+        let Some(room) = room_after(out, bytes, end) else {
             return false;
         };
         let count = rest.len().min((BUFFER - 1 - room) / CELL_BYTES);
@@ -90,9 +89,7 @@ fn put_cells<W: Write>(out: &mut W, bytes: &mut [u8; BUFFER], start: usize, cell
 
 // Writes a margin, cells and a line feed, or the line feed alone where there is no cell.
 fn put_row<W: Write>(out: &mut W, margin: u32, cells: &[Cell]) -> bool
-    ensures { MatchBool result
-        (Grows (W.contents out.old) (W.contents out.new) (printed margin cells.now))
-        (GrowsInto (W.contents out.old) (W.contents out.new) (printed margin cells.now)) }
+    ensures { Writes result (W.contents out.old) (W.contents out.new) (printed margin cells.now) }
 {
     if cells.is_empty() {
         return put(out, b"\n");

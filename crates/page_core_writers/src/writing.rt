@@ -1,9 +1,8 @@
 //! Writing bytes, in few calls.
 
 ghost use Rattle.std.specs.Prelude.{◌≡◌, ◌+◌, ◌≤◌, [], ◌++◌, length, true};
-ghost use Rattle.std.specs.Bool.{MatchBool};
 ghost use Rattle.std.specs.List.{flat_map};
-ghost use Rattle.page_core_writers.specs.Grows.{Grows, GrowsInto, GrowsUpTo};
+ghost use Rattle.page_core_writers.specs.Grows.{Writes, WritesUpTo};
 
 use arrayvec::ArrayVec;
 use std::io::{ErrorKind, Write};
@@ -14,12 +13,12 @@ pub(crate) const BUFFER: usize = 512;
 /// How often an interrupted write is tried again.
 const INTERRUPTIONS: u32 = 1_000_000;
 
-/// Bytes that are still to be written.
-pub(crate) type Unsent = ArrayVec<u8, 512>;
+// Bytes that are still to be written.
+type Unsent = ArrayVec<u8, 512>;
 
 /// Writes all bytes. A write of 0 bytes is a failure; an interrupted one is tried again.
 pub(crate) fn put<W: Write>(out: &mut W, bytes: &[u8]) -> bool
-    ensures { MatchBool result (Grows (W.contents out.old) (W.contents out.new) bytes.now) (GrowsInto (W.contents out.old) (W.contents out.new) bytes.now) }
+    ensures { Writes result (W.contents out.old) (W.contents out.new) bytes.now }
 {
     let mut rest = bytes;
     let mut tries = INTERRUPTIONS;
@@ -33,10 +32,10 @@ pub(crate) fn put<W: Write>(out: &mut W, bytes: &[u8]) -> bool
     true
 }
 
-/// Makes room for a number of bytes, by a write where there is too little.
-pub(crate) fn make_room<W: Write>(out: &mut W, unsent: &mut Unsent, bytes: usize) -> bool
+// Makes room for a number of bytes, by a write where there is too little.
+fn make_room<W: Write>(out: &mut W, unsent: &mut Unsent, bytes: usize) -> bool
     requires { bytes ≤ 512 }
-    ensures sent { MatchBool result (GrowsUpTo (W.contents out.old) (W.contents out.new) unsent.old.items unsent.new.items) (GrowsInto (W.contents out.old) (W.contents out.new) unsent.old.items) }
+    ensures sent { WritesUpTo result (W.contents out.old) (W.contents out.new) unsent.old.items unsent.new.items }
     ensures room { result ≡ true → length unsent.new.items + bytes ≤ 512 }
 {
     if unsent.remaining_capacity() >= bytes {
@@ -45,9 +44,9 @@ pub(crate) fn make_room<W: Write>(out: &mut W, unsent: &mut Unsent, bytes: usize
     send(out, unsent)
 }
 
-/// Collects the bytes of a text, and writes what has no room.
-pub(crate) fn add<W: Write>(out: &mut W, unsent: &mut Unsent, text: &[u8]) -> bool
-    ensures { MatchBool result (GrowsUpTo (W.contents out.old) (W.contents out.new) (unsent.old.items ++ text.now) unsent.new.items) (GrowsInto (W.contents out.old) (W.contents out.new) (unsent.old.items ++ text.now)) }
+// Collects the bytes of a text, and writes what has no room.
+fn add<W: Write>(out: &mut W, unsent: &mut Unsent, text: &[u8]) -> bool
+    ensures { WritesUpTo result (W.contents out.old) (W.contents out.new) (unsent.old.items ++ text.now) unsent.new.items }
 {
     if text.len() > BUFFER {
         return send(out, unsent) && put(out, text);
@@ -60,7 +59,7 @@ pub(crate) fn add<W: Write>(out: &mut W, unsent: &mut Unsent, text: &[u8]) -> bo
 
 // Writes what was collected.
 fn send<W: Write>(out: &mut W, unsent: &mut Unsent) -> bool
-    ensures sent { MatchBool result (Grows (W.contents out.old) (W.contents out.new) unsent.old.items) (GrowsInto (W.contents out.old) (W.contents out.new) unsent.old.items) }
+    ensures sent { Writes result (W.contents out.old) (W.contents out.new) unsent.old.items }
     ensures empty { result ≡ true → unsent.new.items ≡ [] }
 {
     if !put(out, unsent.as_slice()) {
@@ -72,7 +71,7 @@ fn send<W: Write>(out: &mut W, unsent: &mut Unsent) -> bool
 
 /// Writes texts one after another.
 pub(crate) fn put_all<W: Write>(out: &mut W, texts: &[&[u8]]) -> bool
-    ensures { MatchBool result (Grows (W.contents out.old) (W.contents out.new) (flat_map (λ text. text.now) texts.now)) (GrowsInto (W.contents out.old) (W.contents out.new) (flat_map (λ text. text.now) texts.now)) }
+    ensures { Writes result (W.contents out.old) (W.contents out.new) (flat_map (λ text. text.now) texts.now) }
 {
     let mut unsent = Unsent::new();
     for text in texts {

@@ -5,7 +5,7 @@ use Rattle.std.specs.Int.{is_in_range}
 use Rattle.std.proofs.lemmas.Bool.Decides.{nat_tests, eqb_tells, leb_tells}
 use Rattle.std.proofs.str.Valid.{of_two, of_three, of_four}
 use Rattle.std.proofs.str.Laws.{Follows}
-use Rattle.page_core_base.specs.Texts.{is_plain, is_plain_byte}
+use Rattle.page_core_base.specs.Texts.{has_no_control, is_no_control}
 use Rattle.page_roff_lines.specs.Characters.{is_second, is_later, sequence_length}
 
 three_low : (x y z : ℕ) → 224 ≤ x → 128 ≤ y → (x ≡ 224 → 160 ≤ y) → 2048 ≤ (x - 224) * 4096 + (y - 128) * 64 + (z - 128)
@@ -76,21 +76,21 @@ at_lead x y h n e = subst (λ (x : ℕ). is_second x y ≡ true) e h
 -- the bytes are characters of a line, whatever stands before them but the first byte of a control character
 pub record Fine (bytes : List ℕ) : Type 0 where
   pub utf8 : IsUtf8 bytes
-  pub plain : (before : ℕ) (rest : List ℕ) → before ≢ 194 → ((last : ℕ) → last ≢ 194 → is_plain last rest ≡ true) → is_plain before (bytes ++ rest) ≡ true
+  pub plain : (before : ℕ) (rest : List ℕ) → before ≢ 194 → ((last : ℕ) → last ≢ 194 → has_no_control last rest ≡ true) → has_no_control before (bytes ++ rest) ≡ true
 
 pub both_true : (a b : Bool) → a ≡ true → b ≡ true → (a && b) ≡ true
 both_true a b h g = rw (h, g) refl
 
-pub ascii_plain : (before b : ℕ) → before ≢ 194 → 32 ≤ b → b < 127 → is_plain_byte before b ≡ true
+pub ascii_plain : (before b : ℕ) → before ≢ 194 → 32 ≤ b → b < 127 → is_no_control before b ≡ true
 ascii_plain before b h low high = grind (arith, nat_tests)
 
-pub tab_plain : (before : ℕ) → is_plain_byte before 9 ≡ true
+pub tab_plain : (before : ℕ) → is_no_control before 9 ≡ true
 tab_plain before = refl
 
-lead_plain : (before x : ℕ) → 194 ≤ x → is_plain_byte before x ≡ true
+lead_plain : (before x : ℕ) → 194 ≤ x → is_no_control before x ≡ true
 lead_plain before x h = grind (arith, nat_tests)
 
-later_plain : (before y : ℕ) → (160 ≤ y) ⊎ (before ≢ 194) → Follows y → is_plain_byte before y ≡ true
+later_plain : (before y : ℕ) → (160 ≤ y) ⊎ (before ≢ 194) → Follows y → is_no_control before y ≡ true
 later_plain before y (inl h) f = let low = f.0 in let high = f.1 in grind (arith, nat_tests)
 later_plain before y (inr h) f = let low = f.0 in let high = f.1 in grind (arith, nat_tests)
 
@@ -116,7 +116,7 @@ take_four (x ∷ y ∷ z ∷ []) h = absurd (omega arith)
 take_four (x ∷ y ∷ z ∷ w ∷ r) h = refl
 
 pub plain_two : (x y before : ℕ) (rest : List ℕ) → 194 ≤ x → (160 ≤ y) ⊎ (x ≢ 194) → Follows y
-    → ((last : ℕ) → last ≢ 194 → is_plain last rest ≡ true) → is_plain before (x ∷ y ∷ rest) ≡ true
+    → ((last : ℕ) → last ≢ 194 → has_no_control last rest ≡ true) → has_no_control before (x ∷ y ∷ rest) ≡ true
 plain_two x y before rest lead second f go =
     both_true _ _ (lead_plain before x lead) (both_true _ _ (later_plain x y second f) (go y (not_lead y f)))
 

@@ -6,7 +6,7 @@ use Rattle.page_roff_lines.specs.declared.Mode.TheVariants.{Plain, Backslash, Co
 use Rattle.page_roff_lines.specs.declared.Mark.{Mark}
 use Rattle.page_roff_lines.specs.declared.Mark.TheVariants.{Unread, First, Second, Absent, Present}
 use Rattle.page_roff_lines.specs.Bytes.{newline, carriage_return, backslash}
-use Rattle.page_roff_lines.specs.Held.{extended}
+use Rattle.page_roff_lines.specs.Held.{extend}
 use Rattle.page_roff_lines.specs.Open.{Open}
 
 -- the byte ends a run
@@ -31,13 +31,13 @@ pub record IsRun (o : Open) (run : List ℕ) : Type 0 where
 
 -- the line with a run more
 unfoldable pub run_in : Mode → Open → List ℕ → Open
-run_in Plain o run = record o { text = extended o.text run; after_return = slice_index run (length run - 1) == carriage_return; begun = true }
-run_in Comment o run = record o { text = extended o.text run; after_return = slice_index run (length run - 1) == carriage_return; begun = true }
+run_in Plain o run = record o { text = extend o.text run; after_return = slice_index run (length run - 1) == carriage_return; begun = true }
+run_in Comment o run = record o { text = extend o.text run; after_return = slice_index run (length run - 1) == carriage_return; begun = true }
 run_in Backslash o run = o
 run_in Dropped o run = o
 
 abbrev pub with_run : Open → List ℕ → Open
-with_run o run = record (run_in o.mode o run) { taken = o.taken + length run }
+with_run o run = record (run_in o.mode o run) { consumed = o.consumed + length run }
 
 -- a line feed here ends a line that is open, and takes nothing away
 pub record InText (o : Open) : Type 0 where

@@ -16,7 +16,7 @@ pub enum Front {
     Bad(u8),
 }
 
-// The byte at a place, or 0 behind the end.
+// The byte at a place, or 0 after the end.
 fn byte_at(text: &[u8], at: usize) -> u8
     ensures value { result ≡ slice_index text.now at }
     ensures within { 0 < result → at < length text.now }
@@ -75,6 +75,7 @@ pub fn is_printable(byte: u8) -> bool
 
 impl Front {
     /// The character at the front of `text`.
+    #[inline(always)]
     #[tactic(auto, unfolding(crate::specs::Characters::character, crate::specs::Characters::high_character, crate::specs::Characters::later_length, crate::specs::Characters::high_later_length))]
     pub fn of(text: &[u8], encoding: Encoding) -> Front
         requires { 0 < length text.now }

@@ -1,0 +1,106 @@
+-- The tokens of a text, one by one.
+use Rattle.std.proofs.Common.{◌≡◌, ℕ, zero, suc, ◌+◌, ◌-◌, ◌<◌, ◌≤◌, ◌==◌, ◌&&◌, Bool, true, false, List, [], ◌∷◌, length, take, drop, refl, ap, ◌∙◌, arith, inl, inr, length-drop}
+use Rattle.std.specs.Prelude.{slice_index}
+use Rattle.std.specs.List.{prefix_len}
+use Rattle.std.proofs.lemmas.Bool.{cases_Bool}
+use Rattle.std.proofs.lemmas.Bool.Decides.{nat_tests}
+use Rattle.page_core_escapes.specs.Escapes.{escape_of}
+use Rattle.page_core_escapes.specs.Tokens.{begins_escape, begins_word, is_space, is_white, prints_itself, token_at, token_bytes, token_len, tokens_within, tokens_of}
+
+take_some : (n : ℕ) (text : List ℕ) → 0 < n → 0 < length text → 0 < length (take n text)
+take_some zero text h k = absurd (omega arith)
+take_some (suc n) [] h k = absurd (omega arith)
+take_some (suc n) (b ∷ bs) h k = omega arith
+
+pub backslash_first : (text : List ℕ) → begins_escape text ≡ true → slice_index text 0 ≡ 92
+backslash_first [] h = grind (arith, nat_tests, h)
+backslash_first (b ∷ bs) h = grind (arith, nat_tests, h)
+
+prefix_some : (p : ℕ → Bool) (b : ℕ) (bs : List ℕ) → p b ≡ true → 0 < prefix_len p (b ∷ bs)
+prefix_some p b bs t = rw t (omega arith)
+
+pub token_some : (quoted : Bool) (text : List ℕ) → (begins_escape text ≡ true → 0 < (escape_of text).1) → 0 < length text → 0 < length (token_bytes (token_at quoted text))
+unfolding token_at
+token_some quoted [] some h = absurd (omega arith)
+token_some quoted (b ∷ bs) some h =
+    elim (cases_Bool (is_white b)) [
+      | inl t ↦ let some = take_some (prefix_len is_white (b ∷ bs)) (b ∷ bs) (prefix_some is_white b bs t) h in rw t (rw t at some)
+      | inr t ↦
+          elim (cases_Bool (b == 92)) [
+            | inl e ↦ rw (t, e) (take_some (escape_of (b ∷ bs)).1 (b ∷ bs) (some e) h)
+            | inr e ↦
+                elim (cases_Bool (quoted && b == 34)) [
+                  | inl q ↦ rw (t, e, q) (take_some 2 (b ∷ bs) (omega arith) h)
+                  | inr q ↦
+                      let some = take_some (prefix_len (prints_itself quoted) (b ∷ bs)) (b ∷ bs) (prefix_some (prints_itself quoted) b bs (rw (t, e, q) refl)) h in
+                      rw (t, e, q) (rw (t, e, q) at some)
+                ]
+          ]
+    ]
+
+-- more tokens than bytes make no difference
+tokens_enough : (quoted : Bool) (n m : ℕ) (text : List ℕ) → length text ≤ n → length text ≤ m → tokens_within quoted n text ≡ tokens_within quoted m text
+tokens_enough quoted zero zero text p q = refl
+tokens_enough quoted zero (suc m) [] p q = refl
+tokens_enough quoted zero (suc m) (b ∷ bs) p q = absurd (omega arith)
+tokens_enough quoted (suc n) zero [] p q = refl
+tokens_enough quoted (suc n) zero (b ∷ bs) p q = absurd (omega arith)
+tokens_enough quoted (suc n) (suc m) [] p q = refl
+tokens_enough quoted (suc n) (suc m) (b ∷ bs) p q =
+    let rest = drop (token_len quoted (b ∷ bs) - 1) bs in
+    let e = length-drop (token_len quoted (b ∷ bs) - 1) bs in
+    ap (λ l. token_at quoted (b ∷ bs) ∷ l) (tokens_enough quoted n m rest (omega (arith, e)) (omega (arith, e)))
+
+past_first : (n b : ℕ) (bs : List ℕ) → 0 < n → drop (n - 1) bs ≡ drop n (b ∷ bs)
+past_first zero b bs h = absurd (omega arith)
+past_first (suc n) b bs h = let e : suc n - 1 ≡ n = omega arith in ap (λ k. drop k bs) e
+
+no_token : (quoted : Bool) (n : ℕ) → 0 < n → n ≡ token_len quoted [] → ⊥
+unfolding token_at
+no_token false n h e = let z : n ≡ 0 = e in omega arith
+no_token true n h e = let z : n ≡ 0 = e in omega arith
+
+-- the first token, and those of the rest
+pub tokens_more : (quoted : Bool) (text : List ℕ) (n : ℕ) → 0 < n → n ≡ token_len quoted text → tokens_of quoted text ≡ token_at quoted text ∷ tokens_of quoted (drop n text)
+unfolding tokens_of
+tokens_more quoted [] n h e = absurd (no_token quoted n h e)
+tokens_more quoted (b ∷ bs) n h e =
+    let cut : drop (token_len quoted (b ∷ bs) - 1) bs ≡ drop n (b ∷ bs) = rw (← e) (past_first n b bs h) in
+    let l = length-drop (token_len quoted (b ∷ bs) - 1) bs in
+    ap (λ l. token_at quoted (b ∷ bs) ∷ l)
+    (tokens_enough quoted (length bs) (length (drop (token_len quoted (b ∷ bs) - 1) bs)) (drop (token_len quoted (b ∷ bs) - 1) bs) (omega (arith, l)) (omega arith)
+    ∙ ap (tokens_of quoted) cut)
+
+pub tokens_none : (quoted : Bool) (text : List ℕ) → length text ≤ 0 → tokens_of quoted text ≡ []
+unfolding tokens_of
+tokens_none quoted [] h = refl
+tokens_none quoted (b ∷ bs) h = absurd (omega arith)
+
+pub word_some : (text : List ℕ) → begins_word text ≡ true → 0 < length text
+word_some [] h = grind (arith, h)
+word_some (b ∷ bs) h = omega arith
+
+pub word_token : (quoted : Bool) (b : ℕ) (bs : List ℕ) → is_white b ≡ false → is_space (token_at quoted (b ∷ bs)) ≡ false
+unfolding token_at
+word_token quoted b bs t =
+    elim (cases_Bool (b == 92)) [
+      | inl e ↦ rw (t, e) refl
+      | inr e ↦ elim (cases_Bool (quoted && b == 34)) [ inl q ↦ rw (t, e, q) refl | inr q ↦ rw (t, e, q) refl ]
+    ]
+
+pub space_token : (quoted : Bool) (b : ℕ) (bs : List ℕ) → is_white b ≡ true → is_space (token_at quoted (b ∷ bs)) ≡ true
+unfolding token_at
+space_token quoted b bs t = rw t refl
+
+pub not_white : (b : ℕ) (bs : List ℕ) → begins_word (b ∷ bs) ≡ true → is_white b ≡ false
+not_white b bs h = elim (cases_Bool (is_white b)) [ inl t ↦ absurd (never (rw t at h)) | inr t ↦ t ]
+  where
+    never : false ≡ true → ⊥
+    never e = grind (arith, e)
+
+pub white_first : (b : ℕ) (bs : List ℕ) → begins_word (b ∷ bs) ≡ false → is_white b ≡ true
+white_first b bs h = elim (cases_Bool (is_white b)) [ inl t ↦ t | inr t ↦ absurd (never (rw t at h)) ]
+  where
+    never : true ≡ false → ⊥
+    never e = grind (arith, e)
+

@@ -1,0 +1,84 @@
+-- The tokens of a text: white space, runs of characters that print themselves, quotes in a quoted argument, and escapes.
+-- Source: roff(7), "LANGUAGE SYNTAX", "Macro syntax" and "ESCAPE SEQUENCES".
+use Rattle.std.specs.Prelude.{ℕ, zero, suc, ◌-◌, Bool, true, false, not, ◌==◌, ◌||◌, ◌&&◌, List, [], ◌∷◌, length, take, drop, if◌then◌else◌}
+use Rattle.std.specs.List.{prefix_len}
+use Rattle.page_core_escapes.specs.Escapes.{escape_of, meaning_seen}
+use Rattle.page_core_escapes.specs.Meanings.{Meaning}
+use Rattle.page_core_escapes.specs.declared.tokens.Token.{Token}
+use Rattle.page_core_escapes.specs.declared.tokens.Token.TheVariants as tokens
+
+pub data TextToken : Type 0 where
+  -- blanks and tabs
+  white : List ℕ → TextToken
+  -- characters that print themselves
+  plain : List ℕ → TextToken
+  -- two quotes in a quoted argument, which print one
+  quotes : List ℕ → TextToken
+  -- an escape as it is written, and what it means
+  escaped : List ℕ → Meaning → TextToken
+
+-- a token of the code, with lists in place of lent slices
+abbrev pub token_seen : Token → TextToken
+token_seen (tokens.White bytes) = white bytes.now
+token_seen (tokens.Plain bytes) = plain bytes.now
+token_seen (tokens.Quotes bytes) = quotes bytes.now
+token_seen (tokens.Escaped bytes meaning) = escaped bytes.now (meaning_seen meaning)
+
+-- a token as it is written
+abbrev pub token_bytes : TextToken → List ℕ
+token_bytes (white bytes) = bytes
+token_bytes (plain bytes) = bytes
+token_bytes (quotes bytes) = bytes
+token_bytes (escaped bytes meaning) = bytes
+
+abbrev pub is_space : TextToken → Bool
+is_space (white bytes) = true
+is_space (plain bytes) = false
+is_space (quotes bytes) = false
+is_space (escaped bytes meaning) = false
+
+-- a blank or a tab
+abbrev pub is_white : ℕ → Bool
+is_white byte = byte == 32 || byte == 9
+
+-- neither white space nor a backslash, and in a quoted argument no quote
+abbrev pub prints_itself : Bool → ℕ → Bool
+prints_itself quoted byte = not (is_white byte || (byte == 92 || (quoted && byte == 34)))
+
+abbrev pub begins_white : List ℕ → Bool
+begins_white [] = false
+begins_white (byte ∷ bytes) = is_white byte
+
+abbrev pub begins_word : List ℕ → Bool
+begins_word [] = false
+begins_word (byte ∷ bytes) = not (is_white byte)
+
+abbrev pub begins_escape : List ℕ → Bool
+begins_escape [] = false
+begins_escape (byte ∷ bytes) = byte == 92
+
+abbrev pub begins_quote : List ℕ → Bool
+begins_quote [] = false
+begins_quote (byte ∷ bytes) = byte == 34
+
+-- the token at a text's front
+unfoldable pub token_at : Bool → List ℕ → TextToken
+token_at quoted text =
+    if begins_white text then white (take (prefix_len is_white text) text)
+    else if begins_escape text then escaped (take (escape_of text).1 text) (escape_of text).0
+    else if quoted && begins_quote text then quotes (take 2 text)
+    else plain (take (prefix_len (prints_itself quoted) text) text)
+
+abbrev pub token_len : Bool → List ℕ → ℕ
+token_len quoted text = length (token_bytes (token_at quoted text))
+
+-- at most n tokens of a text; each has a byte
+abbrev pub tokens_within : Bool → ℕ → List ℕ → List TextToken
+tokens_within quoted zero text = []
+tokens_within quoted (suc n) [] = []
+tokens_within quoted (suc n) (byte ∷ bytes) =
+    token_at quoted (byte ∷ bytes) ∷ tokens_within quoted n (drop (token_len quoted (byte ∷ bytes) - 1) bytes)
+
+-- all tokens: a text has no more of them than bytes
+unfoldable pub tokens_of : Bool → List ℕ → List TextToken
+tokens_of quoted text = tokens_within quoted (length text) text
