@@ -7,8 +7,8 @@ use Rattle.page_core_base.specs.Sinks.{IsSink}
 use Rattle.page_core_base.specs.Laid.{Laid, Gave, nothing, join, join_assoc}
 use Rattle.page_core_base.proofs.SinkLemmas.{within-join}
 use Rattle.page_roff_lines.specs.Decoding.{Line}
-use Rattle.page_roff_lines.specs.Cutting.{Place, place_of, lines_within, last_line, lines_from}
-use Rattle.page_roff_lines.proofs.PlaceLemmas.{place_of-append, lines_within-append}
+use Rattle.page_roff_lines.specs.Cutting.{Point, point_after, lines_within, last_line, lines_from}
+use Rattle.page_roff_lines.proofs.PointLemmas.{point_after-append, lines_within-append}
 use Rattle.page_engine.specs.Page.{Edge, laid, page, ended}
 use Rattle.page_engine.specs.Runs.{page_from, settled_from}
 use Rattle.page_engine.specs.Sources.{SourceState, HasGiven, counted}
@@ -49,21 +49,21 @@ given_end {s} {t} {u} a b xs g h = rw append-nil at (given_more a b xs [] g h)
 
 -- ---- what is settled of more bytes
 
-pub settled_more : (e : Edge) (p q : Place) (xs ys : List ℕ) → q ≡ place_of p xs
+pub settled_more : (e : Edge) (p q : Point) (xs ys : List ℕ) → q ≡ point_after p xs
     → settled_from e p (xs ++ ys) ≡ join (settled_from e p xs) (settled_from (settled_from e p xs).edge q ys)
-settled_more e p q xs ys h = rw h (ap (laid e) (lines_within-append p xs ys) ∙ laid-append e (lines_within p xs) (lines_within (place_of p xs) ys))
+settled_more e p q xs ys h = rw h (ap (laid e) (lines_within-append p xs ys) ∙ laid-append e (lines_within p xs) (lines_within (point_after p xs) ys))
 
-pub page_last : (e : Edge) (p q : Place) (xs : List ℕ) → q ≡ place_of p xs
+pub page_last : (e : Edge) (p q : Point) (xs : List ℕ) → q ≡ point_after p xs
     → page_from e p xs ≡ join (settled_from e p xs) (page (settled_from e p xs).edge (last_line q))
 page_last e p q xs h =
-    rw h (ap (λ (l : Laid Edge). join l (ended l.edge)) (laid-append e (lines_within p xs) (last_line (place_of p xs)))
-    ∙ join_assoc (laid e (lines_within p xs)) (laid (laid e (lines_within p xs)).edge (last_line (place_of p xs))) _)
+    rw h (ap (λ (l : Laid Edge). join l (ended l.edge)) (laid-append e (lines_within p xs) (last_line (point_after p xs)))
+    ∙ join_assoc (laid e (lines_within p xs)) (laid (laid e (lines_within p xs)).edge (last_line (point_after p xs))) _)
 
 -- a page of bytes begins with what its whole lines settle
 pub page_front : {R N : Type 0} {rg rw_ : R → List LaidRow → R → Type 0} {ng nw : N → List Message → N → Type 0} → IsSink rg rw_ → IsSink ng nw
-    → (r r' : R) (n n' : N) (e : Edge) (p : Place) (xs : List ℕ) → Gave rw_ nw r r' n n' (settled_from e p xs) → Gave rw_ nw r r' n n' (page_from e p xs)
+    → (r r' : R) (n n' : N) (e : Edge) (p : Point) (xs : List ℕ) → Gave rw_ nw r r' n n' (settled_from e p xs) → Gave rw_ nw r r' n n' (page_from e p xs)
 page_front k l r r' n n' e p xs g =
-    rw (page_last e p (place_of p xs) xs refl) (within-join k l r r' n n' (settled_from e p xs) (page (settled_from e p xs).edge (last_line (place_of p xs))) g)
+    rw (page_last e p (point_after p xs) xs refl) (within-join k l r r' n n' (settled_from e p xs) (page (settled_from e p xs).edge (last_line (point_after p xs))) g)
 
 -- ---- two things, one after the other
 
@@ -79,8 +79,8 @@ both_within k l {r} {a} {n} {b} a' b' x y g h =
 
 -- ---- counts of lines
 
-pub lines_more : (p q : Place) (xs ys : List ℕ) → q ≡ place_of p xs → length (lines_within p (xs ++ ys)) ≡ length (lines_within p xs) + length (lines_within q ys)
-lines_more p q xs ys h = rw h (ap length (lines_within-append p xs ys) ∙ length-append (lines_within p xs) (lines_within (place_of p xs) ys))
+pub lines_more : (p q : Point) (xs ys : List ℕ) → q ≡ point_after p xs → length (lines_within p (xs ++ ys)) ≡ length (lines_within p xs) + length (lines_within q ys)
+lines_more p q xs ys h = rw h (ap length (lines_within-append p xs ys) ∙ length-append (lines_within p xs) (lines_within (point_after p xs) ys))
 
-pub lines_last : (p q : Place) (xs : List ℕ) → q ≡ place_of p xs → length (lines_from p xs) ≡ length (lines_within p xs) + length (last_line q)
-lines_last p q xs h = rw h (length-append (lines_within p xs) (last_line (place_of p xs)))
+pub lines_last : (p q : Point) (xs : List ℕ) → q ≡ point_after p xs → length (lines_from p xs) ≡ length (lines_within p xs) + length (last_line q)
+lines_last p q xs h = rw h (length-append (lines_within p xs) (last_line (point_after p xs)))

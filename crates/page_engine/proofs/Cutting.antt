@@ -6,9 +6,9 @@ use Rattle.page_core_base.specs.Rows.{LaidRow}
 use Rattle.page_core_base.specs.Sinks.{IsSink}
 use Rattle.page_core_base.specs.Laid.{Laid, Gave, nothing, join, join_assoc}
 use Rattle.page_roff_lines.specs.Decoding.{Line}
-use Rattle.page_roff_lines.specs.Cutting.{Place, place_of, lines_within, line_of, line_at, place_after, place_at}
-use Rattle.page_roff_lines.specs.Open.{open_after, left}
-use Rattle.page_roff_lines.proofs.OpenLaws.{left-taken}
+use Rattle.page_roff_lines.specs.Cutting.{Point, point_after, lines_within, line_of, line_at, next_point, point_at}
+use Rattle.page_roff_lines.specs.Open.{next_open, open_after}
+use Rattle.page_roff_lines.proofs.OpenLaws.{open_after-consumed}
 use Rattle.page_engine.specs.Page.{Edge, IsAt, laid, laid_line}
 use Rattle.page_engine.specs.declared.pages.Page.{Page}
 
@@ -57,23 +57,23 @@ pub at_most : (b : Bool) (line : Line) → length (if b then line ∷ [] else []
 at_most true line = omega arith
 at_most false line = omega arith
 
-line_at_most : (p : Place) → length (line_at p) ≤ 1
+line_at_most : (p : Point) → length (line_at p) ≤ 1
 unfolding line_at
 line_at_most p = at_most p.line.whole (line_of p)
 
-pub count_most : (p : Place) (bytes : List ℕ) → length (lines_within p bytes) ≤ length bytes
+pub count_most : (p : Point) (bytes : List ℕ) → length (lines_within p bytes) ≤ length bytes
 unfolding lines_within
 count_most p [] = omega arith
 count_most p (b ∷ bs) =
-    let a = line_at_most (place_after p b) in
-    let m = count_most (place_after p b) bs in
-    omega (arith, length-append (line_at (place_after p b)) (lines_within (place_after p b) bs), a, m)
+    let a = line_at_most (next_point p b) in
+    let m = count_most (next_point p b) bs in
+    omega (arith, length-append (line_at (next_point p b)) (lines_within (next_point p b) bs), a, m)
 
 -- each byte counts
-pub taken_more : (p : Place) (bytes : List ℕ) → (place_of p bytes).line.taken ≡ p.line.taken + length bytes
-unfolding place_of place_after place_at left
-taken_more p [] = omega arith
-taken_more p (b ∷ bs) = omega (arith, taken_more (place_after p b) bs, left-taken p.line (b ∷ []))
+pub consumed_more : (p : Point) (bytes : List ℕ) → (point_after p bytes).line.consumed ≡ p.line.consumed + length bytes
+unfolding point_after next_point point_at open_after
+consumed_more p [] = omega arith
+consumed_more p (b ∷ bs) = omega (arith, consumed_more (next_point p b) bs, open_after-consumed p.line (b ∷ []))
 
 -- ---- the lines of a part of a chunk
 
@@ -87,7 +87,7 @@ pub most_one : (lines : List Line) (b : Bool) (line : Line) → lines ≡ (if b 
 most_one lines b line h = rw h (at_most b line)
 
 -- a whole line has a byte
-pub some_taken : (p : Place) (n : ℕ) (chunk : List ℕ) (b : Bool) (line : Line) → lines_within p (take n chunk) ≡ (if b then line ∷ [] else []) → b ≡ true → 0 < n
+pub some_taken : (p : Point) (n : ℕ) (chunk : List ℕ) (b : Bool) (line : Line) → lines_within p (take n chunk) ≡ (if b then line ∷ [] else []) → b ≡ true → 0 < n
 unfolding lines_within
 some_taken p zero chunk b line h t = let z : [] ≡ line ∷ [] = rw t at h in let no : ⊥ = cc in absurd no
 some_taken p (suc n) chunk b line h t = omega arith

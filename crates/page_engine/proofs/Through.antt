@@ -6,8 +6,8 @@ use Rattle.page_core_base.specs.Fails.{IsSinkFault}
 use Rattle.page_core_base.specs.Laid.{Laid, Gave, nothing, join}
 use Rattle.page_core_base.specs.declared.faults.Fault.{Fault}
 use Rattle.page_core_base.proofs.SinkLemmas.{within-join}
-use Rattle.page_roff_lines.specs.Cutting.{Place, place_of, lines_within, last_line}
-use Rattle.page_roff_lines.proofs.PlaceLemmas.{place_of-append}
+use Rattle.page_roff_lines.specs.Cutting.{Point, point_after, lines_within, last_line}
+use Rattle.page_roff_lines.proofs.PointLemmas.{point_after-append}
 use Rattle.page_engine.specs.declared.pages.Page.{Page}
 use Rattle.page_engine.specs.declared.runs.Run.{Run}
 use Rattle.page_engine.specs.Below.{cause_later}
@@ -15,35 +15,35 @@ use Rattle.page_engine.specs.Page.{Edge, IsAt, laid, page}
 use Rattle.page_engine.specs.Streams.{Streams, Sinks, AllCame, FrontCame}
 use Rattle.page_engine.specs.Runs.{page_from, settled_from, Broken, BrokeIn}
 use Rattle.page_engine.specs.Steps.{Came, Front, CanTake, IsFresh, Moved, Settled, Through, PartBroke, ChunkBroke}
-use Rattle.page_engine.proofs.Cutting.{laid_none, count_most, taken_more}
+use Rattle.page_engine.proofs.Cutting.{laid_none, count_most, consumed_more}
 use Rattle.page_engine.proofs.BytesRead.{settled_more, page_last, page_front, both_gave, both_within, lines_more}
 
 -- ---- no byte
 
-pub settled_none : (e : Edge) (p : Place) → settled_from e p [] ≡ nothing e
+pub settled_none : (e : Edge) (p : Point) → settled_from e p [] ≡ nothing e
 unfolding lines_within
 settled_none e p = laid_none e
 
 pub settles_none : {R N : Type 0} (k : Sinks R N) → IsSink k.to.row_gave k.to.row_within → IsSink k.to.note_gave k.to.note_within
-    → {here : Page} (r : R) (n : N) (e : Edge) (p : Place) → IsAt here e → Settled k here r r n n e p []
+    → {here : Page} (r : R) (n : N) (e : Edge) (p : Point) → IsAt here e → Settled k here r r n n e p []
 settles_none k rows notes r n e p h = record {
   came = record { gave = rw settled_none record { rows = rows.none r; notes = notes.none n }; rows_quiet = refl; notes_quiet = refl };
   at = rw settled_none h;
 }
 
 pub moved_none : (run : Run) → run.cutter.ready ≡ false → Moved run run []
-unfolding lines_within place_of
-moved_none run free = record { place = refl; free = free; source_lines = omega arith }
+unfolding lines_within point_after
+moved_none run free = record { point = refl; free = free; source_lines = omega arith }
 
 pub through_none : {R N : Type 0} (k : Sinks R N) → IsSink k.to.row_gave k.to.row_within → IsSink k.to.note_gave k.to.note_within
     → (run : Run) (r : R) (n : N) → run.cutter.ready ≡ false → Through k run run r r n n []
 through_none k rows notes run r n free =
-    record { settled = λ e h. settles_none k rows notes r n e run.cutter.place h; moved = moved_none run free }
+    record { settled = λ e h. settles_none k rows notes r n e run.cutter.point h; moved = moved_none run free }
 
 -- ---- more bytes
 
 pub settles_more : {R N : Type 0} (k : Sinks R N) → IsSink k.to.row_gave k.to.row_within → IsSink k.to.note_gave k.to.note_within
-    → {here next : Page} {r a a' : R} {n b b' : N} (e : Edge) (p q : Place) (xs ys : List ℕ) → q ≡ place_of p xs
+    → {here next : Page} {r a a' : R} {n b b' : N} (e : Edge) (p q : Point) (xs ys : List ℕ) → q ≡ point_after p xs
     → Settled k here r a n b e p xs → Settled k next a a' b b' (settled_from e p xs).edge q ys → Settled k next r a' n b' e p (xs ++ ys)
 settles_more k rows notes {a' = a'} {b' = b'} e p q xs ys h s t =
     let x = settled_from e p xs in
@@ -59,9 +59,9 @@ settles_more k rows notes {a' = a'} {b' = b'} e p q xs ys h s t =
 
 pub moved_more : {run mid run' : Run} (xs ys : List ℕ) → Moved run mid xs → Moved mid run' ys → Moved run run' (xs ++ ys)
 moved_more {run} {mid} {run'} xs ys s t = record {
-  place = t.place ∙ (ap (λ p. place_of p ys) s.place ∙ sym (place_of-append run.cutter.place xs ys));
+  point = t.point ∙ (ap (λ p. point_after p ys) s.point ∙ sym (point_after-append run.cutter.point xs ys));
   free = t.free;
-  source_lines = omega (arith, s.source_lines, t.source_lines, lines_more run.cutter.place mid.cutter.place xs ys s.place);
+  source_lines = omega (arith, s.source_lines, t.source_lines, lines_more run.cutter.point mid.cutter.point xs ys s.point);
 }
 
 pub through_more : {R N : Type 0} (k : Sinks R N) → IsSink k.to.row_gave k.to.row_within → IsSink k.to.note_gave k.to.note_within
@@ -69,7 +69,7 @@ pub through_more : {R N : Type 0} (k : Sinks R N) → IsSink k.to.row_gave k.to.
     → Through k run mid r a n b xs → Through k mid run' a a' b b' ys → Through k run run' r a' n b' (xs ++ ys)
 through_more k rows notes {run} {mid} {run'} xs ys s t = record {
   settled = λ e h. let f = s.settled e h in
-      settles_more k rows notes e run.cutter.place mid.cutter.place xs ys s.moved.place f (t.settled (settled_from e run.cutter.place xs).edge f.at);
+      settles_more k rows notes e run.cutter.point mid.cutter.point xs ys s.moved.point f (t.settled (settled_from e run.cutter.point xs).edge f.at);
   moved = moved_more xs ys s.moved t.moved;
 }
 
@@ -78,8 +78,8 @@ through_more k rows notes {run} {mid} {run'} xs ys s t = record {
 pub room_after : {run mid : Run} (xs : List ℕ) (count more : ℕ) → Moved run mid xs → CanTake run count → length xs + more ≤ count → CanTake mid more
 room_after {run} {mid} xs count more m c h = record {
   free = m.free;
-  room = omega (arith, c.room, h, ap (λ p. p.line.taken) m.place, taken_more run.cutter.place xs);
-  source_lines = omega (arith, c.source_lines, h, m.source_lines, count_most run.cutter.place xs);
+  room = omega (arith, c.room, h, ap (λ p. p.line.consumed) m.point, consumed_more run.cutter.point xs);
+  source_lines = omega (arith, c.source_lines, h, m.source_lines, count_most run.cutter.point xs);
 }
 
 -- ---- a sink failed
@@ -92,23 +92,32 @@ cut_parts xs bs as_ zs n =
 
 cut_length : (ys bs as_ zs : List ℕ) (n most : ℕ) → ys ≡ bs ++ as_ → length (ys ++ zs) ≤ most → length (take n as_ ++ (drop n as_ ++ zs)) ≤ most
 cut_length ys bs as_ zs n most h m =
-    omega (arith, m, ap length h, length-append ys zs, length-append bs as_, length-append (take n as_) (drop n as_ ++ zs),
-    length-append (drop n as_) zs, length-append (take n as_) (drop n as_), ap length (take-append-drop n as_))
+    omega (
+      arith,
+      m,
+      ap length h,
+      length-append ys zs,
+      length-append bs as_,
+      length-append (take n as_) (drop n as_ ++ zs),
+      length-append (drop n as_) zs,
+      length-append (take n as_) (drop n as_),
+      ap length (take-append-drop n as_),
+    )
 
 -- in a chunk after bytes that were taken, where these are left aside
 pub broken_chunk : {R N : Type 0} (k : Sinks R N) → IsSink k.to.row_gave k.to.row_within → IsSink k.to.note_gave k.to.note_within
     → {run mid : Run} {r a a' : R} {n b b' : N} (xs ys zs : List ℕ) (fault : Fault) → Through k run mid r a n b xs
-    → ((e : Edge) → IsAt mid.page e → ChunkBroke k a a' b b' e mid.cutter.place ys fault) → length (ys ++ zs) ≤ 2 ^ 14
-    → (e : Edge) → IsAt run.page e → Broken k r a' n b' e run.cutter.place (xs ++ (ys ++ zs)) fault
+    → ((e : Edge) → IsAt mid.page e → ChunkBroke k a a' b b' e mid.cutter.point ys fault) → length (ys ++ zs) ≤ 2 ^ 14
+    → (e : Edge) → IsAt run.page e → Broken k r a' n b' e run.cutter.point (xs ++ (ys ++ zs)) fault
 broken_chunk k rows notes {run} {mid} {r} {a} {a'} {n} {b} {b'} xs ys zs fault s t m e h =
-    let p = run.cutter.place in
-    let q = mid.cutter.place in
+    let p = run.cutter.point in
+    let q = mid.cutter.point in
     let f = s.settled e h in
     let x = settled_from e p xs in
     let c = t x.edge f.at in
     let y = settled_from x.edge q c.before in
-    let w = settled_more e p q xs c.before s.moved.place in
-    let z = place_of-append p xs c.before ∙ ap (λ v. place_of v c.before) (sym s.moved.place) in record {
+    let w = settled_more e p q xs c.before s.moved.point in
+    let z = point_after-append p xs c.before ∙ ap (λ v. point_after v c.before) (sym s.moved.point) in record {
       before = xs ++ c.before;
       own = take c.broke.count c.after;
       left = drop c.broke.count c.after ++ zs;
@@ -123,11 +132,11 @@ broken_chunk k rows notes {run} {mid} {r} {a} {a'} {n} {b} {b'} xs ys zs fault s
 
 -- at the end, after all bytes were taken
 pub broken_end : {R N : Type 0} (k : Sinks R N) {run mid : Run} {r a a' : R} {n b b' : N} (xs : List ℕ) (fault : Fault) → Through k run mid r a n b xs
-    → ((e : Edge) → IsAt mid.page e → Front k a a' b b' (page e (last_line mid.cutter.place)) fault)
-    → (e : Edge) → IsAt run.page e → Broken k r a' n b' e run.cutter.place xs fault
+    → ((e : Edge) → IsAt mid.page e → Front k a a' b b' (page e (last_line mid.cutter.point)) fault)
+    → (e : Edge) → IsAt run.page e → Broken k r a' n b' e run.cutter.point xs fault
 broken_end k {run} {mid} {r} {a} {a'} {n} {b} {b'} xs fault s t e h =
     let f = s.settled e h in
-    let c = t (settled_from e run.cutter.place xs).edge f.at in record {
+    let c = t (settled_from e run.cutter.point xs).edge f.at in record {
       before = xs;
       own = [];
       left = [];
@@ -136,32 +145,32 @@ broken_end k {run} {mid} {r} {a} {a'} {n} {b} {b'} xs fault s t e h =
       rows = a;
       notes = b;
       whole = f.came.gave;
-      front = rw (← s.moved.place) (inr (refl, refl, c.gave));
+      front = rw (← s.moved.point) (inr (refl, refl, c.gave));
       cause = cause_later fault _ _ _ _ _ _ f.came.rows_quiet f.came.notes_quiet c.cause;
     }
 
 -- what came is a front of the page that the bytes make
 front_of : {R N : Type 0} (j : Streams R N) → IsSink j.row_gave j.row_within → IsSink j.note_gave j.note_within
-    → {r a r' : R} {n b n' : N} (e : Edge) (p : Place) (before own left bytes : List ℕ) → bytes ≡ before ++ (own ++ left)
-    → AllCame j r a n b (settled_from e p before) → BrokeIn j a r' b n' (settled_from e p before).edge (place_of p before) own left
+    → {r a r' : R} {n b n' : N} (e : Edge) (p : Point) (before own left bytes : List ℕ) → bytes ≡ before ++ (own ++ left)
+    → AllCame j r a n b (settled_from e p before) → BrokeIn j a r' b n' (settled_from e p before).edge (point_after p before) own left
     → FrontCame j r r' n n' (page_from e p bytes)
 front_of j rows notes {r} {a} {r'} {n} {b} {n'} e p before own left bytes h g (inl f) =
-    let q = place_of p before in
+    let q = point_after p before in
     let x = settled_from e p before in
     let y = settled_from x.edge q own in
     let u = settled_from e p (before ++ own) in
     let c : FrontCame j r r' n n' u = rw (settled_more e p q before own refl) (both_within rows notes r' n' x y g f.1) in
-    let v = settled_from u.edge (place_of p (before ++ own)) left in
+    let v = settled_from u.edge (point_after p (before ++ own)) left in
     let d : FrontCame j r r' n n' (settled_from e p ((before ++ own) ++ left)) =
-    rw (settled_more e p (place_of p (before ++ own)) (before ++ own) left refl) (within-join rows notes r r' n n' u v c) in
+    rw (settled_more e p (point_after p (before ++ own)) (before ++ own) left refl) (within-join rows notes r r' n n' u v c) in
     rw (h, ← append_assoc before own left) (page_front rows notes r r' n n' e p ((before ++ own) ++ left) d)
 front_of j rows notes {r} {a} {r'} {n} {b} {n'} e p before own left bytes h g (inr f) =
     let x = settled_from e p before in
     let i : bytes ≡ before = rw (f.0, f.1, append-nil) at h in
-    rw (i, page_last e p (place_of p before) before refl) (both_within rows notes r' n' x (page x.edge (last_line (place_of p before))) g f.2)
+    rw (i, page_last e p (point_after p before) before refl) (both_within rows notes r' n' x (page x.edge (last_line (point_after p before))) g f.2)
 
 pub broken_front : {R N : Type 0} (k : Sinks R N) → IsSink k.to.row_gave k.to.row_within → IsSink k.to.note_gave k.to.note_within
-    → {r r' : R} {n n' : N} (e : Edge) (p : Place) (bytes : List ℕ) (fault : Fault) → Broken k r r' n n' e p bytes fault
+    → {r r' : R} {n n' : N} (e : Edge) (p : Point) (bytes : List ℕ) (fault : Fault) → Broken k r r' n n' e p bytes fault
     → FrontCame k.to r r' n n' (page_from e p bytes)
 broken_front k rows notes e p bytes fault c = front_of k.to rows notes e p c.before c.own c.left bytes c.parts c.whole c.front
 

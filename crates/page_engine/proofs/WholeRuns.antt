@@ -14,7 +14,7 @@ use Rattle.page_core_base.specs.declared.page_settings.Settings.{Settings as Pag
 use Rattle.page_core_base.specs.declared.page_settings.SettingFault.{SettingFault}
 use Rattle.page_core_base.specs.declared.note_kinds.Level.{Level}
 use Rattle.page_roff_lines.specs.Decoding.{lines}
-use Rattle.page_roff_lines.specs.Cutting.{Place, first_place, lines_from, lines_within, last_line}
+use Rattle.page_roff_lines.specs.Cutting.{Point, first_point, lines_from, lines_within, last_line}
 use Rattle.page_roff_lines.proofs.LineAgreement.{lines-one_by_one}
 use Rattle.page_engine.specs.declared.runs.Outcome.{Outcome}
 use Rattle.page_engine.specs.declared.runs.Run.{Run}
@@ -28,7 +28,7 @@ use Rattle.page_engine.proofs.BytesRead.{given_none, given_end, both_gave, both_
 use Rattle.page_engine.proofs.Through.{broken_front, broken_end}
 
 -- from the start of a page
-pub page_start : (s : PageSettings) (bytes : List ℕ) → page_from (start s) (first_place s.encoding) bytes ≡ whole_page s bytes
+pub page_start : (s : PageSettings) (bytes : List ℕ) → page_from (start s) (first_point s.encoding) bytes ≡ whole_page s bytes
 page_start s bytes = ap (page (start s)) (sym (lines-one_by_one s.encoding bytes))
 
 -- ---- the end of the bytes
@@ -42,18 +42,18 @@ pub finished : {R N : Type 0} (k : Sinks R N) → IsSink k.to.row_gave k.to.row_
     → run'.lines ≡ mid.lines → Finishes res k run run' r r' n n'
 finished k rows notes run mid run' r a r' n b n' (Ok o) t gets worst faults same = record {
   came = λ e h.
-      let l = laid e (last_line run.cutter.place) in
+      let l = laid e (last_line run.cutter.point) in
       let c = t.came e h in
       let f = faults l.edge (t.at e h) in record {
         gave = both_gave rows notes r' n' l (ended l.edge) c.gave (gets l.edge (t.at e h));
         rows_quiet = f.0 ∙ c.rows_quiet;
         notes_quiet = f.1 ∙ c.notes_quiet;
       };
-  worst = λ e h. worst (laid e (last_line run.cutter.place)).edge (t.at e h);
+  worst = λ e h. worst (laid e (last_line run.cutter.point)).edge (t.at e h);
   source_lines = same ∙ t.source_lines;
 }
 finished k rows notes run mid run' r a r' n b n' (Err fault) t gets worst faults same = λ e h.
-    let l = laid e (last_line run.cutter.place) in
+    let l = laid e (last_line run.cutter.point) in
     let c = t.came e h in record {
       gave = both_within rows notes r' n' l (ended l.edge) c.gave (gets l.edge (t.at e h));
       cause = cause_later fault _ _ _ _ _ _ c.rows_quiet c.notes_quiet (faults l.edge (t.at e h));
@@ -62,13 +62,13 @@ finished k rows notes run mid run' r a r' n b n' (Err fault) t gets worst faults
 pub ended_well : {R N : Type 0} (k : Sinks R N) → IsSink k.to.row_gave k.to.row_within → IsSink k.to.note_gave k.to.note_within
     → {run mid run' : Run} {r a r' : R} {n b n' : N} (s t : SourceState) (xs : List ℕ) → run.lines ≡ 0
     → Through k run mid r a n b xs → Finished k mid run' a r' b n' → IsAtEnd t.remaining → t.failed ≡ s.failed
-    → (e : Edge) → IsAt run.page e → EndedWell k run' s t r r' n n' e run.cutter.place xs
+    → (e : Edge) → IsAt run.page e → EndedWell k run' s t r r' n n' e run.cutter.point xs
 ended_well k rows notes {run} {mid} {run'} {r} {a} {r'} {n} {b} {n'} s t xs z g f i q e h =
-    let p = run.cutter.place in
-    let v = mid.cutter.place in
+    let p = run.cutter.point in
+    let v = mid.cutter.point in
     let x = settled_from e p xs in
     let y = page x.edge (last_line v) in
-    let w = page_last e p v xs g.moved.place in
+    let w = page_last e p v xs g.moved.point in
     let d = g.settled e h in
     let c = f.came x.edge d.at in record {
       came = record {
@@ -77,13 +77,13 @@ ended_well k rows notes {run} {mid} {run'} {r} {a} {r'} {n} {b} {n'} s t xs z g 
         notes_quiet = c.notes_quiet ∙ d.came.notes_quiet;
       };
       worst = f.worst x.edge d.at ∙ sym (ap (λ (l : Laid Edge). l.edge.worst) w);
-      source_lines = omega (arith, f.source_lines, g.moved.source_lines, z, lines_last p v xs g.moved.place);
+      source_lines = omega (arith, f.source_lines, g.moved.source_lines, z, lines_last p v xs g.moved.point);
       all = i;
       quiet = q;
     }
 
 -- a fault of a sink stops the run
-pub stopped_by : {R N : Type 0} (k : Sinks R N) (a b : SourceState) (r r' : R) (n n' : N) (e : Edge) (p : Place) (asked : ℕ) (bytes : List ℕ) (fault : Fault)
+pub stopped_by : {R N : Type 0} (k : Sinks R N) (a b : SourceState) (r r' : R) (n n' : N) (e : Edge) (p : Point) (asked : ℕ) (bytes : List ℕ) (fault : Fault)
     → Broken k r r' n n' e p bytes fault → StoppedFrom k a b r r' n n' e p asked bytes fault
 stopped_by k a b r r' n n' e p asked bytes Memory c = absurd c.cause
 stopped_by k a b r r' n n' e p asked bytes Read c = absurd c.cause
@@ -99,22 +99,22 @@ pub ended_with : {R N : Type 0} (k : Sinks R N) → IsSink k.to.row_gave k.to.ro
     → {run mid : Run} {r a : R} {n b : N} (run' : Run) (r' : R) (n' : N) (res : Result (Unit {0}) Fault) (s t : SourceState) (asked : ℕ) (xs : List ℕ)
     → run.lines ≡ 0 → Through k run mid r a n b xs → Finishes res k mid run' a r' b n' → IsAtEnd t.remaining → t.failed ≡ s.failed
     → (e : Edge) → IsAt run.page e
-    → MatchResult res (λ _. EndedWell k run' s t r r' n n' e run.cutter.place xs) (λ fault. StoppedFrom k s t r r' n n' e run.cutter.place asked xs fault)
+    → MatchResult res (λ _. EndedWell k run' s t r r' n n' e run.cutter.point xs) (λ fault. StoppedFrom k s t r r' n n' e run.cutter.point asked xs fault)
 ended_with k rows notes run' r' n' (Ok o) s t asked xs z g f i q e h = ended_well k rows notes s t xs z g f i q e h
 ended_with k rows notes {run} {r = r} {n = n} run' r' n' (Err fault) s t asked xs z g f i q e h =
-    stopped_by k s t r r' n n' e run.cutter.place asked xs fault (broken_end k xs fault g f e h)
+    stopped_by k s t r r' n n' e run.cutter.point asked xs fault (broken_end k xs fault g f e h)
 
 -- ---- from the start of a page
 
 stopped_run : {R N : Type 0} (k : Sinks R N) → IsSink k.to.row_gave k.to.row_within → IsSink k.to.note_gave k.to.note_within
     → (a b : SourceState) (r r' : R) (n n' : N) (s : PageSettings) (asked : ℕ) (bytes : List ℕ) (fault : Fault) → IsGood s
-    → StoppedFrom k a b r r' n n' (start s) (first_place s.encoding) asked bytes fault → Stopped k.to r r' n n' s bytes fault
+    → StoppedFrom k a b r r' n n' (start s) (first_point s.encoding) asked bytes fault → Stopped k.to r r' n n' s bytes fault
 stopped_run k rows notes a b r r' n n' s asked bytes Memory g h = absurd h
 stopped_run k rows notes a b r r' n n' s asked bytes Read g h = (g, h.0)
 stopped_run k rows notes a b r r' n n' s asked bytes WriteText g h =
-    (g, rw (← page_start) (broken_front k rows notes (start s) (first_place s.encoding) bytes WriteText h))
+    (g, rw (← page_start) (broken_front k rows notes (start s) (first_point s.encoding) bytes WriteText h))
 stopped_run k rows notes a b r r' n n' s asked bytes WriteNotes g h =
-    (g, rw (← page_start) (broken_front k rows notes (start s) (first_place s.encoding) bytes WriteNotes h))
+    (g, rw (← page_start) (broken_front k rows notes (start s) (first_point s.encoding) bytes WriteNotes h))
 stopped_run k rows notes a b r r' n n' s asked bytes TooLong g h = (g, h.0)
 stopped_run k rows notes a b r r' n n' s asked bytes (Settings f) g h = absurd h
 stopped_run k rows notes a b r r' n n' s asked bytes Failed g h = absurd h
@@ -122,7 +122,7 @@ stopped_run k rows notes a b r r' n n' s asked bytes Ended g h = absurd h
 stopped_run k rows notes a b r r' n n' s asked bytes (BadIndex l) g h = absurd h
 
 cause_of : {R N : Type 0} (k : Sinks R N) (a b : SourceState) (r r' : R) (n n' : N) (s : PageSettings) (asked : ℕ) (bytes : List ℕ) (fault : Fault)
-    → StoppedFrom k a b r r' n n' (start s) (first_place s.encoding) asked bytes fault → HasCause k a b r r' n n' s asked bytes fault
+    → StoppedFrom k a b r r' n n' (start s) (first_point s.encoding) asked bytes fault → HasCause k a b r r' n n' s asked bytes fault
 cause_of k a b r r' n n' s asked bytes Memory h = absurd h
 cause_of k a b r r' n n' s asked bytes Read h = h.1
 cause_of k a b r r' n n' s asked bytes WriteText h = h
@@ -135,7 +135,7 @@ cause_of k a b r r' n n' s asked bytes (BadIndex l) h = absurd h
 
 -- a run that stopped
 pub runs_stopped : {R N : Type 0} (k : Sinks R N) → IsSink k.to.row_gave k.to.row_within → IsSink k.to.note_gave k.to.note_within
-    → {run' : Run} {a b : SourceState} {r r' : R} {n n' : N} (s : PageSettings) (p : Place) (bytes : List ℕ) (fault : Fault) → p ≡ first_place s.encoding → IsGood s
+    → {run' : Run} {a b : SourceState} {r r' : R} {n n' : N} (s : PageSettings) (p : Point) (bytes : List ℕ) (fault : Fault) → p ≡ first_point s.encoding → IsGood s
     → ReadsAll (Err fault) k run' a b r r' n n' (start s) p bytes → RunsOver (Err fault) k a b r r' n n' s bytes
 runs_stopped k rows notes {a = a} {b = b} {r = r} {r' = r'} {n = n} {n' = n'} s p bytes fault q g h =
     let f = rw q at h.ends in record {
@@ -147,13 +147,13 @@ runs_stopped k rows notes {a = a} {b = b} {r = r} {r' = r'} {n = n} {n' = n'} s 
     }
 
 -- a run that ended well
-pub runs_well : {R N : Type 0} (k : Sinks R N) {run' : Run} {a b : SourceState} {r r' : R} {n n' : N} (s : PageSettings) (p : Place) (bytes : List ℕ) (o : Outcome)
-    → p ≡ first_place s.encoding → IsGood s → ReadsAll (Ok tt) k run' a b r r' n n' (start s) p bytes
+pub runs_well : {R N : Type 0} (k : Sinks R N) {run' : Run} {a b : SourceState} {r r' : R} {n n' : N} (s : PageSettings) (p : Point) (bytes : List ℕ) (o : Outcome)
+    → p ≡ first_point s.encoding → IsGood s → ReadsAll (Ok tt) k run' a b r r' n n' (start s) p bytes
     → o.worst ≡ run'.page.worst → o.counts.source ≡ run'.lines → o.counts.taken ≡ run'.lines → o.counts.expansions ≡ 0
     → RunsOver (Ok o) k a b r r' n n' s bytes
 runs_well k s p bytes o q g h ow os ot oe =
     let f = rw q at h.ends in
-    let l : length (lines_from (first_place s.encoding) bytes) ≡ length (lines s.encoding bytes) = ap length (sym (lines-one_by_one s.encoding bytes)) in record {
+    let l : length (lines_from (first_point s.encoding) bytes) ≡ length (lines s.encoding bytes) = ap length (sym (lines-one_by_one s.encoding bytes)) in record {
       asked = h.asked;
       few = h.few;
       source = h.source;

@@ -1,4 +1,4 @@
--- A page on whole lists of lines: what is settled after lines, and the page to its end. Source: mandoc(1); man(7).
+-- A page on whole lists of lines: what lines settle, and the page to its end. Source: mandoc(1); man(7).
 use Rattle.std.specs.Prelude.{◌≡◌, ℕ, ◌+◌, Option, None, Some, List, [], ◌∷◌, ◌++◌, map}
 use Rattle.page_core_base.specs.declared.note_kinds.Level.{Level}
 use Rattle.page_core_base.specs.declared.page_settings.Settings.{Settings}
@@ -38,7 +38,8 @@ abbrev pub passed : Edge → List ℕ → ℕ → Edge
 passed e text number = record e { prose = line_after e.prose text; last = number }
 
 unfoldable pub laid_text : Edge → List ℕ → ℕ → Laid Edge
-laid_text e text number = of_page e (passed e text number) (laid_items e.fill (line_items e.prose number text))
+laid_text e text number =
+    of_page e (passed e text number) (laid_items e.fill (line_items e.prose number text))
 
 abbrev pub laid_line : Edge → Line → Laid Edge
 laid_line e line = seq (laid_notes e line.notes) (λ f. laid_text f line.text line.number)
@@ -50,7 +51,8 @@ laid e (line ∷ lines) = seq (laid_line e line) (λ f. laid f lines)
 
 -- the end of a page: the body's end, the footer, and the end of filling
 abbrev pub footer_laid : Edge → FillEdge → Laid FillEdge
-footer_laid e f = seq (laid_items f (footer_items e.prose e.last (fill.blank_rows_at_end f))) (λ h. fill.ended h)
+footer_laid e f =
+    seq (laid_items f (footer_items e.prose e.last (fill.blank_rows_at_end f))) (λ h. fill.ended h)
 
 abbrev pub end_laid : Edge → Laid FillEdge
 end_laid e = seq (laid_items e.fill (end_items e.prose e.last)) (λ f. footer_laid e f)

@@ -2,7 +2,7 @@
 use Rattle.std.specs.Prelude.{◌≡◌, ℕ, ◌+◌, ◌-◌, ◌^◌, min, List, Option, length}
 use Rattle.std.specs.Io.KnownBytes.{Consumes}
 
--- the bytes to come, where they are known; how often it has failed and been asked, and how many bytes it has given
+-- the bytes to come, where they are known; how often it failed and was asked, and how many bytes it gave
 pub record SourceState : Type 0 where
   pub remaining : Option (List ℕ)
   pub failed : ℕ
@@ -10,7 +10,8 @@ pub record SourceState : Type 0 where
   pub given : ℕ
 
 abbrev pub source_state : Option (List ℕ) → ℕ → ℕ → ℕ → SourceState
-source_state remaining failed calls given = record { remaining = remaining; failed = failed; calls = calls; given = given }
+source_state remaining failed calls given =
+    record { remaining = remaining; failed = failed; calls = calls; given = given }
 
 -- a count with more, which stays at 2^64 - 1
 abbrev pub counted : ℕ → ℕ → ℕ

@@ -28,6 +28,6 @@ pub record Sinks (R N : Type 0) : Type 1 where
   pub rows_failed : R → ℕ
   pub notes_failed : N → ℕ
 
-abbrev pub sinks : {R N : Type 0} → (R → List LaidRow → R → Type 0) → (R → List LaidRow → R → Type 0) → (R → ℕ)
-    → (N → List Message → N → Type 0) → (N → List Message → N → Type 0) → (N → ℕ) → Sinks R N
+abbrev pub sinks : {R N : Type 0} → (R → List LaidRow → R → Type 0) → (R → List LaidRow → R → Type 0)
+    → (R → ℕ) → (N → List Message → N → Type 0) → (N → List Message → N → Type 0) → (N → ℕ) → Sinks R N
 sinks rg rw_ rf ng nw nf = record { to = streams rg rw_ ng nw; rows_failed = rf; notes_failed = nf }

@@ -1,4 +1,5 @@
-//! Sinks that pass on a part of what they are given: messages by their level, and rows unless the output is lint.
+//! Sinks that pass on a part of what they are given: messages by their level, and rows unless the output
+//! is lint.
 
 ghost use Rattle.std.specs.Prelude.{◌≡◌, ℕ, Option};
 ghost use Rattle.std.specs.Borrow.{GName};

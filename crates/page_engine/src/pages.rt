@@ -29,7 +29,8 @@ pub(crate) struct Page {
 impl<R: RowSink, N: NoteSink> Below<'_, '_, '_, R, N> {
     // Ends the body after a line, gives the footer, and ends the filling.
     fn end(&mut self, prose: &Prose, last: u32) -> Result<(), Fault>
-        ensures ends { (f : FillEdge) (e : Edge) → self.old.filler.now ≡ Some f → f ≡ e.fill → prose.now ≡ e.prose → last ≡ e.last →
+        ensures ends { (f : FillEdge) (e : Edge) → self.old.filler.now ≡ Some f → f ≡ e.fill
+            → prose.now ≡ e.prose → last ≡ e.last →
             Ends result R.gave R.within R.failed ⟦<Filter<'static, N> as NoteSink>⟧.gave
             ⟦<Filter<'static, N> as NoteSink>⟧.within ⟦<Filter<'static, N> as NoteSink>⟧.failed
             self.old.rows.now self.new.rows.now self.old.notes self.new.notes (end_laid e) }
@@ -66,7 +67,8 @@ impl Page {
         })
     }
 
-    /// Takes a line, and gives what it settles. After a fault, which is one of a sink, the page is not to be used again.
+    /// Takes a line, and gives what it settles. After a fault, which is one of a sink, the page is not to be
+    /// used again.
     pub(crate) fn feed<R: RowSink, N: NoteSink>(
         &mut self,
         text: &[u8],
@@ -76,10 +78,13 @@ impl Page {
     ) -> Result<(), Fault>
         requires { length text.now ≤ LINE }
         ensures gets { (e : Edge) → IsAt self.old e →
-            Gets result R.gave R.within N.gave N.within rows.old rows.new notes.old notes.new (laid_text e text.now number) }
-        ensures edge { (e : Edge) → IsAt self.old e → OnOk result (IsAt self.new (laid_text e text.now number).edge) }
+            Gets result R.gave R.within N.gave N.within rows.old rows.new notes.old notes.new
+            (laid_text e text.now number) }
+        ensures edge { (e : Edge) → IsAt self.old e →
+            OnOk result (IsAt self.new (laid_text e text.now number).edge) }
         ensures faults { (e : Edge) → IsAt self.old e →
-            FailsBySink result (R.failed rows.old) (R.failed rows.new) (N.failed notes.old) (N.failed notes.new) }
+            FailsBySink result (R.failed rows.old) (R.failed rows.new)
+            (N.failed notes.old) (N.failed notes.new) }
         ensures rows_same { R.loans rows.new ≡ R.loans rows.old }
         ensures notes_same { N.loans notes.new ≡ N.loans notes.old }
     {
@@ -111,7 +116,8 @@ impl Page {
             Gets result R.gave R.within N.gave N.within rows.old rows.new notes.old notes.new (ended e) }
         ensures worst { (e : Edge) → IsAt self.old e → OnOk result (self.new.worst ≡ (ended e).edge.worst) }
         ensures faults { (e : Edge) → IsAt self.old e →
-            FailsBySink result (R.failed rows.old) (R.failed rows.new) (N.failed notes.old) (N.failed notes.new) }
+            FailsBySink result (R.failed rows.old) (R.failed rows.new)
+            (N.failed notes.old) (N.failed notes.new) }
         ensures rows_same { R.loans rows.new ≡ R.loans rows.old }
         ensures notes_same { N.loans notes.new ≡ N.loans notes.old }
     {

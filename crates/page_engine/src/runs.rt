@@ -56,11 +56,14 @@ impl Page {
     ) -> Result<(), Fault>
         requires { cutter.old.ready ≡ true }
         ensures gets { (e : Edge) → IsAt self.old e →
-            Gets result R.gave R.within N.gave N.within rows.old rows.new notes.old notes.new (laid_line e (line_of cutter.old.place)) }
-        ensures edge { (e : Edge) → IsAt self.old e → OnOk result (IsAt self.new (laid_line e (line_of cutter.old.place)).edge) }
+            Gets result R.gave R.within N.gave N.within rows.old rows.new notes.old notes.new
+            (laid_line e (line_of cutter.old.point)) }
+        ensures edge { (e : Edge) → IsAt self.old e →
+            OnOk result (IsAt self.new (laid_line e (line_of cutter.old.point)).edge) }
         ensures faults { (e : Edge) → IsAt self.old e →
-            FailsBySink result (R.failed rows.old) (R.failed rows.new) (N.failed notes.old) (N.failed notes.new) }
-        ensures place { OnOk result (cutter.new.place ≡ cutter.old.place) }
+            FailsBySink result (R.failed rows.old) (R.failed rows.new)
+            (N.failed notes.old) (N.failed notes.new) }
+        ensures point { OnOk result (cutter.new.point ≡ cutter.old.point) }
         ensures ready { OnOk result (cutter.new.ready ≡ false) }
         ensures rows_same { R.loans rows.new ≡ R.loans rows.old }
         ensures notes_same { N.loans notes.new ≡ N.loans notes.old }
@@ -100,7 +103,8 @@ impl Run {
         })
     }
 
-    // Takes bytes up to the end of a line, or all of a chunk, and gives what a line that is whole settles. How many bytes it took.
+    // Takes bytes up to the end of a line, or all of a chunk, and gives what a line that is whole settles. It
+    // answers how many bytes it took.
     fn take_part<R: RowSink, N: NoteSink>(
         &mut self,
         chunk: &[u8],
@@ -186,8 +190,9 @@ impl Run {
     ) -> Result<(), Fault>
         requires { IsFresh self.old }
         ensures reads { (e : Edge) → IsAt self.old.page e → (bytes : List ℕ)
-            × ReadsAll result (sinks R.gave R.within R.failed N.gave N.within N.failed) self.new (S.state source.old) (S.state source.new)
-            rows.old rows.new notes.old notes.new e self.old.cutter.place bytes }
+            × ReadsAll result (sinks R.gave R.within R.failed N.gave N.within N.failed) self.new
+            (S.state source.old) (S.state source.new) rows.old rows.new notes.old notes.new
+            e self.old.cutter.point bytes }
         ensures source_same { S.loans source.new ≡ S.loans source.old }
         ensures rows_same { R.loans rows.new ≡ R.loans rows.old }
         ensures notes_same { N.loans notes.new ≡ N.loans notes.old }
@@ -234,12 +239,14 @@ fn ended_well(worst: Option<Level>, source: u64) -> Outcome
     }
 }
 
-/// Formats a page: reads all bytes of a source, in chunks of any size, gives the rows to one sink and the messages to another, and answers
-/// the worst level of the messages and the counts.
+/// Formats a page: reads all bytes of a source, in chunks of any size, gives the rows to one sink and the
+/// messages to another, and answers the worst level of the messages and the counts.
 ///
-/// The settings are checked first, and memory is reserved before the first read: with [`Fault::Settings`] and [`Fault::Memory`] nothing is
-/// read and nothing is given. [`Fault::Read`] comes where the source failed, [`Fault::WriteText`] and [`Fault::WriteNotes`] where that
-/// sink failed, and [`Fault::TooLong`] for a page of more than [`BYTES`] bytes or [`READS`] read calls.
+/// The settings are checked first, and memory is reserved before the first read: with [`Fault::Settings`] and
+/// [`Fault::Memory`] nothing is read and nothing is given. [`Fault::Read`] comes where the source failed,
+/// [`Fault::WriteText`] and [`Fault::WriteNotes`] where that sink failed, and [`Fault::TooLong`] for a page of
+/// more than [`BYTES`] bytes or after [`READS`] read calls. After the fault of a sink nothing more is read, and
+/// of the lines after the one at which it came nothing is given to the other.
 pub fn run_sinks<S: Source, R: RowSink, N: NoteSink>(
     alloc: Global,
     source: &mut S,
@@ -247,7 +254,8 @@ pub fn run_sinks<S: Source, R: RowSink, N: NoteSink>(
     notes: &mut N,
     settings: &Settings,
 ) -> Result<Outcome, Fault>
-    ensures runs { (bytes : List ℕ) × RunsOver result (sinks R.gave R.within R.failed N.gave N.within N.failed)
+    ensures runs { (bytes : List ℕ)
+        × RunsOver result (sinks R.gave R.within R.failed N.gave N.within N.failed)
         (S.state source.old) (S.state source.new) rows.old rows.new notes.old notes.new settings.now bytes }
     ensures source_same { S.loans source.new ≡ S.loans source.old }
     ensures rows_same { R.loans rows.new ≡ R.loans rows.old }
@@ -263,7 +271,8 @@ pub fn run_sinks<S: Source, R: RowSink, N: NoteSink>(
     Ok(ended_well(run.page.worst, run.lines))
 }
 
-/// Formats a page as [`run_sinks`] does: reads a reader, and writes the rows to one writer and the messages, about a file, to another.
+/// Formats a page as [`run_sinks`] does: reads a reader, and writes the rows to one writer and the messages,
+/// about a file, to another.
 pub fn run_page<I: Read, W: Write, V: Write>(
     alloc: Global,
     reader: &mut I,
@@ -274,7 +283,8 @@ pub fn run_page<I: Read, W: Write, V: Write>(
 ) -> Result<Outcome, Fault>
     ensures { (bytes : List ℕ) × Consumes (I.remaining reader.old) (I.remaining reader.new) bytes
         × Runs result (streams
-        (WritesRows W.contents (is_silent settings.now.output)) (WritesRowsInto W.contents (is_silent settings.now.output))
+        (WritesRows W.contents (is_silent settings.now.output))
+        (WritesRowsInto W.contents (is_silent settings.now.output))
         (WritesNotes V.contents file.now) (WritesNotesInto V.contents file.now))
         out.old out.new notes.old notes.new settings.now bytes (I.remaining reader.new) }
 {

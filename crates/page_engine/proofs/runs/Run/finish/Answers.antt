@@ -11,11 +11,11 @@ pub returns-in_err-take_last-clause-ends : goal.returns-in_err-take_last-clause-
 returns-in_err-take_last-clause-ends g c =
     let r = err_from_is_err_and c.from_residual.result c.from_residual.ensures.1 in
     rw (r.1, r.2) (λ e h.
-        let f = c.in_err-take_last.ensures.takes e h in
-        let l = laid e (last_line c.args.self.now.cutter.place) in record {
-          gave = within-join g.met.R.RowSink.laws g.met.N.NoteSink.laws _ _ _ _ l (ended l.edge) f.gave;
-          cause = f.cause;
-        })
+    let f = c.in_err-take_last.ensures.takes e h in
+    let l = laid e (last_line c.args.self.now.cutter.point) in record {
+      gave = within-join g.met.R.RowSink.laws g.met.N.NoteSink.laws _ _ _ _ l (ended l.edge) f.gave;
+      cause = f.cause;
+    })
 
 pub returns-clause-ends : goal.returns-clause-ends
 returns-clause-ends g c =

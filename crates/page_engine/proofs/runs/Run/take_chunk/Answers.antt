@@ -27,14 +27,14 @@ returns-in_err-count-clause-takes g c =
     let i = c.loop-rest.invariant in
     let p = err_from_is_err_and c.from_residual.result c.from_residual.ensures.1 in
     rw (p.1, p.2) (λ e h. record {
-        before = i.0;
-        after = c.loop-rest.rest.now;
-        parts = i.1;
-        rows = c.loop-rest.rows;
-        notes = c.loop-rest.notes;
-        whole = (i.2.settled e h).came;
-        broke = rw i.2.moved.place at (c.in_err-count.ensures.takes (settled_from e c.args.self.now.cutter.place i.0).edge (i.2.settled e h).at);
-      })
+      before = i.0;
+      after = c.loop-rest.rest.now;
+      parts = i.1;
+      rows = c.loop-rest.rows;
+      notes = c.loop-rest.notes;
+      whole = (i.2.settled e h).came;
+      broke = rw i.2.moved.point at (c.in_err-count.ensures.takes (settled_from e c.args.self.now.cutter.point i.0).edge (i.2.settled e h).at);
+    })
 
 pub loop-rest-preserved : goal.loop-rest-preserved
 loop-rest-preserved g c =

@@ -7,9 +7,9 @@ use Rattle.page_engine.proofs.runs.Run.take_last.Goals as goal
 pub returns-then-not-end-clause-takes : goal.returns-then-not-end-clause-takes
 returns-then-not-end-clause-takes g c =
     let b = c.end.result in
-    let line = line_of c.end.new.self.place in
-    let is = ap line_at (sym c.end.ensures.place) ∙ c.end.ensures.line in
-    let none = none_count (last_line c.args.self.now.cutter.place) b line is c.if-not-end.true in record {
+    let line = line_of c.end.new.self.point in
+    let is = ap line_at (sym c.end.ensures.point) ∙ c.end.ensures.line in
+    let none = none_count (last_line c.args.self.now.cutter.point) b line is c.if-not-end.true in record {
       came = λ e h. record {
         gave = none_gave g.met.R.RowSink.laws g.met.N.NoteSink.laws _ _ e _ b line is c.if-not-end.true;
         rows_quiet = refl;
@@ -21,20 +21,20 @@ returns-then-not-end-clause-takes g c =
 
 pub returns-in_err-take_line-clause-takes : goal.returns-in_err-take_line-clause-takes
 returns-in_err-take_line-clause-takes g c =
-    let is = ap line_at (sym c.end.ensures.place) ∙ c.end.ensures.line in
+    let is = ap line_at (sym c.end.ensures.point) ∙ c.end.ensures.line in
     let r = err_from_is_err_and c.from_residual.result c.from_residual.ensures.1 in
     rw (r.1, r.2) (λ e h. record {
-        gave = one_gave e _ c.end.result (line_of c.end.new.self.place) is c.if-not-end.false (c.in_err-take_line.ensures.gets e h);
-        cause = c.in_err-take_line.ensures.faults e h;
-      })
+      gave = one_gave e _ c.end.result (line_of c.end.new.self.point) is c.if-not-end.false (c.in_err-take_line.ensures.gets e h);
+      cause = c.in_err-take_line.ensures.faults e h;
+    })
 
 pub returns-clause-takes : goal.returns-clause-takes
 returns-clause-takes g c =
     let b = c.end.result in
-    let line = line_of c.end.new.self.place in
-    let is = ap line_at (sym c.end.ensures.place) ∙ c.end.ensures.line in
+    let line = line_of c.end.new.self.point in
+    let is = ap line_at (sym c.end.ensures.point) ∙ c.end.ensures.line in
     let t = c.in_ok-take_line.ensures in
-    let one = one_count (last_line c.args.self.now.cutter.place) b line is c.if-not-end.false in record {
+    let one = one_count (last_line c.args.self.now.cutter.point) b line is c.if-not-end.false in record {
       came = λ e h. record {
         gave = one_gave e _ b line is c.if-not-end.false (t.gets e h);
         rows_quiet = (t.faults e h).0;

@@ -7,10 +7,10 @@ use Rattle.page_engine.proofs.runs.Run.take_part.Goals as goal
 pub returns-then-not-is_whole-clause-takes : goal.returns-then-not-is_whole-clause-takes
 returns-then-not-is_whole-clause-takes g c =
     let f = c.feed-count.ensures in
-    let p = c.args.self.now.cutter.place in
+    let p = c.args.self.now.cutter.point in
     let n = c.feed-count.result.0 in
     let b = c.feed-count.result.1 in
-    let line = line_of c.feed-count.new.self.place in
+    let line = line_of c.feed-count.new.self.point in
     let some = c.requires.some in
     let all = f.all c.if-not-is_whole.true in
     let none = none_count (lines_within p (take n c.args.chunk.now)) b line f.lines c.if-not-is_whole.true in record {
@@ -25,7 +25,7 @@ returns-then-not-is_whole-clause-takes g c =
           };
           at = none_edge e _ b line f.lines c.if-not-is_whole.true h;
         };
-        moved = record { place = f.place; free = f.ready ∙ c.if-not-is_whole.true; source_lines = omega (arith, none) };
+        moved = record { point = f.point; free = f.ready ∙ c.if-not-is_whole.true; source_lines = omega (arith, none) };
       };
     }
 
@@ -34,24 +34,24 @@ returns-in_err-take_line-clause-takes g c =
     let f = c.feed-count.ensures in
     let n = c.feed-count.result.0 in
     let b = c.feed-count.result.1 in
-    let line = line_of c.feed-count.new.self.place in
+    let line = line_of c.feed-count.new.self.point in
     let r = err_from_is_err_and c.from_residual.result c.from_residual.ensures.1 in
     rw (r.1, r.2) (λ e h. record {
-        count = n;
-        one = most_one _ b line f.lines;
-        front = record {
-          gave = one_gave e _ b line f.lines c.if-not-is_whole.false (c.in_err-take_line.ensures.gets e h);
-          cause = c.in_err-take_line.ensures.faults e h;
-        };
-      })
+      count = n;
+      one = most_one _ b line f.lines;
+      front = record {
+        gave = one_gave e _ b line f.lines c.if-not-is_whole.false (c.in_err-take_line.ensures.gets e h);
+        cause = c.in_err-take_line.ensures.faults e h;
+      };
+    })
 
 pub returns-clause-takes : goal.returns-clause-takes
 returns-clause-takes g c =
     let f = c.feed-count.ensures in
-    let p = c.args.self.now.cutter.place in
+    let p = c.args.self.now.cutter.point in
     let n = c.feed-count.result.0 in
     let b = c.feed-count.result.1 in
-    let line = line_of c.feed-count.new.self.place in
+    let line = line_of c.feed-count.new.self.point in
     let t = c.in_ok-take_line.ensures in
     let one = one_count (lines_within p (take n c.args.chunk.now)) b line f.lines c.if-not-is_whole.false in record {
       some = some_taken p n c.args.chunk.now b line f.lines c.if-not-is_whole.false;
@@ -65,6 +65,6 @@ returns-clause-takes g c =
           };
           at = one_edge e _ b line f.lines c.if-not-is_whole.false (t.edge e h);
         };
-        moved = record { place = t.place ∙ f.place; free = t.ready; source_lines = omega (arith, one) };
+        moved = record { point = t.point ∙ f.point; free = t.ready; source_lines = omega (arith, one) };
       };
     }
