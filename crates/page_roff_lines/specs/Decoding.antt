@@ -5,6 +5,8 @@ use Rattle.page_core_base.specs.declared.page_settings.Encoding.{Encoding}
 use Rattle.page_core_base.specs.declared.page_settings.Encoding.TheVariants.{Auto, Ascii, Latin1, Utf8}
 use Rattle.page_core_base.specs.declared.note_kinds.NoteKind.TheVariants.{BadChar, Limit}
 use Rattle.page_core_base.specs.Messages.{Message}
+use Rattle.page_core_limits.specs.Limits.{name_of}
+use Rattle.page_core_limits.specs.declared.Limit.TheVariants.{Line as LineLimit}
 use Rattle.page_roff_lines.specs.Limit.{line_limit}
 use Rattle.page_roff_lines.specs.Logical.{Kept, kept_lines, has_mark}
 use Rattle.page_roff_lines.specs.Characters.{Character, good, bad, sequence_length, characters, bytes_of, all_bytes}
@@ -37,7 +39,7 @@ bad_notes number column (c ∷ cs) = notes_of number column c ++ bad_notes numbe
 
 -- the message about a line that has more than its limit
 abbrev pub limit_note : ℕ → Message
-limit_note number = record { kind = Limit; line = number; column = 1; detail = codes "LINE" }
+limit_note number = record { kind = Limit; line = number; column = 1; detail = name_of LineLimit }
 
 abbrev pub limit_notes : Bool → ℕ → List Message
 limit_notes cut number = if cut then limit_note number ∷ [] else []

@@ -75,6 +75,7 @@ pub fn is_printable(byte: u8) -> bool
 
 impl Front {
     /// The character at the front of `text`.
+    #[inline(always)]
     #[tactic(auto, unfolding(crate::specs::Characters::character, crate::specs::Characters::high_character, crate::specs::Characters::later_length, crate::specs::Characters::high_later_length))]
     pub fn of(text: &[u8], encoding: Encoding) -> Front
         requires { 0 < length text.now }

@@ -1,5 +1,5 @@
 //! The decoded text of a line (mandoc(1), -K).
-ghost use Rattle.std.specs.Prelude.{◌≡◌, ◌-◌, ◌+◌, ◌<◌, ◌≤◌, ◌++◌, [], length, take, true, nat_le, nat_lt, IfOk, if◌then◌else◌};
+ghost use Rattle.std.specs.Prelude.{◌≡◌, ◌-◌, ◌+◌, ◌<◌, ◌≤◌, ◌++◌, ◌∷◌, [], length, take, true, nat_le, nat_lt, IfOk, if◌then◌else◌};
 ghost use Rattle.std.specs.List.{list_all};
 ghost use Rattle.page_core_base.specs.Texts.{IsLine};
 ghost use Rattle.page_roff_lines.specs.Limit.{line_limit};
@@ -55,6 +55,7 @@ impl DecodedText {
     }
 
     // Some bytes at the end, where they fit; whether they do.
+    #[inline(always)]
     #[tactic(auto, using(crate::specs::Limit::line_limit_is))]
     fn put(&mut self, bytes: &[u8]) -> bool
         ensures fits { result ≡ nat_le (length bytes.now) (line_limit - length self.old) }
@@ -67,6 +68,20 @@ impl DecodedText {
         true
     }
 
+    // A byte at the end, where it fits; whether it does.
+    #[inline(always)]
+    #[tactic(auto, using(crate::specs::Limit::line_limit_is))]
+    fn put_byte(&mut self, byte: u8) -> bool
+        ensures fits { result ≡ nat_le 1 (line_limit - length self.old) }
+        ensures after { self.new ≡ (if result then self.old ++ byte ∷ [] else self.old) }
+    {
+        if self.bytes.len() >= LINE {
+            return false;
+        }
+        self.bytes.push_reserved(byte);
+        true
+    }
+
     // The text at the front of some bytes at the end, as far as it fits; how many bytes that are.
     #[tactic(auto, using(crate::specs::Limit::line_limit_is))]
     fn put_text(&mut self, bytes: &[u8]) -> usize
@@ -76,11 +91,14 @@ impl DecodedText {
         ensures after { self.new ≡ self.old ++ take result bytes.now }
     {
         let len = text_within(bytes, LINE - self.bytes.len());
-        let _ = self.bytes.extend_from_slice(&bytes[..len]);
+        if len > 0 {
+            let _ = self.bytes.extend_from_slice(&bytes[..len]);
+        }
         len
     }
 
     // The character at the front of `text` at the end, where it fits; whether it does.
+    #[inline(always)]
     fn put_front(&mut self, front: Front, text: &[u8]) -> bool
         requires { width_of front ≤ length text.now }
         ensures fits { result ≡ nat_le (length (bytes_of (as_character front text.now))) (line_limit - length self.old) }
@@ -89,11 +107,12 @@ impl DecodedText {
         match front {
             Front::Same(len) => self.put(&text[..len]),
             Front::Latin1(byte) => self.put(&[192 + byte / 64, 128 + byte % 64]),
-            Front::Bad(_) => self.put(b"?"),
+            Front::Bad(_) => self.put_byte(b'?'),
         }
     }
 
     /// Decodes a text, as far as it fits; whether less than all of it does.
+    #[inline(never)]
     pub fn decode(&mut self, text: &[u8], encoding: Encoding) -> bool
         ensures after { self.new ≡ all_bytes (characters_within line_limit (characters encoding text.now)) }
         ensures passed { result ≡ nat_lt (length (characters_within line_limit (characters encoding text.now))) (length (characters encoding text.now)) }

@@ -11,19 +11,18 @@ ghost use Rattle.page_roff_lines.specs.Decoding.{bad_character as spec_bad_chara
 
 use crate::characters::Front;
 use crate::scanning::text_within;
-use arrayvec::ArrayString;
-use page_core_base::{Encoding, Fault, Note, NoteKind, NoteSink};
-use page_core_limits::LINE;
+use page_core_base::{Encoding, Fault, Note, NoteKind, NoteSink, Place};
+use page_core_limits::{LINE, Limit};
 
 // A hexadecimal digit.
-fn hex_digit(value: u8) -> char
+fn hex_digit(value: u8) -> u8
     requires { value < 16 }
     ensures { result ≡ digit_char value }
 {
     if value < 10 {
-        char::from(b'0' + value)
+        b'0' + value
     } else {
-        char::from(b'a' + (value - 10))
+        b'a' + (value - 10)
     }
 }
 
@@ -31,30 +30,23 @@ fn hex_digit(value: u8) -> char
 fn bad_character(number: u32, column: u32, byte: u8) -> Note
     ensures { message_of result ≡ spec_bad_character number column byte }
 {
-    let mut detail = ArrayString::new();
-    detail.push_str("0x");
-    detail.push(hex_digit(byte / 16));
-    detail.push(hex_digit(byte % 16));
-    Note {
-        kind: NoteKind::BadChar,
+    let place = Place {
         line: number,
         column,
-        detail,
-    }
+    };
+    let detail = [b'0', b'x', hex_digit(byte / 16), hex_digit(byte % 16)];
+    Note::about(NoteKind::BadChar, place, &detail)
 }
 
 // The message about a line that has more than its limit.
 fn limit_note(number: u32) -> Note
     ensures { message_of result ≡ spec_limit_note number }
 {
-    let mut detail = ArrayString::new();
-    detail.push_str("LINE");
-    Note {
-        kind: NoteKind::Limit,
+    let place = Place {
         line: number,
         column: 1,
-        detail,
-    }
+    };
+    Note::about(NoteKind::Limit, place, Limit::Line.name().as_bytes())
 }
 
 // Reports a character where it is none.
@@ -75,6 +67,7 @@ fn report_front<N: NoteSink>(
 }
 
 // Reports the bytes that are no characters, of what fits of a text.
+#[inline(never)]
 fn report_bad<N: NoteSink>(
     text: &[u8],
     encoding: Encoding,
@@ -136,6 +129,9 @@ pub fn report<N: NoteSink>(
 {
     if let Err(fault) = report_limit(passed, number, notes) {
         return Err(fault);
+    }
+    if !notes.takes(NoteKind::BadChar) {
+        return Ok(());
     }
     report_bad(text, encoding, number, notes)
 }
