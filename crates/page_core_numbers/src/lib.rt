@@ -49,6 +49,3 @@ pub fn number<N: NoteSink>(
     report(reading.troubles, line, column, notes)?;
     Ok((reading.value, text.len() - reading.rest.len()))
 }
-
-#[cfg(test)]
-mod tests;
