@@ -1,5 +1,5 @@
 -- The words of pieces are their marks, and so pieces fill rows as their words do.
-use Rattle.std.proofs.Common.{◌≡◌, ℕ, zero, suc, ◌≤◌, ◌==◌, Bool, true, false, not, ◌&&◌, ◌||◌, List, [], ◌∷◌, ◌++◌, length, map, replicate, inl, inr, refl, sym, subst, ap, ◌∙◌, append_assoc, append-nil, lit≤, Option, None, Some}
+use Rattle.std.proofs.Common.{◌≡◌, ℕ, zero, suc, ◌≤◌, ◌==◌, Bool, true, false, not, ◌&&◌, ◌||◌, List, [], ◌∷◌, ◌++◌, length, map, replicate, inl, inr, refl, sym, subst, ap, ◌∙◌, append_assoc, append-nil, arith, lit≤, Option, None, Some}
 use Rattle.std.specs.Prelude.{if◌then◌else◌}
 use Rattle.std.proofs.lemmas.Bool.{cases_Bool}
 use Rattle.std.proofs.lemmas.List.{map-append}
@@ -17,11 +17,11 @@ use Rattle.page_fill.specs.declared.words.OpenWord.{OpenWord}
 use Rattle.page_fill.specs.declared.words.Edge.{Edge}
 use Rattle.page_fill.specs.Sheets.{Sheet, over, blank, broken}
 use Rattle.page_fill.specs.Characters.{with_notes, cell_of, cells_of, characters_of, unknown_notes}
-use Rattle.page_fill.specs.Fill.{laid, ended, tab_notes} 
+use Rattle.page_fill.specs.Fill.{laid, ended, tab_notes}
 use Rattle.page_fill.specs.Fill as fill
 use Rattle.page_fill_laws.specs.InWords.{Mark, told, opened, spaced, lettered, letters_of, printed_marks, character_marks, text_marks, tab_marks, blank_marks, opening_marks, after_cell, are_of_words, piece_marks, word_after, marks, words_after, is_sound}
 use Rattle.page_fill_laws.specs.Filled.{Part, shown, noted, Word, Row, first_word, one_word, filling, at_break, filled}
-use Rattle.page_fill_laws.specs.PieceWords.{cell_parts, printed_parts, text_parts, tab_parts, Words, word_of, and_then, words_from, words_of, frame_of, row_of, words_between}
+use Rattle.page_fill_laws.specs.PieceWords.{cell_parts, printed_parts, text_parts, tab_parts, Words, word_of, and_then, words_from, words_of, frame_of, row_of, words_between, IsHeld}
 use Rattle.page_fill_laws.proofs.InWordsRun.{run, run-append}
 use Rattle.page_fill_laws.proofs.InWordsPieces.{AreStanding, laid-run}
 use Rattle.page_fill_laws.proofs.FilledWords.{mark_of, marks_of, word_marks, words_marks, first-run, first-bounded, run-frame, filling-run}
@@ -162,3 +162,10 @@ between-breaks e ps none start sound words =
     ∙ (ap (λ ms. over (run e.sheet ms) row_of) (pieces-words e.output e.sheet.literal true e.word ps)
     ∙ marks-words e.sheet all none start (record { notes = []; blanks = 0; place = record { line = 0; column = 0 }; parts = all.first }) refl refl) in
     ap (λ m. join (over l open_row) m) (break-row l.edge) ∙ ap (λ m. seq m at_break) rows
+
+pub between-breaks-held : (e : Edge) (ps : List (Piece (List ℕ))) → e.sheet.cells ≡ [] → IsHeld e.sheet → is_sound e.word ≡ true → are_of_words e.sheet.literal ps ≡ true
+    → over (fill.filled e ps) open_row ≡ filled (frame_of e.sheet) (row_of e.sheet) (words_between e ps)
+between-breaks-held e ps none h sound words =
+    let len : length e.sheet.cells ≡ 0 = ap length none in
+    let start : e.sheet.gap ≡ 0 = omega (arith, len, h.gap_within, h.word_within) in
+    between-breaks e ps none start sound words

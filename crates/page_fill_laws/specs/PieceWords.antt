@@ -1,12 +1,13 @@
 -- The words of pieces between two breaks: each with the blanks before it, and its parts, cells and messages. Parts that are glued are one word.
 -- Source: roff(7), "Filling and adjusting".
-use Rattle.std.specs.Prelude.{ℕ, Bool, true, false, not, ◌&&◌, ◌||◌, ◌==◌, List, [], ◌∷◌, ◌++◌, length, map, replicate, if◌then◌else◌}
+use Rattle.std.specs.Prelude.{ℕ, ◌≤◌, Bool, true, false, not, ◌&&◌, ◌||◌, ◌==◌, List, [], ◌∷◌, ◌++◌, length, map, replicate, if◌then◌else◌}
 use Rattle.page_core_base.specs.declared.cells.Cell.{Cell}
 use Rattle.page_core_base.specs.declared.cells.Font.{Font}
 use Rattle.page_core_base.specs.declared.page_settings.Output.{Output}
 use Rattle.page_core_base.specs.declared.pieces.Piece.{Piece}
 use Rattle.page_core_base.specs.declared.pieces.Piece.TheVariants.{Text, Glyph, Char, Tab, Blank, Glue, Break, Para, Space, Indent, Literal, Tag, TagEnd, Heading, Column}
 use Rattle.page_core_base.specs.declared.places.Place.{Place}
+use Rattle.page_core_limits.specs.declared.TheConstants.{CELLS}
 use Rattle.page_core_tables.specs.Printed.{Printing, char_printed, glyph_printed}
 use Rattle.page_fill.specs.declared.words.OpenWord.{OpenWord}
 use Rattle.page_fill.specs.declared.words.Edge.{Edge}
@@ -79,3 +80,9 @@ abbrev pub words_between : Edge → List (Piece (List ℕ)) → List Word
 words_between e ps =
     let words = words_of e.output e.sheet.literal true e.word ps in
     record { notes = []; blanks = 0; place = record { line = 0; column = 0 }; parts = words.first } ∷ words.later
+
+-- the places of the open row's last word lie within the row, which has at most CELLS cells: so it is at each edge that a page comes to
+pub record IsHeld (s : Sheet) : Type 0 where
+  pub gap_within : s.gap ≤ s.word
+  pub word_within : s.word ≤ length s.cells
+  pub bounded : length s.cells ≤ CELLS
