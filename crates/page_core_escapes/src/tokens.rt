@@ -56,8 +56,8 @@ fn is_white(byte: u8) -> bool
     byte == b' ' || byte == b'\t'
 }
 
-/// The number of blanks and tabs at a text's front.
-pub fn white_len(text: &[u8]) -> usize
+// The number of blanks and tabs at a text's front.
+fn white_len(text: &[u8]) -> usize
     ensures value { result ≡ prefix_len is_white text.now }
     ensures within { result ≤ length text.now }
 {

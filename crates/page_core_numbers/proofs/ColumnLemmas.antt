@@ -9,92 +9,22 @@ use Rattle.std.proofs.lemmas.List.{length-drop}
 use Rattle.std.proofs.lemmas.List.Sums.{sum_by-append}
 use Rattle.std.proofs.lemmas.List.Folds.{sum_by-replicate}
 use Rattle.std.proofs.lemmas.Str.{chars_past_char, IsCharBoundary-past_char}
-use Rattle.unicode_width.specs.Width.{char_width}
 use Rattle.page_core_base.specs.declared.page_settings.Output.{Output}
 use Rattle.page_core_escapes.specs.Escapes.{escape_of}
-use Rattle.page_core_tables.specs.Glyphs.{Symbol, Entry, table, entry_named, glyph_of, first_spelling, spelling_of}
-use Rattle.page_core_numbers.specs.Columns.{character_columns, characters_columns, spelled, printed_character, printed_symbol, printed_escape, printed_front, front_len, printed_within, columns_of}
+use Rattle.page_core_tables.specs.Printed.{char_printed, char_columns}
+use Rattle.page_core_tables.proofs.PrintedLemmas.{char_columns-printable}
+use Rattle.page_core_numbers.specs.Columns.{characters_columns, printed_escape, printed_front, front_len, printed_within, columns_of}
 
 -- ---- single characters
 
-pub unknown-columns : characters_columns (codes "<?>") ≡ 3
-unfolding char_width
-unknown-columns = refl
+blank-char_columns : char_columns 32 ≡ 1
+blank-char_columns = char_columns-printable 32 (omega arith) (omega arith)
 
 pub blank-columns : characters_columns (codes " ") ≡ 1
-unfolding char_width
-blank-columns = refl
-
-pub empty-columns : (text : List ℕ) → length text ≡ 0 → 3 ≡ characters_columns (spelled text)
-empty-columns [] h = sym unknown-columns
-empty-columns (b ∷ bs) h = absurd (omega arith)
-
-pub no_symbol-columns : (output : Output) (name : List ℕ) → None ≡ glyph_of name → 3 ≡ characters_columns (printed_symbol output (glyph_of name))
-no_symbol-columns output name e = sym unknown-columns ∙ ap (λ symbol. characters_columns (printed_symbol output symbol)) e
-
-pub tab-columns : (output : Output) (c : ℕ) → c ≡ 9 → 1 ≡ characters_columns (printed_character output c)
-tab-columns output c e = rw e (sym blank-columns)
-
-pub fixed_blank-columns : (output : Output) (c : ℕ) → c ≡ 160 → 1 ≡ characters_columns (printed_character output c)
-fixed_blank-columns output c e = rw e (sym blank-columns)
+blank-columns = rw blank-char_columns refl
 
 pub blanks-columns : (n : ℕ) → n ≡ characters_columns (replicate n 32)
-unfolding char_width
-blanks-columns n = sym (sum_by-replicate character_columns n 32 ∙ omega arith)
-
--- ---- spellings are short
-
-abbrev is_short : Entry → Bool
-is_short e = nat_le (length e.symbol.spelling) 16
-
-nat_le-true : (a b : ℕ) → nat_le a b ≡ true → a ≤ b
-nat_le-true a b h = grind (arith, nat_tests)
-
-all_short : list_all is_short table ≡ true
-unfolding table
-all_short = refl
-
-first_spelling-short : (code : ℕ) (es : List Entry) → list_all is_short es ≡ true → length (first_spelling code es) ≤ 16
-unfolding first_spelling
-first_spelling-short code [] h = omega arith
-first_spelling-short code (e ∷ es) h =
-    let parts = and_parts (is_short e) (list_all is_short es) h in
-    elim (cases_Bool (e.symbol.code == code)) [
-      | inl same ↦ rw same (nat_le-true (length e.symbol.spelling) 16 parts.0)
-      | inr other ↦ rw other (first_spelling-short code es parts.1)
-    ]
-
-pub spelling_of-short : (c : ℕ) (text : List ℕ) → text ≡ spelling_of c → length text ≤ 16
-unfolding spelling_of
-spelling_of-short c text e =
-    elim (cases_Bool (nat_le 32 c && nat_le c 126)) [
-      | inl ascii ↦ rw (e, ascii) (omega arith)
-      | inr other ↦ rw (e, other) (first_spelling-short c table all_short)
-    ]
-
-entry_named-short : (name : List ℕ) (es : List Entry) (found : Entry) → list_all is_short es ≡ true → entry_named name es ≡ Some found → length found.symbol.spelling ≤ 16
-unfolding entry_named
-entry_named-short name [] found h e = cc
-entry_named-short name (x ∷ xs) found h e =
-    let parts = and_parts (is_short x) (list_all is_short xs) h in
-    elim (cases_Bool (bytes_eq name x.name)) [
-      | inl same ↦
-          let first : Some x ≡ Some found = sym (cond-true _ _ _ same) ∙ e in
-          let is : x ≡ found = cc in
-          rw (← is) (nat_le-true (length x.symbol.spelling) 16 parts.0)
-      | inr other ↦ entry_named-short name xs found parts.1 (sym (cond-false _ _ _ other) ∙ e)
-    ]
-
-pub glyph_of-short : (name : List ℕ) (symbol : Symbol) → Some symbol ≡ glyph_of name → length symbol.spelling ≤ 16
-unfolding glyph_of
-glyph_of-short name symbol e = at (entry_named name table) refl
-  where
-    at : (o : Option Entry) → entry_named name table ≡ o → length symbol.spelling ≤ 16
-    at None none = let never : Some symbol ≡ None = e ∙ ap (λ o. option_map (λ (x : Entry). x.symbol) o) none in cc
-    at (Some found) some =
-        let same : Some symbol ≡ Some found.symbol = e ∙ ap (λ o. option_map (λ (x : Entry). x.symbol) o) some in
-        let is : symbol ≡ found.symbol = cc in
-        rw is (entry_named-short name table found all_short some)
+blanks-columns n = sym (sum_by-replicate char_columns n 32 ∙ rw blank-char_columns (omega arith))
 
 -- ---- the front of a text
 
@@ -105,7 +35,7 @@ front-escape output text rest c utf8 is e =
     (rw cs refl, rw cs refl)
 
 pub front-character : (output : Output) (text rest : List ℕ) (c : ℕ) → IsUtf8 text → text ≡ encode_utf8 c ++ rest → c ≢ 92
-    → (printed_front output text (chars text) ≡ printed_character output c) × (front_len text (chars text) ≡ length (encode_utf8 c))
+    → (printed_front output text (chars text) ≡ (char_printed output c).characters) × (front_len text (chars text) ≡ length (encode_utf8 c))
 front-character output text rest c utf8 is e =
     let cs = chars_past_char text rest c utf8 is in
     let other : (c == 92) ≡ false = grind (arith, nat_tests) in
@@ -137,7 +67,7 @@ left-next output text sum (b ∷ bs) columns len l some c n go = at l.steps l.en
       steps = k;
       enough = omega (arith, length-drop len (b ∷ bs));
       same =
-          let parts = sum_by-append character_columns (printed_front output (b ∷ bs) (chars (b ∷ bs))) (printed_within k output (drop (front_len (b ∷ bs) (chars (b ∷ bs))) (b ∷ bs))) in
+          let parts = sum_by-append char_columns (printed_front output (b ∷ bs) (chars (b ∷ bs))) (printed_within k output (drop (front_len (b ∷ bs) (chars (b ∷ bs))) (b ∷ bs))) in
           rw (c, n) (same ∙ omega (arith, parts));
     }
 

@@ -2,7 +2,7 @@
 use Rattle.std.proofs.Common.{◌≡◌, ℕ, ◌+◌, ◌-◌, ◌*◌, ◌/◌, ◌^◌, min, List, [], ◌∷◌, get_or, None, Some, length, ◌==◌, true, false, ◌<◌, refl, arith}
 use Rattle.page_core_numbers.specs.declared.scales.Scale.{Scale}
 use Rattle.page_core_numbers.specs.declared.scales.Scale.TheVariants.{Basic, En, Em, Vertical, Pica, Inch, Point, Centimeter}
-use Rattle.page_core_numbers.specs.Numbers.{decimal, ten_thousandths, numerator, denominator, units_of, digits_of, after_digits, fraction_of, after_fraction, scaled, number_at}
+use Rattle.page_core_numbers.specs.Numbers.{decimal, ten_thousandths, numerator, denominator, units_of, digits_of, after_digits, fraction_of, after_fraction, number_of, number_at}
 use Rattle.std.proofs.lemmas.Bool.Decides.{nat_tests}
 
 pub ten_thousandths-places : (ds : List ℕ)
@@ -40,10 +40,10 @@ number_at-none scale text whole more fraction w m f no_whole no_fraction =
     rw (← w, ← m, ← f, no_whole, no_fraction) refl in
     rw none refl
 
-pub number_at-some : (scale : Scale) (text whole more fraction behind : List ℕ) → whole ≡ digits_of text → more ≡ after_digits text → fraction ≡ fraction_of more
-    → behind ≡ after_fraction more → 0 < length whole + length fraction → Some (scaled scale whole fraction behind) ≡ number_at scale text
+pub number_at-some : (scale : Scale) (text whole more fraction after : List ℕ) → whole ≡ digits_of text → more ≡ after_digits text → fraction ≡ fraction_of more
+    → after ≡ after_fraction more → 0 < length whole + length fraction → Some (number_of scale whole fraction after) ≡ number_at scale text
 unfolding number_at
-number_at-some scale text whole more fraction behind w m f b some =
+number_at-some scale text whole more fraction after w m f b some =
     let any : (length whole + length fraction == 0) ≡ false = grind (arith, nat_tests) in
     let there : (length (digits_of text) + length (fraction_of (after_digits text)) == 0) ≡ false = rw (← w, ← m, ← f) any in
     rw there (rw (b, f, m, w) refl)

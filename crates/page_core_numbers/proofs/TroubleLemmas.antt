@@ -1,8 +1,13 @@
 -- What is reported of an expression, one part after another.
 use Rattle.std.proofs.Common.{◌≡◌, ℕ, suc, ◌+◌, ◌-◌, ◌<◌, ◌≤◌, Bool, true, false, List, [], ◌∷◌, ◌++◌, Result, Ok, Err, replicate, refl, sym, ap, ◌∙◌, arith, append_assoc, append-nil}
 use Rattle.std.specs.Prelude.{if◌then◌else◌}
+use Rattle.std.specs.Str.{IsUtf8}
+use Rattle.std.proofs.lemmas.Str.{utf8_valid_len-IsUtf8}
 use Rattle.std.proofs.lemmas.List.{replicate_more, replicate-append-replicate, map-append}
 use Rattle.page_core_base.specs.Sinks.{IsSink, UpTo, Gives}
+use Rattle.page_core_base.specs.Messages.{text_front}
+use Rattle.page_core_limits.specs.declared.Limit.TheVariants.{Parens}
+use Rattle.page_core_limits.specs.Limits.{name_of}
 use Rattle.page_core_numbers.specs.declared.troubles.Trouble.{Trouble}
 use Rattle.page_core_numbers.specs.declared.troubles.Trouble.TheVariants.{DivZero}
 use Rattle.page_core_numbers.specs.Expressions.{message_at, messages_at}
@@ -29,6 +34,11 @@ stopping n m k more trouble divides e =
     ∙ ap (λ l. replicate n DivZero ++ l) (sym (append_assoc (replicate m DivZero) (trouble ∷ replicate k DivZero) _)))
 
 -- ---- messages
+
+-- the limit's name is short, so that it is shown whole
+pub limit-front : IsUtf8 (name_of Parens) → text_front 64 (name_of Parens) ≡ name_of Parens
+unfolding text_front
+limit-front utf8 = let whole = utf8_valid_len-IsUtf8 (name_of Parens) utf8 in rw whole refl
 
 pub messages-replicate : (line column n : ℕ) (trouble : Trouble) → messages_at line column (replicate (suc n) trouble) ≡ message_at line column trouble ∷ messages_at line column (replicate n trouble)
 messages-replicate line column n trouble = refl

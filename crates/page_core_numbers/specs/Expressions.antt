@@ -4,11 +4,14 @@ use Rattle.std.specs.Prelude.{ℕ, zero, suc, Bool, true, false, ◌==◌, List,
 use Rattle.page_core_base.specs.declared.note_kinds.NoteKind.{NoteKind}
 use Rattle.page_core_base.specs.declared.note_kinds.NoteKind.TheVariants as kinds
 use Rattle.page_core_base.specs.Messages.{Message}
+use Rattle.page_core_limits.specs.declared.Limit.TheVariants.{Parens}
+use Rattle.page_core_limits.specs.Limits.{name_of}
+use Rattle.page_core_escapes.specs.Bytes.{plus, minus, parenthesis, closing_parenthesis}
 use Rattle.page_core_numbers.specs.declared.scales.Scale.{Scale}
 use Rattle.page_core_numbers.specs.declared.operators.Operator.{Operator}
 use Rattle.page_core_numbers.specs.declared.troubles.Trouble.{Trouble}
 use Rattle.page_core_numbers.specs.declared.troubles.Trouble.TheVariants.{NotNumeric, DivZero, Parentheses}
-use Rattle.page_core_numbers.specs.Numbers.{held, number_at}
+use Rattle.page_core_numbers.specs.Numbers.{in_range, number_at}
 use Rattle.page_core_numbers.specs.Operators.{operator_at, result_of, divides_by_zero}
 
 -- what was read: its value, what is reported, in this order, whether the expression ends there, and what follows
@@ -20,42 +23,42 @@ pub record Read (V : Type 0) : Type 0 where
 
 -- ---- operands; where there is none, that has no value and the expression ends
 
-abbrev pub missing : Trouble → List ℕ → Read (Option ℤ)
-missing trouble text = record { value = None; troubles = trouble ∷ []; ends = true; rest = text }
+abbrev pub no_operand : Trouble → List ℕ → Read (Option ℤ)
+no_operand trouble text = record { value = None; troubles = trouble ∷ []; ends = true; rest = text }
 
 abbrev pub number : List ℕ → Option (ℤ × List ℕ) → Read (Option ℤ)
-number text None = missing NotNumeric text
+number text None = no_operand NotNumeric text
 number text (Some found) = record { value = Some found.0; troubles = []; ends = false; rest = found.1 }
 
 -- a parenthesis that closes is taken; where it is missing it is taken as there
 abbrev pub after_close : List ℕ → List ℕ
 after_close [] = []
-after_close (b ∷ bs) = if b == 0x29 then bs else b ∷ bs
+after_close (b ∷ bs) = if b == closing_parenthesis then bs else b ∷ bs
 
 -- An expression in parentheses. Where it ends early, what stands around it ends with it, and its value so far is the operand.
-abbrev pub parenthesized : Read ℤ → Read (Option ℤ)
-parenthesized inside = record {
+abbrev pub in_parentheses : Read ℤ → Read (Option ℤ)
+in_parentheses inside = record {
   value = Some inside.value;
   troubles = inside.troubles;
   ends = inside.ends;
   rest = (if inside.ends then inside.rest else after_close inside.rest);
 }
 
--- what stands behind a parenthesis that opens, if one more may open here
-abbrev pub opened : Option (List ℕ → Read ℤ) → (text behind : List ℕ) → Read (Option ℤ)
-opened None text behind = missing Parentheses text
-opened (Some inside) text behind = parenthesized (inside behind)
+-- the operand after a parenthesis that opens, if one more may open here
+abbrev pub operand_inside : Option (List ℕ → Read ℤ) → (text after : List ℕ) → Read (Option ℤ)
+operand_inside None text after = no_operand Parentheses text
+operand_inside (Some inside) text after = in_parentheses (inside after)
 
-abbrev pub negated : Read (Option ℤ) → Read (Option ℤ)
-negated operand = record operand { value = option_map (λ n. held (neg_ℤ n)) operand.value }
+abbrev pub negated_operand : Read (Option ℤ) → Read (Option ℤ)
+negated_operand operand = record operand { value = option_map (λ n. in_range (neg_ℤ n)) operand.value }
 
 -- the operand at a text's front: a number, an expression in parentheses, or an operand with a sign
 unfoldable pub operand_by : (inside : Option (List ℕ → Read ℤ)) → Scale → List ℕ → Read (Option ℤ)
-operand_by inside scale [] = missing NotNumeric []
+operand_by inside scale [] = no_operand NotNumeric []
 operand_by inside scale (b ∷ bs) =
-    if b == 0x2D then negated (operand_by inside scale bs)
-    else if b == 0x2B then operand_by inside scale bs
-    else if b == 0x28 then opened inside (b ∷ bs) bs
+    if b == minus then negated_operand (operand_by inside scale bs)
+    else if b == plus then operand_by inside scale bs
+    else if b == parenthesis then operand_inside inside (b ∷ bs) bs
     else number (b ∷ bs) (number_at scale (b ∷ bs))
 
 -- ---- operations
@@ -73,8 +76,8 @@ abbrev pub troubles_of : Operator → Option ℤ → List Trouble
 troubles_of operator None = []
 troubles_of operator (Some operand) = if divides_by_zero operator operand then DivZero ∷ [] else []
 
-abbrev pub combined : Read ℤ → Operator → Read (Option ℤ) → Read ℤ
-combined so_far operator operand = record {
+abbrev pub after_operation : Read ℤ → Operator → Read (Option ℤ) → Read ℤ
+after_operation so_far operator operand = record {
   value = value_after so_far.value operator operand.value;
   troubles = so_far.troubles ++ (operand.troubles ++ troubles_of operator operand.value);
   ends = operand.ends;
@@ -93,11 +96,11 @@ operations_at operand_of (suc steps) None = []
 operations_at operand_of (suc steps) (Some found) =
     (found.0, operand_of found.1) ∷ operations_at operand_of steps (next_operator (operand_of found.1).ends (operand_of found.1).rest)
 
--- an operand and the operations behind it, which are done from left to right
+-- an operand and the operations after it, which are done from left to right
 unfoldable pub expression_by : (operand_of : List ℕ → Read (Option ℤ)) → List ℕ → Read ℤ
 expression_by operand_of text =
     let operand = operand_of text in
-    fold (λ so_far operation. combined so_far operation.0 operation.1) (first operand)
+    fold (λ so_far operation. after_operation so_far operation.0 operation.1) (first operand)
     (operations_at operand_of (suc (length text)) (next_operator operand.ends operand.rest))
 
 -- an expression inside which `room` parentheses more may be open
@@ -119,7 +122,7 @@ kind_of Parentheses = kinds.Limit
 abbrev pub detail_of : Trouble → List ℕ
 detail_of NotNumeric = []
 detail_of DivZero = []
-detail_of Parentheses = codes "PARENS"
+detail_of Parentheses = name_of Parens
 
 abbrev pub message_at : (line column : ℕ) → Trouble → Message
 message_at line column trouble = record { kind = kind_of trouble; line = line; column = column; detail = detail_of trouble }

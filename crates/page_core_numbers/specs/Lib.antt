@@ -1,6 +1,6 @@
 pub mod Numbers
 pub mod Operators
 pub mod Expressions
-pub mod Readings
+pub mod CodeValues
 pub mod Signs
 pub mod Columns

@@ -2,7 +2,7 @@
 use Rattle.std.specs.Prelude.{ℕ, ◌+◌, ◌-◌, ◌*◌, ◌/◌, ◌==◌, List, [], ◌∷◌, ◌++◌, length, take, drop, fold, codes, if◌then◌else◌, Option, Some, None, unwrap_or, is_some, ℤ, pos}
 use Rattle.std.specs.List.{prefix_len}
 use Rattle.std.specs.Int.{w32, saturate_signed}
-use Rattle.page_core_escapes.specs.Shapes.{is_among, is_digit}
+use Rattle.page_core_escapes.specs.Bytes.{is_among, is_digit}
 use Rattle.page_core_numbers.specs.declared.scales.Scale.{Scale}
 use Rattle.page_core_numbers.specs.declared.scales.Scale.TheVariants.{Basic, En, Em, Vertical, Pica, Inch, Point, Centimeter}
 
@@ -41,8 +41,8 @@ scale_named letter =
     else None
 
 -- the nearest whole number in the range of 32 bits
-abbrev pub held : ℤ → ℤ
-held n = saturate_signed w32 n
+abbrev pub in_range : ℤ → ℤ
+in_range n = saturate_signed w32 n
 
 -- ---- what is written of a number: digits, perhaps a point and digits, and perhaps a unit
 
@@ -52,14 +52,17 @@ digits_of text = take (prefix_len is_digit text) text
 abbrev pub after_digits : List ℕ → List ℕ
 after_digits text = drop (prefix_len is_digit text) text
 
--- the digits behind a point, where a text begins with one
+abbrev pub point : ℕ
+point = 0x2E
+
+-- the digits after a point, where a text begins with one
 abbrev pub fraction_of : List ℕ → List ℕ
 fraction_of [] = []
-fraction_of (b ∷ bs) = if b == 0x2E then digits_of bs else []
+fraction_of (b ∷ bs) = if b == point then digits_of bs else []
 
 abbrev pub after_fraction : List ℕ → List ℕ
 after_fraction [] = []
-after_fraction (b ∷ bs) = if b == 0x2E then after_digits bs else b ∷ bs
+after_fraction (b ∷ bs) = if b == point then after_digits bs else b ∷ bs
 
 -- the unit at a text's front
 abbrev pub scale_at : List ℕ → Option Scale
@@ -71,10 +74,13 @@ after_scale text = if is_some (scale_at text) then drop 1 text else text
 
 -- ---- what a number is worth
 
-abbrev pub decimal : List ℕ → ℕ
-decimal digits = fold (λ n b. n * 10 + (b - 0x30)) 0 digits
+abbrev pub zero_digit : ℕ
+zero_digit = 0x30
 
--- the digits behind a point in ten-thousandths: four of them count
+abbrev pub decimal : List ℕ → ℕ
+decimal digits = fold (λ n b. n * 10 + (b - zero_digit)) 0 digits
+
+-- the digits after a point in ten-thousandths: four of them count
 abbrev pub ten_thousandths : List ℕ → ℕ
 ten_thousandths digits = decimal (take 4 (digits ++ codes "0000"))
 
@@ -82,13 +88,13 @@ ten_thousandths digits = decimal (take 4 (digits ++ codes "0000"))
 unfoldable pub units_of : (whole fraction : List ℕ) → Scale → ℕ
 units_of whole fraction scale = (decimal whole * 10000 + ten_thousandths fraction) * numerator scale / (10000 * denominator scale)
 
--- a number of these digits, where `text` stands behind them: its value in basic units, and what follows
-abbrev pub scaled : Scale → (whole fraction text : List ℕ) → ℤ × List ℕ
-scaled scale whole fraction text = (held (pos (units_of whole fraction (unwrap_or (scale_at text) scale))), after_scale text)
+-- a number of these digits, where `text` stands after them: its value in basic units, and what follows
+abbrev pub number_of : Scale → (whole fraction text : List ℕ) → ℤ × List ℕ
+number_of scale whole fraction text = (in_range (pos (units_of whole fraction (unwrap_or (scale_at text) scale))), after_scale text)
 
 -- the number at a text's front, none where there is no digit; `scale` is the unit of a number without one
 unfoldable pub number_at : Scale → List ℕ → Option (ℤ × List ℕ)
 number_at scale text =
     let more = after_digits text in
     if length (digits_of text) + length (fraction_of more) == 0 then None
-    else Some (scaled scale (digits_of text) (fraction_of more) (after_fraction more))
+    else Some (number_of scale (digits_of text) (fraction_of more) (after_fraction more))

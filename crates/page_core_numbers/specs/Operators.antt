@@ -1,10 +1,10 @@
 -- The operators of an expression: roff(7), "Numerical expressions".
 use Rattle.std.specs.Prelude.{ℕ, Bool, true, false, ◌&&◌, ◌||◌, ◌==◌, List, [], ◌∷◌, drop, codes, if◌then◌else◌, Option, Some, None, option_map, ℤ, pos, negsuc, ◌+ℤ◌, ◌-ℤ◌, ◌*ℤ◌, int_div, int_rem, int_lt, int_le}
 use Rattle.std.specs.Int.{is_positive}
-use Rattle.page_core_escapes.specs.Shapes.{is_among}
+use Rattle.page_core_escapes.specs.Bytes.{is_among}
 use Rattle.page_core_numbers.specs.declared.operators.Operator.{Operator}
 use Rattle.page_core_numbers.specs.declared.operators.Operator.TheVariants.{Add, Subtract, Multiply, Divide, Remainder, Less, Greater, AtMost, AtLeast, Equal, And, Or}
-use Rattle.page_core_numbers.specs.Numbers.{held}
+use Rattle.page_core_numbers.specs.Numbers.{in_range}
 
 abbrev pub begins_equal : List ℕ → Bool
 begins_equal [] = false
@@ -53,10 +53,10 @@ is_equal (negsuc a) (negsuc b) = a == b
 -- Division is cut towards 0, and the remainder has the sign of the dividend; by 0 both give 0. A comparison gives 1 or 0, and `&`
 -- and `:` ask whether both or one of the two are above 0.
 unfoldable pub result_of : Operator → ℤ → ℤ → ℤ
-result_of Add a b = held (a +ℤ b)
-result_of Subtract a b = held (a -ℤ b)
-result_of Multiply a b = held (a *ℤ b)
-result_of Divide a b = if is_zero b then pos 0 else held (int_div a b)
+result_of Add a b = in_range (a +ℤ b)
+result_of Subtract a b = in_range (a -ℤ b)
+result_of Multiply a b = in_range (a *ℤ b)
+result_of Divide a b = if is_zero b then pos 0 else in_range (int_div a b)
 result_of Remainder a b = if is_zero b then pos 0 else int_rem a b
 result_of Less a b = truth (int_lt a b)
 result_of Greater a b = truth (int_lt b a)

@@ -2,9 +2,9 @@
 
 ghost use Rattle.std.specs.Prelude.{◌≡◌, ◌≤◌, ◌+◌, ◌-◌, length, slice_index_or, min, pos, option_map, IfSome};
 ghost use Rattle.std.specs.List.{prefix_len};
-ghost use Rattle.page_core_escapes.specs.Shapes.{is_digit};
-ghost use Rattle.page_core_numbers.specs.Numbers.{held, digits_of, after_digits, fraction_of, after_fraction, scale_at, after_scale, decimal, ten_thousandths, units_of, number_at};
-ghost use Rattle.page_core_numbers.specs.Readings.{number_seen};
+ghost use Rattle.page_core_escapes.specs.Bytes.{is_digit};
+ghost use Rattle.page_core_numbers.specs.Numbers.{in_range, digits_of, after_digits, fraction_of, after_fraction, scale_at, after_scale, decimal, ten_thousandths, units_of, number_at};
+ghost use Rattle.page_core_numbers.specs.CodeValues.{number_seen};
 
 use crate::scales::{Scale, scale_named};
 
@@ -40,14 +40,14 @@ fn split_digits(text: &[u8]) -> (&[u8], &[u8])
     text.split_at(digits_len(text))
 }
 
-// The digits behind a point at a text's front, and what follows; none where no point is there.
+// The digits after a point at a text's front, and what follows; none where no point is there.
 fn split_fraction(text: &[u8]) -> (&[u8], &[u8])
     ensures digits { result.0.now ≡ fraction_of text.now }
     ensures rest { result.1.now ≡ after_fraction text.now }
     ensures parts { length result.0.now + length result.1.now ≤ length text.now }
 {
     match text {
-        [b'.', behind @ ..] => split_digits(behind),
+        [b'.', after @ ..] => split_digits(after),
         _ => (b"", text),
     }
 }
@@ -60,8 +60,8 @@ fn split_scale(text: &[u8]) -> (Option<Scale>, &[u8])
 {
     match text {
         [] => (None, text),
-        [first, behind @ ..] => match scale_named(*first) {
-            Some(scale) => (Some(scale), behind),
+        [first, after @ ..] => match scale_named(*first) {
+            Some(scale) => (Some(scale), after),
             None => (None, text),
         },
     }
@@ -89,7 +89,7 @@ fn digit_at(digits: &[u8], place: usize) -> u64
     u64::from(digit.saturating_sub(b'0'))
 }
 
-// What the digits behind a point are worth in ten-thousandths.
+// What the digits after a point are worth in ten-thousandths.
 fn fraction_value(digits: &[u8]) -> u64
     ensures value { result ≡ ten_thousandths digits.now }
     ensures bound { result ≤ 1_000_000 }
@@ -102,7 +102,7 @@ fn fraction_value(digits: &[u8]) -> u64
 
 // A number in basic units, held to the range of 32 bits.
 fn in_units(whole: &[u8], fraction: &[u8], scale: Scale) -> i32
-    ensures { result ≡ held (pos (units_of whole.now fraction.now scale)) }
+    ensures { result ≡ in_range (pos (units_of whole.now fraction.now scale)) }
 {
     let ten_thousandths = whole_value(whole) * 10_000 + fraction_value(fraction);
     let units = ten_thousandths * scale.numerator() / (10_000 * scale.denominator());
@@ -115,11 +115,11 @@ pub(crate) fn read_number(text: &[u8], scale: Scale) -> Option<Number<'_>>
     ensures bound { IfSome result (λ found. length found.rest.now ≤ length text.now) }
 {
     let (whole, more) = split_digits(text);
-    let (fraction, behind) = split_fraction(more);
+    let (fraction, after) = split_fraction(more);
     if whole.is_empty() && fraction.is_empty() {
         return None;
     }
-    let (written, rest) = split_scale(behind);
+    let (written, rest) = split_scale(after);
     Some(Number {
         value: in_units(whole, fraction, written.unwrap_or(scale)),
         rest,

@@ -2,17 +2,17 @@
 //! by a call inside the call.
 
 ghost use Rattle.std.specs.Prelude.{◌≡◌, ◌≤◌, ◌<◌, ◌+◌, ◌^◌, length, option_map, IfSome, None, is_some, option_copied};
-ghost use Rattle.page_core_numbers.specs.Expressions.{expression_within, operand_by, missing, number, parenthesized, first, combined, next_operator, after_close};
+ghost use Rattle.page_core_numbers.specs.Expressions.{expression_within, operand_by, no_operand, number, in_parentheses, first, after_operation, next_operator, after_close};
 ghost use Rattle.page_core_numbers.specs.Numbers.{number_at};
-ghost use Rattle.page_core_numbers.specs.Readings.{operand_seen, reading_seen, found_seen, count_of};
-ghost use Rattle.page_core_numbers.specs.Signs.{after_signs, minus_count, negated_times, negated_value, inside_of, behind_open};
+ghost use Rattle.page_core_numbers.specs.CodeValues.{operand_seen, expression_seen, found_seen, count_of};
+ghost use Rattle.page_core_numbers.specs.Signs.{after_signs, minus_count, negated_times, negated_value, inside_of, after_open};
 
 use crate::decimals::read_number;
 use crate::operators::{FoundOperator, Operator, read_operator};
 use crate::scales::Scale;
 use crate::troubles::{Trouble, Troubles};
 
-/// An operand that was wanted: its value where there is one, and what follows it.
+/// An operand that was wanted: its value where there is one, what is reported of it, and what follows.
 #[derive(Clone, Copy)]
 pub(crate) struct Operand<'a> {
     pub(crate) value: Option<i32>,
@@ -20,9 +20,9 @@ pub(crate) struct Operand<'a> {
     pub(crate) rest: &'a [u8],
 }
 
-/// What was read of an expression: its value so far, and what follows it.
+/// An expression as far as it was read: its value so far, what is reported of it, and what follows.
 #[derive(Clone, Copy)]
-pub(crate) struct Reading<'a> {
+pub(crate) struct Expression<'a> {
     pub(crate) value: i32,
     pub(crate) troubles: Troubles,
     pub(crate) rest: &'a [u8],
@@ -45,7 +45,7 @@ fn split_signs(text: &[u8]) -> (usize, &[u8])
     (minuses, &text[text.len()..])
 }
 
-// A value that is negated so often.
+// A value that is negated this number of times.
 #[tactic(auto, using(crate::proofs::SignLemmas::negated_next))]
 fn negate(value: i32, times: usize) -> i32
     ensures { result ≡ negated_value times value }
@@ -57,7 +57,7 @@ fn negate(value: i32, times: usize) -> i32
     negated
 }
 
-// An operand that is negated so often.
+// An operand that is negated this number of times.
 fn negate_operand(operand: Operand<'_>, times: usize) -> Operand<'_>
     ensures value { operand_seen result ≡ negated_times times (operand_seen operand.entry) }
     ensures rest { result.rest.now ≡ operand.entry.rest.now }
@@ -73,9 +73,9 @@ fn negate_operand(operand: Operand<'_>, times: usize) -> Operand<'_>
     }
 }
 
-// There is no operand where this text begins.
-fn missing(trouble: Trouble, text: &[u8]) -> Operand<'_>
-    ensures value { operand_seen result ≡ missing trouble text.now }
+// That there is no operand where this text begins.
+fn no_operand(trouble: Trouble, text: &[u8]) -> Operand<'_>
+    ensures value { operand_seen result ≡ no_operand trouble text.now }
     ensures bound { count_of result.troubles + length result.rest.now ≤ length text.now }
 {
     Operand {
@@ -91,7 +91,7 @@ fn read_number_operand(text: &[u8], scale: Scale) -> Operand<'_>
     ensures bound { count_of result.troubles + length result.rest.now ≤ length text.now }
 {
     match read_number(text, scale) {
-        None => missing(Trouble::NotNumeric, text),
+        None => no_operand(Trouble::NotNumeric, text),
         Some(found) => Operand {
             value: Some(found.value),
             troubles: Troubles::none(),
@@ -100,20 +100,20 @@ fn read_number_operand(text: &[u8], scale: Scale) -> Operand<'_>
     }
 }
 
-// A text behind the parenthesis that closes, where one is there.
+// A text after the parenthesis that closes, where one is there.
 fn after_close(text: &[u8]) -> &[u8]
     ensures value { result.now ≡ after_close text.now }
     ensures bound { length result.now ≤ length text.now }
 {
     match text {
-        [b')', behind @ ..] => behind,
+        [b')', after @ ..] => after,
         _ => text,
     }
 }
 
 // An expression that was read in parentheses, as an operand.
-fn parenthesized(inside: Reading<'_>) -> Operand<'_>
-    ensures value { operand_seen result ≡ parenthesized (reading_seen inside.entry) }
+fn in_parentheses(inside: Expression<'_>) -> Operand<'_>
+    ensures value { operand_seen result ≡ in_parentheses (expression_seen inside.entry) }
     ensures troubles { result.troubles ≡ inside.entry.troubles }
     ensures bound { length result.rest.now ≤ length inside.entry.rest.now }
 {
@@ -127,13 +127,13 @@ fn parenthesized(inside: Reading<'_>) -> Operand<'_>
     }
 }
 
-// What stands behind a parenthesis that opens at a text's front.
-fn behind_open(text: &[u8]) -> Option<&[u8]>
-    ensures value { option_copied result ≡ behind_open text.now }
-    ensures bound { IfSome result (λ behind. length behind.now < length text.now) }
+// What stands after a parenthesis that opens at a text's front.
+fn after_open(text: &[u8]) -> Option<&[u8]>
+    ensures value { option_copied result ≡ after_open text.now }
+    ensures bound { IfSome result (λ after. length after.now < length text.now) }
 {
     match text {
-        [b'(', behind @ ..] => Some(behind),
+        [b'(', after @ ..] => Some(after),
         _ => None,
     }
 }
@@ -145,13 +145,13 @@ fn read_operand<'a>(text: &'a [u8], scale: Scale, room: u32) -> Operand<'a>
     ensures bound { count_of result.troubles + length result.rest.now ≤ length text.now }
 {
     let (minuses, unsigned) = split_signs(text);
-    let operand = match behind_open(unsigned) {
+    let operand = match after_open(unsigned) {
         None => read_number_operand(unsigned, scale),
-        Some(behind) => {
+        Some(after) => {
             if room == 0 {
-                missing(Trouble::Parentheses, unsigned)
+                no_operand(Trouble::Parentheses, unsigned)
             } else {
-                parenthesized(read_expression(behind, scale, room - 1))
+                in_parentheses(read_expression(after, scale, room - 1))
             }
         }
     };
@@ -159,12 +159,12 @@ fn read_operand<'a>(text: &'a [u8], scale: Scale, room: u32) -> Operand<'a>
 }
 
 // An expression of its first operand.
-fn first(operand: Operand<'_>) -> Reading<'_>
-    ensures value { reading_seen result ≡ first (operand_seen operand.entry) }
+fn first(operand: Operand<'_>) -> Expression<'_>
+    ensures value { expression_seen result ≡ first (operand_seen operand.entry) }
     ensures troubles { result.troubles ≡ operand.entry.troubles }
     ensures rest { result.rest.now ≡ operand.entry.rest.now }
 {
-    Reading {
+    Expression {
         value: operand.value.unwrap_or(0),
         troubles: operand.troubles,
         rest: operand.rest,
@@ -172,7 +172,7 @@ fn first(operand: Operand<'_>) -> Reading<'_>
 }
 
 // The operator that goes on with an expression.
-fn next_operator(so_far: Reading<'_>) -> Option<FoundOperator<'_>>
+fn next_operator(so_far: Expression<'_>) -> Option<FoundOperator<'_>>
     ensures value { option_map found_seen result ≡ next_operator (is_some so_far.entry.troubles.stopped) so_far.entry.rest.now }
     ensures bound { IfSome result (λ found. length found.rest.now < length so_far.entry.rest.now) }
     ensures going { IfSome result (λ _. so_far.entry.troubles.stopped ≡ None) }
@@ -184,10 +184,10 @@ fn next_operator(so_far: Reading<'_>) -> Option<FoundOperator<'_>>
 }
 
 // An expression after one more operation.
-fn combined<'a>(so_far: Reading<'a>, operator: Operator, operand: Operand<'a>) -> Reading<'a>
+fn after_operation<'a>(so_far: Expression<'a>, operator: Operator, operand: Operand<'a>) -> Expression<'a>
     requires going { so_far.troubles.stopped ≡ None }
     requires fits { count_of so_far.troubles + count_of operand.troubles + 1 < 2 ^ 64 }
-    ensures value { reading_seen result ≡ combined (reading_seen so_far.entry) operator (operand_seen operand.entry) }
+    ensures value { expression_seen result ≡ after_operation (expression_seen so_far.entry) operator (operand_seen operand.entry) }
     ensures count { count_of result.troubles ≤ count_of so_far.entry.troubles + count_of operand.entry.troubles + 1 }
     ensures rest { result.rest.now ≡ operand.entry.rest.now }
 {
@@ -198,7 +198,7 @@ fn combined<'a>(so_far: Reading<'a>, operator: Operator, operand: Operand<'a>) -
             operator.divides_by_zero(other),
         ),
     };
-    Reading {
+    Expression {
         value,
         troubles: so_far
             .troubles
@@ -209,13 +209,13 @@ fn combined<'a>(so_far: Reading<'a>, operator: Operator, operand: Operand<'a>) -
 
 /// The expression at a text's front, inside which `room` parentheses more may be open.
 #[cycle(expression)]
-pub(crate) fn read_expression<'a>(text: &'a [u8], scale: Scale, room: u32) -> Reading<'a>
-    ensures value { reading_seen result ≡ expression_within room scale text.now }
+pub(crate) fn read_expression<'a>(text: &'a [u8], scale: Scale, room: u32) -> Expression<'a>
+    ensures value { expression_seen result ≡ expression_within room scale text.now }
     ensures bound { count_of result.troubles + length result.rest.now ≤ length text.now }
 {
     let mut so_far = first(read_operand(text, scale, room));
     while let Some(found) = next_operator(so_far) {
-        so_far = combined(
+        so_far = after_operation(
             so_far,
             found.operator,
             read_operand(found.rest, scale, room),

@@ -2,10 +2,10 @@
 
 ghost use Rattle.std.specs.Prelude.{◌≡◌, ◌<◌, length, option_map, IfSome};
 ghost use Rattle.page_core_numbers.specs.Operators.{operator_named, operator_at, begins_equal, operator_len, truth, result_of, divides_by_zero};
-ghost use Rattle.page_core_numbers.specs.Readings.{found_seen};
+ghost use Rattle.page_core_numbers.specs.CodeValues.{found_seen};
 
 /// An operator.
-#[derive(Clone, Copy, Debug, PartialEq, Eq)]
+#[derive(Clone, Copy)]
 pub(crate) enum Operator {
     Add,
     Subtract,

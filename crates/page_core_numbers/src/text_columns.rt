@@ -4,16 +4,15 @@
 ghost use Rattle.std.specs.Prelude.{◌*◌, ◌≡◌, ◌≤◌, ◌<◌, length, chars};
 ghost use Rattle.std.specs.Str.{IsUtf8, IsCharBoundary};
 ghost use Rattle.page_core_escapes.specs.Escapes.{meaning_seen};
-ghost use Rattle.page_core_tables.specs.Glyphs.{glyph_of};
-ghost use Rattle.page_core_numbers.specs.Columns.{BeginsWith, prints_ascii, character_columns, characters_columns, spelled, printed_character, printed_symbol, printed_escape, printed_front, front_len, blanks_in, columns_of};
+ghost use Rattle.page_core_tables.specs.Printed.{printed_seen};
+ghost use Rattle.page_core_numbers.specs.Columns.{BeginsWith, characters_columns, printed_escape, printed_front, front_len, blanks_in, columns_of};
 
 use crate::expressions::read_expression;
 use crate::scales::Scale;
 use page_core_base::Output;
-use page_core_limits::{LINE, PARENS};
 use page_core_escapes::{Escape, escape};
-use page_core_tables::{glyph, spelling};
-use unicode_width::UnicodeWidthChar;
+use page_core_limits::{LINE, PARENS};
+use page_core_tables::{Printed, char_columns, printed_char, printed_glyph};
 
 // The columns of `\h` at most.
 const WIDEST: u32 = 1000;
@@ -21,71 +20,33 @@ const WIDEST: u32 = 1000;
 // The basic units of a column.
 const COLUMN: u32 = 24;
 
-// Whether characters above ASCII are spelled. Messages alone are about the text in ASCII.
-fn prints_ascii(output: Output) -> bool
-    ensures { result ≡ prints_ascii output }
-{
-    match output {
-        Output::Ascii | Output::Lint => true,
-        Output::Utf8 => false,
-    }
-}
-
-// The columns of a character that is printed as it is.
-#[tactic(auto, unfolding(unicode_width::specs::Width::char_width))]
-fn cell_columns(c: char) -> u32
-    ensures value { result ≡ character_columns c }
-    ensures bound { result ≤ 3 }
-{
-    if c >= ' ' && c <= '~' {
-        return 1;
-    }
-    c.width().unwrap_or(0) as u32
-}
-
-// The columns of a spelling, or of what stands for a character without one.
+// The columns of a spelling.
 fn spelling_columns(spelling: &str) -> u32
-    requires { length spelling.now ≤ 16 }
-    ensures value { result ≡ characters_columns (spelled spelling.now) }
-    ensures bound { result ≤ 48 }
+    requires { length spelling.now ≤ 8 }
+    ensures value { result ≡ characters_columns spelling.now }
+    ensures bound { result ≤ 24 }
 {
-    if spelling.is_empty() {
-        return 3;
-    }
     let mut sum = 0u32;
     for byte in spelling.as_bytes() {
-        sum += cell_columns(*byte as char);
+        sum += char_columns(*byte as char);
     }
     sum
 }
 
-// The columns of a character; a tab, and a blank that no row breaks at, count as a blank.
-fn printed_columns(c: char, output: Output) -> u32
-    ensures value { result ≡ characters_columns (printed_character output c) }
-    ensures bound { result ≤ 48 }
+/// The columns of what a character or a glyph prints.
+pub fn printed_columns(printed: Printed<'_>) -> u32
+    requires { length (printed_seen printed).characters ≤ 8 }
+    ensures value { result ≡ characters_columns (printed_seen printed.entry).characters }
+    ensures bound { result ≤ 24 }
 {
-    if c == '\t' || c == '\u{A0}' {
-        return 1;
-    }
-    if c < '\u{80}' || !prints_ascii(output) {
-        return cell_columns(c);
-    }
-    spelling_columns(spelling(c))
-}
-
-// The columns of a glyph by its name.
-fn glyph_columns(name: &[u8], output: Output) -> u32
-    ensures value { result ≡ characters_columns (printed_symbol output (glyph_of name.now)) }
-    ensures bound { result ≤ 48 }
-{
-    match glyph(name) {
-        None => 3,
-        Some(found) if prints_ascii(output) => spelling_columns(found.ascii),
-        Some(found) => cell_columns(found.code),
+    match printed {
+        Printed::Char(c) => char_columns(c),
+        Printed::Spelling(spelling) => spelling_columns(spelling),
+        Printed::NoSpelling(_) | Printed::NoGlyph(_) => spelling_columns("<?>"),
     }
 }
 
-// As many blanks as columns are in so many basic units.
+// The blanks that a number of basic units is worth, one a column.
 fn blanks_in(units: i32) -> u32
     ensures value { result ≡ blanks_in units }
     ensures bound { result ≤ WIDEST }
@@ -96,15 +57,15 @@ fn blanks_in(units: i32) -> u32
     (units as u32 / COLUMN).min(WIDEST)
 }
 
-// The columns of what an escape prints.
-fn escape_columns(escape: Escape<'_>, output: Output) -> u32
+/// The columns of what an escape prints.
+pub fn escape_columns(escape: Escape<'_>, output: Output) -> u32
     ensures value { result ≡ characters_columns (printed_escape output (meaning_seen escape.entry)) }
     ensures bound { result ≤ WIDEST }
 {
     match escape {
-        Escape::Glyph(name) => glyph_columns(name, output),
-        Escape::Char(c) => printed_columns(c, output),
-        Escape::Undefined(c) => printed_columns(c, output),
+        Escape::Glyph(name) => printed_columns(printed_glyph(output, name)),
+        Escape::Char(c) => printed_columns(printed_char(output, c)),
+        Escape::Undefined(c) => printed_columns(printed_char(output, c)),
         Escape::Tab | Escape::Blank => 1,
         Escape::Blanks(expression) => {
             blanks_in(read_expression(expression, Scale::Em, PARENS).value)
@@ -127,7 +88,7 @@ fn front_columns(text: &str, first: char, output: Output) -> (u32, usize)
         let (found, len) = escape(text.as_bytes());
         return (escape_columns(found, output), len);
     }
-    (printed_columns(first, output), first.len_utf8())
+    (printed_columns(printed_char(output, first)), first.len_utf8())
 }
 
 // The columns of a text.

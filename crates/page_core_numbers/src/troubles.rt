@@ -6,13 +6,13 @@ ghost use Rattle.page_core_base.specs.Fails.{FailsAs};
 ghost use Rattle.page_core_base.specs.Sinks.{Gives};
 ghost use Rattle.page_core_base.specs.Messages.{message_of};
 ghost use Rattle.page_core_numbers.specs.Expressions.{message_at, messages_at};
-ghost use Rattle.page_core_numbers.specs.Readings.{troubles_seen, stop_seen, count_of};
+ghost use Rattle.page_core_numbers.specs.CodeValues.{troubles_seen, stop_seen, count_of};
 
-use arrayvec::ArrayString;
-use page_core_base::{Fault, Note, NoteKind, NoteSink};
+use page_core_base::{Fault, Note, NoteKind, NoteSink, Place};
+use page_core_limits::Limit;
 
 /// What may be wrong in an expression.
-#[derive(Clone, Copy, Debug, PartialEq, Eq)]
+#[derive(Clone, Copy)]
 pub(crate) enum Trouble {
     /// There is no operand where one is wanted.
     NotNumeric,
@@ -92,23 +92,17 @@ impl Troubles {
 
 impl Trouble {
     // The message of it at a place.
+    #[tactic(auto, unfolding(page_core_base::specs::Messages::text_front))]
     fn note(self, line: u32, column: u32) -> Note
         ensures { message_of result ≡ message_at line column self }
     {
-        let mut detail = ArrayString::new();
-        let kind = match self {
-            Trouble::NotNumeric => NoteKind::NotNumeric,
-            Trouble::DivZero => NoteKind::DivZero,
+        let place = Place { line, column };
+        match self {
+            Trouble::NotNumeric => Note::about(NoteKind::NotNumeric, place, b""),
+            Trouble::DivZero => Note::about(NoteKind::DivZero, place, b""),
             Trouble::Parentheses => {
-                detail.push_str("PARENS");
-                NoteKind::Limit
+                Note::about(NoteKind::Limit, place, Limit::Parens.name().as_bytes())
             }
-        };
-        Note {
-            kind,
-            line,
-            column,
-            detail,
         }
     }
 }

@@ -1,3 +1,3 @@
 pub mod Search
 pub mod Tables
-pub mod Short
+pub mod PrintedLemmas

@@ -11,15 +11,15 @@ use Rattle.page_roff_lines.specs.declared.Mark.{Mark}
 use Rattle.page_roff_lines.specs.declared.Mark.TheVariants.{Unread, First, Second, Absent, Present}
 use Rattle.page_roff_lines.specs.Bytes.{newline}
 use Rattle.page_roff_lines.specs.Limit.{line_limit}
-use Rattle.page_roff_lines.specs.Held.{Held, held, nothing_held}
-use Rattle.page_roff_lines.specs.Reading.{read}
-use Rattle.page_roff_lines.specs.Logical.{Logical, Kept, joined, logical_lines, kept}
-use Rattle.page_roff_lines.specs.Open.{Open, restarted, open_after, put_byte, put_newline, newline_in, without_return, closed, put_in, put_plain, put, counted, ends_mark, mark_after, ended, left, whole_lines, kept_of, if_whole, last_line, lines_from}
+use Rattle.page_roff_lines.specs.Held.{Held, hold, nothing_held}
+use Rattle.page_roff_lines.specs.Physical.{read}
+use Rattle.page_roff_lines.specs.Logical.{Logical, Kept, join_texts, logical_lines, keep}
+use Rattle.page_roff_lines.specs.Open.{Open, restart, next_open, put_byte, put_newline, newline_in, without_return, close, put_in, put_plain, put, count_byte, ends_mark, mark_after, end_open, open_after, whole_lines, kept_of, if_whole, last_line, lines_from}
 use Rattle.page_roff_lines.specs.Run.{is_settled}
-use Rattle.page_roff_lines.proofs.OpenLaws.{left-append, whole_lines-append}
-use Rattle.page_roff_lines.proofs.RunLemmas.{st, any, left-restarted, whole_lines-restarted}
+use Rattle.page_roff_lines.proofs.OpenLaws.{open_after-append, whole_lines-append}
+use Rattle.page_roff_lines.proofs.RunLemmas.{st, any, open_after-restart, whole_lines-restart}
 use Rattle.page_roff_lines.proofs.Spots.{plain, at}
-use Rattle.page_roff_lines.proofs.SpotReadings.{upon, after_line, left-line, left-end, line-none}
+use Rattle.page_roff_lines.proofs.SpotReadings.{upon, after_line, open_after-line, open_after-end, line-none}
 
 -- no line feed in a physical line, in each of several
 abbrev NoNewline : List ℕ → Type 0
@@ -45,35 +45,35 @@ slice_split-none (b ∷ bs) = elim (eqb_tells b newline) [
 ]
 
 -- texts in front of a line, one after the other
-joined-joined : (n p : ℕ) (s t : List ℕ) (ls : List Logical) → joined n s (joined p t ls) ≡ joined n (s ++ t) ls
-unfolding joined
-joined-joined n p s t [] = refl
-joined-joined n p s t (l ∷ ls) = rw append_assoc refl
+join_texts-join_texts : (n p : ℕ) (s t : List ℕ) (ls : List Logical) → join_texts n s (join_texts p t ls) ≡ join_texts n (s ++ t) ls
+unfolding join_texts
+join_texts-join_texts n p s t [] = refl
+join_texts-join_texts n p s t (l ∷ ls) = rw append_assoc refl
 
 -- the empty text in front of the lines that begin with this number
-joined-nil-if : (c : Bool) (p : ℕ) (t : List ℕ) (ls : List Logical)
-    → joined p [] (cond c (joined p t ls) (record { number = p; text = t } ∷ ls)) ≡ cond c (joined p t ls) (record { number = p; text = t } ∷ ls)
-unfolding joined
-joined-nil-if false p t ls = refl
-joined-nil-if true p t [] = refl
-joined-nil-if true p t (l ∷ ls) = refl
+join_texts-nil-if : (c : Bool) (p : ℕ) (t : List ℕ) (ls : List Logical)
+    → join_texts p [] (cond c (join_texts p t ls) (record { number = p; text = t } ∷ ls)) ≡ cond c (join_texts p t ls) (record { number = p; text = t } ∷ ls)
+unfolding join_texts
+join_texts-nil-if false p t ls = refl
+join_texts-nil-if true p t [] = refl
+join_texts-nil-if true p t (l ∷ ls) = refl
 
-joined-nil : (p : ℕ) (l : List ℕ) (ls : List (List ℕ)) → joined p [] (logical_lines p (l ∷ ls)) ≡ logical_lines p (l ∷ ls)
+join_texts-nil : (p : ℕ) (l : List ℕ) (ls : List (List ℕ)) → join_texts p [] (logical_lines p (l ∷ ls)) ≡ logical_lines p (l ∷ ls)
 unfolding logical_lines
-joined-nil p l ls = joined-nil-if (read l).joins p (read l).text (logical_lines (p + 1) ls)
+join_texts-nil p l ls = join_texts-nil-if (read l).joins p (read l).text (logical_lines (p + 1) ls)
 
 -- after a whole line, as before the first
 lines_from-nothing : (t : Held) (n p k : ℕ) (a : Mark)
     → lines_from (any true Plain t false false n p k a) [] ≡ lines_from (st Plain nothing_held false false p p k a) []
-unfolding restarted left ended whole_lines
+unfolding restart open_after end_open whole_lines
 lines_from-nothing t n p k a = refl
 
 lines_from-byte : (t : Held) (n p k : ℕ) (a : Mark) (b : ℕ) (bs : List ℕ)
     → lines_from (any true Plain t false false n p k a) (b ∷ bs) ≡ lines_from (st Plain nothing_held false false p p k a) (b ∷ bs)
-unfolding restarted
+unfolding restart
 lines_from-byte t n p k a b bs =
-    ap (λ (ws : List Kept). ws ++ last_line (left (any true Plain t false false n p k a) (b ∷ bs))) (whole_lines-restarted true Plain t false false n p k a (b ∷ bs))
-    ∙ ap (λ (q : Open). whole_lines (st Plain nothing_held false false p p k a) (b ∷ bs) ++ last_line q) (left-restarted true Plain t false false n p k a b bs)
+    ap (λ (ws : List Kept). ws ++ last_line (open_after (any true Plain t false false n p k a) (b ∷ bs))) (whole_lines-restart true Plain t false false n p k a (b ∷ bs))
+    ∙ ap (λ (q : Open). whole_lines (st Plain nothing_held false false p p k a) (b ∷ bs) ++ last_line q) (open_after-restart true Plain t false false n p k a b bs)
 
 lines_from-whole : (t : Held) (n p k : ℕ) (a : Mark) (bs : List ℕ)
     → lines_from (any true Plain t false false n p k a) bs ≡ lines_from (st Plain nothing_held false false p p k a) bs
@@ -81,23 +81,23 @@ lines_from-whole t n p k a [] = lines_from-nothing t n p k a
 lines_from-whole t n p k a (b ∷ bs) = lines_from-byte t n p k a b bs
 
 -- a physical line and its line feed, and what follows
-line-then : (o next : Open) (y rest : List ℕ) → whole_lines o y ≡ [] → open_after (left o y) newline ≡ next
+line-then : (o next : Open) (y rest : List ℕ) → whole_lines o y ≡ [] → next_open (open_after o y) newline ≡ next
     → lines_from o (y ++ newline ∷ rest) ≡ if_whole next ++ lines_from next rest
-unfolding left whole_lines
-line-then o next y rest none e = rw (whole_lines-append o y (newline ∷ rest), none, left-append o y (newline ∷ rest), e, append_assoc) refl
+unfolding open_after whole_lines
+line-then o next y rest none e = rw (whole_lines-append o y (newline ∷ rest), none, open_after-append o y (newline ∷ rest), e, append_assoc) refl
 
 lines_from-line : (a : Mark) (n p k : ℕ) (text y rest : List ℕ) → is_settled a ≡ true → NoNewline y
     → lines_from (at a n p plain text k) (y ++ newline ∷ rest)
     ≡ if_whole (after_line a n p (k + length y + 1) (upon text (read (strip_carriage_return y))))
     ++ lines_from (after_line a n p (k + length y + 1) (upon text (read (strip_carriage_return y)))) rest
 lines_from-line a n p k text y rest h e =
-    line-then (at a n p plain text k) _ y rest (line-none a n p k plain text y h e) (left-line a n p k plain text y h e)
+    line-then (at a n p plain text k) _ y rest (line-none a n p k plain text y h e) (open_after-line a n p k plain text y h e)
 
 -- a last physical line
 lines_from-last : (a : Mark) (n p k : ℕ) (text y : List ℕ) → is_settled a ≡ true → NoNewline y
-    → lines_from (at a n p plain text k) y ≡ kept (record { number = n; text = text ++ (read y).text }) ∷ []
+    → lines_from (at a n p plain text k) y ≡ keep (record { number = n; text = text ++ (read y).text }) ∷ []
 unfolding if_whole
-lines_from-last a n p k text y h e = rw (line-none a n p k plain text y h e, left-end a n p k plain text y h e) refl
+lines_from-last a n p k text y h e = rw (line-none a n p k plain text y h e, open_after-end a n p k plain text y h e) refl
 
 -- the first byte begins the line
 take-nil : (n : ℕ) → take {A = ℕ} n [] ≡ []
@@ -105,8 +105,8 @@ take-nil zero = refl
 take-nil (suc n) = refl
 
 first_byte : (a : Mark) (p k : ℕ) (b : ℕ) → is_settled a ≡ true → (b == newline) ≡ false
-    → open_after (st Plain nothing_held false false p p k a) b ≡ open_after (at a p p plain [] k) b
-unfolding open_after put_byte counted restarted ends_mark mark_after put_in put_plain put
+    → next_open (st Plain nothing_held false false p p k a) b ≡ next_open (at a p p plain [] k) b
+unfolding next_open put_byte count_byte restart ends_mark mark_after put_in put_plain put
 first_byte Absent p k b h e = rw (e, take-nil) refl
 first_byte Present p k b h e = rw (e, take-nil) refl
 first_byte Unread p k b h e = cc
@@ -115,46 +115,46 @@ first_byte Second p k b h e = cc
 
 begin : (a : Mark) (p k : ℕ) (b : ℕ) (bs : List ℕ) → is_settled a ≡ true → (b == newline) ≡ false
     → lines_from (st Plain nothing_held false false p p k a) (b ∷ bs) ≡ lines_from (at a p p plain [] k) (b ∷ bs)
-unfolding left whole_lines
-begin a p k b bs h e = ap (λ (q : Open). (if_whole q ++ whole_lines q bs) ++ last_line (left q bs)) (first_byte a p k b h e)
+unfolding open_after whole_lines
+begin a p k b bs h e = ap (λ (q : Open). (if_whole q ++ whole_lines q bs) ++ last_line (open_after q bs)) (first_byte a p k b h e)
 
 -- the lines of physical lines, of which the first goes on a line that was begun, or is a line's first
 abbrev Goes : List (List ℕ) → Type 0
 Goes more = (a : Mark) (n p k : ℕ) (text y : List ℕ) → is_settled a ≡ true → NoNewline y → NoNewlines more
-    → lines_from (at a n p plain text k) (join_with_byte newline (y ∷ more)) ≡ map kept (joined n text (logical_lines p (lines_of_parts (y ∷ more))))
+    → lines_from (at a n p plain text k) (join_with_byte newline (y ∷ more)) ≡ map keep (join_texts n text (logical_lines p (lines_of_parts (y ∷ more))))
 
 abbrev Begins : List (List ℕ) → Type 0
 Begins more = (a : Mark) (p k : ℕ) (y : List ℕ) → is_settled a ≡ true → NoNewline y → NoNewlines more
-    → lines_from (st Plain nothing_held false false p p k a) (join_with_byte newline (y ∷ more)) ≡ map kept (logical_lines p (lines_of_parts (y ∷ more)))
+    → lines_from (st Plain nothing_held false false p p k a) (join_with_byte newline (y ∷ more)) ≡ map keep (logical_lines p (lines_of_parts (y ∷ more)))
 
 one_line : (c : Bool) (n p : ℕ) (s t : List ℕ)
-    → joined n s (cond c (joined p t []) (record { number = p; text = t } ∷ [])) ≡ record { number = n; text = s ++ t } ∷ []
-unfolding joined
+    → join_texts n s (cond c (join_texts p t []) (record { number = p; text = t } ∷ [])) ≡ record { number = n; text = s ++ t } ∷ []
+unfolding join_texts
 one_line true n p s t = refl
 one_line false n p s t = refl
 
 goes-last : Goes []
-unfolding joined logical_lines read
+unfolding join_texts logical_lines read
 goes-last a n p k text [] h e f =
-    lines_from-last a n p k text [] h e ∙ ap (λ t. kept (record { number = n; text = t }) ∷ []) (append-nil text)
+    lines_from-last a n p k text [] h e ∙ ap (λ t. keep (record { number = n; text = t }) ∷ []) (append-nil text)
 goes-last a n p k text (b ∷ y) h e f =
     lines_from-last a n p k text (b ∷ y) h e
-    ∙ rw (eqb-suc-zero (length y)) (sym (ap (λ ls. map kept ls) (one_line (read (b ∷ y)).joins n p text (read (b ∷ y)).text)))
+    ∙ rw (eqb-suc-zero (length y)) (sym (ap (λ ls. map keep ls) (one_line (read (b ∷ y)).joins n p text (read (b ∷ y)).text)))
 
 -- a physical line is joined to the next, or ends its line
 goes-line : (z : List ℕ) (zs : List (List ℕ)) → Goes zs → Begins zs → (a : Mark) (n p k : ℕ) (text : List ℕ) (c : Bool) (t : List ℕ) → is_settled a ≡ true
     → NoNewline z → NoNewlines zs
     → if_whole (after_line a n p k (record { text = text ++ t; joins = c })) ++ lines_from (after_line a n p k (record { text = text ++ t; joins = c })) (join_with_byte newline (z ∷ zs))
-    ≡ map kept (joined n text (cond c (joined p t (logical_lines (p + 1) (lines_of_parts (z ∷ zs))))
+    ≡ map keep (join_texts n text (cond c (join_texts p t (logical_lines (p + 1) (lines_of_parts (z ∷ zs))))
     (record { number = p; text = t } ∷ logical_lines (p + 1) (lines_of_parts (z ∷ zs)))))
-unfolding if_whole joined
+unfolding if_whole join_texts
 goes-line z zs go be a n p k text true t h e f =
-    ap (λ l. lines_from (any false Plain (held l) false true n (p + 1) k a) (join_with_byte newline (z ∷ zs))) (sym (append-nil (text ++ t)))
+    ap (λ l. lines_from (any false Plain (hold l) false true n (p + 1) k a) (join_with_byte newline (z ∷ zs))) (sym (append-nil (text ++ t)))
     ∙ go a n (p + 1) k (text ++ t) z h e f
-    ∙ sym (ap (λ ls. map kept ls) (joined-joined n p text t (logical_lines (p + 1) (lines_of_parts (z ∷ zs)))))
+    ∙ sym (ap (λ ls. map keep ls) (join_texts-join_texts n p text t (logical_lines (p + 1) (lines_of_parts (z ∷ zs)))))
 goes-line z zs go be a n p k text false t h e f =
-    ap (λ ls. kept (record { number = n; text = text ++ t }) ∷ ls)
-    (lines_from-whole (held (text ++ t)) n (p + 1) k a (join_with_byte newline (z ∷ zs)) ∙ be a (p + 1) k z h e f)
+    ap (λ ls. keep (record { number = n; text = text ++ t }) ∷ ls)
+    (lines_from-whole (hold (text ++ t)) n (p + 1) k a (join_with_byte newline (z ∷ zs)) ∙ be a (p + 1) k z h e f)
 
 goes-more : (z : List ℕ) (zs : List (List ℕ)) → Goes zs → Begins zs → Goes (z ∷ zs)
 unfolding logical_lines
@@ -164,8 +164,8 @@ goes-more z zs go be a n p k text y h e f =
 
 -- an empty physical line
 empty_line : (a : Mark) (p k : ℕ) → is_settled a ≡ true
-    → open_after (st Plain nothing_held false false p p k a) newline ≡ any true Plain nothing_held false false p (p + 1) (k + 1) a
-unfolding open_after put_byte counted restarted ends_mark mark_after put_newline newline_in without_return closed
+    → next_open (st Plain nothing_held false false p p k a) newline ≡ any true Plain nothing_held false false p (p + 1) (k + 1) a
+unfolding next_open put_byte count_byte restart ends_mark mark_after put_newline newline_in without_return close
 empty_line Absent p k h = refl
 empty_line Present p k h = refl
 empty_line Unread p k h = cc
@@ -173,21 +173,21 @@ empty_line First p k h = cc
 empty_line Second p k h = cc
 
 begins-byte : (more : List (List ℕ)) → Goes more → (a : Mark) (p k b : ℕ) (y : List ℕ) → is_settled a ≡ true → NoNewline (b ∷ y) → NoNewlines more
-    → lines_from (st Plain nothing_held false false p p k a) (join_with_byte newline ((b ∷ y) ∷ more)) ≡ map kept (logical_lines p (lines_of_parts ((b ∷ y) ∷ more)))
+    → lines_from (st Plain nothing_held false false p p k a) (join_with_byte newline ((b ∷ y) ∷ more)) ≡ map keep (logical_lines p (lines_of_parts ((b ∷ y) ∷ more)))
 begins-byte [] go a p k b y h e f =
     begin a p k b y h (e 0 0 (omega arith)) ∙ go a p p k [] (b ∷ y) h e f
-    ∙ rw (eqb-suc-zero (length y)) (ap (λ ls. map kept ls) (joined-nil p (b ∷ y) []))
+    ∙ rw (eqb-suc-zero (length y)) (ap (λ ls. map keep ls) (join_texts-nil p (b ∷ y) []))
 begins-byte (z ∷ zs) go a p k b y h e f =
     begin a p k b (y ++ newline ∷ join_with_byte newline (z ∷ zs)) h (e 0 0 (omega arith)) ∙ go a p p k [] (b ∷ y) h e f
-    ∙ ap (λ ls. map kept ls) (joined-nil p (strip_carriage_return (b ∷ y)) (lines_of_parts (z ∷ zs)))
+    ∙ ap (λ ls. map keep ls) (join_texts-nil p (strip_carriage_return (b ∷ y)) (lines_of_parts (z ∷ zs)))
 
 begins-last : Begins []
-unfolding left whole_lines ended restarted if_whole logical_lines
+unfolding open_after whole_lines end_open restart if_whole logical_lines
 begins-last a p k [] h e f = refl
 begins-last a p k (b ∷ y) h e f = begins-byte [] goes-last a p k b y h e f
 
 begins-more : (z : List ℕ) (zs : List (List ℕ)) → Goes zs → Begins zs → Begins (z ∷ zs)
-unfolding whole_lines if_whole logical_lines read left
+unfolding whole_lines if_whole logical_lines read open_after
 begins-more z zs go be a p k [] h e f =
     line-then (st Plain nothing_held false false p p k a) _ [] (join_with_byte newline (z ∷ zs)) refl (empty_line a p k h)
     ∙ ap (λ ls. kept_of (any true Plain nothing_held false false p (p + 1) (k + 1) a) ∷ ls)
@@ -200,14 +200,14 @@ goes [] = (goes-last, begins-last)
 goes (z ∷ zs) = let rest = goes zs in (goes-more z zs rest.0 rest.1, begins-more z zs rest.0 rest.1)
 
 of_parts : (a : Mark) (k : ℕ) (ps : List (List ℕ)) → is_settled a ≡ true → NoNewlines ps
-    → lines_from (st Plain nothing_held false false 1 1 k a) (join_with_byte newline ps) ≡ map kept (logical_lines 1 (lines_of_parts ps))
-unfolding left whole_lines ended restarted if_whole logical_lines
+    → lines_from (st Plain nothing_held false false 1 1 k a) (join_with_byte newline ps) ≡ map keep (logical_lines 1 (lines_of_parts ps))
+unfolding open_after whole_lines end_open restart if_whole logical_lines
 of_parts a k [] h e = refl
 of_parts a k (y ∷ ys) h e = (goes ys).1 a 1 k y h e.0 e.1
 
 -- after the bytes that may be a mark
 pub lines_from-start : (a : Mark) (k : ℕ) (bs : List ℕ) → is_settled a ≡ true
-    → lines_from (st Plain nothing_held false false 1 1 k a) bs ≡ map kept (logical_lines 1 (physical_lines bs))
+    → lines_from (st Plain nothing_held false false 1 1 k a) bs ≡ map keep (logical_lines 1 (physical_lines bs))
 lines_from-start a k bs h =
     ap (λ l. lines_from (st Plain nothing_held false false 1 1 k a) l) (sym (join_with_byte-slice_split newline bs))
     ∙ of_parts a k (slice_split (λ b. b == newline) bs) h (slice_split-none bs)

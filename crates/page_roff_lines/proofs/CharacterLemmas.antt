@@ -8,7 +8,7 @@ use Rattle.page_roff_lines.specs.declared.characters.Front.{Front}
 use Rattle.page_roff_lines.specs.Characters.{Character, character, later_length, characters_after, characters, bytes_of, all_bytes}
 use Rattle.page_roff_lines.specs.Limit.{line_limit}
 use Rattle.page_roff_lines.specs.Fronts.{as_character, width_of, later_of}
-use Rattle.page_roff_lines.specs.Decoding.{fitting}
+use Rattle.page_roff_lines.specs.Decoding.{characters_within}
 
 -- the bytes of a character before are passed over
 pub characters_after-drop : (e : Encoding) (n : ℕ) (bs : List ℕ) → characters_after e n bs ≡ characters e (drop n bs)
@@ -17,7 +17,7 @@ characters_after-drop e zero bs = refl
 characters_after-drop e (suc n) [] = refl
 characters_after-drop e (suc n) (b ∷ bs) = characters_after-drop e n bs
 
--- the character at the front, and those behind it
+-- the character at the front, and those after it
 pub characters-front : (e : Encoding) (text : List ℕ) (f : Front) → 0 < length text → as_character f text ≡ character e (get_or text 0 0) text
     → later_of f ≡ later_length e (get_or text 0 0) text → 0 < width_of f → characters e text ≡ as_character f text ∷ characters e (drop (width_of f) text)
 unfolding characters_after
@@ -36,15 +36,15 @@ ltb-zero b = grind (arith, nat_tests)
 
 -- of these characters, what fits was done as far as the rest, for which this room is left
 pub record FitsSoFar (cs : List Character) (out : List ℕ) (rest : List Character) : Type 0 where
-  pub text : all_bytes (fitting line_limit cs) ≡ out ++ all_bytes (fitting (line_limit - length out) rest)
-  pub count : nat_lt (length (fitting line_limit cs)) (length cs) ≡ nat_lt (length (fitting (line_limit - length out) rest)) (length rest)
+  pub text : all_bytes (characters_within line_limit cs) ≡ out ++ all_bytes (characters_within (line_limit - length out) rest)
+  pub count : nat_lt (length (characters_within line_limit cs)) (length cs) ≡ nat_lt (length (characters_within (line_limit - length out) rest)) (length rest)
 
 pub so_far-none : (cs : List Character) → FitsSoFar cs [] cs
 so_far-none cs = let room : line_limit - 0 ≡ line_limit = omega arith in record { text = rw room refl; count = rw room refl }
 
 pub so_far-more : (cs : List Character) (out : List ℕ) (c : Character) (rest : List Character)
     → nat_le (length (bytes_of c)) (line_limit - length out) ≡ true → FitsSoFar cs out (c ∷ rest) → FitsSoFar cs (out ++ bytes_of c) rest
-unfolding fitting
+unfolding characters_within
 so_far-more cs out c rest fits so =
     let room : line_limit - length (out ++ bytes_of c) ≡ line_limit - length out - length (bytes_of c) = omega (arith, length-append out (bytes_of c)) in
     record {
@@ -54,13 +54,13 @@ so_far-more cs out c rest fits so =
 
 pub so_far-stop : (cs : List Character) (out : List ℕ) (c : Character) (rest : List Character)
     → nat_le (length (bytes_of c)) (line_limit - length out) ≡ false → FitsSoFar cs out (c ∷ rest)
-    → (all_bytes (fitting line_limit cs) ≡ out) × (nat_lt (length (fitting line_limit cs)) (length cs) ≡ true)
-unfolding fitting
+    → (all_bytes (characters_within line_limit cs) ≡ out) × (nat_lt (length (characters_within line_limit cs)) (length cs) ≡ true)
+unfolding characters_within
 so_far-stop cs out c rest fits so = (so.text ∙ rw (fits, append-nil) refl, so.count ∙ rw fits (ltb-zero (length rest)))
 
 pub so_far-end : (cs : List Character) (out : List ℕ) → FitsSoFar cs out []
-    → (all_bytes (fitting line_limit cs) ≡ out) × (nat_lt (length (fitting line_limit cs)) (length cs) ≡ false)
-unfolding fitting
+    → (all_bytes (characters_within line_limit cs) ≡ out) × (nat_lt (length (characters_within line_limit cs)) (length cs) ≡ false)
+unfolding characters_within
 so_far-end cs out so = (so.text ∙ append-nil out, so.count)
 
 -- the character at a place of the text

@@ -11,7 +11,7 @@ use Rattle.page_core_base.specs.declared.page_settings.Encoding.{Encoding}
 use Rattle.page_core_base.specs.declared.page_settings.Encoding.TheVariants.{Auto, Ascii, Latin1, Utf8}
 use Rattle.page_roff_lines.specs.Limit.{line_limit, line_limit_is}
 use Rattle.page_roff_lines.specs.Characters.{Character, good, bad, is_printable, latin1_bytes, sequence_length, high_character, character, later_length, characters_after, characters, bytes_of, all_bytes}
-use Rattle.page_roff_lines.specs.Decoding.{fitting}
+use Rattle.page_roff_lines.specs.Decoding.{characters_within}
 use Rattle.page_roff_lines.proofs.SequenceLemmas.{Fine, split_true, sequence-fine, ascii_plain, tab_plain, both_true, plain_two}
 
 -- a printable byte of ASCII, or a tab
@@ -88,11 +88,11 @@ either_all : (c : Bool) (xs : List Character) → AllFine xs → AllFine (cond c
 either_all true xs h = h
 either_all false xs h = tt
 
-fitting-fine : (room : ℕ) (cs : List Character) → AllFine cs → AllFine (fitting room cs)
-unfolding fitting
-fitting-fine room [] h = tt
-fitting-fine room (c ∷ cs) h =
-    either_all (nat_le (length (bytes_of c)) room) (c ∷ fitting (room - length (bytes_of c)) cs) (h.0, fitting-fine (room - length (bytes_of c)) cs h.1)
+characters_within-fine : (room : ℕ) (cs : List Character) → AllFine cs → AllFine (characters_within room cs)
+unfolding characters_within
+characters_within-fine room [] h = tt
+characters_within-fine room (c ∷ cs) h =
+    either_all (nat_le (length (bytes_of c)) room) (c ∷ characters_within (room - length (bytes_of c)) cs) (h.0, characters_within-fine (room - length (bytes_of c)) cs h.1)
 
 all_bytes-utf8 : (cs : List Character) → AllFine cs → IsUtf8 (all_bytes cs)
 all_bytes-utf8 [] h = IsUtf8-nil
@@ -107,21 +107,21 @@ either_short : (c : Bool) (a b room : ℕ) (cs : List Character) → (c ≡ true
 either_short true a b room cs h = h refl
 either_short false a b room cs h = omega arith
 
-fitting-short : (room : ℕ) (cs : List Character) → length (all_bytes (fitting room cs)) ≤ room
-unfolding fitting
-fitting-short room [] = omega arith
-fitting-short room (c ∷ cs) =
+characters_within-short : (room : ℕ) (cs : List Character) → length (all_bytes (characters_within room cs)) ≤ room
+unfolding characters_within
+characters_within-short room [] = omega arith
+characters_within-short room (c ∷ cs) =
     let size = length (bytes_of c) in
-    either_short (nat_le size room) 0 0 room (c ∷ fitting (room - size) cs)
+    either_short (nat_le size room) 0 0 room (c ∷ characters_within (room - size) cs)
     (λ fits.
-    let rest = fitting-short (room - size) cs in
+    let rest = characters_within-short (room - size) cs in
     let le : size ≤ room = grind (arith, nat_tests) in
-    omega (arith, length-append (bytes_of c) (all_bytes (fitting (room - size) cs))))
+    omega (arith, length-append (bytes_of c) (all_bytes (characters_within (room - size) cs))))
 
-pub decoded-is_line : (e : Encoding) (text : List ℕ) → ((i : ℕ) → get_or text i 0 < 256) → IsLine (all_bytes (fitting line_limit (characters e text)))
-decoded-is_line e text h =
-    let fine = fitting-fine line_limit (characters e text) (characters_after-fine e 0 text h) in
-    let short = fitting-short line_limit (characters e text) in
+pub decode_line-is_line : (e : Encoding) (text : List ℕ) → ((i : ℕ) → get_or text i 0 < 256) → IsLine (all_bytes (characters_within line_limit (characters e text)))
+decode_line-is_line e text h =
+    let fine = characters_within-fine line_limit (characters e text) (characters_after-fine e 0 text h) in
+    let short = characters_within-short line_limit (characters e text) in
     let limit = line_limit_is in
     record {
       utf8 = all_bytes-utf8 _ fine;
@@ -130,7 +130,7 @@ decoded-is_line e text h =
     }
 
 -- a text of printable bytes
-singles_fine : (text : List ℕ) → list_all is_printable text ≡ true → IsUtf8 text × ((before : ℕ) → before ≢ 194 → has_no_control before text ≡ true)
+pub singles_fine : (text : List ℕ) → list_all is_printable text ≡ true → IsUtf8 text × ((before : ℕ) → before ≢ 194 → has_no_control before text ≡ true)
 singles_fine [] h = (IsUtf8-nil, λ before n. refl)
 singles_fine (b ∷ bs) h =
     let both = split_true (is_printable b) (list_all is_printable bs) h in

@@ -4,7 +4,7 @@ use Rattle.std.specs.Prelude.{Result, Ok, Err, IsOk, is_ok, cond}
 use Rattle.std.proofs.lemmas.List.{take_all}
 use Rattle.std.proofs.Math.Seq.{take-append-add}
 
--- what fits behind the bytes that are held
+-- what fits after the bytes that are held
 pub take-append-room : (n : ℕ) (xs ys : List ℕ) → length xs ≤ n → take n (xs ++ ys) ≡ xs ++ take (n - length xs) ys
 take-append-room n xs ys h =
     let e : n ≡ length xs + (n - length xs) = omega arith in

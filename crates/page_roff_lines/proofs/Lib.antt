@@ -9,7 +9,7 @@ pub mod MarkLemmas
 pub mod CharacterLemmas
 pub mod ReportLemmas
 pub mod ChoiceLemmas
-pub mod PlaceLemmas
+pub mod PointLemmas
 pub mod PlainLemmas
 pub mod LineAgreement
 pub mod SequenceLemmas

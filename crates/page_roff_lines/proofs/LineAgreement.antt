@@ -12,20 +12,20 @@ use Rattle.page_roff_lines.specs.declared.Mark.{Mark}
 use Rattle.page_roff_lines.specs.declared.Mark.TheVariants.{Unread, First, Second, Absent, Present}
 use Rattle.page_roff_lines.specs.Bytes.{newline, hash}
 use Rattle.page_roff_lines.specs.Logical.{Kept, kept_lines, has_mark}
-use Rattle.page_roff_lines.specs.Open.{Open, first_open, restarted, closed, counted, put, put_plain, put_pair, put_in, put_byte, ends_mark, mark_after, is_marked, open_after, ended, end_in, kept_of, if_whole, whole_lines, left, lines_from as raw_lines_from}
+use Rattle.page_roff_lines.specs.Open.{Open, first_open, restart, close, count_byte, put, put_plain, put_pair, put_in, put_byte, ends_mark, mark_after, is_marked, next_open, end_open, end_in, kept_of, if_whole, whole_lines, open_after, lines_from as raw_lines_from}
 use Rattle.page_roff_lines.specs.Run.{is_settled}
 use Rattle.page_roff_lines.specs.Characters.{good, bad, is_printable, sequence_length, character, later_length, characters_after, characters}
-use Rattle.page_roff_lines.specs.Decoding.{Line, decoded, choice_of, or_else, choice_of_lines, page_encoding, lines}
-use Rattle.page_roff_lines.specs.Cutting.{Place, first_place, settled, place_at, place_after, ended_place, line_at, lines_within, place_of, lines_from}
-use Rattle.page_roff_lines.proofs.OpenLaws.{open_after-mark}
-use Rattle.page_roff_lines.proofs.PlaceLemmas.{open_place, place_of-append, lines_within-append}
+use Rattle.page_roff_lines.specs.Decoding.{Line, decode_line, choice_of, or_else, choice_of_lines, page_encoding, lines}
+use Rattle.page_roff_lines.specs.Cutting.{Point, first_point, encoding_after, point_at, next_point, end_point, line_at, lines_within, point_after, lines_from}
+use Rattle.page_roff_lines.proofs.OpenLaws.{next_open-mark}
+use Rattle.page_roff_lines.proofs.PointLemmas.{open_point, point_after-append, lines_within-append}
 use Rattle.page_roff_lines.proofs.MarkLemmas.{kept_lines-one_by_one}
 
 -- lines decoded one after the other, each of which may decide the encoding of the next
 abbrev decode_all : Encoding → Bool → List Kept → List Line
 decode_all e m [] = []
 decode_all e m (k ∷ ks) =
-    decoded (or_else e (cond m Utf8 (choice_of k.text))) k ∷ decode_all (or_else e (cond m Utf8 (choice_of k.text))) m ks
+    decode_line (or_else e (cond m Utf8 (choice_of k.text))) k ∷ decode_all (or_else e (cond m Utf8 (choice_of k.text))) m ks
 
 -- a text that decides nothing has the same characters under each encoding
 low_by : (low none : Bool) (c : Encoding) → cond low c (cond none Latin1 Utf8) ≡ Auto → (low ≡ true) × (c ≡ Auto)
@@ -44,34 +44,34 @@ characters-low e f (b ∷ bs) h =
     let low = low_first b bs h in
     rw low.0 (ap (λ cs. cond (is_printable b) (good (b ∷ [])) (bad b) ∷ cs) (characters-low e f bs low.1))
 
-decoded-low : (e f : Encoding) (k : Kept) → choice_of k.text ≡ Auto → decoded e k ≡ decoded f k
-unfolding decoded
-decoded-low e f k h = rw (characters-low e f k.text h) refl
+decode_line-low : (e f : Encoding) (k : Kept) → choice_of k.text ≡ Auto → decode_line e k ≡ decode_line f k
+unfolding decode_line
+decode_line-low e f k h = rw (characters-low e f k.text h) refl
 
 -- once the encoding is known, it stays
-known : (e : Encoding) (m : Bool) (ks : List Kept) → ((c : Encoding) → or_else e c ≡ e) → decode_all e m ks ≡ map (decoded e) ks
+known : (e : Encoding) (m : Bool) (ks : List Kept) → ((c : Encoding) → or_else e c ≡ e) → decode_all e m ks ≡ map (decode_line e) ks
 known e m [] h = refl
-known e m (k ∷ ks) h = rw (h (cond m Utf8 (choice_of k.text))) (ap (λ ls. decoded e k ∷ ls) (known e m ks h))
+known e m (k ∷ ks) h = rw (h (cond m Utf8 (choice_of k.text))) (ap (λ ls. decode_line e k ∷ ls) (known e m ks h))
 
 -- a line that decides or not, where the encoding is not known
-first_decides : (k : Kept) (ks : List Kept) → decode_all Auto false ks ≡ map (decoded (choice_of_lines ks)) ks → (c : Encoding) → choice_of k.text ≡ c
-    → decoded c k ∷ decode_all c false ks ≡ map (decoded (or_else c (choice_of_lines ks))) (k ∷ ks)
-first_decides k ks rest Ascii h = ap (λ ls. decoded Ascii k ∷ ls) (known Ascii false ks (λ c. refl))
-first_decides k ks rest Latin1 h = ap (λ ls. decoded Latin1 k ∷ ls) (known Latin1 false ks (λ c. refl))
-first_decides k ks rest Utf8 h = ap (λ ls. decoded Utf8 k ∷ ls) (known Utf8 false ks (λ c. refl))
+first_decides : (k : Kept) (ks : List Kept) → decode_all Auto false ks ≡ map (decode_line (choice_of_lines ks)) ks → (c : Encoding) → choice_of k.text ≡ c
+    → decode_line c k ∷ decode_all c false ks ≡ map (decode_line (or_else c (choice_of_lines ks))) (k ∷ ks)
+first_decides k ks rest Ascii h = ap (λ ls. decode_line Ascii k ∷ ls) (known Ascii false ks (λ c. refl))
+first_decides k ks rest Latin1 h = ap (λ ls. decode_line Latin1 k ∷ ls) (known Latin1 false ks (λ c. refl))
+first_decides k ks rest Utf8 h = ap (λ ls. decode_line Utf8 k ∷ ls) (known Utf8 false ks (λ c. refl))
 first_decides k ks rest Auto h =
     let e = choice_of_lines ks in
-    let head : decoded Auto k ∷ decode_all Auto false ks ≡ decoded e k ∷ decode_all Auto false ks =
-    ap (λ l. l ∷ decode_all Auto false ks) (decoded-low Auto e k h) in
-    head ∙ ap (λ ls. decoded e k ∷ ls) rest
+    let head : decode_line Auto k ∷ decode_all Auto false ks ≡ decode_line e k ∷ decode_all Auto false ks =
+    ap (λ l. l ∷ decode_all Auto false ks) (decode_line-low Auto e k h) in
+    head ∙ ap (λ ls. decode_line e k ∷ ls) rest
 
 -- the encoding of the page is that of each line, as far as the line depends on it
-decode_all-page : (e : Encoding) (m : Bool) (ks : List Kept) → decode_all e m ks ≡ map (decoded (page_encoding e m ks)) ks
+decode_all-page : (e : Encoding) (m : Bool) (ks : List Kept) → decode_all e m ks ≡ map (decode_line (page_encoding e m ks)) ks
 decode_all-page Ascii m ks = known Ascii m ks (λ c. refl)
 decode_all-page Latin1 m ks = known Latin1 m ks (λ c. refl)
 decode_all-page Utf8 m ks = known Utf8 m ks (λ c. refl)
 decode_all-page Auto true [] = refl
-decode_all-page Auto true (k ∷ ks) = ap (λ ls. decoded Utf8 k ∷ ls) (known Utf8 true ks (λ c. refl))
+decode_all-page Auto true (k ∷ ks) = ap (λ ls. decode_line Utf8 k ∷ ls) (known Utf8 true ks (λ c. refl))
 decode_all-page Auto false [] = refl
 decode_all-page Auto false (k ∷ ks) = first_decides k ks (decode_all-page Auto false ks) (choice_of k.text) refl
 
@@ -88,22 +88,22 @@ put_in-whole Dropped r o b = refl
 put_in-whole Backslash true o b = refl
 put_in-whole Backslash false o b = either-whole (b == hash) _ _ o.whole refl refl
 
-restarted-by : (w : Bool) (o p : Open) → w ≡ o.whole → p.whole ≡ false → (cond w p o).whole ≡ false
-restarted-by true o p h g = g
-restarted-by false o p h g = sym h
+restart-by : (w : Bool) (o p : Open) → w ≡ o.whole → p.whole ≡ false → (cond w p o).whole ≡ false
+restart-by true o p h g = g
+restart-by false o p h g = sym h
 
-restarted-whole : (o : Open) → (restarted o).whole ≡ false
-unfolding restarted
-restarted-whole o = restarted-by o.whole o _ refl refl
+restart-whole : (o : Open) → (restart o).whole ≡ false
+unfolding restart
+restart-whole o = restart-by o.whole o _ refl refl
 
 put_byte-whole : (e : Bool) (o : Open) (b : ℕ) → (b == newline) ≡ false → o.whole ≡ false → (put_byte e o b).whole ≡ false
 unfolding put_byte
 put_byte-whole true o b h w = w
 put_byte-whole false o b h w = rw h (put_in-whole o.mode o.after_return o b ∙ w)
 
-open_after-whole : (o : Open) (b : ℕ) → (b == newline) ≡ false → (open_after o b).whole ≡ false
-unfolding open_after counted
-open_after-whole o b h = put_byte-whole (ends_mark o.mark b) (counted (restarted o) b) b h (restarted-whole o)
+next_open-whole : (o : Open) (b : ℕ) → (b == newline) ≡ false → (next_open o b).whole ≡ false
+unfolding next_open count_byte
+next_open-whole o b h = put_byte-whole (ends_mark o.mark b) (count_byte (restart o) b) b h (restart-whole o)
 
 settled_by_newline : (m : Mark) → is_settled (mark_after m newline) ≡ true
 unfolding mark_after
@@ -114,10 +114,10 @@ settled_by_newline Absent = refl
 settled_by_newline Present = refl
 
 -- where a line is whole, the page's first bytes were read
-whole-settled : (o : Open) (b : ℕ) → (open_after o b).whole ≡ true → is_settled (open_after o b).mark ≡ true
+whole-settled : (o : Open) (b : ℕ) → (next_open o b).whole ≡ true → is_settled (next_open o b).mark ≡ true
 whole-settled o b w = elim (eqb_tells b newline) [
-  | inl is ↦ rw (open_after-mark o b, is.1) (settled_by_newline o.mark)
-  | inr n ↦ let no = open_after-whole o b n.0 in cc
+  | inl is ↦ rw (next_open-mark o b, is.1) (settled_by_newline o.mark)
+  | inr n ↦ let no = next_open-whole o b n.0 in cc
 ]
 
 mark_after-settled : (m : Mark) (b : ℕ) → is_settled m ≡ true → mark_after m b ≡ m
@@ -128,12 +128,12 @@ mark_after-settled Unread b h = cc
 mark_after-settled First b h = cc
 mark_after-settled Second b h = cc
 
-left-mark : (o : Open) (bs : List ℕ) → is_settled o.mark ≡ true → (left o bs).mark ≡ o.mark
-unfolding left
-left-mark o [] h = refl
-left-mark o (b ∷ bs) h =
-    let same : (open_after o b).mark ≡ o.mark = open_after-mark o b ∙ mark_after-settled o.mark b h in
-    left-mark (open_after o b) bs (rw same h) ∙ same
+open_after-mark : (o : Open) (bs : List ℕ) → is_settled o.mark ≡ true → (open_after o bs).mark ≡ o.mark
+unfolding open_after
+open_after-mark o [] h = refl
+open_after-mark o (b ∷ bs) h =
+    let same : (next_open o b).mark ≡ o.mark = next_open-mark o b ∙ mark_after-settled o.mark b h in
+    open_after-mark (next_open o b) bs (rw same h) ∙ same
 
 -- the end of the page leaves the mark
 either-mark : (c : Bool) (o p : Open) (m : Mark) → o.mark ≡ m → p.mark ≡ m → (cond c o p).mark ≡ m
@@ -148,66 +148,66 @@ end_in-mark Dropped r o = refl
 end_in-mark Backslash true o = refl
 end_in-mark Backslash false o = refl
 
-ended-mark : (o : Open) → (ended o).mark ≡ o.mark
-unfolding ended restarted closed
-ended-mark o =
-    let r : Open = restarted o in
+end_open-mark : (o : Open) → (end_open o).mark ≡ o.mark
+unfolding end_open restart close
+end_open-mark o =
+    let r : Open = restart o in
     let same : r.mark ≡ o.mark = either-mark o.whole _ _ o.mark refl refl in
     either-mark r.begun _ _ o.mark (end_in-mark r.mode r.after_return r ∙ same) same
 
 -- lines one by one are the raw lines, each decoded in turn
 abbrev marked_at_end : Open → List ℕ → Bool
-marked_at_end o bs = is_marked (left o bs).mark
+marked_at_end o bs = is_marked (open_after o bs).mark
 
 one-by : (e : Encoding) (o : Open) (w : Bool)
-    → cond w (decoded (cond w (settled e o) e) (kept_of o) ∷ []) [] ≡ decode_all e (is_marked o.mark) (cond w (kept_of o ∷ []) [])
-unfolding settled
+    → cond w (decode_line (cond w (encoding_after e o) e) (kept_of o) ∷ []) [] ≡ decode_all e (is_marked o.mark) (cond w (kept_of o ∷ []) [])
+unfolding encoding_after
 one-by e o true = refl
 one-by e o false = refl
 
-one-decoded : (e : Encoding) (o : Open) → line_at (place_at e o) ≡ decode_all e (is_marked o.mark) (if_whole o)
-unfolding line_at place_at if_whole
-one-decoded e o = one-by e o o.whole
+one-decode_line : (e : Encoding) (o : Open) → line_at (point_at e o) ≡ decode_all e (is_marked o.mark) (if_whole o)
+unfolding line_at point_at if_whole
+one-decode_line e o = one-by e o o.whole
 
-last-decoded : (e : Encoding) (o : Open) → line_at (place_at e (ended o)) ≡ decode_all e (is_marked o.mark) (if_whole (ended o))
-last-decoded e o = one-decoded e (ended o) ∙ ap (λ m. decode_all e (is_marked m) (if_whole (ended o))) (ended-mark o)
+last-decode_line : (e : Encoding) (o : Open) → line_at (point_at e (end_open o)) ≡ decode_all e (is_marked o.mark) (if_whole (end_open o))
+last-decode_line e o = one-decode_line e (end_open o) ∙ ap (λ m. decode_all e (is_marked m) (if_whole (end_open o))) (end_open-mark o)
 
 step-by : (e : Encoding) (o : Open) (bs : List ℕ) (w : Bool) → (w ≡ true → is_settled o.mark ≡ true)
-    → ((f : Encoding) → lines_from (open_place f o) bs ≡ decode_all f (marked_at_end o bs) (raw_lines_from o bs))
-    → cond w (decoded (cond w (settled e o) e) (kept_of o) ∷ []) [] ++ lines_from (open_place (cond w (settled e o) e) o) bs
+    → ((f : Encoding) → lines_from (open_point f o) bs ≡ decode_all f (marked_at_end o bs) (raw_lines_from o bs))
+    → cond w (decode_line (cond w (encoding_after e o) e) (kept_of o) ∷ []) [] ++ lines_from (open_point (cond w (encoding_after e o) e) o) bs
     ≡ decode_all e (marked_at_end o bs) (cond w (kept_of o ∷ []) [] ++ raw_lines_from o bs)
-unfolding settled
+unfolding encoding_after
 step-by e o bs false settles rest = rest e
 step-by e o bs true settles rest =
     let f : Bool → Encoding = λ m. or_else e (cond m Utf8 (choice_of o.text.bytes)) in
-    let same : is_marked o.mark ≡ marked_at_end o bs = ap (λ m. is_marked m) (sym (left-mark o bs (settles refl))) in
-    ap (λ ls. decoded (f (is_marked o.mark)) (kept_of o) ∷ ls) (rest (f (is_marked o.mark)))
-    ∙ ap (λ m. decoded (f m) (kept_of o) ∷ decode_all (f m) (marked_at_end o bs) (raw_lines_from o bs)) same
+    let same : is_marked o.mark ≡ marked_at_end o bs = ap (λ m. is_marked m) (sym (open_after-mark o bs (settles refl))) in
+    ap (λ ls. decode_line (f (is_marked o.mark)) (kept_of o) ∷ ls) (rest (f (is_marked o.mark)))
+    ∙ ap (λ m. decode_line (f m) (kept_of o) ∷ decode_all (f m) (marked_at_end o bs) (raw_lines_from o bs)) same
 
-step-decoded : (e : Encoding) (o : Open) (bs : List ℕ) → (o.whole ≡ true → is_settled o.mark ≡ true)
-    → ((f : Encoding) → lines_from (open_place f o) bs ≡ decode_all f (marked_at_end o bs) (raw_lines_from o bs))
-    → line_at (place_at e o) ++ lines_from (place_at e o) bs ≡ decode_all e (marked_at_end o bs) (if_whole o ++ raw_lines_from o bs)
-unfolding line_at place_at if_whole
-step-decoded e o bs settles rest = step-by e o bs o.whole settles rest
+step-decode_line : (e : Encoding) (o : Open) (bs : List ℕ) → (o.whole ≡ true → is_settled o.mark ≡ true)
+    → ((f : Encoding) → lines_from (open_point f o) bs ≡ decode_all f (marked_at_end o bs) (raw_lines_from o bs))
+    → line_at (point_at e o) ++ lines_from (point_at e o) bs ≡ decode_all e (marked_at_end o bs) (if_whole o ++ raw_lines_from o bs)
+unfolding line_at point_at if_whole
+step-decode_line e o bs settles rest = step-by e o bs o.whole settles rest
 
-all-decoded : (e : Encoding) (o : Open) (bs : List ℕ) → lines_from (open_place e o) bs ≡ decode_all e (marked_at_end o bs) (raw_lines_from o bs)
-unfolding lines_within place_of whole_lines left place_after ended_place
-all-decoded e o [] = last-decoded e o
-all-decoded e o (b ∷ bs) =
-    let p = open_after o b in
-    append_assoc (line_at (place_at e p)) (lines_within (place_at e p) bs) (line_at (ended_place (place_of (place_at e p) bs)))
-    ∙ step-decoded e p bs (whole-settled o b) (λ f. all-decoded f p bs)
-    ∙ ap (λ ks. decode_all e (marked_at_end p bs) ks) (sym (append_assoc (if_whole p) (whole_lines p bs) (if_whole (ended (left p bs)))))
+all-decode_line : (e : Encoding) (o : Open) (bs : List ℕ) → lines_from (open_point e o) bs ≡ decode_all e (marked_at_end o bs) (raw_lines_from o bs)
+unfolding lines_within point_after whole_lines open_after next_point end_point
+all-decode_line e o [] = last-decode_line e o
+all-decode_line e o (b ∷ bs) =
+    let p = next_open o b in
+    append_assoc (line_at (point_at e p)) (lines_within (point_at e p) bs) (line_at (end_point (point_after (point_at e p) bs)))
+    ∙ step-decode_line e p bs (whole-settled o b) (λ f. all-decode_line f p bs)
+    ∙ ap (λ ks. decode_all e (marked_at_end p bs) ks) (sym (append_assoc (if_whole p) (whole_lines p bs) (if_whole (end_open (open_after p bs)))))
 
 -- whether the page begins with a mark
 abbrev marks : Mark → List ℕ → Mark
 marks m [] = m
 marks m (b ∷ bs) = marks (mark_after m b) bs
 
-left-marks : (o : Open) (bs : List ℕ) → (left o bs).mark ≡ marks o.mark bs
-unfolding left
-left-marks o [] = refl
-left-marks o (b ∷ bs) = left-marks (open_after o b) bs ∙ ap (λ m. marks m bs) (open_after-mark o b)
+open_after-marks : (o : Open) (bs : List ℕ) → (open_after o bs).mark ≡ marks o.mark bs
+unfolding open_after
+open_after-marks o [] = refl
+open_after-marks o (b ∷ bs) = open_after-marks (next_open o b) bs ∙ ap (λ m. marks m bs) (next_open-mark o b)
 
 marks-absent : (bs : List ℕ) → marks Absent bs ≡ Absent
 unfolding mark_after
@@ -243,24 +243,24 @@ marks-first (b ∷ bs) = elim (eqb_tells b 0xEF) [
   | inr n ↦ rw (n.0, ne_eqb 0xEF b (λ e. n.1 (sym e))) (ap (λ m. is_marked m) (marks-absent bs))
 ]
 
-is_marked-left : (bs : List ℕ) → marked_at_end first_open bs ≡ has_mark bs
-is_marked-left bs = ap (λ m. is_marked m) (left-marks first_open bs) ∙ marks-first bs
+is_marked-open_after : (bs : List ℕ) → marked_at_end first_open bs ≡ has_mark bs
+is_marked-open_after bs = ap (λ m. is_marked m) (open_after-marks first_open bs) ∙ marks-first bs
 
 -- the lines of a page by their definition are those that its bytes give one by one
-pub lines-one_by_one : (set : Encoding) (bytes : List ℕ) → lines set bytes ≡ lines_from (first_place set) bytes
+pub lines-one_by_one : (set : Encoding) (bytes : List ℕ) → lines set bytes ≡ lines_from (first_point set) bytes
 lines-one_by_one set bytes =
-    sym (all-decoded set first_open bytes
-    ∙ ap (λ m. decode_all set m (raw_lines_from first_open bytes)) (is_marked-left bytes)
+    sym (all-decode_line set first_open bytes
+    ∙ ap (λ m. decode_all set m (raw_lines_from first_open bytes)) (is_marked-open_after bytes)
     ∙ ap (λ ks. decode_all set (has_mark bytes) ks) (sym (kept_lines-one_by_one bytes))
     ∙ decode_all-page set (has_mark bytes) (kept_lines bytes))
 
 -- a page cut anywhere
 pub lines-cut : (set : Encoding) (above below : List ℕ)
-    → lines set (above ++ below) ≡ lines_within (first_place set) above ++ lines_from (place_of (first_place set) above) below
+    → lines set (above ++ below) ≡ lines_within (first_point set) above ++ lines_from (point_after (first_point set) above) below
 lines-cut set above below =
-    let p = first_place set in
-    let q = place_of p above in
+    let p = first_point set in
+    let q = point_after p above in
     lines-one_by_one set (above ++ below)
-    ∙ ap (λ ls. ls ++ line_at (ended_place (place_of p (above ++ below)))) (lines_within-append p above below)
-    ∙ ap (λ (r : Place). (lines_within p above ++ lines_within q below) ++ line_at (ended_place r)) (place_of-append p above below)
-    ∙ append_assoc (lines_within p above) (lines_within q below) (line_at (ended_place (place_of q below)))
+    ∙ ap (λ ls. ls ++ line_at (end_point (point_after p (above ++ below)))) (lines_within-append p above below)
+    ∙ ap (λ (r : Point). (lines_within p above ++ lines_within q below) ++ line_at (end_point r)) (point_after-append p above below)
+    ∙ append_assoc (lines_within p above) (lines_within q below) (line_at (end_point (point_after q below)))

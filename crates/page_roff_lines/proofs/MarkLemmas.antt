@@ -8,9 +8,9 @@ use borrow.Author.Tests.{ne_eqb}
 use Rattle.page_roff_lines.specs.declared.Mode.TheVariants.{Plain}
 use Rattle.page_roff_lines.specs.declared.Mark.{Mark}
 use Rattle.page_roff_lines.specs.declared.Mark.TheVariants.{First, Second, Absent, Present}
-use Rattle.page_roff_lines.specs.Held.{nothing_held, extended}
-use Rattle.page_roff_lines.specs.Logical.{logical_lines, kept, kept_lines, has_mark}
-use Rattle.page_roff_lines.specs.Open.{Open, first_open, restarted, open_after, put_byte, closed, put_in, put_plain, put, counted, ends_mark, mark_after, ended, end_in, left, whole_lines, if_whole, last_line, lines_from}
+use Rattle.page_roff_lines.specs.Held.{nothing_held, extend}
+use Rattle.page_roff_lines.specs.Logical.{logical_lines, keep, kept_lines, has_mark}
+use Rattle.page_roff_lines.specs.Open.{Open, first_open, restart, next_open, put_byte, close, put_in, put_plain, put, count_byte, ends_mark, mark_after, end_open, end_in, open_after, whole_lines, if_whole, last_line, lines_from}
 use Rattle.page_roff_lines.proofs.RunLemmas.{st}
 use Rattle.page_roff_lines.proofs.Agreement.{lines_from-start}
 
@@ -23,22 +23,22 @@ marked = st Plain nothing_held false false 1 1 3 Present
 
 -- after the first bytes of a mark
 abbrev after_one : Mark → Open
-after_one a = st Plain (extended nothing_held (0xEF ∷ [])) false true 1 1 1 a
+after_one a = st Plain (extend nothing_held (0xEF ∷ [])) false true 1 1 1 a
 
 abbrev after_two : Mark → Open
-after_two a = st Plain (extended (extended nothing_held (0xEF ∷ [])) (0xBB ∷ [])) false true 1 1 2 a
+after_two a = st Plain (extend (extend nothing_held (0xEF ∷ [])) (0xBB ∷ [])) false true 1 1 2 a
 
-by_first : (o q : Open) (b : ℕ) (bs : List ℕ) → open_after o b ≡ open_after q b → lines_from o (b ∷ bs) ≡ lines_from q (b ∷ bs)
-unfolding left whole_lines
-by_first o q b bs h = ap (λ (q : Open). (if_whole q ++ whole_lines q bs) ++ last_line (left q bs)) h
+by_first : (o q : Open) (b : ℕ) (bs : List ℕ) → next_open o b ≡ next_open q b → lines_from o (b ∷ bs) ≡ lines_from q (b ∷ bs)
+unfolding open_after whole_lines
+by_first o q b bs h = ap (λ (q : Open). (if_whole q ++ whole_lines q bs) ++ last_line (open_after q bs)) h
 
-by_open : (o q : Open) (b : ℕ) (bs : List ℕ) → open_after o b ≡ q → if_whole q ≡ [] → lines_from o (b ∷ bs) ≡ lines_from q bs
-unfolding left whole_lines
+by_open : (o q : Open) (b : ℕ) (bs : List ℕ) → next_open o b ≡ q → if_whole q ≡ [] → lines_from o (b ∷ bs) ≡ lines_from q bs
+unfolding open_after whole_lines
 by_open o q b bs h e = rw (h, e) refl
 
 third : (bs : List ℕ) → lines_from (after_two Second) bs
     ≡ cond (pointwise nat_eq (0xBF ∷ []) (take 1 bs)) (lines_from marked (drop 1 bs)) (lines_from (after_two Absent) bs)
-unfolding left whole_lines ended end_in restarted closed if_whole open_after put_byte counted ends_mark mark_after
+unfolding open_after whole_lines end_open end_in restart close if_whole next_open put_byte count_byte ends_mark mark_after
 third [] = refl
 third (b ∷ bs) = elim (eqb_tells b 0xBF) [
   | inl is ↦ rw is.1 (by_open (after_two Second) marked 0xBF bs refl refl)
@@ -47,7 +47,7 @@ third (b ∷ bs) = elim (eqb_tells b 0xBF) [
 
 second : (bs : List ℕ) → lines_from (after_one First) bs
     ≡ cond (pointwise nat_eq (0xBB ∷ 0xBF ∷ []) (take 2 bs)) (lines_from marked (drop 2 bs)) (lines_from (after_one Absent) bs)
-unfolding left whole_lines ended end_in restarted closed if_whole open_after put_byte put_in put_plain put counted ends_mark mark_after
+unfolding open_after whole_lines end_open end_in restart close if_whole next_open put_byte put_in put_plain put count_byte ends_mark mark_after
 second [] = refl
 second (b ∷ bs) = elim (eqb_tells b 0xBB) [
   | inl is ↦ rw is.1
@@ -58,7 +58,7 @@ second (b ∷ bs) = elim (eqb_tells b 0xBB) [
 ]
 
 first : (bs : List ℕ) → lines_from first_open bs ≡ cond (has_mark bs) (lines_from marked (drop 3 bs)) (lines_from unmarked bs)
-unfolding left whole_lines ended end_in restarted closed if_whole open_after put_byte put_in put_plain put counted ends_mark mark_after
+unfolding open_after whole_lines end_open end_in restart close if_whole next_open put_byte put_in put_plain put count_byte ends_mark mark_after
 first [] = refl
 first (b ∷ bs) = elim (eqb_tells b 0xEF) [
   | inl is ↦ rw is.1
@@ -69,7 +69,7 @@ first (b ∷ bs) = elim (eqb_tells b 0xEF) [
 ]
 
 either : (c : Bool) (xs ys : List ℕ)
-    → cond c (lines_from marked xs) (lines_from unmarked ys) ≡ map kept (logical_lines 1 (physical_lines (cond c xs ys)))
+    → cond c (lines_from marked xs) (lines_from unmarked ys) ≡ map keep (logical_lines 1 (physical_lines (cond c xs ys)))
 either true xs ys = lines_from-start Present 3 xs refl
 either false xs ys = lines_from-start Absent 0 ys refl
 

@@ -7,31 +7,31 @@ use Rattle.page_roff_lines.specs.declared.Mode.{Mode}
 use Rattle.page_roff_lines.specs.declared.Mode.TheVariants.{Plain, Backslash, Comment, Dropped}
 use Rattle.page_roff_lines.specs.declared.Mark.{Mark}
 use Rattle.page_roff_lines.specs.Bytes.{newline, hash}
-use Rattle.page_roff_lines.specs.Open.{Open, restarted, closed, counted, put, put_plain, put_pair, put_in, without_return, newline_in, put_newline, put_byte, ends_mark, mark_after, open_after, kept_of, if_whole, whole_lines, left}
+use Rattle.page_roff_lines.specs.Open.{Open, restart, close, count_byte, put, put_plain, put_pair, put_in, without_return, newline_in, put_newline, put_byte, ends_mark, mark_after, next_open, kept_of, if_whole, whole_lines, open_after}
 
-pub left-append : (o : Open) (xs ys : List ℕ) → left o (xs ++ ys) ≡ left (left o xs) ys
-unfolding left
-left-append o [] ys = refl
-left-append o (x ∷ xs) ys = left-append (open_after o x) xs ys
+pub open_after-append : (o : Open) (xs ys : List ℕ) → open_after o (xs ++ ys) ≡ open_after (open_after o xs) ys
+unfolding open_after
+open_after-append o [] ys = refl
+open_after-append o (x ∷ xs) ys = open_after-append (next_open o x) xs ys
 
-pub whole_lines-append : (o : Open) (xs ys : List ℕ) → whole_lines o (xs ++ ys) ≡ whole_lines o xs ++ whole_lines (left o xs) ys
-unfolding left whole_lines
+pub whole_lines-append : (o : Open) (xs ys : List ℕ) → whole_lines o (xs ++ ys) ≡ whole_lines o xs ++ whole_lines (open_after o xs) ys
+unfolding open_after whole_lines
 whole_lines-append o [] ys = refl
 whole_lines-append o (x ∷ xs) ys =
-    ap (λ l. if_whole (open_after o x) ++ l) (whole_lines-append (open_after o x) xs ys)
-    ∙ sym (append_assoc (if_whole (open_after o x)) (whole_lines (open_after o x) xs) (whole_lines (left (open_after o x) xs) ys))
+    ap (λ l. if_whole (next_open o x) ++ l) (whole_lines-append (next_open o x) xs ys)
+    ∙ sym (append_assoc (if_whole (next_open o x)) (whole_lines (next_open o x) xs) (whole_lines (open_after (next_open o x) xs) ys))
 
 -- what only the bytes themselves change, and not how they are read: how many came, and how much of a mark
 abbrev part : Open → ℕ × Mark
-part o = (o.taken, o.mark)
+part o = (o.consumed, o.mark)
 
 either-part : (c : Bool) (o p : Open) (k : ℕ × Mark) → part o ≡ k → part p ≡ k → part (cond c o p) ≡ k
 either-part true o p k h g = h
 either-part false o p k h g = g
 
-restarted-part : (o : Open) → part (restarted o) ≡ part o
-unfolding restarted
-restarted-part o = either-part o.whole _ _ (part o) refl refl
+restart-part : (o : Open) → part (restart o) ≡ part o
+unfolding restart
+restart-part o = either-part o.whole _ _ (part o) refl refl
 
 put_in-part : (m : Mode) (r : Bool) (o : Open) (b : ℕ) → part (put_in m r o b) ≡ part o
 unfolding put_in put_plain put_pair put
@@ -42,7 +42,7 @@ put_in-part Backslash true o b = refl
 put_in-part Backslash false o b = either-part (b == hash) _ _ (part o) refl refl
 
 newline_in-part : (m : Mode) (o : Open) → part (newline_in m o) ≡ part o
-unfolding newline_in closed
+unfolding newline_in close
 newline_in-part Plain o = refl
 newline_in-part Comment o = refl
 newline_in-part Dropped o = refl
@@ -57,61 +57,61 @@ unfolding put_byte
 put_byte-part true o b = refl
 put_byte-part false o b = either-part (b == newline) _ _ (part o) (put_newline-part o) (put_in-part o.mode o.after_return o b)
 
-open_after-part : (o : Open) (b : ℕ) → part (open_after o b) ≡ (o.taken + 1, mark_after o.mark b)
-unfolding open_after counted
-open_after-part o b =
-    put_byte-part (ends_mark o.mark b) (counted (restarted o) b) b
-    ∙ ap (λ (p : ℕ × Mark). (p.0 + 1, mark_after p.1 b)) (restarted-part o)
+next_open-part : (o : Open) (b : ℕ) → part (next_open o b) ≡ (o.consumed + 1, mark_after o.mark b)
+unfolding next_open count_byte
+next_open-part o b =
+    put_byte-part (ends_mark o.mark b) (count_byte (restart o) b) b
+    ∙ ap (λ (p : ℕ × Mark). (p.0 + 1, mark_after p.1 b)) (restart-part o)
 
-pub open_after-mark : (o : Open) (b : ℕ) → (open_after o b).mark ≡ mark_after o.mark b
-open_after-mark o b = ap (λ (p : ℕ × Mark). p.1) (open_after-part o b)
+pub next_open-mark : (o : Open) (b : ℕ) → (next_open o b).mark ≡ mark_after o.mark b
+next_open-mark o b = ap (λ (p : ℕ × Mark). p.1) (next_open-part o b)
 
-open_after-taken : (o : Open) (b : ℕ) → (open_after o b).taken ≡ o.taken + 1
-open_after-taken o b = ap (λ (p : ℕ × Mark). p.0) (open_after-part o b)
+next_open-consumed : (o : Open) (b : ℕ) → (next_open o b).consumed ≡ o.consumed + 1
+next_open-consumed o b = ap (λ (p : ℕ × Mark). p.0) (next_open-part o b)
 
-pub left-taken : (o : Open) (bs : List ℕ) → (left o bs).taken ≡ o.taken + length bs
-unfolding left
-left-taken o [] = omega arith
-left-taken o (b ∷ bs) = omega (arith, left-taken (open_after o b) bs, open_after-taken o b)
+pub open_after-consumed : (o : Open) (bs : List ℕ) → (open_after o bs).consumed ≡ o.consumed + length bs
+unfolding open_after
+open_after-consumed o [] = omega arith
+open_after-consumed o (b ∷ bs) = omega (arith, open_after-consumed (next_open o b) bs, next_open-consumed o b)
 
 -- a part more of a list that is read
-pub left-more : (o : Open) (xs : List ℕ) (i n : ℕ) → left (left o (take i xs)) (take n (drop i xs)) ≡ left o (take (i + n) xs)
-left-more o xs i n = rw (take-add i n xs, left-append) refl
+pub open_after-more : (o : Open) (xs : List ℕ) (i n : ℕ) → open_after (open_after o (take i xs)) (take n (drop i xs)) ≡ open_after o (take (i + n) xs)
+open_after-more o xs i n = rw (take-add i n xs, open_after-append) refl
 
 pub whole_lines-more : (o : Open) (xs : List ℕ) (i n : ℕ)
-    → whole_lines o (take (i + n) xs) ≡ whole_lines o (take i xs) ++ whole_lines (left o (take i xs)) (take n (drop i xs))
+    → whole_lines o (take (i + n) xs) ≡ whole_lines o (take i xs) ++ whole_lines (open_after o (take i xs)) (take n (drop i xs))
 whole_lines-more o xs i n = rw (take-add i n xs, whole_lines-append) refl
 
 -- one byte more
-pub left-next : (o : Open) (xs : List ℕ) (i : ℕ) → i < length xs → open_after (left o (take i xs)) (get_or xs i 0) ≡ left o (take (i + 1) xs)
-unfolding left
-left-next o xs i h = rw (take_more xs i 0 h, left-append o (take i xs) (get_or xs i 0 ∷ [])) refl
+pub open_after-next : (o : Open) (xs : List ℕ) (i : ℕ) → i < length xs → next_open (open_after o (take i xs)) (get_or xs i 0) ≡ open_after o (take (i + 1) xs)
+unfolding open_after
+open_after-next o xs i h = rw (take_more xs i 0 h, open_after-append o (take i xs) (get_or xs i 0 ∷ [])) refl
 
 pub whole_lines-next : (o : Open) (xs : List ℕ) (i : ℕ) → i < length xs
-    → whole_lines o (take (i + 1) xs) ≡ whole_lines o (take i xs) ++ if_whole (open_after (left o (take i xs)) (get_or xs i 0))
+    → whole_lines o (take (i + 1) xs) ≡ whole_lines o (take i xs) ++ if_whole (next_open (open_after o (take i xs)) (get_or xs i 0))
 unfolding whole_lines
 whole_lines-next o xs i h = rw (take_more xs i 0 h, whole_lines-append o (take i xs) (get_or xs i 0 ∷ []), append-nil) refl
 
--- what is left of a piece from a place on, as a program writes it
+-- what is left of a chunk from a point on, as a program writes it
 pub rest_of : (xs : List ℕ) (i : ℕ) → take (length xs - i) (drop i xs) ≡ drop i xs
 rest_of xs i = take_all (length xs - i) (drop i xs) (omega (arith, length-drop i xs))
 
--- a run more of a piece
-pub run-left : (o p q : Open) (xs : List ℕ) (i n : ℕ) → p ≡ left o (take i xs) → q ≡ left p (take n (take (length xs - i) (drop i xs)))
-    → q ≡ left o (take (i + n) xs)
-run-left o p q xs i n h g = g ∙ rw (rest_of xs i, h) (left-more o xs i n)
+-- a run more of a chunk
+pub run-open_after : (o p q : Open) (xs : List ℕ) (i n : ℕ) → p ≡ open_after o (take i xs) → q ≡ open_after p (take n (take (length xs - i) (drop i xs)))
+    → q ≡ open_after o (take (i + n) xs)
+run-open_after o p q xs i n h g = g ∙ rw (rest_of xs i, h) (open_after-more o xs i n)
 
-pub run-none : (o p : Open) (xs : List ℕ) (i n : ℕ) → p ≡ left o (take i xs) → whole_lines o (take i xs) ≡ []
+pub run-none : (o p : Open) (xs : List ℕ) (i n : ℕ) → p ≡ open_after o (take i xs) → whole_lines o (take i xs) ≡ []
     → whole_lines p (take n (take (length xs - i) (drop i xs))) ≡ [] → whole_lines o (take (i + n) xs) ≡ []
 run-none o p xs i n h e g =
-    let none : whole_lines (left o (take i xs)) (take n (drop i xs)) ≡ [] = rw (← h, ← rest_of xs i) g in
+    let none : whole_lines (open_after o (take i xs)) (take n (drop i xs)) ≡ [] = rw (← h, ← rest_of xs i) g in
     rw (whole_lines-more o xs i n, e, none) refl
 
--- one byte more of a piece, with which the line is whole or not
-pub byte-left : (o p q : Open) (xs : List ℕ) (j : ℕ) → j < length xs → p ≡ left o (take j xs) → q ≡ open_after p (get_or xs j 0) → q ≡ left o (take (j + 1) xs)
-byte-left o p q xs j l h g = g ∙ ap (λ o. open_after o (get_or xs j 0)) h ∙ left-next o xs j l
+-- one byte more of a chunk, with which the line is whole or not
+pub byte-open_after : (o p q : Open) (xs : List ℕ) (j : ℕ) → j < length xs → p ≡ open_after o (take j xs) → q ≡ next_open p (get_or xs j 0) → q ≡ open_after o (take (j + 1) xs)
+byte-open_after o p q xs j l h g = g ∙ ap (λ o. next_open o (get_or xs j 0)) h ∙ open_after-next o xs j l
 
-pub byte-lines : (o p q : Open) (xs : List ℕ) (j : ℕ) → j < length xs → p ≡ left o (take j xs) → q ≡ open_after p (get_or xs j 0)
+pub byte-lines : (o p q : Open) (xs : List ℕ) (j : ℕ) → j < length xs → p ≡ open_after o (take j xs) → q ≡ next_open p (get_or xs j 0)
     → whole_lines o (take j xs) ≡ [] → whole_lines o (take (j + 1) xs) ≡ cond q.whole (kept_of q ∷ []) []
 unfolding if_whole
 byte-lines o p q xs j l h g e = rw (whole_lines-next o xs j l, e, ← h, ← g) refl

@@ -8,7 +8,7 @@ use Rattle.page_core_base.specs.declared.page_settings.Encoding.TheVariants.{Aut
 use Rattle.page_roff_lines.specs.Limit.{line_limit}
 use Rattle.page_roff_lines.specs.Logical.{Kept}
 use Rattle.page_roff_lines.specs.Characters.{Character, good, is_printable, character, later_length, characters_after, characters, all_bytes}
-use Rattle.page_roff_lines.specs.Decoding.{choice_of, decoded, fitting, bad_notes, limit_notes}
+use Rattle.page_roff_lines.specs.Decoding.{choice_of, decode_line, characters_within, bad_notes, limit_notes}
 use Rattle.std.proofs.lemmas.List.{take-append-drop, drop-drop, length-take, length-take-le}
 use Rattle.page_roff_lines.proofs.CharacterLemmas.{FitsSoFar, so_far-more}
 use Rattle.page_roff_lines.proofs.OpenLaws.{rest_of}
@@ -53,16 +53,16 @@ so_far-run cs out (b ∷ bs) rest h so =
 
 -- and nothing is to be said of them
 pub bad_notes-run : (number room : ℕ) (run : List ℕ) (rest : List Character) → length run ≤ room → room ≤ line_limit
-    → bad_notes number (line_limit - room + 1) (fitting room (singles run ++ rest))
-    ≡ bad_notes number (line_limit - (room - length run) + 1) (fitting (room - length run) rest)
-unfolding fitting bad_notes
+    → bad_notes number (line_limit - room + 1) (characters_within room (singles run ++ rest))
+    ≡ bad_notes number (line_limit - (room - length run) + 1) (characters_within (room - length run) rest)
+unfolding characters_within bad_notes
 bad_notes-run number room [] rest h most = let none : room - 0 ≡ room = omega arith in rw none refl
 bad_notes-run number room (b ∷ bs) rest h most =
     let next : line_limit - room + 1 + 1 ≡ line_limit - (room - 1) + 1 = omega arith in
-    let left : room - 1 - length bs ≡ room - suc (length bs) = omega arith in
-    rw (one_fits room (omega arith), next) (bad_notes-run number (room - 1) bs rest (omega arith) (omega arith) ∙ rw left refl)
+    let same : room - 1 - length bs ≡ room - suc (length bs) = omega arith in
+    rw (one_fits room (omega arith), next) (bad_notes-run number (room - 1) bs rest (omega arith) (omega arith) ∙ rw same refl)
 
--- a run of printable bytes at a place of a text, as a program writes it, was put behind what is done
+-- a run of printable bytes at a place of a text, as a program writes it, was put after what is done
 pub so_far-text : (e : Encoding) (text out next : List ℕ) (i n : ℕ) → n ≤ line_limit - length out
     → list_all is_printable (take n (take (length text - i) (drop i text))) ≡ true → next ≡ out ++ take n (take (length text - i) (drop i text))
     → FitsSoFar (characters e text) out (characters e (drop i text)) → FitsSoFar (characters e text) next (characters e (drop (i + n) text))
@@ -77,8 +77,8 @@ so_far-text e text out next i n fits plain is so =
 -- one whose bytes fit is passed over
 pub bad_notes-text : (e : Encoding) (number : ℕ) (text : List ℕ) (i n room : ℕ) → n ≤ length (take (length text - i) (drop i text))
     → list_all is_printable (take n (take (length text - i) (drop i text))) ≡ true → n ≤ room → room ≤ line_limit
-    → bad_notes number (line_limit - room + 1) (fitting room (characters e (drop i text)))
-    ≡ bad_notes number (line_limit - (room - n) + 1) (fitting (room - n) (characters e (drop (i + n) text)))
+    → bad_notes number (line_limit - room + 1) (characters_within room (characters e (drop i text)))
+    ≡ bad_notes number (line_limit - (room - n) + 1) (characters_within (room - n) (characters e (drop (i + n) text)))
 bad_notes-text e number text i n room within plain fits most =
     let rest = rest_of text i in
     let run = take n (drop i text) in
@@ -88,11 +88,11 @@ bad_notes-text e number text i n room within plain fits most =
     rw (characters-run e text i n plain_run)
     (bad_notes-run number room run (characters e (drop (i + n) text)) (omega (arith, len)) most ∙ rw len refl)
 
-fitting-singles : (room : ℕ) (text : List ℕ) → length text ≤ room → fitting room (singles text) ≡ singles text
-unfolding fitting
-fitting-singles room [] h = refl
-fitting-singles room (b ∷ bs) h =
-    rw (one_fits room (omega arith)) (ap (λ cs. good (b ∷ []) ∷ cs) (fitting-singles (room - 1) bs (omega arith)))
+characters_within-singles : (room : ℕ) (text : List ℕ) → length text ≤ room → characters_within room (singles text) ≡ singles text
+unfolding characters_within
+characters_within-singles room [] h = refl
+characters_within-singles room (b ∷ bs) h =
+    rw (one_fits room (omega arith)) (ap (λ cs. good (b ∷ []) ∷ cs) (characters_within-singles (room - 1) bs (omega arith)))
 
 all_bytes-singles : (text : List ℕ) → all_bytes (singles text) ≡ text
 all_bytes-singles [] = refl
@@ -110,12 +110,12 @@ or_false : (c : Bool) → (c || false) ≡ c
 or_false true = refl
 or_false false = refl
 
-pub decoded-plain : (e : Encoding) (k : Kept) → list_all is_printable k.text ≡ true → length k.text ≤ line_limit
-    → ((decoded e k).text ≡ k.text) × ((decoded e k).notes ≡ limit_notes k.cut k.number)
-unfolding decoded
-decoded-plain e k plain short =
+pub decode_line-plain : (e : Encoding) (k : Kept) → list_all is_printable k.text ≡ true → length k.text ≤ line_limit
+    → ((decode_line e k).text ≡ k.text) × ((decode_line e k).notes ≡ limit_notes k.cut k.number)
+unfolding decode_line
+decode_line-plain e k plain short =
     let chars = characters-plain e k.text plain in
-    let stay = fitting-singles line_limit k.text short in (
+    let stay = characters_within-singles line_limit k.text short in (
       rw (chars, stay) (all_bytes-singles k.text),
       rw (chars, stay, below_itself (length (singles k.text)), or_false k.cut, bad_notes-singles k.number 1 k.text) (append-nil (limit_notes k.cut k.number)),
     )

@@ -7,13 +7,13 @@ use Rattle.page_roff_lines.specs.declared.Mark.{Mark}
 use Rattle.page_roff_lines.specs.declared.Mark.TheVariants.{Unread, First, Second, Absent, Present}
 use Rattle.page_roff_lines.specs.Bytes.{newline, carriage_return, backslash}
 use Rattle.page_roff_lines.specs.Limit.{line_limit}
-use Rattle.page_roff_lines.specs.Held.{Held, nothing_held, extended}
-use Rattle.page_roff_lines.specs.Open.{Open, restarted, open_after, put_byte, put_in, put_plain, put_newline, without_return, newline_in, closed, put, counted, ends_mark, mark_after, if_whole, whole_lines, left}
+use Rattle.page_roff_lines.specs.Held.{Held, nothing_held, extend}
+use Rattle.page_roff_lines.specs.Open.{Open, restart, next_open, put_byte, put_in, put_plain, put_newline, without_return, newline_in, close, put, count_byte, ends_mark, mark_after, if_whole, whole_lines, open_after}
 use Rattle.page_roff_lines.specs.Run.{IsRun, InText, ends_run, is_settled, run_in, with_run}
 
 -- an open line that is not whole
 abbrev pub st : Mode → Held → Bool → Bool → ℕ → ℕ → ℕ → Mark → Open
-st m t r g n p k a = record { text = t; mode = m; after_return = r; begun = g; whole = false; number = n; physical = p; taken = k; mark = a }
+st m t r g n p k a = record { text = t; mode = m; after_return = r; begun = g; whole = false; number = n; physical = p; consumed = k; mark = a }
 
 or_false : (a b : Bool) → (a || b) ≡ false → (a ≡ false) × (b ≡ false)
 or_false false b h = (refl, h)
@@ -21,8 +21,8 @@ or_false true b h = cc
 
 -- one byte of a run
 pub plain_byte : (t : Held) (r g : Bool) (n p k : ℕ) (a : Mark) (b : ℕ) → is_settled a ≡ true → ends_run Plain b ≡ false
-    → open_after (st Plain t r g n p k a) b ≡ st Plain (extended t (b ∷ [])) (b == carriage_return) true n p (k + 1) a
-unfolding open_after put_byte put_in put_plain put counted restarted ends_mark mark_after
+    → next_open (st Plain t r g n p k a) b ≡ st Plain (extend t (b ∷ [])) (b == carriage_return) true n p (k + 1) a
+unfolding next_open put_byte put_in put_plain put count_byte restart ends_mark mark_after
 plain_byte t r g n p k Absent b h e = let f = or_false (b == newline) (b == backslash) e in rw (f.0, f.1) refl
 plain_byte t r g n p k Present b h e = let f = or_false (b == newline) (b == backslash) e in rw (f.0, f.1) refl
 plain_byte t r g n p k Unread b h e = cc
@@ -30,8 +30,8 @@ plain_byte t r g n p k First b h e = cc
 plain_byte t r g n p k Second b h e = cc
 
 pub comment_byte : (t : Held) (r g : Bool) (n p k : ℕ) (a : Mark) (b : ℕ) → is_settled a ≡ true → ends_run Comment b ≡ false
-    → open_after (st Comment t r g n p k a) b ≡ st Comment (extended t (b ∷ [])) (b == carriage_return) true n p (k + 1) a
-unfolding open_after put_byte put_in put_plain put counted restarted ends_mark mark_after
+    → next_open (st Comment t r g n p k a) b ≡ st Comment (extend t (b ∷ [])) (b == carriage_return) true n p (k + 1) a
+unfolding next_open put_byte put_in put_plain put count_byte restart ends_mark mark_after
 comment_byte t r g n p k Absent b h e = rw e refl
 comment_byte t r g n p k Present b h e = rw e refl
 comment_byte t r g n p k Unread b h e = cc
@@ -39,8 +39,8 @@ comment_byte t r g n p k First b h e = cc
 comment_byte t r g n p k Second b h e = cc
 
 pub dropped_byte : (t : Held) (r g : Bool) (n p k : ℕ) (a : Mark) (b : ℕ) → is_settled a ≡ true → ends_run Dropped b ≡ false
-    → open_after (st Dropped t r g n p k a) b ≡ st Dropped t r g n p (k + 1) a
-unfolding open_after put_byte put_in put_plain put counted restarted ends_mark mark_after
+    → next_open (st Dropped t r g n p k a) b ≡ st Dropped t r g n p (k + 1) a
+unfolding next_open put_byte put_in put_plain put count_byte restart ends_mark mark_after
 dropped_byte t r g n p k Absent b h e = rw e refl
 dropped_byte t r g n p k Present b h e = rw e refl
 dropped_byte t r g n p k Unread b h e = cc
@@ -53,9 +53,9 @@ take-take-append zero xs ys = refl
 take-take-append (suc n) [] ys = refl
 take-take-append (suc n) (x ∷ xs) ys = ap (λ l. x ∷ l) (take-take-append n xs ys)
 
-pub extended-extended : (t : Held) (xs ys : List ℕ) → extended (extended t xs) ys ≡ extended t (xs ++ ys)
-unfolding extended
-extended-extended t xs ys =
+pub extend-extend : (t : Held) (xs ys : List ℕ) → extend (extend t xs) ys ≡ extend t (xs ++ ys)
+unfolding extend
+extend-extend t xs ys =
     rw (take-take-append line_limit (t.bytes ++ xs) ys, append_assoc t.bytes xs ys, length-append xs ys, add_assoc t.total (length xs) (length ys)) refl
 
 -- the last byte of a list
@@ -71,36 +71,36 @@ last_more b c bs =
 -- in this mode a byte that passes is kept
 abbrev KeepsByte : Mode → ℕ → ℕ → Mark → (ℕ → Bool) → Type 0
 KeepsByte m n p a ends = (t : Held) (r g : Bool) (k b : ℕ) → ends b ≡ false
-    → open_after (st m t r g n p k a) b ≡ st m (extended t (b ∷ [])) (b == carriage_return) true n p (k + 1) a
+    → next_open (st m t r g n p k a) b ≡ st m (extend t (b ∷ [])) (b == carriage_return) true n p (k + 1) a
 
-kept-left : (m : Mode) (n p : ℕ) (a : Mark) (ends : ℕ → Bool) → KeepsByte m n p a ends
+keep-open_after : (m : Mode) (n p : ℕ) (a : Mark) (ends : ℕ → Bool) → KeepsByte m n p a ends
     → (t : Held) (r g : Bool) (k b : ℕ) (bs : List ℕ) → ((i : ℕ) → i < length (b ∷ bs) → ends (get_or (b ∷ bs) i 0) ≡ false)
-    → left (st m t r g n p k a) (b ∷ bs) ≡ st m (extended t (b ∷ bs)) (last_of (b ∷ bs) == carriage_return) true n p (k + length (b ∷ bs)) a
-unfolding left
-kept-left m n p a ends one t r g k b [] h = one t r g k b (h 0 (omega arith))
-kept-left m n p a ends one t r g k b (c ∷ bs) h =
+    → open_after (st m t r g n p k a) (b ∷ bs) ≡ st m (extend t (b ∷ bs)) (last_of (b ∷ bs) == carriage_return) true n p (k + length (b ∷ bs)) a
+unfolding open_after
+keep-open_after m n p a ends one t r g k b [] h = one t r g k b (h 0 (omega arith))
+keep-open_after m n p a ends one t r g k b (c ∷ bs) h =
     let count : k + 1 + suc (length bs) ≡ k + suc (suc (length bs)) = omega arith in
     rw (one t r g k b (h 0 (omega arith)))
-    (kept-left m n p a ends one (extended t (b ∷ [])) (b == carriage_return) true (k + 1) c bs (λ i l. h (suc i) (omega arith))
-    ∙ rw (extended-extended t (b ∷ []) (c ∷ bs), last_more b c bs, count) refl)
+    (keep-open_after m n p a ends one (extend t (b ∷ [])) (b == carriage_return) true (k + 1) c bs (λ i l. h (suc i) (omega arith))
+    ∙ rw (extend-extend t (b ∷ []) (c ∷ bs), last_more b c bs, count) refl)
 
-kept-none : (m : Mode) (n p : ℕ) (a : Mark) (ends : ℕ → Bool) → KeepsByte m n p a ends
+keep-none : (m : Mode) (n p : ℕ) (a : Mark) (ends : ℕ → Bool) → KeepsByte m n p a ends
     → (t : Held) (r g : Bool) (k : ℕ) (bs : List ℕ) → ((i : ℕ) → i < length bs → ends (get_or bs i 0) ≡ false)
     → whole_lines (st m t r g n p k a) bs ≡ []
 unfolding whole_lines if_whole
-kept-none m n p a ends one t r g k [] h = refl
-kept-none m n p a ends one t r g k (b ∷ bs) h =
+keep-none m n p a ends one t r g k [] h = refl
+keep-none m n p a ends one t r g k (b ∷ bs) h =
     rw (one t r g k b (h 0 (omega arith)))
-    (kept-none m n p a ends one (extended t (b ∷ [])) (b == carriage_return) true (k + 1) bs (λ i l. h (suc i) (omega arith)))
+    (keep-none m n p a ends one (extend t (b ∷ [])) (b == carriage_return) true (k + 1) bs (λ i l. h (suc i) (omega arith)))
 
-dropped-left : (t : Held) (r g : Bool) (n p : ℕ) (a : Mark) → is_settled a ≡ true → (k : ℕ) (bs : List ℕ)
+dropped-open_after : (t : Held) (r g : Bool) (n p : ℕ) (a : Mark) → is_settled a ≡ true → (k : ℕ) (bs : List ℕ)
     → ((i : ℕ) → i < length bs → ends_run Dropped (get_or bs i 0) ≡ false)
-    → left (st Dropped t r g n p k a) bs ≡ st Dropped t r g n p (k + length bs) a
-unfolding left
-dropped-left t r g n p a s k [] h = let count : k ≡ k + 0 = omega arith in rw (← count) refl
-dropped-left t r g n p a s k (b ∷ bs) h =
+    → open_after (st Dropped t r g n p k a) bs ≡ st Dropped t r g n p (k + length bs) a
+unfolding open_after
+dropped-open_after t r g n p a s k [] h = let count : k ≡ k + 0 = omega arith in rw (← count) refl
+dropped-open_after t r g n p a s k (b ∷ bs) h =
     let count : k + 1 + length bs ≡ k + suc (length bs) = omega arith in
-    rw (dropped_byte t r g n p k a b s (h 0 (omega arith))) (dropped-left t r g n p a s (k + 1) bs (λ i l. h (suc i) (omega arith)) ∙ rw count refl)
+    rw (dropped_byte t r g n p k a b s (h 0 (omega arith))) (dropped-open_after t r g n p a s (k + 1) bs (λ i l. h (suc i) (omega arith)) ∙ rw count refl)
 
 dropped-none : (t : Held) (r g : Bool) (n p : ℕ) (a : Mark) → is_settled a ≡ true → (k : ℕ) (bs : List ℕ)
     → ((i : ℕ) → i < length bs → ends_run Dropped (get_or bs i 0) ≡ false) → whole_lines (st Dropped t r g n p k a) bs ≡ []
@@ -110,70 +110,70 @@ dropped-none t r g n p a s k (b ∷ bs) h =
     rw (dropped_byte t r g n p k a b s (h 0 (omega arith))) (dropped-none t r g n p a s (k + 1) bs (λ i l. h (suc i) (omega arith)))
 
 -- in each mode
-run-left : (m : Mode) (t : Held) (r g : Bool) (n p k : ℕ) (a : Mark) (b : ℕ) (bs : List ℕ) → IsRun (st m t r g n p k a) (b ∷ bs)
-    → left (st m t r g n p k a) (b ∷ bs) ≡ with_run (st m t r g n p k a) (b ∷ bs)
+run-open_after : (m : Mode) (t : Held) (r g : Bool) (n p k : ℕ) (a : Mark) (b : ℕ) (bs : List ℕ) → IsRun (st m t r g n p k a) (b ∷ bs)
+    → open_after (st m t r g n p k a) (b ∷ bs) ≡ with_run (st m t r g n p k a) (b ∷ bs)
 unfolding run_in
-run-left Plain t r g n p k a b bs is =
-    kept-left Plain n p a (ends_run Plain) (λ u s f j c. plain_byte u s f n p j a c is.settled) t r g k b bs is.bytes
-run-left Comment t r g n p k a b bs is =
-    kept-left Comment n p a (ends_run Comment) (λ u s f j c. comment_byte u s f n p j a c is.settled) t r g k b bs is.bytes
-run-left Dropped t r g n p k a b bs is = dropped-left t r g n p a is.settled k (b ∷ bs) is.bytes
-run-left Backslash t r g n p k a b bs is = let h = is.bytes 0 (omega arith) in cc
+run-open_after Plain t r g n p k a b bs is =
+    keep-open_after Plain n p a (ends_run Plain) (λ u s f j c. plain_byte u s f n p j a c is.settled) t r g k b bs is.bytes
+run-open_after Comment t r g n p k a b bs is =
+    keep-open_after Comment n p a (ends_run Comment) (λ u s f j c. comment_byte u s f n p j a c is.settled) t r g k b bs is.bytes
+run-open_after Dropped t r g n p k a b bs is = dropped-open_after t r g n p a is.settled k (b ∷ bs) is.bytes
+run-open_after Backslash t r g n p k a b bs is = let h = is.bytes 0 (omega arith) in cc
 
 run-none : (m : Mode) (t : Held) (r g : Bool) (n p k : ℕ) (a : Mark) (bs : List ℕ) → IsRun (st m t r g n p k a) bs
     → whole_lines (st m t r g n p k a) bs ≡ []
 unfolding whole_lines
 run-none Plain t r g n p k a bs is =
-    kept-none Plain n p a (ends_run Plain) (λ u s f j c. plain_byte u s f n p j a c is.settled) t r g k bs is.bytes
+    keep-none Plain n p a (ends_run Plain) (λ u s f j c. plain_byte u s f n p j a c is.settled) t r g k bs is.bytes
 run-none Comment t r g n p k a bs is =
-    kept-none Comment n p a (ends_run Comment) (λ u s f j c. comment_byte u s f n p j a c is.settled) t r g k bs is.bytes
+    keep-none Comment n p a (ends_run Comment) (λ u s f j c. comment_byte u s f n p j a c is.settled) t r g k bs is.bytes
 run-none Dropped t r g n p k a bs is = dropped-none t r g n p a is.settled k bs is.bytes
 run-none Backslash t r g n p k a [] is = refl
 run-none Backslash t r g n p k a (b ∷ bs) is = let h = is.bytes 0 (omega arith) in cc
 
 -- an open line, whole or not
 abbrev pub any : Bool → Mode → Held → Bool → Bool → ℕ → ℕ → ℕ → Mark → Open
-any w m t r g n p k a = record { text = t; mode = m; after_return = r; begun = g; whole = w; number = n; physical = p; taken = k; mark = a }
+any w m t r g n p k a = record { text = t; mode = m; after_return = r; begun = g; whole = w; number = n; physical = p; consumed = k; mark = a }
 
 -- a byte begins the line after a whole one
-pub left-restarted : (w : Bool) (m : Mode) (t : Held) (r g : Bool) (n p k : ℕ) (a : Mark) (b : ℕ) (bs : List ℕ)
-    → left (any w m t r g n p k a) (b ∷ bs) ≡ left (restarted (any w m t r g n p k a)) (b ∷ bs)
-unfolding left open_after restarted
-left-restarted false m t r g n p k a b bs = refl
-left-restarted true m t r g n p k a b bs = refl
+pub open_after-restart : (w : Bool) (m : Mode) (t : Held) (r g : Bool) (n p k : ℕ) (a : Mark) (b : ℕ) (bs : List ℕ)
+    → open_after (any w m t r g n p k a) (b ∷ bs) ≡ open_after (restart (any w m t r g n p k a)) (b ∷ bs)
+unfolding open_after next_open restart
+open_after-restart false m t r g n p k a b bs = refl
+open_after-restart true m t r g n p k a b bs = refl
 
-pub whole_lines-restarted : (w : Bool) (m : Mode) (t : Held) (r g : Bool) (n p k : ℕ) (a : Mark) (bs : List ℕ)
-    → whole_lines (any w m t r g n p k a) bs ≡ whole_lines (restarted (any w m t r g n p k a)) bs
-unfolding whole_lines open_after restarted
-whole_lines-restarted false m t r g n p k a bs = refl
-whole_lines-restarted true m t r g n p k a [] = refl
-whole_lines-restarted true m t r g n p k a (b ∷ bs) = refl
+pub whole_lines-restart : (w : Bool) (m : Mode) (t : Held) (r g : Bool) (n p k : ℕ) (a : Mark) (bs : List ℕ)
+    → whole_lines (any w m t r g n p k a) bs ≡ whole_lines (restart (any w m t r g n p k a)) bs
+unfolding whole_lines next_open restart
+whole_lines-restart false m t r g n p k a bs = refl
+whole_lines-restart true m t r g n p k a [] = refl
+whole_lines-restart true m t r g n p k a (b ∷ bs) = refl
 
-any-left : (w : Bool) (m : Mode) (t : Held) (r g : Bool) (n p k : ℕ) (a : Mark) (run : List ℕ) → 0 < length run → IsRun (any w m t r g n p k a) run
-    → left (any w m t r g n p k a) run ≡ with_run (restarted (any w m t r g n p k a)) run
-unfolding restarted
-any-left w m t r g n p k a [] some is = absurd (omega arith)
-any-left false m t r g n p k a (b ∷ bs) some is = run-left m t r g n p k a b bs record { settled = is.settled; bytes = is.bytes }
-any-left true m t r g n p k a (b ∷ bs) some is =
-    left-restarted true m t r g n p k a b bs ∙ run-left m nothing_held r g p p k a b bs record { settled = is.settled; bytes = is.bytes }
+any-open_after : (w : Bool) (m : Mode) (t : Held) (r g : Bool) (n p k : ℕ) (a : Mark) (run : List ℕ) → 0 < length run → IsRun (any w m t r g n p k a) run
+    → open_after (any w m t r g n p k a) run ≡ with_run (restart (any w m t r g n p k a)) run
+unfolding restart
+any-open_after w m t r g n p k a [] some is = absurd (omega arith)
+any-open_after false m t r g n p k a (b ∷ bs) some is = run-open_after m t r g n p k a b bs record { settled = is.settled; bytes = is.bytes }
+any-open_after true m t r g n p k a (b ∷ bs) some is =
+    open_after-restart true m t r g n p k a b bs ∙ run-open_after m nothing_held r g p p k a b bs record { settled = is.settled; bytes = is.bytes }
 
 any-none : (w : Bool) (m : Mode) (t : Held) (r g : Bool) (n p k : ℕ) (a : Mark) (run : List ℕ) → IsRun (any w m t r g n p k a) run
     → whole_lines (any w m t r g n p k a) run ≡ []
-unfolding restarted
+unfolding restart
 any-none false m t r g n p k a run is = run-none m t r g n p k a run record { settled = is.settled; bytes = is.bytes }
 any-none true m t r g n p k a run is =
-    whole_lines-restarted true m t r g n p k a run ∙ run-none m nothing_held r g p p k a run record { settled = is.settled; bytes = is.bytes }
+    whole_lines-restart true m t r g n p k a run ∙ run-none m nothing_held r g p p k a run record { settled = is.settled; bytes = is.bytes }
 
-pub left-run : (o : Open) (run : List ℕ) → 0 < length run → IsRun o run → left o run ≡ with_run (restarted o) run
-left-run o run some is = any-left o.whole o.mode o.text o.after_return o.begun o.number o.physical o.taken o.mark run some is
+pub open_after-run : (o : Open) (run : List ℕ) → 0 < length run → IsRun o run → open_after o run ≡ with_run (restart o) run
+open_after-run o run some is = any-open_after o.whole o.mode o.text o.after_return o.begun o.number o.physical o.consumed o.mark run some is
 
 pub whole_lines-run : (o : Open) (run : List ℕ) → IsRun o run → whole_lines o run ≡ []
-whole_lines-run o run is = any-none o.whole o.mode o.text o.after_return o.begun o.number o.physical o.taken o.mark run is
+whole_lines-run o run is = any-none o.whole o.mode o.text o.after_return o.begun o.number o.physical o.consumed o.mark run is
 
--- a line feed behind text ends the line, and takes nothing away
+-- a line feed after text ends the line, and takes nothing away
 newline-st : (t : Held) (g : Bool) (n p k : ℕ) (a : Mark) → is_settled a ≡ true
-    → open_after (st Plain t false g n p k a) newline ≡ any true Plain t false false n (p + 1) (k + 1) a
-unfolding open_after put_byte put_newline without_return newline_in closed counted restarted ends_mark mark_after
+    → next_open (st Plain t false g n p k a) newline ≡ any true Plain t false false n (p + 1) (k + 1) a
+unfolding next_open put_byte put_newline without_return newline_in close count_byte restart ends_mark mark_after
 newline-st t g n p k Absent h = refl
 newline-st t g n p k Present h = refl
 newline-st t g n p k Unread h = cc
@@ -181,8 +181,8 @@ newline-st t g n p k First h = cc
 newline-st t g n p k Second h = cc
 
 newline-any : (w : Bool) (m : Mode) (t : Held) (r g : Bool) (n p k : ℕ) (a : Mark) → w ≡ false → m ≡ Plain → r ≡ false → is_settled a ≡ true
-    → open_after (any w m t r g n p k a) newline ≡ any true Plain t false false n (p + 1) (k + 1) a
+    → next_open (any w m t r g n p k a) newline ≡ any true Plain t false false n (p + 1) (k + 1) a
 newline-any w m t r g n p k a e f h s = rw (e, f, h) (newline-st t g n p k a s)
 
-pub text-newline : (o : Open) → InText o → open_after o newline ≡ any true Plain o.text false false o.number (o.physical + 1) (o.taken + 1) o.mark
-text-newline o is = newline-any o.whole o.mode o.text o.after_return o.begun o.number o.physical o.taken o.mark is.unfinished is.plain is.no_return is.settled
+pub text-newline : (o : Open) → InText o → next_open o newline ≡ any true Plain o.text false false o.number (o.physical + 1) (o.consumed + 1) o.mark
+text-newline o is = newline-any o.whole o.mode o.text o.after_return o.begun o.number o.physical o.consumed o.mark is.unfinished is.plain is.no_return is.settled

@@ -7,15 +7,15 @@ use Rattle.page_roff_lines.specs.declared.Mode.TheVariants.{Plain}
 use Rattle.page_roff_lines.specs.declared.Mark.{Mark}
 use Rattle.page_roff_lines.specs.declared.Mark.TheVariants.{Unread, First, Second, Absent, Present}
 use Rattle.page_roff_lines.specs.Bytes.{newline, carriage_return, backslash, quote, hash}
-use Rattle.page_roff_lines.specs.Held.{Held, held, shortened}
-use Rattle.page_roff_lines.specs.Reading.{Reading, after_byte, read, read_pair}
-use Rattle.page_roff_lines.specs.Open.{Open, restarted, open_after, put_byte, put_newline, newline_in, without_return, closed, counted, ends_mark, mark_after, ended, end_in, left, whole_lines, if_whole}
+use Rattle.page_roff_lines.specs.Held.{Held, hold, shorten}
+use Rattle.page_roff_lines.specs.Physical.{Physical, after_byte, read, read_pair}
+use Rattle.page_roff_lines.specs.Open.{Open, restart, next_open, put_byte, put_newline, newline_in, without_return, close, count_byte, ends_mark, mark_after, end_open, end_in, open_after, whole_lines, if_whole}
 use Rattle.page_roff_lines.specs.Run.{is_settled}
 use Rattle.page_roff_lines.proofs.RunLemmas.{st, any}
-use Rattle.page_roff_lines.proofs.Spots.{Spot, plain, returned, slash, slash_returned, noted, noted_returned, dropping, mode_of, return_of, pending, at, next, next_text, by_byte, held-pop, open_after-at}
+use Rattle.page_roff_lines.proofs.Spots.{Spot, plain, returned, slash, slash_returned, noted, noted_returned, dropping, mode_of, return_of, pending, at, next, next_text, by_byte, hold-pop, next_open-at}
 
 -- the rest of a physical line, read from there
-abbrev pub read_at : Spot → List ℕ → Reading
+abbrev pub read_at : Spot → List ℕ → Physical
 read_at plain y = read y
 read_at returned y = read y
 read_at slash y = read y
@@ -25,7 +25,7 @@ read_at noted_returned y = record { text = y; joins = false }
 read_at dropping y = record { text = []; joins = true }
 
 -- after a text
-abbrev pub upon : List ℕ → Reading → Reading
+abbrev pub upon : List ℕ → Physical → Physical
 upon text r = record { text = text ++ r.text; joins = r.joins }
 
 -- an end that is taken off a line, where it is a carriage return
@@ -33,13 +33,13 @@ pub record TakesReturn (f : List ℕ → List ℕ) : Type 0 where
   pub more : (x y : ℕ) (zs : List ℕ) → f (x ∷ y ∷ zs) ≡ x ∷ f (y ∷ zs)
   pub other : (x : ℕ) (zs : List ℕ) → (x == carriage_return) ≡ false → f (x ∷ zs) ≡ x ∷ f zs
 
-abbrev pub whole_of : (List ℕ → List ℕ) → Spot → List ℕ → Reading
+abbrev pub whole_of : (List ℕ → List ℕ) → Spot → List ℕ → Physical
 whole_of f s y = read_at s (f (pending s ++ y))
 
-after_other : (text : List ℕ) (b : ℕ) (r : Reading) → upon text (after_byte b r) ≡ upon (text ++ b ∷ []) r
+after_other : (text : List ℕ) (b : ℕ) (r : Physical) → upon text (after_byte b r) ≡ upon (text ++ b ∷ []) r
 after_other text b r = rw append_assoc refl
 
-after_two : (text : List ℕ) (b c : ℕ) (r : Reading) → upon text (after_byte b (after_byte c r)) ≡ upon (text ++ b ∷ c ∷ []) r
+after_two : (text : List ℕ) (b c : ℕ) (r : Physical) → upon text (after_byte b (after_byte c r)) ≡ upon (text ++ b ∷ c ∷ []) r
 after_two text b c r = rw append_assoc refl
 
 plain_reading : (f : List ℕ → List ℕ) → TakesReturn f → (text : List ℕ) (b : ℕ) (ys : List ℕ)
@@ -113,75 +113,75 @@ pub keeps : TakesReturn (λ l. l)
 keeps = record { more = λ x y zs. refl; other = λ x zs h. refl }
 
 -- the line after a line feed: joined to the next physical line, or whole
-abbrev pub after_line : Mark → ℕ → ℕ → ℕ → Reading → Open
-after_line a n p k r = any (not r.joins) Plain (held r.text) false r.joins n (p + 1) k a
+abbrev pub after_line : Mark → ℕ → ℕ → ℕ → Physical → Open
+after_line a n p k r = any (not r.joins) Plain (hold r.text) false r.joins n (p + 1) k a
 
-open_after-newline : (m : Mode) (t : Held) (r : Bool) (n p k : ℕ) (a : Mark) → is_settled a ≡ true
-    → open_after (st m t r true n p k a) newline ≡ put_newline (st m t r true n p (k + 1) a)
-unfolding open_after put_byte counted restarted ends_mark mark_after
-open_after-newline m t r n p k Absent h = refl
-open_after-newline m t r n p k Present h = refl
-open_after-newline m t r n p k Unread h = cc
-open_after-newline m t r n p k First h = cc
-open_after-newline m t r n p k Second h = cc
+next_open-newline : (m : Mode) (t : Held) (r : Bool) (n p k : ℕ) (a : Mark) → is_settled a ≡ true
+    → next_open (st m t r true n p k a) newline ≡ put_newline (st m t r true n p (k + 1) a)
+unfolding next_open put_byte count_byte restart ends_mark mark_after
+next_open-newline m t r n p k Absent h = refl
+next_open-newline m t r n p k Present h = refl
+next_open-newline m t r n p k Unread h = cc
+next_open-newline m t r n p k First h = cc
+next_open-newline m t r n p k Second h = cc
 
-popped : (text : List ℕ) (b : ℕ) → shortened (held (text ++ b ∷ [])) ≡ held (text ++ [])
-popped text b = held-pop text b ∙ ap held (sym (append-nil text))
+popped : (text : List ℕ) (b : ℕ) → shorten (hold (text ++ b ∷ [])) ≡ hold (text ++ [])
+popped text b = hold-pop text b ∙ ap hold (sym (append-nil text))
 
 newline-at : (a : Mark) (n p k : ℕ) (s : Spot) (text : List ℕ)
     → put_newline (at a n p s text k) ≡ after_line a n p k (upon text (whole_of strip_carriage_return s []))
-unfolding put_newline newline_in without_return closed read read_pair
+unfolding put_newline newline_in without_return close read read_pair
 newline-at a n p k plain text = refl
 newline-at a n p k returned text = ap (λ h. any true Plain h false false n (p + 1) k a) (popped text carriage_return)
 newline-at a n p k slash text = ap (λ h. any false Plain h false true n (p + 1) k a) (popped text backslash)
 newline-at a n p k slash_returned text =
-    ap (λ h. any false Plain (shortened h) false true n (p + 1) k a)
-    (ap (λ l. shortened (held l)) (sym (append_assoc text (backslash ∷ []) (carriage_return ∷ []))) ∙ held-pop (text ++ backslash ∷ []) carriage_return)
+    ap (λ h. any false Plain (shorten h) false true n (p + 1) k a)
+    (ap (λ l. shorten (hold l)) (sym (append_assoc text (backslash ∷ []) (carriage_return ∷ []))) ∙ hold-pop (text ++ backslash ∷ []) carriage_return)
     ∙ ap (λ h. any false Plain h false true n (p + 1) k a) (popped text backslash)
 newline-at a n p k noted text = refl
 newline-at a n p k noted_returned text = ap (λ h. any true Plain h false false n (p + 1) k a) (popped text carriage_return)
 newline-at a n p k dropping text = refl
 
 -- the end of the page
-ended-at : (a : Mark) (n p k : ℕ) (s : Spot) (text : List ℕ)
-    → ended (at a n p s text k) ≡ any true Plain (held (upon text (whole_of (λ l. l) s [])).text) false false n p k a
-unfolding ended end_in restarted closed read read_pair
-ended-at a n p k plain text = refl
-ended-at a n p k returned text = refl
-ended-at a n p k slash text = ap (λ h. any true Plain h false false n p k a) (popped text backslash)
-ended-at a n p k slash_returned text = refl
-ended-at a n p k noted text = refl
-ended-at a n p k noted_returned text = refl
-ended-at a n p k dropping text = refl
+end_open-at : (a : Mark) (n p k : ℕ) (s : Spot) (text : List ℕ)
+    → end_open (at a n p s text k) ≡ any true Plain (hold (upon text (whole_of (λ l. l) s [])).text) false false n p k a
+unfolding end_open end_in restart close read read_pair
+end_open-at a n p k plain text = refl
+end_open-at a n p k returned text = refl
+end_open-at a n p k slash text = ap (λ h. any true Plain h false false n p k a) (popped text backslash)
+end_open-at a n p k slash_returned text = refl
+end_open-at a n p k noted text = refl
+end_open-at a n p k noted_returned text = refl
+end_open-at a n p k dropping text = refl
 
 -- a whole physical line with its line feed
-pub left-line : (a : Mark) (n p k : ℕ) (s : Spot) (text y : List ℕ) → is_settled a ≡ true → All (λ b. (b == newline) ≡ false) y
-    → open_after (left (at a n p s text k) y) newline ≡ after_line a n p (k + length y + 1) (upon text (whole_of strip_carriage_return s y))
-unfolding left
-left-line a n p k s text [] h e =
+pub open_after-line : (a : Mark) (n p k : ℕ) (s : Spot) (text y : List ℕ) → is_settled a ≡ true → All (λ b. (b == newline) ≡ false) y
+    → next_open (open_after (at a n p s text k) y) newline ≡ after_line a n p (k + length y + 1) (upon text (whole_of strip_carriage_return s y))
+unfolding open_after
+open_after-line a n p k s text [] h e =
     let count : k + 1 ≡ k + 0 + 1 = omega arith in
-    open_after-newline (mode_of s) (held (text ++ pending s)) (return_of s) n p k a h ∙ newline-at a n p (k + 1) s text
+    next_open-newline (mode_of s) (hold (text ++ pending s)) (return_of s) n p k a h ∙ newline-at a n p (k + 1) s text
     ∙ ap (λ j. after_line a n p j (upon text (whole_of strip_carriage_return s []))) count
-left-line a n p k s text (b ∷ y) h e =
+open_after-line a n p k s text (b ∷ y) h e =
     let count : k + 1 + length y + 1 ≡ k + suc (length y) + 1 = omega arith in
-    ap (λ o. open_after (left o y) newline) (open_after-at a n p k s text b h (e 0 0 (omega arith)))
-    ∙ left-line a n p (k + 1) (next s b) (next_text s text b) y h (λ i d l. e (suc i) d (omega arith))
+    ap (λ o. next_open (open_after o y) newline) (next_open-at a n p k s text b h (e 0 0 (omega arith)))
+    ∙ open_after-line a n p (k + 1) (next s b) (next_text s text b) y h (λ i d l. e (suc i) d (omega arith))
     ∙ ap (λ j. after_line a n p j (upon (next_text s text b) (whole_of strip_carriage_return (next s b) y))) count
     ∙ ap (λ r. after_line a n p (k + suc (length y) + 1) r) (sym (upon-next strip_carriage_return strips s text b y))
 
 -- a last physical line
-pub left-end : (a : Mark) (n p k : ℕ) (s : Spot) (text y : List ℕ) → is_settled a ≡ true → All (λ b. (b == newline) ≡ false) y
-    → ended (left (at a n p s text k) y) ≡ any true Plain (held (upon text (whole_of (λ l. l) s y)).text) false false n p (k + length y) a
-unfolding left
-left-end a n p k s text [] h e =
+pub open_after-end : (a : Mark) (n p k : ℕ) (s : Spot) (text y : List ℕ) → is_settled a ≡ true → All (λ b. (b == newline) ≡ false) y
+    → end_open (open_after (at a n p s text k) y) ≡ any true Plain (hold (upon text (whole_of (λ l. l) s y)).text) false false n p (k + length y) a
+unfolding open_after
+open_after-end a n p k s text [] h e =
     let count : k ≡ k + 0 = omega arith in
-    ended-at a n p k s text ∙ ap (λ j. any true Plain (held (upon text (whole_of (λ l. l) s [])).text) false false n p j a) count
-left-end a n p k s text (b ∷ y) h e =
+    end_open-at a n p k s text ∙ ap (λ j. any true Plain (hold (upon text (whole_of (λ l. l) s [])).text) false false n p j a) count
+open_after-end a n p k s text (b ∷ y) h e =
     let count : k + 1 + length y ≡ k + suc (length y) = omega arith in
-    ap (λ o. ended (left o y)) (open_after-at a n p k s text b h (e 0 0 (omega arith)))
-    ∙ left-end a n p (k + 1) (next s b) (next_text s text b) y h (λ i d l. e (suc i) d (omega arith))
-    ∙ ap (λ j. any true Plain (held (upon (next_text s text b) (whole_of (λ l. l) (next s b) y)).text) false false n p j a) count
-    ∙ ap (λ (r : Reading). any true Plain (held r.text) false false n p (k + suc (length y)) a) (sym (upon-next (λ l. l) keeps s text b y))
+    ap (λ o. end_open (open_after o y)) (next_open-at a n p k s text b h (e 0 0 (omega arith)))
+    ∙ open_after-end a n p (k + 1) (next s b) (next_text s text b) y h (λ i d l. e (suc i) d (omega arith))
+    ∙ ap (λ j. any true Plain (hold (upon (next_text s text b) (whole_of (λ l. l) (next s b) y)).text) false false n p j a) count
+    ∙ ap (λ (r : Physical). any true Plain (hold r.text) false false n p (k + suc (length y)) a) (sym (upon-next (λ l. l) keeps s text b y))
 
 -- no line is whole within it
 pub line-none : (a : Mark) (n p k : ℕ) (s : Spot) (text y : List ℕ) → is_settled a ≡ true → All (λ b. (b == newline) ≡ false) y
@@ -189,5 +189,5 @@ pub line-none : (a : Mark) (n p k : ℕ) (s : Spot) (text y : List ℕ) → is_s
 unfolding whole_lines if_whole
 line-none a n p k s text [] h e = refl
 line-none a n p k s text (b ∷ y) h e =
-    rw (open_after-at a n p k s text b h (e 0 0 (omega arith)))
+    rw (next_open-at a n p k s text b h (e 0 0 (omega arith)))
     (line-none a n p (k + 1) (next s b) (next_text s text b) y h (λ i d l. e (suc i) d (omega arith)))

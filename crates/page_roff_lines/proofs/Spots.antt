@@ -9,8 +9,8 @@ use Rattle.page_roff_lines.specs.declared.Mark.{Mark}
 use Rattle.page_roff_lines.specs.declared.Mark.TheVariants.{Unread, First, Second, Absent, Present}
 use Rattle.page_roff_lines.specs.Bytes.{newline, carriage_return, backslash, quote, hash}
 use Rattle.page_roff_lines.specs.Limit.{line_limit}
-use Rattle.page_roff_lines.specs.Held.{Held, held, extended, shortened}
-use Rattle.page_roff_lines.specs.Open.{Open, restarted, open_after, put_byte, put_in, put_plain, put_pair, pair_mode, put, counted, ends_mark, mark_after}
+use Rattle.page_roff_lines.specs.Held.{Held, hold, extend, shorten}
+use Rattle.page_roff_lines.specs.Open.{Open, restart, next_open, put_byte, put_in, put_plain, put_pair, pair_mode, put, count_byte, ends_mark, mark_after}
 use Rattle.page_roff_lines.specs.Run.{is_settled}
 use Rattle.page_roff_lines.proofs.RunLemmas.{st, take-take-append}
 
@@ -53,7 +53,7 @@ pending dropping = []
 
 -- the open line there, after a text and the pending bytes
 abbrev pub at : Mark → ℕ → ℕ → Spot → List ℕ → ℕ → Open
-at a n p s text k = st (mode_of s) (held (text ++ pending s)) (return_of s) true n p k a
+at a n p s text k = st (mode_of s) (hold (text ++ pending s)) (return_of s) true n p k a
 
 abbrev plain_next : ℕ → Spot
 plain_next b = if b == backslash then slash else (if b == carriage_return then returned else plain)
@@ -86,9 +86,9 @@ next_text noted_returned text b = noted_text (text ++ carriage_return ∷ []) b
 next_text dropping text b = text
 
 -- a held text grows and shrinks at its end
-pub held-push : (text : List ℕ) (b : ℕ) → extended (held text) (b ∷ []) ≡ held (text ++ b ∷ [])
-unfolding extended
-held-push text b = rw (take-take-append line_limit text (b ∷ []), length-append text (b ∷ [])) refl
+pub hold-push : (text : List ℕ) (b : ℕ) → extend (hold text) (b ∷ []) ≡ hold (text ++ b ∷ [])
+unfolding extend
+hold-push text b = rw (take-take-append line_limit text (b ∷ []), length-append text (b ∷ [])) refl
 
 take-length-take : (n : ℕ) (xs ys : List ℕ) → take (length xs) (take n (xs ++ ys)) ≡ take n xs
 take-length-take zero [] ys = refl
@@ -96,9 +96,9 @@ take-length-take zero (x ∷ xs) ys = refl
 take-length-take (suc n) [] ys = refl
 take-length-take (suc n) (x ∷ xs) ys = ap (λ l. x ∷ l) (take-length-take n xs ys)
 
-pub held-pop : (text : List ℕ) (b : ℕ) → shortened (held (text ++ b ∷ [])) ≡ held text
-unfolding shortened
-held-pop text b =
+pub hold-pop : (text : List ℕ) (b : ℕ) → shorten (hold (text ++ b ∷ [])) ≡ hold text
+unfolding shorten
+hold-pop text b =
     let count : length (text ++ b ∷ []) - 1 ≡ length text = omega (arith, length-append text (b ∷ [])) in
     rw (count, take-length-take line_limit text (b ∷ [])) refl
 
@@ -118,48 +118,48 @@ by_byte P p q h c other b =
     ]
 
 -- a byte that ends no physical line, when the page's first bytes are read
-pub open_after-settled : (m : Mode) (t : Held) (r : Bool) (n p k : ℕ) (a : Mark) (b : ℕ) → is_settled a ≡ true → (b == newline) ≡ false
-    → open_after (st m t r true n p k a) b ≡ put_in m r (st m t r true n p (k + 1) a) b
-unfolding open_after put_byte counted restarted ends_mark mark_after
-open_after-settled m t r n p k Absent b h e = rw e refl
-open_after-settled m t r n p k Present b h e = rw e refl
-open_after-settled m t r n p k Unread b h e = cc
-open_after-settled m t r n p k First b h e = cc
-open_after-settled m t r n p k Second b h e = cc
+pub next_open-settled : (m : Mode) (t : Held) (r : Bool) (n p k : ℕ) (a : Mark) (b : ℕ) → is_settled a ≡ true → (b == newline) ≡ false
+    → next_open (st m t r true n p k a) b ≡ put_in m r (st m t r true n p (k + 1) a) b
+unfolding next_open put_byte count_byte restart ends_mark mark_after
+next_open-settled m t r n p k Absent b h e = rw e refl
+next_open-settled m t r n p k Present b h e = rw e refl
+next_open-settled m t r n p k Unread b h e = cc
+next_open-settled m t r n p k First b h e = cc
+next_open-settled m t r n p k Second b h e = cc
 
-grown : (xs ys : List ℕ) (b : ℕ) → xs ++ b ∷ [] ≡ ys → extended (held xs) (b ∷ []) ≡ held ys
-grown xs ys b e = held-push xs b ∙ ap held e
+grown : (xs ys : List ℕ) (b : ℕ) → xs ++ b ∷ [] ≡ ys → extend (hold xs) (b ∷ []) ≡ hold ys
+grown xs ys b e = hold-push xs b ∙ ap hold e
 
 put_plain-at : (a : Mark) (n p k : ℕ) (m : Mode) (r : Bool) (text : List ℕ) (b : ℕ)
-    → put_plain (st m (held text) r true n p k a) b ≡ at a n p (plain_next b) (plain_text text b) k
+    → put_plain (st m (hold text) r true n p k a) b ≡ at a n p (plain_next b) (plain_text text b) k
 unfolding put_plain put
 put_plain-at a n p k m r text =
-    by_byte (λ b. put_plain (st m (held text) r true n p k a) b ≡ at a n p (plain_next b) (plain_text text b) k)
-    (ap (λ h. st Backslash h false true n p k a) (held-push text backslash))
+    by_byte (λ b. put_plain (st m (hold text) r true n p k a) b ≡ at a n p (plain_next b) (plain_text text b) k)
+    (ap (λ h. st Backslash h false true n p k a) (hold-push text backslash))
     (ap (λ h. st Plain h false true n p k a) (grown text _ quote (sym (append-nil _))))
     (ap (λ h. st Plain h false true n p k a) (grown text _ hash (sym (append-nil _))))
-    (ap (λ h. st Plain h true true n p k a) (held-push text carriage_return))
+    (ap (λ h. st Plain h true true n p k a) (hold-push text carriage_return))
     (λ b f g h i. rw (f, i) (ap (λ h. st Plain h false true n p k a) (grown text _ b (sym (append-nil _)))))
 
 put_comment-at : (a : Mark) (n p k : ℕ) (m : Mode) (r : Bool) (text : List ℕ) (b : ℕ)
-    → put (st m (held text) r true n p k a) b Comment ≡ at a n p (noted_next b) (noted_text text b) k
+    → put (st m (hold text) r true n p k a) b Comment ≡ at a n p (noted_next b) (noted_text text b) k
 unfolding put
 put_comment-at a n p k m r text =
-    by_byte (λ b. put (st m (held text) r true n p k a) b Comment ≡ at a n p (noted_next b) (noted_text text b) k)
+    by_byte (λ b. put (st m (hold text) r true n p k a) b Comment ≡ at a n p (noted_next b) (noted_text text b) k)
     (ap (λ h. st Comment h false true n p k a) (grown text _ backslash (sym (append-nil _))))
     (ap (λ h. st Comment h false true n p k a) (grown text _ quote (sym (append-nil _))))
     (ap (λ h. st Comment h false true n p k a) (grown text _ hash (sym (append-nil _))))
-    (ap (λ h. st Comment h true true n p k a) (held-push text carriage_return))
+    (ap (λ h. st Comment h true true n p k a) (hold-push text carriage_return))
     (λ b f g h i. rw i (ap (λ h. st Comment h false true n p k a) (grown text _ b (sym (append-nil _)))))
 
 put_pair-at : (a : Mark) (n p k : ℕ) (text : List ℕ) (b : ℕ)
-    → put_pair (st Backslash (held (text ++ backslash ∷ [])) false true n p k a) b ≡ at a n p (next slash b) (next_text slash text b) k
+    → put_pair (st Backslash (hold (text ++ backslash ∷ [])) false true n p k a) b ≡ at a n p (next slash b) (next_text slash text b) k
 unfolding put_pair pair_mode put
 put_pair-at a n p k text =
-    by_byte (λ b. put_pair (st Backslash (held (text ++ backslash ∷ [])) false true n p k a) b ≡ at a n p (next slash b) (next_text slash text b) k)
+    by_byte (λ b. put_pair (st Backslash (hold (text ++ backslash ∷ [])) false true n p k a) b ≡ at a n p (next slash b) (next_text slash text b) k)
     (ap (λ h. st Plain h false true n p k a) (grown _ _ backslash (simp (append_assoc, append-nil))))
     (ap (λ h. st Comment h false true n p k a) (grown _ _ quote (simp (append_assoc, append-nil))))
-    (ap (λ h. st Dropped h false true n p k a) (held-pop text backslash ∙ ap held (sym (append-nil text))))
+    (ap (λ h. st Dropped h false true n p k a) (hold-pop text backslash ∙ ap hold (sym (append-nil text))))
     (ap (λ h. st Backslash h true true n p k a) (grown _ _ carriage_return (simp append_assoc)))
     (λ b f g h i. rw (g, h, i) (ap (λ h. st Plain h false true n p k a) (grown _ _ b (simp (append_assoc, append-nil)))))
 
@@ -175,7 +175,7 @@ put_in-at a n p k noted_returned text b = put_comment-at a n p k Comment true (t
 put_in-at a n p k dropping text b = refl
 
 -- from spot to spot
-pub open_after-at : (a : Mark) (n p k : ℕ) (s : Spot) (text : List ℕ) (b : ℕ) → is_settled a ≡ true → (b == newline) ≡ false
-    → open_after (at a n p s text k) b ≡ at a n p (next s b) (next_text s text b) (k + 1)
-open_after-at a n p k s text b h e =
-    open_after-settled (mode_of s) (held (text ++ pending s)) (return_of s) n p k a b h e ∙ put_in-at a n p (k + 1) s text b
+pub next_open-at : (a : Mark) (n p k : ℕ) (s : Spot) (text : List ℕ) (b : ℕ) → is_settled a ≡ true → (b == newline) ≡ false
+    → next_open (at a n p s text k) b ≡ at a n p (next s b) (next_text s text b) (k + 1)
+next_open-at a n p k s text b h e =
+    next_open-settled (mode_of s) (hold (text ++ pending s)) (return_of s) n p k a b h e ∙ put_in-at a n p (k + 1) s text b

@@ -7,6 +7,6 @@ pub mod Held
 pub mod Limit
 pub mod Logical
 pub mod Open
-pub mod Reading
+pub mod Physical
 pub mod Run
 pub mod Scan

@@ -1,4 +1,5 @@
--- The open logical line of a page: what is known of it after some of the page's bytes, and what the next byte does to it.
+-- A machine: the open logical line of a page, as it is known after some of the page's bytes, and what the next byte
+-- does to it. That it gives the logical lines of the page is the law `one_by_one_law`.
 use Rattle.std.specs.Prelude.{ℕ, ◌+◌, Bool, true, false, nat_lt, ◌==◌, List, [], ◌∷◌, ◌++◌, if◌then◌else◌}
 use Rattle.page_roff_lines.specs.Limit.{line_limit}
 use Rattle.page_roff_lines.specs.declared.Mode.{Mode}
@@ -6,7 +7,7 @@ use Rattle.page_roff_lines.specs.declared.Mode.TheVariants.{Plain, Backslash, Co
 use Rattle.page_roff_lines.specs.declared.Mark.{Mark}
 use Rattle.page_roff_lines.specs.declared.Mark.TheVariants.{Unread, First, Second, Absent, Present}
 use Rattle.page_roff_lines.specs.Bytes.{newline, carriage_return, backslash, quote, hash}
-use Rattle.page_roff_lines.specs.Held.{Held, nothing_held, extended, shortened}
+use Rattle.page_roff_lines.specs.Held.{Held, nothing_held, extend, shorten}
 use Rattle.page_roff_lines.specs.Logical.{Kept}
 
 pub record Open : Type 0 where
@@ -23,7 +24,7 @@ pub record Open : Type 0 where
   pub number : ℕ
   pub physical : ℕ
   -- how many bytes of the page came so far
-  pub taken : ℕ
+  pub consumed : ℕ
   pub mark : Mark
 
 abbrev pub first_open : Open
@@ -35,17 +36,18 @@ first_open = record {
   whole = false;
   number = 1;
   physical = 1;
-  taken = 0;
+  consumed = 0;
   mark = Unread;
 }
 
 -- the line after a whole one
-unfoldable pub restarted : Open → Open
-restarted o = if o.whole then record o { text = nothing_held; whole = false; number = o.physical } else o
+unfoldable pub restart : Open → Open
+restart o = if o.whole then record o { text = nothing_held; whole = false; number = o.physical } else o
 
 -- a byte more, and how the next one is read
 unfoldable pub put : Open → ℕ → Mode → Open
-put o b m = record o { text = extended o.text (b ∷ []); mode = m; after_return = b == carriage_return; begun = true }
+put o b m =
+    record o { text = extend o.text (b ∷ []); mode = m; after_return = b == carriage_return; begun = true }
 
 -- a byte that no backslash stands before
 unfoldable pub put_plain : Open → ℕ → Open
@@ -57,7 +59,7 @@ pair_mode b = if b == quote then Comment else (if b == carriage_return then Back
 
 -- the byte after a backslash
 unfoldable pub put_pair : Open → ℕ → Open
-put_pair o b = if b == hash then record o { text = shortened o.text; mode = Dropped } else put o b (pair_mode b)
+put_pair o b = if b == hash then record o { text = shorten o.text; mode = Dropped } else put o b (pair_mode b)
 
 -- a byte that is no line feed
 unfoldable pub put_in : Mode → Bool → Open → ℕ → Open
@@ -68,17 +70,17 @@ put_in Comment r o b = put o b Comment
 put_in Dropped r o b = o
 
 -- the line is whole
-unfoldable pub closed : Open → Open
-closed o = record o { mode = Plain; after_return = false; begun = false; whole = true }
+unfoldable pub close : Open → Open
+close o = record o { mode = Plain; after_return = false; begun = false; whole = true }
 
 unfoldable pub without_return : Open → Open
-without_return o = if o.after_return then record o { text = shortened o.text; after_return = false } else o
+without_return o = if o.after_return then record o { text = shorten o.text; after_return = false } else o
 
 -- a line feed, after the carriage return before it was taken away
 unfoldable pub newline_in : Mode → Open → Open
-newline_in Plain o = closed o
-newline_in Comment o = closed o
-newline_in Backslash o = record o { text = shortened o.text; mode = Plain }
+newline_in Plain o = close o
+newline_in Comment o = close o
+newline_in Backslash o = record o { text = shorten o.text; mode = Plain }
 newline_in Dropped o = record o { mode = Plain }
 
 unfoldable pub put_newline : Open → Open
@@ -109,8 +111,8 @@ is_marked Second = false
 is_marked Absent = false
 
 -- one byte more of the page
-unfoldable pub counted : Open → ℕ → Open
-counted o b = record o { taken = o.taken + 1; mark = mark_after o.mark b }
+unfoldable pub count_byte : Open → ℕ → Open
+count_byte o b = record o { consumed = o.consumed + 1; mark = mark_after o.mark b }
 
 -- the byte order mark is dropped, where the byte ends it
 unfoldable pub put_byte : Bool → Open → ℕ → Open
@@ -118,20 +120,20 @@ put_byte true o b = record o { text = nothing_held; begun = false }
 put_byte false o b = if b == newline then put_newline o else put_in o.mode o.after_return o b
 
 -- after one byte more
-unfoldable pub open_after : Open → ℕ → Open
-open_after o b = put_byte (ends_mark o.mark b) (counted (restarted o) b) b
+unfoldable pub next_open : Open → ℕ → Open
+next_open o b = put_byte (ends_mark o.mark b) (count_byte (restart o) b) b
 
 -- a backslash that nothing follows is dropped
 unfoldable pub end_in : Mode → Bool → Open → Open
-end_in Backslash false o = record o { text = shortened o.text }
+end_in Backslash false o = record o { text = shorten o.text }
 end_in Backslash true o = o
 end_in Plain r o = o
 end_in Comment r o = o
 end_in Dropped r o = o
 
 -- at the end of the page
-unfoldable pub ended : Open → Open
-ended o = let r = restarted o in if r.begun then closed (end_in r.mode r.after_return r) else r
+unfoldable pub end_open : Open → Open
+end_open o = let r = restart o in if r.begun then close (end_in r.mode r.after_return r) else r
 
 -- what a line keeps
 abbrev pub kept_of : Open → Kept
@@ -144,16 +146,16 @@ if_whole o = if o.whole then kept_of o ∷ [] else []
 -- the lines that are whole within these bytes, and the line that is open after them
 unfoldable pub whole_lines : Open → List ℕ → List Kept
 whole_lines o [] = []
-whole_lines o (b ∷ bs) = if_whole (open_after o b) ++ whole_lines (open_after o b) bs
+whole_lines o (b ∷ bs) = if_whole (next_open o b) ++ whole_lines (next_open o b) bs
 
-unfoldable pub left : Open → List ℕ → Open
-left o [] = o
-left o (b ∷ bs) = left (open_after o b) bs
+unfoldable pub open_after : Open → List ℕ → Open
+open_after o [] = o
+open_after o (b ∷ bs) = open_after (next_open o b) bs
 
 -- the line that is there if the page ends
 abbrev pub last_line : Open → List Kept
-last_line o = if_whole (ended o)
+last_line o = if_whole (end_open o)
 
 -- all lines that come from here on, if these are the bytes to the page's end
 abbrev pub lines_from : Open → List ℕ → List Kept
-lines_from o bytes = whole_lines o bytes ++ last_line (left o bytes)
+lines_from o bytes = whole_lines o bytes ++ last_line (open_after o bytes)

@@ -1,4 +1,4 @@
--- A run of bytes that are read alike.
+-- A fast way of the code, which no public clause cites: a run of bytes that are read alike.
 use Rattle.std.specs.Prelude.{◌≡◌, ℕ, ◌+◌, ◌-◌, ◌<◌, Bool, true, false, ◌==◌, List, length, slice_index}
 use Rattle.memchr.specs.Find.{is_byte, is_byte2}
 use Rattle.page_roff_lines.specs.declared.Mode.{Mode}
@@ -6,7 +6,7 @@ use Rattle.page_roff_lines.specs.declared.Mode.TheVariants.{Plain, Backslash, Co
 use Rattle.page_roff_lines.specs.declared.Mark.{Mark}
 use Rattle.page_roff_lines.specs.declared.Mark.TheVariants.{Unread, First, Second, Absent, Present}
 use Rattle.page_roff_lines.specs.Bytes.{newline, carriage_return, backslash}
-use Rattle.page_roff_lines.specs.Held.{extended}
+use Rattle.page_roff_lines.specs.Held.{extend}
 use Rattle.page_roff_lines.specs.Open.{Open}
 
 -- the byte ends a run
@@ -29,15 +29,22 @@ pub record IsRun (o : Open) (run : List ℕ) : Type 0 where
   pub settled : is_settled o.mark ≡ true
   pub bytes : (k : ℕ) → k < length run → ends_run o.mode (slice_index run k) ≡ false
 
--- the line with a run more
+-- the line with a run more at its end
+abbrev pub put_run : Open → List ℕ → Open
+put_run o run = record o {
+  text = extend o.text run;
+  after_return = slice_index run (length run - 1) == carriage_return;
+  begun = true;
+}
+
 unfoldable pub run_in : Mode → Open → List ℕ → Open
-run_in Plain o run = record o { text = extended o.text run; after_return = slice_index run (length run - 1) == carriage_return; begun = true }
-run_in Comment o run = record o { text = extended o.text run; after_return = slice_index run (length run - 1) == carriage_return; begun = true }
+run_in Plain o run = put_run o run
+run_in Comment o run = put_run o run
 run_in Backslash o run = o
 run_in Dropped o run = o
 
 abbrev pub with_run : Open → List ℕ → Open
-with_run o run = record (run_in o.mode o run) { taken = o.taken + length run }
+with_run o run = record (run_in o.mode o run) { consumed = o.consumed + length run }
 
 -- a line feed here ends a line that is open, and takes nothing away
 pub record InText (o : Open) : Type 0 where

@@ -4,7 +4,7 @@ ghost use mathlib.Core.Option.{none};
 ghost use Rattle.std.specs.Borrow.{sem, follows_so};
 ghost use Rattle.page_core_base.specs.declared.page_settings.Encoding.{Encoding as AnyEncoding};
 ghost use Rattle.page_roff_lines.specs.Decoding.{lines, choice_of};
-ghost use Rattle.page_roff_lines.specs.Cutting.{Place, first_place, place_of, lines_within, lines_from};
+ghost use Rattle.page_roff_lines.specs.Cutting.{Point, first_point, point_after, lines_within, lines_from};
 ghost use Rattle.page_core_base.specs.Sinks.{Gives};
 ghost use Rattle.page_core_base.specs.Fails.{FailsAs, Rose};
 ghost use Rattle.page_core_base.specs.Texts.{IsLine};
@@ -18,37 +18,41 @@ use page_core_limits::LINE;
 use std::alloc::Global;
 use std::marker::Model;
 
-/// Cuts the bytes of a page, in whatever pieces they come, into logical lines (roff(7), "Comments" and "Escape sequences"), and decodes
-/// them (mandoc(1), -K).
+/// Cuts the bytes of a page, in whatever chunks they come, into logical lines (roff(7), "Comments" and "Escape
+/// sequences"), and decodes them (mandoc(1), -K).
 #[derive(Drop)]
 pub struct Cutter {
     line: OpenLine,
     decoded: DecodedText,
     encoding: Encoding,
     ready: bool,
-    plain: bool,
+    printable: bool,
 }
 
 impl Model for Cutter {
     ghost use Rattle.std.specs.Prelude.{if◌then◌else◌};
-    ghost use Rattle.page_roff_lines.specs.Cutting.{Cutting, settled};
+    ghost use Rattle.page_roff_lines.specs.Cutting.{Cutting, encoding_after};
 
     ghost Value = { Cutting };
 
     ghost view = { λ c. record {
-      place = record { line = c.line; encoding = if c.ready then settled c.encoding c.line else c.encoding };
+      point = record {
+        line = c.line;
+        encoding = if c.ready then encoding_after c.encoding c.line else c.encoding;
+      };
       ready = c.ready;
-      text = if c.plain then c.line.text.bytes else c.decoded;
+      text = if c.printable then c.line.text.bytes else c.decoded;
     } };
 }
 
 impl Cutter {
-    ghost use Rattle.page_roff_lines.specs.Cutting.{first_place, place_of, lines_within, line_of, ended_place, line_at};
+    ghost use Rattle.page_roff_lines.specs.Cutting.{first_point, point_after, lines_within, line_of, end_point, line_at};
     ghost use Rattle.page_roff_lines.specs.contracts.cutter.Cutter.{the_row};
 
-    /// Before the first byte of a page, with all the memory that it will ever hold. Its fault is [`Fault::Memory`].
+    /// A cutter before the first byte of a page, with all the memory that it will ever hold. Its fault is
+    /// [`Fault::Memory`].
     pub fn new(alloc: Global, encoding: Encoding) -> Result<Cutter, Fault>
-        ensures value { IfOk result (λ c. (c.place ≡ first_place encoding) × (c.ready ≡ false)) }
+        ensures value { IfOk result (λ c. (c.point ≡ first_point encoding) × (c.ready ≡ false)) }
         ensures fault { OnErr result (result ≡ Err Fault.Memory) }
     {
         let Ok(line) = OpenLine::new(alloc) else {
@@ -62,49 +66,50 @@ impl Cutter {
             decoded,
             encoding,
             ready: false,
-            plain: false,
+            printable: false,
         })
     }
 
-    /// Takes a piece of the page: up to and with the line feed that ends a logical line, or all of it. How many bytes it took, and
-    /// whether a line is whole, which is asked for by [`Cutter::line`] before more comes.
-    pub fn feed(&mut self, piece: &[u8]) -> (usize, bool)
+    /// Reads a chunk of the page: up to and with the line feed that ends a logical line, or all of it. How many bytes
+    /// it consumed, and whether a line is whole, which is asked for by [`Cutter::line`] before more comes.
+    pub fn feed(&mut self, chunk: &[u8]) -> (usize, bool)
         requires free { self.old.ready ≡ false }
-        requires taken { self.old.place.line.taken + length piece.now < 2 ^ 31 }
-        ensures within { result.0 ≤ length piece.now }
-        ensures all { result.1 ≡ false → result.0 ≡ length piece.now }
-        ensures place { self.new.place ≡ place_of self.old.place (take result.0 piece.now) }
-        ensures lines { lines_within self.old.place (take result.0 piece.now) ≡ (if result.1 then line_of self.new.place ∷ [] else []) }
-        ensures before { result.1 ≡ true → lines_within self.old.place (take (result.0 - 1) piece.now) ≡ [] }
+        requires consumed { self.old.point.line.consumed + length chunk.now < 2 ^ 31 }
+        ensures within { result.0 ≤ length chunk.now }
+        ensures all { result.1 ≡ false → result.0 ≡ length chunk.now }
+        ensures point { self.new.point ≡ point_after self.old.point (take result.0 chunk.now) }
+        ensures lines { lines_within self.old.point (take result.0 chunk.now)
+            ≡ (if result.1 then line_of self.new.point ∷ [] else []) }
+        ensures before { result.1 ≡ true → lines_within self.old.point (take (result.0 - 1) chunk.now) ≡ [] }
         ensures ready { self.new.ready ≡ result.1 }
-        ensures taken { self.new.place.line.taken ≡ self.old.place.line.taken + result.0 }
+        ensures consumed { self.new.point.line.consumed ≡ self.old.point.line.consumed + result.0 }
     {
-        let (taken, whole) = self.line.read(piece);
+        let (consumed, whole) = self.line.read(chunk);
         self.ready = whole;
-        (taken, whole)
+        (consumed, whole)
     }
 
     /// Ends the page; whether a last line is there, which is asked for by [`Cutter::line`].
     pub fn end(&mut self) -> bool
         requires { self.old.ready ≡ false }
-        ensures place { self.new.place ≡ ended_place self.old.place }
-        ensures line { line_at self.new.place ≡ (if result then line_of self.new.place ∷ [] else []) }
+        ensures point { self.new.point ≡ end_point self.old.point }
+        ensures line { line_at self.new.point ≡ (if result then line_of self.new.point ∷ [] else []) }
         ensures ready { self.new.ready ≡ result }
     {
         self.ready = self.line.end();
         self.ready
     }
 
-    // The encoding with the line that is whole, where it is plain or not.
-    #[tactic(auto, unfolding(crate::specs::Cutting::settled))]
-    fn settled_encoding(&self, plain: bool) -> Encoding
+    // The encoding with the line that is whole, which may be known to be printable.
+    #[tactic(auto, unfolding(crate::specs::Cutting::encoding_after))]
+    fn line_encoding(&self, printable: bool) -> Encoding
         requires waits { self.now.ready ≡ true }
-        requires plain { plain ≡ true → choice_of self.now.place.line.text.bytes ≡ Encoding.Auto }
-        ensures { result ≡ self.now.place.encoding }
+        requires printable { printable ≡ true → choice_of self.now.point.line.text.bytes ≡ Encoding.Auto }
+        ensures { result ≡ self.now.point.encoding }
     {
         match self.encoding {
             Encoding::Auto if self.line.is_marked() => Encoding::Utf8,
-            Encoding::Auto if plain => Encoding::Auto,
+            Encoding::Auto if printable => Encoding::Auto,
             Encoding::Auto => choose(self.line.text()),
             known => known,
         }
@@ -113,21 +118,21 @@ impl Cutter {
     // Decodes the line that waits, and reports what is to be said of its cutting.
     fn prepare<N: NoteSink>(&mut self, notes: &mut N) -> Result<(), Fault>
         requires { self.old.ready ≡ true }
-        ensures place { self.new.place ≡ self.old.place }
+        ensures point { self.new.point ≡ self.old.point }
         ensures ready { self.new.ready ≡ false }
-        ensures text { self.new.text ≡ (line_of self.old.place).text }
+        ensures text { self.new.text ≡ (line_of self.old.point).text }
         ensures line { IsLine self.new.text }
-        ensures gives { Gives result N.gave N.within notes.old (line_of self.old.place).notes notes.new }
+        ensures gives { Gives result N.gave N.within notes.old (line_of self.old.point).notes notes.new }
         ensures fault { FailsAs Fault.WriteNotes result (N.failed notes.old) (N.failed notes.new) }
         ensures same { N.loans notes.new ≡ N.loans notes.old }
     {
-        let plain = self.line.is_printable();
-        self.encoding = self.settled_encoding(plain);
+        let printable = self.line.is_printable();
+        self.encoding = self.line_encoding(printable);
         self.ready = false;
-        self.plain = plain;
+        self.printable = printable;
         let number = self.line.number();
         let cut = self.line.is_cut();
-        if self.plain {
+        if self.printable {
             return report_limit(cut, number, notes);
         }
         let passed = self.decoded.decode(self.line.text(), self.encoding);
@@ -141,11 +146,11 @@ impl Cutter {
     }
 
     // The text and the number of the line that was given last.
-    fn given(&self) -> (&[u8], u32)
+    fn text_and_number(&self) -> (&[u8], u32)
         ensures text { result.0.now ≡ self.now.text }
-        ensures number { result.1 ≡ self.now.place.line.number }
+        ensures number { result.1 ≡ self.now.point.line.number }
     {
-        let text = if self.plain {
+        let text = if self.printable {
             self.line.text()
         } else {
             self.decoded.bytes()
@@ -153,37 +158,44 @@ impl Cutter {
         (text, self.line.number())
     }
 
-    /// The line that is whole: its text, decoded, and the number of its first physical line. What is to be said of its cutting is
-    /// reported first. Its fault is [`Fault::WriteNotes`].
+    /// The line that is whole: its text, decoded, and the number of its first physical line. What is to be said of
+    /// its cutting is reported first. Its fault is [`Fault::WriteNotes`].
     pub fn line<N: NoteSink>(&mut self, notes: &mut N) -> Result<(&[u8], u32), Fault>
         requires { self.old.ready ≡ true }
-        ensures text { IfOk result (λ r. r.0.now ≡ (line_of self.old.place).text) }
-        ensures number { IfOk result (λ r. r.1 ≡ (line_of self.old.place).number) }
+        ensures text { IfOk result (λ r. r.0.now ≡ (line_of self.old.point).text) }
+        ensures number { IfOk result (λ r. r.1 ≡ (line_of self.old.point).number) }
         ensures line { IfOk result (λ r. IsLine r.0.now) }
-        ensures gives { MatchResult result (λ _. N.gave notes.old (line_of self.old.place).notes notes.new) (λ _. N.within notes.old (line_of self.old.place).notes notes.new) }
-        ensures fault { MatchResult result (λ _. N.failed notes.new ≡ N.failed notes.old) (λ e. (e ≡ Fault.WriteNotes) × Rose (N.failed notes.old) (N.failed notes.new)) }
+        ensures gives { MatchResult result (λ _. N.gave notes.old (line_of self.old.point).notes notes.new)
+            (λ _. N.within notes.old (line_of self.old.point).notes notes.new) }
+        ensures fault { MatchResult result (λ _. N.failed notes.new ≡ N.failed notes.old)
+            (λ e. (e ≡ Fault.WriteNotes) × Rose (N.failed notes.old) (N.failed notes.new)) }
         ensures same { N.loans notes.new ≡ N.loans notes.old }
-        ensures* after { sem 𝓛 (follows_so the_row the_row self.entry.ghost_name none (λ _ _. ⊤) (λ v. (v.place ≡ self.old.place) × (v.ready ≡ false))) }
+        ensures* after { sem 𝓛 (follows_so the_row the_row self.entry.ghost_name none (λ _ _. ⊤)
+            (λ v. (v.point ≡ self.old.point) × (v.ready ≡ false))) }
     {
         self.prepare(notes)?;
-        Ok(self.given())
+        Ok(self.text_and_number())
     }
 }
 
-/// The lines of a page are those that its bytes give one by one from its first place on.
+/// The lines of a page are those that its bytes give one by one from its first point on.
 pub fn one_by_one_law()
-    ensures { (set : AnyEncoding) (bytes : List ℕ) → lines set bytes ≡ lines_from (first_place set) bytes }
+    ensures { (set : AnyEncoding) (bytes : List ℕ) → lines set bytes ≡ lines_from (first_point set) bytes }
 {}
 
-/// A page cut anywhere gives the same lines: those within the part above the cut, and those that come from the place there on.
+/// A page cut anywhere gives the same lines: those within the part above the cut, and those that come from the point
+/// there on.
 pub fn cut_law()
     ensures lines { (set : AnyEncoding) (above below : List ℕ) → lines set (above ++ below)
-        ≡ lines_within (first_place set) above ++ lines_from (place_of (first_place set) above) below }
-    ensures within { (p : Place) (above below : List ℕ) → lines_within p (above ++ below) ≡ lines_within p above ++ lines_within (place_of p above) below }
-    ensures place { (p : Place) (above below : List ℕ) → place_of p (above ++ below) ≡ place_of (place_of p above) below }
+        ≡ lines_within (first_point set) above ++ lines_from (point_after (first_point set) above) below }
+    ensures within { (p : Point) (above below : List ℕ) → lines_within p (above ++ below)
+        ≡ lines_within p above ++ lines_within (point_after p above) below }
+    ensures point { (p : Point) (above below : List ℕ) → point_after p (above ++ below)
+        ≡ point_after (point_after p above) below }
 {}
 
 /// A line that is open keeps no more than [`LINE`] bytes.
 pub fn held_law()
-    ensures { (set : AnyEncoding) (bytes : List ℕ) → length (place_of (first_place set) bytes).line.text.bytes ≤ LINE }
+    ensures { (set : AnyEncoding) (bytes : List ℕ)
+        → length (point_after (first_point set) bytes).line.text.bytes ≤ LINE }
 {}

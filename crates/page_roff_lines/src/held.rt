@@ -2,10 +2,10 @@
 ghost use Rattle.std.specs.Prelude.{◌≡◌, ◌+◌, ◌^◌, ◌<◌, ◌≤◌, ◌∷◌, [], length, true, OnOk, IfOk};
 ghost use Rattle.std.specs.List.{list_all};
 ghost use Rattle.page_roff_lines.specs.Characters.{is_printable};
-ghost use Rattle.page_roff_lines.specs.Held.{extended, shortened, nothing_held};
+ghost use Rattle.page_roff_lines.specs.Held.{extend, shorten, nothing_held};
 
 use crate::characters::is_printable;
-use crate::choosing::is_plain;
+use crate::choosing::is_printable_ascii;
 use page_core_limits::LINE;
 use std::alloc::{AllocError, Global};
 use std::marker::Model;
@@ -30,7 +30,8 @@ impl Model for HeldText {
 
     ghost view = { λ h. record { bytes = h.bytes.items; total = h.total } };
 
-    ghost invariant = { λ h. (vec_len h.bytes ≤ LINE) × (LINE ≤ vec_capacity h.bytes) × (h.printable ≡ true → list_all is_printable h.bytes.items ≡ true) };
+    ghost invariant = { λ h. (vec_len h.bytes ≤ LINE) × (LINE ≤ vec_capacity h.bytes)
+        × (h.printable ≡ true → list_all is_printable h.bytes.items ≡ true) };
 }
 
 impl HeldText {
@@ -61,11 +62,11 @@ impl HeldText {
         self.total
     }
 
-    /// A byte more at the end.
-    #[tactic(auto, unfolding(crate::specs::Held::extended))]
+    /// Appends a byte.
+    #[tactic(auto, unfolding(crate::specs::Held::extend))]
     pub fn push(&mut self, byte: u8)
         requires { self.old.total < 2 ^ 31 }
-        ensures { self.new ≡ extended self.old (byte ∷ []) }
+        ensures { self.new ≡ extend self.old (byte ∷ []) }
     {
         if self.bytes.len() < LINE {
             self.bytes.push_reserved(byte);
@@ -74,21 +75,13 @@ impl HeldText {
         self.total += 1;
     }
 
-    /// More bytes at the end.
-    pub fn extend(&mut self, more: &[u8])
-        requires { self.old.total + length more.now < 2 ^ 31 }
-        ensures { self.new ≡ extended self.old more.now }
-    {
-        self.append(more, false);
-    }
-
-    /// More bytes at the end, which may be known to be printable.
+    /// Appends bytes, which may be known to be printable.
     #[inline(always)]
-    #[tactic(auto, unfolding(crate::specs::Held::extended))]
-    pub fn append(&mut self, more: &[u8], printable: bool)
+    #[tactic(auto, unfolding(crate::specs::Held::extend))]
+    pub fn extend(&mut self, more: &[u8], printable: bool)
         requires total { self.old.total + length more.now < 2 ^ 31 }
         requires printable { printable ≡ true → list_all is_printable more.now ≡ true }
-        ensures { self.new ≡ extended self.old more.now }
+        ensures { self.new ≡ extend self.old more.now }
     {
         let room = LINE - self.bytes.len();
         let fits = room.min(more.len());
@@ -102,19 +95,19 @@ impl HeldText {
         ensures value { result ≡ list_all is_printable self.now.bytes }
         ensures bound { length self.now.bytes ≤ LINE }
     {
-        self.printable || is_plain(self.bytes())
+        self.printable || is_printable_ascii(self.bytes())
     }
 
-    /// Without the last byte.
-    #[tactic(auto, unfolding(crate::specs::Held::shortened))]
+    /// Takes the last byte away.
+    #[tactic(auto, unfolding(crate::specs::Held::shorten))]
     pub fn shorten(&mut self)
-        ensures { self.new ≡ shortened self.old }
+        ensures { self.new ≡ shorten self.old }
     {
         self.total = self.total.saturating_sub(1);
         self.bytes.truncate(self.total as usize);
     }
 
-    /// An empty text.
+    /// Takes all bytes away.
     pub fn clear(&mut self)
         ensures { self.new ≡ nothing_held }
     {

@@ -16,7 +16,7 @@ pub(crate) const NEWLINE: u8 = b'\n';
 
 const CARRIAGE_RETURN: u8 = b'\r';
 
-/// The backslash, which is read with the byte behind it.
+/// The backslash, which is read with the byte after it.
 pub(crate) const BACKSLASH: u8 = b'\\';
 
 const QUOTE: u8 = b'"';
@@ -33,7 +33,7 @@ pub struct OpenLine {
     whole: bool,
     number: u32,
     physical: u32,
-    taken: u32,
+    consumed: u32,
     mark: Mark,
 }
 
@@ -51,11 +51,12 @@ impl Model for OpenLine {
       whole = o.whole;
       number = o.number;
       physical = o.physical;
-      taken = o.taken;
+      consumed = o.consumed;
       mark = o.mark;
     } };
 
-    ghost invariant = { λ o. (o.taken < 2 ^ 31) × (o.physical ≤ o.taken + 1) × (o.text.total ≤ o.taken) × (o.number ≤ o.physical) };
+    ghost invariant = { λ o. (o.consumed < 2 ^ 31) × (o.physical ≤ o.consumed + 1)
+        × (o.text.total ≤ o.consumed) × (o.number ≤ o.physical) };
 }
 
 impl Mark {
@@ -108,7 +109,7 @@ fn pair_mode(byte: u8) -> Mode
 }
 
 impl OpenLine {
-    ghost use Rattle.page_roff_lines.specs.Open.{first_open, restarted, put, put_plain, put_pair, put_in, without_return, newline_in, put_newline, put_byte, open_after, ended, counted, closed, ends_mark, left, whole_lines, kept_of, is_marked};
+    ghost use Rattle.page_roff_lines.specs.Open.{first_open, restart, put, put_plain, put_pair, put_in, without_return, newline_in, put_newline, put_byte, next_open, end_open, count_byte, close, ends_mark, open_after, whole_lines, kept_of, is_marked};
     ghost use Rattle.page_roff_lines.specs.Bytes.{newline};
     ghost use Rattle.page_roff_lines.specs.Run.{IsRun, InText, with_run};
 
@@ -125,16 +126,16 @@ impl OpenLine {
             whole: false,
             number: 1,
             physical: 1,
-            taken: 0,
+            consumed: 0,
             mark: Mark::Unread,
         })
     }
 
-    // The line after a whole one.
-    #[tactic(auto, unfolding(crate::specs::Open::restarted))]
+    // Begins the line after a whole one.
+    #[tactic(auto, unfolding(crate::specs::Open::restart))]
     fn restart(&mut self)
-        ensures restarted { self.new ≡ restarted self.old }
-        ensures taken { self.new.taken ≡ self.old.taken }
+        ensures restart { self.new ≡ restart self.old }
+        ensures consumed { self.new.consumed ≡ self.old.consumed }
     {
         if self.whole {
             self.text.clear();
@@ -143,10 +144,10 @@ impl OpenLine {
         }
     }
 
-    // A byte more, and how the next one is read.
-    #[tactic(auto, unfolding(crate::specs::Open::put, crate::specs::Held::extended))]
+    // Appends a byte, and says how the next one is read.
+    #[tactic(auto, unfolding(crate::specs::Open::put, crate::specs::Held::extend))]
     fn put(&mut self, byte: u8, mode: Mode)
-        requires { self.old.text.total < self.old.taken }
+        requires { self.old.text.total < self.old.consumed }
         ensures { self.new ≡ put self.old byte mode }
     {
         self.text.push(byte);
@@ -155,10 +156,10 @@ impl OpenLine {
         self.begun = true;
     }
 
-    // A byte that no backslash stands before.
+    // Appends a byte that no backslash stands before.
     #[tactic(auto, unfolding(crate::specs::Open::put_plain))]
     fn put_plain(&mut self, byte: u8)
-        requires { self.old.text.total < self.old.taken }
+        requires { self.old.text.total < self.old.consumed }
         ensures { self.new ≡ put_plain self.old byte }
     {
         if byte == BACKSLASH {
@@ -168,10 +169,10 @@ impl OpenLine {
         }
     }
 
-    // The byte after a backslash.
-    #[tactic(auto, unfolding(crate::specs::Open::put_pair, crate::specs::Held::shortened))]
+    // Reads the byte after a backslash: a hash drops both and what follows.
+    #[tactic(auto, unfolding(crate::specs::Open::put_pair, crate::specs::Held::shorten))]
     fn put_pair(&mut self, byte: u8)
-        requires { self.old.text.total < self.old.taken }
+        requires { self.old.text.total < self.old.consumed }
         ensures { self.new ≡ put_pair self.old byte }
     {
         if byte == HASH {
@@ -182,10 +183,10 @@ impl OpenLine {
         }
     }
 
-    // A byte that is no line feed.
+    // Reads a byte that is no line feed.
     #[tactic(auto, unfolding(crate::specs::Open::put_in))]
     fn put_in(&mut self, byte: u8)
-        requires { self.old.text.total < self.old.taken }
+        requires { self.old.text.total < self.old.consumed }
         ensures { self.new ≡ put_in self.old.mode self.old.after_return self.old byte }
     {
         match self.mode {
@@ -202,10 +203,10 @@ impl OpenLine {
         }
     }
 
-    // The line is whole.
-    #[tactic(auto, unfolding(crate::specs::Open::closed))]
+    // Makes the line whole.
+    #[tactic(auto, unfolding(crate::specs::Open::close))]
     fn close(&mut self)
-        ensures { self.new ≡ closed self.old }
+        ensures { self.new ≡ close self.old }
     {
         self.mode = Mode::Plain;
         self.after_return = false;
@@ -213,8 +214,8 @@ impl OpenLine {
         self.whole = true;
     }
 
-    // A carriage return before the line feed is taken away.
-    #[tactic(auto, unfolding(crate::specs::Open::without_return, crate::specs::Held::shortened))]
+    // Takes away a carriage return right before the line feed.
+    #[tactic(auto, unfolding(crate::specs::Open::without_return, crate::specs::Held::shorten))]
     fn drop_return(&mut self)
         ensures { self.new ≡ without_return self.old }
     {
@@ -224,8 +225,8 @@ impl OpenLine {
         }
     }
 
-    // The end of a physical line.
-    #[tactic(auto, unfolding(crate::specs::Open::newline_in, crate::specs::Held::shortened))]
+    // Ends the physical line: the logical one with it, or it waits for what is joined.
+    #[tactic(auto, unfolding(crate::specs::Open::newline_in, crate::specs::Held::shorten))]
     fn end_physical(&mut self)
         ensures { self.new ≡ newline_in self.old.mode self.old }
     {
@@ -239,18 +240,18 @@ impl OpenLine {
         }
     }
 
-    // The next physical line.
+    // Counts the next physical line.
     fn begin_physical(&mut self)
-        requires { self.old.physical ≤ self.old.taken }
+        requires { self.old.physical ≤ self.old.consumed }
         ensures { self.new ≡ record self.old { physical = self.old.physical + 1 } }
     {
         self.physical += 1;
     }
 
-    // A line feed.
-    #[tactic(auto, unfolding(crate::specs::Open::put_newline, crate::specs::Open::without_return, crate::specs::Open::newline_in, crate::specs::Open::closed))]
+    // Reads a line feed.
+    #[tactic(auto, unfolding(crate::specs::Open::put_newline, crate::specs::Open::without_return, crate::specs::Open::newline_in, crate::specs::Open::close))]
     fn put_newline(&mut self)
-        requires { self.old.physical ≤ self.old.taken }
+        requires { self.old.physical ≤ self.old.consumed }
         ensures { self.new ≡ put_newline self.old }
     {
         self.drop_return();
@@ -258,15 +259,15 @@ impl OpenLine {
         self.begin_physical();
     }
 
-    // One byte more of the page.
-    #[tactic(auto, unfolding(crate::specs::Open::counted))]
+    // Counts a byte of the page, which may belong to its byte order mark.
+    #[tactic(auto, unfolding(crate::specs::Open::count_byte))]
     fn count(&mut self, byte: u8)
-        requires { self.old.taken + 1 < 2 ^ 31 }
-        ensures counted { self.new ≡ counted self.old byte }
-        ensures text { self.new.text.total < self.new.taken }
-        ensures physical { self.new.physical ≤ self.new.taken }
+        requires { self.old.consumed + 1 < 2 ^ 31 }
+        ensures count_byte { self.new ≡ count_byte self.old byte }
+        ensures text { self.new.text.total < self.new.consumed }
+        ensures physical { self.new.physical ≤ self.new.consumed }
     {
-        self.taken += 1;
+        self.consumed += 1;
         self.mark = self.mark.after(byte);
     }
 
@@ -280,24 +281,24 @@ impl OpenLine {
             && matches!(self.mode, Mode::Plain)
     }
 
-    // A line feed behind text.
-    #[tactic(auto, unfolding(crate::specs::Open::closed))]
+    // Reads a line feed after text.
+    #[tactic(auto, unfolding(crate::specs::Open::close))]
     fn end_text(&mut self)
         requires text { InText self.old }
-        requires taken { self.old.taken + 1 < 2 ^ 31 }
-        ensures after { self.new ≡ open_after self.old newline }
+        requires consumed { self.old.consumed + 1 < 2 ^ 31 }
+        ensures after { self.new ≡ next_open self.old newline }
         ensures whole { self.new.whole ≡ true }
     {
-        self.taken += 1;
+        self.consumed += 1;
         self.close();
         self.begin_physical();
     }
 
-    // One byte more; whether the line is whole with it.
-    #[tactic(auto, unfolding(crate::specs::Open::open_after, crate::specs::Open::put_byte, crate::specs::Open::counted, crate::specs::Open::restarted))]
+    // Reads a byte; whether the line is whole with it.
+    #[tactic(auto, unfolding(crate::specs::Open::next_open, crate::specs::Open::put_byte, crate::specs::Open::count_byte, crate::specs::Open::restart))]
     fn take_byte(&mut self, byte: u8) -> bool
-        requires { self.old.taken + 1 < 2 ^ 31 }
-        ensures after { self.new ≡ open_after self.old byte }
+        requires { self.old.consumed + 1 < 2 ^ 31 }
+        ensures after { self.new ≡ next_open self.old byte }
         ensures whole { result ≡ self.new.whole }
     {
         if byte == NEWLINE && self.is_in_text() {
@@ -318,36 +319,36 @@ impl OpenLine {
         self.whole
     }
 
-    // How many bytes at the front of a piece are read alike, and whether they are known to be printable.
-    fn run_len(&self, piece: &[u8]) -> (usize, bool)
-        ensures within { result.0 ≤ length piece.now }
-        ensures run { 0 < result.0 → IsRun self.now (take result.0 piece.now) }
-        ensures printable { result.1 ≡ true → list_all is_printable (take result.0 piece.now) ≡ true }
+    // How many bytes at the front of a chunk are read alike, and whether they are known to be printable.
+    fn run_len(&self, chunk: &[u8]) -> (usize, bool)
+        ensures within { result.0 ≤ length chunk.now }
+        ensures run { 0 < result.0 → IsRun self.now (take result.0 chunk.now) }
+        ensures printable { result.1 ≡ true → list_all is_printable (take result.0 chunk.now) ≡ true }
     {
         if !self.mark.is_settled() {
             return (0, false);
         }
         match self.mode {
-            Mode::Plain => plain_run(piece),
+            Mode::Plain => plain_run(chunk),
             Mode::Comment | Mode::Dropped => {
-                (memchr(NEWLINE, piece).unwrap_or(piece.len()), false)
+                (memchr(NEWLINE, chunk).unwrap_or(chunk.len()), false)
             }
             Mode::Backslash => (0, false),
         }
     }
 
-    // Bytes that are read alike, which may be known to be printable.
-    #[tactic(auto, unfolding(crate::specs::Run::run_in, crate::specs::Held::extended))]
+    // Appends bytes that are read alike, which may be known to be printable.
+    #[tactic(auto, unfolding(crate::specs::Run::run_in, crate::specs::Held::extend))]
     fn put_run(&mut self, run: &[u8], printable: bool)
-        requires taken { self.old.taken + length run.now < 2 ^ 31 }
+        requires consumed { self.old.consumed + length run.now < 2 ^ 31 }
         requires some { 0 < length run.now }
         requires printable { printable ≡ true → list_all is_printable run.now ≡ true }
         ensures { self.new ≡ with_run self.old run.now }
     {
-        self.taken += run.len() as u32;
+        self.consumed += run.len() as u32;
         match self.mode {
             Mode::Plain | Mode::Comment => {
-                self.text.append(run, printable);
+                self.text.extend(run, printable);
                 self.after_return = run[run.len() - 1] == CARRIAGE_RETURN;
                 self.begun = true;
             }
@@ -355,38 +356,39 @@ impl OpenLine {
         }
     }
 
-    // The bytes at the front of a piece that are read alike; how many they are.
-    fn take_run(&mut self, piece: &[u8]) -> usize
-        requires { self.old.taken + length piece.now < 2 ^ 31 }
-        ensures within { result ≤ length piece.now }
-        ensures after { self.new ≡ left self.old (take result piece.now) }
-        ensures none { whole_lines self.old (take result piece.now) ≡ [] }
+    // Reads the bytes at the front of a chunk that are read alike; how many they are.
+    fn take_run(&mut self, chunk: &[u8]) -> usize
+        requires { self.old.consumed + length chunk.now < 2 ^ 31 }
+        ensures within { result ≤ length chunk.now }
+        ensures after { self.new ≡ open_after self.old (take result chunk.now) }
+        ensures none { whole_lines self.old (take result chunk.now) ≡ [] }
     {
-        let (len, printable) = self.run_len(piece);
+        let (len, printable) = self.run_len(chunk);
         if len > 0 {
             self.restart();
-            self.put_run(&piece[..len], printable);
+            self.put_run(&chunk[..len], printable);
         }
         len
     }
 
-    /// Takes a piece of the page up to the line feed that ends the logical line, or all of it; how many bytes it took, and whether
-    /// the line is whole.
-    pub fn read(&mut self, piece: &[u8]) -> (usize, bool)
-        requires { self.old.taken + length piece.now < 2 ^ 31 }
-        ensures within { result.0 ≤ length piece.now }
-        ensures all { result.1 ≡ false → result.0 ≡ length piece.now }
-        ensures after { self.new ≡ left self.old (take result.0 piece.now) }
-        ensures lines { whole_lines self.old (take result.0 piece.now) ≡ (if result.1 then kept_of self.new ∷ [] else []) }
-        ensures before { result.1 ≡ true → whole_lines self.old (take (result.0 - 1) piece.now) ≡ [] }
+    /// Reads a chunk of the page up to the line feed that ends the logical line, or all of it; how many bytes it
+    /// consumed, and whether the line is whole.
+    pub fn read(&mut self, chunk: &[u8]) -> (usize, bool)
+        requires { self.old.consumed + length chunk.now < 2 ^ 31 }
+        ensures within { result.0 ≤ length chunk.now }
+        ensures all { result.1 ≡ false → result.0 ≡ length chunk.now }
+        ensures after { self.new ≡ open_after self.old (take result.0 chunk.now) }
+        ensures lines { whole_lines self.old (take result.0 chunk.now)
+            ≡ (if result.1 then kept_of self.new ∷ [] else []) }
+        ensures before { result.1 ≡ true → whole_lines self.old (take (result.0 - 1) chunk.now) ≡ [] }
         ensures whole { result.1 ≡ true → self.new.whole ≡ true }
-        ensures taken { self.new.taken ≡ self.old.taken + result.0 }
+        ensures consumed { self.new.consumed ≡ self.old.consumed + result.0 }
     {
         let mut at = 0;
-        while at < piece.len() {
-            at += self.take_run(&piece[at..]);
-            if at < piece.len() {
-                let whole = self.take_byte(piece[at]);
+        while at < chunk.len() {
+            at += self.take_run(&chunk[at..]);
+            if at < chunk.len() {
+                let whole = self.take_byte(chunk[at]);
                 at += 1;
                 if whole {
                     return (at, true);
@@ -397,9 +399,9 @@ impl OpenLine {
     }
 
     /// Ends the page; whether a last line is there.
-    #[tactic(auto, unfolding(crate::specs::Open::ended, crate::specs::Open::end_in, crate::specs::Open::restarted, crate::specs::Open::closed, crate::specs::Held::shortened))]
+    #[tactic(auto, unfolding(crate::specs::Open::end_open, crate::specs::Open::end_in, crate::specs::Open::restart, crate::specs::Open::close, crate::specs::Held::shorten))]
     pub fn end(&mut self) -> bool
-        ensures after { self.new ≡ ended self.old }
+        ensures after { self.new ≡ end_open self.old }
         ensures line { result ≡ self.new.whole }
     {
         self.restart();
@@ -422,7 +424,8 @@ impl OpenLine {
         self.text.bytes()
     }
 
-    /// Whether each byte that is kept is a printable one of ASCII or a tab, so that it's the same under each encoding.
+    /// Whether each byte that is kept is a printable one of ASCII or a tab, so that it's the same under each
+    /// encoding.
     pub fn is_printable(&self) -> bool
         ensures value { result ≡ list_all is_printable self.now.text.bytes }
         ensures bound { length self.now.text.bytes ≤ LINE }

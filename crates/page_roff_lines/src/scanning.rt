@@ -71,27 +71,30 @@ pub fn text_within(bytes: &[u8], room: usize) -> usize
     ensures room { result ≤ room }
     ensures text { list_all is_printable (take result bytes.now) ≡ true }
 {
+    if bytes.is_empty() || !is_text(bytes[0]) {
+        return 0;
+    }
     text_len(bytes).min(room)
 }
 
 // How many bytes come before the first line feed or backslash.
-fn run_len(piece: &[u8]) -> usize
-    ensures within { result ≤ length piece.now }
-    ensures run { (k : ℕ) → k < result → spec_ends_run Mode.Plain (slice_index piece.now k) ≡ false }
+fn run_len(chunk: &[u8]) -> usize
+    ensures within { result ≤ length chunk.now }
+    ensures run { (k : ℕ) → k < result → spec_ends_run Mode.Plain (slice_index chunk.now k) ≡ false }
 {
-    memchr2(NEWLINE, BACKSLASH, piece).unwrap_or(piece.len())
+    memchr2(NEWLINE, BACKSLASH, chunk).unwrap_or(chunk.len())
 }
 
 /// How many bytes come before the first line feed or backslash, and whether they are known to be printable.
 #[inline(always)]
-pub fn plain_run(piece: &[u8]) -> (usize, bool)
-    ensures within { result.0 ≤ length piece.now }
-    ensures run { (k : ℕ) → k < result.0 → spec_ends_run Mode.Plain (slice_index piece.now k) ≡ false }
-    ensures printable { result.1 ≡ true → list_all is_printable (take result.0 piece.now) ≡ true }
+pub fn plain_run(chunk: &[u8]) -> (usize, bool)
+    ensures within { result.0 ≤ length chunk.now }
+    ensures run { (k : ℕ) → k < result.0 → spec_ends_run Mode.Plain (slice_index chunk.now k) ≡ false }
+    ensures printable { result.1 ≡ true → list_all is_printable (take result.0 chunk.now) ≡ true }
 {
-    let len = text_len(piece);
-    if len == piece.len() || piece[len] == NEWLINE || piece[len] == BACKSLASH {
+    let len = text_len(chunk);
+    if len == chunk.len() || chunk[len] == NEWLINE || chunk[len] == BACKSLASH {
         return (len, true);
     }
-    (len + run_len(&piece[len..]), false)
+    (len + run_len(&chunk[len..]), false)
 }

@@ -19,7 +19,7 @@ returns-then-first-eq92-clause-len c =
 pub returns-clause-columns : goal.returns-clause-columns
 returns-clause-columns c =
     let front = front-character c.args.output c.args.text.now c.requires.first.rest c.args.first c.utf8.text c.requires.first.is c.if-first-eq92.false in
-    c.printed_columns.ensures.value ∙ ap characters_columns (sym front.0)
+    c.printed_columns.ensures.value ∙ ap (λ p. characters_columns p.characters) c.printed_char.ensures.value ∙ ap characters_columns (sym front.0)
 
 pub returns-clause-len : goal.returns-clause-len
 returns-clause-len c =

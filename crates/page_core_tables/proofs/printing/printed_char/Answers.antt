@@ -1,4 +1,4 @@
-use Rattle.page_core_tables.proofs.Short.{by_spelling_of-short}
+use Rattle.page_core_tables.proofs.PrintedLemmas.{by_spelling_of-short}
 use Rattle.page_core_tables.proofs.printing.printed_char.Goals as goal
 
 pub returns-in-128-to-4294967295-clause-short : goal.returns-in-128-to-4294967295-clause-short

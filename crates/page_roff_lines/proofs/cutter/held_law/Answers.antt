@@ -1,5 +1,5 @@
-use Rattle.page_roff_lines.proofs.HeldLaws.{held-limit}
+use Rattle.page_roff_lines.proofs.HeldLaws.{hold-limit}
 use Rattle.page_roff_lines.proofs.cutter.held_law.Goals as goal
 
 pub returns : goal.returns
-returns c = held-limit
+returns c = hold-limit

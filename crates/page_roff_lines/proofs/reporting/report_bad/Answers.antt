@@ -4,7 +4,7 @@ use Rattle.page_core_base.specs.Sinks.{UpTo}
 use Rattle.page_core_base.proofs.SinkLemmas.{UpTo-start, UpTo-more, UpTo-within, UpTo-all}
 use Rattle.page_roff_lines.specs.Limit.{line_limit, line_limit_is}
 use Rattle.page_roff_lines.specs.Characters.{characters}
-use Rattle.page_roff_lines.specs.Decoding.{fitting, bad_notes}
+use Rattle.page_roff_lines.specs.Decoding.{characters_within, bad_notes}
 use Rattle.page_roff_lines.proofs.OpenLaws.{rest_of}
 use Rattle.page_roff_lines.proofs.PlainLemmas.{bad_notes-text}
 use Rattle.page_roff_lines.proofs.ReportLemmas.{bad_notes-more, bad_notes-stop, bad_notes-end}
@@ -14,13 +14,13 @@ pub loop-at-init : goal.loop-at-init
 loop-at-init g c =
     let limit = line_limit_is in
     let cs = characters c.args.encoding c.args.text.now in
-    let all = bad_notes c.args.number 1 (fitting line_limit cs) in
+    let all = bad_notes c.args.number 1 (characters_within line_limit cs) in
     let one : line_limit - line_limit + 1 ≡ 1 = omega arith in
-    let start : UpTo g.N.NoteSink.gave c.args.notes.now all (bad_notes c.args.number (line_limit - line_limit + 1) (fitting line_limit cs)) c.args.notes.now =
+    let start : UpTo g.N.NoteSink.gave c.args.notes.now all (bad_notes c.args.number (line_limit - line_limit + 1) (characters_within line_limit cs)) c.args.notes.now =
     rw one (UpTo-start g.met.N.NoteSink.laws c.args.notes.now all) in (
       omega arith,
       omega (arith, limit),
-      subst (λ (n : ℕ). UpTo g.N.NoteSink.gave c.args.notes.now all (bad_notes c.args.number (line_limit - n + 1) (fitting n cs)) c.args.notes.now) limit start,
+      subst (λ (n : ℕ). UpTo g.N.NoteSink.gave c.args.notes.now all (bad_notes c.args.number (line_limit - n + 1) (characters_within n cs)) c.args.notes.now) limit start,
       refl,
       refl,
     )

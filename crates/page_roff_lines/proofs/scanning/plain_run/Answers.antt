@@ -9,16 +9,16 @@ use Rattle.page_roff_lines.proofs.OpenLaws.{rest_of}
 use Rattle.page_roff_lines.proofs.ScanLemmas.{text-run, text-printable}
 use Rattle.page_roff_lines.proofs.scanning.plain_run.Goals as goal
 
-pub returns-then-len-piece-clause-run : goal.returns-then-len-piece-clause-run
-returns-then-len-piece-clause-run c = λ k below.
-    text-run (slice_index c.args.piece.now k) (prefix_len_passes is_text c.args.piece.now k 0 (omega (arith, c.text_len-len.ensures.value)))
+pub returns-then-len-chunk-clause-run : goal.returns-then-len-chunk-clause-run
+returns-then-len-chunk-clause-run c = λ k below.
+    text-run (slice_index c.args.chunk.now k) (prefix_len_passes is_text c.args.chunk.now k 0 (omega (arith, c.text_len-len.ensures.value)))
 
-pub returns-then-len-piece-clause-printable : goal.returns-then-len-piece-clause-printable
-returns-then-len-piece-clause-printable c = λ _. text-printable c.args.piece.now c.text_len-len.result (omega (arith, c.text_len-len.ensures.value))
+pub returns-then-len-chunk-clause-printable : goal.returns-then-len-chunk-clause-printable
+returns-then-len-chunk-clause-printable c = λ _. text-printable c.args.chunk.now c.text_len-len.result (omega (arith, c.text_len-len.ensures.value))
 
 pub returns-clause-run : goal.returns-clause-run
 returns-clause-run c = λ k below.
-    let xs = c.args.piece.now in
+    let xs = c.args.chunk.now in
     let n = c.text_len-len.result in
     let rest = rest_of xs n in
     elim (cases_lt k n) [

@@ -1,28 +1,28 @@
 use Rattle.std.proofs.Common.{◌-◌, take, sym, ap, ◌∙◌}
-use Rattle.page_roff_lines.specs.Cutting.{Place, place_of, lines_within}
-use Rattle.page_roff_lines.proofs.PlaceLemmas.{open_place, free_place, fed}
+use Rattle.page_roff_lines.specs.Cutting.{Point, point_after, lines_within}
+use Rattle.page_roff_lines.proofs.PointLemmas.{open_point, free_point, fed}
 use Rattle.page_roff_lines.proofs.cutter.Cutter.feed.Goals as goal
 
-pub returns-clause-place : goal.returns-clause-place
-returns-clause-place c =
-    let place = free_place c.args.self.now c.self.inside.line c.self.inside.encoding c.self.inside.ready _ c.self.view_is c.requires.free in
-    let r = c.read-taken in
-    let facts = fed (open_place c.self.inside.encoding c.self.inside.line) c.args.piece.now r.result.0 r.result.1 r.new.self
+pub returns-clause-point : goal.returns-clause-point
+returns-clause-point c =
+    let point = free_point c.args.self.now c.self.inside.line c.self.inside.encoding c.self.inside.ready _ c.self.view_is c.requires.free in
+    let r = c.read-consumed in
+    let facts = fed (open_point c.self.inside.encoding c.self.inside.line) c.args.chunk.now r.result.0 r.result.1 r.new.self
     r.ensures.within r.ensures.after r.ensures.lines r.ensures.before r.ensures.whole in
-    facts.0 ∙ ap (λ (p : Place). place_of p (take r.result.0 c.args.piece.now)) (sym place)
+    facts.0 ∙ ap (λ (p : Point). point_after p (take r.result.0 c.args.chunk.now)) (sym point)
 
 pub returns-clause-lines : goal.returns-clause-lines
 returns-clause-lines c =
-    let place = free_place c.args.self.now c.self.inside.line c.self.inside.encoding c.self.inside.ready _ c.self.view_is c.requires.free in
-    let r = c.read-taken in
-    let facts = fed (open_place c.self.inside.encoding c.self.inside.line) c.args.piece.now r.result.0 r.result.1 r.new.self
+    let point = free_point c.args.self.now c.self.inside.line c.self.inside.encoding c.self.inside.ready _ c.self.view_is c.requires.free in
+    let r = c.read-consumed in
+    let facts = fed (open_point c.self.inside.encoding c.self.inside.line) c.args.chunk.now r.result.0 r.result.1 r.new.self
     r.ensures.within r.ensures.after r.ensures.lines r.ensures.before r.ensures.whole in
-    ap (λ (p : Place). lines_within p (take r.result.0 c.args.piece.now)) place ∙ facts.1
+    ap (λ (p : Point). lines_within p (take r.result.0 c.args.chunk.now)) point ∙ facts.1
 
 pub returns-clause-before : goal.returns-clause-before
 returns-clause-before c = λ whole.
-    let place = free_place c.args.self.now c.self.inside.line c.self.inside.encoding c.self.inside.ready _ c.self.view_is c.requires.free in
-    let r = c.read-taken in
-    let facts = fed (open_place c.self.inside.encoding c.self.inside.line) c.args.piece.now r.result.0 r.result.1 r.new.self
+    let point = free_point c.args.self.now c.self.inside.line c.self.inside.encoding c.self.inside.ready _ c.self.view_is c.requires.free in
+    let r = c.read-consumed in
+    let facts = fed (open_point c.self.inside.encoding c.self.inside.line) c.args.chunk.now r.result.0 r.result.1 r.new.self
     r.ensures.within r.ensures.after r.ensures.lines r.ensures.before r.ensures.whole in
-    ap (λ (p : Place). lines_within p (take (r.result.0 - 1) c.args.piece.now)) place ∙ facts.2 whole
+    ap (λ (p : Point). lines_within p (take (r.result.0 - 1) c.args.chunk.now)) point ∙ facts.2 whole

@@ -1,7 +1,7 @@
 use Rattle.std.proofs.Common.{◌+◌, sym, ◌∙◌, arith}
 use Rattle.std.proofs.lemmas.List.{length-drop, drop_all}
 use Rattle.page_roff_lines.specs.Characters.{characters_after}
-use Rattle.page_roff_lines.proofs.FineLemmas.{decoded-is_line}
+use Rattle.page_roff_lines.proofs.FineLemmas.{decode_line-is_line}
 use Rattle.page_roff_lines.proofs.OpenLaws.{rest_of}
 use Rattle.page_roff_lines.proofs.CharacterLemmas.{so_far-more, so_far-stop, so_far-end, characters-at}
 use Rattle.page_roff_lines.proofs.PlainLemmas.{so_far-text}
@@ -83,7 +83,7 @@ returns-clause-passed c =
 
 pub returns-then-not-put_front-clause-line : goal.returns-then-not-put_front-clause-line
 returns-then-not-put_front-clause-line c =
-    rw (returns-then-not-put_front-clause-after c) (decoded-is_line c.args.encoding c.args.text.now (λ i. omega (arith, c.type_inv.text i)))
+    rw (returns-then-not-put_front-clause-after c) (decode_line-is_line c.args.encoding c.args.text.now (λ i. omega (arith, c.type_inv.text i)))
 
 pub returns-clause-line : goal.returns-clause-line
-returns-clause-line c = rw (returns-clause-after c) (decoded-is_line c.args.encoding c.args.text.now (λ i. omega (arith, c.type_inv.text i)))
+returns-clause-line c = rw (returns-clause-after c) (decode_line-is_line c.args.encoding c.args.text.now (λ i. omega (arith, c.type_inv.text i)))

@@ -1,27 +1,27 @@
 use Rattle.std.proofs.Common.{◌≡◌, take, refl, sym, ap, ◌∙◌, arith}
 use Rattle.std.proofs.lemmas.List.{length-take-le}
-use Rattle.page_roff_lines.specs.Open.{left, whole_lines}
+use Rattle.page_roff_lines.specs.Open.{open_after, whole_lines}
 use Rattle.page_roff_lines.specs.Run.{with_run}
-use Rattle.page_roff_lines.proofs.RunLemmas.{left-run, whole_lines-run}
+use Rattle.page_roff_lines.proofs.RunLemmas.{open_after-run, whole_lines-run}
 use Rattle.page_roff_lines.proofs.open.OpenLine.take_run.Goals as goal
 
-pub put_run-requires-clause-taken : goal.put_run-requires-clause-taken
-put_run-requires-clause-taken c =
-    let len = length-take-le c.run_len-len.result.0 c.args.piece.now c.run_len-len.ensures.within in
-    omega (arith, len, c.restart.ensures.taken)
+pub put_run-requires-clause-consumed : goal.put_run-requires-clause-consumed
+put_run-requires-clause-consumed c =
+    let len = length-take-le c.run_len-len.result.0 c.args.chunk.now c.run_len-len.ensures.within in
+    omega (arith, len, c.restart.ensures.consumed)
 
 pub returns-then-len-gt0-clause-after : goal.returns-then-len-gt0-clause-after
 returns-then-len-gt0-clause-after c =
-    let run = take c.run_len-len.result.0 c.args.piece.now in
-    let len = length-take-le c.run_len-len.result.0 c.args.piece.now c.run_len-len.ensures.within in
-    c.put_run.ensures ∙ ap (λ o. with_run o run) c.restart.ensures.restarted
-    ∙ sym (left-run c.args.self.now run (omega (arith, len)) (c.run_len-len.ensures.run c.if-len-gt0.true))
+    let run = take c.run_len-len.result.0 c.args.chunk.now in
+    let len = length-take-le c.run_len-len.result.0 c.args.chunk.now c.run_len-len.ensures.within in
+    c.put_run.ensures ∙ ap (λ o. with_run o run) c.restart.ensures.restart
+    ∙ sym (open_after-run c.args.self.now run (omega (arith, len)) (c.run_len-len.ensures.run c.if-len-gt0.true))
 
 pub returns-then-len-gt0-clause-none : goal.returns-then-len-gt0-clause-none
 returns-then-len-gt0-clause-none c = whole_lines-run c.args.self.now _ (c.run_len-len.ensures.run c.if-len-gt0.true)
 
 pub returns-else-len-gt0-clause-after : goal.returns-else-len-gt0-clause-after
-unfolding left
+unfolding open_after
 returns-else-len-gt0-clause-after c = let none : c.run_len-len.result.0 ≡ 0 = omega arith in rw none refl
 
 pub returns-else-len-gt0-clause-none : goal.returns-else-len-gt0-clause-none

@@ -1,0 +1,79 @@
+-- What is printed is short, and a character of printable ASCII has one column.
+use Rattle.std.proofs.Common.{◌≡◌, ℕ, ◌≤◌, ◌==◌, nat_le, ◌&&◌, Bool, true, List, [], ◌∷◌, length, Option, None, Some, option_map, inl, inr, refl, sym, ap, ◌∙◌, arith}
+use Rattle.std.specs.Str.{bytes_eq}
+use Rattle.std.specs.List.{list_all}
+use Rattle.std.proofs.lemmas.Bool.{cases_Bool, cond-true, cond-false, and_parts}
+use Rattle.std.proofs.lemmas.Bool.Decides.{nat_tests}
+use Rattle.page_core_tables.specs.Glyphs.{Symbol, Entry, table, entry_named, glyph_of, first_spelling, spelling_of}
+use Rattle.unicode_width.specs.Width.{char_width}
+use Rattle.page_core_tables.specs.Printed.{by_spelling, char_columns}
+
+-- ---- spellings have eight characters at most
+
+abbrev is_short : Entry → Bool
+is_short e = nat_le (length e.symbol.spelling) 8
+
+nat_le-true : (a b : ℕ) → nat_le a b ≡ true → a ≤ b
+nat_le-true a b h = grind (arith, nat_tests)
+
+all_short : list_all is_short table ≡ true
+unfolding table
+all_short = refl
+
+first_spelling-short : (code : ℕ) (es : List Entry) → list_all is_short es ≡ true → length (first_spelling code es) ≤ 8
+unfolding first_spelling
+first_spelling-short code [] h = omega arith
+first_spelling-short code (e ∷ es) h =
+    let parts = and_parts (is_short e) (list_all is_short es) h in
+    elim (cases_Bool (e.symbol.code == code)) [
+      | inl same ↦ rw same (nat_le-true (length e.symbol.spelling) 8 parts.0)
+      | inr other ↦ rw other (first_spelling-short code es parts.1)
+    ]
+
+spelling_of-short : (c : ℕ) → length (spelling_of c) ≤ 8
+unfolding spelling_of
+spelling_of-short c =
+    elim (cases_Bool (nat_le 32 c && nat_le c 126)) [
+      | inl ascii ↦ rw ascii (omega arith)
+      | inr other ↦ rw other (first_spelling-short c table all_short)
+    ]
+
+entry_named-short : (name : List ℕ) (es : List Entry) (found : Entry) → list_all is_short es ≡ true → entry_named name es ≡ Some found → length found.symbol.spelling ≤ 8
+unfolding entry_named
+entry_named-short name [] found h e = cc
+entry_named-short name (x ∷ xs) found h e =
+    let parts = and_parts (is_short x) (list_all is_short xs) h in
+    elim (cases_Bool (bytes_eq name x.name)) [
+      | inl same ↦
+          let first : Some x ≡ Some found = sym (cond-true _ _ _ same) ∙ e in
+          let is : x ≡ found = cc in
+          rw (← is) (nat_le-true (length x.symbol.spelling) 8 parts.0)
+      | inr other ↦ entry_named-short name xs found parts.1 (sym (cond-false _ _ _ other) ∙ e)
+    ]
+
+glyph_of-short : (name : List ℕ) (symbol : Symbol) → Some symbol ≡ glyph_of name → length symbol.spelling ≤ 8
+unfolding glyph_of
+glyph_of-short name symbol e = at (entry_named name table) refl
+  where
+    at : (o : Option Entry) → entry_named name table ≡ o → length symbol.spelling ≤ 8
+    at None none = let never : Some symbol ≡ None = e ∙ ap (λ o. option_map (λ (x : Entry). x.symbol) o) none in cc
+    at (Some found) some =
+        let same : Some symbol ≡ Some found.symbol = e ∙ ap (λ o. option_map (λ (x : Entry). x.symbol) o) some in
+        let is : symbol ≡ found.symbol = cc in
+        rw is (entry_named-short name table found all_short some)
+
+by_spelling-short : (spelling : List ℕ) (c : ℕ) → length spelling ≤ 8 → length (by_spelling spelling c).characters ≤ 8
+by_spelling-short [] c short = omega arith
+by_spelling-short (b ∷ bs) c short = short
+
+pub by_spelling_of-short : (c : ℕ) (text : List ℕ) → text ≡ spelling_of c → length (by_spelling text c).characters ≤ 8
+by_spelling_of-short c text is = by_spelling-short text c (rw is (spelling_of-short c))
+
+pub by_spelling_of_glyph-short : (name : List ℕ) (symbol : Symbol) → Some symbol ≡ glyph_of name → length (by_spelling symbol.spelling symbol.code).characters ≤ 8
+by_spelling_of_glyph-short name symbol is = by_spelling-short symbol.spelling symbol.code (glyph_of-short name symbol is)
+
+-- ---- columns
+
+pub char_columns-printable : (c : ℕ) → 32 ≤ c → c ≤ 126 → char_columns c ≡ 1
+unfolding char_width
+char_columns-printable c low high = grind (arith, nat_tests, low, high)

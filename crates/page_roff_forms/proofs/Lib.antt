@@ -1,0 +1,3 @@
+pub mod ArgumentLemmas
+pub mod EndLemmas
+pub mod FormLemmas

@@ -1,0 +1,12 @@
+//! The form of a raw line, and the arguments of a control line (roff(7), "LANGUAGE SYNTAX" and "Macro syntax").
+#![tactic(auto)]
+
+mod arguments;
+mod ends;
+mod line_forms;
+mod quotes;
+
+pub use arguments::{Arguments, has_arguments};
+pub use ends::kept_len;
+pub use line_forms::{LineForm, form_of, has_word, is_white, white_len};
+pub use quotes::{Argument, Quoting};

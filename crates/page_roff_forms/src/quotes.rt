@@ -1,0 +1,136 @@
+//! The first argument of a text (roff(7), "Macro syntax").
+
+ghost use Rattle.std.specs.Prelude.{◌≡◌, ◌≤◌, ◌<◌, ◌+◌, ◌-◌, ◌^◌, length};
+ghost use Rattle.page_roff_forms.specs.Arguments.{argument_seen, is_quoted, bare_len, quoted_len, quoted_argument, begins_quoted, first_argument, argument_len};
+
+use std::alloc::AllocError;
+
+/// How an argument is quoted.
+#[derive(Clone, Copy)]
+pub enum Quoting {
+    /// It is not.
+    Bare,
+    /// It has its last quote. A pair of quotes in its text is one quote.
+    Closed,
+    /// It ends with its line. A pair of quotes in its text is one quote.
+    Unclosed,
+}
+
+/// An argument; `W` is a text.
+pub struct Argument<W> {
+    /// The argument without the quotes around it.
+    pub text: W,
+    /// The column of the text's first byte.
+    pub column: u32,
+    pub quoting: Quoting,
+}
+
+impl<W: Copy> Copy for Argument<W> {}
+
+impl<W: Copy> Clone for Argument<W> {
+    ghost is_clone = { λ x y. y ≡ x };
+
+    ghost is_infallible = { λ _. Unit {0} };
+
+    fn clone(&self) -> Result<Argument<W>, AllocError> {
+        Ok(*self)
+    }
+}
+
+impl<W> Argument<W> {
+    /// Whether a pair of quotes in the text is one quote.
+    pub fn is_quoted(&self) -> bool
+        ensures { result ≡ is_quoted self.now.quoting }
+    {
+        !matches!(self.quoting, Quoting::Bare)
+    }
+}
+
+// The number of bytes of an argument without quotes at a text's front.
+fn bare_len(text: &[u8]) -> usize
+    ensures value { result ≡ bare_len text.now }
+    ensures within { result ≤ length text.now }
+{
+    let mut len = 0;
+    while len < text.len() && text[len] != b' ' {
+        if text[len] == b'\\' && len + 1 < text.len() {
+            len += 2;
+        } else {
+            len += 1;
+        }
+    }
+    len
+}
+
+// The number of bytes of a quoted argument after its first quote, up to the next lone quote or the end.
+fn quoted_len(text: &[u8]) -> usize
+    ensures value { result ≡ quoted_len text.now }
+    ensures within { result ≤ length text.now }
+{
+    let mut len = 0;
+    while len < text.len() {
+        if text[len] != b'"' {
+            len += 1;
+        } else if len + 1 < text.len() && text[len + 1] == b'"' {
+            len += 2;
+        } else {
+            return len;
+        }
+    }
+    len
+}
+
+// Whether a text begins with a quote.
+fn begins_quoted(text: &[u8]) -> bool
+    ensures { result ≡ begins_quoted text.now }
+{
+    match text {
+        [] => false,
+        [first, ..] => *first == b'"',
+    }
+}
+
+// The argument whose first quote stands at a column, and whose bytes after it are given.
+fn quoted_argument(inner: &[u8], column: u32) -> Argument<&[u8]>
+    requires { column + 1 + length inner.now < 2 ^ 32 }
+    ensures value { argument_seen result ≡ quoted_argument column inner.now }
+    ensures within { result.column + length result.text.now ≤ column + 1 + length inner.now }
+{
+    let len = quoted_len(inner);
+    Argument {
+        text: &inner[..len],
+        column: column + 1,
+        quoting: if len < inner.len() {
+            Quoting::Closed
+        } else {
+            Quoting::Unclosed
+        },
+    }
+}
+
+/// The argument that a text begins with, of which the first byte stands at a column.
+pub(crate) fn first_argument(text: &[u8], column: u32) -> Argument<&[u8]>
+    requires { column + length text.now < 2 ^ 32 }
+    ensures value { argument_seen result ≡ first_argument column text.now }
+    ensures within { result.column + length result.text.now ≤ column + length text.now }
+{
+    if begins_quoted(text) {
+        return quoted_argument(&text[1..], column);
+    }
+    Argument {
+        text: &text[..bare_len(text)],
+        column,
+        quoting: Quoting::Bare,
+    }
+}
+
+/// The number of bytes of that argument with its quotes.
+pub(crate) fn argument_len(text: &[u8]) -> usize
+    ensures value { result ≡ argument_len text.now }
+    ensures within { result ≤ length text.now }
+{
+    if begins_quoted(text) {
+        return text.len().min(quoted_len(&text[1..]) + 2);
+    }
+    bare_len(text)
+}

@@ -1,0 +1,5 @@
+//! Tests of forms and arguments of lines, on public calls.
+#![tactic(auto)]
+
+#[cfg(test)]
+mod tests;

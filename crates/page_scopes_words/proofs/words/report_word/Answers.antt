@@ -1,0 +1,31 @@
+use Rattle.std.proofs.Common.{◌≡◌, ◌<◌, true, false, length, ap, sym, ◌∙◌, append_assoc, arith, length-drop}
+use Rattle.std.proofs.lemmas.List.{take_rest}
+use Rattle.page_core_escapes.specs.Tokens.{begins_word, token_bytes}
+use Rattle.page_core_escapes.proofs.TokenLemmas.{word_some}
+use Rattle.page_scopes_words.proofs.WordLemmas.{notes_more, notes_none}
+use Rattle.page_scopes_words.proofs.words.report_word.Goals as goal
+
+pub loop-rest-smaller : goal.loop-rest-smaller
+loop-rest-smaller g c =
+    let l = c.loop-rest in
+    let t : begins_word l.rest.now ≡ true = sym c.begins_word.ensures ∙ c.loop-rest-test.true in
+    let some : 0 < c.len.result = rw c.len.ensures (c.read_token-token.ensures.some (word_some l.rest.now t)) in
+    rw (take_rest l.rest.now c.len.result) (omega (arith, some, length-drop c.len.result l.rest.now, word_some l.rest.now t))
+
+pub loop-rest-preserved : goal.loop-rest-preserved
+loop-rest-preserved g c =
+    let l = c.loop-rest in
+    let t : begins_word l.rest.now ≡ true = sym c.begins_word.ensures ∙ c.loop-rest-test.true in
+    let v = c.read_token-token.ensures in
+    let some : 0 < c.len.result = rw c.len.ensures (v.some (word_some l.rest.now t)) in
+    let more = notes_more c.args.quoted c.args.place l.rest.now c.len.result t some (c.len.ensures ∙ ap (λ u. length (token_bytes u)) v.value) in
+    rw (take_rest l.rest.now c.len.result) (
+      (λ plan rest h. (rw v.value at c.report_token.ensures) plan _ (rw (more, append_assoc) at (l.invariant.0 plan rest h))),
+      omega (arith, length-drop c.len.result l.rest.now, l.invariant.1),
+    )
+
+pub returns : goal.returns
+returns g c = λ plan rest h.
+    let l = c.loop-rest in
+    let f : begins_word l.rest.now ≡ false = sym c.begins_word.ensures ∙ c.loop-rest-test.false in
+    rw (notes_none c.args.quoted c.args.place l.rest.now f) at (l.invariant.0 plan rest h)

@@ -1,0 +1,32 @@
+-- The font in use and the former one. Source: roff(7), `ft` and `\f`.
+use Rattle.page_core_base.specs.declared.cells.Font.{Font}
+use Rattle.page_core_base.specs.declared.cells.Font.TheVariants.{R, I, B, BI}
+use Rattle.page_core_escapes.specs.Meanings as meanings
+use Rattle.page_core_escapes.specs.Meanings.{Face, Meaning}
+use Rattle.page_core_escapes.specs.Tokens.{TextToken, escaped}
+use Rattle.page_scopes_words.specs.declared.fonts.Fonts.{Fonts}
+
+-- the fonts of a paragraph
+abbrev pub roman_fonts : Fonts
+roman_fonts = record { font = R; former = R }
+
+-- another font is in use
+abbrev pub with_font : Font → Fonts → Fonts
+with_font font fonts = record { font = font; former = fonts.font }
+
+-- a name that no font has changes nothing
+abbrev pub face_fonts : Face → Fonts → Fonts
+face_fonts meanings.roman fonts = with_font R fonts
+face_fonts meanings.italic fonts = with_font I fonts
+face_fonts meanings.bold fonts = with_font B fonts
+face_fonts meanings.bold_italic fonts = with_font BI fonts
+face_fonts meanings.former fonts = with_font fonts.former fonts
+face_fonts (meanings.unknown name) fonts = fonts
+
+abbrev pub meaning_fonts : Meaning → Fonts → Fonts
+meaning_fonts (meanings.face face) fonts = face_fonts face fonts
+meaning_fonts _ fonts = fonts
+
+abbrev pub token_fonts : TextToken → Fonts → Fonts
+token_fonts (escaped bytes meaning) fonts = meaning_fonts meaning fonts
+token_fonts _ fonts = fonts

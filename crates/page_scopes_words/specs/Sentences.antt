@@ -1,0 +1,22 @@
+-- The end of a sentence at a line's end. Source: roff(7), "Sentences"; mandoc(1).
+use Rattle.std.specs.Prelude.{ℕ, Bool, false, ◌==◌, ◌||◌, ◌-◌, List, length, Option, None, Some, slice_get}
+use Rattle.page_roff_forms.specs.Ends.{kept}
+use Rattle.page_roff_forms.specs.LineForms.{is_white}
+
+-- a full stop, an exclamation mark or a question mark
+abbrev pub is_end : ℕ → Bool
+is_end byte = byte == 46 || (byte == 33 || byte == 63)
+
+-- what may stand after it: ) ] ' "
+abbrev pub is_closer : ℕ → Bool
+is_closer byte = (byte == 41 || byte == 93) || (byte == 39 || byte == 34)
+
+abbrev pub holds_of : (ℕ → Bool) → Option ℕ → Bool
+holds_of holds None = false
+holds_of holds (Some byte) = holds byte
+
+abbrev pub ends_with : (ℕ → Bool) → List ℕ → Bool
+ends_with holds text = holds_of holds (slice_get text (length text - 1))
+
+abbrev pub ends_sentence : List ℕ → Bool
+ends_sentence text = ends_with is_end (kept is_closer (kept is_white text))

@@ -1,0 +1,68 @@
+//! The font in use and the former one (roff(7), `ft` and `\f`).
+
+ghost use Rattle.std.specs.Prelude.{◌≡◌};
+ghost use Rattle.page_core_escapes.specs.Escapes.{face_seen, meaning_seen};
+ghost use Rattle.page_core_escapes.specs.Tokens.{token_seen};
+ghost use Rattle.page_scopes_words.specs.Fonts.{roman_fonts, with_font, face_fonts, meaning_fonts, token_fonts};
+
+use page_core_base::Font;
+use page_core_escapes::{Escape, FontName, Token};
+
+/// The font in use, and the former one.
+#[derive(Clone, Copy)]
+pub struct Fonts {
+    pub font: Font,
+    pub former: Font,
+}
+
+/// The fonts of a paragraph.
+pub const ROMAN: Fonts = Fonts {
+    font: Font::R,
+    former: Font::R,
+};
+
+impl Fonts {
+    // The fonts with another font in use.
+    fn with(self, font: Font) -> Fonts
+        ensures { result ≡ with_font font self }
+    {
+        Fonts {
+            font,
+            former: self.font,
+        }
+    }
+
+    /// The fonts after a font is asked for by its name.
+    pub fn named(self, name: FontName<'_>) -> Fonts
+        ensures { result ≡ face_fonts (face_seen name.entry) self }
+    {
+        match name {
+            FontName::R => self.with(Font::R),
+            FontName::I => self.with(Font::I),
+            FontName::B => self.with(Font::B),
+            FontName::BI => self.with(Font::BI),
+            FontName::Former => self.with(self.former),
+            FontName::Unknown(_) => self,
+        }
+    }
+
+    // The fonts after an escape.
+    fn escaped(self, meaning: Escape<'_>) -> Fonts
+        ensures { result ≡ meaning_fonts (meaning_seen meaning.entry) self }
+    {
+        match meaning {
+            Escape::Font(name) => self.named(name),
+            _ => self,
+        }
+    }
+
+    /// The fonts after a token.
+    pub fn after(self, token: &Token<'_>) -> Fonts
+        ensures { result ≡ token_fonts (token_seen token.now) self }
+    {
+        match *token {
+            Token::Escaped { meaning, .. } => self.escaped(meaning),
+            _ => self,
+        }
+    }
+}

@@ -1,0 +1,38 @@
+//! Sentences that end with their line (roff(7), "Sentences").
+
+ghost use Rattle.std.specs.Prelude.{◌≡◌};
+ghost use Rattle.page_scopes_words.specs.Sentences.{ends_with, is_closer, is_end, ends_sentence};
+
+use page_roff_forms::{is_white, kept_len};
+
+// Whether a byte ends a sentence.
+fn is_end(byte: u8) -> bool
+    ensures { result ≡ is_end byte }
+{
+    byte == b'.' || byte == b'!' || byte == b'?'
+}
+
+// Whether a byte may stand after a sentence's end.
+fn is_closer(byte: u8) -> bool
+    ensures { result ≡ is_closer byte }
+{
+    (byte == b')' || byte == b']') || (byte == b'\'' || byte == b'"')
+}
+
+// Whether a text ends with a byte that ends a sentence.
+fn ends_with_end(text: &[u8]) -> bool
+    ensures { result ≡ ends_with is_end text.now }
+{
+    match text.last() {
+        Some(last) => is_end(*last),
+        None => false,
+    }
+}
+
+/// Whether a text line ends with a sentence.
+pub fn ends_sentence(text: &[u8]) -> bool
+    ensures { result ≡ ends_sentence text.now }
+{
+    let line = &text[..kept_len(text, |byte| is_white(byte))];
+    ends_with_end(&line[..kept_len(line, |byte| is_closer(byte))])
+}

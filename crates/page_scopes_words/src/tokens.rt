@@ -1,0 +1,104 @@
+//! Tokens of words: their messages, and what they print (roff(7), "ESCAPE SEQUENCES").
+
+ghost use Rattle.std.specs.Prelude.{◌≡◌, ◌∷◌, [], option_map};
+ghost use Rattle.page_core_base.specs.Latches.{Came};
+ghost use Rattle.page_core_base.specs.Pieces.{piece_of};
+ghost use Rattle.page_core_escapes.specs.Escapes.{face_seen, meaning_seen};
+ghost use Rattle.page_core_escapes.specs.Tokens.{token_seen};
+ghost use Rattle.page_scopes_words.specs.Words as words;
+ghost use Rattle.page_scopes_words.specs.Words.{says};
+
+use page_core_base::{Font, Note, NoteKind, Piece, PieceOut, Place};
+use page_core_escapes::{Escape, FontName, Token};
+
+/// Gives a message about a place, with a detail that is cut to 64 bytes.
+pub fn report<O: PieceOut>(out: &mut O, kind: NoteKind, place: Place, detail: &[u8])
+    ensures { Came O.left out.old (says kind place detail.now ∷ []) out.new }
+{
+    out.report(&Note::about(kind, place, detail));
+}
+
+/// Reports a name that no font has.
+pub fn report_font<O: PieceOut>(out: &mut O, place: Place, name: FontName<'_>)
+    ensures { Came O.left out.old (words.face_notes place (face_seen name.entry)) out.new }
+{
+    match name {
+        FontName::R | FontName::I | FontName::B | FontName::BI | FontName::Former => {}
+        FontName::Unknown(name) => report(out, NoteKind::UnknownFont, place, name),
+    }
+}
+
+// Gives the message of an escape.
+fn report_escape<O: PieceOut>(out: &mut O, place: Place, bytes: &[u8], meaning: Escape<'_>)
+    ensures { Came O.left out.old (words.meaning_notes place bytes.now (meaning_seen meaning.entry)) out.new }
+{
+    match meaning {
+        Escape::Undefined(_) => report(out, NoteKind::UndefEscape, place, bytes),
+        Escape::Bad => report(out, NoteKind::BadEscape, place, bytes),
+        Escape::Unsupported | Escape::Blanks(_) => {
+            report(
+                out,
+                NoteKind::UnsuppEscape,
+                place,
+                &bytes[..bytes.len().min(2)],
+            )
+        }
+        Escape::Font(name) => report_font(out, place, name),
+        _ => {}
+    }
+}
+
+/// Gives the message of a token.
+#[inline(always)]
+pub(crate) fn report_token<O: PieceOut>(out: &mut O, place: Place, token: &Token<'_>)
+    ensures { Came O.left out.old (words.token_notes place (token_seen token.now)) out.new }
+{
+    if let Token::Escaped { bytes, meaning } = *token {
+        report_escape(out, place, bytes, meaning);
+    }
+}
+
+// What an escape prints.
+fn escape_piece(font: Font, place: Place, meaning: Escape<'_>) -> Option<Piece<&[u8]>>
+    ensures { option_map piece_of result ≡ words.meaning_piece font place (meaning_seen meaning.entry) }
+{
+    match meaning {
+        Escape::Glyph(name) => Some(Piece::Glyph { name, font, place }),
+        Escape::Char(c) => Some(Piece::Char { c, font, place }),
+        Escape::Undefined(c) => Some(undefined_piece(font, place, c)),
+        Escape::Tab => Some(Piece::Tab { font, place }),
+        Escape::Blank => Some(Piece::Text {
+            text: b" ",
+            font,
+            place,
+        }),
+        _ => None,
+    }
+}
+
+// What an undefined escape prints.
+fn undefined_piece<'a>(font: Font, place: Place, c: char) -> Piece<&'a [u8]>
+    ensures { piece_of result ≡ words.undefined_piece font place c }
+{
+    if c == '\t' {
+        return Piece::Tab { font, place };
+    }
+    Piece::Char { c, font, place }
+}
+
+/// What a token of a word prints, if it does.
+#[inline(always)]
+pub fn token_piece<'a>(font: Font, place: Place, token: &Token<'a>) -> Option<Piece<&'a [u8]>>
+    ensures { option_map piece_of result ≡ words.token_piece font place (token_seen token.now) }
+{
+    match *token {
+        Token::White(_) => None,
+        Token::Plain(text) => Some(Piece::Text { text, font, place }),
+        Token::Quotes(_) => Some(Piece::Char {
+            c: '"',
+            font,
+            place,
+        }),
+        Token::Escaped { meaning, .. } => escape_piece(font, place, meaning),
+    }
+}
