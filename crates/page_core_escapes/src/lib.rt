@@ -52,6 +52,3 @@ fn escape_len(text: &[u8]) -> Option<usize>
         Extent::QuotedFrom(from) => Some(from + quoted_len(&text[from..])?),
     }
 }
-
-#[cfg(test)]
-mod tests;

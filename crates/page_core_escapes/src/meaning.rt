@@ -10,7 +10,7 @@ use crate::letters::{Kind, Shape, letter_of};
 use std::str;
 
 /// The font that an escape asks for.
-#[derive(Clone, Copy, Debug, PartialEq, Eq)]
+#[derive(Clone, Copy)]
 pub enum FontName<'a> {
     R,
     I,
@@ -23,7 +23,7 @@ pub enum FontName<'a> {
 }
 
 /// What an escape means: roff(7), "Escape sequences", and mandoc_char(7).
-#[derive(Clone, Copy, Debug, PartialEq, Eq)]
+#[derive(Clone, Copy)]
 pub enum Escape<'a> {
     /// The glyph of this name, which there may be or not.
     Glyph(&'a [u8]),

@@ -12,7 +12,7 @@ use page_core_base::{Fault, Note, NoteKind, NoteSink, Place};
 use page_core_limits::Limit;
 
 /// What may be wrong in an expression.
-#[derive(Clone, Copy, Debug, PartialEq, Eq)]
+#[derive(Clone, Copy)]
 pub(crate) enum Trouble {
     /// There is no operand where one is wanted.
     NotNumeric,

@@ -1,5 +1,5 @@
 -- A plain text that the open row has room for.
-use Rattle.std.proofs.Common.{◌≡◌, ℕ, ◌+◌, ◌<◌, ◌≤◌, suc, true, false, ◌==◌, List, [], ◌∷◌, ◌++◌, length, min, take, drop, set, get_or, append_assoc, length-append, length-drop, ◌-◌, nat_lt, ◌<◌, refl, ap, sym, ◌∙◌, arith}
+use Rattle.std.proofs.Common.{◌≡◌, ℕ, ◌+◌, ◌<◌, ◌≤◌, suc, true, false, ◌==◌, List, [], ◌∷◌, ◌++◌, length, min, take, drop, set, get_or, append_assoc, append-nil, length-append, ◌||◌, length-drop, ◌-◌, nat_lt, ◌<◌, refl, ap, sym, ◌∙◌, arith}
 use Rattle.std.proofs.lemmas.Bool.Decides.{nat_tests}
 use Rattle.std.proofs.lemmas.List.{length-map, length-take-le, get_or-append_right, get_or-drop, take_more, drop_more, set_at}
 use Rattle.std.proofs.lemmas.List.Sums.{sum_by-append}
@@ -8,6 +8,7 @@ use Rattle.page_core_base.specs.declared.cells.Cell.{Cell}
 use Rattle.page_core_base.specs.declared.cells.Font.{Font}
 use Rattle.page_core_base.specs.declared.places.Place.{Place}
 use Rattle.page_core_base.specs.Laid.{join, nothing}
+use Rattle.page_core_tables.specs.Printed.{char_printed, known}
 use Rattle.page_fill.specs.Sheets.{Sheet, cell_columns, columns, counted, passes, blank, opens, letter, letters, space, spaces}
 use Rattle.page_core_limits.specs.declared.TheConstants.{CELLS}
 use Rattle.page_fill.specs.declared.TheConstants.{TAG_COLUMNS}
@@ -142,15 +143,20 @@ characters_of-plain bytes plain =
     let ascii = ascii-plain bytes plain in
     characters_of-text bytes (IsUtf8-from_ascii bytes ascii) ∙ chars-IsAscii bytes ascii
 
+-- a plain byte prints itself
+prints-itself : (output : Output) (b : ℕ) → is_plain_byte b ≡ true → char_printed output b ≡ known (b ∷ [])
+prints-itself output b byte =
+    let ascii : nat_lt b 0x80 ≡ true = grind (arith, nat_tests, byte) in
+    let other : (b == 0x09 || b == 0xA0) ≡ false = grind (arith, nat_tests, byte) in
+    rw (other, ascii) refl
+
 pub characters-plain : (output : Output) (s : Sheet) (bytes : List ℕ) (font : Font) (place : Place) → is_plain bytes ≡ true
     → characters output s bytes font place ≡ letters s (cells_of font bytes) place
 unfolding characters character letters
 characters-plain output s [] font place plain = refl
 characters-plain output s (b ∷ bytes) font place plain =
-    let byte = first-plain b bytes plain in
-    let ascii : nat_lt b 128 ≡ true = grind (arith, nat_tests, byte) in
     let others = characters-plain output (letter s (cell_of font b) place).edge bytes font place (rest-plain b bytes plain) in
-    rw (ascii, others) refl
+    rw (prints-itself output b (first-plain b bytes plain), append-nil (letter s (cell_of font b) place).rows, append-nil (letter s (cell_of font b) place).notes, others) refl
 
 pub text-plain : (e : Edge) (bytes : List ℕ) (font : Font) (place : Place) → is_plain bytes ≡ true → (length bytes == 0) ≡ false
     → text e bytes font place

@@ -10,14 +10,14 @@ use Rattle.page_core_base.specs.declared.pieces.Piece.TheVariants.{Text, Glyph, 
 use Rattle.page_core_base.specs.declared.places.Place.{Place}
 use Rattle.page_core_base.specs.declared.pieces.TagForm.{TagForm}
 use Rattle.page_core_base.specs.declared.pieces.TagForm.TheVariants as forms
-use Rattle.page_core_base.specs.Messages.{Message}
+use Rattle.page_core_base.specs.Messages.{Message, message_about}
 use Rattle.page_core_base.specs.Laid.{Laid, nothing, seq}
 use Rattle.page_fill.specs.Sheets.{Sheet, over, columns, letter, fixed_blanks, new_word, broken, empty_rows, fresh}
 use Rattle.page_fill.specs.Characters.{with_notes, cell_of, characters_of, characters, character, glyph}
-use Rattle.page_fill.specs.declared.words.OpenWord.{OpenWord}
 use Rattle.page_fill.specs.declared.words.OpenTag.{OpenTag}
 use Rattle.page_fill.specs.declared.TheConstants.{HANG_MAX, TAB_STOP}
 pub use Rattle.page_fill.specs.declared.words.Edge.{Edge}
+pub use Rattle.page_fill.specs.declared.words.OpenWord.{OpenWord}
 
 -- ---- what waits before the next word
 
@@ -52,7 +52,7 @@ placed_word count = record { is_joined = false; is_open = true; is_placed = true
 -- ---- parts of words
 
 abbrev pub tab_note : Place → Message
-tab_note place = record { kind = notes.TabFill; line = place.line; column = place.column; detail = [] }
+tab_note place = message_about notes.TabFill place []
 
 abbrev pub tab_notes : Bool → Place → List Message
 tab_notes told place = if told then tab_note place ∷ [] else []

@@ -1,20 +1,22 @@
 -- The open row, cell by cell: when a row takes a cell and when it ends, and what stands at the end of the rows that were given.
 -- Source: roff(7), "Filling and adjusting"; mandoc(1), "ASCII Output".
-use Rattle.std.specs.Prelude.{ℕ, zero, suc, ◌+◌, ◌^◌, ◌-◌, Bool, true, false, not, ◌&&◌, ◌==◌, nat_lt, min, List, [], ◌∷◌, ◌++◌, length, take, drop, replicate, sum_by, unwrap_or, codes, if◌then◌else◌}
-use Rattle.unicode_width.specs.Width.{char_width}
+use Rattle.std.specs.Prelude.{ℕ, zero, suc, ◌+◌, ◌^◌, ◌-◌, Bool, true, false, not, ◌&&◌, ◌==◌, nat_lt, min, List, [], ◌∷◌, ◌++◌, length, take, drop, replicate, sum_by, if◌then◌else◌}
 use Rattle.page_core_base.specs.declared.cells.Cell.{Cell}
 use Rattle.page_core_base.specs.declared.cells.Font.TheVariants.{R}
 use Rattle.page_core_base.specs.declared.note_kinds.NoteKind.TheVariants.{Limit}
 use Rattle.page_core_base.specs.declared.places.Place.{Place}
-use Rattle.page_core_base.specs.Messages.{Message}
+use Rattle.page_core_base.specs.Messages.{Message, message_about}
 use Rattle.page_core_base.specs.Rows.{row_of, is_blank_row}
 use Rattle.page_core_base.specs.Laid.{Laid, nothing, seq}
+use Rattle.page_core_tables.specs.Printed.{char_columns}
+use Rattle.page_core_limits.specs.Limits.{name_of}
+use Rattle.page_core_limits.specs.declared.Limit.TheVariants.{Cells}
 use Rattle.page_core_limits.specs.declared.TheConstants.{CELLS}
 use Rattle.page_fill.specs.declared.TheConstants.{TAG_COLUMNS}
 
 -- the columns of a cell, and of cells
 abbrev pub cell_columns : Cell → ℕ
-cell_columns cell = unwrap_or (char_width false cell.c) 0
+cell_columns cell = char_columns cell.c
 
 abbrev pub columns : List Cell → ℕ
 columns cells = sum_by cell_columns cells
@@ -48,7 +50,7 @@ abbrev pub over : {E F : Type 0} → Laid E → (E → F) → Laid F
 over l f = record { rows = l.rows; notes = l.notes; edge = f l.edge }
 
 abbrev pub cells_note : Place → Message
-cells_note place = record { kind = Limit; line = place.line; column = place.column; detail = codes "CELLS" }
+cells_note place = message_about Limit place (name_of Cells)
 
 -- ---- rows
 

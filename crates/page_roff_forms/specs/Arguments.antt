@@ -62,8 +62,8 @@ first_arguments (suc n) column [] = []
 first_arguments (suc n) column (byte ∷ bytes) =
     if is_blank byte then first_arguments n (column + 1) bytes
     else
-        first_argument column (byte ∷ bytes)
-        ∷ first_arguments n (column + argument_len (byte ∷ bytes)) (drop (argument_len (byte ∷ bytes)) (byte ∷ bytes))
+    first_argument column (byte ∷ bytes)
+    ∷ first_arguments n (column + argument_len (byte ∷ bytes)) (drop (argument_len (byte ∷ bytes)) (byte ∷ bytes))
 
 -- all of them: a text has no more parts than bytes
 unfoldable pub arguments : ℕ → List ℕ → List (Argument (List ℕ))

@@ -7,7 +7,7 @@ ghost use Rattle.page_core_base.specs.Messages.{message_of};
 ghost use Rattle.page_roff_lines.specs.Limit.{line_limit};
 ghost use Rattle.page_roff_lines.specs.Characters.{characters};
 ghost use Rattle.page_roff_lines.specs.Fronts.{as_character};
-ghost use Rattle.page_roff_lines.specs.Decoding.{bad_character as spec_bad_character, limit_note as spec_limit_note, notes_of, bad_notes, limit_notes, characters_within};
+ghost use Rattle.page_roff_lines.specs.Decoding.{bad_character as spec_bad_character, limit_note as spec_limit_note, notes_of, bad_notes, limit_notes, line_characters};
 
 use crate::characters::Front;
 use crate::scanning::text_within;
@@ -56,7 +56,8 @@ fn report_front<N: NoteSink>(
     column: u32,
     notes: &mut N,
 ) -> Result<(), Fault>
-    ensures gives { (text : List ℕ) → Gives result N.gave N.within notes.old (notes_of number column (as_character front text)) notes.new }
+    ensures gives { (text : List ℕ)
+        → Gives result N.gave N.within notes.old (notes_of number column (as_character front text)) notes.new }
     ensures fault { FailsAs Fault.WriteNotes result (N.failed notes.old) (N.failed notes.new) }
     ensures same { N.loans notes.new ≡ N.loans notes.old }
 {
@@ -74,7 +75,8 @@ fn report_bad<N: NoteSink>(
     number: u32,
     notes: &mut N,
 ) -> Result<(), Fault>
-    ensures gives { Gives result N.gave N.within notes.old (bad_notes number 1 (characters_within line_limit (characters encoding text.now))) notes.new }
+    ensures gives { Gives result N.gave N.within notes.old
+        (bad_notes number 1 (line_characters encoding text.now)) notes.new }
     ensures fault { FailsAs Fault.WriteNotes result (N.failed notes.old) (N.failed notes.new) }
     ensures same { N.loans notes.new ≡ N.loans notes.old }
 {
@@ -114,8 +116,8 @@ pub fn report_limit<N: NoteSink>(passed: bool, number: u32, notes: &mut N) -> Re
     }
 }
 
-/// Reports what is to be said of a line's cutting: that less than all of it stays, and then each byte that is no character. Its fault
-/// is [`Fault::WriteNotes`].
+/// Reports what is to be said of a line's cutting: that less than all of it stays, and then each byte that is no
+/// character, where the sink takes such messages. Its fault is [`Fault::WriteNotes`].
 pub fn report<N: NoteSink>(
     text: &[u8],
     encoding: Encoding,
@@ -123,7 +125,8 @@ pub fn report<N: NoteSink>(
     passed: bool,
     notes: &mut N,
 ) -> Result<(), Fault>
-    ensures gives { Gives result N.gave N.within notes.old (limit_notes passed number ++ bad_notes number 1 (characters_within line_limit (characters encoding text.now))) notes.new }
+    ensures gives { Gives result N.gave N.within notes.old
+        (limit_notes passed number ++ bad_notes number 1 (line_characters encoding text.now)) notes.new }
     ensures fault { FailsAs Fault.WriteNotes result (N.failed notes.old) (N.failed notes.new) }
     ensures same { N.loans notes.new ≡ N.loans notes.old }
 {
