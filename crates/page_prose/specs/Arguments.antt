@@ -1,21 +1,17 @@
 -- The arguments of a macro as words, and their messages. Source: roff(7), "Macro syntax".
-use Rattle.std.specs.Prelude.{ℕ, ◌-◌, Bool, true, false, List, [], ◌∷◌, ◌++◌}
+use Rattle.std.specs.Prelude.{ℕ, ◌-◌, false, List, [], ◌∷◌, ◌++◌}
 use Rattle.std.specs.List.{flat_map}
 use Rattle.page_core_base.specs.Pieces.{Item, shown}
 use Rattle.page_core_base.specs.declared.note_kinds.NoteKind.TheVariants.{Unterminated}
 use Rattle.page_core_base.specs.declared.pieces.Piece.TheVariants.{Blank}
 use Rattle.page_core_escapes.specs.Tokens.{TextToken, tokens_of}
+use Rattle.page_roff_forms.specs.Arguments.{is_quoted}
 use Rattle.page_roff_forms.specs.declared.quotes.Argument.{Argument}
 use Rattle.page_roff_forms.specs.declared.quotes.Quoting.{Quoting}
 use Rattle.page_roff_forms.specs.declared.quotes.Quoting.TheVariants.{Bare, Closed, Unclosed}
 use Rattle.page_scopes_words.specs.declared.fonts.Fonts.{Fonts}
 use Rattle.page_scopes_words.specs.declared.walks.Style.{Style}
 use Rattle.page_scopes_words.specs.Words.{at, says, walk_from, walk_through, words_items}
-
-abbrev pub is_quoted : Quoting → Bool
-is_quoted Bare = false
-is_quoted Closed = true
-is_quoted Unclosed = true
 
 -- one without its last quote is reported at its first one
 abbrev pub closing_at : ℕ → ℕ → Quoting → List Item

@@ -1,7 +1,8 @@
 -- The macros and requests that a page may call. Source: man(7); roff(7).
-use Rattle.std.specs.Prelude.{ℕ, Bool, true, false, ◌||◌, List, codes, if◌then◌else◌}
+use Rattle.std.specs.Prelude.{ℕ, ◌+◌, ◌≤◌, true, false, ◌||◌, List, length, codes, if◌then◌else◌}
 use Rattle.std.specs.Str.{bytes_eq}
 use Rattle.std.specs.Borrow.{Bor}
+use Rattle.page_core_limits.specs.declared.TheConstants.{LINE}
 use Rattle.page_roff_forms.specs.Arguments.{arguments}
 use Rattle.page_roff_forms.specs.declared.quotes.Argument.{Argument}
 use Rattle.page_prose.specs.declared.macros.Call.{Call}
@@ -26,3 +27,8 @@ call_seen call = record { name = call.name.now; place = call.place; rest = call.
 
 abbrev pub call_arguments : Call (List ℕ) → List (Argument (List ℕ))
 call_arguments call = arguments call.rest_column call.rest
+
+-- its rest lies within a line
+pub record FitsCall (call : Call (List ℕ)) : Type 0 where
+  pub short : length call.rest ≤ LINE
+  pub room : call.rest_column + length call.rest ≤ LINE + 1

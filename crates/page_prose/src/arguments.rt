@@ -3,22 +3,12 @@
 ghost use Rattle.std.specs.Prelude.{◌≡◌, ◌≤◌, ◌+◌, length};
 ghost use Rattle.page_core_base.specs.Latches.{Came};
 ghost use Rattle.page_roff_forms.specs.Arguments.{argument_seen, arguments};
-ghost use Rattle.page_prose.specs.Arguments.{is_quoted, closing_notes, closings_notes, argument_items, argument_fonts, arguments_items, first_text};
+ghost use Rattle.page_prose.specs.Arguments.{closing_notes, closings_notes, argument_items, argument_fonts, arguments_items, first_text};
 
 use page_core_base::{NoteKind, Piece, PieceOut, Place};
 use page_core_limits::LINE;
 use page_roff_forms::{Argument, Arguments, Quoting};
 use page_scopes_words::{Fonts, Style, Walk, give_words, report};
-
-// Whether an argument is quoted.
-fn is_quoted(quoting: Quoting) -> bool
-    ensures { result ≡ is_quoted quoting }
-{
-    match quoting {
-        Quoting::Bare => false,
-        Quoting::Closed | Quoting::Unclosed => true,
-    }
-}
 
 // Reports an argument without its last quote, at its first one.
 fn report_closing<O: PieceOut>(out: &mut O, line: u32, argument: Argument<&[u8]>)
@@ -36,7 +26,8 @@ fn report_closing<O: PieceOut>(out: &mut O, line: u32, argument: Argument<&[u8]>
 
 /// Reports the arguments without their last quote.
 pub(crate) fn report_closings<O: PieceOut>(out: &mut O, place: Place, rest: &[u8])
-    requires { place.column + length rest.now ≤ LINE + 1 }
+    requires short { length rest.now ≤ LINE }
+    requires room { place.column + length rest.now ≤ LINE + 1 }
     ensures { Came O.left out.old (closings_notes place.line (arguments place.column rest.now)) out.new }
 {
     let mut arguments = Arguments::new(rest, place.column);
@@ -46,13 +37,19 @@ pub(crate) fn report_closings<O: PieceOut>(out: &mut O, place: Place, rest: &[u8
 }
 
 // Gives the words of an argument, and the blank after it; the fonts after it.
-fn give_argument<O: PieceOut>(out: &mut O, fonts: Fonts, line: u32, argument: Argument<&[u8]>) -> Fonts
-    requires { argument.column + length argument.text.now ≤ LINE + 1 }
+fn give_argument<O: PieceOut>(
+    out: &mut O,
+    fonts: Fonts,
+    line: u32,
+    argument: Argument<&[u8]>,
+) -> Fonts
+    requires short { length argument.text.now ≤ LINE }
+    requires room { argument.column + length argument.text.now ≤ LINE + 1 }
     ensures came { Came O.left out.old (argument_items fonts line (argument_seen argument.entry)) out.new }
     ensures fonts { result ≡ argument_fonts fonts (argument_seen argument.entry) }
 {
     let style = Style {
-        is_quoted: is_quoted(argument.quoting),
+        is_quoted: argument.is_quoted(),
         is_literal: false,
     };
     let start = Walk::from(fonts, argument.column);
@@ -67,7 +64,8 @@ fn give_argument<O: PieceOut>(out: &mut O, fonts: Fonts, line: u32, argument: Ar
 
 /// Gives the words of a macro's arguments.
 pub(crate) fn give_arguments<O: PieceOut>(out: &mut O, fonts: Fonts, place: Place, rest: &[u8])
-    requires { place.column + length rest.now ≤ LINE + 1 }
+    requires short { length rest.now ≤ LINE }
+    requires room { place.column + length rest.now ≤ LINE + 1 }
     ensures { Came O.left out.old (arguments_items fonts place.line (arguments place.column rest.now)) out.new }
 {
     let mut arguments = Arguments::new(rest, place.column);
@@ -79,7 +77,8 @@ pub(crate) fn give_arguments<O: PieceOut>(out: &mut O, fonts: Fonts, place: Plac
 
 /// The text of the first argument; none: the empty text.
 pub(crate) fn first_text(rest: &[u8], column: u32) -> &[u8]
-    requires { column + length rest.now ≤ LINE + 1 }
+    requires short { length rest.now ≤ LINE }
+    requires room { column + length rest.now ≤ LINE + 1 }
     ensures { result.now ≡ first_text (arguments column rest.now) }
 {
     match Arguments::new(rest, column).next_argument() {

@@ -4,6 +4,7 @@ ghost use Rattle.std.specs.Prelude.{◌≡◌};
 ghost use Rattle.page_prose.specs.Macros.{macro_of};
 
 use page_core_base::Place;
+use std::alloc::AllocError;
 
 /// What a control line calls.
 #[derive(Clone, Copy)]
@@ -34,6 +35,18 @@ pub struct Call<W> {
     /// What follows the name, which begins at a column.
     pub rest: W,
     pub rest_column: u32,
+}
+
+impl<W: Copy> Copy for Call<W> {}
+
+impl<W: Copy> Clone for Call<W> {
+    ghost is_clone = { λ x y. y ≡ x };
+
+    ghost is_infallible = { λ _. Unit {0} };
+
+    fn clone(&self) -> Result<Call<W>, AllocError> {
+        Ok(*self)
+    }
 }
 
 /// The macro of a name.

@@ -1,17 +1,17 @@
 //! The body of a page: text, titles, section headers, paragraphs and requests become pieces and messages (man(7), roff(7)).
 
-ghost use Rattle.std.specs.Prelude.{◌≡◌, ◌≤◌, ◌+◌, length, OnOk};
+ghost use Rattle.std.specs.Prelude.{◌≡◌, ◌≤◌, length, OnOk};
 ghost use Rattle.page_core_base.specs.Latches.{Came, Emits};
 ghost use Rattle.page_core_base.specs.declared.note_kinds.NoteKind.{NoteKind};
 ghost use Rattle.page_roff_forms.specs.LineForms.{form_seen, FitsLine};
-ghost use Rattle.page_prose.specs.Macros.{call_seen};
+ghost use Rattle.page_prose.specs.Macros.{FitsCall, call_seen};
 ghost use Rattle.page_prose.specs.Prose as prose;
 
 use crate::macros::{Call, Macro, macro_of};
 use arrayvec::ArrayString;
 use page_core_base::{Fault, NoteKind, Piece, PieceLatch, PieceOut, PieceSink, Place, Settings};
 use page_core_limits::LINE;
-use page_engine_header::{Fields, Measure, give_footer, give_header};
+use page_engine_header::{Fields, Measure, give_footer_row, give_header};
 use page_roff_forms::{LineForm, form_of, is_white, kept_len};
 use page_scopes_words::{Fonts, ROMAN, report};
 
@@ -58,7 +58,7 @@ impl Prose {
         ensures { Came O.left out.old (prose.begin_items self.now line) out.new }
     {
         if !self.has_begun {
-            give_header(out, self.measure, line, &self.fields);
+            give_header(out, self.measure, Place { line, column: 1 }, &self.fields);
         }
     }
 
@@ -67,17 +67,17 @@ impl Prose {
         ensures { Came O.left out.old (prose.begin_with kind self.now line) out.new }
     {
         if !self.has_begun {
-            give_header(out, self.measure, line, &self.fields);
-            report(out, kind, Place { line, column: 1 }, b"");
+            let place = Place { line, column: 1 };
+            give_header(out, self.measure, place, &self.fields);
+            report(out, kind, place, b"");
         }
     }
 
     // Gives a macro, and keeps what it leaves.
     fn give_call<O: PieceOut>(&mut self, out: &mut O, call: Call<&[u8]>)
-        requires { call.rest_column + length call.rest.now ≤ LINE + 1 }
-        ensures came { Came O.left out.old
-            (prose.call_items (prose.macro_of call.name.entry.now) self.old (call_seen call.entry)) out.new }
-        ensures after { self.new ≡ prose.call_after (prose.macro_of call.name.entry.now) self.old (call_seen call.entry) }
+        requires { FitsCall (call_seen call) }
+        ensures came { Came O.left out.old (prose.call_items self.old (call_seen call.entry)) out.new }
+        ensures after { self.new ≡ prose.call_after self.old (call_seen call.entry) }
     {
         match macro_of(call.name) {
             Macro::Empty => {}
@@ -144,13 +144,13 @@ impl Prose {
 
     // Gives the footer.
     #[tactic(auto, unfolding(crate::specs::Prose::footer_items))]
-    fn give_footer_rows<O: PieceOut>(&self, out: &mut O, line: u32, blank_rows: u32)
+    fn give_footer<O: PieceOut>(&self, out: &mut O, line: u32, blank_rows: u32)
         ensures { Came O.left out.old (prose.footer_items self.now line blank_rows) out.new }
     {
         if blank_rows == 0 {
             out.give(Piece::Space(1));
         }
-        give_footer(out, self.measure, Place { line, column: 1 }, &self.fields);
+        give_footer_row(out, self.measure, Place { line, column: 1 }, &self.fields);
     }
 }
 
@@ -159,7 +159,7 @@ fn report_trailing<O: PieceOut>(out: &mut O, line: u32, text: &[u8])
     requires { length text.now ≤ LINE }
     ensures { Came O.left out.old (prose.trailing_notes line text.now) out.new }
 {
-    let len = kept_len(text, is_white);
+    let len = kept_len(text, |byte| is_white(byte));
     if len < text.len() {
         let column = len as u32 + 1;
         report(out, NoteKind::TrailingBlank, Place { line, column }, b"");
@@ -195,7 +195,7 @@ impl Prose {
         ensures same { O.loans out.new ≡ O.loans out.old }
     {
         let mut latch = PieceLatch::new(out);
-        self.give_footer_rows(&mut latch, line, blank_rows);
+        self.give_footer(&mut latch, line, blank_rows);
         latch.done()
     }
 }

@@ -1,8 +1,8 @@
 //! Requests: `br`, `nf`, `fi` and `ft` (roff(7)). They have no effect before the body.
 
-ghost use Rattle.std.specs.Prelude.{◌≡◌, ◌≤◌, ◌+◌, length};
+ghost use Rattle.std.specs.Prelude.{◌≡◌};
 ghost use Rattle.page_core_base.specs.Latches.{Came};
-ghost use Rattle.page_prose.specs.Macros.{call_seen};
+ghost use Rattle.page_prose.specs.Macros.{FitsCall, call_seen};
 ghost use Rattle.page_prose.specs.Prose as prose;
 
 use crate::arguments::{first_text, report_closings};
@@ -10,12 +10,11 @@ use crate::macros::Call;
 use crate::prose::Prose;
 use page_core_base::{Piece, PieceOut, Place};
 use page_core_escapes::read_font;
-use page_core_limits::LINE;
 use page_scopes_words::report_font;
 
 // Reports the arguments of a macro without their last quote.
 pub(crate) fn report_call<O: PieceOut>(out: &mut O, call: &Call<&[u8]>)
-    requires { call.now.rest_column + length call.now.rest.now ≤ LINE + 1 }
+    requires { FitsCall (call_seen call.now) }
     ensures { Came O.left out.old (prose.call_notes (call_seen call.now)) out.new }
 {
     let place = Place {
@@ -28,7 +27,7 @@ pub(crate) fn report_call<O: PieceOut>(out: &mut O, call: &Call<&[u8]>)
 impl Prose {
     /// Gives `br`.
     pub(crate) fn give_break<O: PieceOut>(&mut self, out: &mut O, call: Call<&[u8]>)
-        requires { call.rest_column + length call.rest.now ≤ LINE + 1 }
+        requires { FitsCall (call_seen call) }
         ensures came { Came O.left out.old (prose.break_items self.old (call_seen call.entry)) out.new }
         ensures after { self.new ≡ prose.break_after self.old }
     {
@@ -41,7 +40,7 @@ impl Prose {
 
     /// Gives `nf` or `fi`.
     pub(crate) fn give_no_fill<O: PieceOut>(&mut self, out: &mut O, call: Call<&[u8]>, on: bool)
-        requires { call.rest_column + length call.rest.now ≤ LINE + 1 }
+        requires { FitsCall (call_seen call) }
         ensures came { Came O.left out.old (prose.no_fill_items on self.old (call_seen call.entry)) out.new }
         ensures after { self.new ≡ prose.no_fill_after on self.old }
     {
@@ -56,7 +55,7 @@ impl Prose {
 
     /// Gives `ft`; with no argument it names the former font.
     pub(crate) fn give_font<O: PieceOut>(&mut self, out: &mut O, call: Call<&[u8]>)
-        requires { call.rest_column + length call.rest.now ≤ LINE + 1 }
+        requires { FitsCall (call_seen call) }
         ensures came { Came O.left out.old (prose.font_items self.old (call_seen call.entry)) out.new }
         ensures after { self.new ≡ prose.font_after self.old (call_seen call.entry) }
     {

@@ -1,8 +1,8 @@
 //! Section headers, paragraphs and the title (man(7), `SH`, `PP` and `TH`).
 
-ghost use Rattle.std.specs.Prelude.{◌≡◌, ◌≤◌, ◌+◌, length};
+ghost use Rattle.std.specs.Prelude.{◌≡◌};
 ghost use Rattle.page_core_base.specs.Latches.{Came};
-ghost use Rattle.page_prose.specs.Macros.{call_seen};
+ghost use Rattle.page_prose.specs.Macros.{FitsCall, call_seen};
 ghost use Rattle.page_prose.specs.Prose as prose;
 
 use crate::arguments::give_arguments;
@@ -10,9 +10,8 @@ use crate::macros::Call;
 use crate::prose::Prose;
 use crate::requests::report_call;
 use page_core_base::{Font, NoteKind, Piece, PieceOut, Place};
-use page_core_limits::LINE;
-use page_engine_header::{Fields, report_cuts};
-use page_roff_forms::has_arguments;
+use page_engine_header::{Fields, report_cut_fields};
+use page_roff_forms::{Arguments, has_arguments};
 use page_scopes_words::{Fonts, ROMAN, report};
 
 // The fonts of a heading.
@@ -34,7 +33,7 @@ impl Prose {
 
     // Gives a heading.
     fn give_heading<O: PieceOut>(&self, out: &mut O, call: Call<&[u8]>)
-        requires { call.rest_column + length call.rest.now ≤ LINE + 1 }
+        requires { FitsCall (call_seen call) }
         ensures { Came O.left out.old (prose.heading_items self.now (call_seen call.entry)) out.new }
     {
         let place = Place {
@@ -51,7 +50,7 @@ impl Prose {
 
     /// Gives `SH`.
     pub(crate) fn give_section<O: PieceOut>(&mut self, out: &mut O, call: Call<&[u8]>)
-        requires { call.rest_column + length call.rest.now ≤ LINE + 1 }
+        requires { FitsCall (call_seen call) }
         ensures came { Came O.left out.old (prose.section_items self.old (call_seen call.entry)) out.new }
         ensures after { self.new ≡ prose.section_after self.old (call_seen call.entry) }
     {
@@ -70,7 +69,7 @@ impl Prose {
 
     /// Gives `PP`.
     pub(crate) fn give_paragraph<O: PieceOut>(&mut self, out: &mut O, call: Call<&[u8]>)
-        requires { call.rest_column + length call.rest.now ≤ LINE + 1 }
+        requires { FitsCall (call_seen call) }
         ensures came { Came O.left out.old (prose.paragraph_line self.old (call_seen call.entry)) out.new }
         ensures after { self.new ≡ prose.paragraph_after self.old }
     {
@@ -89,7 +88,7 @@ impl Prose {
 
     /// Gives the messages of `TH`, and keeps its fields where the body has not begun.
     pub(crate) fn give_title<O: PieceOut>(&mut self, out: &mut O, call: Call<&[u8]>)
-        requires { call.rest_column + length call.rest.now ≤ LINE + 1 }
+        requires { FitsCall (call_seen call) }
         ensures came { Came O.left out.old (prose.title_items self.old (call_seen call.entry)) out.new }
         ensures after { self.new ≡ prose.title_after self.old (call_seen call.entry) }
     {
@@ -98,7 +97,8 @@ impl Prose {
             report(out, NoteKind::LateMacro, call.place, call.name);
             return;
         }
-        report_cuts(out, call.place, call.rest);
-        self.fields = Fields::of(self.os.as_str().as_bytes(), call.rest);
+        report_cut_fields(out, call.place, Arguments::new(call.rest, call.rest_column));
+        let arguments = Arguments::new(call.rest, call.rest_column);
+        self.fields = Fields::of(self.os.as_str().as_bytes(), arguments);
     }
 }

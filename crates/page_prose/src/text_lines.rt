@@ -36,15 +36,20 @@ impl Prose {
         ensures walk { result ≡ prose.filled_walk self.now text.now }
     {
         let len = white_len(text);
-        let (white, words) = text.split_at(len);
         let style = Style {
             is_quoted: false,
             is_literal: false,
         };
         if len > 0 {
-            give_leading(out, line, white, words);
+            give_leading(out, line, &text[..len], &text[len..]);
         }
-        give_words(out, style, line, Walk::after_leading(self.fonts, len as u32), words)
+        give_words(
+            out,
+            style,
+            line,
+            Walk::after_leading(self.fonts, len as u32),
+            &text[len..],
+        )
     }
 
     // Gives the words of a text line; what is known after them.
