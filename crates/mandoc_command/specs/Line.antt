@@ -29,9 +29,16 @@ bare a = record a { top = record a.top { no_binary_name = true; disable_help_fla
 
 -- `[-T output] [-W level] [-O measures] [-K encoding] [-I os=name] [-m language] [file ...]`, each by the name that its values are found by
 abbrev pub rules : List Rule
-rules = option_rule (codes "output") 84 ∷ option_rule (codes "level") 87 ∷ option_rule (codes "measures") 79
-    ∷ option_rule (codes "encoding") 75 ∷ option_rule (codes "system") 73 ∷ option_rule (codes "language") 109
-    ∷ files_rule ∷ []
+rules =
+    -- T, W, O, K, I, m
+    option_rule (codes "output") 84 ∷
+    option_rule (codes "level") 87 ∷
+    option_rule (codes "measures") 79 ∷
+    option_rule (codes "encoding") 75 ∷
+    option_rule (codes "system") 73 ∷
+    option_rule (codes "language") 109 ∷
+    files_rule ∷
+    []
 
 abbrev pub with_rules : App → List Rule → App
 with_rules a [] = a

@@ -1,15 +1,10 @@
 //! Command lines that the program takes, and others that it refuses (mandoc(1), OPTIONS).
 
-use mandoc_command::{Command, Refusal, command, status_of};
-use page_core_base::{Encoding, Language, Level, Output, Settings};
-use std::alloc::Global;
+use mandoc_command::{Command, Format, Refusal, command, status_of};
+use page_core_base::{Encoding, Language, Level, Output};
+use std::alloc::{AllocError, Global};
 use std::process::Abort;
 use std::test::Fail;
-
-// The settings by default.
-fn plain() -> Settings {
-    Settings::new()
-}
 
 // The words of a line, with blanks between.
 fn words_of(rt: &impl Abort, alloc: Global, line: &'static str) -> Vec<&'static str> {
@@ -18,22 +13,53 @@ fn words_of(rt: &impl Abort, alloc: Global, line: &'static str) -> Vec<&'static 
         .expect(rt, "memory for words")
 }
 
-// The words ask for these settings and files.
-fn takes(rt: &impl Abort, alloc: Global, words: &[&str], settings: &Settings, files: &[&str]) {
-    match command(alloc, words) {
-        Ok(Command::Format(format)) => {
-            assert_eq!(rt; format.settings, *settings, "at {words:?}");
-            check_names(rt, format.files.names(), files);
-        }
-        Err(refusal) => assert!(rt; false, "{refusal} at {words:?}"),
+// What is asked for in another way than by no words, and the files.
+fn told(alloc: Global, format: &Format) -> Result<String, AllocError> {
+    let settings = &format.settings;
+    let mut text = String::new(alloc);
+    if settings.output != Output::Ascii {
+        write!(text, "{:?} ", settings.output)?;
     }
+    if settings.width != 78 {
+        write!(text, "width {} ", settings.width)?;
+    }
+    if let Some(indent) = settings.indent {
+        write!(text, "indent {indent} ")?;
+    }
+    if settings.language != Language::Auto {
+        write!(text, "{:?} ", settings.language)?;
+    }
+    if settings.encoding != Encoding::Auto {
+        write!(text, "from {:?} ", settings.encoding)?;
+    }
+    told_rest(&mut text, format)?;
+    Ok(text)
 }
 
-// The files have these names.
-fn check_names(rt: &impl Abort, names: &[String], files: &[&str]) {
-    assert!(rt; names.len() == files.len(), "{names:?} for {files:?}");
-    for (name, file) in names.iter().zip(files) {
-        assert!(rt; name.as_str() == *file, "{names:?} for {files:?}");
+fn told_rest(text: &mut String, format: &Format) -> Result<(), AllocError> {
+    if let Some(least) = format.settings.least {
+        write!(text, "least {least:?} ")?;
+    }
+    if !format.settings.os.is_empty() {
+        write!(text, "os {} ", format.settings.os.as_str())?;
+    }
+    for name in format.files.names() {
+        write!(text, "[{name}]")?;
+    }
+    Ok(())
+}
+
+// The words ask for this.
+fn takes(rt: &impl Abort, alloc: Global, words: &[&str], wanted: &str) {
+    match command(alloc, words) {
+        Ok(Command::Format(format)) => {
+            let text = told(alloc, &format).expect(rt, "memory for a text");
+            assert!(rt;
+                text.as_str() == wanted,
+                "{text:?} in place of {wanted:?} at {words:?}"
+            );
+        }
+        Err(refusal) => assert!(rt; false, "{refusal} at {words:?}"),
     }
 }
 
@@ -43,200 +69,77 @@ fn refuses(rt: &impl Abort, alloc: Global, words: &[&str]) {
     assert!(rt; refused, "at {words:?}");
 }
 
-fn takes_lines(
-    rt: &impl Abort,
-    alloc: Global,
-    lines: &[&'static str],
-    settings: Settings,
-    files: &[&str],
-) {
-    for line in lines {
-        let words = words_of(rt, alloc, *line);
-        takes(rt, alloc, words.as_slice(), &settings, files);
+static TAKEN: [(&str, &str); 57] = [
+    ("-T ascii", ""),
+    ("-Tascii", ""),
+    ("-T=ascii", ""),
+    ("-T utf8", "Utf8 "),
+    ("-Tutf8", "Utf8 "),
+    ("-T=utf8", "Utf8 "),
+    ("-T lint", "Lint least Base "),
+    ("-Tlint", "Lint least Base "),
+    ("-T=lint", "Lint least Base "),
+    ("-Tlint -Wall", "Lint least Base "),
+    ("-W base -T lint", "Lint least Base "),
+    ("-W base", "least Base "),
+    ("-Wbase", "least Base "),
+    ("-W all", "least Base "),
+    ("-Wall", "least Base "),
+    ("-W style", "least Style "),
+    ("-Wstyle", "least Style "),
+    ("-W=warning", "least Warning "),
+    ("-Wwarning", "least Warning "),
+    ("-W error", "least Error "),
+    ("-Werror", "least Error "),
+    ("-W unsupp", "least Unsupp "),
+    ("-W=unsupp", "least Unsupp "),
+    ("-T lint -W error", "Lint least Error "),
+    ("-Werror -Tlint", "Lint least Error "),
+    ("-O width=58", "width 58 "),
+    ("-Owidth=300", "width 300 "),
+    ("-O=width=000000060", "width 60 "),
+    ("-O indent=0", "indent 0 "),
+    ("-O indent=20", "indent 20 "),
+    ("-O width=60,indent=3", "width 60 indent 3 "),
+    ("-Oindent=3,width=60", "width 60 indent 3 "),
+    ("-K us-ascii", "from Ascii "),
+    ("-Kiso-8859-1", "from Latin1 "),
+    ("-K=utf-8", "from Utf8 "),
+    ("-mdoc", "Mdoc "),
+    ("-m doc", "Mdoc "),
+    ("-man", "Man "),
+    ("-m=an", "Man "),
+    ("-mandoc", ""),
+    ("-m andoc", ""),
+    ("-I os=System", "os System "),
+    ("-Ios=System", "os System "),
+    ("-I=os=System", "os System "),
+    ("-Ios=-", "os - "),
+    ("-I os=", ""),
+    ("page.1", "[page.1]"),
+    ("-- page.1", "[page.1]"),
+    ("page.1 --", "[page.1]"),
+    ("b.1 a.1 b.1", "[b.1][a.1][b.1]"),
+    ("-", "[-]"),
+    ("-- -Tlint --", "[-Tlint][--]"),
+    ("-- makewhatis", "[makewhatis]"),
+    ("page.1 whatis", "[page.1][whatis]"),
+    ("a.1 -Tutf8 b.1 -Owidth=60", "Utf8 width 60 [a.1][b.1]"),
+    ("-Tutf8 -O width=60 a.1 b.1", "Utf8 width 60 [a.1][b.1]"),
+    ("-O width=60 a.1 -T utf8 -- b.1", "Utf8 width 60 [a.1][b.1]"),
+];
+
+#[test]
+fn takes_good_words(rt: HostRuntime) {
+    for (line, wanted) in TAKEN.iter() {
+        let words = words_of(&rt, rt.alloc(), *line);
+        takes(&rt, rt.alloc(), words.as_slice(), *wanted);
     }
-}
-
-#[test]
-fn takes_outputs(rt: HostRuntime) {
-    let alloc = rt.alloc();
-    takes(&rt, alloc, &[], &plain(), &[]);
-    takes_lines(
-        &rt,
-        alloc,
-        &["-T ascii", "-Tascii", "-T=ascii"],
-        plain(),
-        &[],
-    );
-    let utf8 = Settings {
-        output: Output::Utf8,
-        ..plain()
-    };
-    takes_lines(&rt, alloc, &["-T utf8", "-Tutf8", "-T=utf8"], utf8, &[]);
-    let lint = Settings {
-        output: Output::Lint,
-        least: Some(Level::Base),
-        ..plain()
-    };
-    takes_lines(
-        &rt,
-        alloc,
-        &[
-            "-T lint",
-            "-Tlint",
-            "-T=lint",
-            "-Tlint -Wall",
-            "-W base -T lint",
-        ],
-        lint,
-        &[],
-    );
-}
-
-#[test]
-fn takes_levels(rt: HostRuntime) {
-    let levels = [
-        (["-W base", "-Wbase"], Level::Base),
-        (["-W all", "-Wall"], Level::Base),
-        (["-W style", "-Wstyle"], Level::Style),
-        (["-W=warning", "-Wwarning"], Level::Warning),
-        (["-W error", "-Werror"], Level::Error),
-        (["-W unsupp", "-W=unsupp"], Level::Unsupp),
-    ];
-    for (lines, level) in levels.iter() {
-        let settings = Settings {
-            least: Some(*level),
-            ..plain()
-        };
-        takes_lines(&rt, rt.alloc(), lines, settings, &[]);
-    }
-    let lint = Settings {
-        output: Output::Lint,
-        least: Some(Level::Error),
-        ..plain()
-    };
-    takes_lines(
-        &rt,
-        rt.alloc(),
-        &["-T lint -W error", "-Werror -Tlint"],
-        lint,
-        &[],
-    );
-}
-
-#[test]
-fn takes_measures(rt: HostRuntime) {
-    let measures = [
-        ("-O width=58", 58, None),
-        ("-Owidth=300", 300, None),
-        ("-O=width=000000060", 60, None),
-        ("-O indent=0", 78, Some(0)),
-        ("-O indent=20", 78, Some(20)),
-        ("-O width=60,indent=3", 60, Some(3)),
-        ("-Oindent=3,width=60", 60, Some(3)),
-    ];
-    for (line, width, indent) in measures.iter() {
-        let settings = Settings {
-            width: *width,
-            indent: *indent,
-            ..plain()
-        };
-        takes_lines(&rt, rt.alloc(), &[*line], settings, &[]);
-    }
-}
-
-#[test]
-fn takes_encodings_and_languages(rt: HostRuntime) {
-    let encodings = [
-        ("-K us-ascii", Encoding::Ascii),
-        ("-Kiso-8859-1", Encoding::Latin1),
-        ("-K=utf-8", Encoding::Utf8),
-    ];
-    for (line, encoding) in encodings.iter() {
-        let settings = Settings {
-            encoding: *encoding,
-            ..plain()
-        };
-        takes_lines(&rt, rt.alloc(), &[*line], settings, &[]);
-    }
-    let languages = [
-        (["-mdoc", "-m doc"], Language::Mdoc),
-        (["-man", "-m=an"], Language::Man),
-        (["-mandoc", "-m andoc"], Language::Auto),
-    ];
-    for (lines, language) in languages.iter() {
-        let settings = Settings {
-            language: *language,
-            ..plain()
-        };
-        takes_lines(&rt, rt.alloc(), lines, settings, &[]);
-    }
-}
-
-#[test]
-fn takes_systems(rt: HostRuntime) -> Result<(), Fail> {
-    let mut settings = plain();
-    settings.set_os("System")?;
-    takes_lines(
-        &rt,
-        rt.alloc(),
-        &["-I os=System", "-Ios=System", "-I=os=System"],
-        settings,
-        &[],
-    );
-    settings.set_os("System 1.0\tα")?;
-    takes(&rt, rt.alloc(), &["-I", "os=System 1.0\tα"], &settings, &[]);
-    settings.set_os("-")?;
-    takes(&rt, rt.alloc(), &["-Ios=-"], &settings, &[]);
-    settings.set_os("")?;
-    takes(&rt, rt.alloc(), &["-I", "os="], &settings, &[]);
-    Ok(())
-}
-
-#[test]
-fn takes_files(rt: HostRuntime) {
-    let alloc = rt.alloc();
-    takes_lines(
-        &rt,
-        alloc,
-        &["page.1", "-- page.1", "page.1 --"],
-        plain(),
-        &["page.1"],
-    );
-    takes_lines(
-        &rt,
-        alloc,
-        &["b.1 a.1 b.1"],
-        plain(),
-        &["b.1", "a.1", "b.1"],
-    );
-    takes_lines(&rt, alloc, &["-"], plain(), &["-"]);
-    takes_lines(&rt, alloc, &["-- -Tlint --"], plain(), &["-Tlint", "--"]);
-    takes_lines(&rt, alloc, &["-- makewhatis"], plain(), &["makewhatis"]);
-    takes_lines(
-        &rt,
-        alloc,
-        &["page.1 whatis"],
-        plain(),
-        &["page.1", "whatis"],
-    );
-    takes(&rt, alloc, &[""], &plain(), &[""]);
-    takes(&rt, alloc, &["α page.1"], &plain(), &["α page.1"]);
-    let utf8 = Settings {
-        output: Output::Utf8,
-        width: 60,
-        ..plain()
-    };
-    takes_lines(
-        &rt,
-        alloc,
-        &[
-            "a.1 -Tutf8 b.1 -Owidth=60",
-            "-Tutf8 -O width=60 a.1 b.1",
-            "-O width=60 a.1 -T utf8 -- b.1",
-        ],
-        utf8,
-        &["a.1", "b.1"],
-    );
+    takes(&rt, rt.alloc(), &[], "");
+    takes(&rt, rt.alloc(), &[""], "[]");
+    takes(&rt, rt.alloc(), &["\u{3b1} page.1"], "[\u{3b1} page.1]");
+    let system = ["-I", "os=System 1.0\t\u{3b1}"];
+    takes(&rt, rt.alloc(), &system, "os System 1.0\t\u{3b1} ");
 }
 
 static REFUSED: [&str; 70] = [
@@ -336,20 +239,11 @@ fn takes_256_bytes_of_a_system(rt: HostRuntime) -> Result<(), Fail> {
 // With each allocation refused in turn: want of memory is answered, or the same answer.
 #[test]
 fn answers_want_of_memory(rt: HostRuntime) {
-    match command(
-        rt.alloc(),
-        &["-Tlint", "-Owidth=60", "-K", "utf-8", "a.1", "b.1"],
-    ) {
+    let words = ["-Tlint", "-Owidth=60", "-K", "utf-8", "a.1", "b.1"];
+    match command(rt.alloc(), &words) {
         Ok(Command::Format(format)) => {
-            let lint = Settings {
-                output: Output::Lint,
-                width: 60,
-                encoding: Encoding::Utf8,
-                least: Some(Level::Base),
-                ..plain()
-            };
-            assert!(rt; format.settings == lint);
-            check_names(&rt, format.files.names(), &["a.1", "b.1"]);
+            let is_lint = format.settings.output == Output::Lint;
+            assert!(rt; is_lint && format.settings.width == 60 && format.files.names().len() == 2);
         }
         Err(refusal) => assert!(rt; refusal == Refusal::Memory),
     }

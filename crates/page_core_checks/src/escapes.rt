@@ -46,7 +46,10 @@ fn char_of(found: Escape<'_>) -> Option<char> {
 
 fn check_escape(rt: &impl Abort, text: &str, kind: &str, argument: &str, len: usize) {
     let bytes = text.as_bytes();
-    assert!(rt; !bytes.is_empty() && bytes.len() <= LINE && bytes[0] == b'\\', "{text}");
+    assert!(rt;
+        !bytes.is_empty() && bytes.len() <= LINE && bytes[0] == b'\\',
+        "{text}"
+    );
     let (found, taken) = escape(bytes);
     let (found_kind, found_argument) = parts(found);
     check_text(rt, found_kind, kind, text);
@@ -175,11 +178,7 @@ fn fonts(rt: HostRuntime) {
             ("\\fXx", "font", "X", 3),
             ("\\f5x", "font", "5", 3),
             ("\\f(VBx", "font", "VB", 5),
-            (
-                "\\f\u{e9}x",
-                "font", "\u{e9}",
-                4,
-            ),
+            ("\\f\u{e9}x", "font", "\u{e9}", 4),
         ],
     );
 }

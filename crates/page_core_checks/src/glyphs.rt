@@ -186,7 +186,11 @@ fn ascii_is_spelled_as_itself(rt: HostRuntime) {
 
 fn check_printed(rt: &impl Abort, printed: Printed<'_>, want: &str) {
     match printed {
-        Printed::Char(c) => check(rt, want.chars().next() == Some(c) && want.len() == c.len_utf8(), want),
+        Printed::Char(c) => check(
+            rt,
+            want.chars().next() == Some(c) && want.len() == c.len_utf8(),
+            want,
+        ),
         Printed::Spelling(spelling) => check_text(rt, spelling, want, want),
         Printed::NoSpelling(_) | Printed::NoGlyph(_) => check_text(rt, "<?>", want, want),
     }
@@ -253,10 +257,22 @@ fn what_is_not_printed_is_told(rt: HostRuntime) {
     let dagger = printed_char(Output::Ascii, '\u{2020}');
     check(&rt, unspelled(dagger) == Some('\u{2020}'), "a character");
     let dagger = printed_glyph(Output::Lint, b"dg");
-    check(&rt, unspelled(dagger) == Some('\u{2020}'), "a glyph that is not spelled");
+    check(
+        &rt,
+        unspelled(dagger) == Some('\u{2020}'),
+        "a glyph that is not spelled",
+    );
     let unknown = printed_glyph(Output::Utf8, b"zz");
-    check(&rt, unknown_name(unknown) == Some(b"zz".as_slice()), "a name");
-    check(&rt, unspelled(printed_char(Output::Ascii, 'a')).is_none(), "a");
+    check(
+        &rt,
+        unknown_name(unknown) == Some(b"zz".as_slice()),
+        "a name",
+    );
+    check(
+        &rt,
+        unspelled(printed_char(Output::Ascii, 'a')).is_none(),
+        "a",
+    );
 }
 
 #[test]

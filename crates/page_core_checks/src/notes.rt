@@ -237,7 +237,12 @@ fn details_are_cut(rt: HostRuntime) {
     for (from, count) in [(61, 64), (62, 64), (63, 63), (64, 64)] {
         text = [b'x'; 66];
         text[from..from + 2].copy_from_slice("\u{e9}".as_bytes());
-        check_count(&rt, Note::about(NoteKind::NoGlyph, place, &text).detail.len(), count, "before a character of two bytes");
+        check_count(
+            &rt,
+            Note::about(NoteKind::NoGlyph, place, &text).detail.len(),
+            count,
+            "before a character of two bytes",
+        );
     }
     check_count(&rt, text.len(), 66, "the text");
 }
@@ -265,7 +270,12 @@ fn a_message_to_a_bad_writer(rt: HostRuntime) {
         check_answer(&rt, write_note(&mut out, "f", &note), answer);
         let got = out.got.as_slice();
         check(&rt, want.starts_with(got), "a front");
-        check_count(&rt, got.len(), if most == 0 { 0 } else { room }, "what is written");
+        check_count(
+            &rt,
+            got.len(),
+            if most == 0 { 0 } else { room },
+            "what is written",
+        );
     }
 }
 
@@ -277,7 +287,11 @@ fn notes_are_written_as_lines(rt: HostRuntime) {
         mandoc: b.7:5:1: WARNING: blank line in fill mode, using .sp\n";
     let mut out = Vec::new(rt.alloc());
     let mut notes = TextNotes::new(&mut out, "b.7");
-    check(&rt, notes.takes(NoteKind::NoBody), "a sink takes every kind");
+    check(
+        &rt,
+        notes.takes(NoteKind::NoBody),
+        "a sink takes every kind",
+    );
     check_answer(&rt, notes.note(&first), Ok(()));
     check_answer(&rt, notes.note(&second), Ok(()));
     check_failures(&rt, notes.failures(), 0);
@@ -315,7 +329,11 @@ fn notes_are_kept(rt: HostRuntime) -> Result<(), Fail> {
         let before = kept.notes.len();
         match kept.note(&note) {
             Ok(()) => {
-                check(&rt, *kept.notes.last().ok_or("no note")? == note, "the last");
+                check(
+                    &rt,
+                    *kept.notes.last().ok_or("no note")? == note,
+                    "the last",
+                );
                 check_count(&rt, kept.notes.len() - before, 1, "a message more");
             }
             Err(fault) => {

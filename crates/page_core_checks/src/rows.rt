@@ -89,7 +89,11 @@ fn a_row_to_a_bad_writer(rt: HostRuntime) -> Result<(), Fail> {
         check_answer(&rt, rows.row(2, row.as_slice()), Err(Fault::WriteText));
         check_failures(&rt, rows.failures(), 2);
         drop(rows);
-        check(&rt, b"  ab\n".as_slice().starts_with(out.got.as_slice()), "a front");
+        check(
+            &rt,
+            b"  ab\n".as_slice().starts_with(out.got.as_slice()),
+            "a front",
+        );
     }
     Ok(())
 }

@@ -128,11 +128,11 @@ meaning_by means.Undefined argument text = another_character text
 meaning_by means.Unsupported argument text = unsupported
 
 -- what an escape with a letter means, by its text from the letter on
-abbrev pub lettered_meaning : Letter → List ℕ → Meaning
-lettered_meaning letter text = meaning_by letter.kind (argument_of letter.shape text) text
+abbrev pub letter_meaning : Letter → List ℕ → Meaning
+letter_meaning letter text = meaning_by letter.kind (argument_of letter.shape text) text
 
 -- the meaning of a text that is one escape; a backslash alone prints nothing
 unfoldable pub meaning_of : List ℕ → Meaning
 meaning_of [] = nothing
 meaning_of (b ∷ []) = nothing
-meaning_of (b ∷ key ∷ written) = lettered_meaning (letter_of key) (key ∷ written)
+meaning_of (b ∷ key ∷ written) = letter_meaning (letter_of key) (key ∷ written)

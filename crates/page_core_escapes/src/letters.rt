@@ -72,15 +72,27 @@ pub(crate) fn letter_of(key: u8) -> Letter
         b'h' => entry(Shape::Quoted, Kind::Blanks),
         b'c' => entry(Shape::Alone, Kind::Glue),
         b'f' => entry(Shape::Name, Kind::Font),
-        b'&' | b')' | b'|' | b'^' | b'%' | b'/' | b',' | b':' | b'a' | b'u' | b'r' | b'd'
-        | b'z' | b'{' => entry(Shape::Alone, Kind::Nothing),
+        b'&'
+        | b')'
+        | b'|'
+        | b'^'
+        | b'%'
+        | b'/'
+        | b','
+        | b':'
+        | b'a'
+        | b'u'
+        | b'r'
+        | b'd'
+        | b'z'
+        | b'{' => entry(Shape::Alone, Kind::Nothing),
         b'm' | b'M' | b'k' | b'F' => entry(Shape::Name, Kind::Nothing),
         b'v' | b'x' => entry(Shape::Quoted, Kind::Nothing),
         b's' => entry(Shape::Size, Kind::Size),
         b'p' => entry(Shape::Alone, Kind::Unsupported),
         b'g' | b'V' | b'Y' => entry(Shape::Name, Kind::Unsupported),
-        b'b' | b'o' | b'l' | b'L' | b'D' | b'N' | b'X' | b'A' | b'B' | b'H' | b'S' | b'R'
-        | b'Z' => entry(Shape::Quoted, Kind::Unsupported),
+        b'b' | b'o' | b'l' | b'L' | b'D' | b'N' | b'X' | b'A' | b'B' | b'H' | b'S' | b'R' | b'Z' =>
+            entry(Shape::Quoted, Kind::Unsupported),
         _ => entry(Shape::Alone, Kind::Undefined),
     }
 }

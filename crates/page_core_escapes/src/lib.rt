@@ -12,9 +12,9 @@ use page_core_limits::LINE;
 use quoted::quoted_len;
 
 mod extents;
+mod letters;
 mod meaning;
 mod quoted;
-mod letters;
 mod tokens;
 
 pub use meaning::{Escape, FontName, read_font};

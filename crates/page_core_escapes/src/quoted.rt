@@ -4,9 +4,9 @@ ghost use Rattle.page_core_escapes.specs.Extents.{character_len};
 ghost use Rattle.page_core_escapes.specs.Lengths.{quoted_len, content_len};
 ghost use Rattle.page_core_escapes.specs.Steps.{first_character, opening_of, step_of, StepFits};
 
-use page_core_limits::LINE;
 use crate::extents::{Extent, character_len, read_extent};
 use arrayvec::ArrayVec;
+use page_core_limits::LINE;
 
 // One more than the arguments that can stand inside one another on a line: each takes three bytes at least.
 const NESTING: usize = 21_846;

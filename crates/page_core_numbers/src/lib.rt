@@ -34,7 +34,8 @@ pub fn number<N: NoteSink>(
     notes: &mut N,
 ) -> Result<(i32, usize), Fault>
     ensures value { IfOk result (λ found. found.0 ≡ (expression_of unit text.now).value) }
-    ensures len { IfOk result (λ found. found.1 + length (expression_of unit text.now).rest ≡ length text.now) }
+    ensures len { IfOk result
+        (λ found. found.1 + length (expression_of unit text.now).rest ≡ length text.now) }
 
     // All messages, or a front of them.
     ensures gives { MatchResult result

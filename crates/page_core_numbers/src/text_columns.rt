@@ -88,7 +88,10 @@ fn front_columns(text: &str, first: char, output: Output) -> (u32, usize)
         let (found, len) = escape(text.as_bytes());
         return (escape_columns(found, output), len);
     }
-    (printed_columns(printed_char(output, first)), first.len_utf8())
+    (
+        printed_columns(printed_char(output, first)),
+        first.len_utf8(),
+    )
 }
 
 // The columns of a text.

@@ -31,7 +31,10 @@ fn check_value(rt: &impl Abort, got: i32, want: i32, text: &str) {
 
 // Checks a message at line 3 and column 7.
 fn check_note(rt: &impl Abort, note: &Note, kind: NoteKind, text: &str) {
-    assert!(rt; note.kind == kind && note.line == 3 && note.column == 7, "{text}");
+    assert!(rt;
+        note.kind == kind && note.line == 3 && note.column == 7,
+        "{text}"
+    );
     let detail = match kind {
         NoteKind::Limit => "PARENS",
         _ => "",
@@ -365,7 +368,11 @@ fn narrow_writer(alloc: Global, room: usize) -> Narrow {
     }
 }
 
-fn check_read(rt: &impl Abort, got: Result<(i32, usize), Fault>, want: Result<(i32, usize), Fault>) {
+fn check_read(
+    rt: &impl Abort,
+    got: Result<(i32, usize), Fault>,
+    want: Result<(i32, usize), Fault>,
+) {
     assert_eq!(rt; got, want);
 }
 
@@ -386,7 +393,13 @@ fn a_failing_sink_gets_a_front(rt: HostRuntime) -> Result<(), Fail> {
         let failures = notes.failures();
         if room < all.len() {
             check_read(&rt, read, Err(Fault::WriteNotes));
-            check_written(&rt, failures, 1, out.got.as_slice(), &all.as_bytes()[..room]);
+            check_written(
+                &rt,
+                failures,
+                1,
+                out.got.as_slice(),
+                &all.as_bytes()[..room],
+            );
         } else {
             check_read(&rt, read, Ok((0, 5)));
             check_written(&rt, failures, 0, out.got.as_slice(), all.as_bytes());

@@ -25,7 +25,8 @@ single_quotes (byte ∷ next ∷ bytes) =
 -- an argument as a field: at most FIELD bytes as it is written, up to a character's end
 abbrev pub field : Argument (List ℕ) → List ℕ
 field argument =
-    if is_quoted argument.quoting then single_quotes (text_front FIELD argument.text) else text_front FIELD argument.text
+    if is_quoted argument.quoting then single_quotes (text_front FIELD argument.text)
+    else text_front FIELD argument.text
 
 abbrev pub first_field : List (Argument (List ℕ)) → List ℕ
 first_field [] = []
@@ -76,4 +77,5 @@ FIELDS = 5
 
 -- an argument that is cut as a field is reported at its macro
 abbrev pub cut_items : Place → Argument (List ℕ) → List Item
-cut_items place argument = if nat_lt FIELD (length argument.text) then says Limit place (codes "FIELD") ∷ [] else []
+cut_items place argument =
+    if nat_lt FIELD (length argument.text) then says Limit place (codes "FIELD") ∷ [] else []

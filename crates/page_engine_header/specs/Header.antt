@@ -18,7 +18,8 @@ use Rattle.page_engine_header.specs.Printing.{tokens_columns, tokens_items}
 
 -- a title with its section: title(section)
 abbrev pub name_tokens : List ℕ → List ℕ → List TextToken
-name_tokens title section = tokens_of false title ++ (plain (codes "(") ∷ (tokens_of false section ++ plain (codes ")") ∷ []))
+name_tokens title section =
+    tokens_of false title ++ (plain (codes "(") ∷ (tokens_of false section ++ plain (codes ")") ∷ []))
 
 abbrev pub part_tokens : Part → List TextToken
 part_tokens (Name title section) = name_tokens title.now section.now
@@ -31,8 +32,8 @@ IsShort (Text text) = length text.now ≤ 256
 
 -- ---- a row of three parts
 
--- in a row of a width, parts of so many columns: the second is centered, the third stands at the right, and a blank at least stands before
--- each, also where a part is empty
+-- where parts of these columns stand in a row of a width: the first at the left, the second in the middle, the third at the right, with a
+-- blank at least before the second and the third. This holds of empty parts, too
 abbrev pub second_start : (width first second : ℕ) → ℕ
 second_start width first second = max (first + 1) ((width - second) / 2)
 
@@ -46,19 +47,28 @@ part_items m place part = tokens_items m.output place roman_fonts part
 abbrev pub part_columns : Measure → List TextToken → ℕ
 part_columns m part = tokens_columns m.output part
 
+abbrev pub second_column : Measure → (first second : List TextToken) → ℕ
+second_column m first second = second_start m.width (part_columns m first) (part_columns m second)
+
+abbrev pub third_column : Measure → (first second third : List TextToken) → ℕ
+third_column m first second third =
+    third_start m.width (part_columns m first) (part_columns m second) (part_columns m third)
+
 -- a row that is kept as it is, from the left edge of the page on
 unfoldable pub row_items : Measure → Place → (first second third : List TextToken) → List Item
 row_items m place first second third =
     shown (Literal true) ∷ shown (Indent 0 0) ∷ (part_items m place first
-    ++ (shown (Column (second_start m.width (part_columns m first) (part_columns m second))) ∷ (part_items m place second
-    ++ (shown (Column (third_start m.width (part_columns m first) (part_columns m second) (part_columns m third))) ∷ (part_items m place third
+    ++ (shown (Column (second_column m first second)) ∷ (part_items m place second
+    ++ (shown (Column (third_column m first second third)) ∷ (part_items m place third
     ++ (shown Break ∷ shown (Literal false) ∷ []))))))
 
 abbrev pub header_row : Measure → Place → Fields → List Item
-header_row m place f = row_items m place (name_tokens f.title f.section) (tokens_of false f.volume) (name_tokens f.title f.section)
+header_row m place f =
+    row_items m place (name_tokens f.title f.section) (tokens_of false f.volume) (name_tokens f.title f.section)
 
 abbrev pub footer_row : Measure → Place → Fields → List Item
-footer_row m place f = row_items m place (tokens_of false f.source) (tokens_of false f.date) (name_tokens f.title f.section)
+footer_row m place f =
+    row_items m place (tokens_of false f.source) (tokens_of false f.date) (name_tokens f.title f.section)
 
 -- ---- the header
 

@@ -1,4 +1,5 @@
--- What the text of a field prints: its characters, each in a font. Source: man(7), TH; roff(7), "ESCAPE SEQUENCES"; mandoc_char(7).
+-- What the text of a field prints: its characters, each in a font. Source: man(7), TH; roff(7), "ESCAPE
+-- SEQUENCES"; mandoc_char(7).
 use Rattle.std.specs.Prelude.{ℕ, ◌+◌, List, [], ◌∷◌, ◌++◌, length, replicate, map, codes, if◌then◌else◌}
 use Rattle.std.specs.List.{flat_map}
 use Rattle.std.specs.Str.{chars, is_utf8}
@@ -32,7 +33,8 @@ token_printed output (escaped bytes meaning) = printed_escape output meaning
 -- the columns of what tokens print
 abbrev pub tokens_columns : Output → List TextToken → ℕ
 tokens_columns output [] = 0
-tokens_columns output (token ∷ tokens) = characters_columns (token_printed output token) + tokens_columns output tokens
+tokens_columns output (token ∷ tokens) =
+    characters_columns (token_printed output token) + tokens_columns output tokens
 
 -- characters in a font
 abbrev pub in_font : Font → Place → List ℕ → List Item
@@ -42,7 +44,8 @@ in_font font place cs = map (λ c. shown (Char c font place)) cs
 abbrev pub tokens_items : Output → Place → Fonts → List TextToken → List Item
 tokens_items output place fonts [] = []
 tokens_items output place fonts (token ∷ tokens) =
-    in_font fonts.font place (token_printed output token) ++ tokens_items output place (token_fonts token fonts) tokens
+    in_font fonts.font place (token_printed output token)
+    ++ tokens_items output place (token_fonts token fonts) tokens
 
 -- the fonts after tokens
 abbrev pub fonts_after : Fonts → List TextToken → Fonts

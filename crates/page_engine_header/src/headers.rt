@@ -50,7 +50,8 @@ fn give_row<O: PieceOut>(
     requires second { IsShort second }
     requires third { IsShort third }
     ensures { Came O.left out.old
-        (row_items measure place (part_tokens first.entry) (part_tokens second.entry) (part_tokens third.entry)) out.new }
+        (row_items measure place (part_tokens first.entry) (part_tokens second.entry)
+        (part_tokens third.entry)) out.new }
 {
     let output = measure.output;
     let columns = (

@@ -1,4 +1,4 @@
-//! The header and the footer of a page: the fields of its title, what they print, and where that stands (man(7), `TH`).
+//! The header and the footer of a page: the fields of its title, what they print, and where (man(7), `TH`).
 #![tactic(auto)]
 
 mod fields;

@@ -24,7 +24,8 @@ pub enum Part<'a> {
 fn give_name<O: PieceOut>(out: &mut O, output: Output, place: Place, title: &[u8], section: &[u8])
     requires title { length title.now ≤ 256 }
     requires section { length section.now ≤ 256 }
-    ensures { Came O.left out.old (tokens_items output place roman_fonts (name_tokens title.now section.now)) out.new }
+    ensures { Came O.left out.old
+        (tokens_items output place roman_fonts (name_tokens title.now section.now)) out.new }
 {
     let fonts = give_text(out, output, ROMAN, place, title);
     give_char(out, fonts.font, place, '(');
@@ -50,7 +51,8 @@ impl Part<'_> {
     /// Gives what the part prints.
     pub(crate) fn give<O: PieceOut>(self, out: &mut O, output: Output, place: Place)
         requires { IsShort self }
-        ensures { Came O.left out.old (tokens_items output place roman_fonts (part_tokens self.entry)) out.new }
+        ensures { Came O.left out.old
+            (tokens_items output place roman_fonts (part_tokens self.entry)) out.new }
     {
         match self {
             Part::Name { title, section } => give_name(out, output, place, title, section),

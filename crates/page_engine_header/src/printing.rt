@@ -1,4 +1,5 @@
-//! What the text of a field prints, and its columns (roff(7), "ESCAPE SEQUENCES"; mandoc_char(7)). It gives no message.
+//! What the text of a field prints, and its columns (roff(7), "ESCAPE SEQUENCES"; mandoc_char(7)). It gives no
+//! message.
 
 ghost use Rattle.std.specs.Prelude.{◌≡◌, ◌≤◌, ◌<◌, ◌*◌, [], ◌∷◌, false, length, replicate, chars};
 ghost use Rattle.page_core_base.specs.Latches.{Came};
@@ -116,7 +117,8 @@ fn give_escape<O: PieceOut>(
     place: Place,
     meaning: Escape<'_>,
 )
-    ensures { Came O.left out.old (in_font font place (printed_escape output (meaning_seen meaning.entry))) out.new }
+    ensures { Came O.left out.old
+        (in_font font place (printed_escape output (meaning_seen meaning.entry))) out.new }
 {
     match meaning {
         Escape::Glyph(name) => give_printed(out, font, place, printed_glyph(output, name)),

@@ -21,6 +21,10 @@ fn check_count(rt: &impl Abort, got: u32, wanted: u32) {
     assert_eq!(rt; got, wanted);
 }
 
+fn check_failures(rt: &impl Abort, got: u64, wanted: u64) {
+    assert_eq!(rt; got, wanted);
+}
+
 fn check_answer(rt: &impl Abort, got: Result<(), Fault>, wanted: Result<(), Fault>) {
     assert_eq!(rt; got, wanted);
 }
@@ -473,7 +477,7 @@ fn each_row_may_fail(rt: HostRuntime) -> Result<(), Fail> {
         if good < 5 {
             check_answer(&rt, fault, Err(Fault::WriteText));
             check_count(&rt, rows.calls, good + 1);
-            check_count(&rt, rows.failures as u32, 1);
+            check_failures(&rt, rows.failures, 1);
         } else {
             check_answer(&rt, fault, Ok(()));
             check_count(&rt, rows.calls, 5);

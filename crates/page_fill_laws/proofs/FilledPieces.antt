@@ -1,5 +1,5 @@
 -- The words of pieces are their marks, and so pieces fill rows as their words do.
-use Rattle.std.proofs.Common.{◌≡◌, ℕ, zero, suc, ◌≤◌, ◌==◌, Bool, true, false, not, ◌&&◌, ◌||◌, List, [], ◌∷◌, ◌++◌, length, map, replicate, inl, inr, refl, sym, subst, ap, ◌∙◌, append_assoc, append-nil, lit≤, Option, None, Some}
+use Rattle.std.proofs.Common.{◌≡◌, ℕ, zero, suc, ◌≤◌, ◌==◌, Bool, true, false, not, ◌&&◌, ◌||◌, List, [], ◌∷◌, ◌++◌, length, map, replicate, inl, inr, refl, sym, subst, ap, ◌∙◌, append_assoc, append-nil, arith, lit≤, Option, None, Some}
 use Rattle.std.specs.Prelude.{if◌then◌else◌}
 use Rattle.std.proofs.lemmas.Bool.{cases_Bool}
 use Rattle.std.proofs.lemmas.List.{map-append}
@@ -17,14 +17,14 @@ use Rattle.page_fill.specs.declared.words.OpenWord.{OpenWord}
 use Rattle.page_fill.specs.declared.words.Edge.{Edge}
 use Rattle.page_fill.specs.Sheets.{Sheet, over, blank, broken}
 use Rattle.page_fill.specs.Characters.{with_notes, cell_of, cells_of, characters_of, unknown_notes}
-use Rattle.page_fill.specs.Fill.{laid, ended, tab_notes} 
+use Rattle.page_fill.specs.Fill.{laid, ended, tab_notes}
 use Rattle.page_fill.specs.Fill as fill
 use Rattle.page_fill_laws.specs.InWords.{Mark, told, opened, spaced, lettered, letters_of, printed_marks, character_marks, text_marks, tab_marks, blank_marks, opening_marks, after_cell, are_of_words, piece_marks, word_after, marks, words_after, is_sound}
 use Rattle.page_fill_laws.specs.Filled.{Part, shown, noted, Word, Row, first_word, one_word, filling, at_break, filled}
-use Rattle.page_fill_laws.specs.PieceWords.{cell_parts, printed_parts, text_parts, tab_parts, Words, word_of, and_then, words_from, words_of, frame_of, row_of, words_between}
+use Rattle.page_fill_laws.specs.PieceWords.{cell_parts, printed_parts, text_parts, tab_parts, Words, word_of, and_then, words_from, words_of, frame_of, open_row_of, words_between, going_on, IsHeld}
 use Rattle.page_fill_laws.proofs.InWordsRun.{run, run-append}
 use Rattle.page_fill_laws.proofs.InWordsPieces.{AreStanding, laid-run}
-use Rattle.page_fill_laws.proofs.FilledWords.{mark_of, marks_of, word_marks, words_marks, first-run, first-bounded, run-frame, filling-run}
+use Rattle.page_fill_laws.proofs.FilledWords.{mark_of, marks_of, word_marks, words_marks, first-run, first-bounded, run-frame, filling-run, rest-run, rest-bounded}
 
 -- ---- marks of parts
 
@@ -129,22 +129,22 @@ pieces-words output literal empty w (p ∷ ps) =
 -- ---- from an edge without an open row
 
 abbrev open_row : Edge → Row
-open_row f = row_of f.sheet
+open_row f = open_row_of f.sheet
 
 marks-words : (s : Sheet) (words : Words) → s.cells ≡ [] → s.gap ≡ 0 → (first : Word) → first.notes ≡ [] → first.parts ≡ words.first
-    → over (run s (all_marks words)) row_of ≡ filling (frame_of s) (row_of s) (first ∷ words.later)
+    → over (run s (all_marks words)) open_row_of ≡ filling (frame_of s) (open_row_of s) (first ∷ words.later)
 unfolding filling
 marks-words s words none start first notes parts =
     let x = run s (marks_of words.first) in
     let row = first-run s words.first start in
     let none-bound : length s.cells ≤ CELLS = rw none (lit≤ tt) in
     let bound : length x.edge.cells ≤ CELLS =
-    subst (λ (r : Row). length r.cells ≤ CELLS) (sym (ap (λ l. l.edge) row)) (first-bounded (frame_of s) (row_of s) words.first none-bound) in
+    subst (λ (r : Row). length r.cells ≤ CELLS) (sym (ap (λ l. l.edge) row)) (first-bounded (frame_of s) (open_row_of s) words.first none-bound) in
     let empty : (length s.cells == 0) ≡ true = rw none refl in
     rw (notes, empty, parts)
-    (ap (λ l. over l row_of) (run-append s (marks_of words.first) (words_marks words.later))
-    ∙ (ap (λ l. join (over x row_of) l) (filling-run x.edge words.later bound)
-    ∙ (ap (λ f. join (over x row_of) (filling f (row_of x.edge) words.later)) (run-frame s (marks_of words.first))
+    (ap (λ l. over l open_row_of) (run-append s (marks_of words.first) (words_marks words.later))
+    ∙ (ap (λ l. join (over x open_row_of) l) (filling-run x.edge words.later bound)
+    ∙ (ap (λ f. join (over x open_row_of) (filling f (open_row_of x.edge) words.later)) (run-frame s (marks_of words.first))
     ∙ ap (λ l. seq l (λ r. filling (frame_of s) r words.later)) row)))
 
 break-row : (e : Edge) → over (ended e) open_row ≡ at_break (open_row e)
@@ -152,13 +152,37 @@ unfolding ended broken
 break-row e = elim (cases_Bool (length e.sheet.cells == 0)) [ inl z ↦ rw z refl | inr z ↦ rw z refl ]
 
 pub between-breaks : (e : Edge) (ps : List (Piece (List ℕ))) → e.sheet.cells ≡ [] → e.sheet.gap ≡ 0 → is_sound e.word ≡ true → are_of_words e.sheet.literal ps ≡ true
-    → over (fill.filled e ps) open_row ≡ filled (frame_of e.sheet) (row_of e.sheet) (words_between e ps)
+    → over (fill.filled e ps) open_row ≡ filled (frame_of e.sheet) (open_row_of e.sheet) (words_between e ps)
 between-breaks e ps none start sound words =
     let standing : AreStanding e true = rw none refl in
     let all = words_of e.output e.sheet.literal true e.word ps in
     let l = laid e ps in
-    let rows : over l open_row ≡ filling (frame_of e.sheet) (row_of e.sheet) (words_between e ps) =
+    let rows : over l open_row ≡ filling (frame_of e.sheet) (open_row_of e.sheet) (words_between e ps) =
     ap (λ (m : Laid Edge). over m open_row) (laid-run e e.sheet.literal true ps refl sound standing words)
-    ∙ (ap (λ ms. over (run e.sheet ms) row_of) (pieces-words e.output e.sheet.literal true e.word ps)
+    ∙ (ap (λ ms. over (run e.sheet ms) open_row_of) (pieces-words e.output e.sheet.literal true e.word ps)
     ∙ marks-words e.sheet all none start (record { notes = []; blanks = 0; place = record { line = 0; column = 0 }; parts = all.first }) refl refl) in
     ap (λ m. join (over l open_row) m) (break-row l.edge) ∙ ap (λ m. seq m at_break) rows
+
+pub between-breaks-held : (e : Edge) (ps : List (Piece (List ℕ))) → e.sheet.cells ≡ [] → IsHeld e.sheet → is_sound e.word ≡ true → are_of_words e.sheet.literal ps ≡ true
+    → over (fill.filled e ps) open_row ≡ filled (frame_of e.sheet) (open_row_of e.sheet) (words_between e ps)
+between-breaks-held e ps none h sound words =
+    let len : length e.sheet.cells ≡ 0 = ap length none in
+    let start : e.sheet.gap ≡ 0 = omega (arith, len, h.gap_within, h.word_within) in
+    between-breaks e ps none start sound words
+
+-- ---- from any edge
+
+pub from-any-edge : (e : Edge) (ps : List (Piece (List ℕ))) → IsHeld e.sheet → is_sound e.word ≡ true → are_of_words e.sheet.literal ps ≡ true
+    → over (laid e ps) open_row ≡ going_on e ps
+from-any-edge e ps h sound words =
+    let s = e.sheet in
+    let all = words_of e.output s.literal (length s.cells == 0) e.word ps in
+    let x = run s (marks_of all.first) in
+    let row = rest-run s all.first h in
+    let bound : length x.edge.cells ≤ CELLS = subst (λ (r : Row). length r.cells ≤ CELLS) (sym (ap (λ l. l.edge) row)) (rest-bounded s all.first h) in
+    ap (λ (m : Laid Edge). over m open_row) (laid-run e s.literal (length s.cells == 0) ps refl sound refl words)
+    ∙ (ap (λ ms. over (run s ms) open_row_of) (pieces-words e.output s.literal (length s.cells == 0) e.word ps)
+    ∙ (ap (λ l. over l open_row_of) (run-append s (marks_of all.first) (words_marks all.later))
+    ∙ (ap (λ l. join (over x open_row_of) l) (filling-run x.edge all.later bound)
+    ∙ (ap (λ f. join (over x open_row_of) (filling f (open_row_of x.edge) all.later)) (run-frame s (marks_of all.first))
+    ∙ ap (λ l. seq l (λ r. filling (frame_of s) r all.later)) row))))

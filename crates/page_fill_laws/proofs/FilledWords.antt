@@ -1,6 +1,6 @@
 -- Words fill rows as their marks do, one by one.
 use Rattle.std.proofs.Common.{◌≡◌, ℕ, zero, suc, ◌+◌, ◌-◌, ◌<◌, ◌≤◌, ◌==◌, nat_lt, Bool, true, false, not, ◌&&◌, List, [], ◌∷◌, ◌++◌, length, take, drop, map, replicate, inl, inr, refl, sym, subst, ap, ◌∙◌, arith, append_assoc, append-nil, length-append, length-drop, lit≤, lit<}
-use Rattle.std.proofs.lemmas.List.{take-append-le, drop-append-le, take_all, drop_all}
+use Rattle.std.proofs.lemmas.List.{take-append-le, drop-append-le, length-take-le, take_all, drop_all}
 use Rattle.std.specs.Prelude.{if◌then◌else◌}
 use Rattle.std.proofs.lemmas.Bool.{cases_Bool}
 use Rattle.std.proofs.lemmas.Bool.Decides.{nat_tests}
@@ -12,8 +12,8 @@ use Rattle.page_core_limits.specs.declared.TheConstants.{CELLS}
 use Rattle.page_fill.specs.Sheets.{Sheet, over, blank, columns, cell_columns, passes, letter, space, opens, counted, given, begins, emptied}
 use Rattle.page_fill.specs.Characters.{with_notes}
 use Rattle.page_fill_laws.specs.InWords.{Mark, told, opened, spaced, lettered}
-use Rattle.page_fill_laws.specs.Filled.{Part, shown, noted, Word, Frame, Row, with_cells, closed, row_begun, row_ended, full_row_ended, with_cell, first_word, Outcome, fits, too_wide, too_many, after_note, is_wide, outcome, by_word, by_blanks, one_word, filling}
-use Rattle.page_fill_laws.specs.PieceWords.{frame_of, row_of}
+use Rattle.page_fill_laws.specs.Filled.{Part, shown, noted, Word, Frame, Row, with_cells, closed, row_begun, row_ended, full_row_ended, with_cell, first_word, Outcome, fits, too_wide, too_many, after_note, is_wide, outcome, started, by_rest, by_word, by_blanks, one_word, rest_of_word, filling}
+use Rattle.page_fill_laws.specs.PieceWords.{IsHeld, frame_of, open_row_of}
 use Rattle.page_fill_laws.proofs.InWordsRun.{step, run, run-append}
 
 abbrev pub mark_of : Part → Mark
@@ -25,7 +25,7 @@ marks_of parts = map mark_of parts
 
 -- ---- a row's first word
 
-pub first-run : (s : Sheet) (parts : List Part) → s.gap ≡ 0 → over (run s (marks_of parts)) row_of ≡ first_word (frame_of s) (row_of s) parts
+pub first-run : (s : Sheet) (parts : List Part) → s.gap ≡ 0 → over (run s (marks_of parts)) open_row_of ≡ first_word (frame_of s) (open_row_of s) parts
 unfolding run first_word letter
 first-run s [] first = refl
 first-run s (noted m ∷ parts) first = ap (with_notes (m ∷ [])) (first-run s parts first)
@@ -33,7 +33,7 @@ first-run s (shown cell place ∷ parts) first =
     let stays : passes (counted s cell) cell ≡ false = rw first (grind (arith, nat_tests)) in
     elim (cases_Bool (length s.cells == CELLS)) [
       | inl full ↦
-          rw (stays, full) (ap (λ l. join (full_row_ended (row_of s) s.cells place) l) (first-run (begins (given (counted s cell) s.cells) (cell ∷ [])) parts refl))
+          rw (stays, full) (ap (λ l. join (full_row_ended (open_row_of s) s.cells place) l) (first-run (begins (given (counted s cell) s.cells) (cell ∷ [])) parts refl))
       | inr room ↦ elim (cases_Bool (length s.cells == 0)) [
         | inl z ↦ rw (stays, room, z) (first-run (begins (counted s cell) (cell ∷ [])) parts refl)
         | inr z ↦ rw (stays, room, z) (first-run (record (counted s cell) { cells = s.cells ++ cell ∷ [] }) parts first)
@@ -42,22 +42,12 @@ first-run s (shown cell place ∷ parts) first =
 
 -- ---- another word of a row
 
--- the next row with these cells, none where it has not begun
-abbrev pub started : Frame → Row → List Cell → Row
-started frame row cells = if length cells == 0 then row else row_begun frame row cells
-
 -- a row that begins with some cells and one more
 more-begun : (frame : Frame) (row : Row) (front : List Cell) (cell : Cell) (parts : List Part)
     → first_word frame (row_begun frame row (front ++ cell ∷ [])) parts ≡ first_word frame (started frame row (front ++ cell ∷ [])) parts
 more-begun frame row front cell parts =
     let more : (length (front ++ cell ∷ []) == 0) ≡ false = rw (length-append front (cell ∷ [])) (grind (arith, nat_tests)) in
     rw more refl
-
--- what the word does in the row, where some cells of it stand there already
-abbrev pub by_rest : Frame → Row → (base front : List Cell) → List Part → Outcome → Laid Row
-by_rest frame row base front parts (fits notes cells) = with_notes notes (nothing (with_cells row cells))
-by_rest frame row base front parts too_wide = seq (row_ended row base) (λ r. first_word frame (started frame r front) parts)
-by_rest frame row base front parts (too_many notes cells place left) = with_notes notes (seq (full_row_ended row cells place) (λ r. first_word frame r left))
 
 -- one more cell stands there
 first-front : (frame : Frame) (row : Row) (front : List Cell) (cell : Cell) (place : Place) (parts : List Part) → row.cells ≡ [] → length front < CELLS
@@ -131,11 +121,11 @@ wide-word frame row old base kept front cell place parts same still room =
 
 -- the cells of a word, from any of them on
 pub word-run : (s : Sheet) (base front : List Cell) (parts : List Part) → IsInWord s base front
-    → over (run s (marks_of parts)) row_of ≡ by_rest (frame_of s) (row_of s) base front parts (outcome (frame_of s) s.margin s.cells parts)
+    → over (run s (marks_of parts)) open_row_of ≡ by_rest (frame_of s) (open_row_of s) base front parts (outcome (frame_of s) s.margin s.cells parts)
 unfolding run outcome letter
 word-run s base front [] i = refl
 word-run s base front (noted m ∷ parts) i =
-    ap (with_notes (m ∷ [])) (word-run s base front parts i) ∙ by_rest-note (frame_of s) (row_of s) base front m parts (outcome (frame_of s) s.margin s.cells parts)
+    ap (with_notes (m ∷ [])) (word-run s base front parts i) ∙ by_rest-note (frame_of s) (open_row_of s) base front m parts (outcome (frame_of s) s.margin s.cells parts)
 word-run s base front (shown cell place ∷ parts) i =
     let wide = passes-later s cell i.later in
     let short = front-short s base front i in
@@ -144,17 +134,17 @@ word-run s base front (shown cell place ∷ parts) i =
       | inl w ↦
           let t = begins (given (counted s cell) (take s.gap s.cells)) (drop s.word s.cells ++ cell ∷ []) in
           rw (wide, w)
-          (ap (λ l. join (row_ended (row_of s) (take s.gap s.cells)) l) (first-run t parts refl)
-          ∙ wide-word (frame_of s) (row_of s) (take s.gap s.cells) base (drop s.word s.cells) front cell place parts i.base_is i.front_is short)
+          (ap (λ l. join (row_ended (open_row_of s) (take s.gap s.cells)) l) (first-run t parts refl)
+          ∙ wide-word (frame_of s) (open_row_of s) (take s.gap s.cells) base (drop s.word s.cells) front cell place parts i.base_is i.front_is short)
       | inr w ↦ elim (cases_Bool (length s.cells == CELLS)) [
         | inl full ↦
             rw (wide, w, full)
-            (ap (λ l. join (full_row_ended (row_of s) s.cells place) l)
-            (first-run (begins (given (counted s cell) s.cells) (cell ∷ [])) parts refl ∙ sym (first-front (frame_of s) (closed (row_of s)) [] cell place parts refl (lit< tt))))
+            (ap (λ l. join (full_row_ended (open_row_of s) s.cells place) l)
+            (first-run (begins (given (counted s cell) s.cells) (cell ∷ [])) parts refl ∙ sym (first-front (frame_of s) (closed (open_row_of s)) [] cell place parts refl (lit< tt))))
         | inr room ↦
             rw (wide, w, room, some)
             (word-run (record (counted s cell) { cells = s.cells ++ cell ∷ [] }) base (front ++ cell ∷ []) parts (in-word-more s base front cell i room)
-            ∙ by_rest-more (frame_of s) (row_of s) base front cell place parts (s.cells ++ cell ∷ []) (outcome (frame_of s) s.margin (s.cells ++ cell ∷ []) parts) short)
+            ∙ by_rest-more (frame_of s) (open_row_of s) base front cell place parts (s.cells ++ cell ∷ []) (outcome (frame_of s) s.margin (s.cells ++ cell ∷ []) parts) short)
       ]
     ]
 
@@ -194,8 +184,8 @@ in-blanks-more s base i room =
     }
 
 pub blanks-run : (s : Sheet) (base : List Cell) (n : ℕ) (place : Place) (parts : List Part) → IsInWord s base []
-    → over (run s (replicate n (spaced place) ++ marks_of parts)) row_of
-    ≡ by_blanks_left (frame_of s) (row_of s) base parts (outcome (frame_of s) s.margin s.cells (replicate n (shown blank place)))
+    → over (run s (replicate n (spaced place) ++ marks_of parts)) open_row_of
+    ≡ by_blanks_left (frame_of s) (open_row_of s) base parts (outcome (frame_of s) s.margin s.cells (replicate n (shown blank place)))
 unfolding run outcome space
 blanks-run s base zero place parts i = word-run s base [] parts i
 blanks-run s base (suc n) place parts i =
@@ -206,21 +196,21 @@ blanks-run s base (suc n) place parts i =
       | inl w ↦
           let t = emptied (given s (take s.gap s.cells)) in
           rw (some, wide, w)
-          (ap (λ l. join (row_ended (row_of s) (take s.gap s.cells)) (over l row_of)) (no-blanks t n place (marks_of parts) refl)
-          ∙ (ap (λ l. join (row_ended (row_of s) (take s.gap s.cells)) l) (first-run t parts refl)
-          ∙ ap (λ cells. join (row_ended (row_of s) cells) (first_word (frame_of s) (closed (row_of s)) parts)) i.base_is))
+          (ap (λ l. join (row_ended (open_row_of s) (take s.gap s.cells)) (over l open_row_of)) (no-blanks t n place (marks_of parts) refl)
+          ∙ (ap (λ l. join (row_ended (open_row_of s) (take s.gap s.cells)) l) (first-run t parts refl)
+          ∙ ap (λ cells. join (row_ended (open_row_of s) cells) (first_word (frame_of s) (closed (open_row_of s)) parts)) i.base_is))
       | inr w ↦ elim (cases_Bool (length s.cells == CELLS)) [
         | inl full ↦
             let t = emptied (given s (take s.gap s.cells)) in
             rw (some, wide, w, full)
-            (ap (λ l. join (full_row_ended (row_of s) (take s.gap s.cells) place) (over l row_of)) (no-blanks t n place (marks_of parts) refl)
-            ∙ (ap (λ l. join (full_row_ended (row_of s) (take s.gap s.cells) place) l) (first-run t parts refl)
-            ∙ ap (λ cells. join (full_row_ended (row_of s) cells place) (first_word (frame_of s) (closed (row_of s)) parts)) i.base_is))
+            (ap (λ l. join (full_row_ended (open_row_of s) (take s.gap s.cells) place) (over l open_row_of)) (no-blanks t n place (marks_of parts) refl)
+            ∙ (ap (λ l. join (full_row_ended (open_row_of s) (take s.gap s.cells) place) l) (first-run t parts refl)
+            ∙ ap (λ cells. join (full_row_ended (open_row_of s) cells place) (first_word (frame_of s) (closed (open_row_of s)) parts)) i.base_is))
         | inr room ↦
             let t : Sheet = record (counted s blank) { cells = s.cells ++ blank ∷ []; word = length s.cells + 1 } in
             rw (some, wide, w, room)
             (blanks-run t base n place parts (in-blanks-more s base i room)
-            ∙ by_blanks_left-more (frame_of s) (row_of s) base (s.cells ++ blank ∷ []) parts (outcome (frame_of s) s.margin (s.cells ++ blank ∷ []) (replicate n (shown blank place))))
+            ∙ by_blanks_left-more (frame_of s) (open_row_of s) base (s.cells ++ blank ∷ []) parts (outcome (frame_of s) s.margin (s.cells ++ blank ∷ []) (replicate n (shown blank place))))
       ]
     ]
 
@@ -250,15 +240,15 @@ opened-in s bound some = record {
 }
 
 one-word-run : (s : Sheet) (w : Word) → length s.cells ≤ CELLS
-    → over (run s (opened ∷ (replicate w.blanks (spaced w.place) ++ marks_of w.parts))) row_of ≡ one_word (frame_of s) (row_of s) w
+    → over (run s (opened ∷ (replicate w.blanks (spaced w.place) ++ marks_of w.parts))) open_row_of ≡ one_word (frame_of s) (open_row_of s) w
 unfolding run
 one-word-run s w bound = elim (cases_Bool (length s.cells == 0)) [
   | inl z ↦
       let gap : length s.cells ≡ 0 = grind (arith, nat_tests, z) in
-      rw z (ap (λ l. over l row_of) (no-blanks (opens s) w.blanks w.place (marks_of w.parts) z) ∙ first-run (opens s) w.parts gap)
+      rw z (ap (λ l. over l open_row_of) (no-blanks (opens s) w.blanks w.place (marks_of w.parts) z) ∙ first-run (opens s) w.parts gap)
   | inr z ↦
       rw z (blanks-run (opens s) s.cells w.blanks w.place w.parts (opened-in s bound z)
-      ∙ by_blanks-whole (frame_of s) (row_of s) w.parts (outcome (frame_of s) s.margin s.cells (replicate w.blanks (shown blank w.place))))
+      ∙ by_blanks-whole (frame_of s) (open_row_of s) w.parts (outcome (frame_of s) s.margin s.cells (replicate w.blanks (shown blank w.place))))
 ]
 
 -- ---- a row has at most CELLS cells
@@ -357,7 +347,7 @@ abbrev pub words_marks : List Word → List Mark
 words_marks [] = []
 words_marks (w ∷ ws) = word_marks w ++ words_marks ws
 
-pub filling-run : (s : Sheet) (ws : List Word) → length s.cells ≤ CELLS → over (run s (words_marks ws)) row_of ≡ filling (frame_of s) (row_of s) ws
+pub filling-run : (s : Sheet) (ws : List Word) → length s.cells ≤ CELLS → over (run s (words_marks ws)) open_row_of ≡ filling (frame_of s) (open_row_of s) ws
 unfolding run filling
 filling-run s [] bound = refl
 filling-run s (w ∷ ws) bound =
@@ -365,10 +355,45 @@ filling-run s (w ∷ ws) bound =
     let x = run s ms in
     let word = one-word-run s w bound in
     let row = ap (λ l. l.edge) word in
-    let next : length x.edge.cells ≤ CELLS = subst (λ (r : Row). length r.cells ≤ CELLS) (sym row) (one-word-bounded (frame_of s) (row_of s) w bound) in
-    ap (λ l. over l row_of)
+    let next : length x.edge.cells ≤ CELLS = subst (λ (r : Row). length r.cells ≤ CELLS) (sym row) (one-word-bounded (frame_of s) (open_row_of s) w bound) in
+    ap (λ l. over l open_row_of)
     (ap (run s) (append_assoc (map told w.notes) ms (words_marks ws)) ∙ (notes-run s w.notes (ms ++ words_marks ws) ∙ ap (with_notes w.notes) (run-append s ms (words_marks ws))))
     ∙ ap (with_notes w.notes)
-    (ap (λ l. join (over x row_of) l) (filling-run x.edge ws next)
-    ∙ (ap (λ f. join (over x row_of) (filling f (row_of x.edge) ws)) (run-frame s ms)
+    (ap (λ l. join (over x open_row_of) l) (filling-run x.edge ws next)
+    ∙ (ap (λ f. join (over x open_row_of) (filling f (open_row_of x.edge) ws)) (run-frame s ms)
     ∙ ap (λ l. seq l (λ r. filling (frame_of s) r ws)) word))
+
+-- ---- from any open row
+
+by_rest-bounded : (frame : Frame) (row : Row) (before front : List Cell) (parts : List Part) (o : Outcome) → length front ≤ CELLS → IsBounded o
+    → length (by_rest frame row before front parts o).edge.cells ≤ CELLS
+by_rest-bounded frame row before front parts (fits notes cells) room h = h
+by_rest-bounded frame row before front parts (too_many notes cells place left) room h = first-bounded frame (closed row) left (lit≤ tt)
+by_rest-bounded frame row before front parts too_wide room h = elim (cases_Bool (length front == 0)) [
+  | inl z ↦ rw z (first-bounded frame (closed row) parts (lit≤ tt))
+  | inr z ↦ rw z (first-bounded frame (row_begun frame (closed row) front) parts room)
+]
+
+pub rest-run : (s : Sheet) (parts : List Part) → IsHeld s
+    → over (run s (marks_of parts)) open_row_of ≡ rest_of_word (frame_of s) (open_row_of s) (take s.gap s.cells) (drop s.word s.cells) parts
+rest-run s parts h =
+    let len : length (take s.gap s.cells) ≡ s.gap = length-take-le s.gap s.cells (omega (arith, h.gap_within, h.word_within)) in
+    elim (cases_Bool (length (take s.gap s.cells) == 0)) [
+      | inl z ↦ let start : s.gap ≡ 0 = grind (arith, nat_tests, len, z) in rw z (first-run s parts start)
+      | inr z ↦
+          let later : 0 < s.gap = grind (arith, nat_tests, len, z) in
+          let i : IsInWord s (take s.gap s.cells) (drop s.word s.cells) =
+          record { later = later; base_is = refl; front_is = refl; gap_within = h.gap_within; word_within = h.word_within; bounded = h.bounded } in
+          rw z (word-run s (take s.gap s.cells) (drop s.word s.cells) parts i)
+    ]
+
+pub rest-bounded : (s : Sheet) (parts : List Part) → IsHeld s
+    → length (rest_of_word (frame_of s) (open_row_of s) (take s.gap s.cells) (drop s.word s.cells) parts).edge.cells ≤ CELLS
+rest-bounded s parts h =
+    let len : length (drop s.word s.cells) ≡ length s.cells - s.word = length-drop s.word s.cells in
+    elim (cases_Bool (length (take s.gap s.cells) == 0)) [
+      | inl z ↦ rw z (first-bounded (frame_of s) (open_row_of s) parts h.bounded)
+      | inr z ↦
+          let o = outcome (frame_of s) s.margin s.cells parts in
+          rw z (by_rest-bounded (frame_of s) (open_row_of s) (take s.gap s.cells) (drop s.word s.cells) parts o (omega (arith, len, h.bounded)) (outcome-bounded (frame_of s) s.margin s.cells parts h.bounded))
+    ]

@@ -6,3 +6,4 @@ pub mod WordLaw
 pub mod Examples
 pub mod FilledWords
 pub mod FilledPieces
+pub mod HeldSheets

@@ -119,6 +119,23 @@ one_word frame row word =
     if length row.cells == 0 then first_word frame row word.parts
     else by_blanks frame row word.parts (outcome frame row.margin row.cells (replicate word.blanks (shown blank word.place)))
 
+-- ---- the open row's last word
+
+-- the next row with these cells, none where it has not begun
+abbrev pub started : Frame → Row → List Cell → Row
+started frame row cells = if length cells == 0 then row else row_begun frame row cells
+
+-- the word goes on: the row takes its parts, or ends before the word, of which some cells stand in the row, or in it
+abbrev pub by_rest : Frame → Row → (before front : List Cell) → List Part → Outcome → Laid Row
+by_rest frame row before front parts (fits notes cells) = with_notes notes (nothing (with_cells row cells))
+by_rest frame row before front parts too_wide = seq (row_ended row before) (λ r. first_word frame (started frame r front) parts)
+by_rest frame row before front parts (too_many notes cells place left) = with_notes notes (seq (full_row_ended row cells place) (λ r. first_word frame r left))
+
+-- the last word of a row goes on with these parts, where the row has these cells before it and its blanks, and these of it
+abbrev pub rest_of_word : Frame → Row → (before front : List Cell) → List Part → Laid Row
+rest_of_word frame row before front parts =
+    if length before == 0 then first_word frame row parts else by_rest frame row before front parts (outcome frame row.margin row.cells parts)
+
 -- ---- words one after another
 
 unfoldable pub filling : Frame → Row → List Word → Laid Row

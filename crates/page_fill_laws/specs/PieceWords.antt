@@ -1,12 +1,13 @@
 -- The words of pieces between two breaks: each with the blanks before it, and its parts, cells and messages. Parts that are glued are one word.
 -- Source: roff(7), "Filling and adjusting".
-use Rattle.std.specs.Prelude.{ℕ, Bool, true, false, not, ◌&&◌, ◌||◌, ◌==◌, List, [], ◌∷◌, ◌++◌, length, map, replicate, if◌then◌else◌}
+use Rattle.std.specs.Prelude.{ℕ, ◌≤◌, Bool, true, false, not, ◌&&◌, ◌||◌, ◌==◌, List, [], ◌∷◌, ◌++◌, length, take, drop, map, replicate, if◌then◌else◌}
 use Rattle.page_core_base.specs.declared.cells.Cell.{Cell}
 use Rattle.page_core_base.specs.declared.cells.Font.{Font}
 use Rattle.page_core_base.specs.declared.page_settings.Output.{Output}
 use Rattle.page_core_base.specs.declared.pieces.Piece.{Piece}
 use Rattle.page_core_base.specs.declared.pieces.Piece.TheVariants.{Text, Glyph, Char, Tab, Blank, Glue, Break, Para, Space, Indent, Literal, Tag, TagEnd, Heading, Column}
 use Rattle.page_core_base.specs.declared.places.Place.{Place}
+use Rattle.page_core_limits.specs.declared.TheConstants.{CELLS}
 use Rattle.page_core_tables.specs.Printed.{Printing, char_printed, glyph_printed}
 use Rattle.page_fill.specs.declared.words.OpenWord.{OpenWord}
 use Rattle.page_fill.specs.declared.words.Edge.{Edge}
@@ -14,7 +15,8 @@ use Rattle.page_fill.specs.Sheets.{Sheet, blank}
 use Rattle.page_fill.specs.Characters.{cell_of, cells_of, characters_of, unknown_notes}
 use Rattle.page_fill.specs.Fill.{tab_notes}
 use Rattle.page_fill_laws.specs.InWords.{after_cell, word_after}
-use Rattle.page_fill_laws.specs.Filled.{Part, shown, noted, Word, Frame, Row}
+use Rattle.page_fill_laws.specs.Filled.{Part, shown, noted, Word, Frame, Row, rest_of_word, filling}
+use Rattle.page_core_base.specs.Laid.{Laid, seq}
 
 -- ---- parts
 
@@ -71,11 +73,24 @@ words_of output literal empty w (p ∷ ps) = words_from output literal empty w p
 abbrev pub frame_of : Sheet → Frame
 frame_of s = record { width = s.width; fills = not s.literal; rest = s.rest }
 
-abbrev pub row_of : Sheet → Row
-row_of s = record { margin = s.margin; cells = s.cells; next = s.first }
+abbrev pub open_row_of : Sheet → Row
+open_row_of s = record { margin = s.margin; cells = s.cells; next = s.first }
 
 -- the words of pieces from an edge without an open row: parts that go on with a word begin one
 abbrev pub words_between : Edge → List (Piece (List ℕ)) → List Word
 words_between e ps =
     let words = words_of e.output e.sheet.literal true e.word ps in
     record { notes = []; blanks = 0; place = record { line = 0; column = 0 }; parts = words.first } ∷ words.later
+
+-- pieces go on from any edge: parts may go on with the open row's last word, and the words after it follow
+abbrev pub going_on : Edge → List (Piece (List ℕ)) → Laid Row
+going_on e ps =
+    let s = e.sheet in
+    let words = words_of e.output s.literal (length s.cells == 0) e.word ps in
+    seq (rest_of_word (frame_of s) (open_row_of s) (take s.gap s.cells) (drop s.word s.cells) words.first) (λ r. filling (frame_of s) r words.later)
+
+-- the places of the open row's last word lie within the row, which has at most CELLS cells: so it is at each edge that a page comes to
+pub record IsHeld (s : Sheet) : Type 0 where
+  pub gap_within : s.gap ≤ s.word
+  pub word_within : s.word ≤ length s.cells
+  pub bounded : length s.cells ≤ CELLS

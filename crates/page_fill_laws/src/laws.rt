@@ -12,7 +12,9 @@ ghost use Rattle.page_fill.specs.Fill as fill;
 ghost use Rattle.page_fill.specs.declared.words.Edge.{Edge};
 ghost use Rattle.page_fill.specs.Sheets as sheet;
 ghost use Rattle.page_fill.specs.Sheets.{Sheet};
+ghost use Rattle.page_fill_laws.specs.Filled.{filled};
 ghost use Rattle.page_fill_laws.specs.InWords as words;
+ghost use Rattle.page_fill_laws.specs.PieceWords.{IsHeld, frame_of, going_on, open_row_of, words_between};
 ghost use Rattle.page_fill_laws.specs.Words as row;
 
 /// Pieces of words fill rows as the definition in words says: each row ends at its first offending cell. That premise on the open word holds from
@@ -22,6 +24,18 @@ pub fn fill_law()
         → fill.laid e ps ≡ words.laid_in_words e ps }
     ensures start { words.is_sound fill.no_word ≡ true }
     ensures sound { (e : Edge) (p : Piece (List ℕ)) → words.is_sound e.word ≡ true → words.is_sound (fill.laid_piece e p).edge.word ≡ true }
+{}
+
+/// Between two breaks, rows, messages and the open row are those of the definition by words: from an edge without an open row on, up to and with the
+/// break that ends the last row; and from any edge on, by the cells of its open row. The premises on the sheet and the open word hold from the start of a page on.
+pub fn filled_law()
+    ensures rows { (e : Edge) (ps : List (Piece (List ℕ))) → e.sheet.cells ≡ [] → IsHeld e.sheet → words.is_sound e.word ≡ true
+        → words.are_of_words e.sheet.literal ps ≡ true
+        → sheet.over (fill.filled e ps) (λ f. open_row_of f.sheet) ≡ filled (frame_of e.sheet) (open_row_of e.sheet) (words_between e ps) }
+    ensures any { (e : Edge) (ps : List (Piece (List ℕ))) → IsHeld e.sheet → words.is_sound e.word ≡ true
+        → words.are_of_words e.sheet.literal ps ≡ true → sheet.over (fill.laid e ps) (λ f. open_row_of f.sheet) ≡ going_on e ps }
+    ensures start { (width : ℕ) → IsHeld (sheet.fresh width) }
+    ensures kept { (e : Edge) (p : Piece (List ℕ)) → IsHeld e.sheet → IsHeld (fill.laid_piece e p).edge.sheet }
 {}
 
 /// Texts that are glued are one word, whatever blanks stand between them.

@@ -9,7 +9,7 @@ use std::alloc::Global;
 use std::process::Abort;
 use std::test::Fail;
 
-// Appends the line that waits: each message as its kind, line, column and detail, then its number and its text.
+// Shows the line that waits: each message as its kind, line, column and detail, then its number and its text.
 fn show_line(alloc: Global, cutter: &mut Cutter, shown: &mut String) -> Result<(), Fail>
     requires { cutter.old.ready ≡ true }
     ensures ready { OnOk result (cutter.new.ready ≡ false) }
@@ -42,7 +42,8 @@ fn feed_all(
     requires ready { cutter.old.ready ≡ false }
     requires consumed { cutter.old.point.line.consumed + length chunk.now < 2 ^ 31 }
     ensures ready { OnOk result (cutter.new.ready ≡ false) }
-    ensures consumed { OnOk result (cutter.new.point.line.consumed ≤ cutter.old.point.line.consumed + length chunk.now) }
+    ensures consumed { OnOk result (cutter.new.point.line.consumed
+        ≤ cutter.old.point.line.consumed + length chunk.now) }
 {
     let mut at = 0;
     'parts: for _ in 0..chunk.len() {
@@ -390,7 +391,12 @@ impl NoteSink for Counting {
 
     ghost loans = { λ _. tt };
 
-    ghost laws = { record { none = λ _. tt; more = λ _ _ _ _ _ _ _. tt; after = λ _ _ _ _ _ _ _. tt; before = λ _ _ _ _ _. tt } };
+    ghost laws = { record {
+      none = λ _. tt;
+      more = λ _ _ _ _ _ _ _. tt;
+      after = λ _ _ _ _ _ _ _. tt;
+      before = λ _ _ _ _ _. tt;
+    } };
 
     ghost whole = { λ _ _ _ _. tt };
 

@@ -8,7 +8,7 @@ use crate::quotes::{Argument, argument_len, first_argument};
 use page_core_limits::LINE;
 use std::marker::Model;
 
-/// Reads the arguments of a control line, one after another. Contracts see the list of those that are still to be read.
+/// Reads the arguments of a control line, one after another. Contracts see the list of those still to be read.
 #[derive(Drop)]
 pub struct Arguments<'a> {
     rest: &'a [u8],

@@ -25,8 +25,8 @@ sequence_length text =
     if is_second x (slice_index text 1) then
     (if is_in_range 0xC2 0xDF x then 2
     else (if is_in_range 0xE0 0xEF x && is_later (slice_index text 2) then 3
-    else (if is_in_range 0xF0 0xF4 x && (is_later (slice_index text 2) && is_later (slice_index text 3)) then 4
-    else 0)))
+    else (if is_in_range 0xF0 0xF4 x && (is_later (slice_index text 2) && is_later (slice_index text 3))
+    then 4 else 0)))
     else 0
 
 -- a character of a line, as UTF-8; or a byte that is none

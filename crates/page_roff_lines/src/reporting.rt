@@ -56,8 +56,8 @@ fn report_front<N: NoteSink>(
     column: u32,
     notes: &mut N,
 ) -> Result<(), Fault>
-    ensures gives { (text : List ℕ)
-        → Gives result N.gave N.within notes.old (notes_of number column (as_character front text)) notes.new }
+    ensures gives { (text : List ℕ) → Gives result N.gave N.within notes.old
+        (notes_of number column (as_character front text)) notes.new }
     ensures fault { FailsAs Fault.WriteNotes result (N.failed notes.old) (N.failed notes.new) }
     ensures same { N.loans notes.new ≡ N.loans notes.old }
 {

@@ -1,5 +1,5 @@
 use Rattle.std.proofs.Common.{◌-◌, length, take, drop, ap, ap₂, ◌∙◌}
-use Rattle.page_core_escapes.specs.Meanings.{meaning_by, lettered_meaning}
+use Rattle.page_core_escapes.specs.Meanings.{meaning_by, letter_meaning}
 use Rattle.page_core_escapes.proofs.Unwinding.{slice_from}
 use Rattle.page_core_escapes.proofs.MeaningLemmas.{meaning_of-short, meaning_of-parts}
 use Rattle.page_core_escapes.proofs.meaning.read_meaning.Goals as goal
@@ -11,5 +11,5 @@ pub returns : goal.returns
 returns c =
     let t = c.args.escape.now in
     c.meaning_by.ensures ∙ ap (λ a. meaning_by c.letter_of-letter.result.kind a (take (length t - 1) (drop 1 t))) c.argument.ensures
-    ∙ ap₂ lettered_meaning c.letter_of-letter.ensures (slice_from t 1)
+    ∙ ap₂ letter_meaning c.letter_of-letter.ensures (slice_from t 1)
     ∙ meaning_of-parts t c.if-escape-lt2.false
