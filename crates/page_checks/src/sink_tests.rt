@@ -86,7 +86,8 @@ impl RowSink for Rows {
     ghost whole = { λ _ _ _ _. tt };
 
     fn row(&mut self, margin: u32, cells: &[Cell]) -> Result<(), Fault> {
-        let _ = (margin, cells);
+        let _ = margin;
+        let _ = cells.len();
         self.calls = self.calls.saturating_add(1);
         if self.calls == self.failing {
             self.failures = self.failures.saturating_add(1);
@@ -129,7 +130,7 @@ impl NoteSink for Notes {
     ghost whole = { λ _ _ _ _. tt };
 
     fn note(&mut self, note: &Note) -> Result<(), Fault> {
-        let _ = note;
+        let _ = note.kind;
         self.calls = self.calls.saturating_add(1);
         if self.calls == self.failing {
             self.failures = self.failures.saturating_add(1);
