@@ -13,8 +13,8 @@ use page_core_base::{Cell, Font, Note, NoteKind, Output, Place, RowOut};
 use page_core_tables::{Printed, printed_char, printed_glyph};
 
 /// Whether bytes are printable ASCII, of a column each.
-pub(crate) fn is_plain(bytes: &[u8]) -> bool
-    ensures { result ≡ plain.is_plain bytes.now }
+pub(crate) fn is_printable_ascii(bytes: &[u8]) -> bool
+    ensures { result ≡ plain.is_printable_ascii bytes.now }
 {
     for byte in bytes {
         if *byte < b' ' || b'~' < *byte {
@@ -32,8 +32,9 @@ pub(crate) fn put_plain<O: RowOut>(
     place: Place,
     out: &mut O,
 )
-    requires { plain.is_plain bytes.now ≡ true }
-    ensures { LaysOut O.left out.old (sheet.letters row.old (shown.cells_of font bytes.now) place) out.new row.new }
+    requires { plain.is_printable_ascii bytes.now ≡ true }
+    ensures { LaysOut O.left out.old (sheet.letters row.old
+        (shown.cells_of font bytes.now) place) out.new row.new }
 {
     if !bytes.is_empty() && row.has_room(bytes.len()) {
         row.add_plain(bytes, font);
@@ -44,7 +45,8 @@ pub(crate) fn put_plain<O: RowOut>(
 
 // Puts cells of bytes, each a character.
 fn put_bytes<O: RowOut>(row: &mut OpenRow, bytes: &[u8], font: Font, place: Place, out: &mut O)
-    ensures { LaysOut O.left out.old (sheet.letters row.old (shown.cells_of font bytes.now) place) out.new row.new }
+    ensures { LaysOut O.left out.old (sheet.letters row.old
+        (shown.cells_of font bytes.now) place) out.new row.new }
 {
     for byte in bytes {
         let cell = Cell {
@@ -57,7 +59,8 @@ fn put_bytes<O: RowOut>(row: &mut OpenRow, bytes: &[u8], font: Font, place: Plac
 
 // Reports that there is no glyph, and puts what stands for it.
 fn put_unknown<O: RowOut>(row: &mut OpenRow, detail: &[u8], font: Font, place: Place, out: &mut O)
-    ensures { LaysOut O.left out.old (shown.put row.old (unknown_text detail.now) font place) out.new row.new }
+    ensures { LaysOut O.left out.old (shown.put row.old
+        (unknown_text detail.now) font place) out.new row.new }
 {
     out.report(&Note::about(NoteKind::NoGlyph, place, detail));
     put_bytes(row, b"<?>", font, place, out);
@@ -65,7 +68,8 @@ fn put_unknown<O: RowOut>(row: &mut OpenRow, detail: &[u8], font: Font, place: P
 
 // Puts a cell of a character.
 fn put_char<O: RowOut>(row: &mut OpenRow, c: char, font: Font, place: Place, out: &mut O)
-    ensures { LaysOut O.left out.old (sheet.letters row.old (shown.cells_of font (c ∷ [])) place) out.new row.new }
+    ensures { LaysOut O.left out.old (sheet.letters row.old (shown.cells_of font
+        (c ∷ [])) place) out.new row.new }
 {
     row.put_letter(Cell { c, font }, place, out);
 }
@@ -78,7 +82,8 @@ fn put_printed<O: RowOut>(
     place: Place,
     out: &mut O,
 )
-    ensures { LaysOut O.left out.old (shown.put row.old (printed_seen printed.entry) font place) out.new row.new }
+    ensures { LaysOut O.left out.old (shown.put row.old
+        (printed_seen printed.entry) font place) out.new row.new }
 {
     match printed {
         Printed::Char(c) => put_char(row, c, font, place, out),
@@ -115,7 +120,8 @@ pub(crate) fn put_characters<O: RowOut>(
     place: Place,
     out: &mut O,
 )
-    ensures { LaysOut O.left out.old (shown.characters output row.old (chars text.now) font place) out.new row.new }
+    ensures { LaysOut O.left out.old (shown.characters output row.old
+        (chars text.now) font place) out.new row.new }
 {
     for c in text.chars() {
         put_character(row, output, c, font, place, out);

@@ -48,7 +48,8 @@ fn fill_piece<R: RowSink, N: NoteSink>(
     ensures gets { Gets result R.gave R.within N.gave N.within rows.old rows.new notes.old notes.new
         (fill.laid_piece edge.old (piece_of piece.entry)) }
     ensures edge { edge.new ≡ (fill.laid_piece edge.old (piece_of piece.entry)).edge }
-    ensures faults { FailsBySink result (R.failed rows.old) (R.failed rows.new) (N.failed notes.old) (N.failed notes.new) }
+    ensures faults { FailsBySink result (R.failed rows.old) (R.failed rows.new) (N.failed notes.old)
+        (N.failed notes.new) }
     ensures rows_same { R.loans rows.new ≡ R.loans rows.old }
     ensures notes_same { N.loans notes.new ≡ N.loans notes.old }
 {
@@ -63,8 +64,10 @@ fn end_filling<R: RowSink, N: NoteSink>(
     rows: &mut R,
     notes: &mut N,
 ) -> Result<(), Fault>
-    ensures gets { Gets result R.gave R.within N.gave N.within rows.old rows.new notes.old notes.new (fill.ended edge.old) }
-    ensures faults { FailsBySink result (R.failed rows.old) (R.failed rows.new) (N.failed notes.old) (N.failed notes.new) }
+    ensures gets { Gets result R.gave R.within N.gave N.within rows.old rows.new notes.old notes.new
+        (fill.ended edge.old) }
+    ensures faults { FailsBySink result (R.failed rows.old) (R.failed rows.new) (N.failed notes.old)
+        (N.failed notes.new) }
     ensures rows_same { R.loans rows.new ≡ R.loans rows.old }
     ensures notes_same { N.loans notes.new ≡ N.loans notes.old }
 {
@@ -136,10 +139,16 @@ impl Filler {
         rows: &mut R,
         notes: &mut N,
     ) -> Result<(), Fault>
-        ensures gets { (e : fill.Edge) → self.old ≡ Some e → Gets result R.gave R.within N.gave N.within rows.old rows.new notes.old notes.new (fill.laid_piece e (piece_of piece.entry)) }
-        ensures edge { (e : fill.Edge) → self.old ≡ Some e → OnOk result (self.new ≡ Some (fill.laid_piece e (piece_of piece.entry)).edge) }
-        ensures faults { (e : fill.Edge) → self.old ≡ Some e → FailsBySink result (R.failed rows.old) (R.failed rows.new) (N.failed notes.old) (N.failed notes.new) }
-        ensures closed { self.old ≡ None → (result ≡ Err Fault.Failed) × (rows.new ≡ rows.old) × (notes.new ≡ notes.old) }
+        ensures gets { (e : fill.Edge) → self.old ≡ Some e
+            → Gets result R.gave R.within N.gave N.within rows.old rows.new notes.old notes.new
+            (fill.laid_piece e (piece_of piece.entry)) }
+        ensures edge { (e : fill.Edge) → self.old ≡ Some e
+            → OnOk result (self.new ≡ Some (fill.laid_piece e (piece_of piece.entry)).edge) }
+        ensures faults { (e : fill.Edge) → self.old ≡ Some e
+            → FailsBySink result (R.failed rows.old) (R.failed rows.new)
+            (N.failed notes.old) (N.failed notes.new) }
+        ensures closed { self.old ≡ None → (result ≡ Err Fault.Failed)
+            × (rows.new ≡ rows.old) × (notes.new ≡ notes.old) }
         ensures stops { OnErr result (self.new ≡ None) }
         ensures rows_same { R.loans rows.new ≡ R.loans rows.old }
         ensures notes_same { N.loans notes.new ≡ N.loans notes.old }
@@ -160,9 +169,13 @@ impl Filler {
         rows: &mut R,
         notes: &mut N,
     ) -> Result<(), Fault>
-        ensures gets { (e : fill.Edge) → self.old ≡ Some e → Gets result R.gave R.within N.gave N.within rows.old rows.new notes.old notes.new (fill.ended e) }
-        ensures faults { (e : fill.Edge) → self.old ≡ Some e → FailsBySink result (R.failed rows.old) (R.failed rows.new) (N.failed notes.old) (N.failed notes.new) }
-        ensures closed { self.old ≡ None → (result ≡ Err Fault.Failed) × (rows.new ≡ rows.old) × (notes.new ≡ notes.old) }
+        ensures gets { (e : fill.Edge) → self.old ≡ Some e
+            → Gets result R.gave R.within N.gave N.within rows.old rows.new notes.old notes.new (fill.ended e) }
+        ensures faults { (e : fill.Edge) → self.old ≡ Some e
+            → FailsBySink result (R.failed rows.old) (R.failed rows.new)
+            (N.failed notes.old) (N.failed notes.new) }
+        ensures closed { self.old ≡ None → (result ≡ Err Fault.Failed)
+            × (rows.new ≡ rows.old) × (notes.new ≡ notes.old) }
         ensures ended { self.new ≡ None }
         ensures rows_same { R.loans rows.new ≡ R.loans rows.old }
         ensures notes_same { N.loans notes.new ≡ N.loans notes.old }

@@ -10,5 +10,6 @@ pub fn cut_law()
     ensures laid { (e : fill.Edge) (front rest : List (Piece (List ℕ)))
         → fill.laid e (front ++ rest) ≡ join (fill.laid e front) (fill.laid (fill.laid e front).edge rest) }
     ensures filled { (e : fill.Edge) (front rest : List (Piece (List ℕ)))
-        → fill.filled e (front ++ rest) ≡ join (fill.laid e front) (fill.filled (fill.laid e front).edge rest) }
+        → fill.filled e (front ++ rest) ≡ join (fill.laid e front) (fill.filled
+        (fill.laid e front).edge rest) }
 {}

@@ -201,7 +201,8 @@ impl OpenRow {
     // Gives a front of the open row as a row, and reports that it has too many cells.
     fn give_full<O: RowOut>(&mut self, end: usize, place: Place, out: &mut O)
         requires { end ≤ length self.old.cells }
-        ensures { LaysOut O.left out.old (sheet.gives_full self.old (take end self.old.cells) place) out.new self.new }
+        ensures { LaysOut O.left out.old
+            (sheet.gives_full self.old (take end self.old.cells) place) out.new self.new }
     {
         self.give(end, out);
         out.report(&cells_note(place));
@@ -260,7 +261,11 @@ impl OpenRow {
     // The open row takes a blank before its next word.
     fn add_space(&mut self)
         requires { length self.old.cells < CELLS }
-        ensures { self.new ≡ record self.old { cells = self.old.cells ++ sheet.blank ∷ []; word = length self.old.cells + 1 } }
+        ensures { self.new ≡ record self.old {
+          cells = self.old.cells ++ sheet.blank ∷ [];
+          word = length
+              self.old.cells + 1;
+        } }
     {
         self.columns += cell_columns(BLANK);
         self.row.push_reserved(BLANK);
@@ -298,7 +303,9 @@ impl OpenRow {
 
     // The row ends before a blank that passes the width.
     fn end_before_space<O: RowOut>(&mut self, out: &mut O)
-        ensures { LaysOut O.left out.old (sheet.over (sheet.gives self.old (take self.old.gap self.old.cells)) sheet.emptied) out.new self.new }
+        ensures { LaysOut O.left out.old
+            (sheet.over (sheet.gives self.old (take self.old.gap self.old.cells)) sheet.emptied)
+            out.new self.new }
     {
         let gap = self.gap;
         self.give(gap, out);
@@ -307,14 +314,16 @@ impl OpenRow {
 
     // The full row ends before a blank.
     fn split_before_space<O: RowOut>(&mut self, place: Place, out: &mut O)
-        ensures { LaysOut O.left out.old (sheet.over (sheet.gives_full self.old (take self.old.gap self.old.cells) place) sheet.emptied) out.new self.new }
+        ensures { LaysOut O.left out.old
+            (sheet.over (sheet.gives_full self.old (take self.old.gap self.old.cells) place) sheet.emptied)
+            out.new self.new }
     {
         let gap = self.gap;
         self.give_full(gap, place, out);
         self.empty();
     }
 
-    /// Whether the row takes so many cells of a column each before it ends.
+    /// Whether the row takes this count of cells of a column each before it ends.
     pub(crate) fn has_room(&self, count: usize) -> bool
         ensures { result ≡ plain.has_room self.now count }
     {
@@ -325,7 +334,7 @@ impl OpenRow {
         self.is_literal || self.gap == 0 || columns <= u64::from(self.width)
     }
 
-    /// Whether a filled row takes a blank and so many cells of a column each behind it before it ends.
+    /// Whether a filled row takes a blank and this count of cells of a column each after it before it ends.
     pub(crate) fn has_word_room(&self, count: usize) -> bool
         ensures { result ≡ plain.has_word_room self.now count }
     {
@@ -336,9 +345,9 @@ impl OpenRow {
         columns <= u64::from(self.width)
     }
 
-    /// The row takes a blank, and behind it a word of bytes that are a column each.
+    /// The row takes a blank, and after it a word of bytes that are a column each.
     pub(crate) fn add_word(&mut self, bytes: &[u8], font: Font)
-        requires plain { plain.is_plain bytes.now ≡ true }
+        requires plain { plain.is_printable_ascii bytes.now ≡ true }
         requires room { length self.old.cells + 1 + length bytes.now ≤ CELLS }
         ensures { self.new ≡ plain.taken (plain.spaced self.old) (shown.cells_of font bytes.now) }
     {
@@ -350,7 +359,7 @@ impl OpenRow {
 
     /// The row takes cells of bytes that are a column each.
     pub(crate) fn add_plain(&mut self, bytes: &[u8], font: Font)
-        requires plain { plain.is_plain bytes.now ≡ true }
+        requires plain { plain.is_printable_ascii bytes.now ≡ true }
         requires room { length self.old.cells + length bytes.now ≤ CELLS }
         ensures { self.new ≡ plain.taken self.old (shown.cells_of font bytes.now) }
     {

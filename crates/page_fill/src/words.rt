@@ -8,7 +8,7 @@ ghost use Rattle.page_fill.specs.Fill as fill;
 ghost use Rattle.page_fill.specs.Plain as plain;
 
 use crate::cell_widths::columns;
-use crate::characters::{is_plain, put_character, put_characters, put_glyph, put_plain};
+use crate::characters::{is_printable_ascii, put_character, put_characters, put_glyph, put_plain};
 use crate::sheets::OpenRow;
 use crate::{HANG_MAX, TAB_STOP};
 use page_core_base::{Cell, Font, Note, NoteKind, Output, Place, RowOut, TagForm};
@@ -33,7 +33,7 @@ pub(crate) struct OpenWord {
 /// The open tag.
 #[derive(Clone, Copy)]
 pub(crate) struct OpenTag {
-    /// The columns that it may take with a blank behind it.
+    /// The columns that it may take with a blank after it.
     pub(crate) hang: u32,
     /// What follows it.
     pub(crate) form: TagForm,
@@ -169,7 +169,7 @@ impl Edge {
         put_characters(&mut self.sheet, self.output, text, font, place, out);
     }
 
-    // Whether the next word, with so many cells of a column each, goes into the row behind one blank.
+    // Whether the next word, with this count of cells of a column each, goes into the row after one blank.
     fn takes_word(&self, count: usize) -> bool
         ensures { result ≡ plain.takes_word self.now count }
     {
@@ -180,7 +180,7 @@ impl Edge {
     // Takes a plain text.
     #[tactic(auto, unfolding(crate::specs::Fill::text))]
     fn plain<O: RowOut>(&mut self, bytes: &[u8], font: Font, place: Place, out: &mut O)
-        requires { plain.is_plain bytes.now ≡ true }
+        requires { plain.is_printable_ascii bytes.now ≡ true }
         ensures { LaysOut O.left out.old (fill.text self.old bytes.now font place) out.new self.new }
     {
         if bytes.is_empty() {
@@ -198,9 +198,10 @@ impl Edge {
 
     /// Takes bytes that are a text.
     pub(crate) fn bytes<O: RowOut>(&mut self, bytes: &[u8], font: Font, place: Place, out: &mut O)
-        ensures { LaysOut O.left out.old (fill.text self.old (characters_of bytes.now) font place) out.new self.new }
+        ensures { LaysOut O.left out.old (fill.text self.old
+            (characters_of bytes.now) font place) out.new self.new }
     {
-        if is_plain(bytes) {
+        if is_printable_ascii(bytes) {
             return self.plain(bytes, font, place, out);
         }
         match str::from_utf8(bytes) {
@@ -322,7 +323,8 @@ impl Edge {
 
     /// The tag ends.
     pub(crate) fn end_tag<O: RowOut>(&mut self, out: &mut O)
-        ensures { LaysOut O.left out.old (fill.tag_ended (fill.without_tag self.old) self.old.tag) out.new self.new }
+        ensures { LaysOut O.left out.old (fill.tag_ended
+            (fill.without_tag self.old) self.old.tag) out.new self.new }
     {
         let Some(tag) = self.tag else {
             return;
@@ -333,7 +335,7 @@ impl Edge {
         }
     }
 
-    /// The next word stands at a column, or a blank behind it.
+    /// The next word stands at a column, or a blank after the last cell.
     pub(crate) fn column(&mut self, column: u32)
         ensures { self.new ≡ (fill.placed self.old (fill.to_column self.old.sheet.cells column)).edge }
     {

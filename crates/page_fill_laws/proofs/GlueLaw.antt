@@ -67,18 +67,18 @@ two-texts e xs ys font place new some more =
 seq-nothing : (l : Laid Edge) → seq l (λ f. nothing f) ≡ l
 seq-nothing l = rw (append-nil l.rows, append-nil l.notes) refl
 
--- what comes behind the first text: blanks that wait, glue and the second text
-abbrev pub behind_first : ℕ → Bool → List ℕ → Font → Place → Edge → Laid Edge
-behind_first n has_tab ys font place f =
+-- what comes after the first text: blanks that wait, glue and the second text
+abbrev pub after_first : ℕ → Bool → List ℕ → Font → Place → Edge → Laid Edge
+after_first n has_tab ys font place f =
     seq (nothing (record f { word = blanks_wait f.word n has_tab })) (λ g. seq (nothing (record g { word = glued_word g.word })) (λ h. seq (text h ys font place) (λ i. nothing i)))
 
 glued : (e : Edge) (xs ys : List ℕ) (font : Font) (place : Place) (n : ℕ) (has_tab : Bool) → e.word.is_joined ≡ false → (length xs == 0) ≡ false → (length (xs ++ ys) == 0) ≡ false
-    → seq (text e xs font place) (behind_first n has_tab ys font place) ≡ text e (xs ++ ys) font place
+    → seq (text e xs font place) (after_first n has_tab ys font place) ≡ text e (xs ++ ys) font place
 glued e xs ys font place n has_tab new some more =
     let told = tells_tab e in
     let z = seq (begun_sheet e place) (λ s. characters e.output s xs font place) in
     let first = new-text e xs font place new some in
-    ap (λ (l : Laid Edge). seq l (behind_first n has_tab ys font place)) first
+    ap (λ (l : Laid Edge). seq l (after_first n has_tab ys font place)) first
     ∙ (ap (λ (l : Laid Edge). join (over z (going e told)) l) (seq-nothing (text (going e told z.edge) ys font place))
     ∙ (ap (λ (l : Laid Edge). seq l (λ f. text (going f f.word.is_told f.sheet) ys font place)) (sym first)
     ∙ two-texts e xs ys font place new some more))

@@ -223,21 +223,21 @@ passes-past : (s : Sheet) → s.literal ≡ false → 0 < s.gap → s.width < s.
 passes-past s fill later h = grind (arith, nat_tests)
 
 -- blanks of which the first ones fit, and the next ends the row
-blanks-behind : (s : Sheet) (n k m : ℕ) (place : Place) (f : Sheet) → n ≡ k + suc m → new_word s k false place ≡ nothing f
+blanks-after_end : (s : Sheet) (n k m : ℕ) (place : Place) (f : Sheet) → n ≡ k + suc m → new_word s k false place ≡ nothing f
     → space f place ≡ over (gives f s.cells) emptied → spaces (emptied (given f s.cells)) m place ≡ nothing (emptied (given f s.cells))
     → new_word s n false place ≡ over (gives f s.cells) emptied
 unfolding spaces
-blanks-behind s n k m place f parts front step later =
+blanks-after_end s n k m place f parts front step later =
     let split = spaces-append (opens s) k (suc m) place in
     ap (λ i. spaces (opens s) i place) parts
     ∙ (split ∙ (ap (λ (l : Laid Sheet). seq l (λ t. seq (space t place) (λ u. spaces u m place))) front
     ∙ (ap (λ (l : Laid Sheet). seq l (λ u. spaces u m place)) step
     ∙ ap (λ (l : Laid Sheet). join (over (gives f s.cells) emptied) l) later)))
 
-pub word-behind : (s : Sheet) (n : ℕ) (c : Cell) (cs : List Cell) (place : Place) → s.literal ≡ false → 0 < length s.cells → 0 < n → length s.cells + n ≤ CELLS
+pub word-after_end : (s : Sheet) (n : ℕ) (c : Cell) (cs : List Cell) (place : Place) → s.literal ≡ false → 0 < length s.cells → 0 < n → length s.cells + n ≤ CELLS
     → s.width < s.margin + columns s.cells + n → length (c ∷ cs) ≤ CELLS
     → seq (new_word s n false place) (λ t. letters t (c ∷ cs) place) ≡ word_after_end s (c ∷ cs)
-word-behind s n c cs place fill some blanks room past short =
+word-after_end s n c cs place fill some blanks room past short =
     let k = fitting s in
     let m = n - (k + 1) in
     let parts : n ≡ k + suc m = omega arith in
@@ -252,6 +252,6 @@ word-behind s n c cs place fill some blanks room past short =
     let e = emptied (given f s.cells) in
     let step : space f place ≡ over (gives f s.cells) emptied = space-passes f place (omega arith) over_now ∙ ap (λ l. over (gives f l) emptied) row in
     let later = spaces-none e m place refl in
-    let whole : new_word s n false place ≡ over (gives f s.cells) emptied = blanks-behind s n k m place f parts front step later in
+    let whole : new_word s n false place ≡ over (gives f s.cells) emptied = blanks-after_end s n k m place f parts front step later in
     let word = letters-begin e c cs place refl refl short in
     rw (whole, word, tally-append s.tag_columns (replicate k blank) (c ∷ cs), has_cell-append s.tag_begun (replicate k blank) (c ∷ cs)) refl

@@ -1,4 +1,4 @@
--- Rows in words. Between two breaks stands a list of words, each with the blanks before it. Written out, it is a list of marks: here a word begins,
+-- A machine, between the steps and the definition by words: rows of marks. Between two breaks stands a list of words, each with the blanks before it. Written out, it is a list of marks: here a word begins,
 -- here is a blank before it, here is a cell of it. The first offending cell of a row is the first one with which margin and columns pass the
 -- width while its word isn't the row's first, or else that would be one cell too many. In the first case the row ends before that word, in the
 -- second before that cell; blanks before a word are dropped where a row ends before or among them. A row without an offending cell goes on.

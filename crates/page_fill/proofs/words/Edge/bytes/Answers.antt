@@ -4,8 +4,8 @@ use Rattle.page_fill.proofs.CharacterLemmas.{characters_of-text, characters_of-n
 use Rattle.page_fill.proofs.PlainLemmas.{characters_of-plain}
 use Rattle.page_fill.proofs.words.Edge.bytes.Goals as goal
 
-pub returns-then-is_plain : goal.returns-then-is_plain
-returns-then-is_plain g c = rw (characters_of-plain c.args.bytes.now (sym c.is_plain.ensures ∙ c.if-is_plain.true)) c.plain.ensures
+pub returns-then-is_printable_ascii : goal.returns-then-is_printable_ascii
+returns-then-is_printable_ascii g c = rw (characters_of-plain c.args.bytes.now (sym c.is_printable_ascii.ensures ∙ c.if-is_printable_ascii.true)) c.plain.ensures
 
 pub returns-in-Ok : goal.returns-in-Ok
 returns-in-Ok g c = rw (characters_of-text c.args.bytes.now c.in-Ok.ensures.cases.1, ← c.in-Ok.ensures.cases.0) c.text.ensures
