@@ -222,7 +222,7 @@ impl Run {
     }
 }
 
-// The outcome of a run of so many source lines.
+// The outcome of a run, by the count of its source lines.
 fn ended_well(worst: Option<Level>, source: u64) -> Outcome
     ensures worst { result.worst ≡ worst }
     ensures source { result.counts.source ≡ source }

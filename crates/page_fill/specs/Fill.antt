@@ -45,7 +45,7 @@ glued_word w =
     if w.is_open then w
     else record { is_joined = true; is_open = true; is_placed = false; blanks = 0; has_tab = false; is_told = w.is_told }
 
--- a new word is placed so many blanks on
+-- a new word is placed after a count of blanks
 abbrev pub placed_word : ℕ → OpenWord
 placed_word count = record { is_joined = false; is_open = true; is_placed = true; blanks = count; has_tab = false; is_told = false }
 
@@ -112,7 +112,7 @@ tab e font place = seq (opening e place) (λ f. if f.sheet.literal then fixed_ta
 unfoldable pub ended : Edge → Laid Edge
 ended e = over (broken e.sheet) (λ s. record e { sheet = s; word = no_word })
 
--- blank rows are given until so many stand at the end, but none after a heading's row
+-- blank rows are given until a count of them stands at the end, but none after a heading's row
 abbrev pub missing_rows : Sheet → ℕ → ℕ
 missing_rows s n = if s.heading then 0 else n - s.blank_rows
 

@@ -55,7 +55,7 @@ cells_note place = message_about Limit place (name_of Cells)
 
 -- ---- rows
 
--- so many blank rows more
+-- the count of blank rows with more
 abbrev pub more_blank_rows : ℕ → ℕ → ℕ
 more_blank_rows count more = min (count + more) (2 ^ 32 - 1)
 
@@ -127,7 +127,7 @@ unfoldable pub letters : Sheet → List Cell → Place → Laid Sheet
 letters s [] place = nothing s
 letters s (cell ∷ cells) place = seq (letter s cell place) (λ t. letters t cells place)
 
--- so many blanks that are cells of the word
+-- a count of blanks that are cells of the word
 abbrev pub fixed_blanks : Sheet → ℕ → Place → Laid Sheet
 fixed_blanks s n place = letters s (replicate n blank) place
 
@@ -141,7 +141,7 @@ new_word s n stands place = if stands then fixed_blanks (opens s) n place else s
 unfoldable pub broken : Sheet → Laid Sheet
 broken s = if length s.cells == 0 then nothing s else over (gives s s.cells) emptied
 
--- so many rows without cells
+-- a count of rows without cells
 unfoldable pub empty_rows : Sheet → ℕ → Laid Sheet
 empty_rows s n = record {
   rows = replicate n (row_of 0 []);

@@ -110,7 +110,7 @@ impl OpenRow {
         self.blank_rows
     }
 
-    /// How many blank rows are missing to so many; none after a heading's row.
+    /// How many blank rows are missing to a count of them; none after a heading's row.
     pub(crate) fn missing_rows(&self, count: u32) -> u32
         ensures { result ≡ (if self.now.heading then 0 else count - self.now.blank_rows) }
     {

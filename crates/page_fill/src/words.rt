@@ -71,7 +71,7 @@ impl OpenWord {
         }
     }
 
-    /// A new word is placed so many blanks on.
+    /// A new word is placed after a count of blanks.
     fn placed(blanks: u32) -> OpenWord
         ensures { result ≡ fill.placed_word blanks }
     {
@@ -267,7 +267,7 @@ impl Edge {
         self.word = NO_WORD;
     }
 
-    /// The row ends, and blank rows are given until so many stand there; none after a heading's row.
+    /// Ends the row, and gives blank rows until a count of them stands there; none after a heading's row.
     #[tactic(auto, unfolding(crate::specs::Fill::paragraph))]
     pub(crate) fn paragraph<O: RowOut>(&mut self, count: u32, out: &mut O)
         ensures { LaysOut O.left out.old (fill.paragraph self.old count) out.new self.new }
@@ -277,7 +277,7 @@ impl Edge {
         self.sheet.give_empty_rows(missing, out);
     }
 
-    /// The row ends, and so many blank rows are given.
+    /// Ends the row, and gives a count of blank rows.
     #[tactic(auto, unfolding(crate::specs::Fill::spaced))]
     pub(crate) fn space<O: RowOut>(&mut self, count: u32, out: &mut O)
         ensures { LaysOut O.left out.old (fill.spaced self.old count) out.new self.new }

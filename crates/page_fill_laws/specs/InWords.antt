@@ -73,7 +73,7 @@ unfoldable pub first_offending : Sheet → List Mark → Found
 first_offending s [] = none [] s
 first_offending s (m ∷ ms) = if offends s m then here [] s m ms else after_messages (told_by m) (first_offending (taken s m) ms)
 
--- ---- rows, for at most so many of them
+-- ---- rows, up to a count of them
 
 unfoldable pub rows_in_words : ℕ → Sheet → List Mark → Laid Sheet
 rows_in_words zero s ms = nothing s

@@ -1,6 +1,5 @@
 use Rattle.std.proofs.Common.{List, ℕ, ap, ◌∙◌, arith}
 use Rattle.page_core_base.specs.declared.note_kinds.NoteKind.TheVariants.{BadChar}
-use Rattle.page_core_base.specs.Messages.{Message}
 use Rattle.page_roff_lines.proofs.ReportLemmas.{hex_detail}
 use Rattle.page_roff_lines.proofs.reporting.bad_character.Goals as goal
 
