@@ -34,7 +34,7 @@ fn part<'a>(rt: &impl Abort, text: &'a [u8], start: usize, len: usize) -> &'a [u
 }
 
 fn name_of(i: usize) -> [u8; 2] {
-    [(i as u8).wrapping_mul(37), b'x']
+    [((i % 256) as u8).wrapping_mul(37), b'x']
 }
 
 /// The bytes that the table takes.

@@ -95,7 +95,7 @@ fn a_body_has_16384_bytes(rt: HostRuntime) -> Result<(), Fail> {
 /// Gives `count` registers a number.
 fn fill(rt: &impl Abort, names: &mut Names, count: u32) {
     for number in 0..count {
-        let name = [(number / 32) as u8, (number % 32) as u8];
+        let name = [(number / 32 % 32) as u8, (number % 32) as u8];
         check_done(rt, names.set_register(&name, 1), "");
     }
 }
