@@ -1,14 +1,39 @@
-# Proves and builds the program, and checks the whole repository.
+# Proves and builds the program, installs it, and checks the whole repository.
 PREFIX ?= /usr/local
 
-.PHONY: all check install clean mandoc
+# How many crates are in work at a time. Some of them wait for others, so these are two more than there are processors, as far as memory goes
+# (2 GB for each).
+JOBS ?= $(shell awk -v most=$$(($$(nproc) + 2)) '/MemAvailable/ { n = int($$2 / 2000000) } \
+    END { if (n < 1) n = 1; print n < most ? n : most }' /proc/meminfo)
+
+# All that the program is made of; a folder changes with the names of its files.
+SOURCES := crates.txt $(shell find crates/*/src crates/*/specs crates/*/proofs 2> /dev/null)
+
+PROGRAM := crates/mandoc_cli
+
+# Of what rt prints: each crate that is proved, with the seconds since the start, and what went wrong.
+PROGRESS := start=$$(date +%s); while IFS= read -r line; do \
+	    case $$line in \
+	    "== "*) crate=$${line\#== } ;; \
+	    logic=proved*) printf '%5d s  %s: proved\n' $$(($$(date +%s) - start)) "$$crate" ;; \
+	    *error\[*|*error:*|*": no proof"*|*": not proved"*) printf '%s\n' "$${crate:+$$crate: }$$line" ;; \
+	    "status "*) status=$${line\#status } ;; \
+	    esac; done
+
+.PHONY: all check install clean
 
 all: mandoc
 
-# Proves every crate below the program and the program, and leaves the executable at the top.
-mandoc:
-	cd crates/mandoc_cli && rt run < stdin > /dev/null
-	cp crates/mandoc_cli/out/mandoc_cli mandoc
+# Proves the program and the crates that it stands on, no others, and leaves the executable at the top. All that the checks print is in
+# $(PROGRAM)/out/build.log.
+mandoc: $(SOURCES)
+	@mkdir -p $(PROGRAM)/out
+	@echo "Proving the crates of the program, $(JOBS) at a time. The README says how long this takes from nothing."
+	@cd $(PROGRAM) && { rt all check --jobs $(JOBS) 2>&1; echo "status $$?"; } | tee out/build.log | { $(PROGRESS); exit $$status; }
+	@echo "Building the program."
+	@cd $(PROGRAM) && rt run < stdin > out/build.txt 2>> out/build.log || { tail -20 out/build.log; exit 1; }
+	@cp $(PROGRAM)/out/mandoc_cli $@
+	@echo "./mandoc is built."
 
 # The whole gate; its last line is 'N passed, M failed'.
 check:
@@ -16,7 +41,7 @@ check:
 
 install: mandoc
 	install -D -m 755 mandoc $(DESTDIR)$(PREFIX)/bin/mandoc
-	install -D -m 644 doc/mandoc.1 $(DESTDIR)$(PREFIX)/share/man/man1/mandoc.1
+	install -D -m 644 man/mandoc.1 $(DESTDIR)$(PREFIX)/share/man/man1/mandoc.1
 
 clean:
 	rm -rf crates/*/out mandoc

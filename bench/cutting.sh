@@ -7,12 +7,15 @@ cd "$(dirname "$0")/.." || exit 1
 room=$(mktemp -d) || exit 1
 trap 'rm -rf "$room"' EXIT
 program=$room/crates/cutting
-mkdir -p "$program/src" "$program/proofs/take_piece" "$program/proofs/take_all"
-cp -R crates/page_core crates/page_roff_lines "$room/crates/"
-grep -E '^(page_core|page_roff_lines):' crates.txt > "$room/crates.txt"
-echo 'cutting: page_core page_roff_lines' >> "$room/crates.txt"
+mkdir -p "$program/src" "$program/proofs/take_chunk" "$program/proofs/take_all"
+crates="page_core_limits page_core_base page_core_writers page_roff_lines"
+for crate in $crates; do
+    cp -R "crates/$crate" "$room/crates/"
+    grep "^$crate:" crates.txt >> "$room/crates.txt"
+done
+echo 'cutting: page_core_base page_core_writers page_roff_lines' >> "$room/crates.txt"
 cp bench/cutting/main.txt "$program/src/main.rt"
-cp bench/cutting/take_piece.txt "$program/proofs/take_piece/Invariants.antt"
+cp bench/cutting/take_chunk.txt "$program/proofs/take_chunk/Invariants.antt"
 cp bench/cutting/take_all.txt "$program/proofs/take_all/Invariants.antt"
 if ! (cd "$program" && rt run) < /dev/null > "$room/build" 2>&1; then
     cat "$room/build"

@@ -2,29 +2,27 @@
 use Rattle.std.proofs.Common.{sym, ap, ◌∙◌, ◌≡◌, true, false, List, [], ◌∷◌, refl}
 use Rattle.std.specs.Prelude.{◌⊎◌, Option, codes, option_map, unwrap_or}
 use Rattle.std.proofs.Common.{inl, inr}
-use Rattle.clap.specs.Simple.{app_of_fields, on_top}
-use Rattle.clap.specs.Words.{App, Row, Kinds, IsAmong, app_of, fault_of, matched_of, raw_values, is_simple, is_simple_and_free, matches_of, rows_of}
+use Rattle.clap.specs.Built.{AddsArg, AddsInTurn}
+use Rattle.clap.specs.Words.{App, Row, Rule, with_rule, Kinds, IsAmong, app_of, fault_of, matched_of, raw_values, is_simple, is_simple_and_free, matches_of, rows_of}
 use Rattle.clap.specs.declared.builder.command.Command.{Command}
-use Rattle.clap.specs.declared.builder.command.Command.TheViews.{out-Command as fields_of}
+use Rattle.clap.specs.declared.builder.arg.Arg.{Arg}
 use Rattle.clap.specs.declared.error.kind.ErrorKind.{ErrorKind}
 use Rattle.clap.specs.declared.error.kind.ErrorKind.TheVariants.{OutOfMemory}
 use Rattle.clap.specs.declared.parser.matches.Found.{Found}
 use Rattle.clap.proofs.WalkLemmas.{raw_values-rows}
 use Rattle.mandoc_command.specs.Names.{Text}
-use Rattle.mandoc_command.specs.Line.{line, is_line, files_in, found_in, has_none, refusal_by}
+use Rattle.mandoc_command.specs.Line.{HaveRules, line, is_line, files_in, found_in, has_none, refusal_by, with_rules}
 use Rattle.mandoc_command.specs.declared.commands.Refusal.TheVariants.{Words}
 
-pub app_of-no_binary_name : (old new : Command) → fields_of new ≡ record (fields_of old) { no_binary_name = true }
-    → app_of new ≡ on_top (λ s. record s { no_binary_name = true }) (app_of old)
-app_of-no_binary_name old new e = ap app_of_fields e
-
-pub app_of-disable_help_flag : (old new : Command) → fields_of new ≡ record (fields_of old) { disable_help_flag = true }
-    → app_of new ≡ on_top (λ s. record s { disable_help_flag = true }) (app_of old)
-app_of-disable_help_flag old new e = ap app_of_fields e
-
-pub app_of-disable_version_flag : (old new : Command) → fields_of new ≡ record (fields_of old) { disable_version_flag = true }
-    → app_of new ≡ on_top (λ s. record s { disable_version_flag = true }) (app_of old)
-app_of-disable_version_flag old new e = ap app_of_fields e
+-- arguments that are added in turn add their rules
+pub adds_rules : (old new : Command) (args : List Arg) (rules : List Rule) → AddsInTurn AddsArg old args new → HaveRules args rules
+    → app_of new ≡ with_rules (app_of old) rules
+adds_rules old new [] [] same have = ap app_of (sym same)
+adds_rules old new (arg ∷ args) (rule ∷ rules) added have =
+    adds_rules added.0 new args rules added.2 have.2
+    ∙ ap (λ a. with_rules a rules) (added.1.shape have.1 ∙ ap (with_rule (app_of old)) have.0)
+adds_rules old new [] (rule ∷ rules) same have = absurd have
+adds_rules old new (arg ∷ args) [] added have = absurd have
 
 -- the line is one of which `clap` gives the matches and the faults
 pub line_is_simple : is_simple line ≡ true

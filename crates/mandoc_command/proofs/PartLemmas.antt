@@ -21,7 +21,7 @@ same_some : {X : Type 0} (o : Option X) → (o >>= (λ x. Some x)) ≡ o
 same_some None = refl
 same_some (Some x) = refl
 
--- the part behind the last comma is the last one
+-- the part after the last comma is the last one
 pub with_parts-last : (m : Measures) (text : Text) → position_or_len is_comma text ≡ length text
     → with_parts m (slice_split is_comma text) ≡ with_part m text
 with_parts-last m text none =

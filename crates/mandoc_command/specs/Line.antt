@@ -1,8 +1,9 @@
 -- A command line. Source: mandoc(1), SYNOPSIS and OPTIONS.
-use Rattle.std.specs.Prelude.{ℕ, Bool, true, false, ◌||◌, if◌then◌else◌, List, [], ◌∷◌, map, Option, Some, None, option_map, unwrap_or, codes}
+use Rattle.std.specs.Prelude.{ℕ, Bool, true, false, ◌||◌, if◌then◌else◌, List, [], ◌∷◌, map, Option, Some, None, option_map, unwrap_or, codes, ⊤, ◌≡◌}
 use Rattle.std.specs.Str.{bytes_eq}
 use Rattle.std.specs.Borrow.{Bor}
-use Rattle.clap.specs.Words.{App, Kinds, Row, Rule, all_of, fault_of, first_of, matches_of, new_app, new_rule, with_rule}
+use Rattle.clap.specs.Words.{App, Kinds, Row, Rule, all_of, fault_of, first_of, matches_of, new_app, new_rule, rule_of, with_rule}
+use Rattle.clap.specs.declared.builder.arg.Arg.{Arg}
 use Rattle.clap.specs.declared.builder.action.ArgAction.TheVariants.{Set, Append}
 use Rattle.clap.specs.declared.error.kind.ErrorKind.{ErrorKind}
 use Rattle.clap.specs.declared.error.kind.ErrorKind.TheVariants.{OutOfMemory}
@@ -26,16 +27,32 @@ files_rule = record (new_rule (codes "files")) { action = Some Append }
 abbrev pub bare : App → App
 bare a = record a { top = record a.top { no_binary_name = true; disable_help_flag = true; disable_version_flag = true } }
 
--- `mandoc [-T output] [-W level] [-O measures] [-K encoding] [-I os=name] [-m language] [file ...]`, as `clap` sees it
+-- `[-T output] [-W level] [-O measures] [-K encoding] [-I os=name] [-m language] [file ...]`, each by the name that its values are found by
+abbrev pub rules : List Rule
+rules =
+    -- T, W, O, K, I, m
+    option_rule (codes "output") 84 ∷
+    option_rule (codes "level") 87 ∷
+    option_rule (codes "measures") 79 ∷
+    option_rule (codes "encoding") 75 ∷
+    option_rule (codes "system") 73 ∷
+    option_rule (codes "language") 109 ∷
+    files_rule ∷
+    []
+
+abbrev pub with_rules : App → List Rule → App
+with_rules a [] = a
+with_rules a (rule ∷ rules) = with_rules (with_rule a rule) rules
+
+-- the command line of `mandoc`, as `clap` sees it
 unfoldable pub line : App
-line =
-    let output = with_rule (bare (new_app (codes "mandoc"))) (option_rule (codes "output") 84) in
-    let level = with_rule output (option_rule (codes "level") 87) in
-    let measures = with_rule level (option_rule (codes "measures") 79) in
-    let encoding = with_rule measures (option_rule (codes "encoding") 75) in
-    let system = with_rule encoding (option_rule (codes "system") 73) in
-    let language = with_rule system (option_rule (codes "language") 109) in
-    with_rule language files_rule
+line = with_rules (bare (new_app (codes "mandoc"))) rules
+
+-- arguments that have these rules in turn, each for its own command alone
+abbrev pub HaveRules : List Arg → List Rule → Type 0
+HaveRules [] [] = ⊤
+HaveRules (arg ∷ args) (rule ∷ rules) = (rule_of arg ≡ rule) × (arg.global ≡ false) × HaveRules args rules
+HaveRules _ _ = ⊥
 
 abbrev pub has_none : Kinds → Bool
 has_none [] = true

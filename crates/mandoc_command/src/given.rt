@@ -2,7 +2,7 @@
 
 ghost use Rattle.std.specs.Prelude.{◌≡◌, true, false, IfOk, MatchResult};
 ghost use Rattle.clap.specs.Words.{app_of, found_of, rows_of, rule_of};
-ghost use Rattle.mandoc_command.specs.Line.{line, is_line, found_in, refusal_by, files_rule, option_rule, texts};
+ghost use Rattle.mandoc_command.specs.Line.{line, is_line, found_in, refusal_by, files_rule, option_rule, rules, HaveRules, texts};
 
 use crate::Refusal;
 use clap::error::ErrorKind;
@@ -10,7 +10,7 @@ use clap::{Arg, ArgAction, ArgMatches};
 use std::alloc::{AllocError, Global};
 
 /// The value of each option that is given.
-#[derive(Clone, Copy, Debug)]
+#[derive(Clone, Copy)]
 pub(crate) struct Given<'a> {
     /// `-T`
     pub(crate) output: Option<&'a str>,
@@ -72,21 +72,32 @@ fn refusal_by(kind: ErrorKind) -> Refusal
     }
 }
 
-// The options and files of a command line.
+// The options and files of a command line, with no name of the program in front, no help and no version.
 fn line<'a>(alloc: Global) -> Result<clap::Command<'a>, AllocError>
     ensures { IfOk result (λ command. app_of command ≡ line) }
 {
+    let args = options_and_files(alloc)?;
     clap::Command::new(alloc, "mandoc")
         .no_binary_name(true)
         .disable_help_flag(true)
         .disable_version_flag(true)
-        .arg(option(alloc, "output", 'T'))?
-        .arg(option(alloc, "level", 'W'))?
-        .arg(option(alloc, "measures", 'O'))?
-        .arg(option(alloc, "encoding", 'K'))?
-        .arg(option(alloc, "system", 'I'))?
-        .arg(option(alloc, "language", 'm'))?
-        .arg(files(alloc))
+        .args(args)
+}
+
+// The options, and then the files.
+fn options_and_files<'a>(alloc: Global) -> Result<Vec<Arg<'a>>, AllocError>
+    ensures { IfOk result (λ args. HaveRules args.items rules) }
+{
+    let args = [
+        option(alloc, "output", 'T'),
+        option(alloc, "level", 'W'),
+        option(alloc, "measures", 'O'),
+        option(alloc, "encoding", 'K'),
+        option(alloc, "system", 'I'),
+        option(alloc, "language", 'm'),
+        files(alloc),
+    ];
+    Ok(Vec::from_array(alloc, args)?)
 }
 
 // An option with one value.

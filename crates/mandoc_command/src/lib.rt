@@ -9,8 +9,6 @@ mod measures;
 mod names;
 mod settings;
 mod status;
-#[cfg(test)]
-mod tests;
 
 pub use commands::{Command, Format, Refusal};
 pub use files::Files;

@@ -51,7 +51,8 @@ fn least_of(level: Option<&str>, output: Output) -> Option<Option<Level>>
 #[tactic(auto, unfolding(crate::specs::Asked::system_of))]
 fn with_system(settings: Settings, system: Option<&str>) -> Option<Settings>
     requires { IsLine settings.os.bytes }
-    ensures value { option_map asked_of result ≡ with_os (asked_of settings) (chosen settings.os.bytes system_of (text_in system.entry)) }
+    ensures value { option_map asked_of result
+        ≡ with_os (asked_of settings) (chosen settings.os.bytes system_of (text_in system.entry)) }
     ensures line { IfSome result (λ s. IsLine s.os.bytes) }
 {
     let Some(value) = system else {

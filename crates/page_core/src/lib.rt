@@ -2,12 +2,16 @@
 #![tactic(auto)]
 
 pub use page_core_base::{
-    Cell, Closer, Deed, Encoding, Event, Fault, Font, Form, Join, Language, Leaf, Level, LineOpener,
-    Note, NoteKind, NoteSink, Opener, Output, Piece, PieceSink, Place, RowSink, SettingFault,
-    Settings, TagForm, Taken, is_line,
+    Cell, Closer, Deed, Encoding, Event, Fault, Font, Form, Join, Language, Leaf, Level,
+    LineOpener, Note, NoteKind, NoteSink, Opener, Output, Piece, PieceSink, Place, RowSink,
+    SettingFault, Settings, TagForm, Taken, is_line,
 };
 pub use page_core_escapes::{Escape, FontName, escape};
 pub use page_core_limits::{CELLS, FIELD, LINE, Limit, PARENS};
 pub use page_core_numbers::{Scale, columns, number};
-pub use page_core_tables::{Glyph, glyph, spelling};
-pub use page_core_writers::{KeptNotes, KeptRows, Row, TextNotes, TextRows, cell_bytes, write_note};
+pub use page_core_tables::{
+    Glyph, Printed, char_columns, glyph, printed_char, printed_glyph, spelling,
+};
+pub use page_core_writers::{
+    KeptNotes, KeptRows, Row, TextNotes, TextRows, cell_bytes, write_note,
+};

@@ -8,7 +8,7 @@ use Rattle.std.proofs.lemmas.List.{length-take-le, length-drop, drop-take}
 use Rattle.std.proofs.Math.Seq.{take-append-add}
 use Rattle.std.proofs.lemmas.List.Quantifiers.{position-Some}
 use Rattle.std.proofs.lemmas.Str.{IsUtf8-take, IsCharBoundary-before_ascii}
-use Rattle.page_core_escapes.specs.Forms.{character_len, two_characters_len, bracketed_len, name_len}
+use Rattle.page_core_escapes.specs.Extents.{character_len, two_characters_len, bracketed_len, name_len}
 use Rattle.page_core_escapes.specs.Lengths.{quoted_len, content_len}
 use Rattle.page_core_escapes.specs.Meanings.{without_last, bare_name, bare_quoted}
 use Rattle.page_core_escapes.proofs.Contents.{character_len-fits}
@@ -102,7 +102,7 @@ bare_name_text (b ∷ bs) n utf8 e =
 
 -- ---- quoted arguments
 
--- where a text is cut behind its first character, that stays its first
+-- where a text is cut after its first character, that stays its first
 character_len-take : (t : List ℕ) (m n : ℕ) → Taken t m → m ≤ n → character_len (take n t) ≡ Some m
 character_len-take t m n taken le =
     let c = taken.first.code in

@@ -10,13 +10,15 @@ use Rattle.std.proofs.lemmas.Slice.Eq.{starts_is}
 use Rattle.std.proofs.lemmas.List.{drop-drop, length-drop, length-append, get_or-drop}
 use Rattle.std.proofs.lemmas.List.Quantifiers.{position-Some}
 use Rattle.std.proofs.lemmas.Str.{IsUtf8-drop, IsUtf8-past_char, IsCharBoundary-after_ascii}
-use Rattle.page_core_escapes.specs.declared.shape.Shape.{Shape}
-use Rattle.page_core_escapes.specs.declared.shape.Shape.TheVariants.{Alone, Glyph, Name, Size, Quoted}
-use Rattle.page_core_escapes.specs.declared.form.Form.{Form}
-use Rattle.page_core_escapes.specs.declared.form.Form.TheVariants.{Whole, QuotedFrom}
-use Rattle.page_core_escapes.specs.Shapes.{is_among, is_digit, is_sign, after_sign, begins_size}
-use Rattle.page_core_escapes.specs.Forms.{character_len, two_characters_len, bracketed_len, name_len, has_two_digits, number_len, sign_len, number_form, shaped_form, form_of}
-use Rattle.page_core_escapes.specs.Lengths.{quoted_len, form_len, escape_len_by, content_len_within, content_len, escape_len}
+use Rattle.page_core_escapes.specs.declared.letters.Shape.{Shape}
+use Rattle.page_core_escapes.specs.declared.letters.Shape.TheVariants.{Alone, Glyph, Name, Size, Quoted}
+use Rattle.page_core_escapes.specs.declared.extents.Extent.{Extent}
+use Rattle.page_core_escapes.specs.declared.extents.Extent.TheVariants.{Whole, QuotedFrom}
+use Rattle.page_core_escapes.specs.Bytes.{is_among, is_digit}
+use Rattle.page_core_escapes.specs.Letters.{letter_of}
+use Rattle.page_core_escapes.specs.Extents.{is_sign, after_sign, begins_size, shape_of, character_len, two_characters_len, bracketed_len, name_len, has_two_digits, number_len, sign_len, number_extent, extent_by, extent_of}
+use Rattle.page_core_escapes.specs.Lengths.{quoted_len, extent_len, escape_len_by, content_len_within, content_len, escape_len}
+use Rattle.page_core_escapes.proofs.LetterLemmas.{follows, shape_ascii}
 use Rattle.page_core_escapes.proofs.Characters.{CutsAt, CutsAt-add, CutsAt-ascii, Taken, character_len-taken, begins_with}
 
 -- ---- steps over ASCII
@@ -146,23 +148,23 @@ size_ascii b bs e =
 -- ---- forms
 
 -- the bytes of an escape, or those before its quoted argument
-abbrev form_place : Form → ℕ
-form_place (Whole n) = n
-form_place (QuotedFrom n) = n
+abbrev extent_place : Extent → ℕ
+extent_place (Whole n) = n
+extent_place (QuotedFrom n) = n
 
-abbrev FormCuts : List ℕ → Option Form → Type 0
-FormCuts t o = (f : Form) → o ≡ Some f → CutsAt t (form_place f)
+abbrev ExtentCuts : List ℕ → Option Extent → Type 0
+ExtentCuts t o = (f : Extent) → o ≡ Some f → CutsAt t (extent_place f)
 
-whole_cuts : (t : List ℕ) (g : ℕ → ℕ) (o : Option ℕ) → ((k : ℕ) → o ≡ Some k → CutsAt t (g k)) → FormCuts t (option_map (λ k. Whole (g k)) o)
+whole_cuts : (t : List ℕ) (g : ℕ → ℕ) (o : Option ℕ) → ((k : ℕ) → o ≡ Some k → CutsAt t (g k)) → ExtentCuts t (option_map (λ k. Whole (g k)) o)
 whole_cuts t g None cut f e = cc
-whole_cuts t g (Some k) cut f e = let same : Whole (g k) ≡ f = cc in subst (λ f. CutsAt t (form_place f)) same (cut k refl)
+whole_cuts t g (Some k) cut f e = let same : Whole (g k) ≡ f = cc in subst (λ f. CutsAt t (extent_place f)) same (cut k refl)
 
 -- an escape with a size that begins after a cut
-number_form_cuts : (t : List ℕ) (before : ℕ) (u : List ℕ) → CutsAt t before → drop before t ≡ u → ((b : ℕ) (bs : List ℕ) → u ≡ b ∷ bs → b < 128) → FormCuts t (number_form before u)
-number_form_cuts t before [] cut is ascii = λ f e. cc
-number_form_cuts t before (b ∷ bs) cut is ascii =
-    cond_both (eqb b 0x27) (Some (QuotedFrom before)) (option_map (λ k. Whole (before + k)) (number_len (b ∷ bs))) (FormCuts t)
-    (λ _ f e. let same : QuotedFrom before ≡ f = cc in subst (λ f. CutsAt t (form_place f)) same cut)
+number_extent_cuts : (t : List ℕ) (before : ℕ) (u : List ℕ) → CutsAt t before → drop before t ≡ u → ((b : ℕ) (bs : List ℕ) → u ≡ b ∷ bs → b < 128) → ExtentCuts t (number_extent before u)
+number_extent_cuts t before [] cut is ascii = λ f e. cc
+number_extent_cuts t before (b ∷ bs) cut is ascii =
+    cond_both (eqb b 0x27) (Some (QuotedFrom before)) (option_map (λ k. Whole (before + k)) (number_len (b ∷ bs))) (ExtentCuts t)
+    (λ _ f e. let same : QuotedFrom before ≡ f = cc in subst (λ f. CutsAt t (extent_place f)) same cut)
     (λ _.
     whole_cuts t (λ k. before + k) (number_len (b ∷ bs)) (λ k found.
     CutsAt-add cut (subst (λ v. CutsAt v k) (sym is) (number_cut b bs (subst (λ v. IsUtf8 v) is cut.utf8) (ascii b bs refl) k found))))
@@ -174,37 +176,34 @@ module _ (b key : ℕ) (rest : List ℕ) (utf8 : IsUtf8 (b ∷ key ∷ rest)) (a
       let same : 1 + k ≡ k + 1 = omega arith in
       subst (CutsAt (b ∷ key ∷ rest)) same (past_ascii b (key ∷ rest) k utf8 ascii then)
 
-  -- past the character behind it
+  -- past the letter after it
   after_two : key < 128 → (k : ℕ) → (IsUtf8 rest → CutsAt rest k) → CutsAt (b ∷ key ∷ rest) (k + 2)
   after_two low k then =
       let same : 1 + (1 + k) ≡ k + 2 = omega arith in
       subst (CutsAt (b ∷ key ∷ rest)) same (past_ascii b (key ∷ rest) (1 + k) utf8 ascii (λ u. past_ascii key rest k u low then))
 
-  size_cuts : key < 128 → begins_size (after_sign rest) ≡ true → FormCuts (b ∷ key ∷ rest) (number_form (2 + sign_len rest) (after_sign rest))
+  size_cuts : key < 128 → begins_size (after_sign rest) ≡ true → ExtentCuts (b ∷ key ∷ rest) (number_extent (2 + sign_len rest) (after_sign rest))
   size_cuts low size =
       let t = b ∷ key ∷ rest in
       let n = sign_len rest in
       let same : n + 2 ≡ 2 + n = omega arith in
       let place : drop (2 + n) t ≡ after_sign rest = sym (drop-drop n 2 t) ∙ drop-sign_len rest in
-      number_form_cuts t (2 + n) (after_sign rest) (subst (CutsAt t) same (after_two low n (sign_cut rest))) place
+      number_extent_cuts t (2 + n) (after_sign rest) (subst (CutsAt t) same (after_two low n (sign_cut rest))) place
       (λ d ds is. size_ascii d ds (ap begins_size (sym is) ∙ size))
 
-  form_cuts : FormCuts (b ∷ key ∷ rest) (form_of (b ∷ key ∷ rest))
-  form_cuts =
-      let t = b ∷ key ∷ rest in
-      let P : Shape → Type 0 = λ s. FormCuts t (shaped_form s key rest) in
-      cond_both (is_among key (codes "([")) Glyph _ P
-      (λ _. whole_cuts t (λ k. k + 1) (name_len (key ∷ rest)) (λ k found. after_one k (λ u. name_cut (key ∷ rest) u k found)))
-      (λ _.
-      cond_both (is_among key (codes "fmMkFgVY")) Name _ P
-      (λ is. whole_cuts t (λ k. k + 2) (name_len rest) (λ k found. after_two (among_ascii key (codes "fmMkFgVY") refl is) k (λ u. name_cut rest u k found)))
-      (λ _.
-      cond_both (is_among key (codes "ChvxbolLDNXABHSRZ")) Quoted _ P
-      (λ is f e. let same : QuotedFrom 2 ≡ f = cc in subst (λ f. CutsAt t (form_place f)) same (after_two (among_ascii key (codes "ChvxbolLDNXABHSRZ") refl is) 0 (start_cut rest)))
-      (λ _.
-      cond_both (eqb key 0x73 && begins_size (after_sign rest)) Size Alone P
-      (λ is. let parts = and_parts (eqb key 0x73) (begins_size (after_sign rest)) is in let letter = eqb-true key 0x73 parts.0 in size_cuts (omega arith) parts.1)
-      (λ _. whole_cuts t (λ k. k + 1) (character_len (key ∷ rest)) (λ k found. after_one k (λ u. character_cut (key ∷ rest) u k found))))))
+  extent_cuts : ExtentCuts (b ∷ key ∷ rest) (extent_of (b ∷ key ∷ rest))
+  extent_cuts = go (shape_of key rest) refl
+    where
+      t : List ℕ
+      t = b ∷ key ∷ rest
+
+      go : (s : Shape) → shape_of key rest ≡ s → ExtentCuts t (extent_by s key rest)
+      go Alone shape = whole_cuts t (λ k. k + 1) (character_len (key ∷ rest)) (λ k found. after_one k (λ u. character_cut (key ∷ rest) u k found))
+      go Glyph shape = whole_cuts t (λ k. k + 1) (name_len (key ∷ rest)) (λ k found. after_one k (λ u. name_cut (key ∷ rest) u k found))
+      go Name shape = whole_cuts t (λ k. k + 2) (name_len rest) (λ k found. after_two (shape_ascii key rest Name shape refl) k (λ u. name_cut rest u k found))
+      go Size shape = size_cuts (shape_ascii key rest Size shape refl) ((follows (letter_of key).shape rest).size shape)
+      go Quoted shape = λ f e.
+          let same : QuotedFrom 2 ≡ f = cc in subst (λ f. CutsAt t (extent_place f)) same (after_two (shape_ascii key rest Quoted shape refl) 0 (start_cut rest))
 
 -- ---- quoted arguments
 
@@ -267,7 +266,7 @@ character_ends t k c utf8 e =
     } in
     CutsAt-add here after
 
--- the content of a quoted argument, and the delimiter behind it
+-- the content of a quoted argument, and the delimiter after it
 pub content_cut : (t : List ℕ) (m k : ℕ) → Taken t m → content_len (take m t) (drop m t) ≡ Some k → CutsAt (drop m t) k × CutsAt (drop m t) (k + m)
 content_cut t m k taken is =
     let c = taken.first.code in
@@ -290,21 +289,21 @@ quoted_cut t utf8 = go (character_len t) (λ m is. character_len-taken t m utf8 
 
 -- ---- escapes
 
-form_of_cuts : (t : List ℕ) → IsUtf8 t → get_or t 0 0 < 128 → FormCuts t (form_of t)
-form_of_cuts [] utf8 ascii = λ f e. cc
-form_of_cuts (b ∷ []) utf8 ascii = λ f e. let same : Whole 1 ≡ f = cc in subst (λ f. CutsAt (b ∷ []) (form_place f)) same (past_ascii b [] 0 utf8 ascii (start_cut []))
-form_of_cuts (b ∷ key ∷ rest) utf8 ascii = form_cuts b key rest utf8 ascii
+extent_of_cuts : (t : List ℕ) → IsUtf8 t → get_or t 0 0 < 128 → ExtentCuts t (extent_of t)
+extent_of_cuts [] utf8 ascii = λ f e. cc
+extent_of_cuts (b ∷ []) utf8 ascii = λ f e. let same : Whole 1 ≡ f = cc in subst (λ f. CutsAt (b ∷ []) (extent_place f)) same (past_ascii b [] 0 utf8 ascii (start_cut []))
+extent_of_cuts (b ∷ key ∷ rest) utf8 ascii = extent_cuts b key rest utf8 ascii
 
 -- the escape at the front of a text in UTF-8 ends where a character ends
 pub escape_len_cuts : (t : List ℕ) (n : ℕ) → IsUtf8 t → get_or t 0 0 < 128 → escape_len t ≡ Some n → CutsAt t n
-unfolding escape_len escape_len_by form_len
-escape_len_cuts t n utf8 ascii = go (form_of t) (form_of_cuts t utf8 ascii) n
+unfolding escape_len escape_len_by extent_len
+escape_len_cuts t n utf8 ascii = go (extent_of t) (extent_of_cuts t utf8 ascii) n
   where
     inner : (m : ℕ) → CutsAt t m → (o : Option ℕ) → CutsAtSome (drop m t) o → CutsAtSome t (option_map (λ k. m + k) o)
     inner m cut None next k e = cc
     inner m cut (Some j) next k e = let same : m + j ≡ k = cc in subst (CutsAt t) same (CutsAt-add cut (next j refl))
 
-    go : (o : Option Form) → FormCuts t o → CutsAtSome t (option_and_then (form_len content_len t) o)
+    go : (o : Option Extent) → ExtentCuts t o → CutsAtSome t (option_and_then (extent_len content_len t) o)
     go None cuts = λ k e. cc
     go (Some (Whole m)) cuts = λ k e. let same : m ≡ k = cc in subst (CutsAt t) same (cuts (Whole m) refl)
     go (Some (QuotedFrom m)) cuts = inner m (cuts (QuotedFrom m) refl) (quoted_len content_len (drop m t)) (quoted_cut (drop m t) (cuts (QuotedFrom m) refl).utf8)

@@ -4,13 +4,12 @@ use Rattle.std.specs.Option.{option_and_then}
 use Rattle.std.specs.List.{starts_with}
 use Rattle.std.specs.Str.{continuation_len}
 use Rattle.std.proofs.lemmas.Bool.{cases_Bool, cond-true, cond-false, leb-true}
-use Rattle.page_core_escapes.specs.declared.shape.Shape.{Shape}
-use Rattle.page_core_escapes.specs.declared.shape.Shape.TheVariants.{Alone, Glyph, Name, Size, Quoted}
-use Rattle.page_core_escapes.specs.declared.form.Form.{Form}
-use Rattle.page_core_escapes.specs.declared.form.Form.TheVariants.{Whole, QuotedFrom}
-use Rattle.page_core_escapes.specs.Shapes.{shape_of, after_sign}
-use Rattle.page_core_escapes.specs.Forms.{character_len, name_len, number_len, sign_len, number_form, shaped_form, form_of}
-use Rattle.page_core_escapes.specs.Lengths.{quoted_len, form_len, escape_len_by, content_len_within, content_len, escape_len}
+use Rattle.page_core_escapes.specs.declared.letters.Shape.{Shape}
+use Rattle.page_core_escapes.specs.declared.letters.Shape.TheVariants.{Alone, Glyph, Name, Size, Quoted}
+use Rattle.page_core_escapes.specs.declared.extents.Extent.{Extent}
+use Rattle.page_core_escapes.specs.declared.extents.Extent.TheVariants.{Whole, QuotedFrom}
+use Rattle.page_core_escapes.specs.Extents.{shape_of, after_sign, character_len, name_len, number_len, sign_len, number_extent, extent_by, extent_of}
+use Rattle.page_core_escapes.specs.Lengths.{quoted_len, extent_len, escape_len_by, content_len_within, content_len, escape_len}
 use Rattle.page_core_escapes.proofs.Options.{and_then-same}
 
 -- ---- a character takes bytes, and no more than there are
@@ -37,25 +36,25 @@ whole_after : (after : ℕ) (o : Option ℕ) (n : ℕ) → 0 < after → option_
 whole_after after None n some e = cc
 whole_after after (Some k) n some e = let is : k + after ≡ n = cc in omega arith
 
-number_form-some : (before : ℕ) (t : List ℕ) (n : ℕ) → 0 < before → number_form before t ≡ Some (Whole n) → 0 < n
-number_form-some before [] n some e = cc
-number_form-some before (b ∷ bs) n some e =
+number_extent-some : (before : ℕ) (t : List ℕ) (n : ℕ) → 0 < before → number_extent before t ≡ Some (Whole n) → 0 < n
+number_extent-some before [] n some e = cc
+number_extent-some before (b ∷ bs) n some e =
     elim (cases_Bool (eqb b 0x27)) [
       | inl quote ↦ let is : Some (QuotedFrom before) ≡ Some (Whole n) = sym (cond-true _ _ _ quote) ∙ e in cc
       | inr other ↦ whole_from before (number_len (b ∷ bs)) n some (sym (cond-false _ _ _ other) ∙ e)
     ]
 
-shaped_form-some : (s : Shape) (key : ℕ) (rest : List ℕ) (n : ℕ) → shaped_form s key rest ≡ Some (Whole n) → 0 < n
-shaped_form-some Alone key rest n e = whole_after 1 (character_len (key ∷ rest)) n (omega arith) e
-shaped_form-some Glyph key rest n e = whole_after 1 (name_len (key ∷ rest)) n (omega arith) e
-shaped_form-some Name key rest n e = whole_after 2 (name_len rest) n (omega arith) e
-shaped_form-some Size key rest n e = number_form-some (2 + sign_len rest) (after_sign rest) n (omega arith) e
-shaped_form-some Quoted key rest n e = cc
+extent_by-some : (s : Shape) (key : ℕ) (rest : List ℕ) (n : ℕ) → extent_by s key rest ≡ Some (Whole n) → 0 < n
+extent_by-some Alone key rest n e = whole_after 1 (character_len (key ∷ rest)) n (omega arith) e
+extent_by-some Glyph key rest n e = whole_after 1 (name_len (key ∷ rest)) n (omega arith) e
+extent_by-some Name key rest n e = whole_after 2 (name_len rest) n (omega arith) e
+extent_by-some Size key rest n e = number_extent-some (2 + sign_len rest) (after_sign rest) n (omega arith) e
+extent_by-some Quoted key rest n e = cc
 
-form_of-some : (t : List ℕ) (n : ℕ) → form_of t ≡ Some (Whole n) → 0 < n
-form_of-some [] n e = cc
-form_of-some (b ∷ []) n e = let is : 1 ≡ n = cc in omega arith
-form_of-some (b ∷ key ∷ rest) n e = shaped_form-some (shape_of key rest) key rest n e
+extent_of-some : (t : List ℕ) (n : ℕ) → extent_of t ≡ Some (Whole n) → 0 < n
+extent_of-some [] n e = cc
+extent_of-some (b ∷ []) n e = let is : 1 ≡ n = cc in omega arith
+extent_of-some (b ∷ key ∷ rest) n e = extent_by-some (shape_of key rest) key rest n e
 
 quoted_len-some : (f : List ℕ → List ℕ → Option ℕ) (t : List ℕ) (n : ℕ) → quoted_len f t ≡ Some n → 0 < n
 unfolding quoted_len
@@ -70,10 +69,10 @@ quoted_len-some f t n e = go (character_len t) (character_len-fits t) e
         inner m some (Some k) e = let is : m + (k + m) ≡ n = cc in omega arith
 
 escape_len_by-some : (f : List ℕ → List ℕ → Option ℕ) (t : List ℕ) (n : ℕ) → escape_len_by f t ≡ Some n → 0 < n
-unfolding escape_len_by form_len
-escape_len_by-some f t n e = go (form_of t) (form_of-some t) e
+unfolding escape_len_by extent_len
+escape_len_by-some f t n e = go (extent_of t) (extent_of-some t) e
   where
-    go : (o : Option Form) → ((m : ℕ) → o ≡ Some (Whole m) → 0 < m) → option_and_then (form_len f t) o ≡ Some n → 0 < n
+    go : (o : Option Extent) → ((m : ℕ) → o ≡ Some (Whole m) → 0 < m) → option_and_then (extent_len f t) o ≡ Some n → 0 < n
     go None some e = cc
     go (Some (Whole m)) some e = let is : m ≡ n = cc in let above = some m refl in omega arith
     go (Some (QuotedFrom m)) some e = inner (quoted_len f (drop m t)) (quoted_len-some f (drop m t)) e
@@ -92,10 +91,10 @@ quoted_len-same f g t same =
     ap (option_map (λ k. mark + (k + mark))) (same (take mark t) (drop mark t) (omega (arith, length-drop mark t))))
 
 escape_len_by-same : (f g : List ℕ → List ℕ → Option ℕ) (t : List ℕ) → ((d u : List ℕ) → length u < length t → f d u ≡ g d u) → escape_len_by f t ≡ escape_len_by g t
-unfolding escape_len_by form_len
-escape_len_by-same f g t same = and_then-same (form_len f t) (form_len g t) (form_of t) (λ form is. go form)
+unfolding escape_len_by extent_len
+escape_len_by-same f g t same = and_then-same (extent_len f t) (extent_len g t) (extent_of t) (λ extent is. go extent)
   where
-    go : (form : Form) → form_len f t form ≡ form_len g t form
+    go : (extent : Extent) → extent_len f t extent ≡ extent_len g t extent
     go (Whole n) = refl
     go (QuotedFrom n) = ap (option_map (λ k. n + k)) (quoted_len-same f g (drop n t) (λ d u lt. same d u (omega (arith, length-drop n t))))
 
@@ -141,17 +140,17 @@ content_len-next d t =
 
 -- ---- the length of an escape by its form
 
-pub escape_len-none : (t : List ℕ) → form_of t ≡ None → escape_len t ≡ None
+pub escape_len-none : (t : List ℕ) → extent_of t ≡ None → escape_len t ≡ None
 unfolding escape_len escape_len_by
-escape_len-none t is = ap (option_and_then (form_len content_len t)) is
+escape_len-none t is = ap (option_and_then (extent_len content_len t)) is
 
-pub escape_len-whole : (t : List ℕ) (n : ℕ) → form_of t ≡ Some (Whole n) → escape_len t ≡ Some n
-unfolding escape_len escape_len_by form_len
-escape_len-whole t n is = ap (option_and_then (form_len content_len t)) is
+pub escape_len-whole : (t : List ℕ) (n : ℕ) → extent_of t ≡ Some (Whole n) → escape_len t ≡ Some n
+unfolding escape_len escape_len_by extent_len
+escape_len-whole t n is = ap (option_and_then (extent_len content_len t)) is
 
-pub escape_len-quoted : (t : List ℕ) (n : ℕ) → form_of t ≡ Some (QuotedFrom n) → escape_len t ≡ option_map (λ k. n + k) (quoted_len content_len (drop n t))
-unfolding escape_len escape_len_by form_len
-escape_len-quoted t n is = ap (option_and_then (form_len content_len t)) is
+pub escape_len-quoted : (t : List ℕ) (n : ℕ) → extent_of t ≡ Some (QuotedFrom n) → escape_len t ≡ option_map (λ k. n + k) (quoted_len content_len (drop n t))
+unfolding escape_len escape_len_by extent_len
+escape_len-quoted t n is = ap (option_and_then (extent_len content_len t)) is
 
 pub escape_len-some : (t : List ℕ) (n : ℕ) → escape_len t ≡ Some n → 0 < n
 unfolding escape_len

@@ -4,6 +4,7 @@ pub mod Unwinding
 pub mod HexNumbers
 pub mod MeaningLemmas
 pub mod Characters
+pub mod LetterLemmas
 pub mod Boundaries
 pub mod ArgumentTexts
 pub mod EscapeTexts

@@ -4,7 +4,8 @@ use Rattle.std.specs.Prelude.{slice_index}
 use Rattle.std.specs.Str.{is_utf8}
 use Rattle.std.proofs.lemmas.Bool.{cases_Bool}
 use Rattle.std.proofs.lemmas.Str.{is_utf8-from_IsUtf8, IsUtf8-from_is_utf8}
-use Rattle.page_core_escapes.specs.Meanings.{nothing, undefined, known_meaning, first_char, meaning_of}
+use Rattle.page_core_escapes.specs.Letters.{letter_of}
+use Rattle.page_core_escapes.specs.Meanings.{nothing, letter_meaning, first_char, meaning_of}
 
 pub meaning_of-short : (t : List ℕ) → length t < 2 → nothing ≡ meaning_of t
 unfolding meaning_of
@@ -12,7 +13,7 @@ meaning_of-short [] short = refl
 meaning_of-short (b ∷ []) short = refl
 meaning_of-short (b ∷ key ∷ written) short = absurd (omega arith)
 
-pub meaning_of-parts : (t : List ℕ) → 2 ≤ length t → unwrap_or (known_meaning (get_or t 1 0) (drop 2 t)) (undefined (first_char (drop 1 t))) ≡ meaning_of t
+pub meaning_of-parts : (t : List ℕ) → 2 ≤ length t → letter_meaning (letter_of (get_or t 1 0)) (drop 1 t) ≡ meaning_of t
 unfolding meaning_of
 meaning_of-parts [] long = absurd (omega arith)
 meaning_of-parts (b ∷ []) long = absurd (omega arith)

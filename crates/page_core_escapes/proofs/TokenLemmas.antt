@@ -103,4 +103,3 @@ white_first b bs h = elim (cases_Bool (is_white b)) [ inl t ↦ t | inr t ↦ ab
   where
     never : true ≡ false → ⊥
     never e = grind (arith, e)
-

@@ -4,12 +4,12 @@ use Rattle.std.specs.Option.{option_and_then}
 use Rattle.std.specs.List.{starts_with}
 use Rattle.std.proofs.lemmas.List.{drop-drop, length-take, length-take-le, take_all, reverse-append, take-append-drop, drop_more}
 use Rattle.std.proofs.lemmas.Option.{slice_get_within, get_or_from_slice_get, slice_get-get_or}
-use Rattle.page_core_escapes.specs.declared.form.Form.{Form}
-use Rattle.page_core_escapes.specs.declared.form.Form.TheVariants.{Whole, QuotedFrom}
+use Rattle.page_core_escapes.specs.declared.extents.Extent.{Extent}
+use Rattle.page_core_escapes.specs.declared.extents.Extent.TheVariants.{Whole, QuotedFrom}
 use Rattle.page_core_escapes.specs.declared.quoted.Step.{Step}
 use Rattle.page_core_escapes.specs.declared.quoted.Step.TheVariants.{Passes, Opens, Closes}
-use Rattle.page_core_escapes.specs.Forms.{character_len, form_of}
-use Rattle.page_core_escapes.specs.Lengths.{quoted_len, form_len, escape_len_by, content_len}
+use Rattle.page_core_escapes.specs.Extents.{character_len, extent_of}
+use Rattle.page_core_escapes.specs.Lengths.{quoted_len, extent_len, escape_len_by, content_len}
 use Rattle.page_core_escapes.specs.Steps.{first_character, step_over, step_of, StepFits}
 use Rattle.page_core_escapes.proofs.Options.{and_then-same, and_then-map, map-and_then, map-map, map-same}
 use Rattle.page_core_escapes.proofs.Contents.{character_len-fits, next_content, content_len-next}
@@ -79,11 +79,11 @@ no_mark : (n : ℕ) (t : List ℕ) → character_len (drop n t) ≡ None → (F 
 unfolding quoted_len
 no_mark n t is F = ap (λ o. option_and_then F (option_map (λ k. n + k) (option_and_then (λ mark. option_map (λ k. mark + (k + mark)) (content_len (take mark (drop n t)) (drop mark (drop n t)))) o))) is
 
-rest_len-form : (d : List ℕ) (ds : List (List ℕ)) (t : List ℕ) (o : Option Form) → option_and_then (λ e. option_map (λ r. e + r) (rest_len (d ∷ ds) (drop e t))) (option_and_then (form_len content_len t) o) ≡ option_and_then (after_step d ds t) (option_and_then (step_over t) o)
-unfolding form_len
-rest_len-form d ds t None = refl
-rest_len-form d ds t (Some (Whole n)) = refl
-rest_len-form d ds t (Some (QuotedFrom n)) = go (character_len (drop n t)) refl
+rest_len-extent : (d : List ℕ) (ds : List (List ℕ)) (t : List ℕ) (o : Option Extent) → option_and_then (λ e. option_map (λ r. e + r) (rest_len (d ∷ ds) (drop e t))) (option_and_then (extent_len content_len t) o) ≡ option_and_then (after_step d ds t) (option_and_then (step_over t) o)
+unfolding extent_len
+rest_len-extent d ds t None = refl
+rest_len-extent d ds t (Some (Whole n)) = refl
+rest_len-extent d ds t (Some (QuotedFrom n)) = go (character_len (drop n t)) refl
   where
     go : (o : Option ℕ) → character_len (drop n t) ≡ o → option_and_then (λ e. option_map (λ r. e + r) (rest_len (d ∷ ds) (drop e t))) (option_map (λ k. n + k) (quoted_len content_len (drop n t))) ≡ option_and_then (after_step d ds t) (option_map (λ mark. Opens n mark) o)
     go None is = no_mark n t is (λ e. option_map (λ r. e + r) (rest_len (d ∷ ds) (drop e t)))
@@ -99,9 +99,9 @@ cond_sides false F G x y u v here there = there
 abbrev left_of : List ℕ → List (List ℕ) → List ℕ → ℕ → Option ℕ
 left_of d ds t k = option_map (λ r. k + (length d + r)) (rest_len ds (drop (k + length d) t))
 
-step-escape : (d : List ℕ) (ds : List (List ℕ)) (t : List ℕ) → option_and_then (left_of d ds t) (option_and_then (λ n. option_map (λ k. n + k) (content_len d (drop n t))) (escape_len_by content_len t)) ≡ option_and_then (after_step d ds t) (option_and_then (step_over t) (form_of t))
+step-escape : (d : List ℕ) (ds : List (List ℕ)) (t : List ℕ) → option_and_then (left_of d ds t) (option_and_then (λ n. option_map (λ k. n + k) (content_len d (drop n t))) (escape_len_by content_len t)) ≡ option_and_then (after_step d ds t) (option_and_then (step_over t) (extent_of t))
 unfolding escape_len_by
-step-escape d ds t = rest_len-escape d ds t (escape_len_by content_len t) ∙ rest_len-form d ds t (form_of t)
+step-escape d ds t = rest_len-escape d ds t (escape_len_by content_len t) ∙ rest_len-extent d ds t (extent_of t)
 
 step-closes : (d : List ℕ) (ds : List (List ℕ)) (t : List ℕ) → left_of d ds t 0 ≡ option_map (λ r. length d + r) (rest_len ds (drop (length d) t))
 step-closes d ds t =

@@ -30,7 +30,7 @@ meaning_seen (E.Undefined c) = undefined c
 meaning_seen E.Unsupported = unsupported
 meaning_seen E.Bad = bad
 
--- what an escape of so many bytes means; one without its end takes the text's rest
+-- what an escape means, and its bytes; one without its end takes the text's rest
 abbrev pub read_escape : List ℕ → Option ℕ → Meaning × ℕ
 read_escape text None = (bad, length text)
 read_escape text (Some len) = (meaning_of (take len text), len)

@@ -1,5 +1,6 @@
-pub mod Shapes
-pub mod Forms
+pub mod Bytes
+pub mod Letters
+pub mod Extents
 pub mod Lengths
 pub mod Steps
 pub mod Meanings

@@ -1,9 +1,15 @@
 -- What an escape means: roff(7), "Escape sequences", and mandoc_char(7).
-use Rattle.std.specs.Prelude.{ℕ, ◌+◌, ◌-◌, ◌*◌, Bool, false, ◌&&◌, ◌||◌, not, ◌==◌, nat_le, List, [], ◌∷◌, length, take, drop, fold, codes, if◌then◌else◌, Option, unwrap_or, option_map, find, slice_index}
+use Rattle.std.specs.Prelude.{ℕ, ◌+◌, ◌-◌, ◌*◌, Bool, false, ◌&&◌, ◌||◌, not, ◌==◌, nat_le, List, [], ◌∷◌, length, take, drop, fold, codes, if◌then◌else◌, unwrap_or, slice_index}
 use Rattle.std.specs.List.{list_any, list_all}
 use Rattle.std.specs.Str.{bytes_eq, chars, is_utf8}
-use Rattle.page_core_escapes.specs.Shapes.{is_among, is_digit}
-use Rattle.page_core_escapes.specs.Forms.{character_len}
+use Rattle.page_core_escapes.specs.declared.letters.Shape.{Shape}
+use Rattle.page_core_escapes.specs.declared.letters.Shape.TheVariants.{Alone, Glyph, Name, Size, Quoted}
+use Rattle.page_core_escapes.specs.declared.letters.Kind.{Kind}
+use Rattle.page_core_escapes.specs.declared.letters.Kind.TheVariants as means
+use Rattle.page_core_escapes.specs.declared.letters.Letter.{Letter}
+use Rattle.page_core_escapes.specs.Bytes.{is_digit, parenthesis, bracket}
+use Rattle.page_core_escapes.specs.Letters.{letter_of}
+use Rattle.page_core_escapes.specs.Extents.{character_len}
 
 -- the font that an escape asks for: one of the four, the former one, or a name that no font has
 pub data Face : Type 0 where
@@ -43,7 +49,7 @@ without_last bs = take (length bs - 1) bs
 -- a name that was written as `x`, `(xx` or `[name]`
 abbrev pub bare_name : List ℕ → List ℕ
 bare_name [] = []
-bare_name (b ∷ bs) = if b == 0x28 then bs else (if b == 0x5B then without_last bs else b ∷ bs)
+bare_name (b ∷ bs) = if b == parenthesis then bs else (if b == bracket then without_last bs else b ∷ bs)
 
 -- an argument that was written between two delimiters
 abbrev pub bare_quoted : List ℕ → List ℕ
@@ -51,6 +57,7 @@ bare_quoted bs = let mark = unwrap_or (character_len bs) 0 in take (length bs - 
 
 -- ---- code points: `[uXXXX]` with four to six hexadecimal digits in upper case
 
+-- 0 to 9 and A to F
 abbrev pub is_hex_digit : ℕ → Bool
 is_hex_digit b = is_digit b || (nat_le 0x41 b && nat_le b 0x46)
 
@@ -64,6 +71,7 @@ hex_number digits = fold (λ n b. n * 16 + hex_value b) 0 digits
 abbrev pub is_code_point : ℕ → Bool
 is_code_point c = nat_le 0xA0 c && (nat_le c 0x10FFFF && not (nat_le 0xD800 c && nat_le c 0xDFFF))
 
+-- `u` and its digits
 abbrev pub names_code_point : List ℕ → Bool
 names_code_point [] = false
 names_code_point (b ∷ digits) =
@@ -85,61 +93,46 @@ face_of name =
     if is_one_of name (codes "BI" ∷ codes "4" ∷ []) then bold_italic else (
     if is_one_of name (codes "P" ∷ [] ∷ []) then former else unknown name))))
 
--- ---- all escapes
-
--- the characters of some escapes, and what these mean, by the argument as it is written
-pub record Row : Type 0 where
-  pub keys : List ℕ
-  pub meaning : List ℕ → Meaning
-
-abbrev pub alone : List ℕ → Meaning → Row
-alone keys meaning = record { keys = keys; meaning = λ _. meaning }
-
-abbrev pub named : List ℕ → (List ℕ → Meaning) → Row
-named keys meaning = record { keys = keys; meaning = λ written. meaning (bare_name written) }
-
-abbrev pub quoted : List ℕ → (List ℕ → Meaning) → Row
-quoted keys meaning = record { keys = keys; meaning = λ written. meaning (bare_quoted written) }
-
--- `s` without a size is no escape
-abbrev pub sized : List ℕ → Meaning
-sized [] = undefined 0x73
-sized (b ∷ bs) = nothing
-
-abbrev pub table : List Row
-table =
-    record { keys = codes "("; meaning = glyph } ∷
-    record { keys = codes "["; meaning = λ written. bracketed (without_last written) } ∷
-    quoted (codes "C") glyph ∷
-    alone (codes "e\\") (character 0x5C) ∷
-    alone (codes "-") (character 0x2D) ∷
-    alone (codes "'") (character 0xB4) ∷
-    alone (codes "`") (character 0x60) ∷
-    alone (codes ".") (character 0x2E) ∷
-    alone (codes "t") tab ∷
-    alone (codes " ~0") blank ∷
-    quoted (codes "h") blanks ∷
-    alone (codes "c") glue ∷
-    named (codes "f") (λ name. face (face_of name)) ∷
-    alone (codes "&)|^%/,:aurdz{") nothing ∷
-    named (codes "mMkF") (λ _. nothing) ∷
-    quoted (codes "vx") (λ _. nothing) ∷
-    record { keys = codes "s"; meaning = sized } ∷
-    alone (codes "p") unsupported ∷
-    named (codes "gVY") (λ _. unsupported) ∷
-    quoted (codes "bolLDNXABHSRZ") (λ _. unsupported) ∷
-    []
+-- ---- all escapes, by their letters
 
 -- the first character of a text; one that is not UTF-8 has the replacement character
 unfoldable pub first_char : List ℕ → ℕ
 first_char text = if is_utf8 text then slice_index (chars text) 0 else 0xFFFD
 
--- an escape's meaning by its character and what is written behind that, where there is such an escape
-abbrev pub known_meaning : ℕ → List ℕ → Option Meaning
-known_meaning key written = option_map (λ row. row.meaning written) (find (λ row. is_among key row.keys) table)
+-- the argument of an escape, without what stands round it, by its shape and its text from its letter on
+abbrev pub argument_of : Shape → List ℕ → List ℕ
+argument_of Alone text = []
+argument_of Glyph text = bare_name text
+argument_of Name text = bare_name (drop 1 text)
+argument_of Size text = drop 1 text
+argument_of Quoted text = bare_quoted (drop 1 text)
+
+-- another character: there is no such escape
+abbrev pub another_character : List ℕ → Meaning
+another_character text = undefined (first_char text)
+
+-- what an escape means by its kind, its argument and its text from its letter on
+abbrev pub meaning_by : Kind → (argument text : List ℕ) → Meaning
+meaning_by means.Glyph argument text = glyph argument
+meaning_by means.CodePoint argument text = bracketed argument
+meaning_by (means.Char c) argument text = character c
+meaning_by means.Tab argument text = tab
+meaning_by means.Blank argument text = blank
+meaning_by means.Blanks argument text = blanks argument
+meaning_by means.Nothing argument text = nothing
+meaning_by means.Size [] text = another_character text
+meaning_by means.Size (b ∷ bs) text = nothing
+meaning_by means.Glue argument text = glue
+meaning_by means.Font argument text = face (face_of argument)
+meaning_by means.Undefined argument text = another_character text
+meaning_by means.Unsupported argument text = unsupported
+
+-- what an escape with a letter means, by its text from the letter on
+abbrev pub letter_meaning : Letter → List ℕ → Meaning
+letter_meaning letter text = meaning_by letter.kind (argument_of letter.shape text) text
 
 -- the meaning of a text that is one escape; a backslash alone prints nothing
 unfoldable pub meaning_of : List ℕ → Meaning
 meaning_of [] = nothing
 meaning_of (b ∷ []) = nothing
-meaning_of (b ∷ key ∷ written) = unwrap_or (known_meaning key written) (undefined (first_char (key ∷ written)))
+meaning_of (b ∷ key ∷ written) = letter_meaning (letter_of key) (key ∷ written)

@@ -6,19 +6,19 @@ ghost use Rattle.std.specs.Str.{IsUtf8, IsCharBoundary};
 ghost use Rattle.page_core_escapes.specs.Lengths.{escape_len};
 ghost use Rattle.page_core_escapes.specs.Escapes.{escape_of, meaning_seen, HasTexts};
 
-use form::{Form, read_form};
+use extents::{Extent, read_extent};
 use meaning::read_meaning;
 use page_core_limits::LINE;
 use quoted::quoted_len;
 
-mod form;
+mod extents;
+mod letters;
 mod meaning;
 mod quoted;
-mod shape;
 mod tokens;
 
 pub use meaning::{Escape, FontName, read_font};
-pub use tokens::{Token, begins_word, is_white, read_token, white_len};
+pub use tokens::{Token, begins_word, read_token};
 
 /// The escape at the front of a text, where a backslash is, and how many bytes it takes: roff(7),
 /// "Escape sequences". One that has no end takes the rest of the text. What it lends of
@@ -47,11 +47,8 @@ fn escape_len(text: &[u8]) -> Option<usize>
     ensures value { result ≡ escape_len text.now }
     ensures bound { IfSome result (λ len. len ≤ length text.now) }
 {
-    match read_form(text)? {
-        Form::Whole(len) => Some(len),
-        Form::QuotedFrom(from) => Some(from + quoted_len(&text[from..])?),
+    match read_extent(text)? {
+        Extent::Whole(len) => Some(len),
+        Extent::QuotedFrom(from) => Some(from + quoted_len(&text[from..])?),
     }
 }
-
-#[cfg(test)]
-mod tests;

@@ -1,15 +1,16 @@
 //! What an escape means.
-ghost use Rattle.std.specs.Prelude.{◌≡◌, ◌<◌, ◌≤◌, length, drop, slice_index, option_map, if◌then◌else◌};
+ghost use Rattle.std.specs.Prelude.{◌≡◌, ◌<◌, ◌≤◌, length, drop, if◌then◌else◌};
 ghost use Rattle.std.specs.List.{list_all, list_any};
 ghost use Rattle.std.specs.Str.{bytes_eq};
-ghost use Rattle.page_core_escapes.specs.Meanings.{meaning_of, known_meaning, bare_name, bare_quoted, without_last, bracketed, names_code_point, is_hex_digit, hex_number, hex_value, face_of, first_char};
+ghost use Rattle.page_core_escapes.specs.Meanings.{meaning_of, argument_of, meaning_by, bare_name, bare_quoted, without_last, bracketed, names_code_point, is_hex_digit, hex_number, hex_value, face_of, first_char};
 ghost use Rattle.page_core_escapes.specs.Escapes.{meaning_seen, face_seen};
 
-use crate::form::character_len;
+use crate::extents::character_len;
+use crate::letters::{Kind, Shape, letter_of};
 use std::str;
 
 /// The font that an escape asks for.
-#[derive(Clone, Copy, Debug, PartialEq, Eq)]
+#[derive(Clone, Copy)]
 pub enum FontName<'a> {
     R,
     I,
@@ -22,7 +23,7 @@ pub enum FontName<'a> {
 }
 
 /// What an escape means: roff(7), "Escape sequences", and mandoc_char(7).
-#[derive(Clone, Copy, Debug, PartialEq, Eq)]
+#[derive(Clone, Copy)]
 pub enum Escape<'a> {
     /// The glyph of this name, which there may be or not.
     Glyph(&'a [u8]),
@@ -47,59 +48,49 @@ pub enum Escape<'a> {
 
 // The meaning of a text that is one escape.
 pub(crate) fn read_meaning(escape: &[u8]) -> Escape<'_>
-    requires { slice_index escape.now 0 ≡ 0x5C }
     ensures { meaning_seen result ≡ meaning_of escape.now }
 {
     if escape.len() < 2 {
         return Escape::Nothing;
     }
-    match known_meaning(escape[1], &escape[2..]) {
-        Some(meaning) => meaning,
-        None => Escape::Undefined(first_char(&escape[1..])),
+    let letter = letter_of(escape[1]);
+    let text = &escape[1..];
+    meaning_by(letter.kind, argument(letter.shape, text), text)
+}
+
+// The argument of an escape by its text from its letter on.
+fn argument(shape: Shape, text: &[u8]) -> &[u8]
+    requires { 0 < length text.now }
+    ensures { result.now ≡ argument_of shape text.now }
+{
+    match shape {
+        Shape::Alone => b"",
+        Shape::Glyph => bare_name(text),
+        Shape::Name => bare_name(&text[1..]),
+        Shape::Size => &text[1..],
+        Shape::Quoted => bare_quoted(&text[1..]),
     }
 }
 
-// The meaning of an escape by its character and what is written behind that, none where there is no such escape.
-fn known_meaning(key: u8, written: &[u8]) -> Option<Escape<'_>>
-    ensures { option_map meaning_seen result ≡ known_meaning key written.now }
+// The meaning of an escape by its kind, its argument and its text from its letter on.
+fn meaning_by<'a>(kind: Kind, argument: &'a [u8], text: &[u8]) -> Escape<'a>
+    requires { 0 < length text.now }
+    ensures { meaning_seen result ≡ meaning_by kind argument.now text.now }
 {
-    match key {
-        b'(' => Some(Escape::Glyph(written)),
-        b'[' => Some(read_bracketed(without_last(written))),
-        b'C' => Some(Escape::Glyph(bare_quoted(written))),
-        b'e' | b'\\' => Some(Escape::Char('\\')),
-        b'-' => Some(Escape::Char('-')),
-        b'\'' => Some(Escape::Char('\u{B4}')),
-        b'`' => Some(Escape::Char('`')),
-        b'.' => Some(Escape::Char('.')),
-        b't' => Some(Escape::Tab),
-        b' ' | b'~' | b'0' => Some(Escape::Blank),
-        b'h' => Some(Escape::Blanks(bare_quoted(written))),
-        b'c' => Some(Escape::Glue),
-        b'f' => Some(Escape::Font(read_font(bare_name(written)))),
-        b'&'
-        | b')'
-        | b'|'
-        | b'^'
-        | b'%'
-        | b'/'
-        | b','
-        | b':'
-        | b'a'
-        | b'u'
-        | b'r'
-        | b'd'
-        | b'z'
-        | b'{' => Some(Escape::Nothing),
-        b'm' | b'M' | b'k' | b'F' => Some(Escape::Nothing),
-        b'v' | b'x' => Some(Escape::Nothing),
-        b's' if written.is_empty() => Some(Escape::Undefined('s')),
-        b's' => Some(Escape::Nothing),
-        b'p' => Some(Escape::Unsupported),
-        b'g' | b'V' | b'Y' => Some(Escape::Unsupported),
-        b'b' | b'o' | b'l' | b'L' | b'D' | b'N' | b'X' | b'A' | b'B' | b'H' | b'S' | b'R' | b'Z' =>
-            { Some(Escape::Unsupported) }
-        _ => None,
+    match kind {
+        Kind::Glyph => Escape::Glyph(argument),
+        Kind::CodePoint => read_bracketed(argument),
+        Kind::Char(c) => Escape::Char(c),
+        Kind::Tab => Escape::Tab,
+        Kind::Blank => Escape::Blank,
+        Kind::Blanks => Escape::Blanks(argument),
+        Kind::Nothing => Escape::Nothing,
+        Kind::Size if argument.is_empty() => Escape::Undefined(first_char(text)),
+        Kind::Size => Escape::Nothing,
+        Kind::Glue => Escape::Glue,
+        Kind::Font => Escape::Font(read_font(argument)),
+        Kind::Undefined => Escape::Undefined(first_char(text)),
+        Kind::Unsupported => Escape::Unsupported,
     }
 }
 

@@ -1,12 +1,12 @@
 //! How many bytes a quoted argument takes.
 ghost use Rattle.std.specs.Prelude.{◌≡◌, ◌+◌, ◌<◌, ◌≤◌, ℕ, length, drop, IfSome};
-ghost use Rattle.page_core_escapes.specs.Forms.{character_len};
+ghost use Rattle.page_core_escapes.specs.Extents.{character_len};
 ghost use Rattle.page_core_escapes.specs.Lengths.{quoted_len, content_len};
 ghost use Rattle.page_core_escapes.specs.Steps.{first_character, opening_of, step_of, StepFits};
 
-use page_core_limits::LINE;
-use crate::form::{Form, character_len, read_form};
+use crate::extents::{Extent, character_len, read_extent};
 use arrayvec::ArrayVec;
+use page_core_limits::LINE;
 
 // One more than the arguments that can stand inside one another on a line: each takes three bytes at least.
 const NESTING: usize = 21_846;
@@ -41,15 +41,15 @@ fn next_step(delimiter: &[u8], text: &[u8]) -> Option<Step>
     if first != b'\\' {
         return Some(Step::Passes(1));
     }
-    match read_form(text)? {
-        Form::Whole(len) => Some(Step::Passes(len)),
-        Form::QuotedFrom(from) => opening(text, from),
+    match read_extent(text)? {
+        Extent::Whole(len) => Some(Step::Passes(len)),
+        Extent::QuotedFrom(from) => opening(text, from),
     }
 }
 
 // The step into an argument that begins after `from` bytes.
 fn opening(text: &[u8], from: usize) -> Option<Step>
-    requires behind { 2 ≤ from }
+    requires after_letter { 2 ≤ from }
     requires inside { from ≤ length text.now }
     ensures value { result ≡ opening_of text.now from }
     ensures bound { IfSome result (StepFits (length text.now)) }

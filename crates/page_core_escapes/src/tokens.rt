@@ -49,15 +49,15 @@ impl<'a> Token<'a> {
     }
 }
 
-/// Whether a byte is a blank or a tab.
-pub fn is_white(byte: u8) -> bool
+// Whether a byte is a blank or a tab.
+fn is_white(byte: u8) -> bool
     ensures { result ≡ is_white byte }
 {
     byte == b' ' || byte == b'\t'
 }
 
-/// The number of blanks and tabs at a text's front.
-pub fn white_len(text: &[u8]) -> usize
+// The number of blanks and tabs at a text's front.
+fn white_len(text: &[u8]) -> usize
     ensures value { result ≡ prefix_len is_white text.now }
     ensures within { result ≤ length text.now }
 {

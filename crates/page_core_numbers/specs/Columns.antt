@@ -4,10 +4,14 @@ use Rattle.std.specs.Str.{chars}
 use Rattle.page_core_base.specs.declared.page_settings.Output.{Output}
 use Rattle.page_core_escapes.specs.Meanings as escapes
 use Rattle.page_core_escapes.specs.Meanings.{Meaning}
+use Rattle.page_core_escapes.specs.Bytes.{backslash}
 use Rattle.page_core_escapes.specs.Escapes.{escape_of}
 use Rattle.page_core_tables.specs.Printed.{char_printed, glyph_printed, char_columns}
 use Rattle.page_core_numbers.specs.declared.scales.Scale.TheVariants.{Em}
 use Rattle.page_core_numbers.specs.Expressions.{expression_of}
+
+abbrev blank : ℕ
+blank = 0x20
 
 -- the columns of characters
 abbrev pub characters_columns : List ℕ → ℕ
@@ -26,7 +30,7 @@ printed_escape output (escapes.glyph name) = (glyph_printed output name).charact
 printed_escape output (escapes.character c) = (char_printed output c).characters
 printed_escape output escapes.tab = codes " "
 printed_escape output escapes.blank = codes " "
-printed_escape output (escapes.blanks expression) = replicate (blanks_in (expression_of Em expression).value) 0x20
+printed_escape output (escapes.blanks expression) = replicate (blanks_in (expression_of Em expression).value) blank
 printed_escape output escapes.nothing = []
 printed_escape output escapes.glue = []
 printed_escape output (escapes.face name) = []
@@ -35,9 +39,6 @@ printed_escape output escapes.unsupported = []
 printed_escape output escapes.bad = []
 
 -- ---- texts
-
-abbrev backslash : ℕ
-backslash = 0x5C
 
 -- what stands at a text's front, where the text's characters are known: an escape, or a character
 abbrev pub printed_front : Output → List ℕ → List ℕ → List ℕ

@@ -6,6 +6,7 @@ use Rattle.page_core_base.specs.declared.note_kinds.NoteKind.TheVariants as kind
 use Rattle.page_core_base.specs.Messages.{Message}
 use Rattle.page_core_limits.specs.declared.Limit.TheVariants.{Parens}
 use Rattle.page_core_limits.specs.Limits.{name_of}
+use Rattle.page_core_escapes.specs.Bytes.{plus, minus, parenthesis, closing_parenthesis}
 use Rattle.page_core_numbers.specs.declared.scales.Scale.{Scale}
 use Rattle.page_core_numbers.specs.declared.operators.Operator.{Operator}
 use Rattle.page_core_numbers.specs.declared.troubles.Trouble.{Trouble}
@@ -32,7 +33,7 @@ number text (Some found) = record { value = Some found.0; troubles = []; ends = 
 -- a parenthesis that closes is taken; where it is missing it is taken as there
 abbrev pub after_close : List ℕ → List ℕ
 after_close [] = []
-after_close (b ∷ bs) = if b == 0x29 then bs else b ∷ bs
+after_close (b ∷ bs) = if b == closing_parenthesis then bs else b ∷ bs
 
 -- An expression in parentheses. Where it ends early, what stands around it ends with it, and its value so far is the operand.
 abbrev pub in_parentheses : Read ℤ → Read (Option ℤ)
@@ -55,9 +56,9 @@ negated_operand operand = record operand { value = option_map (λ n. in_range (n
 unfoldable pub operand_by : (inside : Option (List ℕ → Read ℤ)) → Scale → List ℕ → Read (Option ℤ)
 operand_by inside scale [] = no_operand NotNumeric []
 operand_by inside scale (b ∷ bs) =
-    if b == 0x2D then negated_operand (operand_by inside scale bs)
-    else if b == 0x2B then operand_by inside scale bs
-    else if b == 0x28 then operand_inside inside (b ∷ bs) bs
+    if b == minus then negated_operand (operand_by inside scale bs)
+    else if b == plus then operand_by inside scale bs
+    else if b == parenthesis then operand_inside inside (b ∷ bs) bs
     else number (b ∷ bs) (number_at scale (b ∷ bs))
 
 -- ---- operations

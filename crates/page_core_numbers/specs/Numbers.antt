@@ -2,7 +2,7 @@
 use Rattle.std.specs.Prelude.{ℕ, ◌+◌, ◌-◌, ◌*◌, ◌/◌, ◌==◌, List, [], ◌∷◌, ◌++◌, length, take, drop, fold, codes, if◌then◌else◌, Option, Some, None, unwrap_or, is_some, ℤ, pos}
 use Rattle.std.specs.List.{prefix_len}
 use Rattle.std.specs.Int.{w32, saturate_signed}
-use Rattle.page_core_escapes.specs.Shapes.{is_among, is_digit}
+use Rattle.page_core_escapes.specs.Bytes.{is_among, is_digit}
 use Rattle.page_core_numbers.specs.declared.scales.Scale.{Scale}
 use Rattle.page_core_numbers.specs.declared.scales.Scale.TheVariants.{Basic, En, Em, Vertical, Pica, Inch, Point, Centimeter}
 
@@ -52,14 +52,17 @@ digits_of text = take (prefix_len is_digit text) text
 abbrev pub after_digits : List ℕ → List ℕ
 after_digits text = drop (prefix_len is_digit text) text
 
+abbrev pub point : ℕ
+point = 0x2E
+
 -- the digits after a point, where a text begins with one
 abbrev pub fraction_of : List ℕ → List ℕ
 fraction_of [] = []
-fraction_of (b ∷ bs) = if b == 0x2E then digits_of bs else []
+fraction_of (b ∷ bs) = if b == point then digits_of bs else []
 
 abbrev pub after_fraction : List ℕ → List ℕ
 after_fraction [] = []
-after_fraction (b ∷ bs) = if b == 0x2E then after_digits bs else b ∷ bs
+after_fraction (b ∷ bs) = if b == point then after_digits bs else b ∷ bs
 
 -- the unit at a text's front
 abbrev pub scale_at : List ℕ → Option Scale
@@ -71,8 +74,11 @@ after_scale text = if is_some (scale_at text) then drop 1 text else text
 
 -- ---- what a number is worth
 
+abbrev pub zero_digit : ℕ
+zero_digit = 0x30
+
 abbrev pub decimal : List ℕ → ℕ
-decimal digits = fold (λ n b. n * 10 + (b - 0x30)) 0 digits
+decimal digits = fold (λ n b. n * 10 + (b - zero_digit)) 0 digits
 
 -- the digits after a point in ten-thousandths: four of them count
 abbrev pub ten_thousandths : List ℕ → ℕ

@@ -1,7 +1,7 @@
 -- The operators of an expression: roff(7), "Numerical expressions".
 use Rattle.std.specs.Prelude.{ℕ, Bool, true, false, ◌&&◌, ◌||◌, ◌==◌, List, [], ◌∷◌, drop, codes, if◌then◌else◌, Option, Some, None, option_map, ℤ, pos, negsuc, ◌+ℤ◌, ◌-ℤ◌, ◌*ℤ◌, int_div, int_rem, int_lt, int_le}
 use Rattle.std.specs.Int.{is_positive}
-use Rattle.page_core_escapes.specs.Shapes.{is_among}
+use Rattle.page_core_escapes.specs.Bytes.{is_among}
 use Rattle.page_core_numbers.specs.declared.operators.Operator.{Operator}
 use Rattle.page_core_numbers.specs.declared.operators.Operator.TheVariants.{Add, Subtract, Multiply, Divide, Remainder, Less, Greater, AtMost, AtLeast, Equal, And, Or}
 use Rattle.page_core_numbers.specs.Numbers.{in_range}

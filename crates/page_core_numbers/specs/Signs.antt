@@ -1,5 +1,6 @@
 -- Of the code's own steps, which no public clause cites: what stands before an operand, signs and a parenthesis that opens.
 use Rattle.std.specs.Prelude.{ℕ, zero, suc, ◌==◌, List, [], ◌∷◌, if◌then◌else◌, Option, None, Some, ℤ, neg_ℤ}
+use Rattle.page_core_escapes.specs.Bytes.{plus, minus, parenthesis}
 use Rattle.page_core_numbers.specs.declared.scales.Scale.{Scale}
 use Rattle.page_core_numbers.specs.Numbers.{in_range}
 use Rattle.page_core_numbers.specs.Expressions.{Read, negated_operand, expression_within}
@@ -7,11 +8,11 @@ use Rattle.page_core_numbers.specs.Expressions.{Read, negated_operand, expressio
 -- how often the signs at a text's front negate, and what follows them
 abbrev pub minus_count : List ℕ → ℕ
 minus_count [] = 0
-minus_count (b ∷ bs) = if b == 0x2D then suc (minus_count bs) else if b == 0x2B then minus_count bs else 0
+minus_count (b ∷ bs) = if b == minus then suc (minus_count bs) else if b == plus then minus_count bs else 0
 
 abbrev pub after_signs : List ℕ → List ℕ
 after_signs [] = []
-after_signs (b ∷ bs) = if b == 0x2D then after_signs bs else if b == 0x2B then after_signs bs else b ∷ bs
+after_signs (b ∷ bs) = if b == minus then after_signs bs else if b == plus then after_signs bs else b ∷ bs
 
 abbrev pub negated_value : ℕ → ℤ → ℤ
 negated_value zero n = n
@@ -24,7 +25,7 @@ negated_times (suc times) operand = negated_operand (negated_times times operand
 -- what stands after a parenthesis that opens
 abbrev pub after_open : List ℕ → Option (List ℕ)
 after_open [] = None
-after_open (b ∷ bs) = if b == 0x28 then Some bs else None
+after_open (b ∷ bs) = if b == parenthesis then Some bs else None
 
 -- what reads an expression in parentheses where `room` more may be open
 abbrev pub inside_of : ℕ → Scale → Option (List ℕ → Read ℤ)

@@ -173,7 +173,8 @@ fn first(operand: Operand<'_>) -> Expression<'_>
 
 // The operator that goes on with an expression.
 fn next_operator(so_far: Expression<'_>) -> Option<FoundOperator<'_>>
-    ensures value { option_map found_seen result ≡ next_operator (is_some so_far.entry.troubles.stopped) so_far.entry.rest.now }
+    ensures value { option_map found_seen result
+        ≡ next_operator (is_some so_far.entry.troubles.stopped) so_far.entry.rest.now }
     ensures bound { IfSome result (λ found. length found.rest.now < length so_far.entry.rest.now) }
     ensures going { IfSome result (λ _. so_far.entry.troubles.stopped ≡ None) }
 {
@@ -184,11 +185,17 @@ fn next_operator(so_far: Expression<'_>) -> Option<FoundOperator<'_>>
 }
 
 // An expression after one more operation.
-fn after_operation<'a>(so_far: Expression<'a>, operator: Operator, operand: Operand<'a>) -> Expression<'a>
+fn after_operation<'a>(
+    so_far: Expression<'a>,
+    operator: Operator,
+    operand: Operand<'a>,
+) -> Expression<'a>
     requires going { so_far.troubles.stopped ≡ None }
     requires fits { count_of so_far.troubles + count_of operand.troubles + 1 < 2 ^ 64 }
-    ensures value { expression_seen result ≡ after_operation (expression_seen so_far.entry) operator (operand_seen operand.entry) }
-    ensures count { count_of result.troubles ≤ count_of so_far.entry.troubles + count_of operand.entry.troubles + 1 }
+    ensures value { expression_seen result
+        ≡ after_operation (expression_seen so_far.entry) operator (operand_seen operand.entry) }
+    ensures count { count_of result.troubles
+        ≤ count_of so_far.entry.troubles + count_of operand.entry.troubles + 1 }
     ensures rest { result.rest.now ≡ operand.entry.rest.now }
 {
     let (value, divides_by_zero) = match operand.value {

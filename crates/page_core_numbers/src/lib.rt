@@ -19,7 +19,7 @@ mod text_columns;
 mod troubles;
 
 pub use scales::Scale;
-pub use text_columns::columns;
+pub use text_columns::{columns, escape_columns, printed_columns};
 
 /// The expression at the front of a text, and how many bytes it takes: roff(7), "Numerical expressions". Its value is in basic units,
 /// held to the range of 32 bits after each operation, and operations are done from left to right. `unit` is the unit of a number
@@ -34,7 +34,8 @@ pub fn number<N: NoteSink>(
     notes: &mut N,
 ) -> Result<(i32, usize), Fault>
     ensures value { IfOk result (λ found. found.0 ≡ (expression_of unit text.now).value) }
-    ensures len { IfOk result (λ found. found.1 + length (expression_of unit text.now).rest ≡ length text.now) }
+    ensures len { IfOk result
+        (λ found. found.1 + length (expression_of unit text.now).rest ≡ length text.now) }
 
     // All messages, or a front of them.
     ensures gives { MatchResult result
@@ -49,6 +50,3 @@ pub fn number<N: NoteSink>(
     report(reading.troubles, line, column, notes)?;
     Ok((reading.value, text.len() - reading.rest.len()))
 }
-
-#[cfg(test)]
-mod tests;

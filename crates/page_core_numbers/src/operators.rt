@@ -5,7 +5,7 @@ ghost use Rattle.page_core_numbers.specs.Operators.{operator_named, operator_at,
 ghost use Rattle.page_core_numbers.specs.CodeValues.{found_seen};
 
 /// An operator.
-#[derive(Clone, Copy, Debug, PartialEq, Eq)]
+#[derive(Clone, Copy)]
 pub(crate) enum Operator {
     Add,
     Subtract,

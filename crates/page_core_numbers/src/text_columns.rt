@@ -33,8 +33,8 @@ fn spelling_columns(spelling: &str) -> u32
     sum
 }
 
-// The columns of what a character or a glyph prints.
-fn printed_columns(printed: Printed<'_>) -> u32
+/// The columns of what a character or a glyph prints.
+pub fn printed_columns(printed: Printed<'_>) -> u32
     requires { length (printed_seen printed).characters ≤ 8 }
     ensures value { result ≡ characters_columns (printed_seen printed.entry).characters }
     ensures bound { result ≤ 24 }
@@ -57,8 +57,8 @@ fn blanks_in(units: i32) -> u32
     (units as u32 / COLUMN).min(WIDEST)
 }
 
-// The columns of what an escape prints.
-fn escape_columns(escape: Escape<'_>, output: Output) -> u32
+/// The columns of what an escape prints.
+pub fn escape_columns(escape: Escape<'_>, output: Output) -> u32
     ensures value { result ≡ characters_columns (printed_escape output (meaning_seen escape.entry)) }
     ensures bound { result ≤ WIDEST }
 {
@@ -88,7 +88,10 @@ fn front_columns(text: &str, first: char, output: Output) -> (u32, usize)
         let (found, len) = escape(text.as_bytes());
         return (escape_columns(found, output), len);
     }
-    (printed_columns(printed_char(output, first)), first.len_utf8())
+    (
+        printed_columns(printed_char(output, first)),
+        first.len_utf8(),
+    )
 }
 
 // The columns of a text.

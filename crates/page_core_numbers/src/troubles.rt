@@ -12,7 +12,7 @@ use page_core_base::{Fault, Note, NoteKind, NoteSink, Place};
 use page_core_limits::Limit;
 
 /// What may be wrong in an expression.
-#[derive(Clone, Copy, Debug, PartialEq, Eq)]
+#[derive(Clone, Copy)]
 pub(crate) enum Trouble {
     /// There is no operand where one is wanted.
     NotNumeric,
@@ -68,7 +68,8 @@ impl Troubles {
     pub(crate) fn followed_by(self, operand: Troubles, divides_by_zero: bool) -> Troubles
         requires going { self.stopped ≡ None }
         requires fits { count_of self + count_of operand + 1 < 2 ^ 64 }
-        ensures value { troubles_seen result ≡ troubles_seen self ++ (troubles_seen operand ++ (if divides_by_zero then Trouble.DivZero ∷ [] else [])) }
+        ensures value { troubles_seen result ≡ troubles_seen self
+            ++ (troubles_seen operand ++ (if divides_by_zero then Trouble.DivZero ∷ [] else [])) }
         ensures count { count_of result ≤ count_of self + count_of operand + 1 }
         ensures stopped { is_some result.stopped ≡ is_some operand.stopped }
     {
@@ -114,7 +115,8 @@ fn report_divisions<N: NoteSink>(
     column: u32,
     notes: &mut N,
 ) -> Result<(), Fault>
-    ensures gives { Gives result N.gave N.within notes.old (messages_at line column (replicate count Trouble.DivZero)) notes.new }
+    ensures gives { Gives result N.gave N.within notes.old
+        (messages_at line column (replicate count Trouble.DivZero)) notes.new }
     ensures fault { FailsAs Fault.WriteNotes result (N.failed notes.old) (N.failed notes.new) }
     ensures same { N.loans notes.new ≡ N.loans notes.old }
 {
@@ -132,7 +134,8 @@ fn report_stopped<N: NoteSink>(
     column: u32,
     notes: &mut N,
 ) -> Result<(), Fault>
-    ensures gives { Gives result N.gave N.within notes.old (messages_at line column (stop_seen stopped)) notes.new }
+    ensures gives { Gives result N.gave N.within notes.old
+        (messages_at line column (stop_seen stopped)) notes.new }
     ensures fault { FailsAs Fault.WriteNotes result (N.failed notes.old) (N.failed notes.new) }
     ensures same { N.loans notes.new ≡ N.loans notes.old }
 {
@@ -152,7 +155,8 @@ pub(crate) fn report<N: NoteSink>(
     column: u32,
     notes: &mut N,
 ) -> Result<(), Fault>
-    ensures gives { Gives result N.gave N.within notes.old (messages_at line column (troubles_seen troubles)) notes.new }
+    ensures gives { Gives result N.gave N.within notes.old
+        (messages_at line column (troubles_seen troubles)) notes.new }
     ensures fault { FailsAs Fault.WriteNotes result (N.failed notes.old) (N.failed notes.new) }
     ensures same { N.loans notes.new ≡ N.loans notes.old }
 {

@@ -40,6 +40,3 @@ fn listed_spelling(c: char) -> &'static str
         None => "",
     }
 }
-
-#[cfg(test)]
-mod tests;

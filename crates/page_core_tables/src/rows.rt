@@ -3,7 +3,7 @@ ghost use Rattle.std.specs.Prelude.{◌≡◌, ◌≤◌, ◌∷◌, [], length,
 ghost use Rattle.page_core_tables.specs.Rows.{glyph_at, keys_rise, name_key, rows_are_named, names_have_rows, rows_are_spelled, spellings_have_rows, are_characters_from};
 
 /// A character and its spelling in ASCII, which is empty where it has none.
-#[derive(Clone, Copy, Debug, PartialEq, Eq)]
+#[derive(Clone, Copy)]
 pub struct Glyph {
     pub code: char,
     pub ascii: &'static str,

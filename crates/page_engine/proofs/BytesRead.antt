@@ -1,32 +1,22 @@
--- Bytes that are read, part by part, and the page of all of them.
-use Rattle.std.proofs.Common.{◌≡◌, ℕ, ◌+◌, ◌<◌, ◌≤◌, List, [], ◌∷◌, ◌++◌, length, take, refl, sym, ap, subst, ◌∙◌, append_assoc, append-nil, arith, length-append, Option, Some, None, Result, Ok, Err}
-use Rattle.std.specs.Io.KnownBytes.{Consumes, Keeps, IsAtEnd}
-use Rattle.std.proofs.Math.Seq.{take-length}
+-- Bytes that are read, part by part, and what their lines settle.
+use Rattle.std.proofs.Common.{◌≡◌, ℕ, ◌+◌, ◌-◌, ◌<◌, ◌≤◌, ◌^◌, min, List, [], ◌∷◌, ◌++◌, length, take, drop, refl, sym, ap, subst, ◌∙◌, append_assoc, append-nil, arith, length-append, Option, Some, None}
+use Rattle.std.specs.Io.KnownBytes.{Consumes, IsAtEnd}
 use Rattle.page_core_base.specs.Messages.{Message}
 use Rattle.page_core_base.specs.Rows.{LaidRow}
 use Rattle.page_core_base.specs.Sinks.{IsSink}
 use Rattle.page_core_base.specs.Laid.{Laid, Gave, nothing, join, join_assoc}
-use Rattle.page_core_base.specs.declared.faults.Fault.{Fault}
-use Rattle.page_core_base.specs.declared.faults.Fault.TheVariants.{Memory, Read, WriteText, WriteNotes, TooLong, Settings, Failed, Ended, BadIndex}
-use Rattle.page_core_base.specs.declared.note_kinds.Level.{Level}
 use Rattle.page_core_base.proofs.SinkLemmas.{within-join}
 use Rattle.page_roff_lines.specs.Decoding.{Line}
-use Rattle.page_roff_lines.specs.Cutting.{Place, place_of, lines_within, last_line, lines_from}
-use Rattle.page_roff_lines.proofs.PlaceLemmas.{place_of-append, lines_within-append}
-use Rattle.page_engine.specs.Page.{Edge, IsAt, laid, page, ended}
-use Rattle.page_prose.specs.declared.prose.Prose.{Prose}
-use Rattle.page_fill.specs.declared.words.Edge.{Edge as FillEdge}
-use Rattle.page_engine.specs.Runs.{IsWrite, StoppedFrom, page_from, settled_from}
-use Rattle.page_engine.proofs.Cutting.{laid_none, laid-append}
+use Rattle.page_roff_lines.specs.Cutting.{Point, point_after, lines_within, last_line, lines_from}
+use Rattle.page_roff_lines.proofs.PointLemmas.{point_after-append, lines_within-append}
+use Rattle.page_engine.specs.Page.{Edge, laid, page, ended}
+use Rattle.page_engine.specs.Runs.{page_from, settled_from}
+use Rattle.page_engine.specs.Sources.{SourceState, HasGiven, counted}
+use Rattle.page_engine.proofs.Cutting.{laid-append}
 
 pub consumes_none : (a : Option (List ℕ)) → Consumes a a []
 consumes_none None = tt
 consumes_none (Some xs) = refl
-
-pub consumes_keeps : (a b : Option (List ℕ)) → Keeps a b → Consumes a b []
-consumes_keeps None b h = tt
-consumes_keeps (Some xs) None h = absurd h
-consumes_keeps (Some xs) (Some ys) h = sym h
 
 pub consumes_more : (a b c : Option (List ℕ)) (xs ys : List ℕ) → Consumes a b xs → Consumes b c ys → Consumes a c (xs ++ ys)
 consumes_more None b c xs ys g h = tt
@@ -34,26 +24,46 @@ consumes_more (Some us) None c xs ys g h = absurd g
 consumes_more (Some us) (Some vs) None xs ys g h = absurd h
 consumes_more (Some us) (Some vs) (Some ws) xs ys g h = g ∙ (ap (λ l. xs ++ l) h ∙ sym (append_assoc xs ys ws))
 
-pub consumes_end : (a b c : Option (List ℕ)) (xs : List ℕ) → Consumes a b xs → Consumes b c [] → Consumes a c xs
-consumes_end a b c xs g h = rw append-nil at (consumes_more a b c xs [] g h)
+-- ---- the counts of a source
+
+pub counted_none : (n : ℕ) → n ≡ counted n 0
+counted_none n = omega arith
+
+pub counted_more : (n a b : ℕ) → counted (counted n a) b ≡ counted n (a + b)
+counted_more n a b = omega arith
+
+pub given_none : (s : SourceState) → HasGiven s s 0 []
+given_none s = record { read = consumes_none s.remaining; calls = counted_none s.calls; given = counted_none s.given }
+
+pub given_more : {s t u : SourceState} (a b : ℕ) (xs ys : List ℕ) → HasGiven s t a xs → HasGiven t u b ys → HasGiven s u (a + b) (xs ++ ys)
+given_more {s} {t} {u} a b xs ys g h = record {
+  read = consumes_more s.remaining t.remaining u.remaining xs ys g.read h.read;
+  calls = h.calls ∙ (ap (λ n. counted n b) g.calls ∙ counted_more s.calls a b);
+  given = h.given ∙ (ap (λ n. counted n (length ys)) g.given ∙ (counted_more s.given (length xs) (length ys)
+      ∙ ap (λ n. counted s.given n) (sym (length-append xs ys))));
+}
+
+-- no byte more
+pub given_end : {s t u : SourceState} (a b : ℕ) (xs : List ℕ) → HasGiven s t a xs → HasGiven t u b [] → HasGiven s u (a + b) xs
+given_end {s} {t} {u} a b xs g h = rw append-nil at (given_more a b xs [] g h)
 
 -- ---- what is settled of more bytes
 
-pub settled_more : (e : Edge) (p q : Place) (xs ys : List ℕ) → q ≡ place_of p xs
-    → laid e (lines_within p (xs ++ ys)) ≡ join (laid e (lines_within p xs)) (laid (laid e (lines_within p xs)).edge (lines_within q ys))
-settled_more e p q xs ys h = rw h (ap (laid e) (lines_within-append p xs ys) ∙ laid-append e (lines_within p xs) (lines_within (place_of p xs) ys))
+pub settled_more : (e : Edge) (p q : Point) (xs ys : List ℕ) → q ≡ point_after p xs
+    → settled_from e p (xs ++ ys) ≡ join (settled_from e p xs) (settled_from (settled_from e p xs).edge q ys)
+settled_more e p q xs ys h = rw h (ap (laid e) (lines_within-append p xs ys) ∙ laid-append e (lines_within p xs) (lines_within (point_after p xs) ys))
 
-pub page_last : (e : Edge) (p q : Place) (xs : List ℕ) → q ≡ place_of p xs
-    → page_from e p xs ≡ join (laid e (lines_within p xs)) (page (laid e (lines_within p xs)).edge (last_line q))
+pub page_last : (e : Edge) (p q : Point) (xs : List ℕ) → q ≡ point_after p xs
+    → page_from e p xs ≡ join (settled_from e p xs) (page (settled_from e p xs).edge (last_line q))
 page_last e p q xs h =
-    rw h (ap (λ (l : Laid Edge). join l (ended l.edge)) (laid-append e (lines_within p xs) (last_line (place_of p xs)))
-    ∙ join_assoc (laid e (lines_within p xs)) (laid (laid e (lines_within p xs)).edge (last_line (place_of p xs))) _)
+    rw h (ap (λ (l : Laid Edge). join l (ended l.edge)) (laid-append e (lines_within p xs) (last_line (point_after p xs)))
+    ∙ join_assoc (laid e (lines_within p xs)) (laid (laid e (lines_within p xs)).edge (last_line (point_after p xs))) _)
 
 -- a page of bytes begins with what its whole lines settle
 pub page_front : {R N : Type 0} {rg rw_ : R → List LaidRow → R → Type 0} {ng nw : N → List Message → N → Type 0} → IsSink rg rw_ → IsSink ng nw
-    → (r r' : R) (n n' : N) (e : Edge) (p : Place) (xs : List ℕ) → Gave rw_ nw r r' n n' (laid e (lines_within p xs)) → Gave rw_ nw r r' n n' (page_from e p xs)
+    → (r r' : R) (n n' : N) (e : Edge) (p : Point) (xs : List ℕ) → Gave rw_ nw r r' n n' (settled_from e p xs) → Gave rw_ nw r r' n n' (page_from e p xs)
 page_front k l r r' n n' e p xs g =
-    rw (page_last e p (place_of p xs) xs refl) (within-join k l r r' n n' (laid e (lines_within p xs)) (page (laid e (lines_within p xs)).edge (last_line (place_of p xs))) g)
+    rw (page_last e p (point_after p xs) xs refl) (within-join k l r r' n n' (settled_from e p xs) (page (settled_from e p xs).edge (last_line (point_after p xs))) g)
 
 -- ---- two things, one after the other
 
@@ -67,47 +77,10 @@ pub both_within : {R N E F : Type 0} {rg rw_ : R → List LaidRow → R → Type
 both_within k l {r} {a} {n} {b} a' b' x y g h =
     record { rows = k.after r a a' x.rows y.rows g.rows h.rows; notes = l.after n b b' x.notes y.notes g.notes h.notes }
 
--- a fault of a sink stops with a front of the page
-pub stopped_by : {R N : Type 0} (rg rw_ : R → List LaidRow → R → Type 0) (ng nw : N → List Message → N → Type 0) (r r' : R) (n n' : N) (e : Edge) (p : Place) (bytes : List ℕ) (fault : Fault)
-    → IsWrite fault → Gave rw_ nw r r' n n' (page_from e p bytes) → StoppedFrom rg rw_ ng nw r r' n n' e p bytes fault
-stopped_by rg rw_ ng nw r r' n n' e p bytes Memory h g = absurd h
-stopped_by rg rw_ ng nw r r' n n' e p bytes Read h g = absurd h
-stopped_by rg rw_ ng nw r r' n n' e p bytes WriteText h g = g
-stopped_by rg rw_ ng nw r r' n n' e p bytes WriteNotes h g = g
-stopped_by rg rw_ ng nw r r' n n' e p bytes TooLong h g = absurd h
-stopped_by rg rw_ ng nw r r' n n' e p bytes (Settings s) h g = absurd h
-stopped_by rg rw_ ng nw r r' n n' e p bytes Failed h g = absurd h
-stopped_by rg rw_ ng nw r r' n n' e p bytes Ended h g = absurd h
-stopped_by rg rw_ ng nw r r' n n' e p bytes (BadIndex line) h g = absurd h
+-- ---- counts of lines
 
--- ---- before the first byte
+pub lines_more : (p q : Point) (xs ys : List ℕ) → q ≡ point_after p xs → length (lines_within p (xs ++ ys)) ≡ length (lines_within p xs) + length (lines_within q ys)
+lines_more p q xs ys h = rw h (ap length (lines_within-append p xs ys) ∙ length-append (lines_within p xs) (lines_within (point_after p xs) ys))
 
-pub start_at : {f : Option FillEdge} {prose : Prose} {least worst : Option Level} {last : ℕ} (e : Edge) (p : Place)
-    → IsAt f prose least worst last e → IsAt f prose least worst last (laid e (lines_within p [])).edge
-unfolding lines_within
-start_at e p h = rw laid_none h
-
-pub start_gave : {R N : Type 0} {rg rw_ : R → List LaidRow → R → Type 0} {ng nw : N → List Message → N → Type 0} → IsSink rg rw_ → IsSink ng nw
-    → (r : R) (n : N) (e : Edge) (p : Place) → Gave rg ng r r n n (laid e (lines_within p []))
-unfolding lines_within
-start_gave k l r n e p = rw laid_none record { rows = k.none r; notes = l.none n }
-
-pub start_place : (p : Place) → p ≡ place_of p []
-unfolding place_of
-start_place p = refl
-
-pub start_count : (p : Place) → 0 ≡ length (lines_within p [])
-unfolding lines_within
-start_count p = refl
-
--- ---- counts
-
-pub lines_more : (p q : Place) (xs ys : List ℕ) → q ≡ place_of p xs → length (lines_within p (xs ++ ys)) ≡ length (lines_within p xs) + length (lines_within q ys)
-lines_more p q xs ys h = rw h (ap length (lines_within-append p xs ys) ∙ length-append (lines_within p xs) (lines_within (place_of p xs) ys))
-
-pub lines_last : (p q : Place) (xs : List ℕ) → q ≡ place_of p xs → length (lines_from p xs) ≡ length (lines_within p xs) + length (last_line q)
-lines_last p q xs h = rw h (length-append (lines_within p xs) (last_line (place_of p xs)))
-
-pub take_of_append : (xs ys : List ℕ) → take (length xs) (xs ++ ys) ≡ xs
-take_of_append [] ys = refl
-take_of_append (x ∷ xs) ys = ap (λ l. x ∷ l) (take_of_append xs ys)
+pub lines_last : (p q : Point) (xs : List ℕ) → q ≡ point_after p xs → length (lines_from p xs) ≡ length (lines_within p xs) + length (last_line q)
+lines_last p q xs h = rw h (length-append (lines_within p xs) (last_line (point_after p xs)))

@@ -7,15 +7,14 @@ use Rattle.page_core_base.specs.declared.faults.Fault.{Fault}
 use Rattle.page_core_base.specs.declared.note_kinds.Level.{Level}
 use Rattle.page_core_base.specs.Laid.{Laid, Gave, Gets, join}
 use Rattle.page_core_base.specs.Fails.{FailsBySink}
-use Rattle.page_fill.specs.declared.words.Edge.{Edge as FillEdge}
-use Rattle.page_prose.specs.declared.prose.Prose.{Prose}
+use Rattle.page_engine.specs.declared.pages.Page.{Page}
 use Rattle.page_engine.specs.Levels.{given, worst_of}
 use Rattle.page_engine.specs.Page.{Edge, IsAt, laid_notes}
 
 -- the messages of a cutting change the worst level alone
-pub cut_at : {filler : Option FillEdge} {prose : Prose} {least worst : Option Level} {last : ℕ} {e : Edge} (worst' : Option Level) (m : List Message)
-    → IsAt filler prose least worst last e → worst' ≡ worst_of worst (given least m) → IsAt filler prose least worst' last (laid_notes e m).edge
-cut_at {filler} {prose} {least} {worst} {last} {e} worst' m h w =
+pub cut_at : {here : Page} {e : Edge} (worst' : Option Level) (m : List Message)
+    → IsAt here e → worst' ≡ worst_of here.worst (given here.least m) → IsAt (record here { worst = worst' }) (laid_notes e m).edge
+cut_at {here} {e} worst' m h w =
     record { filled = h.filled; lines = h.lines; levels = h.levels; worst_level = rw (h.worst_level, h.levels) at w; last_line = h.last_line }
 
 pub cut_gave : {R N : Type 0} {rg rw_ : R → List LaidRow → R → Type 0} (ng : N → List Message → N → Type 0) → IsSink rg rw_ → (r : R) {n b : N} (least : Option Level) (e : Edge) (m : List Message)

@@ -33,7 +33,8 @@ pub passes_edge : {R S N : Type 0} (rg rw_ : R → List LaidRow → R → Type 0
     (below : S → N) (least worst : S → Option Level) (res : Result (Unit {0}) Fault) (f f' : Option FillEdge) (r r' : R) (s s' : S) (l : FillEdge → Laid FillEdge) (e next : Edge)
     (prose : Prose) (kept : Option Level) (last : ℕ)
     → f ≡ Some e.fill → least s ≡ e.least → worst s ≡ e.worst → Passes res rg rw_ rf ng nw nf below least worst f f' r r' s s' l
-    → OnOk res (prose ≡ next.prose) → kept ≡ next.least → last ≡ next.last → OnOk res (IsAt f' prose kept (worst s') last (of_page e next (l e.fill)).edge)
+    → OnOk res (prose ≡ next.prose) → kept ≡ next.least → last ≡ next.last
+    → OnOk res (IsAt (record { filler = f'; prose = prose; least = kept; worst = worst s'; last = last }) (of_page e next (l e.fill)).edge)
 passes_edge rg rw_ rf ng nw nf below least worst (Ok x) f f' r r' s s' l e next prose kept last q k w h a b c =
     let p = h e.fill q in record { filled = p.filler; lines = a; levels = b; worst_level = rw (k, w) at p.notes.2; last_line = c }
 passes_edge rg rw_ rf ng nw nf below least worst (Err x) f f' r r' s s' l e next prose kept last q k w h a b c = tt

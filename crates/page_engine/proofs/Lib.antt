@@ -1,7 +1,7 @@
 pub mod Items
-pub mod Results
 pub mod Feeds
 pub mod Cuts
 pub mod Cutting
 pub mod BytesRead
+pub mod Through
 pub mod WholeRuns

@@ -1,81 +1,196 @@
 -- Whole runs.
-use Rattle.std.proofs.Common.{◌≡◌, ℕ, List, [], length, Option, Result, Ok, Err, MatchResult, refl, sym, ap, ◌∙◌}
+use Rattle.std.proofs.Common.{◌≡◌, ℕ, ◌+◌, ◌-◌, ◌<◌, ◌≤◌, ◌^◌, List, [], ◌++◌, length, take, Option, Result, Ok, Err, MatchResult, refl, sym, ap, ◌∙◌, arith}
 use Rattle.std.specs.Io.KnownBytes.{IsAtEnd}
 use Rattle.page_core_base.specs.Messages.{Message}
 use Rattle.page_core_base.specs.Rows.{LaidRow}
 use Rattle.page_core_base.specs.Sinks.{IsSink}
-use Rattle.page_core_base.specs.Laid.{Laid, Gave, nothing}
-use Rattle.page_core_base.specs.Checks.{IsGood}
+use Rattle.page_core_base.specs.Fails.{FailsBySink}
+use Rattle.page_core_base.specs.Laid.{Laid, Gave, Gets, nothing}
+use Rattle.std.specs.Prelude.{OnOk}
+use Rattle.page_core_base.specs.Checks.{IsGood, IsFirst}
 use Rattle.page_core_base.specs.declared.faults.Fault.{Fault}
 use Rattle.page_core_base.specs.declared.faults.Fault.TheVariants.{Memory, Read, WriteText, WriteNotes, TooLong, Settings, Failed, Ended, BadIndex}
 use Rattle.page_core_base.specs.declared.page_settings.Settings.{Settings as PageSettings}
+use Rattle.page_core_base.specs.declared.page_settings.SettingFault.{SettingFault}
 use Rattle.page_core_base.specs.declared.note_kinds.Level.{Level}
 use Rattle.page_roff_lines.specs.Decoding.{lines}
-use Rattle.page_roff_lines.specs.Cutting.{Place, first_place, lines_from, lines_within}
+use Rattle.page_roff_lines.specs.Cutting.{Point, first_point, lines_from, lines_within, last_line}
 use Rattle.page_roff_lines.proofs.LineAgreement.{lines-one_by_one}
 use Rattle.page_engine.specs.declared.runs.Outcome.{Outcome}
-use Rattle.page_engine.specs.Page.{Edge, page, start, laid}
-use Rattle.page_engine.specs.Runs.{Runs, RunsFrom, Stopped, StoppedFrom, Whole, whole_page, page_from, settled_from}
-
--- a run that is seen by other relations of the same sinks
-pub runs_seen : {R N Q M : Type 0} (rg rw_ : R → List LaidRow → R → Type 0) (ng nw : N → List Message → N → Type 0)
-    (qg qw : Q → List LaidRow → Q → Type 0) (mg mw : M → List Message → M → Type 0) (res : Result Outcome Fault) (r r' : R) (n n' : N) (q q' : Q) (m m' : M)
-    (s : PageSettings) (bytes : List ℕ) (after : Option (List ℕ))
-    → ((xs : List LaidRow) → rg r xs r' → qg q xs q') → ((xs : List LaidRow) → rw_ r xs r' → qw q xs q')
-    → ((xs : List Message) → ng n xs n' → mg m xs m') → ((xs : List Message) → nw n xs n' → mw m xs m')
-    → Runs res rg rw_ ng nw r r' n n' s bytes after → Runs res qg qw mg mw q q' m m' s bytes after
-runs_seen rg rw_ ng nw qg qw mg mw (Ok o) r r' n n' q q' m m' s bytes after a b c d h = record {
-  gave = record { rows = a _ h.gave.rows; notes = c _ h.gave.notes };
-  worst = h.worst;
-  source = h.source;
-  taken = h.taken;
-  expansions = h.expansions;
-  good = h.good;
-  all = h.all;
-}
-runs_seen rg rw_ ng nw qg qw mg mw (Err Memory) r r' n n' q q' m m' s bytes after a b c d h = (h.0, record { rows = a _ h.1.rows; notes = c _ h.1.notes })
-runs_seen rg rw_ ng nw qg qw mg mw (Err Read) r r' n n' q q' m m' s bytes after a b c d h = record { rows = a _ h.rows; notes = c _ h.notes }
-runs_seen rg rw_ ng nw qg qw mg mw (Err WriteText) r r' n n' q q' m m' s bytes after a b c d h = record { rows = b _ h.rows; notes = d _ h.notes }
-runs_seen rg rw_ ng nw qg qw mg mw (Err WriteNotes) r r' n n' q q' m m' s bytes after a b c d h = record { rows = b _ h.rows; notes = d _ h.notes }
-runs_seen rg rw_ ng nw qg qw mg mw (Err TooLong) r r' n n' q q' m m' s bytes after a b c d h = (h.0, record { rows = a _ h.1.rows; notes = c _ h.1.notes })
-runs_seen rg rw_ ng nw qg qw mg mw (Err (Settings f)) r r' n n' q q' m m' s bytes after a b c d h = (h.0, h.1, record { rows = a _ h.2.rows; notes = c _ h.2.notes })
-runs_seen rg rw_ ng nw qg qw mg mw (Err Failed) r r' n n' q q' m m' s bytes after a b c d h = h
-runs_seen rg rw_ ng nw qg qw mg mw (Err Ended) r r' n n' q q' m m' s bytes after a b c d h = h
-runs_seen rg rw_ ng nw qg qw mg mw (Err (BadIndex l)) r r' n n' q q' m m' s bytes after a b c d h = h
+use Rattle.page_engine.specs.declared.runs.Run.{Run}
+use Rattle.page_engine.specs.Page.{Edge, IsAt, page, start, laid, ended}
+use Rattle.page_engine.specs.Sources.{SourceState, HasGiven}
+use Rattle.page_engine.specs.Streams.{Streams, Sinks, AllCame, FrontCame}
+use Rattle.page_engine.specs.Runs.{Runs, RunsOver, Stopped, Whole, HasCause, Untouched, Quiet, Broken, whole_page, page_from, settled_from}
+use Rattle.page_engine.specs.Below.{cause_later}
+use Rattle.page_engine.specs.Steps.{Came, Front, TookLast, Finished, Finishes, Through, EndedWell, StoppedFrom, ReadsAll}
+use Rattle.page_engine.proofs.BytesRead.{given_none, given_end, both_gave, both_within, page_last, lines_last}
+use Rattle.page_engine.proofs.Through.{broken_front, broken_end}
 
 -- from the start of a page
-pub page_start : (s : PageSettings) (bytes : List ℕ) → page_from (start s) (first_place s.encoding) bytes ≡ whole_page s bytes
+pub page_start : (s : PageSettings) (bytes : List ℕ) → page_from (start s) (first_point s.encoding) bytes ≡ whole_page s bytes
 page_start s bytes = ap (page (start s)) (sym (lines-one_by_one s.encoding bytes))
 
-pub stopped_run : {R N : Type 0} (rg rw_ : R → List LaidRow → R → Type 0) (ng nw : N → List Message → N → Type 0) (r r' : R) (n n' : N) (s : PageSettings) (bytes : List ℕ) (fault : Fault) (p : Place)
-    → p ≡ first_place s.encoding → StoppedFrom rg rw_ ng nw r r' n n' (start s) p bytes fault → Stopped rg rw_ ng nw r r' n n' s bytes fault
-stopped_run rg rw_ ng nw r r' n n' s bytes Memory p e h = absurd h
-stopped_run rg rw_ ng nw r r' n n' s bytes Read p e h = rw e at h
-stopped_run rg rw_ ng nw r r' n n' s bytes WriteText p e h = rw (← page_start) (rw e at h)
-stopped_run rg rw_ ng nw r r' n n' s bytes WriteNotes p e h = rw (← page_start) (rw e at h)
-stopped_run rg rw_ ng nw r r' n n' s bytes TooLong p e h = rw e at h
-stopped_run rg rw_ ng nw r r' n n' s bytes (Settings f) p e h = absurd h
-stopped_run rg rw_ ng nw r r' n n' s bytes Failed p e h = absurd h
-stopped_run rg rw_ ng nw r r' n n' s bytes Ended p e h = absurd h
-stopped_run rg rw_ ng nw r r' n n' s bytes (BadIndex l) p e h = absurd h
+-- ---- the end of the bytes
 
--- nothing was read or given
-pub nothing_gave : {R N E : Type 0} {rg rw_ : R → List LaidRow → R → Type 0} {ng nw : N → List Message → N → Type 0} → IsSink rg rw_ → IsSink ng nw
-    → (r : R) (n : N) (e : E) → Gave rg ng r r n n (nothing e)
-nothing_gave k l r n e = record { rows = k.none r; notes = l.none n }
+-- the last line was taken, and then the page's end
+pub finished : {R N : Type 0} (k : Sinks R N) → IsSink k.to.row_gave k.to.row_within → IsSink k.to.note_gave k.to.note_within
+    → (run mid run' : Run) (r a r' : R) (n b n' : N) (res : Result (Unit {0}) Fault) → TookLast k run mid r a n b
+    → ((e : Edge) → IsAt mid.page e → Gets res k.to.row_gave k.to.row_within k.to.note_gave k.to.note_within a r' b n' (ended e))
+    → ((e : Edge) → IsAt mid.page e → OnOk res (run'.page.worst ≡ (ended e).edge.worst))
+    → ((e : Edge) → IsAt mid.page e → FailsBySink res (k.rows_failed a) (k.rows_failed r') (k.notes_failed b) (k.notes_failed n'))
+    → run'.lines ≡ mid.lines → Finishes res k run run' r r' n n'
+finished k rows notes run mid run' r a r' n b n' (Ok o) t gets worst faults same = record {
+  came = λ e h.
+      let l = laid e (last_line run.cutter.point) in
+      let c = t.came e h in
+      let f = faults l.edge (t.at e h) in record {
+        gave = both_gave rows notes r' n' l (ended l.edge) c.gave (gets l.edge (t.at e h));
+        rows_quiet = f.0 ∙ c.rows_quiet;
+        notes_quiet = f.1 ∙ c.notes_quiet;
+      };
+  worst = λ e h. worst (laid e (last_line run.cutter.point)).edge (t.at e h);
+  source_lines = same ∙ t.source_lines;
+}
+finished k rows notes run mid run' r a r' n b n' (Err fault) t gets worst faults same = λ e h.
+    let l = laid e (last_line run.cutter.point) in
+    let c = t.came e h in record {
+      gave = both_within rows notes r' n' l (ended l.edge) c.gave (gets l.edge (t.at e h));
+      cause = cause_later fault _ _ _ _ _ _ c.rows_quiet c.notes_quiet (faults l.edge (t.at e h));
+    }
+
+pub ended_well : {R N : Type 0} (k : Sinks R N) → IsSink k.to.row_gave k.to.row_within → IsSink k.to.note_gave k.to.note_within
+    → {run mid run' : Run} {r a r' : R} {n b n' : N} (s t : SourceState) (xs : List ℕ) → run.lines ≡ 0
+    → Through k run mid r a n b xs → Finished k mid run' a r' b n' → IsAtEnd t.remaining → t.failed ≡ s.failed
+    → (e : Edge) → IsAt run.page e → EndedWell k run' s t r r' n n' e run.cutter.point xs
+ended_well k rows notes {run} {mid} {run'} {r} {a} {r'} {n} {b} {n'} s t xs z g f i q e h =
+    let p = run.cutter.point in
+    let v = mid.cutter.point in
+    let x = settled_from e p xs in
+    let y = page x.edge (last_line v) in
+    let w = page_last e p v xs g.moved.point in
+    let d = g.settled e h in
+    let c = f.came x.edge d.at in record {
+      came = record {
+        gave = rw w (both_gave rows notes r' n' x y d.came.gave c.gave);
+        rows_quiet = c.rows_quiet ∙ d.came.rows_quiet;
+        notes_quiet = c.notes_quiet ∙ d.came.notes_quiet;
+      };
+      worst = f.worst x.edge d.at ∙ sym (ap (λ (l : Laid Edge). l.edge.worst) w);
+      source_lines = omega (arith, f.source_lines, g.moved.source_lines, z, lines_last p v xs g.moved.point);
+      all = i;
+      quiet = q;
+    }
+
+-- a fault of a sink stops the run
+pub stopped_by : {R N : Type 0} (k : Sinks R N) (a b : SourceState) (r r' : R) (n n' : N) (e : Edge) (p : Point) (asked : ℕ) (bytes : List ℕ) (fault : Fault)
+    → Broken k r r' n n' e p bytes fault → StoppedFrom k a b r r' n n' e p asked bytes fault
+stopped_by k a b r r' n n' e p asked bytes Memory c = absurd c.cause
+stopped_by k a b r r' n n' e p asked bytes Read c = absurd c.cause
+stopped_by k a b r r' n n' e p asked bytes WriteText c = c
+stopped_by k a b r r' n n' e p asked bytes WriteNotes c = c
+stopped_by k a b r r' n n' e p asked bytes TooLong c = absurd c.cause
+stopped_by k a b r r' n n' e p asked bytes (Settings s) c = absurd c.cause
+stopped_by k a b r r' n n' e p asked bytes Failed c = absurd c.cause
+stopped_by k a b r r' n n' e p asked bytes Ended c = absurd c.cause
+stopped_by k a b r r' n n' e p asked bytes (BadIndex l) c = absurd c.cause
+
+pub ended_with : {R N : Type 0} (k : Sinks R N) → IsSink k.to.row_gave k.to.row_within → IsSink k.to.note_gave k.to.note_within
+    → {run mid : Run} {r a : R} {n b : N} (run' : Run) (r' : R) (n' : N) (res : Result (Unit {0}) Fault) (s t : SourceState) (asked : ℕ) (xs : List ℕ)
+    → run.lines ≡ 0 → Through k run mid r a n b xs → Finishes res k mid run' a r' b n' → IsAtEnd t.remaining → t.failed ≡ s.failed
+    → (e : Edge) → IsAt run.page e
+    → MatchResult res (λ _. EndedWell k run' s t r r' n n' e run.cutter.point xs) (λ fault. StoppedFrom k s t r r' n n' e run.cutter.point asked xs fault)
+ended_with k rows notes run' r' n' (Ok o) s t asked xs z g f i q e h = ended_well k rows notes s t xs z g f i q e h
+ended_with k rows notes {run} {r = r} {n = n} run' r' n' (Err fault) s t asked xs z g f i q e h =
+    stopped_by k s t r r' n n' e run.cutter.point asked xs fault (broken_end k xs fault g f e h)
+
+-- ---- from the start of a page
+
+stopped_run : {R N : Type 0} (k : Sinks R N) → IsSink k.to.row_gave k.to.row_within → IsSink k.to.note_gave k.to.note_within
+    → (a b : SourceState) (r r' : R) (n n' : N) (s : PageSettings) (asked : ℕ) (bytes : List ℕ) (fault : Fault) → IsGood s
+    → StoppedFrom k a b r r' n n' (start s) (first_point s.encoding) asked bytes fault → Stopped k.to r r' n n' s bytes fault
+stopped_run k rows notes a b r r' n n' s asked bytes Memory g h = absurd h
+stopped_run k rows notes a b r r' n n' s asked bytes Read g h = (g, h.0)
+stopped_run k rows notes a b r r' n n' s asked bytes WriteText g h =
+    (g, rw (← page_start) (broken_front k rows notes (start s) (first_point s.encoding) bytes WriteText h))
+stopped_run k rows notes a b r r' n n' s asked bytes WriteNotes g h =
+    (g, rw (← page_start) (broken_front k rows notes (start s) (first_point s.encoding) bytes WriteNotes h))
+stopped_run k rows notes a b r r' n n' s asked bytes TooLong g h = (g, h.0)
+stopped_run k rows notes a b r r' n n' s asked bytes (Settings f) g h = absurd h
+stopped_run k rows notes a b r r' n n' s asked bytes Failed g h = absurd h
+stopped_run k rows notes a b r r' n n' s asked bytes Ended g h = absurd h
+stopped_run k rows notes a b r r' n n' s asked bytes (BadIndex l) g h = absurd h
+
+cause_of : {R N : Type 0} (k : Sinks R N) (a b : SourceState) (r r' : R) (n n' : N) (s : PageSettings) (asked : ℕ) (bytes : List ℕ) (fault : Fault)
+    → StoppedFrom k a b r r' n n' (start s) (first_point s.encoding) asked bytes fault → HasCause k a b r r' n n' s asked bytes fault
+cause_of k a b r r' n n' s asked bytes Memory h = absurd h
+cause_of k a b r r' n n' s asked bytes Read h = h.1
+cause_of k a b r r' n n' s asked bytes WriteText h = h
+cause_of k a b r r' n n' s asked bytes WriteNotes h = h
+cause_of k a b r r' n n' s asked bytes TooLong h = h.1
+cause_of k a b r r' n n' s asked bytes (Settings f) h = absurd h
+cause_of k a b r r' n n' s asked bytes Failed h = absurd h
+cause_of k a b r r' n n' s asked bytes Ended h = absurd h
+cause_of k a b r r' n n' s asked bytes (BadIndex l) h = absurd h
+
+-- a run that stopped
+pub runs_stopped : {R N : Type 0} (k : Sinks R N) → IsSink k.to.row_gave k.to.row_within → IsSink k.to.note_gave k.to.note_within
+    → {run' : Run} {a b : SourceState} {r r' : R} {n n' : N} (s : PageSettings) (p : Point) (bytes : List ℕ) (fault : Fault) → p ≡ first_point s.encoding → IsGood s
+    → ReadsAll (Err fault) k run' a b r r' n n' (start s) p bytes → RunsOver (Err fault) k a b r r' n n' s bytes
+runs_stopped k rows notes {a = a} {b = b} {r = r} {r' = r'} {n = n} {n' = n'} s p bytes fault q g h =
+    let f = rw q at h.ends in record {
+      asked = h.asked;
+      few = h.few;
+      source = h.source;
+      runs = stopped_run k rows notes a b r r' n n' s h.asked bytes fault g f;
+      cause = cause_of k a b r r' n n' s h.asked bytes fault f;
+    }
 
 -- a run that ended well
-pub whole_run : {R N : Type 0} (rg : R → List LaidRow → R → Type 0) (ng : N → List Message → N → Type 0) (r r' : R) (n n' : N) (s : PageSettings) (bytes : List ℕ) (after : Option (List ℕ))
-    (o : Outcome) (worst : Option Level) (count : ℕ) (p : Place) → p ≡ first_place s.encoding
-    → Gave rg ng r r' n n' (page_from (start s) p bytes) → worst ≡ (page_from (start s) p bytes).edge.worst → count ≡ length (lines_from p bytes) → IsAtEnd after → IsGood s
-    → o.worst ≡ worst → o.counts.source ≡ count → o.counts.taken ≡ count → o.counts.expansions ≡ 0 → Whole rg ng r r' n n' s bytes after o
-whole_run rg ng r r' n n' s bytes after o worst count p e g w c a k ow os ot oe =
-    let l : length (lines_from p bytes) ≡ length (lines s.encoding bytes) = rw e (ap length (sym (lines-one_by_one s.encoding bytes))) in record {
-      gave = rw (← page_start) (rw e at g);
-      worst = ow ∙ w ∙ rw e (ap (λ (m : Laid Edge). m.edge.worst) (page_start s bytes));
-      source = os ∙ c ∙ l;
-      taken = ot ∙ c ∙ l;
-      expansions = oe;
-      good = k;
-      all = a;
+pub runs_well : {R N : Type 0} (k : Sinks R N) {run' : Run} {a b : SourceState} {r r' : R} {n n' : N} (s : PageSettings) (p : Point) (bytes : List ℕ) (o : Outcome)
+    → p ≡ first_point s.encoding → IsGood s → ReadsAll (Ok tt) k run' a b r r' n n' (start s) p bytes
+    → o.worst ≡ run'.page.worst → o.counts.source ≡ run'.lines → o.counts.taken ≡ run'.lines → o.counts.expansions ≡ 0
+    → RunsOver (Ok o) k a b r r' n n' s bytes
+runs_well k s p bytes o q g h ow os ot oe =
+    let f = rw q at h.ends in
+    let l : length (lines_from (first_point s.encoding) bytes) ≡ length (lines s.encoding bytes) = ap length (sym (lines-one_by_one s.encoding bytes)) in record {
+      asked = h.asked;
+      few = h.few;
+      source = h.source;
+      runs = record {
+        gave = rw (← page_start) f.came.gave;
+        worst = ow ∙ (f.worst ∙ ap (λ (m : Laid Edge). m.edge.worst) (page_start s bytes));
+        source = os ∙ (f.source_lines ∙ l);
+        taken = ot ∙ (f.source_lines ∙ l);
+        expansions = oe;
+        good = g;
+        all = f.all;
+      };
+      cause = record { source = f.quiet; rows = f.came.rows_quiet; notes = f.came.notes_quiet };
     }
+
+-- ---- nothing was read or given
+
+none_came : {R N : Type 0} (j : Streams R N) → IsSink j.row_gave j.row_within → IsSink j.note_gave j.note_within
+    → (r : R) (n : N) (e : Edge) → AllCame j r r n n (nothing e)
+none_came j rows notes r n e = record { rows = rows.none r; notes = notes.none n }
+
+pub runs_refused : {R N : Type 0} (k : Sinks R N) → IsSink k.to.row_gave k.to.row_within → IsSink k.to.note_gave k.to.note_within
+    → (a : SourceState) (r : R) (n : N) (s : PageSettings) (fault : SettingFault) → IsFirst s fault → RunsOver (Err (Settings fault)) k a a r r n n s []
+runs_refused k rows notes a r n s fault h = record {
+  asked = 0;
+  few = omega arith;
+  source = given_none a;
+  runs = (h, refl, none_came k.to rows notes r n (start s));
+  cause = record { source = refl; rows = refl; notes = refl };
+}
+
+pub runs_without_memory : {R N : Type 0} (k : Sinks R N) → IsSink k.to.row_gave k.to.row_within → IsSink k.to.note_gave k.to.note_within
+    → (a : SourceState) (r : R) (n : N) (s : PageSettings) → IsGood s → RunsOver (Err Memory) k a a r r n n s []
+runs_without_memory k rows notes a r n s g = record {
+  asked = 0;
+  few = omega arith;
+  source = given_none a;
+  runs = (g, refl, none_came k.to rows notes r n (start s));
+  cause = record { source = refl; rows = refl; notes = refl };
+}

@@ -13,7 +13,8 @@ use Rattle.page_fill.specs.Fill as fill
 use Rattle.page_engine.specs.Items.{laid_item, laid_items, laid_items-append}
 
 -- the rows and messages of these items came, and the filler's row is the one after them
-pub record Passed {R N : Type 0} (rg : R → List LaidRow → R → Type 0) (rf : R → ℕ) (ng : N → List Message → N → Type 0) (nf : N → ℕ)
+pub record Passed {R N : Type 0} (rg : R → List LaidRow → R → Type 0) (rf : R → ℕ) (ng : N → List Message
+    → N → Type 0) (nf : N → ℕ)
     (f f' : Option FillEdge) (r r' : R) (n n' : N) (l : Laid FillEdge) : Type 0 where
   pub filler : f' ≡ Some l.edge
   pub rows : rg r l.rows r'
@@ -22,28 +23,36 @@ pub record Passed {R N : Type 0} (rg : R → List LaidRow → R → Type 0) (rf 
   pub notes_failed : nf n' ≡ nf n
 
 -- a front of each came, and then this fault of a sink
-pub record Broken {R N : Type 0} (rw_ : R → List LaidRow → R → Type 0) (rf : R → ℕ) (nw : N → List Message → N → Type 0) (nf : N → ℕ)
+pub record Broken {R N : Type 0} (rw_ : R → List LaidRow → R → Type 0) (rf : R → ℕ) (nw : N → List Message
+    → N → Type 0) (nf : N → ℕ)
     (r r' : R) (n n' : N) (fault : Fault) (l : Laid FillEdge) : Type 0 where
   pub rows : rw_ r l.rows r'
   pub notes : nw n l.notes n'
   pub cause : IsSinkFault fault (rf r) (rf r') (nf n) (nf n')
 
-abbrev pub BelowGave : {S R N : Type 0} → (R → List LaidRow → R → Type 0) → (R → ℕ) → (N → List Message → N → Type 0) → (N → ℕ)
+abbrev pub BelowGave : {S R N : Type 0} → (R → List LaidRow → R → Type 0) → (R → ℕ) → (N → List Message → N
+    → Type 0) → (N → ℕ)
     → (S → Option FillEdge) → (S → R) → (S → N) → S → List Item → S → Type 0
 BelowGave rg rf ng nf filler rows notes s xs t =
-    (row : FillEdge) → filler s ≡ Some row → Passed rg rf ng nf (filler s) (filler t) (rows s) (rows t) (notes s) (notes t) (laid_items row xs)
+    (row : FillEdge) → filler s ≡ Some row
+    → Passed rg rf ng nf (filler s) (filler t) (rows s) (rows t) (notes s) (notes t) (laid_items row xs)
 
-abbrev pub BelowBroke : {S R N : Type 0} → (R → List LaidRow → R → Type 0) → (R → ℕ) → (N → List Message → N → Type 0) → (N → ℕ)
+abbrev pub BelowBroke : {S R N : Type 0} → (R → List LaidRow → R → Type 0) → (R → ℕ) → (N → List Message
+    → N → Type 0) → (N → ℕ)
     → (S → Option FillEdge) → (S → R) → (S → N) → S → Fault → List Item → S → Type 0
 BelowBroke rw_ rf nw nf filler rows notes s fault xs t =
-    (row : FillEdge) → filler s ≡ Some row → Broken rw_ rf nw nf (rows s) (rows t) (notes s) (notes t) fault (laid_items row xs)
+    (row : FillEdge) → filler s ≡ Some row
+    → Broken rw_ rf nw nf (rows s) (rows t) (notes s) (notes t) fault (laid_items row xs)
 
 -- a sink's fault stays its own after calls without one
-pub cause_later : (fault : Fault) (r r' r'' n n' n'' : ℕ) → r' ≡ r → n' ≡ n → IsSinkFault fault r' r'' n' n'' → IsSinkFault fault r r'' n n''
+pub cause_later : (fault : Fault) (r r' r'' n n' n'' : ℕ) → r' ≡ r → n' ≡ n
+    → IsSinkFault fault r' r'' n' n'' → IsSinkFault fault r r'' n n''
 cause_later fault r r' r'' n n' n'' e d h = rw (e, d) at h
 
-pub below-sink : {S R N : Type 0} (rg rw_ : R → List LaidRow → R → Type 0) (rf : R → ℕ) (ng nw : N → List Message → N → Type 0) (nf : N → ℕ)
-    → IsSink rg rw_ → IsSink ng nw → (filler : S → Option FillEdge) (rows : S → R) (notes : S → N) (fault : Fault)
+pub below-sink : {S R N : Type 0} (rg rw_ : R → List LaidRow → R → Type 0) (rf : R → ℕ) (ng nw : N
+    → List Message → N → Type 0) (nf : N → ℕ)
+    → IsSink rg rw_ → IsSink ng nw → (filler : S → Option FillEdge) (rows : S → R) (notes : S
+    → N) (fault : Fault)
     → IsSink (BelowGave rg rf ng nf filler rows notes) (λ s xs t. BelowBroke rw_ rf nw nf filler rows notes s fault xs t)
 unfolding laid_items
 below-sink rg rw_ rf ng nw nf k l filler rows notes fault = record {
@@ -76,7 +85,10 @@ below-sink rg rw_ rf ng nw nf k l filler rows notes fault = record {
 }
 
 -- what a call did that ends a page below the scopes
-abbrev pub Ends : {R N : Type 0} → Result (Unit {0}) Fault → (R → List LaidRow → R → Type 0) → (R → List LaidRow → R → Type 0) → (R → ℕ)
-    → (N → List Message → N → Type 0) → (N → List Message → N → Type 0) → (N → ℕ) → R → R → N → N → Laid FillEdge → Type 0
+abbrev pub Ends : {R N : Type 0} → Result (Unit {0}) Fault → (R → List LaidRow → R → Type 0) → (R
+    → List LaidRow → R → Type 0) → (R → ℕ)
+    → (N → List Message → N → Type 0) → (N → List Message → N → Type 0) → (N → ℕ) → R → R → N → N
+    → Laid FillEdge → Type 0
 Ends res rg rw_ rf ng nw nf r r' n n' l =
-    MatchResult res (λ _. Gave rg ng r r' n n' l × (rf r' ≡ rf r) × (nf n' ≡ nf n)) (λ fault. Broken rw_ rf nw nf r r' n n' fault l)
+    MatchResult res (λ _. Gave rg ng r r' n n' l × (rf r' ≡ rf r) × (nf n' ≡ nf n))
+    (λ fault. Broken rw_ rf nw nf r r' n n' fault l)

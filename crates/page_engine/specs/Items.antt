@@ -14,7 +14,8 @@ unfoldable pub laid_items : FillEdge → List Item → Laid FillEdge
 laid_items f [] = nothing f
 laid_items f (item ∷ items) = seq (laid_item f item) (λ next. laid_items next items)
 
-pub laid_items-append : (f : FillEdge) (xs ys : List Item) → laid_items f (xs ++ ys) ≡ join (laid_items f xs) (laid_items (laid_items f xs).edge ys)
+pub laid_items-append : (f : FillEdge) (xs ys : List Item)
+    → laid_items f (xs ++ ys) ≡ join (laid_items f xs) (laid_items (laid_items f xs).edge ys)
 unfolding laid_items
 laid_items-append f [] ys = refl
 laid_items-append f (x ∷ xs) ys =

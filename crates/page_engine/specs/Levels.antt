@@ -26,25 +26,31 @@ unfoldable pub worst_of : Option Level → List Message → Option Level
 worst_of worst [] = worst
 worst_of worst (m ∷ messages) = worst_of (worse worst (level_of m.kind)) messages
 
-pub given-append : (least : Option Level) (xs ys : List Message) → given least (xs ++ ys) ≡ given least xs ++ given least ys
+pub given-append : (least : Option Level) (xs ys : List Message)
+    → given least (xs ++ ys) ≡ given least xs ++ given least ys
 unfolding given
 given-append least xs ys = filter-append (is_given least) xs ys
 
-pub worst_of-append : (worst : Option Level) (xs ys : List Message) → worst_of worst (xs ++ ys) ≡ worst_of (worst_of worst xs) ys
+pub worst_of-append : (worst : Option Level) (xs ys : List Message)
+    → worst_of worst (xs ++ ys) ≡ worst_of (worst_of worst xs) ys
 unfolding worst_of
 worst_of-append worst [] ys = refl
 worst_of-append worst (x ∷ xs) ys = worst_of-append (worse worst (level_of x.kind)) xs ys
 
 -- a filter and the sink below it: what came through, and the worst level
-abbrev pub FilterGave : {S N : Type 0} → (N → List Message → N → Type 0) → (S → N) → (S → Option Level) → (S → Option Level) → S → List Message → S → Type 0
+abbrev pub FilterGave : {S N : Type 0} → (N → List Message → N → Type 0) → (S → N) → (S → Option Level)
+    → (S → Option Level) → S → List Message → S → Type 0
 FilterGave ng below least worst s xs t =
-    ng (below s) (given (least s) xs) (below t) × (least t ≡ least s) × (worst t ≡ worst_of (worst s) (given (least s) xs))
+    ng (below s) (given (least s) xs) (below t) × (least t ≡ least s)
+    × (worst t ≡ worst_of (worst s) (given (least s) xs))
 
-abbrev pub FilterWithin : {S N : Type 0} → (N → List Message → N → Type 0) → (S → N) → (S → Option Level) → S → List Message → S → Type 0
+abbrev pub FilterWithin : {S N : Type 0} → (N → List Message → N → Type 0) → (S → N) → (S → Option Level)
+    → S → List Message → S → Type 0
 FilterWithin nw below least s xs t = nw (below s) (given (least s) xs) (below t)
 
 -- such a filter is a sink
-pub filter-sink : {S N : Type 0} (ng nw : N → List Message → N → Type 0) → IsSink ng nw → (below : S → N) (least worst : S → Option Level)
+pub filter-sink : {S N : Type 0} (ng nw : N → List Message → N → Type 0) → IsSink ng nw → (below : S
+    → N) (least worst : S → Option Level)
     → IsSink (FilterGave ng below least worst) (FilterWithin nw below least)
 unfolding given worst_of
 filter-sink ng nw k below least worst = record {
@@ -59,6 +65,8 @@ filter-sink ng nw k below least worst = record {
   before = λ s t xs ys h. rw given-append (k.before (below s) (below t) (given (least s) xs) (given (least s) ys) h);
 }
 
-pub filter-whole : {S N : Type 0} (ng nw : N → List Message → N → Type 0) → ((s t : N) (xs : List Message) → ng s xs t → nw s xs t)
-    → (below : S → N) (least worst : S → Option Level) (s t : S) (xs : List Message) → FilterGave ng below least worst s xs t → FilterWithin nw below least s xs t
+pub filter-whole : {S N : Type 0} (ng nw : N → List Message → N → Type 0) → ((s t : N) (xs : List Message)
+    → ng s xs t → nw s xs t)
+    → (below : S → N) (least worst : S → Option Level) (s t : S) (xs : List Message)
+    → FilterGave ng below least worst s xs t → FilterWithin nw below least s xs t
 filter-whole ng nw whole below least worst s t xs g = whole (below s) (below t) (given (least s) xs) g.0

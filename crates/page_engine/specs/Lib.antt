@@ -3,5 +3,9 @@ pub mod Shown
 pub mod Items
 pub mod Page
 pub mod Below
+pub mod Sources
+pub mod Readings
+pub mod Streams
 pub mod Runs
+pub mod Steps
 pub mod Written

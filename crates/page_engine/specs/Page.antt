@@ -1,4 +1,4 @@
--- A page on whole lists of lines: what is settled after lines, and the page to its end. Source: mandoc(1); man(7).
+-- A page on whole lists of lines: what lines settle, and the page to its end. Source: mandoc(1); man(7).
 use Rattle.std.specs.Prelude.{◌≡◌, ℕ, ◌+◌, Option, None, Some, List, [], ◌∷◌, ◌++◌, map}
 use Rattle.page_core_base.specs.declared.note_kinds.Level.{Level}
 use Rattle.page_core_base.specs.declared.page_settings.Settings.{Settings}
@@ -9,6 +9,7 @@ use Rattle.page_fill.specs.Fill as fill
 use Rattle.page_prose.specs.declared.prose.Prose.{Prose}
 use Rattle.page_prose.specs.Prose.{line_items, line_after, end_items, footer_items, start_of}
 use Rattle.page_roff_lines.specs.Decoding.{Line}
+use Rattle.page_engine.specs.declared.pages.Page.{Page}
 use Rattle.page_engine.specs.Levels.{given, worst_of}
 use Rattle.page_engine.specs.Items.{laid_items}
 
@@ -37,7 +38,8 @@ abbrev pub passed : Edge → List ℕ → ℕ → Edge
 passed e text number = record e { prose = line_after e.prose text; last = number }
 
 unfoldable pub laid_text : Edge → List ℕ → ℕ → Laid Edge
-laid_text e text number = of_page e (passed e text number) (laid_items e.fill (line_items e.prose number text))
+laid_text e text number =
+    of_page e (passed e text number) (laid_items e.fill (line_items e.prose number text))
 
 abbrev pub laid_line : Edge → Line → Laid Edge
 laid_line e line = seq (laid_notes e line.notes) (λ f. laid_text f line.text line.number)
@@ -49,7 +51,8 @@ laid e (line ∷ lines) = seq (laid_line e line) (λ f. laid f lines)
 
 -- the end of a page: the body's end, the footer, and the end of filling
 abbrev pub footer_laid : Edge → FillEdge → Laid FillEdge
-footer_laid e f = seq (laid_items f (footer_items e.prose e.last (fill.blank_rows_at_end f))) (λ h. fill.ended h)
+footer_laid e f =
+    seq (laid_items f (footer_items e.prose e.last (fill.blank_rows_at_end f))) (λ h. fill.ended h)
 
 abbrev pub end_laid : Edge → Laid FillEdge
 end_laid e = seq (laid_items e.fill (end_items e.prose e.last)) (λ f. footer_laid e f)
@@ -65,10 +68,10 @@ page e lines = seq (laid e lines) ended
 abbrev pub start : Settings → Edge
 start s = record { least = s.least; worst = None; prose = start_of s; fill = fill.start s; last = 1 }
 
--- the parts of a page are those of an edge
-pub record IsAt (filler : Option FillEdge) (prose : Prose) (least worst : Option Level) (last : ℕ) (e : Edge) : Type 0 where
-  pub filled : filler ≡ Some e.fill
-  pub lines : prose ≡ e.prose
-  pub levels : least ≡ e.least
-  pub worst_level : worst ≡ e.worst
-  pub last_line : last ≡ e.last
+-- a page is at an edge
+pub record IsAt (here : Page) (e : Edge) : Type 0 where
+  pub filled : here.filler ≡ Some e.fill
+  pub lines : here.prose ≡ e.prose
+  pub levels : here.least ≡ e.least
+  pub worst_level : here.worst ≡ e.worst
+  pub last_line : here.last ≡ e.last

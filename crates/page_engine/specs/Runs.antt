@@ -1,48 +1,25 @@
 -- What a run over the bytes of a page did. Source: mandoc(1).
-use Rattle.std.specs.Prelude.{◌≡◌, ◌≤◌, ℕ, List, Option, Result, MatchResult, ⊤, [], length, take}
-use Rattle.std.specs.Io.KnownBytes.{Consumes, IsAtEnd, Keeps}
-use Rattle.page_core_base.specs.Messages.{Message}
-use Rattle.page_core_base.specs.Rows.{LaidRow}
+use Rattle.std.specs.Prelude.{◌≡◌, ◌<◌, ◌≤◌, ℕ, ◌+◌, ◌-◌, ◌^◌, List, [], ◌++◌, Option, Result, MatchResult, ◌⊎◌, length, take}
+use Rattle.std.specs.Io.KnownBytes.{IsAtEnd}
+use Rattle.page_core_base.specs.Fails.{IsSinkFault, Rose}
 use Rattle.page_core_base.specs.declared.faults.Fault.{Fault}
 use Rattle.page_core_base.specs.declared.faults.Fault.TheVariants.{Memory, Read, WriteText, WriteNotes, TooLong, Settings, Failed, Ended, BadIndex}
 use Rattle.page_core_base.specs.declared.page_settings.Settings.{Settings as PageSettings}
-use Rattle.page_core_base.specs.Laid.{Laid, Gave, nothing}
+use Rattle.page_core_base.specs.Laid.{Laid, nothing}
 use Rattle.page_roff_lines.specs.Decoding.{lines}
-use Rattle.page_roff_lines.specs.Cutting.{Place, first_place, lines_within, lines_from}
+use Rattle.page_roff_lines.specs.Cutting.{Point, first_point, point_after, lines_within, last_line, lines_from}
 use Rattle.page_core_base.specs.Checks.{IsGood, IsFirst}
-use Rattle.page_core_base.specs.declared.note_kinds.Level.{Level}
 use Rattle.page_engine.specs.declared.runs.Outcome.{Outcome}
-use Rattle.page_engine.specs.declared.runs.Reading.{Reading}
-use Rattle.page_engine.specs.declared.runs.Reading.TheVariants.{End, Bytes, Failure}
 use Rattle.page_engine.specs.Page.{Edge, laid, page, start}
+use Rattle.page_engine.specs.Sources.{SourceState, HasGiven}
+use Rattle.page_engine.specs.Streams.{Streams, Sinks, AllCame, FrontCame}
 
--- from an edge and a place between two bytes: the page of the bytes that come, and what their whole lines settle
-abbrev pub page_from : Edge → Place → List ℕ → Laid Edge
+-- from an edge and a point between two bytes: the page of the bytes to come, and what their lines settle
+abbrev pub page_from : Edge → Point → List ℕ → Laid Edge
 page_from e p bytes = page e (lines_from p bytes)
 
-abbrev pub settled_from : Edge → Place → List ℕ → Laid Edge
+abbrev pub settled_from : Edge → Point → List ℕ → Laid Edge
 settled_from e p bytes = laid e (lines_within p bytes)
-
--- by its fault: what the whole lines that were read settle, or a front of the page that these bytes make. Where the bytes pass their
--- bound, the last ones that came are left aside
-abbrev pub StoppedFrom : {R N : Type 0} → (R → List LaidRow → R → Type 0) → (R → List LaidRow → R → Type 0)
-    → (N → List Message → N → Type 0) → (N → List Message → N → Type 0) → R → R → N → N → Edge → Place → List ℕ → Fault → Type 0
-StoppedFrom rg rw_ ng nw r r' n n' e p bytes Memory = ⊥
-StoppedFrom rg rw_ ng nw r r' n n' e p bytes Read = Gave rg ng r r' n n' (settled_from e p bytes)
-StoppedFrom rg rw_ ng nw r r' n n' e p bytes TooLong = (count : ℕ) × Gave rg ng r r' n n' (settled_from e p (take count bytes))
-StoppedFrom rg rw_ ng nw r r' n n' e p bytes WriteText = Gave rw_ nw r r' n n' (page_from e p bytes)
-StoppedFrom rg rw_ ng nw r r' n n' e p bytes WriteNotes = Gave rw_ nw r r' n n' (page_from e p bytes)
-StoppedFrom rg rw_ ng nw r r' n n' e p bytes (Settings fault) = ⊥
-StoppedFrom rg rw_ ng nw r r' n n' e p bytes Failed = ⊥
-StoppedFrom rg rw_ ng nw r r' n n' e p bytes Ended = ⊥
-StoppedFrom rg rw_ ng nw r r' n n' e p bytes (BadIndex line) = ⊥
-
-abbrev pub RunsFrom : {R N : Type 0} → Result ℕ Fault → (R → List LaidRow → R → Type 0) → (R → List LaidRow → R → Type 0)
-    → (N → List Message → N → Type 0) → (N → List Message → N → Type 0) → R → R → N → N → Option Level → Edge → Place → List ℕ → Option (List ℕ) → Type 0
-RunsFrom res rg rw_ ng nw r r' n n' worst e p bytes after =
-    MatchResult res
-    (λ count. Gave rg ng r r' n n' (page_from e p bytes) × (worst ≡ (page_from e p bytes).edge.worst) × (count ≡ length (lines_from p bytes)) × IsAtEnd after)
-    (λ fault. StoppedFrom rg rw_ ng nw r r' n n' e p bytes fault)
 
 -- ---- a whole run
 
@@ -51,24 +28,12 @@ abbrev pub whole_page : PageSettings → List ℕ → Laid Edge
 whole_page s bytes = page (start s) (lines s.encoding bytes)
 
 abbrev pub settled_page : PageSettings → List ℕ → Laid Edge
-settled_page s bytes = laid (start s) (lines_within (first_place s.encoding) bytes)
+settled_page s bytes = laid (start s) (lines_within (first_point s.encoding) bytes)
 
-abbrev pub Stopped : {R N : Type 0} → (R → List LaidRow → R → Type 0) → (R → List LaidRow → R → Type 0)
-    → (N → List Message → N → Type 0) → (N → List Message → N → Type 0) → R → R → N → N → PageSettings → List ℕ → Fault → Type 0
-Stopped rg rw_ ng nw r r' n n' s bytes Memory = (bytes ≡ []) × Gave rg ng r r' n n' (nothing (start s))
-Stopped rg rw_ ng nw r r' n n' s bytes Read = Gave rg ng r r' n n' (settled_page s bytes)
-Stopped rg rw_ ng nw r r' n n' s bytes TooLong = (count : ℕ) × Gave rg ng r r' n n' (settled_page s (take count bytes))
-Stopped rg rw_ ng nw r r' n n' s bytes WriteText = Gave rw_ nw r r' n n' (whole_page s bytes)
-Stopped rg rw_ ng nw r r' n n' s bytes WriteNotes = Gave rw_ nw r r' n n' (whole_page s bytes)
-Stopped rg rw_ ng nw r r' n n' s bytes (Settings fault) = IsFirst s fault × (bytes ≡ []) × Gave rg ng r r' n n' (nothing (start s))
-Stopped rg rw_ ng nw r r' n n' s bytes Failed = ⊥
-Stopped rg rw_ ng nw r r' n n' s bytes Ended = ⊥
-Stopped rg rw_ ng nw r r' n n' s bytes (BadIndex line) = ⊥
-
--- these bytes were read, and to the sinks came what they make: all of the page, its worst level and its counts where the run ends well
-pub record Whole {R N : Type 0} (rg : R → List LaidRow → R → Type 0) (ng : N → List Message → N → Type 0) (r r' : R) (n n' : N)
-    (s : PageSettings) (bytes : List ℕ) (after : Option (List ℕ)) (o : Outcome) : Type 0 where
-  pub gave : Gave rg ng r r' n n' (whole_page s bytes)
+-- to the sinks came all of the page that these bytes make, and with it its worst level and its counts
+pub record Whole {R N : Type 0} (j : Streams R N) (r r' : R) (n n' : N) (s : PageSettings) (bytes : List ℕ)
+    (after : Option (List ℕ)) (o : Outcome) : Type 0 where
+  pub gave : AllCame j r r' n n' (whole_page s bytes)
   pub worst : o.worst ≡ (whole_page s bytes).edge.worst
   pub source : o.counts.source ≡ length (lines s.encoding bytes)
   pub taken : o.counts.taken ≡ length (lines s.encoding bytes)
@@ -76,25 +41,86 @@ pub record Whole {R N : Type 0} (rg : R → List LaidRow → R → Type 0) (ng :
   pub good : IsGood s
   pub all : IsAtEnd after
 
-abbrev pub Runs : {R N : Type 0} → Result Outcome Fault → (R → List LaidRow → R → Type 0) → (R → List LaidRow → R → Type 0)
-    → (N → List Message → N → Type 0) → (N → List Message → N → Type 0) → R → R → N → N → PageSettings → List ℕ → Option (List ℕ) → Type 0
-Runs res rg rw_ ng nw r r' n n' s bytes after =
-    MatchResult res (Whole rg ng r r' n n' s bytes after) (λ fault. Stopped rg rw_ ng nw r r' n n' s bytes fault)
+-- by its fault: nothing, what the whole lines that were read settle, or a front of the page of these bytes
+abbrev pub Stopped : {R N : Type 0} → Streams R N → R → R → N → N → PageSettings → List ℕ → Fault → Type 0
+Stopped j r r' n n' s bytes Memory = IsGood s × (bytes ≡ []) × AllCame j r r' n n' (nothing (start s))
+Stopped j r r' n n' s bytes Read = IsGood s × AllCame j r r' n n' (settled_page s bytes)
+Stopped j r r' n n' s bytes TooLong =
+    IsGood s × AllCame j r r' n n' (settled_page s (take (2 ^ 31 - 1) bytes))
+Stopped j r r' n n' s bytes WriteText = IsGood s × FrontCame j r r' n n' (whole_page s bytes)
+Stopped j r r' n n' s bytes WriteNotes = IsGood s × FrontCame j r r' n n' (whole_page s bytes)
+Stopped j r r' n n' s bytes (Settings fault) =
+    IsFirst s fault × (bytes ≡ []) × AllCame j r r' n n' (nothing (start s))
+Stopped j r r' n n' s bytes Failed = ⊥
+Stopped j r r' n n' s bytes Ended = ⊥
+Stopped j r r' n n' s bytes (BadIndex line) = ⊥
 
--- a fault of a sink
-abbrev pub IsWrite : Fault → Type 0
-IsWrite Memory = ⊥
-IsWrite Read = ⊥
-IsWrite WriteText = ⊤
-IsWrite WriteNotes = ⊤
-IsWrite TooLong = ⊥
-IsWrite (Settings fault) = ⊥
-IsWrite Failed = ⊥
-IsWrite Ended = ⊥
-IsWrite (BadIndex line) = ⊥
+abbrev pub Runs : {R N : Type 0} → Result Outcome Fault → Streams R N → R → R → N → N
+    → PageSettings → List ℕ → Option (List ℕ) → Type 0
+Runs res j r r' n n' s bytes after =
+    MatchResult res (Whole j r r' n n' s bytes after) (λ fault. Stopped j r r' n n' s bytes fault)
 
--- what a read call gave
-abbrev pub HasRead : Reading → Option (List ℕ) → Option (List ℕ) → List ℕ → Type 0
-HasRead End old new buffer = Consumes old new [] × IsAtEnd new
-HasRead (Bytes count) old new buffer = Consumes old new (take count buffer) × (count ≤ length buffer)
-HasRead Failure old new buffer = Consumes old new []
+-- ---- the causes of faults
+
+-- what a sink failed in: the next line; or, where no byte was left, the page's end
+abbrev pub BrokeIn : {R N : Type 0} → Streams R N → R → R → N → N → Edge → Point → List ℕ → List ℕ → Type 0
+BrokeIn j r r' n n' e p own left =
+    ((length (lines_within p own) ≤ 1) × FrontCame j r r' n n' (settled_from e p own))
+    ⊎ ((own ≡ []) × (left ≡ []) × FrontCame j r r' n n' (page e (last_line p)))
+
+-- a sink failed: what the bytes before a line settle came whole, then came a front of that line, and nothing
+-- of the bytes that are left; no more was read than the chunk with the line's last byte, at most 2^14 bytes
+pub record Broken {R N : Type 0} (k : Sinks R N) (r r' : R) (n n' : N) (e : Edge) (p : Point)
+    (bytes : List ℕ) (fault : Fault) : Type 0 where
+  pub before : List ℕ
+  pub own : List ℕ
+  pub left : List ℕ
+  pub parts : bytes ≡ before ++ (own ++ left)
+  pub recent : length (own ++ left) ≤ 2 ^ 14
+  pub rows : R
+  pub notes : N
+  pub whole : AllCame k.to r rows n notes (settled_from e p before)
+  pub front : BrokeIn k.to rows r' notes n' (settled_from e p before).edge (point_after p before) own left
+  pub cause : IsSinkFault fault (k.rows_failed r) (k.rows_failed r') (k.notes_failed n) (k.notes_failed n')
+
+-- the bound on calls was reached, or the bound on bytes was passed
+abbrev pub IsTooLong : ℕ → List ℕ → Type 0
+IsTooLong asked bytes = (asked ≡ 2 ^ 32 - 1) ⊎ (2 ^ 31 - 1 < length bytes)
+
+-- nothing was read and nothing was given
+pub record Untouched {R N : Type 0} (a b : SourceState) (r r' : R) (n n' : N) : Type 0 where
+  pub source : b ≡ a
+  pub rows : r' ≡ r
+  pub notes : n' ≡ n
+
+-- why a run stopped
+abbrev pub HasCause : {R N : Type 0} → Sinks R N → SourceState → SourceState → R → R → N → N
+    → PageSettings → ℕ → List ℕ → Fault → Type 0
+HasCause k a b r r' n n' s asked bytes Memory = Untouched a b r r' n n'
+HasCause k a b r r' n n' s asked bytes Read = Rose a.failed b.failed
+HasCause k a b r r' n n' s asked bytes TooLong = IsTooLong asked bytes
+HasCause k a b r r' n n' s asked bytes WriteText =
+    Broken k r r' n n' (start s) (first_point s.encoding) bytes WriteText
+HasCause k a b r r' n n' s asked bytes WriteNotes =
+    Broken k r r' n n' (start s) (first_point s.encoding) bytes WriteNotes
+HasCause k a b r r' n n' s asked bytes (Settings fault) = Untouched a b r r' n n'
+HasCause k a b r r' n n' s asked bytes Failed = ⊥
+HasCause k a b r r' n n' s asked bytes Ended = ⊥
+HasCause k a b r r' n n' s asked bytes (BadIndex line) = ⊥
+
+-- nothing failed
+pub record Quiet {R N : Type 0} (k : Sinks R N) (a b : SourceState) (r r' : R) (n n' : N) : Type 0 where
+  pub source : b.failed ≡ a.failed
+  pub rows : k.rows_failed r' ≡ k.rows_failed r
+  pub notes : k.notes_failed n' ≡ k.notes_failed n
+
+-- a run over a source: by this number of calls, at most 2^32 - 1, it gave these bytes
+pub record RunsOver {R N : Type 0} (res : Result Outcome Fault) (k : Sinks R N) (a b : SourceState)
+    (r r' : R) (n n' : N) (s : PageSettings) (bytes : List ℕ) : Type 0 where
+  pub asked : ℕ
+  pub few : asked ≤ 2 ^ 32 - 1
+  pub source : HasGiven a b asked bytes
+  pub runs : Runs res k.to r r' n n' s bytes b.remaining
+  pub cause : MatchResult res
+      (λ _. Quiet k a b r r' n n')
+      (λ fault. HasCause k a b r r' n n' s asked bytes fault)

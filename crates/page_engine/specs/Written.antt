@@ -1,4 +1,5 @@
--- What a run writes: the bytes of rows, unless they are not shown, and of messages. Source: mandoc(1), "ASCII Output" and "DIAGNOSTICS".
+-- What a run writes: the bytes of rows, unless they are not shown, and of messages.
+-- Source: mandoc(1), "ASCII Output" and "DIAGNOSTICS".
 use Rattle.std.specs.Prelude.{ℕ, Bool, List, Option}
 use Rattle.std.specs.List.{flat_map}
 use Rattle.page_core_writers.specs.Grows.{Grows, GrowsInto}
@@ -10,14 +11,18 @@ use Rattle.page_engine.specs.Shown.{shown_rows}
 
 -- a writer whose bytes are known got those of these rows; of a front of them
 abbrev pub WritesRows : {W : Type 0} → (W → Option (List ℕ)) → Bool → W → List LaidRow → W → Type 0
-WritesRows contents silent w rows w' = Grows (contents w) (contents w') (flat_map row_bytes (shown_rows silent rows))
+WritesRows contents silent w rows w' =
+    Grows (contents w) (contents w') (flat_map row_bytes (shown_rows silent rows))
 
 abbrev pub WritesRowsInto : {W : Type 0} → (W → Option (List ℕ)) → Bool → W → List LaidRow → W → Type 0
-WritesRowsInto contents silent w rows w' = GrowsInto (contents w) (contents w') (flat_map row_bytes (shown_rows silent rows))
+WritesRowsInto contents silent w rows w' =
+    GrowsInto (contents w) (contents w') (flat_map row_bytes (shown_rows silent rows))
 
 -- the same of messages about a file
 abbrev pub WritesNotes : {V : Type 0} → (V → Option (List ℕ)) → List ℕ → V → List Message → V → Type 0
-WritesNotes contents file v messages v' = Grows (contents v) (contents v') (flat_map (message_bytes file) messages)
+WritesNotes contents file v messages v' =
+    Grows (contents v) (contents v') (flat_map (message_bytes file) messages)
 
 abbrev pub WritesNotesInto : {V : Type 0} → (V → Option (List ℕ)) → List ℕ → V → List Message → V → Type 0
-WritesNotesInto contents file v messages v' = GrowsInto (contents v) (contents v') (flat_map (message_bytes file) messages)
+WritesNotesInto contents file v messages v' =
+    GrowsInto (contents v) (contents v') (flat_map (message_bytes file) messages)

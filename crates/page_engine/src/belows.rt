@@ -18,16 +18,28 @@ pub struct Below<'f, 'r, 'n, R, N> {
 }
 
 impl<R: RowSink, N: NoteSink> PieceSink for Below<'_, '_, '_, R, N> {
-    ghost gave = { BelowGave R.gave R.failed ⟦<Filter<'static, N> as NoteSink>⟧.gave ⟦<Filter<'static, N> as NoteSink>⟧.failed (λ s. s.filler.now) (λ s. s.rows.now) (λ s. s.notes) };
+    ghost gave = { BelowGave R.gave R.failed
+        ⟦<Filter<'static, N> as NoteSink>⟧.gave ⟦<Filter<'static, N> as NoteSink>⟧.failed
+        (λ s. s.filler.now) (λ s. s.rows.now) (λ s. s.notes) };
 
-    ghost broke = { BelowBroke R.within R.failed ⟦<Filter<'static, N> as NoteSink>⟧.within ⟦<Filter<'static, N> as NoteSink>⟧.failed (λ s. s.filler.now) (λ s. s.rows.now) (λ s. s.notes) };
+    ghost broke = { BelowBroke R.within R.failed
+        ⟦<Filter<'static, N> as NoteSink>⟧.within ⟦<Filter<'static, N> as NoteSink>⟧.failed
+        (λ s. s.filler.now) (λ s. s.rows.now) (λ s. s.notes) };
 
     ghost Loans = { GName × GName × GName × R.Loans × N.Loans };
 
-    ghost loans = { λ s. (s.filler.ghost_name, s.rows.ghost_name, s.notes.notes.ghost_name, R.loans s.rows.now, N.loans s.notes.notes.now) };
+    ghost loans = { λ s. (
+      s.filler.ghost_name,
+      s.rows.ghost_name,
+      s.notes.notes.ghost_name,
+      R.loans s.rows.now,
+      N.loans s.notes.notes.now,
+    ) };
 
-    ghost laws = { below-sink R.gave R.within R.failed ⟦<Filter<'static, N> as NoteSink>⟧.gave ⟦<Filter<'static, N> as NoteSink>⟧.within ⟦<Filter<'static, N> as NoteSink>⟧.failed
-        R.laws (filter-sink N.gave N.within N.laws (λ s. s.notes.now) (λ s. s.least) (λ s. s.worst)) (λ s. s.filler.now) (λ s. s.rows.now) (λ s. s.notes) };
+    ghost laws = { below-sink R.gave R.within R.failed ⟦<Filter<'static, N> as NoteSink>⟧.gave
+        ⟦<Filter<'static, N> as NoteSink>⟧.within ⟦<Filter<'static, N> as NoteSink>⟧.failed
+        R.laws (filter-sink N.gave N.within N.laws (λ s. s.notes.now) (λ s. s.least) (λ s. s.worst))
+        (λ s. s.filler.now) (λ s. s.rows.now) (λ s. s.notes) };
 
     #[tactic(auto, unfolding(crate::specs::Items::laid_items))]
     fn piece(&mut self, piece: Piece<&[u8]>) -> Result<(), Fault> {

@@ -1,11 +1,12 @@
-//! Sinks that pass on a part of what they are given: messages by their level, and rows unless the output is lint.
+//! Sinks that pass on a part of what they are given: messages by their level, and rows unless the output
+//! is lint.
 
 ghost use Rattle.std.specs.Prelude.{◌≡◌, ℕ, Option};
 ghost use Rattle.std.specs.Borrow.{GName};
 ghost use Rattle.page_engine.specs.Levels.{is_given_level, worse, FilterGave, FilterWithin, filter-sink, filter-whole};
 ghost use Rattle.page_engine.specs.Shown.{is_silent, ShownGave, ShownWithin, shown-sink, shown-whole};
 
-use page_core_base::{Cell, Fault, Level, Note, NoteSink, Output, RowSink};
+use page_core_base::{Cell, Fault, Level, Note, NoteKind, NoteSink, Output, RowSink};
 
 /// Passes on the messages at or above a level, and keeps the worst level of these (mandoc(1), -W).
 #[derive(Drop)]
@@ -59,6 +60,12 @@ impl<N: NoteSink> NoteSink for Filter<'_, N> {
         self.notes.note(note)?;
         self.worst = worse(self.worst, level);
         Ok(())
+    }
+
+    // A message at or above the level counts for the worst one, whatever the sink below does with it.
+    #[tactic(auto, unfolding(crate::specs::Levels::given, crate::specs::Levels::worst_of))]
+    fn takes(&self, kind: NoteKind) -> bool {
+        is_given(self.least, kind.level())
     }
 
     fn failures(&self) -> u64 {

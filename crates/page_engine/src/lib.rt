@@ -5,9 +5,7 @@ mod belows;
 mod filters;
 mod pages;
 mod runs;
-#[cfg(test)]
-mod tests;
-#[cfg(test)]
-mod text_tests;
+mod sources;
 
-pub use runs::{BYTES, Counts, Outcome, READS, run_page};
+pub use runs::{BYTES, Counts, Outcome, READS, run_page, run_sinks};
+pub use sources::{Counted, Reading, Source};

@@ -27,10 +27,12 @@ pub(crate) struct Page {
 }
 
 impl<R: RowSink, N: NoteSink> Below<'_, '_, '_, R, N> {
-    // Ends the body behind a line, writes the footer, and ends the filling.
+    // Ends the body after a line, gives the footer, and ends the filling.
     fn end(&mut self, prose: &Prose, last: u32) -> Result<(), Fault>
-        ensures ends { (f : FillEdge) (e : Edge) → self.old.filler.now ≡ Some f → f ≡ e.fill → prose.now ≡ e.prose → last ≡ e.last →
-            Ends result R.gave R.within R.failed ⟦<Filter<'static, N> as NoteSink>⟧.gave ⟦<Filter<'static, N> as NoteSink>⟧.within ⟦<Filter<'static, N> as NoteSink>⟧.failed
+        ensures ends { (f : FillEdge) (e : Edge) → self.old.filler.now ≡ Some f → f ≡ e.fill
+            → prose.now ≡ e.prose → last ≡ e.last →
+            Ends result R.gave R.within R.failed ⟦<Filter<'static, N> as NoteSink>⟧.gave
+            ⟦<Filter<'static, N> as NoteSink>⟧.within ⟦<Filter<'static, N> as NoteSink>⟧.failed
             self.old.rows.now self.new.rows.now self.old.notes self.new.notes (end_laid e) }
         ensures filler { self.new.filler.ghost_name ≡ self.old.filler.ghost_name }
         ensures rows { self.new.rows.ghost_name ≡ self.old.rows.ghost_name }
@@ -52,7 +54,7 @@ impl<R: RowSink, N: NoteSink> Below<'_, '_, '_, R, N> {
 impl Page {
     /// The start of a page of settings that pass their check. Its fault is [`Fault::Memory`].
     pub(crate) fn new(alloc: Global, settings: &Settings) -> Result<Page, Fault>
-        ensures ok { IfOk result (λ p. IsAt p.filler p.prose p.least p.worst p.last (start settings.now)) }
+        ensures ok { IfOk result (λ p. IsAt p (start settings.now)) }
         ensures fault { IfErr result (λ fault. fault ≡ Fault.Memory) }
     {
         let filler = Filler::new(alloc, settings)?;
@@ -65,7 +67,8 @@ impl Page {
         })
     }
 
-    /// Takes a line, and gives what it settles. After a fault, which is one of a sink, the page is not to be used again.
+    /// Takes a line, and gives what it settles. After a fault, which is one of a sink, the page is not to be
+    /// used again.
     pub(crate) fn feed<R: RowSink, N: NoteSink>(
         &mut self,
         text: &[u8],
@@ -74,9 +77,14 @@ impl Page {
         notes: &mut N,
     ) -> Result<(), Fault>
         requires { length text.now ≤ LINE }
-        ensures gets { (e : Edge) → IsAt self.old.filler self.old.prose self.old.least self.old.worst self.old.last e → Gets result R.gave R.within N.gave N.within rows.old rows.new notes.old notes.new (laid_text e text.now number) }
-        ensures edge { (e : Edge) → IsAt self.old.filler self.old.prose self.old.least self.old.worst self.old.last e → OnOk result (IsAt self.new.filler self.new.prose self.new.least self.new.worst self.new.last (laid_text e text.now number).edge) }
-        ensures faults { (e : Edge) → IsAt self.old.filler self.old.prose self.old.least self.old.worst self.old.last e → FailsBySink result (R.failed rows.old) (R.failed rows.new) (N.failed notes.old) (N.failed notes.new) }
+        ensures gets { (e : Edge) → IsAt self.old e →
+            Gets result R.gave R.within N.gave N.within rows.old rows.new notes.old notes.new
+            (laid_text e text.now number) }
+        ensures edge { (e : Edge) → IsAt self.old e →
+            OnOk result (IsAt self.new (laid_text e text.now number).edge) }
+        ensures faults { (e : Edge) → IsAt self.old e →
+            FailsBySink result (R.failed rows.old) (R.failed rows.new)
+            (N.failed notes.old) (N.failed notes.new) }
         ensures rows_same { R.loans rows.new ≡ R.loans rows.old }
         ensures notes_same { N.loans notes.new ≡ N.loans notes.old }
     {
@@ -104,9 +112,12 @@ impl Page {
         rows: &mut R,
         notes: &mut N,
     ) -> Result<(), Fault>
-        ensures gets { (e : Edge) → IsAt self.old.filler self.old.prose self.old.least self.old.worst self.old.last e → Gets result R.gave R.within N.gave N.within rows.old rows.new notes.old notes.new (ended e) }
-        ensures worst { (e : Edge) → IsAt self.old.filler self.old.prose self.old.least self.old.worst self.old.last e → OnOk result (self.new.worst ≡ (ended e).edge.worst) }
-        ensures faults { (e : Edge) → IsAt self.old.filler self.old.prose self.old.least self.old.worst self.old.last e → FailsBySink result (R.failed rows.old) (R.failed rows.new) (N.failed notes.old) (N.failed notes.new) }
+        ensures gets { (e : Edge) → IsAt self.old e →
+            Gets result R.gave R.within N.gave N.within rows.old rows.new notes.old notes.new (ended e) }
+        ensures worst { (e : Edge) → IsAt self.old e → OnOk result (self.new.worst ≡ (ended e).edge.worst) }
+        ensures faults { (e : Edge) → IsAt self.old e →
+            FailsBySink result (R.failed rows.old) (R.failed rows.new)
+            (N.failed notes.old) (N.failed notes.new) }
         ensures rows_same { R.loans rows.new ≡ R.loans rows.old }
         ensures notes_same { N.loans notes.new ≡ N.loans notes.old }
     {

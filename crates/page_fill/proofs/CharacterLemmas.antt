@@ -11,7 +11,7 @@ use Rattle.page_core_base.specs.declared.places.Place.{Place}
 use Rattle.page_core_base.specs.declared.page_settings.Output.{Output}
 use Rattle.page_core_base.specs.Laid.{join, nothing}
 use Rattle.page_fill.specs.Sheets.{Sheet, letter, letters}
-use Rattle.page_fill.specs.Characters.{cell_of, cells_of, character, characters, characters_of, front_of}
+use Rattle.page_fill.specs.Characters.{cell_of, cells_of, character, characters, characters_of}
 
 pub chars_of_empty : (bytes : List ℕ) → length bytes ≡ 0 → chars bytes ≡ []
 chars_of_empty [] h = chars-nil
@@ -39,26 +39,6 @@ pub characters-done : (output : Output) (s : Sheet) (bytes : List ℕ) (font : F
 unfolding characters
 characters-done output s bytes font place h = rw (chars_of_empty bytes h) refl
 
--- ---- details
-
-pub front-more : (n : ℕ) (bytes rest : List ℕ) (c : ℕ) → IsUtf8 bytes → bytes ≡ encode_utf8 c ++ rest → length (encode_utf8 c) ≤ n
-    → front_of n (chars bytes) ≡ encode_utf8 c ++ front_of (n - length (encode_utf8 c)) (chars rest)
-unfolding front_of
-front-more n bytes rest c u h fits =
-    let test : nat_le (length (encode_utf8 c)) n ≡ true = grind (arith, nat_tests) in
-    rw (chars_past_char bytes rest c u h, test) refl
-
-pub front-full : (n : ℕ) (bytes rest : List ℕ) (c : ℕ) → IsUtf8 bytes → bytes ≡ encode_utf8 c ++ rest → n < length (encode_utf8 c)
-    → front_of n (chars bytes) ≡ []
-unfolding front_of
-front-full n bytes rest c u h over =
-    let test : nat_le (length (encode_utf8 c)) n ≡ false = grind (arith, nat_tests) in
-    rw (chars_past_char bytes rest c u h, test) refl
-
-pub front-done : (n : ℕ) (bytes : List ℕ) → length bytes ≡ 0 → front_of n (chars bytes) ≡ []
-unfolding front_of
-front-done n bytes h = rw (chars_of_empty bytes h) refl
-
 -- ---- the characters of a text
 
 pub characters_of-text : (bytes : List ℕ) → IsUtf8 bytes → characters_of bytes ≡ chars bytes
@@ -68,26 +48,6 @@ characters_of-text bytes u = rw (is_utf8-from_IsUtf8 bytes u) refl
 pub characters_of-none : (bytes : List ℕ) → ¬ (IsUtf8 bytes) → characters_of bytes ≡ []
 unfolding characters_of
 characters_of-none bytes u = elim (cases_Bool (is_utf8 bytes)) [ inl t ↦ absurd (u (IsUtf8-from_is_utf8 bytes t)) | inr f ↦ rw f refl ]
-
--- a detail takes one more character, or is full
-pub detail-more : (all old new bytes rest : List ℕ) (c : ℕ) → IsUtf8 bytes → bytes ≡ encode_utf8 c ++ rest → length old + length (encode_utf8 c) ≤ 64
-    → all ≡ old ++ front_of (64 - length old) (chars bytes) → new ≡ old ++ encode_utf8 c → all ≡ new ++ front_of (64 - length new) (chars rest)
-detail-more all old new bytes rest c u h fits e is =
-    let room : length (encode_utf8 c) ≤ 64 - length old = omega arith in
-    let left : 64 - length new ≡ 64 - length old - length (encode_utf8 c) = rw is (omega (arith, length-append old (encode_utf8 c))) in
-    rw (left, is, append_assoc old (encode_utf8 c)) (e ∙ ap (λ l. old ++ l) (front-more (64 - length old) bytes rest c u h room))
-
-pub detail-full : (all old bytes rest : List ℕ) (c : ℕ) → IsUtf8 bytes → bytes ≡ encode_utf8 c ++ rest → ¬ (length old + length (encode_utf8 c) ≤ 64)
-    → length old ≤ 64 → all ≡ old ++ front_of (64 - length old) (chars bytes) → old ≡ all
-detail-full all old bytes rest c u h over bound e =
-    let passes : 64 - length old < length (encode_utf8 c) = omega arith in
-    sym (e ∙ (ap (λ l. old ++ l) (front-full (64 - length old) bytes rest c u h passes) ∙ append-nil old))
-
-pub char-fits : (c : ℕ) → length (encode_utf8 c) ≤ 64
-char-fits c = let four : len_utf8 c ≤ 4 = grind arith in omega (arith, length-encode c)
-
-pub detail-done : (all old bytes : List ℕ) → length bytes ≡ 0 → all ≡ old ++ front_of (64 - length old) (chars bytes) → old ≡ all
-detail-done all old bytes h e = sym (e ∙ (ap (λ l. old ++ l) (front-done (64 - length old) bytes h) ∙ append-nil old))
 
 pub chars-empty : (bytes : List ℕ) → IsUtf8 bytes → (length (chars bytes) == 0) ≡ (length bytes == 0)
 chars-empty [] u = rw chars-nil refl

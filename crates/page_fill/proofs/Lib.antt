@@ -1,12 +1,5 @@
-pub mod LaidLemmas
 pub mod SheetLemmas
 pub mod CharacterLemmas
 pub mod PlainLemmas
 pub mod WordLemmas
 pub mod CutLaw
-pub mod InWordsRun
-pub mod InWordsPieces
-pub mod SoundWords
-pub mod GlueLaw
-pub mod WordLaw
-pub mod Examples

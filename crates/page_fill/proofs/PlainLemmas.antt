@@ -1,5 +1,5 @@
 -- A plain text that the open row has room for.
-use Rattle.std.proofs.Common.{◌≡◌, ℕ, ◌+◌, ◌<◌, ◌≤◌, suc, true, false, ◌==◌, List, [], ◌∷◌, ◌++◌, length, min, take, drop, set, get_or, append_assoc, length-append, length-drop, ◌-◌, nat_lt, ◌<◌, refl, ap, sym, ◌∙◌, arith}
+use Rattle.std.proofs.Common.{◌≡◌, ℕ, ◌+◌, ◌<◌, ◌≤◌, suc, true, false, ◌==◌, List, [], ◌∷◌, ◌++◌, length, min, take, drop, set, get_or, append_assoc, append-nil, length-append, ◌||◌, length-drop, ◌-◌, nat_lt, ◌<◌, refl, ap, sym, ◌∙◌, arith}
 use Rattle.std.proofs.lemmas.Bool.Decides.{nat_tests}
 use Rattle.std.proofs.lemmas.List.{length-map, length-take-le, get_or-append_right, get_or-drop, take_more, drop_more, set_at}
 use Rattle.std.proofs.lemmas.List.Sums.{sum_by-append}
@@ -8,6 +8,7 @@ use Rattle.page_core_base.specs.declared.cells.Cell.{Cell}
 use Rattle.page_core_base.specs.declared.cells.Font.{Font}
 use Rattle.page_core_base.specs.declared.places.Place.{Place}
 use Rattle.page_core_base.specs.Laid.{join, nothing}
+use Rattle.page_core_tables.specs.Printed.{char_printed, known}
 use Rattle.page_fill.specs.Sheets.{Sheet, cell_columns, columns, counted, passes, blank, opens, letter, letters, space, spaces}
 use Rattle.page_core_limits.specs.declared.TheConstants.{CELLS}
 use Rattle.page_fill.specs.declared.TheConstants.{TAG_COLUMNS}
@@ -20,17 +21,17 @@ use Rattle.page_core_base.specs.declared.page_settings.Output.{Output}
 use Rattle.std.proofs.lemmas.Str.{chars-IsAscii, IsUtf8-from_ascii}
 use Rattle.std.proofs.lemmas.Str.Ascii.{IsAscii-nil, IsAscii-cons}
 use Rattle.std.specs.Str.{IsAscii}
-use Rattle.page_fill.specs.Plain.{is_plain_byte, is_plain, has_room, taken, has_word_room, takes_word, spaced}
+use Rattle.page_fill.specs.Plain.{is_printable, is_printable_ascii, has_room, taken, has_word_room, takes_word, spaced}
 
 -- a plain byte has a column
-pub plain-columns : (font : Font) (b : ℕ) → is_plain_byte b ≡ true → cell_columns (cell_of font b) ≡ 1
+pub plain-columns : (font : Font) (b : ℕ) → is_printable b ≡ true → cell_columns (cell_of font b) ≡ 1
 unfolding char_width
 plain-columns font b h = grind (arith, nat_tests)
 
-first-plain : (b : ℕ) (bytes : List ℕ) → is_plain (b ∷ bytes) ≡ true → is_plain_byte b ≡ true
+first-plain : (b : ℕ) (bytes : List ℕ) → is_printable_ascii (b ∷ bytes) ≡ true → is_printable b ≡ true
 first-plain b bytes h = grind (arith, h)
 
-rest-plain : (b : ℕ) (bytes : List ℕ) → is_plain (b ∷ bytes) ≡ true → is_plain bytes ≡ true
+rest-plain : (b : ℕ) (bytes : List ℕ) → is_printable_ascii (b ∷ bytes) ≡ true → is_printable_ascii bytes ≡ true
 rest-plain b bytes h = grind (arith, h)
 
 -- ---- one cell
@@ -86,7 +87,7 @@ taken-more s cell next cells = taken-at s s.cells cell next cells refl
 
 -- ---- a text
 
-pub letters-fit : (s : Sheet) (b : ℕ) (bytes : List ℕ) (font : Font) (place : Place) → is_plain (b ∷ bytes) ≡ true → has_room s (length (b ∷ bytes)) ≡ true
+pub letters-fit : (s : Sheet) (b : ℕ) (bytes : List ℕ) (font : Font) (place : Place) → is_printable_ascii (b ∷ bytes) ≡ true → has_room s (length (b ∷ bytes)) ≡ true
     → letters s (cells_of font (b ∷ bytes)) place ≡ nothing (taken s (cells_of font (b ∷ bytes)))
 unfolding letters
 letters-fit s b [] font place plain room =
@@ -98,14 +99,14 @@ letters-fit s b (next ∷ bytes) font place plain room =
     rw (letter-fits s (cell_of font b) (suc (length bytes)) place one room) (others ∙ ap nothing (taken-more s (cell_of font b) (cell_of font next) (cells_of font bytes)))
 
 -- a text with a byte
-pub letters-fits : (s : Sheet) (bytes : List ℕ) (font : Font) (place : Place) → (length bytes == 0) ≡ false → is_plain bytes ≡ true → has_room s (length bytes) ≡ true
+pub letters-fits : (s : Sheet) (bytes : List ℕ) (font : Font) (place : Place) → (length bytes == 0) ≡ false → is_printable_ascii bytes ≡ true → has_room s (length bytes) ≡ true
     → letters s (cells_of font bytes) place ≡ nothing (taken s (cells_of font bytes))
 letters-fits s [] font place some plain room = absurd (grind (arith, some))
 letters-fits s (b ∷ bytes) font place some plain room = letters-fit s b bytes font place plain room
 
 -- ---- its columns
 
-columns-plain : (font : Font) (bytes : List ℕ) → is_plain bytes ≡ true → columns (cells_of font bytes) ≡ length bytes
+columns-plain : (font : Font) (bytes : List ℕ) → is_printable_ascii bytes ≡ true → columns (cells_of font bytes) ≡ length bytes
 columns-plain font [] plain = refl
 columns-plain font (b ∷ bytes) plain =
     let one : cell_columns (cell_of font b) ≡ 1 = plain-columns font b (first-plain b bytes plain) in
@@ -114,7 +115,7 @@ columns-plain font (b ∷ bytes) plain =
     sum_by-append cell_columns (cell_of font b ∷ []) (cells_of font bytes) ∙ omega (arith, last, others)
 
 -- a sound row with the cells of a plain text is sound
-pub sound-more : (cells : List Cell) (bytes : List ℕ) (font : Font) (capacity count gap word : ℕ) → IsSound cells capacity count gap word → is_plain bytes ≡ true
+pub sound-more : (cells : List Cell) (bytes : List ℕ) (font : Font) (capacity count gap word : ℕ) → IsSound cells capacity count gap word → is_printable_ascii bytes ≡ true
     → length cells + length bytes ≤ CELLS → IsSound (cells ++ cells_of font bytes) capacity (count + length bytes) gap word
 sound-more cells bytes font capacity count gap word sound plain room =
     let len : length (cells ++ cells_of font bytes) ≡ length cells + length bytes = length-append cells (cells_of font bytes) ∙ ap (λ k. length cells + k) (length-map bytes (cell_of font)) in
@@ -130,36 +131,41 @@ sound-more cells bytes font capacity count gap word sound plain room =
 
 -- ---- its characters
 
-ascii-plain : (bytes : List ℕ) → is_plain bytes ≡ true → IsAscii bytes
+ascii-plain : (bytes : List ℕ) → is_printable_ascii bytes ≡ true → IsAscii bytes
 ascii-plain [] plain = IsAscii-nil
 ascii-plain (b ∷ bytes) plain =
     let byte = first-plain b bytes plain in
     let below : b < 128 = grind (arith, nat_tests, byte) in
     IsAscii-cons b bytes below (ascii-plain bytes (rest-plain b bytes plain))
 
-pub characters_of-plain : (bytes : List ℕ) → is_plain bytes ≡ true → characters_of bytes ≡ bytes
+pub characters_of-plain : (bytes : List ℕ) → is_printable_ascii bytes ≡ true → characters_of bytes ≡ bytes
 characters_of-plain bytes plain =
     let ascii = ascii-plain bytes plain in
     characters_of-text bytes (IsUtf8-from_ascii bytes ascii) ∙ chars-IsAscii bytes ascii
 
-pub characters-plain : (output : Output) (s : Sheet) (bytes : List ℕ) (font : Font) (place : Place) → is_plain bytes ≡ true
+-- a plain byte prints itself
+prints-itself : (output : Output) (b : ℕ) → is_printable b ≡ true → char_printed output b ≡ known (b ∷ [])
+prints-itself output b byte =
+    let ascii : nat_lt b 0x80 ≡ true = grind (arith, nat_tests, byte) in
+    let other : (b == 0x09 || b == 0xA0) ≡ false = grind (arith, nat_tests, byte) in
+    rw (other, ascii) refl
+
+pub characters-plain : (output : Output) (s : Sheet) (bytes : List ℕ) (font : Font) (place : Place) → is_printable_ascii bytes ≡ true
     → characters output s bytes font place ≡ letters s (cells_of font bytes) place
 unfolding characters character letters
 characters-plain output s [] font place plain = refl
 characters-plain output s (b ∷ bytes) font place plain =
-    let byte = first-plain b bytes plain in
-    let ascii : nat_lt b 128 ≡ true = grind (arith, nat_tests, byte) in
     let others = characters-plain output (letter s (cell_of font b) place).edge bytes font place (rest-plain b bytes plain) in
-    rw (ascii, others) refl
+    rw (prints-itself output b (first-plain b bytes plain), append-nil (letter s (cell_of font b) place).rows, append-nil (letter s (cell_of font b) place).notes, others) refl
 
-pub text-plain : (e : Edge) (bytes : List ℕ) (font : Font) (place : Place) → is_plain bytes ≡ true → (length bytes == 0) ≡ false
+pub text-plain : (e : Edge) (bytes : List ℕ) (font : Font) (place : Place) → is_printable_ascii bytes ≡ true → (length bytes == 0) ≡ false
     → text e bytes font place
     ≡ join (opening e place) (over (letters (opening e place).edge.sheet (cells_of font bytes) place) (on_sheet (opening e place).edge))
 unfolding text
 text-plain e bytes font place plain some =
     rw (some, characters-plain (opening e place).edge.output (opening e place).edge.sheet bytes font place plain) refl
 
--- ---- a word behind one blank
+-- ---- a word after one blank
 
 space-fits : (s : Sheet) (n : ℕ) (place : Place) → has_word_room s n ≡ true → space (opens s) place ≡ nothing (spaced s)
 unfolding space char_width
@@ -187,7 +193,7 @@ opening-fits e n place takes =
     let stood : stands e ≡ false = grind (arith, literal, some) in
     rw (joined, tab, one, stood, space-fits e.sheet n place room) refl
 
-pub text-word : (e : Edge) (bytes : List ℕ) (font : Font) (place : Place) → is_plain bytes ≡ true → (length bytes == 0) ≡ false → takes_word e (length bytes) ≡ true
+pub text-word : (e : Edge) (bytes : List ℕ) (font : Font) (place : Place) → is_printable_ascii bytes ≡ true → (length bytes == 0) ≡ false → takes_word e (length bytes) ≡ true
     → text e bytes font place ≡ nothing (record e { sheet = taken (spaced e.sheet) (cells_of font bytes); word = begun_word false })
 text-word e bytes font place plain some takes =
     let room : has_word_room e.sheet (length bytes) ≡ true = grind (arith, takes) in

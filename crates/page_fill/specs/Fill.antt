@@ -10,14 +10,14 @@ use Rattle.page_core_base.specs.declared.pieces.Piece.TheVariants.{Text, Glyph, 
 use Rattle.page_core_base.specs.declared.places.Place.{Place}
 use Rattle.page_core_base.specs.declared.pieces.TagForm.{TagForm}
 use Rattle.page_core_base.specs.declared.pieces.TagForm.TheVariants as forms
-use Rattle.page_core_base.specs.Messages.{Message}
+use Rattle.page_core_base.specs.Messages.{Message, message_about}
 use Rattle.page_core_base.specs.Laid.{Laid, nothing, seq}
 use Rattle.page_fill.specs.Sheets.{Sheet, over, columns, letter, fixed_blanks, new_word, broken, empty_rows, fresh}
 use Rattle.page_fill.specs.Characters.{with_notes, cell_of, characters_of, characters, character, glyph}
-use Rattle.page_fill.specs.declared.words.OpenWord.{OpenWord}
 use Rattle.page_fill.specs.declared.words.OpenTag.{OpenTag}
 use Rattle.page_fill.specs.declared.TheConstants.{HANG_MAX, TAB_STOP}
 pub use Rattle.page_fill.specs.declared.words.Edge.{Edge}
+pub use Rattle.page_fill.specs.declared.words.OpenWord.{OpenWord}
 
 -- ---- what waits before the next word
 
@@ -45,14 +45,14 @@ glued_word w =
     if w.is_open then w
     else record { is_joined = true; is_open = true; is_placed = false; blanks = 0; has_tab = false; is_told = w.is_told }
 
--- a new word is placed so many blanks on
+-- a new word is placed after a count of blanks
 abbrev pub placed_word : ℕ → OpenWord
 placed_word count = record { is_joined = false; is_open = true; is_placed = true; blanks = count; has_tab = false; is_told = false }
 
 -- ---- parts of words
 
 abbrev pub tab_note : Place → Message
-tab_note place = record { kind = notes.TabFill; line = place.line; column = place.column; detail = [] }
+tab_note place = message_about notes.TabFill place []
 
 abbrev pub tab_notes : Bool → Place → List Message
 tab_notes told place = if told then tab_note place ∷ [] else []
@@ -112,7 +112,7 @@ tab e font place = seq (opening e place) (λ f. if f.sheet.literal then fixed_ta
 unfoldable pub ended : Edge → Laid Edge
 ended e = over (broken e.sheet) (λ s. record e { sheet = s; word = no_word })
 
--- blank rows are given until so many stand at the end, but none after a heading's row
+-- blank rows are given until a count of them stands at the end, but none after a heading's row
 abbrev pub missing_rows : Sheet → ℕ → ℕ
 missing_rows s n = if s.heading then 0 else n - s.blank_rows
 

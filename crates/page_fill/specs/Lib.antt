@@ -3,5 +3,3 @@ pub mod Room
 pub mod Characters
 pub mod Fill
 pub mod Plain
-pub mod InWords
-pub mod Words

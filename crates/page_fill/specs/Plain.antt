@@ -1,4 +1,5 @@
--- Plain texts: bytes of printable ASCII, each a cell of one column, so that an open row with room for them takes them as a whole.
+-- A machine, which no public clause cites: the fast way for plain texts. They are bytes of printable ASCII, each a cell of one column, so that an
+-- open row with room for them takes them as a whole.
 use Rattle.std.specs.Prelude.{ℕ, ◌+◌, Bool, true, not, ◌&&◌, ◌||◌, ◌==◌, nat_le, min, List, [], ◌∷◌, ◌++◌, length, if◌then◌else◌}
 use Rattle.std.specs.List.{list_all}
 use Rattle.page_core_base.specs.declared.cells.Cell.{Cell}
@@ -8,26 +9,26 @@ use Rattle.page_core_limits.specs.declared.TheConstants.{CELLS}
 use Rattle.page_fill.specs.declared.TheConstants.{TAG_COLUMNS}
 
 -- a byte from ' ' to '~'
-abbrev pub is_plain_byte : ℕ → Bool
-is_plain_byte b = nat_le 32 b && nat_le b 126
+abbrev pub is_printable : ℕ → Bool
+is_printable b = nat_le 32 b && nat_le b 126
 
-abbrev pub is_plain : List ℕ → Bool
-is_plain bytes = list_all is_plain_byte bytes
+abbrev pub is_printable_ascii : List ℕ → Bool
+is_printable_ascii bytes = list_all is_printable bytes
 
--- neither the width nor the row's end comes before the end of so many cells of a column each
+-- neither the width nor the row's end comes before the end of this count of cells of a column each
 abbrev pub has_room : Sheet → ℕ → Bool
 has_room s count =
     nat_le (length s.cells + count) CELLS
     && (s.literal || (s.gap == 0 || nat_le (s.margin + columns s.cells + count) s.width))
 
--- an open row that is filled has room for a blank and so many cells of a column each behind it
+-- an open row that is filled has room for a blank and this count of cells of a column each after it
 abbrev pub has_word_room : Sheet → ℕ → Bool
 has_word_room s count =
     not s.literal
     && (not (length s.cells == 0)
     && (nat_le (length s.cells + 1 + count) CELLS && nat_le (s.margin + columns s.cells + 1 + count) s.width))
 
--- a word behind one blank, with so many cells of a column each, goes into the open row
+-- a word after one blank, with this count of cells of a column each, goes into the open row
 abbrev pub takes_word : Edge → ℕ → Bool
 takes_word e count = not e.word.is_joined && (not e.word.has_tab && (e.word.blanks == 1 && has_word_room e.sheet count))
 

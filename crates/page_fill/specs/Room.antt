@@ -1,4 +1,4 @@
--- What an open row keeps to: it never wants more memory than it began with.
+-- A machine, which no public clause cites: what an open row keeps to, so that it never wants more memory than it began with.
 use Rattle.std.specs.Prelude.{◌≡◌, ℕ, ◌*◌, ◌≤◌, List, length}
 use Rattle.page_core_base.specs.declared.cells.Cell.{Cell}
 use Rattle.page_fill.specs.Sheets.{columns}

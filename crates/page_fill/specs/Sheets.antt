@@ -1,20 +1,23 @@
--- The open row, cell by cell: when a row takes a cell and when it ends, and what stands at the end of the rows that were given.
+-- The steps of filling, which page_fill_laws proves equal to the definition by words: the open row, cell by cell, and what stands at the end of the
+-- rows that were given.
 -- Source: roff(7), "Filling and adjusting"; mandoc(1), "ASCII Output".
-use Rattle.std.specs.Prelude.{ℕ, zero, suc, ◌+◌, ◌^◌, ◌-◌, Bool, true, false, not, ◌&&◌, ◌==◌, nat_lt, min, List, [], ◌∷◌, ◌++◌, length, take, drop, replicate, sum_by, unwrap_or, codes, if◌then◌else◌}
-use Rattle.unicode_width.specs.Width.{char_width}
+use Rattle.std.specs.Prelude.{ℕ, zero, suc, ◌+◌, ◌^◌, ◌-◌, Bool, true, false, not, ◌&&◌, ◌==◌, nat_lt, min, List, [], ◌∷◌, ◌++◌, length, take, drop, replicate, sum_by, if◌then◌else◌}
 use Rattle.page_core_base.specs.declared.cells.Cell.{Cell}
 use Rattle.page_core_base.specs.declared.cells.Font.TheVariants.{R}
 use Rattle.page_core_base.specs.declared.note_kinds.NoteKind.TheVariants.{Limit}
 use Rattle.page_core_base.specs.declared.places.Place.{Place}
-use Rattle.page_core_base.specs.Messages.{Message}
+use Rattle.page_core_base.specs.Messages.{Message, message_about}
 use Rattle.page_core_base.specs.Rows.{row_of, is_blank_row}
 use Rattle.page_core_base.specs.Laid.{Laid, nothing, seq}
+use Rattle.page_core_tables.specs.Printed.{char_columns}
+use Rattle.page_core_limits.specs.Limits.{name_of}
+use Rattle.page_core_limits.specs.declared.Limit.TheVariants.{Cells}
 use Rattle.page_core_limits.specs.declared.TheConstants.{CELLS}
 use Rattle.page_fill.specs.declared.TheConstants.{TAG_COLUMNS}
 
 -- the columns of a cell, and of cells
 abbrev pub cell_columns : Cell → ℕ
-cell_columns cell = unwrap_or (char_width false cell.c) 0
+cell_columns cell = char_columns cell.c
 
 abbrev pub columns : List Cell → ℕ
 columns cells = sum_by cell_columns cells
@@ -48,11 +51,11 @@ abbrev pub over : {E F : Type 0} → Laid E → (E → F) → Laid F
 over l f = record { rows = l.rows; notes = l.notes; edge = f l.edge }
 
 abbrev pub cells_note : Place → Message
-cells_note place = record { kind = Limit; line = place.line; column = place.column; detail = codes "CELLS" }
+cells_note place = message_about Limit place (name_of Cells)
 
 -- ---- rows
 
--- so many blank rows more
+-- the count of blank rows with more
 abbrev pub more_blank_rows : ℕ → ℕ → ℕ
 more_blank_rows count more = min (count + more) (2 ^ 32 - 1)
 
@@ -124,7 +127,7 @@ unfoldable pub letters : Sheet → List Cell → Place → Laid Sheet
 letters s [] place = nothing s
 letters s (cell ∷ cells) place = seq (letter s cell place) (λ t. letters t cells place)
 
--- so many blanks that are cells of the word
+-- a count of blanks that are cells of the word
 abbrev pub fixed_blanks : Sheet → ℕ → Place → Laid Sheet
 fixed_blanks s n place = letters s (replicate n blank) place
 
@@ -138,7 +141,7 @@ new_word s n stands place = if stands then fixed_blanks (opens s) n place else s
 unfoldable pub broken : Sheet → Laid Sheet
 broken s = if length s.cells == 0 then nothing s else over (gives s s.cells) emptied
 
--- so many rows without cells
+-- a count of rows without cells
 unfoldable pub empty_rows : Sheet → ℕ → Laid Sheet
 empty_rows s n = record {
   rows = replicate n (row_of 0 []);

@@ -5,7 +5,7 @@ ghost use Rattle.page_fill.specs.Sheets as sheet;
 ghost use Rattle.page_core_base.specs.Rows.{is_blank_row, row_of};
 
 use page_core_base::{Cell, Font};
-use unicode_width::UnicodeWidthChar;
+use page_core_tables::char_columns;
 
 /// A blank.
 pub(crate) const BLANK: Cell = Cell {
@@ -14,15 +14,11 @@ pub(crate) const BLANK: Cell = Cell {
 };
 
 /// The columns of a cell.
-#[tactic(auto, unfolding(unicode_width::specs::Width::char_width))]
 pub(crate) fn cell_columns(cell: Cell) -> u32
     ensures value { result ≡ sheet.cell_columns cell }
     ensures bound { result ≤ 3 }
 {
-    if cell.c >= ' ' && cell.c <= '~' {
-        return 1;
-    }
-    cell.c.width().unwrap_or(0) as u32
+    char_columns(cell.c)
 }
 
 /// The columns of cells.

@@ -2,66 +2,78 @@
 
 ghost use Rattle.std.specs.Prelude.{◌≡◌, ◌≤◌, length, IfOk, IfErr, IfSome, OnOk, OnErr, Some, None};
 ghost use Rattle.page_core_base.specs.Fails.{FailsBySink};
-ghost use Rattle.page_core_base.specs.Laid.{Lays, Gets};
+ghost use Rattle.page_core_base.specs.Laid.{Gets};
+ghost use Rattle.page_core_base.specs.Latches.{LaysOut};
 ghost use Rattle.page_core_base.specs.Pieces.{piece_of};
 ghost use Rattle.page_fill.specs.Fill as fill;
 
 use crate::sheets::OpenRow;
 use crate::words::{Edge, NO_WORD};
-use page_core_base::{Cell, Fault, NoteSink, Piece, RowSink, Settings};
+use page_core_base::{Cell, Fault, NoteSink, Piece, RowLatch, RowOut, RowSink, Settings};
 use page_core_limits::CELLS;
 use std::alloc::Global;
 use std::marker::Model;
 
 // Takes a piece, and gives the rows and messages that it settles.
 #[tactic(auto, unfolding(crate::specs::Fill::laid_piece))]
-fn take_piece<R: RowSink, N: NoteSink>(
+fn take_piece<O: RowOut>(edge: &mut Edge, piece: Piece<&[u8]>, out: &mut O)
+    ensures { LaysOut O.left out.old (fill.laid_piece edge.old (piece_of piece.entry)) out.new edge.new }
+{
+    match piece {
+        Piece::Text { text, font, place } => edge.bytes(text, font, place, out),
+        Piece::Glyph { name, font, place } => edge.glyph(name, font, place, out),
+        Piece::Char { c, font, place } => edge.character(c, font, place, out),
+        Piece::Tab { font, place } => edge.tab(font, place, out),
+        Piece::Break => edge.end_row(out),
+        Piece::Para(count) => edge.paragraph(count, out),
+        Piece::Space(count) => edge.space(count, out),
+        Piece::TagEnd => edge.end_tag(out),
+        Piece::Heading => edge.heading(out),
+        Piece::Blank { count, has_tab } => edge.word = edge.word.ended(count, has_tab),
+        Piece::Glue => edge.word = edge.word.glued(),
+        Piece::Indent { first, rest } => edge.sheet.set_margins(first, rest),
+        Piece::Literal(is_literal) => edge.sheet.set_literal(is_literal),
+        Piece::Tag { hang, form } => edge.begin_tag(hang, form),
+        Piece::Column(column) => edge.column(column),
+    }
+}
+
+// Takes a piece over two sinks.
+fn fill_piece<R: RowSink, N: NoteSink>(
     edge: &mut Edge,
     piece: Piece<&[u8]>,
     rows: &mut R,
     notes: &mut N,
 ) -> Result<(), Fault>
-    ensures lays { Lays result R.gave R.within N.gave N.within rows.old rows.new notes.old notes.new edge.new
+    ensures gets { Gets result R.gave R.within N.gave N.within rows.old rows.new notes.old notes.new
         (fill.laid_piece edge.old (piece_of piece.entry)) }
-    ensures faults { FailsBySink result (R.failed rows.old) (R.failed rows.new) (N.failed notes.old) (N.failed notes.new) }
+    ensures edge { edge.new ≡ (fill.laid_piece edge.old (piece_of piece.entry)).edge }
+    ensures faults { FailsBySink result (R.failed rows.old) (R.failed rows.new) (N.failed notes.old)
+        (N.failed notes.new) }
     ensures rows_same { R.loans rows.new ≡ R.loans rows.old }
     ensures notes_same { N.loans notes.new ≡ N.loans notes.old }
 {
-    match piece {
-        Piece::Text { text, font, place } => edge.bytes(text, font, place, rows, notes),
-        Piece::Glyph { name, font, place } => edge.glyph(name, font, place, rows, notes),
-        Piece::Char { c, font, place } => edge.character(c, font, place, rows, notes),
-        Piece::Tab { font, place } => edge.tab(font, place, rows, notes),
-        Piece::Break => edge.end_row(rows, notes),
-        Piece::Para(count) => edge.paragraph(count, rows, notes),
-        Piece::Space(count) => edge.space(count, rows, notes),
-        Piece::TagEnd => edge.end_tag(rows, notes),
-        Piece::Heading => edge.heading(rows, notes),
-        Piece::Blank { count, has_tab } => {
-            edge.word = edge.word.ended(count, has_tab);
-            Ok(())
-        }
-        Piece::Glue => {
-            edge.word = edge.word.glued();
-            Ok(())
-        }
-        Piece::Indent { first, rest } => {
-            edge.sheet.set_margins(first, rest);
-            Ok(())
-        }
-        Piece::Literal(is_literal) => {
-            edge.sheet.set_literal(is_literal);
-            Ok(())
-        }
-        Piece::Tag { hang, form } => {
-            edge.begin_tag(hang, form);
-            Ok(())
-        }
-        Piece::Column(column) => {
-            edge.column(column);
-            Ok(())
-        }
-    }
+    let mut latch = RowLatch::new(rows, notes);
+    take_piece(edge, piece, &mut latch);
+    latch.done()
+}
+
+// Ends the open row over two sinks.
+fn end_filling<R: RowSink, N: NoteSink>(
+    edge: &mut Edge,
+    rows: &mut R,
+    notes: &mut N,
+) -> Result<(), Fault>
+    ensures gets { Gets result R.gave R.within N.gave N.within rows.old rows.new notes.old notes.new
+        (fill.ended edge.old) }
+    ensures faults { FailsBySink result (R.failed rows.old) (R.failed rows.new) (N.failed notes.old)
+        (N.failed notes.new) }
+    ensures rows_same { R.loans rows.new ≡ R.loans rows.old }
+    ensures notes_same { N.loans notes.new ≡ N.loans notes.old }
+{
+    let mut latch = RowLatch::new(rows, notes);
+    edge.end_row(&mut latch);
+    latch.done()
 }
 
 /// Turns pieces into rows, and holds one row: the open one.
@@ -127,10 +139,16 @@ impl Filler {
         rows: &mut R,
         notes: &mut N,
     ) -> Result<(), Fault>
-        ensures gets { (e : fill.Edge) → self.old ≡ Some e → Gets result R.gave R.within N.gave N.within rows.old rows.new notes.old notes.new (fill.laid_piece e (piece_of piece.entry)) }
-        ensures edge { (e : fill.Edge) → self.old ≡ Some e → OnOk result (self.new ≡ Some (fill.laid_piece e (piece_of piece.entry)).edge) }
-        ensures faults { (e : fill.Edge) → self.old ≡ Some e → FailsBySink result (R.failed rows.old) (R.failed rows.new) (N.failed notes.old) (N.failed notes.new) }
-        ensures closed { self.old ≡ None → (result ≡ Err Fault.Failed) × (rows.new ≡ rows.old) × (notes.new ≡ notes.old) }
+        ensures gets { (e : fill.Edge) → self.old ≡ Some e
+            → Gets result R.gave R.within N.gave N.within rows.old rows.new notes.old notes.new
+            (fill.laid_piece e (piece_of piece.entry)) }
+        ensures edge { (e : fill.Edge) → self.old ≡ Some e
+            → OnOk result (self.new ≡ Some (fill.laid_piece e (piece_of piece.entry)).edge) }
+        ensures faults { (e : fill.Edge) → self.old ≡ Some e
+            → FailsBySink result (R.failed rows.old) (R.failed rows.new)
+            (N.failed notes.old) (N.failed notes.new) }
+        ensures closed { self.old ≡ None → (result ≡ Err Fault.Failed)
+            × (rows.new ≡ rows.old) × (notes.new ≡ notes.old) }
         ensures stops { OnErr result (self.new ≡ None) }
         ensures rows_same { R.loans rows.new ≡ R.loans rows.old }
         ensures notes_same { N.loans notes.new ≡ N.loans notes.old }
@@ -138,10 +156,9 @@ impl Filler {
         if !self.is_going {
             return Err(Fault::Failed);
         }
-        self.is_going = false;
-        take_piece(&mut self.edge, piece, rows, notes)?;
-        self.is_going = true;
-        Ok(())
+        let result = fill_piece(&mut self.edge, piece, rows, notes);
+        self.is_going = result.is_ok();
+        result
     }
 
     /// The open row ends, if there is one. From then on the filler takes nothing.
@@ -152,9 +169,13 @@ impl Filler {
         rows: &mut R,
         notes: &mut N,
     ) -> Result<(), Fault>
-        ensures gets { (e : fill.Edge) → self.old ≡ Some e → Gets result R.gave R.within N.gave N.within rows.old rows.new notes.old notes.new (fill.ended e) }
-        ensures faults { (e : fill.Edge) → self.old ≡ Some e → FailsBySink result (R.failed rows.old) (R.failed rows.new) (N.failed notes.old) (N.failed notes.new) }
-        ensures closed { self.old ≡ None → (result ≡ Err Fault.Failed) × (rows.new ≡ rows.old) × (notes.new ≡ notes.old) }
+        ensures gets { (e : fill.Edge) → self.old ≡ Some e
+            → Gets result R.gave R.within N.gave N.within rows.old rows.new notes.old notes.new (fill.ended e) }
+        ensures faults { (e : fill.Edge) → self.old ≡ Some e
+            → FailsBySink result (R.failed rows.old) (R.failed rows.new)
+            (N.failed notes.old) (N.failed notes.new) }
+        ensures closed { self.old ≡ None → (result ≡ Err Fault.Failed)
+            × (rows.new ≡ rows.old) × (notes.new ≡ notes.old) }
         ensures ended { self.new ≡ None }
         ensures rows_same { R.loans rows.new ≡ R.loans rows.old }
         ensures notes_same { N.loans notes.new ≡ N.loans notes.old }
@@ -163,6 +184,6 @@ impl Filler {
             return Err(Fault::Failed);
         }
         self.is_going = false;
-        self.edge.end_row(rows, notes)
+        end_filling(&mut self.edge, rows, notes)
     }
 }

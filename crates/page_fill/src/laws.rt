@@ -1,53 +1,15 @@
 //! Laws of filling.
 
-ghost use Rattle.std.specs.Prelude.{◌≡◌, ℕ, ◌+◌, ◌<◌, ◌≤◌, Bool, true, false, List, [], ◌∷◌, ◌++◌, length, IsUtf8};
-ghost use Rattle.page_core_base.specs.Laid.{join, seq, nothing};
-ghost use Rattle.page_core_base.specs.declared.cells.Font.{Font};
+ghost use Rattle.std.specs.Prelude.{◌≡◌, ℕ, List, ◌++◌};
+ghost use Rattle.page_core_base.specs.Laid.{join};
 ghost use Rattle.page_core_base.specs.declared.pieces.Piece.{Piece};
-ghost use Rattle.page_core_base.specs.declared.pieces.Piece.TheVariants.{Text, Blank, Glue};
-ghost use Rattle.page_core_base.specs.declared.places.Place.{Place};
 ghost use Rattle.page_fill.specs.Fill as fill;
-ghost use Rattle.page_fill.specs.InWords as words;
-ghost use Rattle.page_fill.specs.Sheets as sheet;
-ghost use Rattle.page_fill.specs.Sheets.{Sheet};
-ghost use Rattle.page_fill.specs.Words as taken;
-ghost use Rattle.page_core_base.specs.declared.cells.Cell.{Cell};
 
-use page_core_limits::CELLS;
-
-/// Pieces may be cut anywhere: what is settled is that of the front, and that of the rest from what is held behind the front.
+/// Pieces may be cut anywhere: what is settled is that of the front, and that of the rest from what is held after the front.
 pub fn cut_law()
-    ensures laid { (e : fill.Edge) (front rest : List (Piece (List ℕ))) → fill.laid e (front ++ rest) ≡ join (fill.laid e front) (fill.laid (fill.laid e front).edge rest) }
-    ensures filled { (e : fill.Edge) (front rest : List (Piece (List ℕ))) → fill.filled e (front ++ rest) ≡ join (fill.laid e front) (fill.filled (fill.laid e front).edge rest) }
-{}
-
-/// Pieces of words fill rows as the definition in words says: each row ends at its first offending cell. That premise on the open word holds from
-/// the start of a page on.
-pub fn fill_law()
-    ensures rows { (e : fill.Edge) (ps : List (Piece (List ℕ))) → words.is_sound e.word ≡ true → words.are_of_words e.sheet.literal ps ≡ true → fill.laid e ps ≡ words.laid_in_words e ps }
-    ensures start { words.is_sound fill.no_word ≡ true }
-    ensures sound { (e : fill.Edge) (p : Piece (List ℕ)) → words.is_sound e.word ≡ true → words.is_sound (fill.laid_piece e p).edge.word ≡ true }
-{}
-
-/// Texts that are glued are one word, whatever blanks stand between them.
-pub fn glue_law()
-    ensures { (e : fill.Edge) (a b : List ℕ) (font : Font) (place : Place) (n : ℕ) (has_tab : Bool) → e.word.is_joined ≡ false → IsUtf8 a → IsUtf8 b → 0 < length a
-        → fill.laid e (Text a font place ∷ Blank n has_tab ∷ Glue ∷ Text b font place ∷ []) ≡ fill.laid e (Text (a ++ b) font place ∷ []) }
-{}
-
-/// A row takes the next word with its blanks where margin and columns stay within the width; else the row ends before the word, which begins the
-/// next row. A row's first word is taken whatever its columns are, up to [`CELLS`] cells: so the columns of a filled row pass the width only where its
-/// first word alone does.
-pub fn word_law()
-    ensures fits { (s : Sheet) (n : ℕ) (cells : List Cell) (place : Place) → 0 < length s.cells → length s.cells + n + length cells ≤ CELLS
-        → s.margin + sheet.columns s.cells + n + sheet.columns cells ≤ s.width
-        → seq (sheet.new_word s n false place) (λ t. sheet.letters t cells place) ≡ nothing (taken.with_word s n cells) }
-    ensures passes { (s : Sheet) (n : ℕ) (cells : List Cell) (place : Place) → s.literal ≡ false → 0 < length s.cells → length s.cells + n + length cells ≤ CELLS
-        → s.margin + sheet.columns s.cells + n ≤ s.width → s.width < s.margin + sheet.columns s.cells + n + sheet.columns cells
-        → seq (sheet.new_word s n false place) (λ t. sheet.letters t cells place) ≡ taken.word_wrapped s n cells }
-    ensures blanks_pass { (s : Sheet) (n : ℕ) (cell : Cell) (cells : List Cell) (place : Place) → s.literal ≡ false → 0 < length s.cells → 0 < n → length s.cells + n ≤ CELLS
-        → s.width < s.margin + sheet.columns s.cells + n → length (cell ∷ cells) ≤ CELLS
-        → seq (sheet.new_word s n false place) (λ t. sheet.letters t (cell ∷ cells) place) ≡ taken.word_behind s (cell ∷ cells) }
-    ensures first { (s : Sheet) (cell : Cell) (cells : List Cell) (place : Place) → s.gap ≡ 0 → length s.cells ≡ 0 → length (cell ∷ cells) ≤ CELLS
-        → sheet.letters s (cell ∷ cells) place ≡ nothing (taken.word_first s (cell ∷ cells)) }
+    ensures laid { (e : fill.Edge) (front rest : List (Piece (List ℕ)))
+        → fill.laid e (front ++ rest) ≡ join (fill.laid e front) (fill.laid (fill.laid e front).edge rest) }
+    ensures filled { (e : fill.Edge) (front rest : List (Piece (List ℕ)))
+        → fill.filled e (front ++ rest) ≡ join (fill.laid e front) (fill.filled
+        (fill.laid e front).edge rest) }
 {}

@@ -19,8 +19,5 @@ pub const HANG_MAX: u32 = 1000;
 /// The columns from one tab stop to the next.
 pub const TAB_STOP: u32 = 8;
 
-#[cfg(test)]
-mod tests;
-
 pub use fillers::Filler;
-pub use laws::{cut_law, fill_law, glue_law, word_law};
+pub use laws::cut_law;

@@ -1,35 +1,25 @@
 //! The open row, cell by cell.
 
 ghost use Rattle.std.specs.Prelude.{◌≡◌, ℕ, ◌+◌, ◌*◌, ◌^◌, ◌-◌, ◌<◌, ◌≤◌, List, [], ◌∷◌, ◌++◌, length, take, drop, replicate, vec_capacity, IfOk, true, false, if◌then◌else◌};
-ghost use Rattle.page_core_base.specs.Fails.{FailsAs, FailsBySink};
-ghost use Rattle.page_core_base.specs.Sinks.{Gives};
-ghost use Rattle.page_core_base.specs.Laid.{Lays, Gets};
+ghost use Rattle.page_core_base.specs.Latches.{CameRows, LaysOut};
 ghost use Rattle.page_core_base.specs.Messages.{message_of};
 ghost use Rattle.page_core_base.specs.Rows.{row_of};
 ghost use Rattle.page_fill.specs.Characters as shown;
 ghost use Rattle.page_fill.specs.Plain as plain;
 ghost use Rattle.page_fill.specs.Sheets as sheet;
 
-use crate::cell_widths::{BLANK, cell_columns, columns, is_blank};
 use crate::TAG_COLUMNS;
-use arrayvec::ArrayString;
-use page_core_base::{Cell, Fault, Font, Note, NoteKind, NoteSink, Place, RowSink};
-use page_core_limits::CELLS;
+use crate::cell_widths::{BLANK, cell_columns, columns, is_blank};
+use page_core_base::{Cell, Font, Note, NoteKind, Place, RowOut};
+use page_core_limits::{CELLS, Limit};
 use std::alloc::{AllocError, Global};
 use std::marker::Model;
 
-/// The report that a row has too many cells.
+// The report that a row has too many cells.
 fn cells_note(place: Place) -> Note
     ensures { message_of result ≡ sheet.cells_note place }
 {
-    let mut detail = ArrayString::new();
-    detail.push_str("CELLS");
-    Note {
-        kind: NoteKind::Limit,
-        line: place.line,
-        column: place.column,
-        detail,
-    }
+    Note::about(NoteKind::Limit, place, Limit::Cells.name().as_bytes())
 }
 
 /// The open row, and what is known of the rows above it.
@@ -120,7 +110,7 @@ impl OpenRow {
         self.blank_rows
     }
 
-    /// How many blank rows are missing to so many; none after a heading's row.
+    /// How many blank rows are missing to a count of them; none after a heading's row.
     pub(crate) fn missing_rows(&self, count: u32) -> u32
         ensures { result ≡ (if self.now.heading then 0 else count - self.now.blank_rows) }
     {
@@ -195,46 +185,27 @@ impl OpenRow {
     }
 
     // Gives a front of the open row as a row.
-    fn give<R: RowSink, N: NoteSink>(
-        &mut self,
-        end: usize,
-        rows: &mut R,
-        notes: &mut N,
-    ) -> Result<(), Fault>
+    fn give<O: RowOut>(&mut self, end: usize, out: &mut O)
         requires { end ≤ length self.old.cells }
-        ensures lays { Lays result R.gave R.within N.gave N.within rows.old rows.new notes.old notes.new self.new
-            (sheet.gives self.old (take end self.old.cells)) }
-        ensures faults { FailsBySink result (R.failed rows.old) (R.failed rows.new) (N.failed notes.old) (N.failed notes.new) }
-        ensures rows_same { R.loans rows.new ≡ R.loans rows.old }
-        ensures notes_same { N.loans notes.new ≡ N.loans notes.old }
+        ensures { LaysOut O.left out.old (sheet.gives self.old (take end self.old.cells)) out.new self.new }
     {
-        rows.row(self.margin, &self.row[..end])?;
+        out.give(self.margin, &self.row[..end]);
         self.blank_rows = if is_blank(&self.row[..end]) {
             self.blank_rows.saturating_add(1)
         } else {
             0
         };
         self.has_heading = false;
-        Ok(())
     }
 
     // Gives a front of the open row as a row, and reports that it has too many cells.
-    fn give_full<R: RowSink, N: NoteSink>(
-        &mut self,
-        end: usize,
-        place: Place,
-        rows: &mut R,
-        notes: &mut N,
-    ) -> Result<(), Fault>
+    fn give_full<O: RowOut>(&mut self, end: usize, place: Place, out: &mut O)
         requires { end ≤ length self.old.cells }
-        ensures lays { Lays result R.gave R.within N.gave N.within rows.old rows.new notes.old notes.new self.new
-            (sheet.gives_full self.old (take end self.old.cells) place) }
-        ensures faults { FailsBySink result (R.failed rows.old) (R.failed rows.new) (N.failed notes.old) (N.failed notes.new) }
-        ensures rows_same { R.loans rows.new ≡ R.loans rows.old }
-        ensures notes_same { N.loans notes.new ≡ N.loans notes.old }
+        ensures { LaysOut O.left out.old
+            (sheet.gives_full self.old (take end self.old.cells) place) out.new self.new }
     {
-        self.give(end, rows, notes)?;
-        notes.note(&cells_note(place))
+        self.give(end, out);
+        out.report(&cells_note(place));
     }
 
     // The last word and a cell begin a row.
@@ -290,7 +261,11 @@ impl OpenRow {
     // The open row takes a blank before its next word.
     fn add_space(&mut self)
         requires { length self.old.cells < CELLS }
-        ensures { self.new ≡ record self.old { cells = self.old.cells ++ sheet.blank ∷ []; word = length self.old.cells + 1 } }
+        ensures { self.new ≡ record self.old {
+          cells = self.old.cells ++ sheet.blank ∷ [];
+          word = length
+              self.old.cells + 1;
+        } }
     {
         self.columns += cell_columns(BLANK);
         self.row.push_reserved(BLANK);
@@ -308,83 +283,47 @@ impl OpenRow {
     }
 
     // The row ends before its last word, which goes on in the next row with a cell.
-    fn wrap_word<R: RowSink, N: NoteSink>(
-        &mut self,
-        cell: Cell,
-        rows: &mut R,
-        notes: &mut N,
-    ) -> Result<(), Fault>
+    fn wrap_word<O: RowOut>(&mut self, cell: Cell, out: &mut O)
         requires { 0 < self.old.gap }
-        ensures lays { Lays result R.gave R.within N.gave N.within rows.old rows.new notes.old notes.new self.new
-            (sheet.wraps self.old cell) }
-        ensures faults { FailsBySink result (R.failed rows.old) (R.failed rows.new) (N.failed notes.old) (N.failed notes.new) }
-        ensures rows_same { R.loans rows.new ≡ R.loans rows.old }
-        ensures notes_same { N.loans notes.new ≡ N.loans notes.old }
+        ensures { LaysOut O.left out.old (sheet.wraps self.old cell) out.new self.new }
     {
         let gap = self.gap;
-        self.give(gap, rows, notes)?;
+        self.give(gap, out);
         self.carry_word(cell);
-        Ok(())
     }
 
     // The full row ends, and a cell begins the next one.
-    fn split_row<R: RowSink, N: NoteSink>(
-        &mut self,
-        cell: Cell,
-        place: Place,
-        rows: &mut R,
-        notes: &mut N,
-    ) -> Result<(), Fault>
-        ensures lays { Lays result R.gave R.within N.gave N.within rows.old rows.new notes.old notes.new self.new
-            (sheet.splits self.old cell place) }
-        ensures faults { FailsBySink result (R.failed rows.old) (R.failed rows.new) (N.failed notes.old) (N.failed notes.new) }
-        ensures rows_same { R.loans rows.new ≡ R.loans rows.old }
-        ensures notes_same { N.loans notes.new ≡ N.loans notes.old }
+    fn split_row<O: RowOut>(&mut self, cell: Cell, place: Place, out: &mut O)
+        ensures { LaysOut O.left out.old (sheet.splits self.old cell place) out.new self.new }
     {
         let end = self.row.len();
-        self.give_full(end, place, rows, notes)?;
+        self.give_full(end, place, out);
         self.begin_row(cell);
-        Ok(())
     }
 
     // The row ends before a blank that passes the width.
-    fn end_before_space<R: RowSink, N: NoteSink>(
-        &mut self,
-        rows: &mut R,
-        notes: &mut N,
-    ) -> Result<(), Fault>
-        ensures lays { Lays result R.gave R.within N.gave N.within rows.old rows.new notes.old notes.new self.new
-            (sheet.over (sheet.gives self.old (take self.old.gap self.old.cells)) sheet.emptied) }
-        ensures faults { FailsBySink result (R.failed rows.old) (R.failed rows.new) (N.failed notes.old) (N.failed notes.new) }
-        ensures rows_same { R.loans rows.new ≡ R.loans rows.old }
-        ensures notes_same { N.loans notes.new ≡ N.loans notes.old }
+    fn end_before_space<O: RowOut>(&mut self, out: &mut O)
+        ensures { LaysOut O.left out.old
+            (sheet.over (sheet.gives self.old (take self.old.gap self.old.cells)) sheet.emptied)
+            out.new self.new }
     {
         let gap = self.gap;
-        self.give(gap, rows, notes)?;
+        self.give(gap, out);
         self.empty();
-        Ok(())
     }
 
     // The full row ends before a blank.
-    fn split_before_space<R: RowSink, N: NoteSink>(
-        &mut self,
-        place: Place,
-        rows: &mut R,
-        notes: &mut N,
-    ) -> Result<(), Fault>
-        ensures lays { Lays result R.gave R.within N.gave N.within rows.old rows.new notes.old notes.new self.new
-            (sheet.over (sheet.gives_full self.old (take self.old.gap self.old.cells) place) sheet.emptied) }
-        ensures faults { FailsBySink result (R.failed rows.old) (R.failed rows.new) (N.failed notes.old) (N.failed notes.new) }
-        ensures rows_same { R.loans rows.new ≡ R.loans rows.old }
-        ensures notes_same { N.loans notes.new ≡ N.loans notes.old }
+    fn split_before_space<O: RowOut>(&mut self, place: Place, out: &mut O)
+        ensures { LaysOut O.left out.old
+            (sheet.over (sheet.gives_full self.old (take self.old.gap self.old.cells) place) sheet.emptied)
+            out.new self.new }
     {
         let gap = self.gap;
-        self.give_full(gap, place, rows, notes)?;
+        self.give_full(gap, place, out);
         self.empty();
-        Ok(())
     }
 
-    /// Whether the row takes so many cells of a column each before it ends.
+    /// Whether the row takes this count of cells of a column each before it ends.
     pub(crate) fn has_room(&self, count: usize) -> bool
         ensures { result ≡ plain.has_room self.now count }
     {
@@ -395,7 +334,7 @@ impl OpenRow {
         self.is_literal || self.gap == 0 || columns <= u64::from(self.width)
     }
 
-    /// Whether a filled row takes a blank and so many cells of a column each behind it before it ends.
+    /// Whether a filled row takes a blank and this count of cells of a column each after it before it ends.
     pub(crate) fn has_word_room(&self, count: usize) -> bool
         ensures { result ≡ plain.has_word_room self.now count }
     {
@@ -406,9 +345,9 @@ impl OpenRow {
         columns <= u64::from(self.width)
     }
 
-    /// The row takes a blank, and behind it a word of bytes that are a column each.
+    /// The row takes a blank, and after it a word of bytes that are a column each.
     pub(crate) fn add_word(&mut self, bytes: &[u8], font: Font)
-        requires plain { plain.is_plain bytes.now ≡ true }
+        requires plain { plain.is_printable_ascii bytes.now ≡ true }
         requires room { length self.old.cells + 1 + length bytes.now ≤ CELLS }
         ensures { self.new ≡ plain.taken (plain.spaced self.old) (shown.cells_of font bytes.now) }
     {
@@ -420,7 +359,7 @@ impl OpenRow {
 
     /// The row takes cells of bytes that are a column each.
     pub(crate) fn add_plain(&mut self, bytes: &[u8], font: Font)
-        requires plain { plain.is_plain bytes.now ≡ true }
+        requires plain { plain.is_printable_ascii bytes.now ≡ true }
         requires room { length self.old.cells + length bytes.now ≤ CELLS }
         ensures { self.new ≡ plain.taken self.old (shown.cells_of font bytes.now) }
     {
@@ -436,80 +375,50 @@ impl OpenRow {
 
     /// Puts a cell of the row's last word.
     #[tactic(auto, unfolding(crate::specs::Sheets::letter))]
-    pub(crate) fn put_letter<R: RowSink, N: NoteSink>(
-        &mut self,
-        cell: Cell,
-        place: Place,
-        rows: &mut R,
-        notes: &mut N,
-    ) -> Result<(), Fault>
-        ensures lays { Lays result R.gave R.within N.gave N.within rows.old rows.new notes.old notes.new self.new
-            (sheet.letter self.old cell place) }
-        ensures faults { FailsBySink result (R.failed rows.old) (R.failed rows.new) (N.failed notes.old) (N.failed notes.new) }
-        ensures rows_same { R.loans rows.new ≡ R.loans rows.old }
-        ensures notes_same { N.loans notes.new ≡ N.loans notes.old }
+    pub(crate) fn put_letter<O: RowOut>(&mut self, cell: Cell, place: Place, out: &mut O)
+        ensures { LaysOut O.left out.old (sheet.letter self.old cell place) out.new self.new }
     {
         self.count(cell);
         if self.passes(cell) {
-            self.wrap_word(cell, rows, notes)?;
+            self.wrap_word(cell, out);
         } else if self.row.len() == CELLS {
-            self.split_row(cell, place, rows, notes)?;
+            self.split_row(cell, place, out);
         } else if self.row.is_empty() {
             self.begin_row(cell);
         } else {
             self.add(cell);
         }
-        Ok(())
     }
 
     /// Puts a blank before the row's next word.
     #[tactic(auto, unfolding(crate::specs::Sheets::space))]
-    pub(crate) fn put_space<R: RowSink, N: NoteSink>(
-        &mut self,
-        place: Place,
-        rows: &mut R,
-        notes: &mut N,
-    ) -> Result<(), Fault>
-        ensures lays { Lays result R.gave R.within N.gave N.within rows.old rows.new notes.old notes.new self.new
-            (sheet.space self.old place) }
-        ensures faults { FailsBySink result (R.failed rows.old) (R.failed rows.new) (N.failed notes.old) (N.failed notes.new) }
-        ensures rows_same { R.loans rows.new ≡ R.loans rows.old }
-        ensures notes_same { N.loans notes.new ≡ N.loans notes.old }
+    pub(crate) fn put_space<O: RowOut>(&mut self, place: Place, out: &mut O)
+        ensures { LaysOut O.left out.old (sheet.space self.old place) out.new self.new }
     {
         if self.row.is_empty() {
-            return Ok(());
+            return;
         }
         if self.passes(BLANK) {
-            self.end_before_space(rows, notes)?;
+            self.end_before_space(out);
         } else if self.row.len() == CELLS {
-            self.split_before_space(place, rows, notes)?;
+            self.split_before_space(place, out);
         } else {
             self.count(BLANK);
             self.add_space();
         }
-        Ok(())
     }
 
     /// The open row ends, if there is one.
     #[tactic(auto, unfolding(crate::specs::Sheets::broken))]
-    pub(crate) fn end_row<R: RowSink, N: NoteSink>(
-        &mut self,
-        rows: &mut R,
-        notes: &mut N,
-    ) -> Result<(), Fault>
-        ensures lays { Lays result R.gave R.within N.gave N.within rows.old rows.new notes.old notes.new self.new
-            (sheet.broken self.old) }
-        ensures faults { FailsBySink result (R.failed rows.old) (R.failed rows.new) (N.failed notes.old) (N.failed notes.new) }
-        ensures rows_same { R.loans rows.new ≡ R.loans rows.old }
-        ensures notes_same { N.loans notes.new ≡ N.loans notes.old }
+    pub(crate) fn end_row<O: RowOut>(&mut self, out: &mut O)
+        ensures { LaysOut O.left out.old (sheet.broken self.old) out.new self.new }
     {
         if self.row.is_empty() {
-            return Ok(());
+            return;
         }
         let end = self.row.len();
-        self.give(end, rows, notes)?;
+        self.give(end, out);
         self.empty();
-        Ok(())
     }
 
     /// A word begins after the row's cells.
@@ -521,86 +430,49 @@ impl OpenRow {
     }
 
     /// Puts blanks before the row's next word.
-    pub(crate) fn put_spaces<R: RowSink, N: NoteSink>(
-        &mut self,
-        count: u32,
-        place: Place,
-        rows: &mut R,
-        notes: &mut N,
-    ) -> Result<(), Fault>
-        ensures lays { Lays result R.gave R.within N.gave N.within rows.old rows.new notes.old notes.new self.new
-            (sheet.spaces self.old count place) }
-        ensures faults { FailsBySink result (R.failed rows.old) (R.failed rows.new) (N.failed notes.old) (N.failed notes.new) }
-        ensures rows_same { R.loans rows.new ≡ R.loans rows.old }
-        ensures notes_same { N.loans notes.new ≡ N.loans notes.old }
+    pub(crate) fn put_spaces<O: RowOut>(&mut self, count: u32, place: Place, out: &mut O)
+        ensures { LaysOut O.left out.old (sheet.spaces self.old count place) out.new self.new }
     {
         for _ in 0..count {
-            self.put_space(place, rows, notes)?;
+            self.put_space(place, out);
         }
-        Ok(())
     }
 
     /// Puts blanks that are cells of the row's last word.
-    pub(crate) fn put_blanks<R: RowSink, N: NoteSink>(
-        &mut self,
-        count: u32,
-        place: Place,
-        rows: &mut R,
-        notes: &mut N,
-    ) -> Result<(), Fault>
-        ensures lays { Lays result R.gave R.within N.gave N.within rows.old rows.new notes.old notes.new self.new
-            (sheet.fixed_blanks self.old count place) }
-        ensures faults { FailsBySink result (R.failed rows.old) (R.failed rows.new) (N.failed notes.old) (N.failed notes.new) }
-        ensures rows_same { R.loans rows.new ≡ R.loans rows.old }
-        ensures notes_same { N.loans notes.new ≡ N.loans notes.old }
+    pub(crate) fn put_blanks<O: RowOut>(&mut self, count: u32, place: Place, out: &mut O)
+        ensures { LaysOut O.left out.old (sheet.fixed_blanks self.old count place) out.new self.new }
     {
         for _ in 0..count {
-            self.put_letter(BLANK, place, rows, notes)?;
+            self.put_letter(BLANK, place, out);
         }
-        Ok(())
     }
 
     /// A new word begins with the blanks before it, which are cells of it or not.
-    pub(crate) fn begin_word<R: RowSink, N: NoteSink>(
+    pub(crate) fn begin_word<O: RowOut>(
         &mut self,
         blanks: u32,
         stands: bool,
         place: Place,
-        rows: &mut R,
-        notes: &mut N,
-    ) -> Result<(), Fault>
-        ensures lays { Lays result R.gave R.within N.gave N.within rows.old rows.new notes.old notes.new self.new
-            (sheet.new_word self.old blanks stands place) }
-        ensures faults { FailsBySink result (R.failed rows.old) (R.failed rows.new) (N.failed notes.old) (N.failed notes.new) }
-        ensures rows_same { R.loans rows.new ≡ R.loans rows.old }
-        ensures notes_same { N.loans notes.new ≡ N.loans notes.old }
+        out: &mut O,
+    )
+        ensures { LaysOut O.left out.old (sheet.new_word self.old blanks stands place) out.new self.new }
     {
         self.open_word();
         if stands {
-            self.put_blanks(blanks, place, rows, notes)
+            self.put_blanks(blanks, place, out);
         } else {
-            self.put_spaces(blanks, place, rows, notes)
+            self.put_spaces(blanks, place, out);
         }
     }
 
     /// Gives rows without cells.
     #[tactic(auto, unfolding(crate::specs::Sheets::empty_rows))]
-    pub(crate) fn give_empty_rows<R: RowSink, N: NoteSink>(
-        &mut self,
-        count: u32,
-        rows: &mut R,
-        notes: &mut N,
-    ) -> Result<(), Fault>
-        ensures lays { Lays result R.gave R.within N.gave N.within rows.old rows.new notes.old notes.new self.new
-            (sheet.empty_rows self.old count) }
-        ensures faults { FailsBySink result (R.failed rows.old) (R.failed rows.new) (N.failed notes.old) (N.failed notes.new) }
-        ensures rows_same { R.loans rows.new ≡ R.loans rows.old }
-        ensures notes_same { N.loans notes.new ≡ N.loans notes.old }
+    pub(crate) fn give_empty_rows<O: RowOut>(&mut self, count: u32, out: &mut O)
+        ensures { LaysOut O.left out.old (sheet.empty_rows self.old count) out.new self.new }
     {
-        give_rows(count, rows)?;
+        give_empty(count, out);
         self.blank_rows = self.blank_rows.saturating_add(count);
         self.has_heading = self.has_heading && count == 0;
-        Ok(())
     }
 }
 
@@ -630,13 +502,13 @@ fn append_plain(row: &mut Vec<Cell>, bytes: &[u8], font: Font)
 }
 
 // Gives rows without cells.
-fn give_rows<R: RowSink>(count: u32, rows: &mut R) -> Result<(), Fault>
-    ensures gives { Gives result R.gave R.within rows.old (replicate count (row_of 0 [])) rows.new }
-    ensures fault { FailsAs Fault.WriteText result (R.failed rows.old) (R.failed rows.new) }
-    ensures same { R.loans rows.new ≡ R.loans rows.old }
+fn give_empty<O: RowOut>(count: u32, out: &mut O)
+    ensures { CameRows O.left out.old (replicate count (row_of 0 [])) [] out.new }
 {
     for _ in 0..count {
-        rows.row(0, &[])?;
+        if out.has_failed() {
+            return;
+        }
+        out.give(0, &[]);
     }
-    Ok(())
 }

@@ -2,20 +2,16 @@
 
 ghost use Rattle.std.specs.Prelude.{◌≡◌, ◌+◌, ◌-◌, ◌<◌, ◌≤◌, ◌==◌, not, true, [], ◌∷◌, length};
 ghost use Rattle.std.specs.Str.{chars};
-ghost use Rattle.page_core_base.specs.Fails.{FailsAs, FailsBySink};
-ghost use Rattle.page_core_base.specs.Laid.{Lays};
-ghost use Rattle.page_core_base.specs.Messages.{message_of};
-ghost use Rattle.page_core_base.specs.Sinks.{Gives};
+ghost use Rattle.page_core_base.specs.Latches.{CameRows, LaysOut};
 ghost use Rattle.page_fill.specs.Characters.{characters_of};
 ghost use Rattle.page_fill.specs.Fill as fill;
 ghost use Rattle.page_fill.specs.Plain as plain;
 
 use crate::cell_widths::columns;
-use crate::characters::{is_plain, put_character, put_characters, put_glyph, put_plain};
+use crate::characters::{is_printable_ascii, put_character, put_characters, put_glyph, put_plain};
 use crate::sheets::OpenRow;
 use crate::{HANG_MAX, TAB_STOP};
-use arrayvec::ArrayString;
-use page_core_base::{Cell, Fault, Font, Note, NoteKind, NoteSink, Output, Place, RowSink, TagForm};
+use page_core_base::{Cell, Font, Note, NoteKind, Output, Place, RowOut, TagForm};
 
 /// The open word, and what waits before the next one.
 #[derive(Clone, Copy)]
@@ -37,7 +33,7 @@ pub(crate) struct OpenWord {
 /// The open tag.
 #[derive(Clone, Copy)]
 pub(crate) struct OpenTag {
-    /// The columns that it may take with a blank behind it.
+    /// The columns that it may take with a blank after it.
     pub(crate) hang: u32,
     /// What follows it.
     pub(crate) form: TagForm,
@@ -75,7 +71,7 @@ impl OpenWord {
         }
     }
 
-    /// A new word is placed so many blanks on.
+    /// A new word is placed after a count of blanks.
     fn placed(blanks: u32) -> OpenWord
         ensures { result ≡ fill.placed_word blanks }
     {
@@ -115,20 +111,12 @@ impl OpenWord {
 }
 
 // Reports a tab, or not.
-fn report_tab<N: NoteSink>(has_tab: bool, place: Place, notes: &mut N) -> Result<(), Fault>
-    ensures gives { Gives result N.gave N.within notes.old (fill.tab_notes has_tab place) notes.new }
-    ensures fault { FailsAs Fault.WriteNotes result (N.failed notes.old) (N.failed notes.new) }
-    ensures same { N.loans notes.new ≡ N.loans notes.old }
+fn report_tab<O: RowOut>(has_tab: bool, place: Place, out: &mut O)
+    ensures { CameRows O.left out.old [] (fill.tab_notes has_tab place) out.new }
 {
-    if !has_tab {
-        return Ok(());
+    if has_tab {
+        out.report(&Note::about(NoteKind::TabFill, place, &[]));
     }
-    notes.note(&Note {
-        kind: NoteKind::TabFill,
-        line: place.line,
-        column: place.column,
-        detail: ArrayString::new(),
-    })
 }
 
 impl Edge {
@@ -147,73 +135,41 @@ impl Edge {
     }
 
     // A word begins, with the blanks that wait.
-    fn begin_word<R: RowSink, N: NoteSink>(
-        &mut self,
-        is_told: bool,
-        place: Place,
-        rows: &mut R,
-        notes: &mut N,
-    ) -> Result<(), Fault>
-        ensures lays { Lays result R.gave R.within N.gave N.within rows.old rows.new notes.old notes.new self.new
-            (fill.word_begun self.old is_told place) }
-        ensures faults { FailsBySink result (R.failed rows.old) (R.failed rows.new) (N.failed notes.old) (N.failed notes.new) }
-        ensures rows_same { R.loans rows.new ≡ R.loans rows.old }
-        ensures notes_same { N.loans notes.new ≡ N.loans notes.old }
+    fn begin_word<O: RowOut>(&mut self, is_told: bool, place: Place, out: &mut O)
+        ensures { LaysOut O.left out.old (fill.word_begun self.old is_told place) out.new self.new }
     {
         let stands = self.blanks_stand();
-        self.sheet
-            .begin_word(self.word.blanks, stands, place, rows, notes)?;
+        self.sheet.begin_word(self.word.blanks, stands, place, out);
         self.word = OpenWord::begun(is_told);
-        Ok(())
     }
 
     // Before a cell: a word begins where none is open with a cell.
     #[tactic(auto, unfolding(crate::specs::Fill::opening))]
-    fn open_word<R: RowSink, N: NoteSink>(
-        &mut self,
-        place: Place,
-        rows: &mut R,
-        notes: &mut N,
-    ) -> Result<(), Fault>
-        ensures lays { Lays result R.gave R.within N.gave N.within rows.old rows.new notes.old notes.new self.new
-            (fill.opening self.old place) }
-        ensures faults { FailsBySink result (R.failed rows.old) (R.failed rows.new) (N.failed notes.old) (N.failed notes.new) }
-        ensures rows_same { R.loans rows.new ≡ R.loans rows.old }
-        ensures notes_same { N.loans notes.new ≡ N.loans notes.old }
+    fn open_word<O: RowOut>(&mut self, place: Place, out: &mut O)
+        ensures { LaysOut O.left out.old (fill.opening self.old place) out.new self.new }
     {
         if self.word.is_joined {
-            return Ok(());
+            return;
         }
         let is_told = self.tells_tab();
-        report_tab(is_told, place, notes)?;
-        self.begin_word(is_told, place, rows, notes)
+        report_tab(is_told, place, out);
+        self.begin_word(is_told, place, out);
     }
 
     /// Takes a text.
     #[tactic(auto, unfolding(crate::specs::Fill::text))]
-    pub(crate) fn text<R: RowSink, N: NoteSink>(
-        &mut self,
-        text: &str,
-        font: Font,
-        place: Place,
-        rows: &mut R,
-        notes: &mut N,
-    ) -> Result<(), Fault>
-        ensures lays { Lays result R.gave R.within N.gave N.within rows.old rows.new notes.old notes.new self.new
-            (fill.text self.old (chars text.now) font place) }
-        ensures faults { FailsBySink result (R.failed rows.old) (R.failed rows.new) (N.failed notes.old) (N.failed notes.new) }
-        ensures rows_same { R.loans rows.new ≡ R.loans rows.old }
-        ensures notes_same { N.loans notes.new ≡ N.loans notes.old }
+    pub(crate) fn text<O: RowOut>(&mut self, text: &str, font: Font, place: Place, out: &mut O)
+        ensures { LaysOut O.left out.old (fill.text self.old (chars text.now) font place) out.new self.new }
     {
         if text.is_empty() {
             self.word.is_open = true;
-            return Ok(());
+            return;
         }
-        self.open_word(place, rows, notes)?;
-        put_characters(&mut self.sheet, self.output, text, font, place, rows, notes)
+        self.open_word(place, out);
+        put_characters(&mut self.sheet, self.output, text, font, place, out);
     }
 
-    // Whether the next word, with so many cells of a column each, goes into the row behind one blank.
+    // Whether the next word, with this count of cells of a column each, goes into the row after one blank.
     fn takes_word(&self, count: usize) -> bool
         ensures { result ≡ plain.takes_word self.now count }
     {
@@ -223,232 +179,123 @@ impl Edge {
 
     // Takes a plain text.
     #[tactic(auto, unfolding(crate::specs::Fill::text))]
-    fn plain<R: RowSink, N: NoteSink>(
-        &mut self,
-        bytes: &[u8],
-        font: Font,
-        place: Place,
-        rows: &mut R,
-        notes: &mut N,
-    ) -> Result<(), Fault>
-        requires { plain.is_plain bytes.now ≡ true }
-        ensures lays { Lays result R.gave R.within N.gave N.within rows.old rows.new notes.old notes.new self.new
-            (fill.text self.old bytes.now font place) }
-        ensures faults { FailsBySink result (R.failed rows.old) (R.failed rows.new) (N.failed notes.old) (N.failed notes.new) }
-        ensures rows_same { R.loans rows.new ≡ R.loans rows.old }
-        ensures notes_same { N.loans notes.new ≡ N.loans notes.old }
+    fn plain<O: RowOut>(&mut self, bytes: &[u8], font: Font, place: Place, out: &mut O)
+        requires { plain.is_printable_ascii bytes.now ≡ true }
+        ensures { LaysOut O.left out.old (fill.text self.old bytes.now font place) out.new self.new }
     {
         if bytes.is_empty() {
             self.word.is_open = true;
-            return Ok(());
+            return;
         }
         if self.takes_word(bytes.len()) {
             self.sheet.add_word(bytes, font);
             self.word = OpenWord::begun(false);
-            return Ok(());
+            return;
         }
-        self.open_word(place, rows, notes)?;
-        put_plain(&mut self.sheet, bytes, font, place, rows, notes)
+        self.open_word(place, out);
+        put_plain(&mut self.sheet, bytes, font, place, out);
     }
 
     /// Takes bytes that are a text.
-    pub(crate) fn bytes<R: RowSink, N: NoteSink>(
-        &mut self,
-        bytes: &[u8],
-        font: Font,
-        place: Place,
-        rows: &mut R,
-        notes: &mut N,
-    ) -> Result<(), Fault>
-        ensures lays { Lays result R.gave R.within N.gave N.within rows.old rows.new notes.old notes.new self.new
-            (fill.text self.old (characters_of bytes.now) font place) }
-        ensures faults { FailsBySink result (R.failed rows.old) (R.failed rows.new) (N.failed notes.old) (N.failed notes.new) }
-        ensures rows_same { R.loans rows.new ≡ R.loans rows.old }
-        ensures notes_same { N.loans notes.new ≡ N.loans notes.old }
+    pub(crate) fn bytes<O: RowOut>(&mut self, bytes: &[u8], font: Font, place: Place, out: &mut O)
+        ensures { LaysOut O.left out.old (fill.text self.old
+            (characters_of bytes.now) font place) out.new self.new }
     {
-        if is_plain(bytes) {
-            return self.plain(bytes, font, place, rows, notes);
+        if is_printable_ascii(bytes) {
+            return self.plain(bytes, font, place, out);
         }
         match str::from_utf8(bytes) {
-            Ok(text) => self.text(text, font, place, rows, notes),
-            Err(_) => self.text("", font, place, rows, notes),
+            Ok(text) => self.text(text, font, place, out),
+            Err(_) => self.text("", font, place, out),
         }
     }
 
     /// Takes a character.
     #[tactic(auto, unfolding(crate::specs::Fill::one_character))]
-    pub(crate) fn character<R: RowSink, N: NoteSink>(
-        &mut self,
-        c: char,
-        font: Font,
-        place: Place,
-        rows: &mut R,
-        notes: &mut N,
-    ) -> Result<(), Fault>
-        ensures lays { Lays result R.gave R.within N.gave N.within rows.old rows.new notes.old notes.new self.new
-            (fill.one_character self.old c font place) }
-        ensures faults { FailsBySink result (R.failed rows.old) (R.failed rows.new) (N.failed notes.old) (N.failed notes.new) }
-        ensures rows_same { R.loans rows.new ≡ R.loans rows.old }
-        ensures notes_same { N.loans notes.new ≡ N.loans notes.old }
+    pub(crate) fn character<O: RowOut>(&mut self, c: char, font: Font, place: Place, out: &mut O)
+        ensures { LaysOut O.left out.old (fill.one_character self.old c font place) out.new self.new }
     {
-        self.open_word(place, rows, notes)?;
-        put_character(&mut self.sheet, self.output, c, font, place, rows, notes)
+        self.open_word(place, out);
+        put_character(&mut self.sheet, self.output, c, font, place, out);
     }
 
     /// Takes the glyph of a name.
     #[tactic(auto, unfolding(crate::specs::Fill::one_glyph))]
-    pub(crate) fn glyph<R: RowSink, N: NoteSink>(
-        &mut self,
-        name: &[u8],
-        font: Font,
-        place: Place,
-        rows: &mut R,
-        notes: &mut N,
-    ) -> Result<(), Fault>
-        ensures lays { Lays result R.gave R.within N.gave N.within rows.old rows.new notes.old notes.new self.new
-            (fill.one_glyph self.old name.now font place) }
-        ensures faults { FailsBySink result (R.failed rows.old) (R.failed rows.new) (N.failed notes.old) (N.failed notes.new) }
-        ensures rows_same { R.loans rows.new ≡ R.loans rows.old }
-        ensures notes_same { N.loans notes.new ≡ N.loans notes.old }
+    pub(crate) fn glyph<O: RowOut>(&mut self, name: &[u8], font: Font, place: Place, out: &mut O)
+        ensures { LaysOut O.left out.old (fill.one_glyph self.old name.now font place) out.new self.new }
     {
-        self.open_word(place, rows, notes)?;
-        put_glyph(&mut self.sheet, self.output, name, font, place, rows, notes)
+        self.open_word(place, out);
+        put_glyph(&mut self.sheet, self.output, name, font, place, out);
     }
 
     // A tab in a row that is kept as it is.
-    fn fixed_tab<R: RowSink, N: NoteSink>(
-        &mut self,
-        place: Place,
-        rows: &mut R,
-        notes: &mut N,
-    ) -> Result<(), Fault>
-        ensures lays { Lays result R.gave R.within N.gave N.within rows.old rows.new notes.old notes.new self.new
-            (fill.fixed_tab self.old place) }
-        ensures faults { FailsBySink result (R.failed rows.old) (R.failed rows.new) (N.failed notes.old) (N.failed notes.new) }
-        ensures rows_same { R.loans rows.new ≡ R.loans rows.old }
-        ensures notes_same { N.loans notes.new ≡ N.loans notes.old }
+    fn fixed_tab<O: RowOut>(&mut self, place: Place, out: &mut O)
+        ensures { LaysOut O.left out.old (fill.fixed_tab self.old place) out.new self.new }
     {
         let blanks = TAB_STOP - columns(self.sheet.cells()) % TAB_STOP;
-        self.sheet.put_blanks(blanks, place, rows, notes)
+        self.sheet.put_blanks(blanks, place, out);
     }
 
     // A tab in a filled row.
-    fn filled_tab<R: RowSink, N: NoteSink>(
-        &mut self,
-        font: Font,
-        place: Place,
-        rows: &mut R,
-        notes: &mut N,
-    ) -> Result<(), Fault>
-        ensures lays { Lays result R.gave R.within N.gave N.within rows.old rows.new notes.old notes.new self.new
-            (fill.filled_tab self.old font place) }
-        ensures faults { FailsBySink result (R.failed rows.old) (R.failed rows.new) (N.failed notes.old) (N.failed notes.new) }
-        ensures rows_same { R.loans rows.new ≡ R.loans rows.old }
-        ensures notes_same { N.loans notes.new ≡ N.loans notes.old }
+    fn filled_tab<O: RowOut>(&mut self, font: Font, place: Place, out: &mut O)
+        ensures { LaysOut O.left out.old (fill.filled_tab self.old font place) out.new self.new }
     {
-        report_tab(!self.word.is_told, place, notes)?;
+        report_tab(!self.word.is_told, place, out);
         self.word.is_told = true;
-        self.sheet
-            .put_letter(Cell { c: ' ', font }, place, rows, notes)
+        self.sheet.put_letter(Cell { c: ' ', font }, place, out);
     }
 
     /// Takes a tab.
     #[tactic(auto, unfolding(crate::specs::Fill::tab))]
-    pub(crate) fn tab<R: RowSink, N: NoteSink>(
-        &mut self,
-        font: Font,
-        place: Place,
-        rows: &mut R,
-        notes: &mut N,
-    ) -> Result<(), Fault>
-        ensures lays { Lays result R.gave R.within N.gave N.within rows.old rows.new notes.old notes.new self.new
-            (fill.tab self.old font place) }
-        ensures faults { FailsBySink result (R.failed rows.old) (R.failed rows.new) (N.failed notes.old) (N.failed notes.new) }
-        ensures rows_same { R.loans rows.new ≡ R.loans rows.old }
-        ensures notes_same { N.loans notes.new ≡ N.loans notes.old }
+    pub(crate) fn tab<O: RowOut>(&mut self, font: Font, place: Place, out: &mut O)
+        ensures { LaysOut O.left out.old (fill.tab self.old font place) out.new self.new }
     {
-        self.open_word(place, rows, notes)?;
+        self.open_word(place, out);
         if self.sheet.is_literal() {
-            self.fixed_tab(place, rows, notes)
+            self.fixed_tab(place, out);
         } else {
-            self.filled_tab(font, place, rows, notes)
+            self.filled_tab(font, place, out);
         }
     }
 
     /// The open row ends, and nothing waits.
     #[tactic(auto, unfolding(crate::specs::Fill::ended))]
-    pub(crate) fn end_row<R: RowSink, N: NoteSink>(
-        &mut self,
-        rows: &mut R,
-        notes: &mut N,
-    ) -> Result<(), Fault>
-        ensures lays { Lays result R.gave R.within N.gave N.within rows.old rows.new notes.old notes.new self.new
-            (fill.ended self.old) }
-        ensures faults { FailsBySink result (R.failed rows.old) (R.failed rows.new) (N.failed notes.old) (N.failed notes.new) }
-        ensures rows_same { R.loans rows.new ≡ R.loans rows.old }
-        ensures notes_same { N.loans notes.new ≡ N.loans notes.old }
+    pub(crate) fn end_row<O: RowOut>(&mut self, out: &mut O)
+        ensures { LaysOut O.left out.old (fill.ended self.old) out.new self.new }
     {
-        self.sheet.end_row(rows, notes)?;
+        self.sheet.end_row(out);
         self.word = NO_WORD;
-        Ok(())
     }
 
-    /// The row ends, and blank rows are given until so many stand there; none after a heading's row.
+    /// Ends the row, and gives blank rows until a count of them stands there; none after a heading's row.
     #[tactic(auto, unfolding(crate::specs::Fill::paragraph))]
-    pub(crate) fn paragraph<R: RowSink, N: NoteSink>(
-        &mut self,
-        count: u32,
-        rows: &mut R,
-        notes: &mut N,
-    ) -> Result<(), Fault>
-        ensures lays { Lays result R.gave R.within N.gave N.within rows.old rows.new notes.old notes.new self.new
-            (fill.paragraph self.old count) }
-        ensures faults { FailsBySink result (R.failed rows.old) (R.failed rows.new) (N.failed notes.old) (N.failed notes.new) }
-        ensures rows_same { R.loans rows.new ≡ R.loans rows.old }
-        ensures notes_same { N.loans notes.new ≡ N.loans notes.old }
+    pub(crate) fn paragraph<O: RowOut>(&mut self, count: u32, out: &mut O)
+        ensures { LaysOut O.left out.old (fill.paragraph self.old count) out.new self.new }
     {
-        self.end_row(rows, notes)?;
+        self.end_row(out);
         let missing = self.sheet.missing_rows(count);
-        self.sheet.give_empty_rows(missing, rows, notes)
+        self.sheet.give_empty_rows(missing, out);
     }
 
-    /// The row ends, and so many blank rows are given.
+    /// Ends the row, and gives a count of blank rows.
     #[tactic(auto, unfolding(crate::specs::Fill::spaced))]
-    pub(crate) fn space<R: RowSink, N: NoteSink>(
-        &mut self,
-        count: u32,
-        rows: &mut R,
-        notes: &mut N,
-    ) -> Result<(), Fault>
-        ensures lays { Lays result R.gave R.within N.gave N.within rows.old rows.new notes.old notes.new self.new
-            (fill.spaced self.old count) }
-        ensures faults { FailsBySink result (R.failed rows.old) (R.failed rows.new) (N.failed notes.old) (N.failed notes.new) }
-        ensures rows_same { R.loans rows.new ≡ R.loans rows.old }
-        ensures notes_same { N.loans notes.new ≡ N.loans notes.old }
+    pub(crate) fn space<O: RowOut>(&mut self, count: u32, out: &mut O)
+        ensures { LaysOut O.left out.old (fill.spaced self.old count) out.new self.new }
     {
-        self.end_row(rows, notes)?;
-        self.sheet.give_empty_rows(count, rows, notes)
+        self.end_row(out);
+        self.sheet.give_empty_rows(count, out);
     }
 
     /// The row ends as a heading's row, if it has a cell.
     #[tactic(auto, unfolding(crate::specs::Fill::heading))]
-    pub(crate) fn heading<R: RowSink, N: NoteSink>(
-        &mut self,
-        rows: &mut R,
-        notes: &mut N,
-    ) -> Result<(), Fault>
-        ensures lays { Lays result R.gave R.within N.gave N.within rows.old rows.new notes.old notes.new self.new
-            (fill.heading self.old) }
-        ensures faults { FailsBySink result (R.failed rows.old) (R.failed rows.new) (N.failed notes.old) (N.failed notes.new) }
-        ensures rows_same { R.loans rows.new ≡ R.loans rows.old }
-        ensures notes_same { N.loans notes.new ≡ N.loans notes.old }
+    pub(crate) fn heading<O: RowOut>(&mut self, out: &mut O)
+        ensures { LaysOut O.left out.old (fill.heading self.old) out.new self.new }
     {
         let is_empty = self.sheet.cells().is_empty();
-        self.end_row(rows, notes)?;
+        self.end_row(out);
         if !is_empty {
             self.sheet.set_heading();
         }
-        Ok(())
     }
 
     /// A tag begins.
@@ -460,17 +307,8 @@ impl Edge {
     }
 
     // What follows a tag with a cell.
-    fn after_tag<R: RowSink, N: NoteSink>(
-        &mut self,
-        tag: OpenTag,
-        rows: &mut R,
-        notes: &mut N,
-    ) -> Result<(), Fault>
-        ensures lays { Lays result R.gave R.within N.gave N.within rows.old rows.new notes.old notes.new self.new
-            (fill.after_tag self.old tag.hang tag.form) }
-        ensures faults { FailsBySink result (R.failed rows.old) (R.failed rows.new) (N.failed notes.old) (N.failed notes.new) }
-        ensures rows_same { R.loans rows.new ≡ R.loans rows.old }
-        ensures notes_same { N.loans notes.new ≡ N.loans notes.old }
+    fn after_tag<O: RowOut>(&mut self, tag: OpenTag, out: &mut O)
+        ensures { LaysOut O.left out.old (fill.after_tag self.old tag.hang tag.form) out.new self.new }
     {
         let hang = tag.hang.min(HANG_MAX);
         let taken = self.sheet.tag_columns();
@@ -478,36 +316,26 @@ impl Edge {
         match tag.form {
             TagForm::Inset(blanks) => self.word = OpenWord::placed(blanks),
             TagForm::Row | TagForm::Hang if fits => self.word = OpenWord::placed(hang - taken),
-            TagForm::Row => return self.end_row(rows, notes),
+            TagForm::Row => return self.end_row(out),
             TagForm::Hang => self.word = OpenWord::placed(1),
         }
-        Ok(())
     }
 
     /// The tag ends.
-    pub(crate) fn end_tag<R: RowSink, N: NoteSink>(
-        &mut self,
-        rows: &mut R,
-        notes: &mut N,
-    ) -> Result<(), Fault>
-        ensures lays { Lays result R.gave R.within N.gave N.within rows.old rows.new notes.old notes.new self.new
-            (fill.tag_ended (fill.without_tag self.old) self.old.tag) }
-        ensures faults { FailsBySink result (R.failed rows.old) (R.failed rows.new) (N.failed notes.old) (N.failed notes.new) }
-        ensures rows_same { R.loans rows.new ≡ R.loans rows.old }
-        ensures notes_same { N.loans notes.new ≡ N.loans notes.old }
+    pub(crate) fn end_tag<O: RowOut>(&mut self, out: &mut O)
+        ensures { LaysOut O.left out.old (fill.tag_ended
+            (fill.without_tag self.old) self.old.tag) out.new self.new }
     {
         let Some(tag) = self.tag else {
-            return Ok(());
+            return;
         };
         self.tag = None;
         if self.sheet.has_tag_cell() {
-            self.after_tag(tag, rows, notes)
-        } else {
-            Ok(())
+            self.after_tag(tag, out);
         }
     }
 
-    /// The next word stands at a column, or a blank behind it.
+    /// The next word stands at a column, or a blank after the last cell.
     pub(crate) fn column(&mut self, column: u32)
         ensures { self.new ≡ (fill.placed self.old (fill.to_column self.old.sheet.cells column)).edge }
     {

@@ -1,62 +1,52 @@
--- The arguments of a macro. Source: roff(7), "Macro syntax" (arguments, quotes).
-use Rattle.std.specs.Prelude.{ℕ, ◌+◌, Bool, false, not, ◌==◌, nat_lt, ◌||◌, ◌&&◌, List, [], ◌∷◌, length, take, drop, if◌then◌else◌}
-use Rattle.std.specs.List.{prefix_len}
-use Rattle.page_prose.specs.Forms.{is_white, is_blank}
+-- The arguments of a macro as words, and their messages. Source: roff(7), "Macro syntax".
+use Rattle.std.specs.Prelude.{ℕ, ◌-◌, false, List, [], ◌∷◌, ◌++◌}
+use Rattle.std.specs.List.{flat_map}
+use Rattle.page_core_base.specs.Pieces.{Item, shown}
+use Rattle.page_core_base.specs.declared.note_kinds.NoteKind.TheVariants.{Unterminated}
+use Rattle.page_core_base.specs.declared.pieces.Piece.TheVariants.{Blank}
+use Rattle.page_core_escapes.specs.Tokens.{TextToken, tokens_of}
+use Rattle.page_roff_forms.specs.Arguments.{is_quoted}
+use Rattle.page_roff_forms.specs.declared.quotes.Argument.{Argument}
+use Rattle.page_roff_forms.specs.declared.quotes.Quoting.{Quoting}
+use Rattle.page_roff_forms.specs.declared.quotes.Quoting.TheVariants.{Bare, Closed, Unclosed}
+use Rattle.page_scopes_words.specs.declared.fonts.Fonts.{Fonts}
+use Rattle.page_scopes_words.specs.declared.walks.Style.{Style}
+use Rattle.page_scopes_words.specs.Words.{at, says, walk_from, walk_through, words_items}
 
--- the bytes that part words: blanks, and tabs or not
-abbrev pub parts_words : Bool → ℕ → Bool
-parts_words tabs byte = byte == 32 || (tabs && byte == 9)
+-- one without its last quote is reported at its first one
+abbrev pub closing_at : ℕ → ℕ → Quoting → List Item
+closing_at line column Bare = []
+closing_at line column Closed = []
+closing_at line column Unclosed = says Unterminated (at line (column - 1)) [] ∷ []
 
--- the bytes of a word at the front: up to a byte that parts words; a backslash and its next byte never part
-abbrev pub word_len : (ℕ → Bool) → List ℕ → ℕ
-word_len parts [] = 0
-word_len parts (byte ∷ []) = if parts byte then 0 else 1
-word_len parts (byte ∷ next ∷ bytes) =
-    if parts byte then 0
-    else if byte == 92 then 2 + word_len parts bytes
-    else 1 + word_len parts (next ∷ bytes)
+abbrev pub closing_notes : ℕ → Argument (List ℕ) → List Item
+closing_notes line argument = closing_at line argument.column argument.quoting
 
-abbrev pub begins_white : List ℕ → Bool
-begins_white [] = false
-begins_white (byte ∷ bytes) = is_white byte
+abbrev pub closings_notes : ℕ → List (Argument (List ℕ)) → List Item
+closings_notes line arguments = flat_map (closing_notes line) arguments
 
--- the bytes of a quoted argument behind its first quote, up to the next lone quote or the end; two quotes are no end
-abbrev pub quoted_len : List ℕ → ℕ
-quoted_len [] = 0
-quoted_len (byte ∷ []) = if byte == 34 then 0 else 1
-quoted_len (byte ∷ next ∷ bytes) =
-    if byte == 34 then (if next == 34 then 2 + quoted_len bytes else 0)
-    else 1 + quoted_len (next ∷ bytes)
+-- ---- words, and a blank after each argument
 
--- an argument at the front, with its quotes, or the blanks before one
-abbrev pub begins_quoted : List ℕ → Bool
-begins_quoted [] = false
-begins_quoted (byte ∷ bytes) = byte == 34
+abbrev pub argument_style : Argument (List ℕ) → Style
+argument_style argument = record { is_quoted = is_quoted argument.quoting; is_literal = false }
 
-abbrev pub begins_blank : List ℕ → Bool
-begins_blank [] = false
-begins_blank (byte ∷ bytes) = is_blank byte
+abbrev pub argument_tokens : Argument (List ℕ) → List TextToken
+argument_tokens argument = tokens_of (is_quoted argument.quoting) argument.text
 
--- the last quote, where there is one
-abbrev pub end_len : List ℕ → ℕ
-end_len [] = 0
-end_len (byte ∷ bytes) = 1
+abbrev pub argument_items : Fonts → ℕ → Argument (List ℕ) → List Item
+argument_items fonts line argument =
+    closing_notes line argument
+    ++ (words_items (argument_style argument) line (walk_from fonts argument.column) (argument_tokens argument) ++ shown (Blank 1 false) ∷ [])
 
-abbrev pub quoted_argument_len : List ℕ → ℕ
-quoted_argument_len bytes = 1 + quoted_len bytes + end_len (drop (quoted_len bytes) bytes)
+abbrev pub argument_fonts : Fonts → Argument (List ℕ) → Fonts
+argument_fonts fonts argument = (walk_through (walk_from fonts argument.column) (argument_tokens argument)).fonts
 
-abbrev pub argument_len : List ℕ → ℕ
-argument_len text =
-    if begins_blank text then prefix_len is_blank text
-    else if begins_quoted text then quoted_argument_len (drop 1 text)
-    else word_len (parts_words false) text
+abbrev pub arguments_items : Fonts → ℕ → List (Argument (List ℕ)) → List Item
+arguments_items fonts line [] = []
+arguments_items fonts line (argument ∷ arguments) =
+    argument_items fonts line argument ++ arguments_items (argument_fonts fonts argument) line arguments
 
--- a quoted argument without its quotes; whether it has its end
-abbrev pub quoted_text : List ℕ → List ℕ
-quoted_text argument = take (quoted_len (drop 1 argument)) (drop 1 argument)
-
-abbrev pub argument_text : List ℕ → List ℕ
-argument_text argument = if begins_quoted argument then quoted_text argument else argument
-
-abbrev pub is_closed : List ℕ → Bool
-is_closed argument = not (begins_quoted argument) || nat_lt (1 + quoted_len (drop 1 argument)) (length argument)
+-- the text of the first one; none: the empty text
+abbrev pub first_text : List (Argument (List ℕ)) → List ℕ
+first_text [] = []
+first_text (argument ∷ arguments) = argument.text

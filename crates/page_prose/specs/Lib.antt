@@ -1,11 +1,3 @@
-pub mod Cut
-pub mod Says
-pub mod Forms
+pub mod Macros
 pub mod Arguments
-pub mod Tokens
-pub mod Words
-pub mod Sentences
-pub mod FieldText
-pub mod FieldPieces
-pub mod Fields
 pub mod Prose

@@ -1,10 +1,13 @@
 //! The macros and requests that a page may call (man(7), roff(7)).
 
 ghost use Rattle.std.specs.Prelude.{◌≡◌};
-ghost use Rattle.page_prose.specs.Prose.{macro_of};
+ghost use Rattle.page_prose.specs.Macros.{macro_of};
+
+use page_core_base::Place;
+use std::alloc::AllocError;
 
 /// What a control line calls.
-#[derive(Clone, Copy, Debug, PartialEq, Eq)]
+#[derive(Clone, Copy)]
 pub enum Macro {
     /// No name: nothing.
     Empty,
@@ -14,39 +17,51 @@ pub enum Macro {
     Section,
     /// `PP`, `LP` and `P`: a paragraph.
     Paragraph,
-    /// `br`: the row ends.
-    EndRow,
-    /// `nf`: rows are kept as they are.
-    NoFill,
-    /// `fi`: rows are filled.
-    Fill,
+    /// `br`: a break.
+    Break,
+    /// `nf` (true) and `fi` (false): no-fill mode.
+    NoFill(bool),
     /// `ft`: another font.
     SetFont,
     /// Any other name.
     Unknown,
 }
 
+/// A control line; `W` is a text.
+pub struct Call<W> {
+    pub name: W,
+    /// The place of the name.
+    pub place: Place,
+    /// What follows the name, which begins at a column.
+    pub rest: W,
+    pub rest_column: u32,
+}
+
+impl<W: Copy> Copy for Call<W> {}
+
+impl<W: Copy> Clone for Call<W> {
+    ghost is_clone = { λ x y. y ≡ x };
+
+    ghost is_infallible = { λ _. Unit {0} };
+
+    fn clone(&self) -> Result<Call<W>, AllocError> {
+        Ok(*self)
+    }
+}
+
 /// The macro of a name.
 pub(crate) fn macro_of(name: &[u8]) -> Macro
     ensures { result ≡ macro_of name.now }
 {
-    if name.is_empty() {
-        Macro::Empty
-    } else if name == b"TH".as_slice() {
-        Macro::Title
-    } else if name == b"SH".as_slice() {
-        Macro::Section
-    } else if name == b"PP".as_slice() || name == b"LP".as_slice() || name == b"P".as_slice() {
-        Macro::Paragraph
-    } else if name == b"br".as_slice() {
-        Macro::EndRow
-    } else if name == b"nf".as_slice() {
-        Macro::NoFill
-    } else if name == b"fi".as_slice() {
-        Macro::Fill
-    } else if name == b"ft".as_slice() {
-        Macro::SetFont
-    } else {
-        Macro::Unknown
+    match name {
+        b"" => Macro::Empty,
+        b"TH" => Macro::Title,
+        b"SH" => Macro::Section,
+        b"PP" | b"LP" | b"P" => Macro::Paragraph,
+        b"br" => Macro::Break,
+        b"nf" => Macro::NoFill(true),
+        b"fi" => Macro::NoFill(false),
+        b"ft" => Macro::SetFont,
+        _ => Macro::Unknown,
     }
 }

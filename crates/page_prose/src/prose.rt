@@ -1,24 +1,19 @@
 //! The body of a page: text, titles, section headers, paragraphs and requests become pieces and messages (man(7), roff(7)).
 
-ghost use Rattle.std.specs.Prelude.{◌≡◌, ◌≤◌, ◌+◌, ◌++◌, [], ◌∷◌, length, OnOk, IfOk, if◌then◌else◌};
-ghost use Rattle.page_core_base.specs.Checks.{IsGood};
-ghost use Rattle.page_core_base.specs.Pieces.{shown};
-ghost use Rattle.page_core_base.specs.declared.pieces.Piece.TheVariants.{Space};
-ghost use Rattle.page_core_base.specs.Latches.{Emits};
+ghost use Rattle.std.specs.Prelude.{◌≡◌, ◌≤◌, length, OnOk};
+ghost use Rattle.page_core_base.specs.Latches.{Came, Emits};
+ghost use Rattle.page_core_base.specs.declared.note_kinds.NoteKind.{NoteKind};
+ghost use Rattle.page_roff_forms.specs.LineForms.{form_seen, FitsLine};
+ghost use Rattle.page_prose.specs.Macros.{FitsCall, call_seen};
 ghost use Rattle.page_prose.specs.Prose as prose;
-ghost use Rattle.page_prose.specs.Prose.{header_items};
-ghost use Rattle.page_prose.specs.Says.{says};
 
-use crate::arguments::has_arguments;
-use crate::details::{say, say_if};
-use crate::fields::Fields;
-use crate::forms::{Form, form_of, kept_len};
-use crate::headers::{Measure, give_footer_row, give_header};
-use crate::macros::{Macro, macro_of};
-use crate::walks::{Fonts, ROMAN, Walk};
+use crate::macros::{Call, Macro, macro_of};
 use arrayvec::ArrayString;
-use page_core_base::{Fault, NoteKind, Piece, PieceSink, Place, Settings};
+use page_core_base::{Fault, NoteKind, Piece, PieceLatch, PieceOut, PieceSink, Place, Settings};
 use page_core_limits::LINE;
+use page_engine_header::{Fields, Measure, give_footer_row, give_header};
+use page_roff_forms::{LineForm, form_of, is_white, kept_len};
+use page_scopes_words::{Fonts, ROMAN, report};
 
 /// What decides the pieces of the lines to come.
 #[derive(Drop)]
@@ -27,7 +22,7 @@ pub struct Prose {
     pub(crate) os: ArrayString<256>,
     pub(crate) fields: Fields,
     pub(crate) fonts: Fonts,
-    // Rows are kept as they are.
+    // No-fill mode: rows are kept as they are.
     pub(crate) is_literal: bool,
     // The open row, which is kept as it is, has a cell.
     pub(crate) has_cells: bool,
@@ -59,210 +54,148 @@ impl Prose {
     }
 
     /// Gives the header where the body begins.
-    pub(crate) fn begin<O: PieceSink>(&self, out: &mut O, line: u32) -> Result<(), Fault>
-        ensures gives { Emits result O.gave O.broke out.old (prose.begin_items self.now line) out.new }
-        ensures same { O.loans out.new ≡ O.loans out.old }
+    pub(crate) fn begin<O: PieceOut>(&self, out: &mut O, line: u32)
+        ensures { Came O.left out.old (prose.begin_items self.now line) out.new }
     {
-        if self.has_begun {
-            return Ok(());
-        }
-        give_header(out, self.measure, line, &self.fields)
-    }
-
-    /// Gives the header where the body begins otherwise than by a section header.
-    pub(crate) fn begin_otherwise<O: PieceSink>(&self, out: &mut O, line: u32) -> Result<(), Fault>
-        ensures gives { Emits result O.gave O.broke out.old (prose.begin_otherwise self.now line) out.new }
-        ensures same { O.loans out.new ≡ O.loans out.old }
-    {
-        if self.has_begun {
-            return Ok(());
-        }
-        self.begin_with(out, line, NoteKind::BeforeSection)
-    }
-
-    // Gives the header and a message.
-    fn begin_with<O: PieceSink>(&self, out: &mut O, line: u32, kind: NoteKind) -> Result<(), Fault>
-        ensures gives { Emits result O.gave O.broke out.old (header_items self.now.measure line self.now.fields ++ says kind line 1 [] ∷ []) out.new }
-        ensures same { O.loans out.new ≡ O.loans out.old }
-    {
-        give_header(out, self.measure, line, &self.fields)?;
-        say(out, kind, line, 1, b"")
-    }
-
-    // Gives a macro.
-    fn give_macro<O: PieceSink>(
-        &self,
-        out: &mut O,
-        name: &[u8],
-        place: Place,
-        rest: &[u8],
-        rest_column: u32,
-    ) -> Result<(), Fault>
-        requires short { length rest.now ≤ LINE }
-        requires room { rest_column + length rest.now ≤ LINE + 1 }
-        ensures gives { Emits result O.gave O.broke out.old (prose.macro_line (prose.macro_of name.now) self.now place.line name.now place.column rest.now rest_column) out.new }
-        ensures same { O.loans out.new ≡ O.loans out.old }
-    {
-        let called = macro_of(name);
-        match called {
-            Macro::Empty => Ok(()),
-            Macro::Title => self.give_title(out, name, place, rest, rest_column),
-            Macro::Section => self.give_section(out, name, place, rest, rest_column),
-            Macro::Paragraph => self.give_paragraph(out, name, place, rest, rest_column),
-            Macro::EndRow | Macro::NoFill | Macro::Fill | Macro::SetFont => {
-                self.give_request(out, called, place, rest, rest_column)
-            }
-            Macro::Unknown => say(out, NoteKind::UnknownMacro, place.line, place.column, name),
+        if !self.has_begun {
+            give_header(out, self.measure, Place { line, column: 1 }, &self.fields);
         }
     }
-}
 
-impl Prose {
-    // Gives what a line of a form gives.
-    #[tactic(auto, unfolding(crate::specs::Prose::form_items))]
-    fn give_form<O: PieceSink>(
-        &self,
-        out: &mut O,
-        line: u32,
-        form: Form<&[u8]>,
-    ) -> Result<Walk, Fault>
-        requires { prose.IsShort (prose.form_view form) }
-        ensures gives { Emits result O.gave O.broke out.old (prose.form_items self.now line (prose.form_view form.entry)) out.new }
-        ensures walk { IfOk result (λ walk. walk ≡ prose.form_walk self.now (prose.form_view form.entry)) }
-        ensures same { O.loans out.new ≡ O.loans out.old }
+    /// Gives the header and a message where the body begins.
+    pub(crate) fn begin_with<O: PieceOut>(&self, out: &mut O, line: u32, kind: NoteKind)
+        ensures { Came O.left out.old (prose.begin_with kind self.now line) out.new }
     {
-        let start = Walk::from(self.fonts, 1);
+        if !self.has_begun {
+            let place = Place { line, column: 1 };
+            give_header(out, self.measure, place, &self.fields);
+            report(out, kind, place, b"");
+        }
+    }
+
+    // Gives a macro, and keeps what it leaves.
+    fn give_call<O: PieceOut>(&mut self, out: &mut O, call: Call<&[u8]>)
+        requires { FitsCall (call_seen call) }
+        ensures came { Came O.left out.old (prose.call_items self.old (call_seen call.entry)) out.new }
+        ensures after { self.new ≡ prose.call_after self.old (call_seen call.entry) }
+    {
+        match macro_of(call.name) {
+            Macro::Empty => {}
+            Macro::Title => self.give_title(out, call),
+            Macro::Section => self.give_section(out, call),
+            Macro::Paragraph => self.give_paragraph(out, call),
+            Macro::Break => self.give_break(out, call),
+            Macro::NoFill(on) => self.give_no_fill(out, call, on),
+            Macro::SetFont => self.give_font(out, call),
+            Macro::Unknown => report(out, NoteKind::UnknownMacro, call.place, call.name),
+        }
+    }
+
+    // Gives a line of a form, and keeps what it leaves.
+    #[tactic(auto, unfolding(crate::specs::Prose::form_items, crate::specs::Prose::form_after))]
+    fn give_form<O: PieceOut>(&mut self, out: &mut O, line: u32, form: LineForm<&[u8]>)
+        requires { FitsLine (form_seen form) }
+        ensures came { Came O.left out.old (prose.form_items self.old line (form_seen form.entry)) out.new }
+        ensures after { self.new ≡ prose.form_after self.old (form_seen form.entry) }
+    {
         match form {
-            Form::Nothing => Ok(start),
-            Form::BlankLine => {
-                self.give_blank_line(out, line)?;
-                Ok(start)
-            }
-            Form::Words(text) => self.give_text(out, line, text),
-            Form::Call {
+            LineForm::Comment => {}
+            LineForm::BlankLine => self.give_blank_line(out, line),
+            LineForm::Text(text) => self.give_text(out, line, text),
+            LineForm::Control {
                 name,
                 column,
                 rest,
                 rest_column,
             } => {
-                self.give_macro(out, name, Place { line, column }, rest, rest_column)?;
-                Ok(start)
+                let place = Place { line, column };
+                self.give_call(
+                    out,
+                    Call {
+                        name,
+                        place,
+                        rest,
+                        rest_column,
+                    },
+                );
             }
         }
     }
 
-    // Keeps what a line of a form leaves.
-    #[tactic(auto, unfolding(crate::specs::Prose::form_after))]
-    fn pass(&mut self, form: Form<&[u8]>, walk: Walk)
-        requires { walk ≡ prose.form_walk self.old (prose.form_view form) }
-        ensures { self.new ≡ prose.form_after self.old (prose.form_view form.entry) }
+    // Gives a line, and keeps what it leaves.
+    #[tactic(auto, unfolding(crate::specs::Prose::line_items))]
+    fn give_line<O: PieceOut>(&mut self, out: &mut O, line: u32, text: &[u8])
+        requires { length text.now ≤ LINE }
+        ensures came { Came O.left out.old (prose.line_items self.old line text.now) out.new }
+        ensures after { self.new ≡ prose.line_after self.old text.now }
     {
-        match form {
-            Form::Nothing => {}
-            Form::BlankLine => self.pass_blank_line(),
-            Form::Words(text) => self.pass_text(text, walk),
-            Form::Call { name, rest, .. } => self.pass_macro(macro_of(name), rest),
-        }
+        report_trailing(out, line, text);
+        self.give_form(out, line, form_of(text));
     }
 
-    // Keeps what a macro leaves.
-    fn pass_macro(&mut self, called: Macro, rest: &[u8])
-        ensures { self.new ≡ prose.macro_after called self.old rest.now }
+    // Gives the end of the body.
+    #[tactic(auto, unfolding(crate::specs::Prose::end_items))]
+    fn give_end<O: PieceOut>(&self, out: &mut O, line: u32)
+        ensures { Came O.left out.old (prose.end_items self.now line) out.new }
     {
-        match called {
-            Macro::Empty | Macro::Unknown => {}
-            Macro::Title => {
-                if !self.has_begun {
-                    self.fields = Fields::of(self.os.as_str().as_bytes(), rest);
-                }
-            }
-            Macro::Section => {
-                if has_arguments(rest) {
-                    self.pass_section();
-                }
-            }
-            Macro::Paragraph => self.pass_paragraph(),
-            Macro::EndRow | Macro::NoFill | Macro::Fill | Macro::SetFont => {
-                if self.has_begun {
-                    self.pass_request(called, rest);
-                }
-            }
+        self.begin_with(out, line, NoteKind::NoBody);
+        out.give(Piece::Break);
+    }
+
+    // Gives the footer.
+    #[tactic(auto, unfolding(crate::specs::Prose::footer_items))]
+    fn give_footer<O: PieceOut>(&self, out: &mut O, line: u32, blank_rows: u32)
+        ensures { Came O.left out.old (prose.footer_items self.now line blank_rows) out.new }
+    {
+        if blank_rows == 0 {
+            out.give(Piece::Space(1));
         }
+        give_footer_row(out, self.measure, Place { line, column: 1 }, &self.fields);
     }
 }
 
 // Reports white space at a line's end.
-fn note_trailing<O: PieceSink>(out: &mut O, line: u32, text: &[u8]) -> Result<(), Fault>
+fn report_trailing<O: PieceOut>(out: &mut O, line: u32, text: &[u8])
     requires { length text.now ≤ LINE }
-    ensures gives { Emits result O.gave O.broke out.old (prose.trailing_items line text.now) out.new }
-    ensures same { O.loans out.new ≡ O.loans out.old }
+    ensures { Came O.left out.old (prose.trailing_notes line text.now) out.new }
 {
-    let len = kept_len(text);
-    say_if(
-        out,
-        len < text.len(),
-        NoteKind::TrailingBlank,
-        line,
-        len as u32 + 1,
-        b"",
-    )
+    let len = kept_len(text, |byte| is_white(byte));
+    if len < text.len() {
+        let column = len as u32 + 1;
+        report(out, NoteKind::TrailingBlank, Place { line, column }, b"");
+    }
 }
 
 impl Prose {
     /// Takes a line of at most [`LINE`] bytes, and gives its pieces and messages. After a fault it is not to be used again.
-    #[tactic(auto, unfolding(crate::specs::Prose::line_items))]
     pub fn line<O: PieceSink>(&mut self, out: &mut O, line: u32, text: &[u8]) -> Result<(), Fault>
         requires { length text.now ≤ LINE }
         ensures gives { Emits result O.gave O.broke out.old (prose.line_items self.old line text.now) out.new }
         ensures after { OnOk result (self.new ≡ prose.line_after self.old text.now) }
         ensures same { O.loans out.new ≡ O.loans out.old }
     {
-        let form = form_of(text);
-        note_trailing(out, line, text)?;
-        let walk = self.give_form(out, line, form)?;
-        self.pass(form, walk);
-        Ok(())
+        let mut latch = PieceLatch::new(out);
+        self.give_line(&mut latch, line, text);
+        latch.done()
     }
 
-    /// Ends the body behind a line: the header and a message where no body began, and the end of the row.
-    #[tactic(auto, unfolding(crate::specs::Prose::end_items))]
+    /// Ends the body after a line: the header and a message where no body began, and the end of the row.
     pub fn end<O: PieceSink>(&self, out: &mut O, line: u32) -> Result<(), Fault>
         ensures gives { Emits result O.gave O.broke out.old (prose.end_items self.now line) out.new }
         ensures same { O.loans out.new ≡ O.loans out.old }
     {
-        self.give_no_body(out, line)?;
-        out.piece(Piece::Break)
-    }
-
-    // Gives the header and a message where no body began.
-    fn give_no_body<O: PieceSink>(&self, out: &mut O, line: u32) -> Result<(), Fault>
-        ensures gives { Emits result O.gave O.broke out.old (prose.no_body self.now line) out.new }
-        ensures same { O.loans out.new ≡ O.loans out.old }
-    {
-        if self.has_begun {
-            return Ok(());
-        }
-        self.begin_with(out, line, NoteKind::NoBody)
+        let mut latch = PieceLatch::new(out);
+        self.give_end(&mut latch, line);
+        latch.done()
     }
 
     /// Gives the footer, and before it a blank row, unless one stands there.
-    #[tactic(auto, unfolding(crate::specs::Prose::footer_items))]
     pub fn footer<O: PieceSink>(&self, out: &mut O, line: u32, blank_rows: u32) -> Result<(), Fault>
         ensures gives { Emits result O.gave O.broke out.old (prose.footer_items self.now line blank_rows) out.new }
         ensures same { O.loans out.new ≡ O.loans out.old }
     {
-        give_blank_row_if(out, blank_rows == 0)?;
-        give_footer_row(out, self.measure, Place { line, column: 1 }, &self.fields)
+        let mut latch = PieceLatch::new(out);
+        self.give_footer(&mut latch, line, blank_rows);
+        latch.done()
     }
-}
-
-// Gives a blank row where a condition holds.
-fn give_blank_row_if<O: PieceSink>(out: &mut O, holds: bool) -> Result<(), Fault>
-    ensures gives { Emits result O.gave O.broke out.old (if holds then shown (Space 1) ∷ [] else []) out.new }
-    ensures same { O.loans out.new ≡ O.loans out.old }
-{
-    if holds {
-        return out.piece(Piece::Space(1));
-    }
-    Ok(())
 }

@@ -1,101 +1,69 @@
-//! Requests: `br`, `nf`, `fi` and `ft` (roff(7)).
+//! Requests: `br`, `nf`, `fi` and `ft` (roff(7)). They have no effect before the body.
 
-ghost use Rattle.std.specs.Prelude.{◌≡◌, ◌≤◌, ◌+◌, length};
-ghost use Rattle.page_core_escapes.specs.Escapes.{face_seen};
-ghost use Rattle.page_core_base.specs.Latches.{Emits};
+ghost use Rattle.std.specs.Prelude.{◌≡◌};
+ghost use Rattle.page_core_base.specs.Latches.{Came};
+ghost use Rattle.page_prose.specs.Macros.{FitsCall, call_seen};
 ghost use Rattle.page_prose.specs.Prose as prose;
 
-use crate::arguments::{note_closings, nth_argument, unquote};
-use crate::macros::Macro;
+use crate::arguments::{first_text, report_closings};
+use crate::macros::Call;
 use crate::prose::Prose;
-use crate::words::{give_two, note_font};
-use page_core_base::{Fault, Piece, PieceSink, Place};
-use page_core_limits::LINE;
-use page_core_escapes::{FontName, read_font};
+use page_core_base::{Piece, PieceOut, Place};
+use page_core_escapes::read_font;
+use page_scopes_words::report_font;
 
-// The font that a request names.
-fn font_name(rest: &[u8]) -> FontName<'_>
-    ensures { face_seen result ≡ prose.font_name rest.now }
+// Reports the arguments of a macro without their last quote.
+pub(crate) fn report_call<O: PieceOut>(out: &mut O, call: &Call<&[u8]>)
+    requires { FitsCall (call_seen call.now) }
+    ensures { Came O.left out.old (prose.call_notes (call_seen call.now)) out.new }
 {
-    read_font(unquote(nth_argument(rest, 0), 0).text)
+    let place = Place {
+        line: call.place.line,
+        column: call.rest_column,
+    };
+    report_closings(out, place, call.rest);
 }
 
 impl Prose {
-    // Gives the effect of a request.
-    fn give_effect<O: PieceSink>(
-        &self,
-        out: &mut O,
-        called: Macro,
-        place: Place,
-        rest: &[u8],
-    ) -> Result<(), Fault>
-        ensures gives { Emits result O.gave O.broke out.old (prose.effect_of called place rest.now) out.new }
-        ensures same { O.loans out.new ≡ O.loans out.old }
+    /// Gives `br`.
+    pub(crate) fn give_break<O: PieceOut>(&mut self, out: &mut O, call: Call<&[u8]>)
+        requires { FitsCall (call_seen call) }
+        ensures came { Came O.left out.old (prose.break_items self.old (call_seen call.entry)) out.new }
+        ensures after { self.new ≡ prose.break_after self.old }
     {
-        match called {
-            Macro::EndRow => out.piece(Piece::Break),
-            Macro::NoFill => give_two(out, Piece::Break, Piece::Literal(true)),
-            Macro::Fill => give_two(out, Piece::Break, Piece::Literal(false)),
-            Macro::SetFont => note_font(out, place, font_name(rest)),
-            _ => Ok(()),
+        report_call(out, &call);
+        if self.has_begun {
+            out.give(Piece::Break);
+            self.has_cells = false;
         }
     }
 
-    // Gives the effect of a request in the body.
-    fn give_effect_if<O: PieceSink>(
-        &self,
-        out: &mut O,
-        called: Macro,
-        place: Place,
-        rest: &[u8],
-    ) -> Result<(), Fault>
-        ensures gives { Emits result O.gave O.broke out.old (prose.effect_items self.now (prose.effect_of called place rest.now)) out.new }
-        ensures same { O.loans out.new ≡ O.loans out.old }
+    /// Gives `nf` or `fi`.
+    pub(crate) fn give_no_fill<O: PieceOut>(&mut self, out: &mut O, call: Call<&[u8]>, on: bool)
+        requires { FitsCall (call_seen call) }
+        ensures came { Came O.left out.old (prose.no_fill_items on self.old (call_seen call.entry)) out.new }
+        ensures after { self.new ≡ prose.no_fill_after on self.old }
     {
-        if !self.has_begun {
-            return Ok(());
+        report_call(out, &call);
+        if self.has_begun {
+            out.give(Piece::Break);
+            out.give(Piece::Literal(on));
+            self.is_literal = on;
+            self.has_cells = false;
         }
-        self.give_effect(out, called, place, rest)
     }
 
-    /// Gives a request.
-    pub(crate) fn give_request<O: PieceSink>(
-        &self,
-        out: &mut O,
-        called: Macro,
-        place: Place,
-        rest: &[u8],
-        rest_column: u32,
-    ) -> Result<(), Fault>
-        requires short { length rest.now ≤ LINE }
-        requires room { rest_column + length rest.now ≤ LINE + 1 }
-        ensures gives { Emits result O.gave O.broke out.old (prose.request_line self.now place rest.now rest_column called) out.new }
-        ensures same { O.loans out.new ≡ O.loans out.old }
+    /// Gives `ft`; with no argument it names the former font.
+    pub(crate) fn give_font<O: PieceOut>(&mut self, out: &mut O, call: Call<&[u8]>)
+        requires { FitsCall (call_seen call) }
+        ensures came { Came O.left out.old (prose.font_items self.old (call_seen call.entry)) out.new }
+        ensures after { self.new ≡ prose.font_after self.old (call_seen call.entry) }
     {
-        let here = Place {
-            line: place.line,
-            column: rest_column,
-        };
-        note_closings(out, here, rest)?;
-        self.give_effect_if(out, called, place, rest)
-    }
-
-    /// Keeps what a request of the body leaves.
-    pub(crate) fn pass_request(&mut self, called: Macro, rest: &[u8])
-        ensures { self.new ≡ prose.request_after called self.old rest.now }
-    {
-        match called {
-            Macro::EndRow => self.has_cells = false,
-            Macro::NoFill => {
-                self.is_literal = true;
-                self.has_cells = false;
-            }
-            Macro::Fill => {
-                self.is_literal = false;
-                self.has_cells = false;
-            }
-            Macro::SetFont => self.fonts = self.fonts.named(font_name(rest)),
-            _ => {}
+        report_call(out, &call);
+        if self.has_begun {
+            let font = read_font(first_text(call.rest, call.rest_column));
+            report_font(out, call.place, font);
+            self.fonts = self.fonts.named(font);
         }
     }
 }

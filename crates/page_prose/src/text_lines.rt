@@ -1,202 +1,124 @@
-//! Text lines and blank lines of the body: words, and rows that are filled or kept as they are (roff(7), `nf` and `fi`).
+//! Text lines and blank lines of the body: words, in rows that are filled or kept as they are (roff(7), `nf` and `fi`).
 
-ghost use Rattle.std.specs.Prelude.{◌≡◌, ◌≤◌, ◌++◌, [], ◌∷◌, length, IfOk};
-ghost use Rattle.page_core_base.specs.Pieces.{shown};
-ghost use Rattle.page_core_base.specs.declared.pieces.Piece.TheVariants.{Space};
-ghost use Rattle.page_core_base.specs.declared.note_kinds.NoteKind.TheVariants.{BlankFill};
-ghost use Rattle.page_core_base.specs.Latches.{Emits};
+ghost use Rattle.std.specs.Prelude.{◌≡◌, ◌≤◌, length};
+ghost use Rattle.page_core_base.specs.Latches.{Came};
 ghost use Rattle.page_prose.specs.Prose as prose;
-ghost use Rattle.page_prose.specs.Says.{says};
 
-use crate::details::say;
-use crate::forms::{has_word, white_len};
 use crate::prose::Prose;
-use crate::sentences::is_sentence;
-use crate::walks::{Style, Walk};
-use crate::words::{give_white_cells, give_words};
-use page_core_base::{Fault, NoteKind, Piece, PieceSink, Place};
+use page_core_base::{NoteKind, Piece, PieceOut, Place};
 use page_core_limits::LINE;
-
-// Gives the blanks at a text line's front, which break the row and are kept.
-fn give_front<O: PieceSink>(out: &mut O, line: u32, white: &[u8]) -> Result<(), Fault>
-    requires { length white.now ≤ LINE }
-    ensures gives { Emits result O.gave O.broke out.old (prose.white_front line white.now) out.new }
-    ensures same { O.loans out.new ≡ O.loans out.old }
-{
-    if white.is_empty() {
-        return Ok(());
-    }
-    give_white_front(out, line, white)
-}
-
-// Gives blanks that break the row.
-fn give_white_front<O: PieceSink>(out: &mut O, line: u32, white: &[u8]) -> Result<(), Fault>
-    requires { length white.now ≤ LINE }
-    ensures gives { Emits result O.gave O.broke out.old (prose.kept_white line white.now) out.new }
-    ensures same { O.loans out.new ≡ O.loans out.old }
-{
-    let place = Place {
-        line,
-        column: 1 + white.len() as u32,
-    };
-    out.piece(Piece::Break)?;
-    give_white_cells(out, place, white)
-}
+use page_roff_forms::{has_word, white_len};
+use page_scopes_words::{Style, Walk, ends_sentence, give_leading, give_words, report};
 
 // Ends a row that is kept as it is, also one without a cell.
-fn give_row<O: PieceSink>(out: &mut O, has_cells: bool) -> Result<(), Fault>
-    ensures gives { Emits result O.gave O.broke out.old (prose.row_items has_cells) out.new }
-    ensures same { O.loans out.new ≡ O.loans out.old }
+fn give_row_end<O: PieceOut>(out: &mut O, has_cells: bool)
+    ensures { Came O.left out.old (prose.row_end has_cells) out.new }
 {
     if has_cells {
-        return out.piece(Piece::Break);
+        out.give(Piece::Break);
+    } else {
+        out.give(Piece::Space(1));
     }
-    out.piece(Piece::Space(1))
 }
 
-// The blanks behind a line that fills rows.
+// The blanks after a line that fills rows.
 fn sentence_blanks(text: &[u8]) -> u32
     ensures { result ≡ prose.sentence_blanks text.now }
 {
-    if is_sentence(text) { 2 } else { 1 }
-}
-
-// Gives the blank row and the message of a blank line.
-fn give_blank_fill<O: PieceSink>(out: &mut O, line: u32) -> Result<(), Fault>
-    ensures gives { Emits result O.gave O.broke out.old (says BlankFill line 1 [] ∷ (shown (Space 1) ∷ [])) out.new }
-    ensures same { O.loans out.new ≡ O.loans out.old }
-{
-    say(out, NoteKind::BlankFill, line, 1, b"")?;
-    out.piece(Piece::Space(1))
+    if ends_sentence(text) { 2 } else { 1 }
 }
 
 impl Prose {
-    // The number of blanks and tabs at a text line's front that break the row.
-    fn front_len(&self, text: &[u8]) -> usize
-        ensures value { result ≡ prose.front_len self.now text.now }
-        ensures within { result ≤ length text.now }
+    // Gives the words of a text line that fills rows; what is known after them.
+    fn give_filled<O: PieceOut>(&self, out: &mut O, line: u32, text: &[u8]) -> Walk
+        requires { length text.now ≤ LINE }
+        ensures came { Came O.left out.old (prose.filled_items self.now line text.now) out.new }
+        ensures walk { result ≡ prose.filled_walk self.now text.now }
     {
-        if self.is_literal { 0 } else { white_len(text) }
+        let len = white_len(text);
+        let style = Style {
+            is_quoted: false,
+            is_literal: false,
+        };
+        if len > 0 {
+            give_leading(out, line, &text[..len], &text[len..]);
+        }
+        give_words(
+            out,
+            style,
+            line,
+            Walk::after_leading(self.fonts, len as u32),
+            &text[len..],
+        )
+    }
+
+    // Gives the words of a text line; what is known after them.
+    fn give_line_words<O: PieceOut>(&self, out: &mut O, line: u32, text: &[u8]) -> Walk
+        requires { length text.now ≤ LINE }
+        ensures came { Came O.left out.old (prose.text_words self.now line text.now) out.new }
+        ensures walk { result ≡ prose.text_walk self.now text.now }
+    {
+        if !self.is_literal {
+            return self.give_filled(out, line, text);
+        }
+        let style = Style {
+            is_quoted: false,
+            is_literal: true,
+        };
+        give_words(out, style, line, Walk::from(self.fonts, 1), text)
     }
 
     // Gives what ends a text line.
-    fn give_line_end<O: PieceSink>(&self, out: &mut O, text: &[u8], walk: Walk) -> Result<(), Fault>
-        ensures gives { Emits result O.gave O.broke out.old (prose.line_end_items self.now text.now walk) out.new }
-        ensures same { O.loans out.new ≡ O.loans out.old }
+    fn give_line_end<O: PieceOut>(&self, out: &mut O, text: &[u8], walk: Walk)
+        ensures { Came O.left out.old (prose.line_end self.now text.now walk) out.new }
     {
         if walk.glues {
-            return Ok(());
+            return;
         }
         if self.is_literal {
-            return give_row(out, self.has_cells || walk.prints);
+            give_row_end(out, self.has_cells || walk.prints);
+        } else {
+            out.give(Piece::Blank {
+                count: sentence_blanks(text),
+                has_tab: false,
+            });
         }
-        out.piece(Piece::Blank {
-            count: sentence_blanks(text),
-            has_tab: false,
-        })
     }
 
-    // Gives the words of a text line.
-    fn give_text_items<O: PieceSink>(
-        &self,
-        out: &mut O,
-        line: u32,
-        text: &[u8],
-    ) -> Result<Walk, Fault>
+    /// Gives a text line, and keeps what it leaves.
+    pub(crate) fn give_text<O: PieceOut>(&mut self, out: &mut O, line: u32, text: &[u8])
         requires { length text.now ≤ LINE }
-        ensures gives { Emits result O.gave O.broke out.old (prose.text_items self.now line text.now) out.new }
-        ensures walk { IfOk result (λ walk. walk ≡ prose.text_walk self.now text.now) }
-        ensures same { O.loans out.new ≡ O.loans out.old }
+        ensures came { Came O.left out.old (prose.text_line self.old line text.now) out.new }
+        ensures after { self.new ≡ prose.text_line_after self.old text.now }
     {
-        let len = self.front_len(text);
-        let style = Style {
-            is_quoted: false,
-            is_literal: self.is_literal,
-        };
-        let start = Walk::from(self.fonts, 1 + len as u32);
-        give_front(out, line, &text[..len])?;
-        let walk = give_words(out, style, line, start, &text[len..])?;
-        self.give_line_end(out, text, walk)?;
-        Ok(walk)
-    }
-
-    /// Gives a text line.
-    pub(crate) fn give_text<O: PieceSink>(
-        &self,
-        out: &mut O,
-        line: u32,
-        text: &[u8],
-    ) -> Result<Walk, Fault>
-        requires { length text.now ≤ LINE }
-        ensures gives { Emits result O.gave O.broke out.old (prose.text_line self.now line text.now) out.new }
-        ensures walk { IfOk result (λ walk. walk ≡ prose.line_walk self.now text.now) }
-        ensures same { O.loans out.new ≡ O.loans out.old }
-    {
-        if has_word(text) || self.is_literal {
-            return self.give_words_line(out, line, text);
+        if !has_word(text) && !self.is_literal {
+            out.give(Piece::Break);
+            return;
         }
-        out.piece(Piece::Break)?;
-        Ok(Walk::from(self.fonts, 1))
+        self.begin_with(out, line, NoteKind::BeforeSection);
+        let walk = self.give_line_words(out, line, text);
+        self.give_line_end(out, text, walk);
+        self.has_cells = self.is_literal && walk.glues && (self.has_cells || walk.prints);
+        self.fonts = walk.fonts;
+        self.has_begun = true;
+        self.has_content = self.has_content || has_word(text);
     }
 
-    // Gives a text line that has a word, or is kept as it is.
-    fn give_words_line<O: PieceSink>(
-        &self,
-        out: &mut O,
-        line: u32,
-        text: &[u8],
-    ) -> Result<Walk, Fault>
-        requires { length text.now ≤ LINE }
-        ensures gives { Emits result O.gave O.broke out.old (prose.begin_otherwise self.now line ++ prose.text_items self.now line text.now) out.new }
-        ensures walk { IfOk result (λ walk. walk ≡ prose.text_walk self.now text.now) }
-        ensures same { O.loans out.new ≡ O.loans out.old }
-    {
-        self.begin_otherwise(out, line)?;
-        let walk = self.give_text_items(out, line, text)?;
-        Ok(walk)
-    }
-
-    /// Gives a blank line.
-    pub(crate) fn give_blank_line<O: PieceSink>(&self, out: &mut O, line: u32) -> Result<(), Fault>
-        ensures gives { Emits result O.gave O.broke out.old (prose.blank_line self.now line) out.new }
-        ensures same { O.loans out.new ≡ O.loans out.old }
+    /// Gives a blank line, and keeps what it leaves.
+    pub(crate) fn give_blank_line<O: PieceOut>(&mut self, out: &mut O, line: u32)
+        ensures came { Came O.left out.old (prose.blank_line self.old line) out.new }
+        ensures after { self.new ≡ prose.blank_line_after self.old }
     {
         if !self.has_begun {
-            return Ok(());
+            return;
         }
-        self.give_blank_row(out, line)
-    }
-
-    // Gives a blank line of the body.
-    fn give_blank_row<O: PieceSink>(&self, out: &mut O, line: u32) -> Result<(), Fault>
-        ensures gives { Emits result O.gave O.broke out.old (prose.blank_row self.now line) out.new }
-        ensures same { O.loans out.new ≡ O.loans out.old }
-    {
         if self.is_literal {
-            return give_row(out, self.has_cells);
+            give_row_end(out, self.has_cells);
+        } else {
+            report(out, NoteKind::BlankFill, Place { line, column: 1 }, b"");
+            out.give(Piece::Space(1));
         }
-        give_blank_fill(out, line)
-    }
-
-    /// Keeps what a blank line leaves.
-    pub(crate) fn pass_blank_line(&mut self)
-        ensures { self.new ≡ prose.blank_line_after self.old }
-    {
-        if self.has_begun {
-            self.has_content = true;
-            self.has_cells = false;
-        }
-    }
-
-    /// Keeps what a text line leaves.
-    pub(crate) fn pass_text(&mut self, text: &[u8], walk: Walk)
-        ensures { self.new ≡ prose.words_after self.old text.now walk }
-    {
-        if has_word(text) || self.is_literal {
-            self.has_cells = self.is_literal && walk.glues && (self.has_cells || walk.prints);
-            self.fonts = walk.fonts;
-            self.has_begun = true;
-            self.has_content = self.has_content || has_word(text);
-        }
+        self.has_content = true;
+        self.has_cells = false;
     }
 }

@@ -155,7 +155,7 @@ pub after_blanks : (column : ℕ) (text : List ℕ) → arguments column text �
 after_blanks column [] = rw (add-zero) refl
 after_blanks column (b ∷ bs) =
     elim (cases_Bool (is_blank b)) [
-      | inl t ↦ 
+      | inl t ↦
           let n = prefix_len is_blank bs in
           let e : column + 1 + n ≡ column + (1 + n) = omega arith in
           rw t (one_blank column b bs t ∙ after_blanks (column + 1) bs ∙ ap (λ k. arguments k (drop n bs)) e ∙ ap (arguments (column + (1 + n))) (sym (one_less n b bs)))

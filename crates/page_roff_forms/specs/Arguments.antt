@@ -39,7 +39,8 @@ is_quoted Unclosed = true
 
 -- the column is the text's, which a quote may stand before
 abbrev pub quoted_argument : ℕ → List ℕ → Argument (List ℕ)
-quoted_argument column inner = record { text = take (quoted_len inner) inner; column = column + 1; quoting = quoting_of inner }
+quoted_argument column inner =
+    record { text = take (quoted_len inner) inner; column = column + 1; quoting = quoting_of inner }
 
 abbrev pub bare_argument : ℕ → List ℕ → Argument (List ℕ)
 bare_argument column text = record { text = take (bare_len text) text; column = column; quoting = Bare }
@@ -50,10 +51,12 @@ begins_quoted (byte ∷ bytes) = byte == 34
 
 -- the argument that a text begins with, and its bytes with its quotes
 abbrev pub first_argument : ℕ → List ℕ → Argument (List ℕ)
-first_argument column text = if begins_quoted text then quoted_argument column (drop 1 text) else bare_argument column text
+first_argument column text =
+    if begins_quoted text then quoted_argument column (drop 1 text) else bare_argument column text
 
 abbrev pub argument_len : List ℕ → ℕ
-argument_len text = if begins_quoted text then min (length text) (quoted_len (drop 1 text) + 2) else bare_len text
+argument_len text =
+    if begins_quoted text then min (length text) (quoted_len (drop 1 text) + 2) else bare_len text
 
 -- the arguments of a text, of which the first byte stands at a column; at most n parts of it are read
 abbrev pub first_arguments : ℕ → ℕ → List ℕ → List (Argument (List ℕ))
@@ -62,8 +65,8 @@ first_arguments (suc n) column [] = []
 first_arguments (suc n) column (byte ∷ bytes) =
     if is_blank byte then first_arguments n (column + 1) bytes
     else
-        first_argument column (byte ∷ bytes)
-        ∷ first_arguments n (column + argument_len (byte ∷ bytes)) (drop (argument_len (byte ∷ bytes)) (byte ∷ bytes))
+    first_argument column (byte ∷ bytes)
+    ∷ first_arguments n (column + argument_len (byte ∷ bytes)) (drop (argument_len (byte ∷ bytes)) (byte ∷ bytes))
 
 -- all of them: a text has no more parts than bytes
 unfoldable pub arguments : ℕ → List ℕ → List (Argument (List ℕ))
@@ -74,8 +77,10 @@ has_arguments rest = nat_lt (prefix_len is_blank rest) (length rest)
 
 -- an argument of the program, with what its text holds
 abbrev pub argument_seen : Argument (Bor (List ℕ)) → Argument (List ℕ)
-argument_seen argument = record { text = argument.text.now; column = argument.column; quoting = argument.quoting }
+argument_seen argument =
+    record { text = argument.text.now; column = argument.column; quoting = argument.quoting }
 
 -- the first of the arguments that are still to be read, if there is one, and then the others
 abbrev pub ReadsNext : List (Argument (List ℕ)) → Option (Argument (Bor (List ℕ))) → List (Argument (List ℕ)) → Type 0
-ReadsNext old result new = MatchOption result ((old ≡ []) × (new ≡ [])) (λ argument. old ≡ argument_seen argument ∷ new)
+ReadsNext old result new =
+    MatchOption result ((old ≡ []) × (new ≡ [])) (λ argument. old ≡ argument_seen argument ∷ new)

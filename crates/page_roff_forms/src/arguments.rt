@@ -8,7 +8,7 @@ use crate::quotes::{Argument, argument_len, first_argument};
 use page_core_limits::LINE;
 use std::marker::Model;
 
-/// Reads the arguments of a control line, one after another. Contracts see the list of those that are still to be read.
+/// Reads the arguments of a control line, one after another. Contracts see the list of those still to be read.
 #[derive(Drop)]
 pub struct Arguments<'a> {
     rest: &'a [u8],
@@ -27,7 +27,7 @@ impl<'a> Model for Arguments<'a> {
 
     ghost view = { λ a. arguments a.column a.rest.now };
 
-    ghost invariant = { λ a. a.column + length a.rest.now ≤ LINE + 1 };
+    ghost invariant = { λ a. (length a.rest.now ≤ LINE) × (a.column + length a.rest.now ≤ LINE + 1) };
 }
 
 // The number of blanks at a text's front.
@@ -48,7 +48,8 @@ pub fn has_arguments(rest: &[u8]) -> bool
 impl<'a> Arguments<'a> {
     /// The arguments in the rest of a control line, of which the first byte stands at a column.
     pub fn new(rest: &'a [u8], column: u32) -> Arguments<'a>
-        requires { column + length rest.now ≤ LINE + 1 }
+        requires short { length rest.now ≤ LINE }
+        requires room { column + length rest.now ≤ LINE + 1 }
         ensures { result ≡ arguments column rest.now }
     {
         Arguments { rest, column }
@@ -57,7 +58,8 @@ impl<'a> Arguments<'a> {
     /// Reads the next argument, if there is one more.
     pub fn next_argument(&mut self) -> Option<Argument<&'a [u8]>>
         ensures next { ReadsNext self.old result self.new }
-        ensures within { IfSome result (λ argument. argument.column + length argument.text.now ≤ LINE + 1) }
+        ensures short { IfSome result (λ argument. length argument.text.now ≤ LINE) }
+        ensures room { IfSome result (λ argument. argument.column + length argument.text.now ≤ LINE + 1) }
     {
         let blanks = blank_len(self.rest);
         let text = &self.rest[blanks..];

@@ -49,7 +49,14 @@ fn check_text(rt: &impl Abort, line: &str, want: &str) {
 }
 
 // Checks a control line: its name and the rest, each with its column.
-fn check_control(rt: &impl Abort, line: &str, want_name: &str, want_column: u32, want_rest: &str, want_rest_column: u32) {
+fn check_control(
+    rt: &impl Abort,
+    line: &str,
+    want_name: &str,
+    want_column: u32,
+    want_rest: &str,
+    want_rest_column: u32,
+) {
     match form(rt, line) {
         LineForm::Control {
             name,
@@ -67,7 +74,12 @@ fn check_control(rt: &impl Abort, line: &str, want_name: &str, want_column: u32,
 }
 
 // Checks the next argument: its text, its column and the quotes that it has.
-fn check_argument(rt: &impl Abort, arguments: &mut Arguments<'_>, want: (&str, u32, &str), rest: &str) {
+fn check_argument(
+    rt: &impl Abort,
+    arguments: &mut Arguments<'_>,
+    want: (&str, u32, &str),
+    rest: &str,
+) {
     let none = Argument {
         text: b"no argument".as_slice(),
         column: 0,
@@ -87,7 +99,10 @@ fn check_arguments(rt: &impl Abort, rest: &'static str, want: &[(&str, u32, &str
         check_argument(rt, &mut arguments, *each, rest);
     }
     assert!(rt; arguments.next_argument().is_none(), "more in {rest}");
-    assert!(rt; has_arguments(rest.as_bytes()) == !want.is_empty(), "in {rest}");
+    assert!(rt;
+        has_arguments(rest.as_bytes()) == !want.is_empty(),
+        "in {rest}"
+    );
 }
 
 #[test]

@@ -130,7 +130,7 @@ decode_line-is_line e text h =
     }
 
 -- a text of printable bytes
-singles_fine : (text : List ℕ) → list_all is_printable text ≡ true → IsUtf8 text × ((before : ℕ) → before ≢ 194 → has_no_control before text ≡ true)
+pub singles_fine : (text : List ℕ) → list_all is_printable text ≡ true → IsUtf8 text × ((before : ℕ) → before ≢ 194 → has_no_control before text ≡ true)
 singles_fine [] h = (IsUtf8-nil, λ before n. refl)
 singles_fine (b ∷ bs) h =
     let both = split_true (is_printable b) (list_all is_printable bs) h in

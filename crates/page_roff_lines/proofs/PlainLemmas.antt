@@ -59,8 +59,8 @@ unfolding characters_within bad_notes
 bad_notes-run number room [] rest h most = let none : room - 0 ≡ room = omega arith in rw none refl
 bad_notes-run number room (b ∷ bs) rest h most =
     let next : line_limit - room + 1 + 1 ≡ line_limit - (room - 1) + 1 = omega arith in
-    let open_after : room - 1 - length bs ≡ room - suc (length bs) = omega arith in
-    rw (one_fits room (omega arith), next) (bad_notes-run number (room - 1) bs rest (omega arith) (omega arith) ∙ rw open_after refl)
+    let same : room - 1 - length bs ≡ room - suc (length bs) = omega arith in
+    rw (one_fits room (omega arith), next) (bad_notes-run number (room - 1) bs rest (omega arith) (omega arith) ∙ rw same refl)
 
 -- a run of printable bytes at a place of a text, as a program writes it, was put after what is done
 pub so_far-text : (e : Encoding) (text out next : List ℕ) (i n : ℕ) → n ≤ line_limit - length out

@@ -5,7 +5,8 @@ use Rattle.page_core_base.specs.declared.page_settings.Encoding.TheVariants.{Utf
 use Rattle.page_roff_lines.specs.Open.{Open, first_open, next_open, end_open, is_marked, kept_of}
 use Rattle.page_roff_lines.specs.Decoding.{Line, decode_line, or_else, choice_of}
 
--- what is known of a page at a point between two of its bytes: its open line, and its encoding where that is decided
+-- what is known of a page at a point between two of its bytes: its open line,
+-- and its encoding where that is decided
 pub record Point : Type 0 where
   pub line : Open
   pub encoding : Encoding
@@ -52,7 +53,8 @@ last_line p = line_at (end_point p)
 abbrev pub lines_from : Point → List ℕ → List Line
 lines_from p bytes = lines_within p bytes ++ last_line (point_after p bytes)
 
--- what is known of a cutter: the point in its page, whether a line waits to be asked for, and the text of the line that was given last
+-- what is known of a cutter: the point in its page, whether a line waits to be asked for,
+-- and the text of the line that was given last
 pub record Cutting : Type 0 where
   pub point : Point
   pub ready : Bool

@@ -5,11 +5,14 @@ use Rattle.page_core_base.specs.declared.page_settings.Encoding.{Encoding}
 use Rattle.page_core_base.specs.declared.page_settings.Encoding.TheVariants.{Auto, Ascii, Latin1, Utf8}
 use Rattle.page_core_base.specs.declared.note_kinds.NoteKind.TheVariants.{BadChar, Limit}
 use Rattle.page_core_base.specs.Messages.{Message}
+use Rattle.page_core_limits.specs.Limits.{name_of}
+use Rattle.page_core_limits.specs.declared.Limit.TheVariants.{Line as LineLimit}
 use Rattle.page_roff_lines.specs.Limit.{line_limit}
 use Rattle.page_roff_lines.specs.Logical.{Kept, kept_lines, has_mark}
 use Rattle.page_roff_lines.specs.Characters.{Character, good, bad, sequence_length, characters, bytes_of, all_bytes}
 
--- a line as it is given: its text in UTF-8, the number of its first physical line, and the messages of its cutting
+-- a line as it is given: its text in UTF-8, the number of its first physical line,
+-- and the messages of its cutting
 pub record Line : Type 0 where
   pub number : ℕ
   pub text : List ℕ
@@ -18,12 +21,22 @@ pub record Line : Type 0 where
 -- the first characters that fit into this many bytes
 unfoldable pub characters_within : ℕ → List Character → List Character
 characters_within room [] = []
-characters_within room (c ∷ cs) = if nat_le (length (bytes_of c)) room then c ∷ characters_within (room - length (bytes_of c)) cs else []
+characters_within room (c ∷ cs) =
+    if nat_le (length (bytes_of c)) room then c ∷ characters_within (room - length (bytes_of c)) cs else []
+
+-- the characters of a text that a line has room for
+abbrev pub line_characters : Encoding → List ℕ → List Character
+line_characters e text = characters_within line_limit (characters e text)
 
 -- the message about a byte that is no character
 abbrev pub bad_character : ℕ → ℕ → ℕ → Message
 bad_character number column b =
-    record { kind = BadChar; line = number; column = column; detail = codes "0x" ++ digit_char (b / 16) ∷ digit_char (b % 16) ∷ [] }
+    record {
+      kind = BadChar;
+      line = number;
+      column = column;
+      detail = codes "0x" ++ digit_char (b / 16) ∷ digit_char (b % 16) ∷ [];
+    }
 
 -- those about a character that stands at this column
 abbrev pub notes_of : ℕ → ℕ → Character → List Message
@@ -33,18 +46,19 @@ notes_of number column (bad b) = bad_character number column b ∷ []
 -- those about a list of characters, of which the first stands at this column
 unfoldable pub bad_notes : ℕ → ℕ → List Character → List Message
 bad_notes number column [] = []
-bad_notes number column (c ∷ cs) = notes_of number column c ++ bad_notes number (column + length (bytes_of c)) cs
+bad_notes number column (c ∷ cs) =
+    notes_of number column c ++ bad_notes number (column + length (bytes_of c)) cs
 
 -- the message about a line that has more than its limit
 abbrev pub limit_note : ℕ → Message
-limit_note number = record { kind = Limit; line = number; column = 1; detail = codes "LINE" }
+limit_note number = record { kind = Limit; line = number; column = 1; detail = name_of LineLimit }
 
 abbrev pub limit_notes : Bool → ℕ → List Message
 limit_notes cut number = if cut then limit_note number ∷ [] else []
 
 -- the characters of a line that stay
 abbrev pub kept_characters : Encoding → Kept → List Character
-kept_characters e k = characters_within line_limit (characters e k.text)
+kept_characters e k = line_characters e k.text
 
 -- more came than stays, of the line's bytes or of its characters
 abbrev pub passes_limit : Encoding → Kept → Bool
@@ -60,7 +74,8 @@ decode_line e k = record {
 -- what the first byte above 0x7F of a text decides; none decides nothing
 unfoldable pub choice_of : List ℕ → Encoding
 choice_of [] = Auto
-choice_of (b ∷ bs) = if nat_lt b 128 then choice_of bs else (if sequence_length (b ∷ bs) == 0 then Latin1 else Utf8)
+choice_of (b ∷ bs) =
+    if nat_lt b 128 then choice_of bs else (if sequence_length (b ∷ bs) == 0 then Latin1 else Utf8)
 
 -- the encoding that is known, or else this one
 abbrev pub or_else : Encoding → Encoding → Encoding
@@ -74,7 +89,8 @@ abbrev pub choice_of_lines : List Kept → Encoding
 choice_of_lines [] = Auto
 choice_of_lines (k ∷ ks) = or_else (choice_of k.text) (choice_of_lines ks)
 
--- the encoding of a page: the one that is set, or that of its byte order mark, or what its first byte above 0x7F decides
+-- the encoding of a page: the one that is set, or that of its byte order mark,
+-- or what its first byte above 0x7F decides
 abbrev pub page_encoding : Encoding → Bool → List Kept → Encoding
 page_encoding set marked ks = or_else set (if marked then Utf8 else choice_of_lines ks)
 

@@ -1,4 +1,4 @@
--- The first bytes of a text that grows and shrinks at its end.
+-- Of the machine of `Open`: the first bytes of a text that grows and shrinks at its end.
 use Rattle.std.specs.Prelude.{ℕ, ◌+◌, ◌-◌, List, [], ◌++◌, length, take}
 use Rattle.page_roff_lines.specs.Limit.{line_limit}
 

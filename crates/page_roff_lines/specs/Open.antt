@@ -1,4 +1,5 @@
--- The open logical line of a page: what is known of it after some of the page's bytes, and what the next byte does to it.
+-- A machine: the open logical line of a page, as it is known after some of the page's bytes, and what the next byte
+-- does to it. That it gives the logical lines of the page is the law `one_by_one_law`.
 use Rattle.std.specs.Prelude.{ℕ, ◌+◌, Bool, true, false, nat_lt, ◌==◌, List, [], ◌∷◌, ◌++◌, if◌then◌else◌}
 use Rattle.page_roff_lines.specs.Limit.{line_limit}
 use Rattle.page_roff_lines.specs.declared.Mode.{Mode}
@@ -45,7 +46,8 @@ restart o = if o.whole then record o { text = nothing_held; whole = false; numbe
 
 -- a byte more, and how the next one is read
 unfoldable pub put : Open → ℕ → Mode → Open
-put o b m = record o { text = extend o.text (b ∷ []); mode = m; after_return = b == carriage_return; begun = true }
+put o b m =
+    record o { text = extend o.text (b ∷ []); mode = m; after_return = b == carriage_return; begun = true }
 
 -- a byte that no backslash stands before
 unfoldable pub put_plain : Open → ℕ → Open

@@ -1,4 +1,5 @@
--- How a physical line is read (roff(7), "Comments" and "Escape sequences"): a backslash and its next byte are a pair.
+-- How a physical line is read: a backslash and its next byte are a pair.
+-- Source: roff(7), "Comments" and "Escape sequences".
 use Rattle.std.specs.Prelude.{ℕ, Bool, true, false, List, [], ◌∷◌, ◌==◌, if◌then◌else◌}
 use Rattle.page_roff_lines.specs.Bytes.{backslash, quote, hash}
 
@@ -11,8 +12,8 @@ pub record Physical : Type 0 where
 abbrev pub after_byte : ℕ → Physical → Physical
 after_byte b r = record { text = b ∷ r.text; joins = r.joins }
 
--- a backslash with nothing after it joins, and is dropped; the pair `\"` ends the reading; the pair `\#` and what
--- follows it are dropped, and the next physical line is joined
+-- a backslash with nothing after it joins, and is dropped; the pair `\"` ends the reading;
+-- the pair `\#` and what follows it are dropped, and the next physical line is joined
 unfoldable mutual
   pub read : List ℕ → Physical
   read [] = record { text = []; joins = false }
@@ -23,4 +24,5 @@ unfoldable mutual
   read_pair [] = record { text = []; joins = true }
   read_pair (c ∷ bs) =
       if c == quote then record { text = backslash ∷ c ∷ bs; joins = false }
-      else (if c == hash then record { text = []; joins = true } else after_byte backslash (after_byte c (read bs)))
+      else (if c == hash then record { text = []; joins = true }
+      else after_byte backslash (after_byte c (read bs)))

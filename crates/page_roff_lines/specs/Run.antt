@@ -1,4 +1,4 @@
--- A run of bytes that are read alike.
+-- A fast way of the code, which no public clause cites: a run of bytes that are read alike.
 use Rattle.std.specs.Prelude.{◌≡◌, ℕ, ◌+◌, ◌-◌, ◌<◌, Bool, true, false, ◌==◌, List, length, slice_index}
 use Rattle.memchr.specs.Find.{is_byte, is_byte2}
 use Rattle.page_roff_lines.specs.declared.Mode.{Mode}
@@ -29,10 +29,17 @@ pub record IsRun (o : Open) (run : List ℕ) : Type 0 where
   pub settled : is_settled o.mark ≡ true
   pub bytes : (k : ℕ) → k < length run → ends_run o.mode (slice_index run k) ≡ false
 
--- the line with a run more
+-- the line with a run more at its end
+abbrev pub put_run : Open → List ℕ → Open
+put_run o run = record o {
+  text = extend o.text run;
+  after_return = slice_index run (length run - 1) == carriage_return;
+  begun = true;
+}
+
 unfoldable pub run_in : Mode → Open → List ℕ → Open
-run_in Plain o run = record o { text = extend o.text run; after_return = slice_index run (length run - 1) == carriage_return; begun = true }
-run_in Comment o run = record o { text = extend o.text run; after_return = slice_index run (length run - 1) == carriage_return; begun = true }
+run_in Plain o run = put_run o run
+run_in Comment o run = put_run o run
 run_in Backslash o run = o
 run_in Dropped o run = o
 

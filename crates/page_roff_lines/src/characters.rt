@@ -46,8 +46,8 @@ fn is_second(first: u8, byte: u8) -> bool
     }
 }
 
-/// How many bytes the well-formed UTF-8 sequence of a character of U+00A0 or above takes that stands at the front of `text`; 0 where
-/// none does.
+/// How many bytes the well-formed UTF-8 sequence of a character of U+00A0 or above takes that stands at the front of
+/// `text`; 0 where none does.
 #[tactic(auto, unfolding(crate::specs::Characters::sequence_length))]
 pub fn sequence_len(text: &[u8]) -> usize
     ensures value { result ≡ sequence_length text.now }
@@ -66,7 +66,7 @@ pub fn sequence_len(text: &[u8]) -> usize
     }
 }
 
-// Whether a byte is a character of a line by itself.
+/// Whether a byte is a character of a line by itself.
 pub fn is_printable(byte: u8) -> bool
     ensures { result ≡ is_printable byte }
 {
@@ -75,6 +75,7 @@ pub fn is_printable(byte: u8) -> bool
 
 impl Front {
     /// The character at the front of `text`.
+    #[inline(always)]
     #[tactic(auto, unfolding(crate::specs::Characters::character, crate::specs::Characters::high_character, crate::specs::Characters::later_length, crate::specs::Characters::high_later_length))]
     pub fn of(text: &[u8], encoding: Encoding) -> Front
         requires { 0 < length text.now }

@@ -7,7 +7,8 @@ ghost use Rattle.page_roff_lines.specs.Decoding.{choice_of};
 use crate::characters::{is_printable, sequence_len};
 use page_core_base::Encoding;
 
-/// Whether each byte of a text is a printable one of ASCII or a tab, so that it's the same under each encoding.
+/// Whether each byte of a text is a printable one of ASCII or a tab, so that it's the same under each
+/// encoding.
 pub fn is_printable_ascii(text: &[u8]) -> bool
     ensures { result ≡ list_all is_printable text.now }
 {

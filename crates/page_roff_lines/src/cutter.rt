@@ -18,8 +18,8 @@ use page_core_limits::LINE;
 use std::alloc::Global;
 use std::marker::Model;
 
-/// Cuts the bytes of a page, in whatever chunks they come, into logical lines (roff(7), "Comments" and "Escape sequences"), and decodes
-/// them (mandoc(1), -K).
+/// Cuts the bytes of a page, in whatever chunks they come, into logical lines (roff(7), "Comments" and "Escape
+/// sequences"), and decodes them (mandoc(1), -K).
 #[derive(Drop)]
 pub struct Cutter {
     line: OpenLine,
@@ -36,7 +36,10 @@ impl Model for Cutter {
     ghost Value = { Cutting };
 
     ghost view = { λ c. record {
-      point = record { line = c.line; encoding = if c.ready then encoding_after c.encoding c.line else c.encoding };
+      point = record {
+        line = c.line;
+        encoding = if c.ready then encoding_after c.encoding c.line else c.encoding;
+      };
       ready = c.ready;
       text = if c.printable then c.line.text.bytes else c.decoded;
     } };
@@ -46,7 +49,8 @@ impl Cutter {
     ghost use Rattle.page_roff_lines.specs.Cutting.{first_point, point_after, lines_within, line_of, end_point, line_at};
     ghost use Rattle.page_roff_lines.specs.contracts.cutter.Cutter.{the_row};
 
-    /// Before the first byte of a page, with all the memory that it will ever hold. Its fault is [`Fault::Memory`].
+    /// A cutter before the first byte of a page, with all the memory that it will ever hold. Its fault is
+    /// [`Fault::Memory`].
     pub fn new(alloc: Global, encoding: Encoding) -> Result<Cutter, Fault>
         ensures value { IfOk result (λ c. (c.point ≡ first_point encoding) × (c.ready ≡ false)) }
         ensures fault { OnErr result (result ≡ Err Fault.Memory) }
@@ -66,15 +70,16 @@ impl Cutter {
         })
     }
 
-    /// Takes a chunk of the page: up to and with the line feed that ends a logical line, or all of it. How many bytes it consumed, and
-    /// whether a line is whole, which is asked for by [`Cutter::line`] before more comes.
+    /// Reads a chunk of the page: up to and with the line feed that ends a logical line, or all of it. How many bytes
+    /// it consumed, and whether a line is whole, which is asked for by [`Cutter::line`] before more comes.
     pub fn feed(&mut self, chunk: &[u8]) -> (usize, bool)
         requires free { self.old.ready ≡ false }
         requires consumed { self.old.point.line.consumed + length chunk.now < 2 ^ 31 }
         ensures within { result.0 ≤ length chunk.now }
         ensures all { result.1 ≡ false → result.0 ≡ length chunk.now }
         ensures point { self.new.point ≡ point_after self.old.point (take result.0 chunk.now) }
-        ensures lines { lines_within self.old.point (take result.0 chunk.now) ≡ (if result.1 then line_of self.new.point ∷ [] else []) }
+        ensures lines { lines_within self.old.point (take result.0 chunk.now)
+            ≡ (if result.1 then line_of self.new.point ∷ [] else []) }
         ensures before { result.1 ≡ true → lines_within self.old.point (take (result.0 - 1) chunk.now) ≡ [] }
         ensures ready { self.new.ready ≡ result.1 }
         ensures consumed { self.new.point.line.consumed ≡ self.old.point.line.consumed + result.0 }
@@ -95,7 +100,7 @@ impl Cutter {
         self.ready
     }
 
-    // The encoding with the line that is whole, where it is printable or not.
+    // The encoding with the line that is whole, which may be known to be printable.
     #[tactic(auto, unfolding(crate::specs::Cutting::encoding_after))]
     fn line_encoding(&self, printable: bool) -> Encoding
         requires waits { self.now.ready ≡ true }
@@ -153,17 +158,20 @@ impl Cutter {
         (text, self.line.number())
     }
 
-    /// The line that is whole: its text, decoded, and the number of its first physical line. What is to be said of its cutting is
-    /// reported first. Its fault is [`Fault::WriteNotes`].
+    /// The line that is whole: its text, decoded, and the number of its first physical line. What is to be said of
+    /// its cutting is reported first. Its fault is [`Fault::WriteNotes`].
     pub fn line<N: NoteSink>(&mut self, notes: &mut N) -> Result<(&[u8], u32), Fault>
         requires { self.old.ready ≡ true }
         ensures text { IfOk result (λ r. r.0.now ≡ (line_of self.old.point).text) }
         ensures number { IfOk result (λ r. r.1 ≡ (line_of self.old.point).number) }
         ensures line { IfOk result (λ r. IsLine r.0.now) }
-        ensures gives { MatchResult result (λ _. N.gave notes.old (line_of self.old.point).notes notes.new) (λ _. N.within notes.old (line_of self.old.point).notes notes.new) }
-        ensures fault { MatchResult result (λ _. N.failed notes.new ≡ N.failed notes.old) (λ e. (e ≡ Fault.WriteNotes) × Rose (N.failed notes.old) (N.failed notes.new)) }
+        ensures gives { MatchResult result (λ _. N.gave notes.old (line_of self.old.point).notes notes.new)
+            (λ _. N.within notes.old (line_of self.old.point).notes notes.new) }
+        ensures fault { MatchResult result (λ _. N.failed notes.new ≡ N.failed notes.old)
+            (λ e. (e ≡ Fault.WriteNotes) × Rose (N.failed notes.old) (N.failed notes.new)) }
         ensures same { N.loans notes.new ≡ N.loans notes.old }
-        ensures* after { sem 𝓛 (follows_so the_row the_row self.entry.ghost_name none (λ _ _. ⊤) (λ v. (v.point ≡ self.old.point) × (v.ready ≡ false))) }
+        ensures* after { sem 𝓛 (follows_so the_row the_row self.entry.ghost_name none (λ _ _. ⊤)
+            (λ v. (v.point ≡ self.old.point) × (v.ready ≡ false))) }
     {
         self.prepare(notes)?;
         Ok(self.text_and_number())
@@ -175,15 +183,19 @@ pub fn one_by_one_law()
     ensures { (set : AnyEncoding) (bytes : List ℕ) → lines set bytes ≡ lines_from (first_point set) bytes }
 {}
 
-/// A page cut anywhere gives the same lines: those within the part above the cut, and those that come from the point there on.
+/// A page cut anywhere gives the same lines: those within the part above the cut, and those that come from the point
+/// there on.
 pub fn cut_law()
     ensures lines { (set : AnyEncoding) (above below : List ℕ) → lines set (above ++ below)
         ≡ lines_within (first_point set) above ++ lines_from (point_after (first_point set) above) below }
-    ensures within { (p : Point) (above below : List ℕ) → lines_within p (above ++ below) ≡ lines_within p above ++ lines_within (point_after p above) below }
-    ensures point { (p : Point) (above below : List ℕ) → point_after p (above ++ below) ≡ point_after (point_after p above) below }
+    ensures within { (p : Point) (above below : List ℕ) → lines_within p (above ++ below)
+        ≡ lines_within p above ++ lines_within (point_after p above) below }
+    ensures point { (p : Point) (above below : List ℕ) → point_after p (above ++ below)
+        ≡ point_after (point_after p above) below }
 {}
 
 /// A line that is open keeps no more than [`LINE`] bytes.
 pub fn held_law()
-    ensures { (set : AnyEncoding) (bytes : List ℕ) → length (point_after (first_point set) bytes).line.text.bytes ≤ LINE }
+    ensures { (set : AnyEncoding) (bytes : List ℕ)
+        → length (point_after (first_point set) bytes).line.text.bytes ≤ LINE }
 {}

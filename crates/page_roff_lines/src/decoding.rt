@@ -1,11 +1,11 @@
 //! The decoded text of a line (mandoc(1), -K).
-ghost use Rattle.std.specs.Prelude.{◌≡◌, ◌-◌, ◌+◌, ◌<◌, ◌≤◌, ◌++◌, [], length, take, true, nat_le, nat_lt, IfOk, if◌then◌else◌};
+ghost use Rattle.std.specs.Prelude.{◌≡◌, ◌-◌, ◌+◌, ◌<◌, ◌≤◌, ◌++◌, ◌∷◌, [], length, take, true, nat_le, nat_lt, IfOk, if◌then◌else◌};
 ghost use Rattle.std.specs.List.{list_all};
 ghost use Rattle.page_core_base.specs.Texts.{IsLine};
 ghost use Rattle.page_roff_lines.specs.Limit.{line_limit};
 ghost use Rattle.page_roff_lines.specs.Characters.{characters, bytes_of, all_bytes, is_printable};
 ghost use Rattle.page_roff_lines.specs.Fronts.{as_character, width_of};
-ghost use Rattle.page_roff_lines.specs.Decoding.{characters_within};
+ghost use Rattle.page_roff_lines.specs.Decoding.{line_characters};
 
 use crate::characters::Front;
 use crate::scanning::text_within;
@@ -40,21 +40,21 @@ impl DecodedText {
         Ok(DecodedText { bytes })
     }
 
-    /// Its bytes.
     pub fn bytes(&self) -> &[u8]
         ensures { result.now ≡ self.now }
     {
         self.bytes.as_slice()
     }
 
-    // An empty text.
+    // Takes all bytes away.
     fn clear(&mut self)
         ensures { self.new ≡ [] }
     {
         self.bytes.clear();
     }
 
-    // Some bytes at the end, where they fit; whether they do.
+    // Appends bytes, where they fit; whether they do.
+    #[inline(always)]
     #[tactic(auto, using(crate::specs::Limit::line_limit_is))]
     fn put(&mut self, bytes: &[u8]) -> bool
         ensures fits { result ≡ nat_le (length bytes.now) (line_limit - length self.old) }
@@ -67,7 +67,21 @@ impl DecodedText {
         true
     }
 
-    // The text at the front of some bytes at the end, as far as it fits; how many bytes that are.
+    // Appends a byte, where it fits; whether it does.
+    #[inline(always)]
+    #[tactic(auto, using(crate::specs::Limit::line_limit_is))]
+    fn put_byte(&mut self, byte: u8) -> bool
+        ensures fits { result ≡ nat_le 1 (line_limit - length self.old) }
+        ensures after { self.new ≡ (if result then self.old ++ byte ∷ [] else self.old) }
+    {
+        if self.bytes.len() >= LINE {
+            return false;
+        }
+        self.bytes.push_reserved(byte);
+        true
+    }
+
+    // Appends the text at the front of some bytes, as far as it fits; how many bytes that are.
     #[tactic(auto, using(crate::specs::Limit::line_limit_is))]
     fn put_text(&mut self, bytes: &[u8]) -> usize
         ensures within { result ≤ length bytes.now }
@@ -76,27 +90,34 @@ impl DecodedText {
         ensures after { self.new ≡ self.old ++ take result bytes.now }
     {
         let len = text_within(bytes, LINE - self.bytes.len());
-        let _ = self.bytes.extend_from_slice(&bytes[..len]);
+        if len > 0 {
+            let _ = self.bytes.extend_from_slice(&bytes[..len]);
+        }
         len
     }
 
-    // The character at the front of `text` at the end, where it fits; whether it does.
+    // Appends the character at the front of `text`, where it fits; whether it does.
+    #[inline(always)]
     fn put_front(&mut self, front: Front, text: &[u8]) -> bool
         requires { width_of front ≤ length text.now }
-        ensures fits { result ≡ nat_le (length (bytes_of (as_character front text.now))) (line_limit - length self.old) }
-        ensures after { self.new ≡ (if result then self.old ++ bytes_of (as_character front text.now) else self.old) }
+        ensures fits { result
+            ≡ nat_le (length (bytes_of (as_character front text.now))) (line_limit - length self.old) }
+        ensures after { self.new
+            ≡ (if result then self.old ++ bytes_of (as_character front text.now) else self.old) }
     {
         match front {
             Front::Same(len) => self.put(&text[..len]),
             Front::Latin1(byte) => self.put(&[192 + byte / 64, 128 + byte % 64]),
-            Front::Bad(_) => self.put(b"?"),
+            Front::Bad(_) => self.put_byte(b'?'),
         }
     }
 
     /// Decodes a text, as far as it fits; whether less than all of it does.
+    #[inline(never)]
     pub fn decode(&mut self, text: &[u8], encoding: Encoding) -> bool
-        ensures after { self.new ≡ all_bytes (characters_within line_limit (characters encoding text.now)) }
-        ensures passed { result ≡ nat_lt (length (characters_within line_limit (characters encoding text.now))) (length (characters encoding text.now)) }
+        ensures after { self.new ≡ all_bytes (line_characters encoding text.now) }
+        ensures passed { result
+            ≡ nat_lt (length (line_characters encoding text.now)) (length (characters encoding text.now)) }
         ensures line { IsLine self.new }
     {
         self.clear();

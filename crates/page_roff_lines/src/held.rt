@@ -30,7 +30,8 @@ impl Model for HeldText {
 
     ghost view = { λ h. record { bytes = h.bytes.items; total = h.total } };
 
-    ghost invariant = { λ h. (vec_len h.bytes ≤ LINE) × (LINE ≤ vec_capacity h.bytes) × (h.printable ≡ true → list_all is_printable h.bytes.items ≡ true) };
+    ghost invariant = { λ h. (vec_len h.bytes ≤ LINE) × (LINE ≤ vec_capacity h.bytes)
+        × (h.printable ≡ true → list_all is_printable h.bytes.items ≡ true) };
 }
 
 impl HeldText {
@@ -61,7 +62,7 @@ impl HeldText {
         self.total
     }
 
-    /// A byte more at the end.
+    /// Appends a byte.
     #[tactic(auto, unfolding(crate::specs::Held::extend))]
     pub fn push(&mut self, byte: u8)
         requires { self.old.total < 2 ^ 31 }
@@ -74,7 +75,7 @@ impl HeldText {
         self.total += 1;
     }
 
-    /// More bytes at the end, which may be known to be printable.
+    /// Appends bytes, which may be known to be printable.
     #[inline(always)]
     #[tactic(auto, unfolding(crate::specs::Held::extend))]
     pub fn extend(&mut self, more: &[u8], printable: bool)
@@ -97,7 +98,7 @@ impl HeldText {
         self.printable || is_printable_ascii(self.bytes())
     }
 
-    /// Without the last byte.
+    /// Takes the last byte away.
     #[tactic(auto, unfolding(crate::specs::Held::shorten))]
     pub fn shorten(&mut self)
         ensures { self.new ≡ shorten self.old }
@@ -106,7 +107,7 @@ impl HeldText {
         self.bytes.truncate(self.total as usize);
     }
 
-    /// An empty text.
+    /// Takes all bytes away.
     pub fn clear(&mut self)
         ensures { self.new ≡ nothing_held }
     {

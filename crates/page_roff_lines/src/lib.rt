@@ -9,8 +9,6 @@ mod held;
 mod open;
 mod reporting;
 mod scanning;
-#[cfg(test)]
-mod tests;
 
 pub use cutter::Cutter;
 pub use held::HeldText;

@@ -55,7 +55,8 @@ impl Model for OpenLine {
       mark = o.mark;
     } };
 
-    ghost invariant = { λ o. (o.consumed < 2 ^ 31) × (o.physical ≤ o.consumed + 1) × (o.text.total ≤ o.consumed) × (o.number ≤ o.physical) };
+    ghost invariant = { λ o. (o.consumed < 2 ^ 31) × (o.physical ≤ o.consumed + 1)
+        × (o.text.total ≤ o.consumed) × (o.number ≤ o.physical) };
 }
 
 impl Mark {
@@ -130,7 +131,7 @@ impl OpenLine {
         })
     }
 
-    // The line after a whole one.
+    // Begins the line after a whole one.
     #[tactic(auto, unfolding(crate::specs::Open::restart))]
     fn restart(&mut self)
         ensures restart { self.new ≡ restart self.old }
@@ -143,7 +144,7 @@ impl OpenLine {
         }
     }
 
-    // A byte more, and how the next one is read.
+    // Appends a byte, and says how the next one is read.
     #[tactic(auto, unfolding(crate::specs::Open::put, crate::specs::Held::extend))]
     fn put(&mut self, byte: u8, mode: Mode)
         requires { self.old.text.total < self.old.consumed }
@@ -155,7 +156,7 @@ impl OpenLine {
         self.begun = true;
     }
 
-    // A byte that no backslash stands before.
+    // Appends a byte that no backslash stands before.
     #[tactic(auto, unfolding(crate::specs::Open::put_plain))]
     fn put_plain(&mut self, byte: u8)
         requires { self.old.text.total < self.old.consumed }
@@ -168,7 +169,7 @@ impl OpenLine {
         }
     }
 
-    // The byte after a backslash.
+    // Reads the byte after a backslash: a hash drops both and what follows.
     #[tactic(auto, unfolding(crate::specs::Open::put_pair, crate::specs::Held::shorten))]
     fn put_pair(&mut self, byte: u8)
         requires { self.old.text.total < self.old.consumed }
@@ -182,7 +183,7 @@ impl OpenLine {
         }
     }
 
-    // A byte that is no line feed.
+    // Reads a byte that is no line feed.
     #[tactic(auto, unfolding(crate::specs::Open::put_in))]
     fn put_in(&mut self, byte: u8)
         requires { self.old.text.total < self.old.consumed }
@@ -202,7 +203,7 @@ impl OpenLine {
         }
     }
 
-    // The line is whole.
+    // Makes the line whole.
     #[tactic(auto, unfolding(crate::specs::Open::close))]
     fn close(&mut self)
         ensures { self.new ≡ close self.old }
@@ -213,7 +214,7 @@ impl OpenLine {
         self.whole = true;
     }
 
-    // A carriage return before the line feed is taken away.
+    // Takes away a carriage return right before the line feed.
     #[tactic(auto, unfolding(crate::specs::Open::without_return, crate::specs::Held::shorten))]
     fn drop_return(&mut self)
         ensures { self.new ≡ without_return self.old }
@@ -224,7 +225,7 @@ impl OpenLine {
         }
     }
 
-    // The end of a physical line.
+    // Ends the physical line: the logical one with it, or it waits for what is joined.
     #[tactic(auto, unfolding(crate::specs::Open::newline_in, crate::specs::Held::shorten))]
     fn end_physical(&mut self)
         ensures { self.new ≡ newline_in self.old.mode self.old }
@@ -239,7 +240,7 @@ impl OpenLine {
         }
     }
 
-    // The next physical line.
+    // Counts the next physical line.
     fn begin_physical(&mut self)
         requires { self.old.physical ≤ self.old.consumed }
         ensures { self.new ≡ record self.old { physical = self.old.physical + 1 } }
@@ -247,7 +248,7 @@ impl OpenLine {
         self.physical += 1;
     }
 
-    // A line feed.
+    // Reads a line feed.
     #[tactic(auto, unfolding(crate::specs::Open::put_newline, crate::specs::Open::without_return, crate::specs::Open::newline_in, crate::specs::Open::close))]
     fn put_newline(&mut self)
         requires { self.old.physical ≤ self.old.consumed }
@@ -258,7 +259,7 @@ impl OpenLine {
         self.begin_physical();
     }
 
-    // One byte more of the page.
+    // Counts a byte of the page, which may belong to its byte order mark.
     #[tactic(auto, unfolding(crate::specs::Open::count_byte))]
     fn count(&mut self, byte: u8)
         requires { self.old.consumed + 1 < 2 ^ 31 }
@@ -280,7 +281,7 @@ impl OpenLine {
             && matches!(self.mode, Mode::Plain)
     }
 
-    // A line feed after text.
+    // Reads a line feed after text.
     #[tactic(auto, unfolding(crate::specs::Open::close))]
     fn end_text(&mut self)
         requires text { InText self.old }
@@ -293,7 +294,7 @@ impl OpenLine {
         self.begin_physical();
     }
 
-    // One byte more; whether the line is whole with it.
+    // Reads a byte; whether the line is whole with it.
     #[tactic(auto, unfolding(crate::specs::Open::next_open, crate::specs::Open::put_byte, crate::specs::Open::count_byte, crate::specs::Open::restart))]
     fn take_byte(&mut self, byte: u8) -> bool
         requires { self.old.consumed + 1 < 2 ^ 31 }
@@ -336,7 +337,7 @@ impl OpenLine {
         }
     }
 
-    // Bytes that are read alike, which may be known to be printable.
+    // Appends bytes that are read alike, which may be known to be printable.
     #[tactic(auto, unfolding(crate::specs::Run::run_in, crate::specs::Held::extend))]
     fn put_run(&mut self, run: &[u8], printable: bool)
         requires consumed { self.old.consumed + length run.now < 2 ^ 31 }
@@ -355,7 +356,7 @@ impl OpenLine {
         }
     }
 
-    // The bytes at the front of a chunk that are read alike; how many they are.
+    // Reads the bytes at the front of a chunk that are read alike; how many they are.
     fn take_run(&mut self, chunk: &[u8]) -> usize
         requires { self.old.consumed + length chunk.now < 2 ^ 31 }
         ensures within { result ≤ length chunk.now }
@@ -370,14 +371,15 @@ impl OpenLine {
         len
     }
 
-    /// Takes a chunk of the page up to the line feed that ends the logical line, or all of it; how many bytes it consumed, and whether
-    /// the line is whole.
+    /// Reads a chunk of the page up to the line feed that ends the logical line, or all of it; how many bytes it
+    /// consumed, and whether the line is whole.
     pub fn read(&mut self, chunk: &[u8]) -> (usize, bool)
         requires { self.old.consumed + length chunk.now < 2 ^ 31 }
         ensures within { result.0 ≤ length chunk.now }
         ensures all { result.1 ≡ false → result.0 ≡ length chunk.now }
         ensures after { self.new ≡ open_after self.old (take result.0 chunk.now) }
-        ensures lines { whole_lines self.old (take result.0 chunk.now) ≡ (if result.1 then kept_of self.new ∷ [] else []) }
+        ensures lines { whole_lines self.old (take result.0 chunk.now)
+            ≡ (if result.1 then kept_of self.new ∷ [] else []) }
         ensures before { result.1 ≡ true → whole_lines self.old (take (result.0 - 1) chunk.now) ≡ [] }
         ensures whole { result.1 ≡ true → self.new.whole ≡ true }
         ensures consumed { self.new.consumed ≡ self.old.consumed + result.0 }
@@ -422,7 +424,8 @@ impl OpenLine {
         self.text.bytes()
     }
 
-    /// Whether each byte that is kept is a printable one of ASCII or a tab, so that it's the same under each encoding.
+    /// Whether each byte that is kept is a printable one of ASCII or a tab, so that it's the same under each
+    /// encoding.
     pub fn is_printable(&self) -> bool
         ensures value { result ≡ list_all is_printable self.now.text.bytes }
         ensures bound { length self.now.text.bytes ≤ LINE }

@@ -1,29 +1,26 @@
 //! The messages about a line that is cut (mandoc(1), "DIAGNOSTICS").
-ghost use Rattle.std.specs.Prelude.{◌≡◌, ℕ, ◌+◌, ◌<◌, ◌≤◌, ◌^◌, List, ◌∷◌, [], ◌++◌, length, codes};
+ghost use Rattle.std.specs.Prelude.{◌≡◌, ℕ, ◌+◌, ◌<◌, List, ◌++◌};
 ghost use Rattle.std.specs.Char.{digit_char};
 ghost use Rattle.page_core_base.specs.Sinks.{Gives};
 ghost use Rattle.page_core_base.specs.Fails.{FailsAs};
 ghost use Rattle.page_core_base.specs.Messages.{message_of};
-ghost use Rattle.page_roff_lines.specs.Limit.{line_limit};
-ghost use Rattle.page_roff_lines.specs.Characters.{characters};
 ghost use Rattle.page_roff_lines.specs.Fronts.{as_character};
-ghost use Rattle.page_roff_lines.specs.Decoding.{bad_character as spec_bad_character, limit_note as spec_limit_note, notes_of, bad_notes, limit_notes, characters_within};
+ghost use Rattle.page_roff_lines.specs.Decoding.{bad_character as spec_bad_character, limit_note as spec_limit_note, notes_of, bad_notes, limit_notes, line_characters};
 
 use crate::characters::Front;
 use crate::scanning::text_within;
-use arrayvec::ArrayString;
-use page_core_base::{Encoding, Fault, Note, NoteKind, NoteSink};
-use page_core_limits::LINE;
+use page_core_base::{Encoding, Fault, Note, NoteKind, NoteSink, Place};
+use page_core_limits::{LINE, Limit};
 
 // A hexadecimal digit.
-fn hex_digit(value: u8) -> char
+fn hex_digit(value: u8) -> u8
     requires { value < 16 }
     ensures { result ≡ digit_char value }
 {
     if value < 10 {
-        char::from(b'0' + value)
+        b'0' + value
     } else {
-        char::from(b'a' + (value - 10))
+        b'a' + (value - 10)
     }
 }
 
@@ -31,30 +28,23 @@ fn hex_digit(value: u8) -> char
 fn bad_character(number: u32, column: u32, byte: u8) -> Note
     ensures { message_of result ≡ spec_bad_character number column byte }
 {
-    let mut detail = ArrayString::new();
-    detail.push_str("0x");
-    detail.push(hex_digit(byte / 16));
-    detail.push(hex_digit(byte % 16));
-    Note {
-        kind: NoteKind::BadChar,
+    let place = Place {
         line: number,
         column,
-        detail,
-    }
+    };
+    let detail = [b'0', b'x', hex_digit(byte / 16), hex_digit(byte % 16)];
+    Note::about(NoteKind::BadChar, place, &detail)
 }
 
 // The message about a line that has more than its limit.
 fn limit_note(number: u32) -> Note
     ensures { message_of result ≡ spec_limit_note number }
 {
-    let mut detail = ArrayString::new();
-    detail.push_str("LINE");
-    Note {
-        kind: NoteKind::Limit,
+    let place = Place {
         line: number,
         column: 1,
-        detail,
-    }
+    };
+    Note::about(NoteKind::Limit, place, Limit::Line.name().as_bytes())
 }
 
 // Reports a character where it is none.
@@ -64,7 +54,8 @@ fn report_front<N: NoteSink>(
     column: u32,
     notes: &mut N,
 ) -> Result<(), Fault>
-    ensures gives { (text : List ℕ) → Gives result N.gave N.within notes.old (notes_of number column (as_character front text)) notes.new }
+    ensures gives { (text : List ℕ) → Gives result N.gave N.within notes.old
+        (notes_of number column (as_character front text)) notes.new }
     ensures fault { FailsAs Fault.WriteNotes result (N.failed notes.old) (N.failed notes.new) }
     ensures same { N.loans notes.new ≡ N.loans notes.old }
 {
@@ -75,13 +66,15 @@ fn report_front<N: NoteSink>(
 }
 
 // Reports the bytes that are no characters, of what fits of a text.
+#[inline(never)]
 fn report_bad<N: NoteSink>(
     text: &[u8],
     encoding: Encoding,
     number: u32,
     notes: &mut N,
 ) -> Result<(), Fault>
-    ensures gives { Gives result N.gave N.within notes.old (bad_notes number 1 (characters_within line_limit (characters encoding text.now))) notes.new }
+    ensures gives { Gives result N.gave N.within notes.old
+        (bad_notes number 1 (line_characters encoding text.now)) notes.new }
     ensures fault { FailsAs Fault.WriteNotes result (N.failed notes.old) (N.failed notes.new) }
     ensures same { N.loans notes.new ≡ N.loans notes.old }
 {
@@ -121,8 +114,8 @@ pub fn report_limit<N: NoteSink>(passed: bool, number: u32, notes: &mut N) -> Re
     }
 }
 
-/// Reports what is to be said of a line's cutting: that less than all of it stays, and then each byte that is no character. Its fault
-/// is [`Fault::WriteNotes`].
+/// Reports what is to be said of a line's cutting: that less than all of it stays, and then each byte that is no
+/// character, where the sink takes such messages. Its fault is [`Fault::WriteNotes`].
 pub fn report<N: NoteSink>(
     text: &[u8],
     encoding: Encoding,
@@ -130,12 +123,16 @@ pub fn report<N: NoteSink>(
     passed: bool,
     notes: &mut N,
 ) -> Result<(), Fault>
-    ensures gives { Gives result N.gave N.within notes.old (limit_notes passed number ++ bad_notes number 1 (characters_within line_limit (characters encoding text.now))) notes.new }
+    ensures gives { Gives result N.gave N.within notes.old
+        (limit_notes passed number ++ bad_notes number 1 (line_characters encoding text.now)) notes.new }
     ensures fault { FailsAs Fault.WriteNotes result (N.failed notes.old) (N.failed notes.new) }
     ensures same { N.loans notes.new ≡ N.loans notes.old }
 {
     if let Err(fault) = report_limit(passed, number, notes) {
         return Err(fault);
+    }
+    if !notes.takes(NoteKind::BadChar) {
+        return Ok(());
     }
     report_bad(text, encoding, number, notes)
 }

@@ -71,6 +71,9 @@ pub fn text_within(bytes: &[u8], room: usize) -> usize
     ensures room { result ≤ room }
     ensures text { list_all is_printable (take result bytes.now) ≡ true }
 {
+    if bytes.is_empty() || !is_text(bytes[0]) {
+        return 0;
+    }
     text_len(bytes).min(room)
 }
 

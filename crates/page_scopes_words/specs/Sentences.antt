@@ -1,6 +1,7 @@
 -- The end of a sentence at a line's end. Source: roff(7), "Sentences"; mandoc(1).
-use Rattle.std.specs.Prelude.{ℕ, Bool, false, ◌==◌, ◌||◌, ◌&&◌, ◌+◌, ◌-◌, List, [], ◌∷◌, length, take, Option, None, Some, slice_get, if◌then◌else◌}
-use Rattle.page_core_escapes.specs.Tokens.{is_white}
+use Rattle.std.specs.Prelude.{ℕ, Bool, false, ◌==◌, ◌||◌, ◌-◌, List, length, Option, None, Some, slice_get}
+use Rattle.page_roff_forms.specs.Ends.{kept}
+use Rattle.page_roff_forms.specs.LineForms.{is_white}
 
 -- a full stop, an exclamation mark or a question mark
 abbrev pub is_end : ℕ → Bool
@@ -9,14 +10,6 @@ is_end byte = byte == 46 || (byte == 33 || byte == 63)
 -- what may stand after it: ) ] ' "
 abbrev pub is_closer : ℕ → Bool
 is_closer byte = (byte == 41 || byte == 93) || (byte == 39 || byte == 34)
-
--- the bytes up to those at a text's end of which something holds
-abbrev pub kept_len : (ℕ → Bool) → List ℕ → ℕ
-kept_len drops [] = 0
-kept_len drops (byte ∷ bytes) = if kept_len drops bytes == 0 && drops byte then 0 else 1 + kept_len drops bytes
-
-abbrev pub kept : (ℕ → Bool) → List ℕ → List ℕ
-kept drops text = take (kept_len drops text) text
 
 abbrev pub holds_of : (ℕ → Bool) → Option ℕ → Bool
 holds_of holds None = false

@@ -1,10 +1,9 @@
 //! Sentences that end with their line (roff(7), "Sentences").
 
-ghost use Rattle.std.specs.Prelude.{◌≡◌, ◌≤◌, length};
-ghost use Rattle.page_core_escapes.specs.Tokens.{is_white};
-ghost use Rattle.page_scopes_words.specs.Sentences.{ends_with, is_closer, is_end, kept_len, ends_sentence};
+ghost use Rattle.std.specs.Prelude.{◌≡◌};
+ghost use Rattle.page_scopes_words.specs.Sentences.{ends_with, is_closer, is_end, ends_sentence};
 
-use page_core_escapes::is_white;
+use page_roff_forms::{is_white, kept_len};
 
 // Whether a byte ends a sentence.
 fn is_end(byte: u8) -> bool
@@ -18,30 +17,6 @@ fn is_closer(byte: u8) -> bool
     ensures { result ≡ is_closer byte }
 {
     (byte == b')' || byte == b']') || (byte == b'\'' || byte == b'"')
-}
-
-// The number of bytes of a text up to the white space at its end.
-fn kept_len(text: &[u8]) -> usize
-    ensures value { result ≡ kept_len is_white text.now }
-    ensures within { result ≤ length text.now }
-{
-    let mut len = text.len();
-    while len > 0 && is_white(text[len - 1]) {
-        len -= 1;
-    }
-    len
-}
-
-// The number of bytes of a text up to the closers at its end.
-fn closed_len(text: &[u8]) -> usize
-    ensures value { result ≡ kept_len is_closer text.now }
-    ensures within { result ≤ length text.now }
-{
-    let mut len = text.len();
-    while len > 0 && is_closer(text[len - 1]) {
-        len -= 1;
-    }
-    len
 }
 
 // Whether a text ends with a byte that ends a sentence.
@@ -58,6 +33,6 @@ fn ends_with_end(text: &[u8]) -> bool
 pub fn ends_sentence(text: &[u8]) -> bool
     ensures { result ≡ ends_sentence text.now }
 {
-    let line = &text[..kept_len(text)];
-    ends_with_end(&line[..closed_len(line)])
+    let line = &text[..kept_len(text, |byte| is_white(byte))];
+    ends_with_end(&line[..kept_len(line, |byte| is_closer(byte))])
 }

@@ -1,16 +1,10 @@
 use Rattle.std.proofs.Common.{◌∙◌, sym, ap, subst, arith}
-use Rattle.std.proofs.lemmas.List.{get_or-take}
 use Rattle.page_core_escapes.specs.Escapes.{read_escape, escape_of, HasTexts}
 use Rattle.page_core_escapes.proofs.Contents.{escape_len-some}
 use Rattle.page_core_escapes.proofs.Characters.{CutsAt-boundary}
 use Rattle.page_core_escapes.proofs.EscapeTexts.{escape_texts}
 use Rattle.page_core_escapes.proofs.Boundaries.{escape_len_cuts}
 use Rattle.page_core_escapes.proofs.escape.Goals as goal
-
-pub read_meaning-requires : goal.read_meaning-requires
-read_meaning-requires c =
-    let some = escape_len-some c.args.text.now c.in-Some.len (sym c.escape_len.ensures.value ∙ c.in-Some.is) in
-    get_or-take c.in-Some.len c.args.text.now 0 0 some ∙ c.requires.backslash
 
 pub returns-in-Some-clause-meaning : goal.returns-in-Some-clause-meaning
 unfolding escape_of

@@ -1,14 +1,13 @@
-use Rattle.std.proofs.Common.{◌≡◌, ◌≤◌, ◌+◌, length}
-use Rattle.page_core_base.specs.Sinks.{UpTo}
-use Rattle.page_core_limits.specs.declared.TheConstants.{LINE}
-use Rattle.page_prose.specs.Cut.{placed, parts}
-use Rattle.page_prose.specs.Arguments.{argument_len}
-use Rattle.page_prose.specs.Prose.{arguments_items}
+use Rattle.std.proofs.Common.{length}
+use Rattle.page_core_base.specs.Latches.{CameUpTo}
+use Rattle.page_roff_forms.specs.Arguments.{arguments}
+use Rattle.page_prose.specs.Arguments.{arguments_items}
 use Rattle.page_prose.proofs.arguments.give_arguments.Given as goal
 
-abbrev pub invariant-loop-rest : goal.invariant-loop-rest
-invariant-loop-rest g l = UpTo g.O.PieceSink.gave l.fn.out (arguments_items l.fn.fonts l.place.line (placed l.place.column (parts argument_len l.fn.rest))) (arguments_items l.fonts l.place.line (placed l.column (parts argument_len l.rest))) l.out
-    × (g.O.PieceSink.loans l.out ≡ g.O.PieceSink.loans l.fn.out) × (l.column + length l.rest ≡ l.place.column + length l.fn.rest) × (length l.rest ≤ LINE)
+abbrev pub invariant-loop-argument : goal.invariant-loop-argument
+invariant-loop-argument g l =
+    CameUpTo g.O.PieceOut.left l.fn.out (arguments_items l.fn.fonts l.place.line (arguments l.place.column l.rest))
+    (arguments_items l.fonts l.place.line l.arguments) l.out
 
-abbrev pub decreases-loop-rest : goal.decreases-loop-rest
-decreases-loop-rest g l = length l.rest
+abbrev pub decreases-loop-argument : goal.decreases-loop-argument
+decreases-loop-argument g l = length l.arguments

@@ -14,8 +14,8 @@ pub returns-clause-value : goal.returns-clause-value
 returns-clause-value g c =
     let i = c.loop-len.invariant in
     λ test is.
-        sym (i.1 test is ∙ elim c.loop-len-test.branch [
-          | then-loop-len-test+else-drops w ↦
-              kept_same test c.args.text.now c.loop-len.len w.loop-len-test.true i.0 (sym (is _ _ w.drops.ensures) ∙ w.if-drops.false)
-          | else-loop-len-test w ↦ kept_nothing test c.args.text.now c.loop-len.len (omega (arith, w.loop-len-test.false))
-        ])
+    sym (i.1 test is ∙ elim c.loop-len-test.branch [
+      | then-loop-len-test+else-drops w ↦
+          kept_same test c.args.text.now c.loop-len.len w.loop-len-test.true i.0 (sym (is _ _ w.drops.ensures) ∙ w.if-drops.false)
+      | else-loop-len-test w ↦ kept_nothing test c.args.text.now c.loop-len.len (omega (arith, w.loop-len-test.false))
+    ])

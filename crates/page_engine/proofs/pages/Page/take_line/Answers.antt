@@ -11,7 +11,7 @@ use Rattle.page_engine.proofs.pages.Page.take_line.Goals as goal
 pub returns-in_err-text-clause-gets : goal.returns-in_err-text-clause-gets
 returns-in_err-text-clause-gets g c = λ e h.
     let p = err_from_is_err_and c.from_residual.result c.from_residual.ensures.1 in
-    let m = line_of c.args.cutter.now.place in
+    let m = line_of c.args.cutter.now.point in
     let y : Gave g.R.RowSink.within g.N.NoteSink.within c.args.rows.now c.args.rows.now c.args.notes.now c.line-line.new.notes.notes.now (laid_line e m) =
     cut_within g.met.R.RowSink.laws g.met.N.NoteSink.laws g.met.R.RowSink.whole c.args.rows.now c.args.self.now.least e m.notes
     (laid_text (laid_notes e m.notes).edge m.text m.number) h.levels c.in_err-text.ensures.gives in
@@ -19,7 +19,7 @@ returns-in_err-text-clause-gets g c = λ e h.
 
 pub returns-clause-gets : goal.returns-clause-gets
 returns-clause-gets g c = λ e h.
-    let m = line_of c.args.cutter.now.place in
+    let m = line_of c.args.cutter.now.point in
     let i = cut_at c.line-line.new.notes.worst m.notes h c.in_ok-text.ensures.gives.2 in
     let f : Gets c.feed.result g.R.RowSink.gave g.R.RowSink.within g.N.NoteSink.gave g.N.NoteSink.within c.args.rows.now c.feed.new.rows
     c.line-line.new.notes.notes.now c.feed.new.notes (laid_text (laid_notes e m.notes).edge c.in_ok-text.text.now c.in_ok-text.number) =
@@ -30,7 +30,7 @@ returns-clause-gets g c = λ e h.
 
 pub returns-clause-faults : goal.returns-clause-faults
 returns-clause-faults g c = λ e h.
-    let m = line_of c.args.cutter.now.place in
+    let m = line_of c.args.cutter.now.point in
     let i = cut_at c.line-line.new.notes.worst m.notes h c.in_ok-text.ensures.gives.2 in
     let f : FailsBySink c.feed.result (g.R.RowSink.failed c.args.rows.now) (g.R.RowSink.failed c.feed.new.rows)
     (g.N.NoteSink.failed c.line-line.new.notes.notes.now) (g.N.NoteSink.failed c.feed.new.notes) =

@@ -4,11 +4,11 @@ use Rattle.page_fill.proofs.CharacterLemmas.{characters_of-text, characters_of-n
 use Rattle.page_fill.proofs.PlainLemmas.{characters_of-plain}
 use Rattle.page_fill.proofs.words.Edge.bytes.Goals as goal
 
-pub returns-then-is_plain-clause-lays : goal.returns-then-is_plain-clause-lays
-returns-then-is_plain-clause-lays g c = rw (characters_of-plain c.args.bytes.now (sym c.is_plain.ensures ∙ c.if-is_plain.true)) c.plain.ensures.lays
+pub returns-then-is_printable_ascii : goal.returns-then-is_printable_ascii
+returns-then-is_printable_ascii g c = rw (characters_of-plain c.args.bytes.now (sym c.is_printable_ascii.ensures ∙ c.if-is_printable_ascii.true)) c.plain.ensures
 
-pub returns-in-Ok-clause-lays : goal.returns-in-Ok-clause-lays
-returns-in-Ok-clause-lays g c = rw (characters_of-text c.args.bytes.now c.in-Ok.ensures.cases.1, ← c.in-Ok.ensures.cases.0) c.text.ensures.lays
+pub returns-in-Ok : goal.returns-in-Ok
+returns-in-Ok g c = rw (characters_of-text c.args.bytes.now c.in-Ok.ensures.cases.1, ← c.in-Ok.ensures.cases.0) c.text.ensures
 
-pub returns-in-Err-clause-lays : goal.returns-in-Err-clause-lays
-returns-in-Err-clause-lays g c = rw (characters_of-none c.args.bytes.now c.in-Err.ensures.cases.0) (rw chars-nil at c.text-in-Err.ensures.lays)
+pub returns-in-Err : goal.returns-in-Err
+returns-in-Err g c = rw (characters_of-none c.args.bytes.now c.in-Err.ensures.cases.0) (rw chars-nil at c.text-in-Err.ensures)

@@ -1,21 +1,10 @@
-use Rattle.std.proofs.Common.{refl}
-use Rattle.std.proofs.lemmas.Result.{err_from_is_err_and}
-use Rattle.page_core_base.specs.declared.faults.Fault.TheVariants.{Failed}
-use Rattle.page_core_base.proofs.SinkLemmas.{UpTo-start, UpTo-more, UpTo-within}
-use Rattle.page_prose.proofs.EmitsLemmas.{emits_last}
+use Rattle.std.proofs.Common.{rules}
+use Rattle.page_core_base.proofs.PieceLatchLemmas.{latched}
 use Rattle.page_prose.specs.Prose.{end_items}
 use Rattle.page_prose.proofs.prose.Prose.end.Goals as goal
 
-pub returns-in_err-give_no_body-clause-gives : goal.returns-in_err-give_no_body-clause-gives
-unfolding end_items
-returns-in_err-give_no_body-clause-gives g c =
-    let u0 = UpTo-start (g.met.O.PieceSink.laws Failed) _ _ in
-    let p = err_from_is_err_and c.from_residual.result c.from_residual.ensures.1 in
-    rw (p.1, p.2) (UpTo-within (g.met.O.PieceSink.laws _) _ _ _ u0 refl c.in_err-give_no_body.ensures.gives)
-
-pub returns-clause-gives : goal.returns-clause-gives
-unfolding end_items
-returns-clause-gives g c =
-    let u0 = UpTo-start (g.met.O.PieceSink.laws Failed) _ _ in
-    let u1 = UpTo-more (g.met.O.PieceSink.laws Failed) _ _ _ u0 refl c.in_ok-give_no_body.ensures.gives in
-    emits_last g.met.O.PieceSink.laws _ _ c.piece.result u1 (refl) c.piece.ensures.gives
+pub returns : goal.returns
+returns g c =
+    let items = end_items c.args.self.now c.args.line in
+    let k = latched g.met.O.PieceSink.laws items c.done.result c.new-latch.ensures.fault c.give_end.ensures c.done.ensures in
+    record { gives = search (rules, k.0, k.2); same = search (rules, k.0, k.1) }

@@ -1,21 +1,10 @@
-use Rattle.std.proofs.lemmas.Result.{err_from_is_err_and}
-use Rattle.page_core_base.specs.declared.faults.Fault.TheVariants.{Failed}
+use Rattle.std.proofs.Common.{rules}
+use Rattle.page_core_base.proofs.PieceLatchLemmas.{latched}
 use Rattle.page_prose.specs.Prose.{line_items}
 use Rattle.page_prose.proofs.prose.Prose.line.Goals as goal
 
-pub returns-in_err-note_trailing-clause-gives : goal.returns-in_err-note_trailing-clause-gives
-unfolding line_items
-returns-in_err-note_trailing-clause-gives g c =
-    let p = err_from_is_err_and c.from_residual.result c.from_residual.ensures.1 in
-    rw (p.1, p.2) ((g.met.O.PieceSink.laws _).before _ _ _ _ c.in_err-note_trailing.ensures.gives)
-
-pub returns-in_err-walk-clause-gives : goal.returns-in_err-walk-clause-gives
-unfolding line_items
-returns-in_err-walk-clause-gives g c =
-    let p = err_from_is_err_and c.from_residual-in_err-walk.result c.from_residual-in_err-walk.ensures.1 in
-    rw (p.1, p.2) ((g.met.O.PieceSink.laws _).after _ _ _ _ _ c.in_ok-note_trailing.ensures.gives (rw c.form_of-form.ensures.value at c.in_err-walk.ensures.gives))
-
-pub returns-clause-gives : goal.returns-clause-gives
-unfolding line_items
-returns-clause-gives g c =
-    (g.met.O.PieceSink.laws Failed).more _ _ _ _ _ c.in_ok-note_trailing.ensures.gives (rw c.form_of-form.ensures.value at c.in_ok-walk.ensures.gives)
+pub returns : goal.returns
+returns g c =
+    let items = line_items c.args.self.now c.args.line c.args.text.now in
+    let k = latched g.met.O.PieceSink.laws items c.done.result c.new-latch.ensures.fault c.give_line.ensures.came c.done.ensures in
+    record { gives = search (rules, k.0, k.2); same = search (rules, k.0, k.1); after = search (rules, c.give_line.ensures.after) }

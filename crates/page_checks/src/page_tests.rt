@@ -1,0 +1,380 @@
+//! Worked pages from their bytes to rows and messages, however the bytes come and go; and runs whose reader, writer or settings fail.
+
+use crate::checks::{
+    FOOTER, HEADER, all_messages, check, check_count, check_outcome, check_text, framed, gives,
+    outcome,
+};
+use page_core_base::{Fault, Level, Output, SettingFault, Settings};
+use page_engine::run_page;
+use std::alloc::Global;
+use std::io::{self, ErrorKind, Read, Write};
+use std::process::Abort;
+use std::test::Fail;
+
+// Gives a page in chunks of at most this number of bytes.
+#[derive(Drop)]
+struct Chunks<'a> {
+    page: &'a [u8],
+    size: usize,
+    calls: usize,
+    // Each call of an odd number is interrupted.
+    is_interrupted: bool,
+    // The call of this number fails.
+    failing: usize,
+}
+
+impl<'a> Chunks<'a> {
+    fn new(page: &'a [u8], size: usize) -> Chunks<'a> {
+        Chunks {
+            page,
+            size,
+            calls: 0,
+            is_interrupted: false,
+            failing: 0,
+        }
+    }
+}
+
+impl Read for Chunks<'_> {
+    fn read(&mut self, buffer: &mut [u8]) -> io::Result<usize> {
+        self.calls = self.calls.saturating_add(1);
+        if self.calls == self.failing {
+            return Err(io::Error::from(ErrorKind::ConnectionReset));
+        }
+        if self.is_interrupted && self.calls % 2 == 1 {
+            return Err(io::Error::from(ErrorKind::Interrupted));
+        }
+        let count = self.page.len().min(self.size).min(buffer.len());
+        let (chunk, rest) = self.page.split_at(count);
+        buffer[..count].copy_from_slice(chunk);
+        self.page = rest;
+        Ok(count)
+    }
+}
+
+// Keeps what is written, at most a number of bytes a call. It fails once, where its room is at its end, and then goes on.
+#[derive(Drop)]
+struct Store {
+    kept: Vec<u8>,
+    size: usize,
+    room: usize,
+}
+
+impl Store {
+    fn new(alloc: Global, size: usize, room: usize) -> Store {
+        Store {
+            kept: Vec::new(alloc),
+            size,
+            room,
+        }
+    }
+}
+
+impl Write for Store {
+    fn write(&mut self, bytes: &[u8]) -> io::Result<usize> {
+        if self.room == 0 {
+            self.room = usize::MAX;
+            return Err(io::Error::from(ErrorKind::BrokenPipe));
+        }
+        let count = bytes.len().min(self.size).min(self.room);
+        self.kept.extend_from_slice(&bytes[..count])?;
+        self.room -= count;
+        Ok(count)
+    }
+
+    fn flush(&mut self) -> io::Result<()> {
+        Ok(())
+    }
+}
+
+// A page; what stands between its header and its footer; its messages and the worst level of these; how many lines it has.
+struct Case {
+    page: &'static [u8],
+    body: &'static str,
+    notes: &'static str,
+    worst: Option<Level>,
+    source: u64,
+}
+
+const CASES: [Case; 8] = [
+    Case {
+        page: b".TH T 1 2020-01-01 S\n.SH NAME\nt \\- x\n",
+        body: "N\u{8}NA\u{8}AM\u{8}ME\u{8}E\n       t - x\n",
+        notes: "",
+        worst: None,
+        source: 3,
+    },
+    Case {
+        page: b".TH T 1 2020-01-01 S\n.SH A\na\n\nb\n",
+        body: "A\u{8}A\n       a\n\n       b\n",
+        notes: "mandoc: x.1:4:1: WARNING: blank line in fill mode, using .sp\n",
+        worst: Some(Level::Warning),
+        source: 5,
+    },
+    Case {
+        page: b".TH T 1 2020-01-01 S\n.SH A\n.ZZ\na\n",
+        body: "A\u{8}A\n       a\n",
+        notes: "mandoc: x.1:3:2: ERROR: skipping unknown macro: ZZ\n",
+        worst: Some(Level::Error),
+        source: 4,
+    },
+    Case {
+        page: b".TH T 1 2020-01-01 S\n.SH A\n.PP\na\n",
+        body: "A\u{8}A\n       a\n",
+        notes: "mandoc: x.1:3:2: WARNING: skipping paragraph macro: PP\n",
+        worst: Some(Level::Warning),
+        source: 4,
+    },
+    Case {
+        page: b".TH T 1 2020-01-01 S\n.SH A\naaaaaaaaaaaaaaaaaaaaaaaaaaaaaaaaaaa bbbbbbbbbbbbbbbbbbbbbbbbbbbbbbbbbbb\n",
+        body: "A\u{8}A\n       aaaaaaaaaaaaaaaaaaaaaaaaaaaaaaaaaaa bbbbbbbbbbbbbbbbbbbbbbbbbbbbbbbbbbb\n",
+        notes: "",
+        worst: None,
+        source: 3,
+    },
+    Case {
+        page: b".TH T 1 2020-01-01 S\n.SH A\naaaaaaaaaaaaaaaaaaaaaaaaaaaaaaaaaaa cccccccccccccccccccccccccccccccccccc\n",
+        body: "A\u{8}A\n       aaaaaaaaaaaaaaaaaaaaaaaaaaaaaaaaaaa\n       cccccccccccccccccccccccccccccccccccc\n",
+        notes: "",
+        worst: None,
+        source: 3,
+    },
+    Case {
+        page: b".TH T 1 2020-01-01 S\n.SH A\nwwwwwwwwwwwwwwwwwwwwwwwwwwwwwwwwwwwwwwwwwwwwwwwwwwwwwwwwwwwwwwwwwwwwwwww\n",
+        body: "A\u{8}A\n       wwwwwwwwwwwwwwwwwwwwwwwwwwwwwwwwwwwwwwwwwwwwwwwwwwwwwwwwwwwwwwwwwwwwwwww\n",
+        notes: "",
+        worst: None,
+        source: 3,
+    },
+    Case {
+        page: b".TH T 1 2020-01-01 S\n.SH A\na wwwwwwwwwwwwwwwwwwwwwwwwwwwwwwwwwwwwwwwwwwwwwwwwwwwwwwwwwwwwwwwwwwwwwwww\n",
+        body: "A\u{8}A\n       a\n       wwwwwwwwwwwwwwwwwwwwwwwwwwwwwwwwwwwwwwwwwwwwwwwwwwwwwwwwwwwwwwwwwwwwwwww\n",
+        notes: "",
+        worst: None,
+        source: 3,
+    },
+];
+
+// A page with an unknown macro, and after it a blank line; and its body.
+const TWO_MESSAGES: &[u8] = b".TH T 1 2020-01-01 S\n.SH A\n.ZZ\na\n\nb\n";
+
+const TWO_PARAGRAPHS: &str = "A\u{8}A\n       a\n\n       b\n";
+
+// A run over a page that ends by a fault, into the writers.
+fn faults<I: Read, R: Abort + AllocGlobal>(
+    rt: &R,
+    reader: &mut I,
+    out: &mut Store,
+    messages: &mut Store,
+    want: Fault,
+) {
+    let settings = all_messages();
+    let result = run_page(rt.alloc(), reader, out, messages, "x.1", &settings);
+    check_outcome(rt, result, Err(want));
+}
+
+#[test]
+fn formats_pages(rt: HostRuntime) -> Result<(), Fail> {
+    let settings = all_messages();
+    for case in &CASES {
+        let rows = framed(rt.alloc(), case.body)?;
+        let want = outcome(case.worst, case.source);
+        let mut whole = case.page;
+        gives(&rt, &mut whole, &settings, rows.as_str(), case.notes, want)?;
+        let mut bytes = Chunks::new(case.page, 1);
+        gives(&rt, &mut bytes, &settings, rows.as_str(), case.notes, want)?;
+        let mut interrupted = Chunks::new(case.page, 3);
+        interrupted.is_interrupted = true;
+        gives(
+            &rt,
+            &mut interrupted,
+            &settings,
+            rows.as_str(),
+            case.notes,
+            want,
+        )?;
+    }
+    Ok(())
+}
+
+#[test]
+fn formats_the_empty_page(rt: HostRuntime) -> Result<(), Fail> {
+    let rows =
+        "()                                                                          ()\n\n                                                                            ()\n";
+    let notes =
+        "mandoc: x.1:1:1: WARNING: missing manual title, using \"\"\nmandoc: x.1:1:1: WARNING: unknown manual section\nmandoc: x.1:1:1: WARNING: missing date, using \"\"\nmandoc: x.1:1:1: WARNING: no document body\n";
+    let mut page = b"".as_slice();
+    let want = outcome(Some(Level::Warning), 0);
+    gives(&rt, &mut page, &all_messages(), rows, notes, want)?;
+    gives(&rt, &mut page, &Settings::new(), rows, "", outcome(None, 0))?;
+    let lint = Settings {
+        output: Output::Lint,
+        ..all_messages()
+    };
+    gives(&rt, &mut page, &lint, "", notes, want)
+}
+
+#[test]
+fn gives_messages_by_level(rt: HostRuntime) -> Result<(), Fail> {
+    let error = "mandoc: x.1:3:2: ERROR: skipping unknown macro: ZZ\n";
+    let both =
+        "mandoc: x.1:3:2: ERROR: skipping unknown macro: ZZ\nmandoc: x.1:5:1: WARNING: blank line in fill mode, using .sp\n";
+    let rows = framed(rt.alloc(), TWO_PARAGRAPHS)?;
+    let cases = [
+        (None, "", None),
+        (Some(Level::Base), both, Some(Level::Error)),
+        (Some(Level::Warning), both, Some(Level::Error)),
+        (Some(Level::Error), error, Some(Level::Error)),
+        (Some(Level::Unsupp), "", None),
+    ];
+    for (least, notes, worst) in cases {
+        let mut page = TWO_MESSAGES;
+        let settings = Settings {
+            least,
+            ..Settings::new()
+        };
+        let want = outcome(worst, 6);
+        gives(&rt, &mut page, &settings, rows.as_str(), notes, want)?;
+    }
+    Ok(())
+}
+
+#[test]
+fn takes_a_last_line_without_a_line_feed(rt: HostRuntime) -> Result<(), Fail> {
+    let rows = framed(rt.alloc(), "A\u{8}A\n       a b\n")?;
+    let mut page = b".TH T 1 2020-01-01 S\n.SH A\na\nb".as_slice();
+    let want = outcome(None, 4);
+    gives(&rt, &mut page, &all_messages(), rows.as_str(), "", want)
+}
+
+// 9,000 words of a letter, a line each: 36 fill a row.
+#[test]
+fn formats_a_long_page(rt: HostRuntime) -> Result<(), Fail> {
+    let mut page = Vec::from_slice(rt.alloc(), b".TH T 1 2020-01-01 S\n.SH A\n")?;
+    for _ in 0..9000 {
+        page.extend_from_slice(b"a\n")?;
+    }
+    let mut rows = String::from_str(rt.alloc(), HEADER)?;
+    rows.push_str("A\u{8}A\n")?;
+    for _ in 0..250 {
+        rows.push_str(
+            "       a a a a a a a a a a a a a a a a a a a a a a a a a a a a a a a a a a a a\n",
+        )?;
+    }
+    rows.push_str(FOOTER)?;
+    let mut reader = page.as_slice();
+    let want = outcome(None, 9002);
+    gives(&rt, &mut reader, &all_messages(), rows.as_str(), "", want)
+}
+
+#[test]
+fn refuses_bad_settings(rt: HostRuntime) -> Result<(), Fail> {
+    let cases = [
+        (57, None, SettingFault::Width),
+        (57, Some(21), SettingFault::Width),
+        (301, None, SettingFault::Width),
+        (78, Some(21), SettingFault::Indent),
+    ];
+    for (width, indent, fault) in cases {
+        let settings = Settings {
+            width,
+            indent,
+            ..all_messages()
+        };
+        let mut reader = Chunks::new(TWO_MESSAGES, 1);
+        let want = Err(Fault::Settings(fault));
+        gives(&rt, &mut reader, &settings, "", "", want)?;
+        check_count(&rt, reader.calls as u64, 0);
+    }
+    Ok(())
+}
+
+// For runs in which an allocation is refused: then nothing was read, and else all is well.
+#[test]
+fn wants_memory_before_it_reads(rt: HostRuntime) {
+    let mut reader = Chunks::new(TWO_MESSAGES, 3);
+    let (mut out, mut messages) = (io::sink(), io::sink());
+    match run_page(
+        rt.alloc(),
+        &mut reader,
+        &mut out,
+        &mut messages,
+        "x.1",
+        &all_messages(),
+    ) {
+        Ok(done) => check_outcome(&rt, Ok(done), outcome(Some(Level::Error), 6)),
+        Err(fault) => {
+            check_outcome(&rt, Err(fault), Err(Fault::Memory));
+            check_count(&rt, reader.calls as u64, 0);
+        }
+    }
+}
+
+// Each call fails in turn: what was written is the front of the page, and no less than at an earlier call.
+#[test]
+fn ends_by_a_failing_read(rt: HostRuntime) -> Result<(), Fail> {
+    let whole = framed(rt.alloc(), TWO_PARAGRAPHS)?;
+    let mut written = 0;
+    for failing in 1..TWO_MESSAGES.len() + 2 {
+        let mut reader = Chunks::new(TWO_MESSAGES, 1);
+        reader.failing = failing;
+        let mut out = Store::new(rt.alloc(), usize::MAX, usize::MAX);
+        let mut messages = Store::new(rt.alloc(), usize::MAX, usize::MAX);
+        faults(&rt, &mut reader, &mut out, &mut messages, Fault::Read);
+        check(&rt, whole.as_bytes().starts_with(out.kept.as_slice()));
+        check(&rt, out.kept.len() >= written);
+        written = out.kept.len();
+    }
+    let settled = format!(in rt.alloc(); "{HEADER}A\u{8}A\n       a\n")?;
+    check(&rt, written >= settled.len() && written < whole.len());
+    Ok(())
+}
+
+#[test]
+fn writes_a_byte_at_a_time(rt: HostRuntime) -> Result<(), Fail> {
+    let settings = all_messages();
+    for case in &CASES {
+        let rows = framed(rt.alloc(), case.body)?;
+        let mut out = Store::new(rt.alloc(), 1, usize::MAX);
+        let mut messages = Store::new(rt.alloc(), 1, usize::MAX);
+        let mut page = case.page;
+        let result = run_page(
+            rt.alloc(),
+            &mut page,
+            &mut out,
+            &mut messages,
+            "x.1",
+            &settings,
+        );
+        check_outcome(&rt, result, outcome(case.worst, case.source));
+        check_text(&rt, out.kept.as_slice(), rows.as_str())?;
+        check_text(&rt, messages.kept.as_slice(), case.notes)?;
+    }
+    Ok(())
+}
+
+// Where a writer fails, each has the front of what it would have, and nothing that is written after it.
+#[test]
+fn ends_by_a_failing_write(rt: HostRuntime) -> Result<(), Fail> {
+    let three_rows = format!(in rt.alloc(); "{HEADER}A\u{8}A\n")?;
+    let cases = [
+        (10, usize::MAX, Fault::WriteText, "T(1)      ", ""),
+        (usize::MAX, 0, Fault::WriteNotes, three_rows.as_str(), ""),
+        (
+            usize::MAX,
+            10,
+            Fault::WriteNotes,
+            three_rows.as_str(),
+            "mandoc: x.",
+        ),
+    ];
+    for (room, room_of_messages, fault, rows, notes) in cases {
+        let mut out = Store::new(rt.alloc(), usize::MAX, room);
+        let mut messages = Store::new(rt.alloc(), usize::MAX, room_of_messages);
+        let mut page = TWO_MESSAGES;
+        faults(&rt, &mut page, &mut out, &mut messages, fault);
+        check_text(&rt, out.kept.as_slice(), rows)?;
+        check_text(&rt, messages.kept.as_slice(), notes)?;
+    }
+    Ok(())
+}

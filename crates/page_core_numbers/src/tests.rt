@@ -1,2 +1,0 @@
-mod texts;
-mod values;

@@ -1,0 +1,194 @@
+-- Parts of a page that follow one another, and what is known where a sink failed.
+use Rattle.std.proofs.Common.{◌≡◌, ℕ, false, ◌+◌, ◌-◌, ◌<◌, ◌≤◌, ◌^◌, List, [], ◌∷◌, ◌++◌, length, take, drop, refl, sym, ap, ◌∙◌, append_assoc, append-nil, arith, length-append, inl, inr, Result, Ok, Err, MatchResult}
+use Rattle.std.proofs.lemmas.List.{take-append-drop, take-take, take_at}
+use Rattle.page_core_base.specs.Sinks.{IsSink}
+use Rattle.page_core_base.specs.Fails.{IsSinkFault}
+use Rattle.page_core_base.specs.Laid.{Laid, Gave, nothing, join}
+use Rattle.page_core_base.specs.declared.faults.Fault.{Fault}
+use Rattle.page_core_base.proofs.SinkLemmas.{within-join}
+use Rattle.page_roff_lines.specs.Cutting.{Point, point_after, lines_within, last_line}
+use Rattle.page_roff_lines.proofs.PointLemmas.{point_after-append}
+use Rattle.page_engine.specs.declared.pages.Page.{Page}
+use Rattle.page_engine.specs.declared.runs.Run.{Run}
+use Rattle.page_engine.specs.Below.{cause_later}
+use Rattle.page_engine.specs.Page.{Edge, IsAt, laid, page}
+use Rattle.page_engine.specs.Streams.{Streams, Sinks, AllCame, FrontCame}
+use Rattle.page_engine.specs.Runs.{page_from, settled_from, Broken, BrokeIn}
+use Rattle.page_engine.specs.Steps.{Came, Front, CanTake, IsFresh, Moved, Settled, Through, PartBroke, ChunkBroke}
+use Rattle.page_engine.proofs.Cutting.{laid_none, count_most, consumed_more}
+use Rattle.page_engine.proofs.BytesRead.{settled_more, page_last, page_front, both_gave, both_within, lines_more}
+
+-- ---- no byte
+
+pub settled_none : (e : Edge) (p : Point) → settled_from e p [] ≡ nothing e
+unfolding lines_within
+settled_none e p = laid_none e
+
+pub settles_none : {R N : Type 0} (k : Sinks R N) → IsSink k.to.row_gave k.to.row_within → IsSink k.to.note_gave k.to.note_within
+    → {here : Page} (r : R) (n : N) (e : Edge) (p : Point) → IsAt here e → Settled k here r r n n e p []
+settles_none k rows notes r n e p h = record {
+  came = record { gave = rw settled_none record { rows = rows.none r; notes = notes.none n }; rows_quiet = refl; notes_quiet = refl };
+  at = rw settled_none h;
+}
+
+pub moved_none : (run : Run) → run.cutter.ready ≡ false → Moved run run []
+unfolding lines_within point_after
+moved_none run free = record { point = refl; free = free; source_lines = omega arith }
+
+pub through_none : {R N : Type 0} (k : Sinks R N) → IsSink k.to.row_gave k.to.row_within → IsSink k.to.note_gave k.to.note_within
+    → (run : Run) (r : R) (n : N) → run.cutter.ready ≡ false → Through k run run r r n n []
+through_none k rows notes run r n free =
+    record { settled = λ e h. settles_none k rows notes r n e run.cutter.point h; moved = moved_none run free }
+
+-- ---- more bytes
+
+pub settles_more : {R N : Type 0} (k : Sinks R N) → IsSink k.to.row_gave k.to.row_within → IsSink k.to.note_gave k.to.note_within
+    → {here next : Page} {r a a' : R} {n b b' : N} (e : Edge) (p q : Point) (xs ys : List ℕ) → q ≡ point_after p xs
+    → Settled k here r a n b e p xs → Settled k next a a' b b' (settled_from e p xs).edge q ys → Settled k next r a' n b' e p (xs ++ ys)
+settles_more k rows notes {a' = a'} {b' = b'} e p q xs ys h s t =
+    let x = settled_from e p xs in
+    let y = settled_from x.edge q ys in
+    let w = settled_more e p q xs ys h in record {
+      came = record {
+        gave = rw w (both_gave rows notes a' b' x y s.came.gave t.came.gave);
+        rows_quiet = t.came.rows_quiet ∙ s.came.rows_quiet;
+        notes_quiet = t.came.notes_quiet ∙ s.came.notes_quiet;
+      };
+      at = rw w t.at;
+    }
+
+pub moved_more : {run mid run' : Run} (xs ys : List ℕ) → Moved run mid xs → Moved mid run' ys → Moved run run' (xs ++ ys)
+moved_more {run} {mid} {run'} xs ys s t = record {
+  point = t.point ∙ (ap (λ p. point_after p ys) s.point ∙ sym (point_after-append run.cutter.point xs ys));
+  free = t.free;
+  source_lines = omega (arith, s.source_lines, t.source_lines, lines_more run.cutter.point mid.cutter.point xs ys s.point);
+}
+
+pub through_more : {R N : Type 0} (k : Sinks R N) → IsSink k.to.row_gave k.to.row_within → IsSink k.to.note_gave k.to.note_within
+    → {run mid run' : Run} {r a a' : R} {n b b' : N} (xs ys : List ℕ)
+    → Through k run mid r a n b xs → Through k mid run' a a' b b' ys → Through k run run' r a' n b' (xs ++ ys)
+through_more k rows notes {run} {mid} {run'} xs ys s t = record {
+  settled = λ e h. let f = s.settled e h in
+      settles_more k rows notes e run.cutter.point mid.cutter.point xs ys s.moved.point f (t.settled (settled_from e run.cutter.point xs).edge f.at);
+  moved = moved_more xs ys s.moved t.moved;
+}
+
+-- ---- room for more
+
+pub room_after : {run mid : Run} (xs : List ℕ) (count more : ℕ) → Moved run mid xs → CanTake run count → length xs + more ≤ count → CanTake mid more
+room_after {run} {mid} xs count more m c h = record {
+  free = m.free;
+  room = omega (arith, c.room, h, ap (λ p. p.line.consumed) m.point, consumed_more run.cutter.point xs);
+  source_lines = omega (arith, c.source_lines, h, m.source_lines, count_most run.cutter.point xs);
+}
+
+-- ---- a sink failed
+
+cut_parts : (xs bs as_ zs : List ℕ) (n : ℕ) → xs ++ ((bs ++ as_) ++ zs) ≡ (xs ++ bs) ++ (take n as_ ++ (drop n as_ ++ zs))
+cut_parts xs bs as_ zs n =
+    ap (λ l. xs ++ l) (append_assoc bs as_ zs)
+    ∙ (sym (append_assoc xs bs (as_ ++ zs))
+    ∙ ap (λ l. (xs ++ bs) ++ l) (ap (λ l. l ++ zs) (sym (take-append-drop n as_)) ∙ append_assoc (take n as_) (drop n as_) zs))
+
+cut_length : (ys bs as_ zs : List ℕ) (n most : ℕ) → ys ≡ bs ++ as_ → length (ys ++ zs) ≤ most → length (take n as_ ++ (drop n as_ ++ zs)) ≤ most
+cut_length ys bs as_ zs n most h m =
+    omega (
+      arith,
+      m,
+      ap length h,
+      length-append ys zs,
+      length-append bs as_,
+      length-append (take n as_) (drop n as_ ++ zs),
+      length-append (drop n as_) zs,
+      length-append (take n as_) (drop n as_),
+      ap length (take-append-drop n as_),
+    )
+
+-- in a chunk after bytes that were taken, where these are left aside
+pub broken_chunk : {R N : Type 0} (k : Sinks R N) → IsSink k.to.row_gave k.to.row_within → IsSink k.to.note_gave k.to.note_within
+    → {run mid : Run} {r a a' : R} {n b b' : N} (xs ys zs : List ℕ) (fault : Fault) → Through k run mid r a n b xs
+    → ((e : Edge) → IsAt mid.page e → ChunkBroke k a a' b b' e mid.cutter.point ys fault) → length (ys ++ zs) ≤ 2 ^ 14
+    → (e : Edge) → IsAt run.page e → Broken k r a' n b' e run.cutter.point (xs ++ (ys ++ zs)) fault
+broken_chunk k rows notes {run} {mid} {r} {a} {a'} {n} {b} {b'} xs ys zs fault s t m e h =
+    let p = run.cutter.point in
+    let q = mid.cutter.point in
+    let f = s.settled e h in
+    let x = settled_from e p xs in
+    let c = t x.edge f.at in
+    let y = settled_from x.edge q c.before in
+    let w = settled_more e p q xs c.before s.moved.point in
+    let z = point_after-append p xs c.before ∙ ap (λ v. point_after v c.before) (sym s.moved.point) in record {
+      before = xs ++ c.before;
+      own = take c.broke.count c.after;
+      left = drop c.broke.count c.after ++ zs;
+      parts = ap (λ l. xs ++ (l ++ zs)) c.parts ∙ cut_parts xs c.before c.after zs c.broke.count;
+      recent = cut_length ys c.before c.after zs c.broke.count (2 ^ 14) c.parts m;
+      rows = c.rows;
+      notes = c.notes;
+      whole = rw w (both_gave rows notes c.rows c.notes x y f.came.gave c.whole.gave);
+      front = rw (w, z) (inl (c.broke.one, c.broke.front.gave));
+      cause = cause_later fault _ _ _ _ _ _ (c.whole.rows_quiet ∙ f.came.rows_quiet) (c.whole.notes_quiet ∙ f.came.notes_quiet) c.broke.front.cause;
+    }
+
+-- at the end, after all bytes were taken
+pub broken_end : {R N : Type 0} (k : Sinks R N) {run mid : Run} {r a a' : R} {n b b' : N} (xs : List ℕ) (fault : Fault) → Through k run mid r a n b xs
+    → ((e : Edge) → IsAt mid.page e → Front k a a' b b' (page e (last_line mid.cutter.point)) fault)
+    → (e : Edge) → IsAt run.page e → Broken k r a' n b' e run.cutter.point xs fault
+broken_end k {run} {mid} {r} {a} {a'} {n} {b} {b'} xs fault s t e h =
+    let f = s.settled e h in
+    let c = t (settled_from e run.cutter.point xs).edge f.at in record {
+      before = xs;
+      own = [];
+      left = [];
+      parts = sym (append-nil xs);
+      recent = omega arith;
+      rows = a;
+      notes = b;
+      whole = f.came.gave;
+      front = rw (← s.moved.point) (inr (refl, refl, c.gave));
+      cause = cause_later fault _ _ _ _ _ _ f.came.rows_quiet f.came.notes_quiet c.cause;
+    }
+
+-- what came is a front of the page that the bytes make
+front_of : {R N : Type 0} (j : Streams R N) → IsSink j.row_gave j.row_within → IsSink j.note_gave j.note_within
+    → {r a r' : R} {n b n' : N} (e : Edge) (p : Point) (before own left bytes : List ℕ) → bytes ≡ before ++ (own ++ left)
+    → AllCame j r a n b (settled_from e p before) → BrokeIn j a r' b n' (settled_from e p before).edge (point_after p before) own left
+    → FrontCame j r r' n n' (page_from e p bytes)
+front_of j rows notes {r} {a} {r'} {n} {b} {n'} e p before own left bytes h g (inl f) =
+    let q = point_after p before in
+    let x = settled_from e p before in
+    let y = settled_from x.edge q own in
+    let u = settled_from e p (before ++ own) in
+    let c : FrontCame j r r' n n' u = rw (settled_more e p q before own refl) (both_within rows notes r' n' x y g f.1) in
+    let v = settled_from u.edge (point_after p (before ++ own)) left in
+    let d : FrontCame j r r' n n' (settled_from e p ((before ++ own) ++ left)) =
+    rw (settled_more e p (point_after p (before ++ own)) (before ++ own) left refl) (within-join rows notes r r' n n' u v c) in
+    rw (h, ← append_assoc before own left) (page_front rows notes r r' n n' e p ((before ++ own) ++ left) d)
+front_of j rows notes {r} {a} {r'} {n} {b} {n'} e p before own left bytes h g (inr f) =
+    let x = settled_from e p before in
+    let i : bytes ≡ before = rw (f.0, f.1, append-nil) at h in
+    rw (i, page_last e p (point_after p before) before refl) (both_within rows notes r' n' x (page x.edge (last_line (point_after p before))) g f.2)
+
+pub broken_front : {R N : Type 0} (k : Sinks R N) → IsSink k.to.row_gave k.to.row_within → IsSink k.to.note_gave k.to.note_within
+    → {r r' : R} {n n' : N} (e : Edge) (p : Point) (bytes : List ℕ) (fault : Fault) → Broken k r r' n n' e p bytes fault
+    → FrontCame k.to r r' n n' (page_from e p bytes)
+broken_front k rows notes e p bytes fault c = front_of k.to rows notes e p c.before c.own c.left bytes c.parts c.whole c.front
+
+-- ---- chunks of what was read
+
+pub all_done : (xs ys zs : List ℕ) → xs ≡ ys ++ zs → length zs ≤ 0 → xs ≡ ys
+all_done xs ys [] h n = h ∙ append-nil ys
+all_done xs ys (z ∷ zs) h n = absurd (omega arith)
+
+pub cut_take : (m n : ℕ) (l : List ℕ) → m ≤ n → take m l ++ drop m (take n l) ≡ take n l
+cut_take m n l h = rw (← take-take m n l h) (take-append-drop m (take n l))
+
+pub part_of : (xs ys zs : List ℕ) (n : ℕ) → xs ≡ ys ++ zs → xs ≡ (ys ++ take n zs) ++ drop n zs
+part_of xs ys zs n h = h ∙ (ap (λ l. ys ++ l) (sym (take-append-drop n zs)) ∙ sym (append_assoc ys (take n zs) (drop n zs)))
+
+-- the bytes up to a bound
+pub up_to : (n : ℕ) (xs ys zs : List ℕ) → n ≡ length xs + length ys → take n (xs ++ (ys ++ zs)) ≡ xs ++ ys
+up_to n xs ys zs h = rw (← append_assoc xs ys zs) (take_at (xs ++ ys) zs n (length-append xs ys ∙ sym h))
+
+pub fresh_room : (run : Run) (count : ℕ) → IsFresh run → count < 2 ^ 31 → CanTake run count
+fresh_room run count f h = record { free = f.free; room = omega (arith, f.room, h); source_lines = omega (arith, f.source_lines, h) }

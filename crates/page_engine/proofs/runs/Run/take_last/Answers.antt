@@ -1,0 +1,45 @@
+use Rattle.std.proofs.Common.{refl, ap, ◌∙◌, sym, arith}
+use Rattle.std.proofs.lemmas.Result.{err_from_is_err_and}
+use Rattle.page_roff_lines.specs.Cutting.{line_of, line_at, last_line}
+use Rattle.page_engine.proofs.Cutting.{none_gave, none_edge, none_count, one_gave, one_edge, one_count}
+use Rattle.page_engine.proofs.runs.Run.take_last.Goals as goal
+
+pub returns-then-not-end-clause-takes : goal.returns-then-not-end-clause-takes
+returns-then-not-end-clause-takes g c =
+    let b = c.end.result in
+    let line = line_of c.end.new.self.point in
+    let is = ap line_at (sym c.end.ensures.point) ∙ c.end.ensures.line in
+    let none = none_count (last_line c.args.self.now.cutter.point) b line is c.if-not-end.true in record {
+      came = λ e h. record {
+        gave = none_gave g.met.R.RowSink.laws g.met.N.NoteSink.laws _ _ e _ b line is c.if-not-end.true;
+        rows_quiet = refl;
+        notes_quiet = refl;
+      };
+      at = λ e h. none_edge e _ b line is c.if-not-end.true h;
+      source_lines = omega (arith, none);
+    }
+
+pub returns-in_err-take_line-clause-takes : goal.returns-in_err-take_line-clause-takes
+returns-in_err-take_line-clause-takes g c =
+    let is = ap line_at (sym c.end.ensures.point) ∙ c.end.ensures.line in
+    let r = err_from_is_err_and c.from_residual.result c.from_residual.ensures.1 in
+    rw (r.1, r.2) (λ e h. record {
+      gave = one_gave e _ c.end.result (line_of c.end.new.self.point) is c.if-not-end.false (c.in_err-take_line.ensures.gets e h);
+      cause = c.in_err-take_line.ensures.faults e h;
+    })
+
+pub returns-clause-takes : goal.returns-clause-takes
+returns-clause-takes g c =
+    let b = c.end.result in
+    let line = line_of c.end.new.self.point in
+    let is = ap line_at (sym c.end.ensures.point) ∙ c.end.ensures.line in
+    let t = c.in_ok-take_line.ensures in
+    let one = one_count (last_line c.args.self.now.cutter.point) b line is c.if-not-end.false in record {
+      came = λ e h. record {
+        gave = one_gave e _ b line is c.if-not-end.false (t.gets e h);
+        rows_quiet = (t.faults e h).0;
+        notes_quiet = (t.faults e h).1;
+      };
+      at = λ e h. one_edge e _ b line is c.if-not-end.false (t.edge e h);
+      source_lines = omega (arith, one);
+    }

@@ -1,0 +1,70 @@
+use Rattle.std.proofs.Common.{refl, ap, ◌∙◌, sym, take, length, arith}
+use Rattle.std.proofs.lemmas.Result.{err_from_is_err_and}
+use Rattle.page_roff_lines.specs.Cutting.{line_of, lines_within}
+use Rattle.page_engine.proofs.Cutting.{none_gave, none_edge, none_count, one_gave, one_edge, one_count, most_one, some_taken}
+use Rattle.page_engine.proofs.runs.Run.take_part.Goals as goal
+
+pub returns-then-not-is_whole-clause-takes : goal.returns-then-not-is_whole-clause-takes
+returns-then-not-is_whole-clause-takes g c =
+    let f = c.feed-count.ensures in
+    let p = c.args.self.now.cutter.point in
+    let n = c.feed-count.result.0 in
+    let b = c.feed-count.result.1 in
+    let line = line_of c.feed-count.new.self.point in
+    let some = c.requires.some in
+    let all = f.all c.if-not-is_whole.true in
+    let none = none_count (lines_within p (take n c.args.chunk.now)) b line f.lines c.if-not-is_whole.true in record {
+      some = omega (arith, some, all);
+      most = f.within;
+      through = record {
+        settled = λ e h. record {
+          came = record {
+            gave = none_gave g.met.R.RowSink.laws g.met.N.NoteSink.laws _ _ e _ b line f.lines c.if-not-is_whole.true;
+            rows_quiet = refl;
+            notes_quiet = refl;
+          };
+          at = none_edge e _ b line f.lines c.if-not-is_whole.true h;
+        };
+        moved = record { point = f.point; free = f.ready ∙ c.if-not-is_whole.true; source_lines = omega (arith, none) };
+      };
+    }
+
+pub returns-in_err-take_line-clause-takes : goal.returns-in_err-take_line-clause-takes
+returns-in_err-take_line-clause-takes g c =
+    let f = c.feed-count.ensures in
+    let n = c.feed-count.result.0 in
+    let b = c.feed-count.result.1 in
+    let line = line_of c.feed-count.new.self.point in
+    let r = err_from_is_err_and c.from_residual.result c.from_residual.ensures.1 in
+    rw (r.1, r.2) (λ e h. record {
+      count = n;
+      one = most_one _ b line f.lines;
+      front = record {
+        gave = one_gave e _ b line f.lines c.if-not-is_whole.false (c.in_err-take_line.ensures.gets e h);
+        cause = c.in_err-take_line.ensures.faults e h;
+      };
+    })
+
+pub returns-clause-takes : goal.returns-clause-takes
+returns-clause-takes g c =
+    let f = c.feed-count.ensures in
+    let p = c.args.self.now.cutter.point in
+    let n = c.feed-count.result.0 in
+    let b = c.feed-count.result.1 in
+    let line = line_of c.feed-count.new.self.point in
+    let t = c.in_ok-take_line.ensures in
+    let one = one_count (lines_within p (take n c.args.chunk.now)) b line f.lines c.if-not-is_whole.false in record {
+      some = some_taken p n c.args.chunk.now b line f.lines c.if-not-is_whole.false;
+      most = f.within;
+      through = record {
+        settled = λ e h. record {
+          came = record {
+            gave = one_gave e _ b line f.lines c.if-not-is_whole.false (t.gets e h);
+            rows_quiet = (t.faults e h).0;
+            notes_quiet = (t.faults e h).1;
+          };
+          at = one_edge e _ b line f.lines c.if-not-is_whole.false (t.edge e h);
+        };
+        moved = record { point = t.point ∙ f.point; free = t.ready; source_lines = omega (arith, one) };
+      };
+    }

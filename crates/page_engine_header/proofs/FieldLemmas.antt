@@ -1,0 +1,63 @@
+-- The fields of a header or footer: helpers of proofs.
+use Rattle.std.proofs.Common.{◌≡◌, ℕ, zero, suc, ◌+◌, ◌-◌, ◌<◌, ◌≤◌, ◌==◌, ◌&&◌, true, false, List, [], ◌∷◌, ◌++◌, length, take, drop, get_or, refl, ap, sym, ◌∙◌, arith, inl, inr, append_assoc}
+use Rattle.std.proofs.lemmas.Bool.{cases_Bool}
+use Rattle.std.proofs.lemmas.Bool.Decides.{nat_tests}
+use Rattle.std.specs.List.{flat_map}
+use Rattle.page_core_base.specs.declared.places.Place.{Place}
+use Rattle.page_roff_forms.specs.declared.quotes.Argument.{Argument}
+use Rattle.page_engine_header.specs.Fields.{quote_len, single_quotes, first_field, or_else, volume_of, fields_of, cut_items}
+
+same_quote : (b c : ℕ) → (b == 34 && c == 34) ≡ true → b ≡ 34
+same_quote b c h = grind (arith, nat_tests, h)
+
+pub quotes_more : (text : List ℕ) → 0 < length text → single_quotes text ≡ get_or text 0 0 ∷ single_quotes (drop (quote_len text) text)
+quotes_more [] h = absurd (omega arith)
+quotes_more (b ∷ []) h = refl
+quotes_more (b ∷ c ∷ cs) h =
+    elim (cases_Bool (b == 34 && c == 34)) [
+      | inl t ↦ let e = same_quote b c t in rw t (ap (λ x. x ∷ single_quotes cs) (sym e))
+      | inr f ↦ rw f refl
+    ]
+
+-- one more byte is kept
+pub kept_more : (kept text rest : List ℕ) (n : ℕ) → kept ++ single_quotes rest ≡ single_quotes text → 0 < length rest → n ≡ quote_len rest
+    → (kept ++ get_or rest 0 0 ∷ []) ++ single_quotes (drop n rest) ≡ single_quotes text
+kept_more kept text rest n e h q =
+    append_assoc kept (get_or rest 0 0 ∷ []) (single_quotes (drop n rest))
+    ∙ ap (λ l. kept ++ l) (rw q (sym (quotes_more rest h))) ∙ e
+
+pub quotes_none : (text : List ℕ) → length text ≤ 0 → single_quotes text ≡ []
+quotes_none [] h = refl
+quotes_none (b ∷ bs) h = absurd (omega arith)
+
+-- ---- arguments, one after another
+
+pub drop_two : {A : Type 0} → (xs : List A) → drop 1 (drop 1 xs) ≡ drop 2 xs
+drop_two [] = refl
+drop_two (x ∷ xs) = refl
+
+pub drop_three : {A : Type 0} → (xs : List A) → drop 1 (drop 2 xs) ≡ drop 3 xs
+drop_three [] = refl
+drop_three (x ∷ []) = refl
+drop_three (x ∷ y ∷ ys) = refl
+
+pub drop_four : {A : Type 0} → (xs : List A) → drop 1 (drop 3 xs) ≡ drop 4 xs
+drop_four [] = refl
+drop_four (x ∷ []) = refl
+drop_four (x ∷ y ∷ []) = refl
+drop_four (x ∷ y ∷ z ∷ zs) = refl
+
+pub fields_read : (os : List ℕ) (all a b c d : List (Argument (List ℕ))) (title section date source volume : List ℕ)
+    → a ≡ drop 1 all → b ≡ drop 1 a → c ≡ drop 1 b → d ≡ drop 1 c → title ≡ first_field all → section ≡ first_field a → date ≡ first_field b
+    → source ≡ or_else (first_field c) os → volume ≡ or_else (first_field d) (volume_of section)
+    → record { title = title; section = section; date = date; source = source; volume = volume } ≡ fields_of os all
+fields_read os all a b c d title section date source volume p q r s t u v w x =
+    let second : b ≡ drop 2 all = q ∙ ap (drop 1) p ∙ drop_two all in
+    let third : c ≡ drop 3 all = r ∙ ap (drop 1) second ∙ drop_three all in
+    let fourth : d ≡ drop 4 all = s ∙ ap (drop 1) third ∙ drop_four all in
+    rw (x, w, v, u, t, fourth, third, second, p) refl
+
+pub cuts_more : (place : Place) (left : ℕ) (all others : List (Argument (List ℕ))) (argument : Argument (List ℕ)) → all ≡ argument ∷ others → 0 < left
+    → flat_map (cut_items place) (take left all) ≡ cut_items place argument ++ flat_map (cut_items place) (take (left - 1) others)
+cuts_more place zero all others argument e h = absurd (omega arith)
+cuts_more place (suc n) all others argument e h = let m : suc n - 1 ≡ n = omega arith in rw (e, m) refl

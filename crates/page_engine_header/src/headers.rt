@@ -1,0 +1,136 @@
+//! The header and the footer of a page (man(7), `TH`; mandoc(1), "ASCII Output").
+
+ghost use Rattle.std.specs.Prelude.{◌≡◌, ◌≤◌, ◌<◌, ◌-◌, ◌^◌};
+ghost use Rattle.page_core_base.specs.Latches.{Came};
+ghost use Rattle.page_engine_header.specs.Header.{second_start, third_start, part_tokens, IsShort, row_items, missing_items, header_items, header_row, footer_row};
+
+use crate::{Fields, Part};
+use page_core_base::{NoteKind, Output, Piece, PieceOut, Place};
+use page_scopes_words::report;
+
+/// The measure of a page's rows.
+#[derive(Clone, Copy)]
+pub struct Measure {
+    /// The columns of a row with its margin.
+    pub width: u32,
+    /// The margin of text, in columns.
+    pub indent: u32,
+    pub output: Output,
+}
+
+// The column of the second part, from the columns of the row and of its parts.
+fn second_start(width: u32, first: u32, second: u32) -> u32
+    requires { first < 2 ^ 32 - 1 }
+    ensures { result ≡ second_start width first second }
+{
+    (first + 1).max(width.saturating_sub(second) / 2)
+}
+
+// The column of the third part.
+fn third_start(width: u32, first: u32, second: u32, third: u32) -> u32
+    requires first { first ≤ 512002 }
+    requires second { second ≤ 512002 }
+    ensures { result ≡ third_start width first second third }
+{
+    let start = second_start(width, first, second);
+    (start + second + 1).max(width.saturating_sub(third))
+}
+
+// Gives a row of three parts, which is kept as it is.
+#[tactic(auto, unfolding(crate::specs::Header::row_items))]
+fn give_row<O: PieceOut>(
+    out: &mut O,
+    measure: Measure,
+    place: Place,
+    first: Part<'_>,
+    second: Part<'_>,
+    third: Part<'_>,
+)
+    requires first { IsShort first }
+    requires second { IsShort second }
+    requires third { IsShort third }
+    ensures { Came O.left out.old
+        (row_items measure place (part_tokens first.entry) (part_tokens second.entry)
+        (part_tokens third.entry)) out.new }
+{
+    let output = measure.output;
+    let columns = (
+        first.columns(output),
+        second.columns(output),
+        third.columns(output),
+    );
+    out.give(Piece::Literal(true));
+    out.give(Piece::Indent { first: 0, rest: 0 });
+    first.give(out, output, place);
+    out.give(Piece::Column(second_start(measure.width, columns.0, columns.1)));
+    second.give(out, output, place);
+    out.give(Piece::Column(third_start(measure.width, columns.0, columns.1, columns.2)));
+    third.give(out, output, place);
+    out.give(Piece::Break);
+    out.give(Piece::Literal(false));
+}
+
+// Gives the header's row.
+fn give_header_row<O: PieceOut>(out: &mut O, measure: Measure, place: Place, fields: &Fields)
+    ensures { Came O.left out.old (header_row measure place fields.now) out.new }
+{
+    let name = Part::Name {
+        title: fields.title.text(),
+        section: fields.section.text(),
+    };
+    give_row(
+        out,
+        measure,
+        place,
+        name,
+        Part::Text(fields.volume.text()),
+        name,
+    );
+}
+
+/// Gives the footer's row.
+pub fn give_footer_row<O: PieceOut>(out: &mut O, measure: Measure, place: Place, fields: &Fields)
+    ensures { Came O.left out.old (footer_row measure place fields.now) out.new }
+{
+    let name = Part::Name {
+        title: fields.title.text(),
+        section: fields.section.text(),
+    };
+    let source = Part::Text(fields.source.text());
+    give_row(
+        out,
+        measure,
+        place,
+        source,
+        Part::Text(fields.date.text()),
+        name,
+    );
+}
+
+// Reports the fields that are missing.
+fn report_missing<O: PieceOut>(out: &mut O, place: Place, fields: &Fields)
+    ensures { Came O.left out.old (missing_items place fields.now) out.new }
+{
+    if fields.title.is_empty() {
+        report(out, NoteKind::MissingTitle, place, b"");
+    }
+    if fields.volume.is_empty() {
+        report(out, NoteKind::UnknownSection, place, fields.section.text());
+    }
+    if fields.date.is_empty() {
+        report(out, NoteKind::MissingDate, place, b"");
+    }
+}
+
+/// Gives the header, a blank row and the messages of missing fields; then text stands at the indent.
+pub fn give_header<O: PieceOut>(out: &mut O, measure: Measure, place: Place, fields: &Fields)
+    ensures { Came O.left out.old (header_items measure place fields.now) out.new }
+{
+    give_header_row(out, measure, place, fields);
+    out.give(Piece::Space(1));
+    report_missing(out, place, fields);
+    out.give(Piece::Indent {
+        first: measure.indent,
+        rest: measure.indent,
+    });
+}

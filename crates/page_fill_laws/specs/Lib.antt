@@ -1,0 +1,4 @@
+pub mod InWords
+pub mod Words
+pub mod Filled
+pub mod PieceWords

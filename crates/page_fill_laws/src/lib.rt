@@ -1,0 +1,6 @@
+//! Laws of filling: what `page_fill` does, in words that name none of its steps.
+#![tactic(auto)]
+
+mod laws;
+
+pub use laws::{fill_law, filled_law, glue_law, word_law};

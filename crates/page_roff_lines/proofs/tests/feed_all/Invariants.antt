@@ -1,6 +1,0 @@
-use Rattle.std.proofs.Common.{◌≡◌, ◌+◌, ◌≤◌, false, length}
-use Rattle.page_roff_lines.proofs.tests.feed_all.Given as goal
-
--- no line waits, and the part before this place came
-abbrev pub invariant-parts : goal.invariant-parts
-invariant-parts l = (l.cutter.ready ≡ false) × (l.at ≤ length l.chunk) × (l.cutter.point.line.consumed ≡ l.fn.cutter.point.line.consumed + l.at)
