@@ -1,6 +1,7 @@
 -- Strings and macros by name, number registers by name, and which definitions are refused.
 -- Source: roff(7), "MACRO SYNTAX", "ds", "as", "de", "am", "rm", "rn", "nr", "rr".
-use Rattle.std.specs.Prelude.{◌≡◌, ℕ, ◌+◌, ◌≤◌, ℤ, nat_lt, cond, not, List, [], ◌∷◌, length, T, MatchOption, MatchResult}
+use Rattle.std.specs.Prelude.{◌≡◌, ℕ, ◌+◌, ℤ, nat_lt, cond, not, List, [], length, MatchOption, MatchResult}
+use Rattle.std.specs.Borrow.{Bor}
 use Rattle.std.specs.declared.option.Option.{Option}
 use Rattle.std.specs.declared.option.Option.TheVariants.{Some, None}
 use Rattle.std.specs.declared.result.Result.{Result}
@@ -67,6 +68,10 @@ abbrev pub number_or_none : Option Definition → Option ℤ
 number_or_none None = None
 number_or_none (Some d) = number_in d.meaning
 
+-- what is lent is this
+abbrev pub Lends : Option (Bor (List ℕ)) → Option (List ℕ) → Type 0
+Lends lent wanted = MatchOption lent (wanted ≡ None) (λ value. wanted ≡ Some value.now)
+
 -- the string of a name; a predefined one is there while no definition hides it
 abbrev pub string_of : List ℕ → Definitions → Option (List ℕ)
 string_of name d = string_or (predefined name) (look name d.texts)
@@ -91,7 +96,7 @@ with_register name n d = record { texts = d.texts; registers = put name (definit
 abbrev pub without_register : List ℕ → Definitions → Definitions
 without_register name d = record { texts = d.texts; registers = without name d.registers }
 
--- the first limit that is passed by the bytes of a name, the count of all names, the bytes of a value, and of all
+-- the first limit that is passed: by the bytes of a name, the count of all names, the bytes of a value, and of all
 unfoldable pub first_passed : ℕ → ℕ → ℕ → ℕ → Option Limit
 first_passed name names value bytes =
     cond (nat_lt NAME name) (Some Name)
@@ -102,13 +107,21 @@ first_passed name names value bytes =
 -- the limit that the definition of this name with this value passes, where all would be as in `d` after it
 abbrev pub refusal : List ℕ → List ℕ → Definitions → Option Limit
 refusal name value d =
-    first_passed (length name) (length d.texts + length d.registers) (length value) (size d.texts + size d.registers)
+    first_passed (length name) (length d.texts + length d.registers)
+    (length value) (size d.texts + size d.registers)
 
 -- all is as wanted, or else a limit is named and all is as it was
-abbrev pub Defines : List ℕ → List ℕ → Definitions → Definitions → Result (Unit {0}) Limit → Definitions → Type 0
+abbrev pub Defines :
+    List ℕ → List ℕ → Definitions → Definitions → Result (Unit {0}) Limit → Definitions → Type 0
 Defines name value wanted old result new = MatchResult result
     (λ _. (refusal name value wanted ≡ None) × (new ≡ wanted))
     (λ limit. (refusal name value wanted ≡ Some limit) × (new ≡ old))
+
+-- a string or a macro with this value is defined, or a limit is named
+abbrev pub DefinesText :
+    Meaning → List ℕ → List ℕ → Definitions → Result (Unit {0}) Limit → Definitions → Type 0
+DefinesText meaning name value old result new =
+    Defines name value (with_text name (definition meaning value) old) old result new
 
 -- roff(7), "rn": a name without a definition is passed over
 abbrev pub Renames : List ℕ → List ℕ → Definitions → Result (Unit {0}) Limit → Definitions → Type 0

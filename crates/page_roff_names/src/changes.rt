@@ -1,12 +1,15 @@
 //! Changes of one set of names, which shares its limits with the other.
-ghost use Rattle.std.specs.Prelude.{◌≡◌, ℕ, ◌+◌, ◌<◌, ◌≤◌, List, [], ◌∷◌, ◌++◌, length, MatchOption, MatchResult, Some, None, unwrap_or, T};
+ghost use Rattle.std.specs.Prelude.{◌≡◌, ℕ, ◌+◌, ◌<◌, ◌≤◌, List, [], ◌∷◌, ◌++◌, length};
+ghost use Rattle.std.specs.Prelude.{MatchOption, MatchResult, Some, None, unwrap_or, T};
 ghost use Rattle.std.specs.FinMap.{is_sorted};
 ghost use Rattle.std.specs.List.{insert, remove};
 ghost use Rattle.std.specs.Vec.{vec_len, vec_capacity};
 ghost use Rattle.page_roff_names.specs.Entries.{Definition, definition, size, name_at, definition_at};
 ghost use Rattle.page_roff_names.specs.Predefined.{predefined};
-ghost use Rattle.page_roff_names.specs.Names.{by_bytes, look, put, without, string_or, body_or_none, first_passed};
-ghost use Rattle.page_roff_names.specs.Changes.{refusal_beside, Settles, RenamesBeside, AreShort, IsKept, IsBelow, IsAbove};
+ghost use Rattle.page_roff_names.specs.Names.{by_bytes, look, put, without, string_or, body_or_none};
+ghost use Rattle.page_roff_names.specs.Names.{first_passed, Lends};
+ghost use Rattle.page_roff_names.specs.Changes.{refusal_beside, Settles, RenamesBeside, AreShort, IsKept};
+ghost use Rattle.page_roff_names.specs.Changes.{FoundAt, MissingAt, StandsAt};
 
 use crate::predefined::predefined;
 use crate::rows::{Meaning, Row, append};
@@ -34,7 +37,7 @@ pub(crate) fn others(row: &Row) -> OtherSet
 fn search(row: &Row, name: &[u8]) -> Result<usize, usize>
     requires { T (is_sorted by_bytes row.now) }
     ensures range { MatchResult result (λ i. i < length row.now) (λ i. i ≤ length row.now) }
-    ensures found { MatchResult result (λ i. by_bytes name.now (name_at row.now i) ≡ Ordering.Equal) (λ i. IsBelow name.now i row.now × IsAbove name.now i row.now) }
+    ensures found { MatchResult result (λ i. FoundAt name.now row.now i) (λ i. MissingAt name.now row.now i) }
 {
     let mut low = 0;
     let mut high = row.len();
@@ -52,7 +55,7 @@ fn search(row: &Row, name: &[u8]) -> Result<usize, usize>
 /// Where a name stands.
 pub(crate) fn find(row: &Row, name: &[u8]) -> Option<usize>
     requires { T (is_sorted by_bytes row.now) }
-    ensures { MatchOption result (look name.now row.now ≡ None) (λ i. (i < length row.now) × (look name.now row.now ≡ Some (definition_at row.now i))) }
+    ensures { MatchOption result (look name.now row.now ≡ None) (λ i. StandsAt name.now row.now i) }
 {
     match search(row, name) {
         Ok(i) => Some(i),
@@ -64,7 +67,7 @@ pub(crate) fn find(row: &Row, name: &[u8]) -> Option<usize>
 pub(crate) fn string<'a>(row: &'a Row, name: &[u8]) -> Option<&'a [u8]>
     requires sorted { T (is_sorted by_bytes row.now) }
     requires short { AreShort row.now }
-    ensures is { let string = string_or (predefined name.now) (look name.now row.now) in MatchOption result (string ≡ None) (λ value. string ≡ Some value.now) }
+    ensures is { Lends result (string_or (predefined name.now) (look name.now row.now)) }
     ensures short { MatchOption result (Unit {0}) (λ value. length value.now ≤ BODY) }
 {
     match find(row, name) {
@@ -81,7 +84,7 @@ pub(crate) fn string<'a>(row: &'a Row, name: &[u8]) -> Option<&'a [u8]>
 pub(crate) fn body<'a>(row: &'a Row, name: &[u8]) -> Option<&'a [u8]>
     requires sorted { T (is_sorted by_bytes row.now) }
     requires short { AreShort row.now }
-    ensures is { let body = body_or_none (look name.now row.now) in MatchOption result (body ≡ None) (λ value. body ≡ Some value.now) }
+    ensures is { Lends result (body_or_none (look name.now row.now)) }
     ensures short { MatchOption result (Unit {0}) (λ value. length value.now ≤ BODY) }
 {
     match find(row, name) {
@@ -144,14 +147,25 @@ fn first_passed(name: usize, names: usize, value: usize, others: usize) -> Optio
 /// The limit that a definition with a value of this length passes.
 fn passed(row: &Row, name: &[u8], value: usize, others: OtherSet) -> Option<Limit>
     requires { IsKept others row.now }
-    ensures { (d : Definition) → length d.value ≡ value → result ≡ refusal_beside others name.now d.value (put name.now d row.now) }
+    ensures { (d : Definition) → length d.value ≡ value
+        → result ≡ refusal_beside others name.now d.value (put name.now d row.now) }
 {
     match search(row, name) {
         Ok(i) => {
             let old = row.name(i).len() + row.value(i).len();
-            first_passed(name.len(), row.len() + others.names, value, row.bytes() - old + others.bytes)
+            first_passed(
+                name.len(),
+                row.len() + others.names,
+                value,
+                row.bytes() - old + others.bytes,
+            )
         }
-        Err(_) => first_passed(name.len(), row.len() + 1 + others.names, value, row.bytes() + others.bytes),
+        Err(_) => first_passed(
+            name.len(),
+            row.len() + 1 + others.names,
+            value,
+            row.bytes() + others.bytes,
+        ),
     }
 }
 
@@ -186,9 +200,16 @@ fn put_definition(row: &mut Row, name: &[u8], meaning: Meaning, value: &[u8])
 }
 
 /// Gives a name a definition, unless that passes a limit.
-pub(crate) fn settle(row: &mut Row, name: &[u8], meaning: Meaning, value: &[u8], others: OtherSet) -> Result<(), Limit>
+pub(crate) fn settle(
+    row: &mut Row,
+    name: &[u8],
+    meaning: Meaning,
+    value: &[u8],
+    others: OtherSet,
+) -> Result<(), Limit>
     requires { IsKept others row.old }
-    ensures { Settles others name.now value.now (put name.now (definition meaning value.now) row.old) row.old result row.new }
+    ensures { Settles others name.now value.now (put name.now (definition meaning value.now) row.old)
+        row.old result row.new }
 {
     match passed(row, name, value.len(), others) {
         Some(limit) => Err(limit),
@@ -200,10 +221,18 @@ pub(crate) fn settle(row: &mut Row, name: &[u8], meaning: Meaning, value: &[u8],
 }
 
 /// Gives a name the value in `scratch` with more at the end, unless that passes a limit.
-pub(crate) fn settle_longer(row: &mut Row, scratch: &mut Vec<u8>, name: &[u8], meaning: Meaning, more: &[u8], others: OtherSet) -> Result<(), Limit>
+pub(crate) fn settle_longer(
+    row: &mut Row,
+    scratch: &mut Vec<u8>,
+    name: &[u8],
+    meaning: Meaning,
+    more: &[u8],
+    others: OtherSet,
+) -> Result<(), Limit>
     requires kept { IsKept others row.old }
     requires scratch { (length scratch.old.items ≤ BODY) × (BODY ≤ vec_capacity scratch.old) }
-    ensures settles { let value = scratch.old.items ++ more.now in Settles others name.now value (put name.now (definition meaning value) row.old) row.old result row.new }
+    ensures settles { let value = scratch.old.items ++ more.now in
+        Settles others name.now value (put name.now (definition meaning value) row.old) row.old result row.new }
     ensures scratch { BODY ≤ vec_capacity scratch.new }
 {
     match passed(row, name, scratch.len() + more.len(), others) {
@@ -239,12 +268,20 @@ pub(crate) fn withdraw(row: &mut Row, name: &[u8])
 }
 
 /// Gives the i-th definition another name, unless that passes a limit.
-fn move_to(row: &mut Row, scratch: &mut Vec<u8>, i: usize, old_name: &[u8], name: &[u8], others: OtherSet) -> Result<(), Limit>
+fn move_to(
+    row: &mut Row,
+    scratch: &mut Vec<u8>,
+    i: usize,
+    old_name: &[u8],
+    name: &[u8],
+    others: OtherSet,
+) -> Result<(), Limit>
     requires place { i < length row.old }
     requires same { by_bytes old_name.now (name_at row.old i) ≡ Ordering.Equal }
     requires kept { IsKept others row.old }
     requires scratch { BODY ≤ vec_capacity scratch.old }
-    ensures settles { let d = definition_at row.old i in Settles others name.now d.value (put name.now d (remove row.old i)) row.old result row.new }
+    ensures settles { let d = definition_at row.old i in
+        Settles others name.now d.value (put name.now d (remove row.old i)) row.old result row.new }
     ensures scratch { BODY ≤ vec_capacity scratch.new }
 {
     let meaning = row.meaning(i);
@@ -260,7 +297,13 @@ fn move_to(row: &mut Row, scratch: &mut Vec<u8>, i: usize, old_name: &[u8], name
 }
 
 /// Gives a definition another name, unless that passes a limit.
-pub(crate) fn rename(row: &mut Row, scratch: &mut Vec<u8>, old_name: &[u8], name: &[u8], others: OtherSet) -> Result<(), Limit>
+pub(crate) fn rename(
+    row: &mut Row,
+    scratch: &mut Vec<u8>,
+    old_name: &[u8],
+    name: &[u8],
+    others: OtherSet,
+) -> Result<(), Limit>
     requires kept { IsKept others row.old }
     requires scratch { BODY ≤ vec_capacity scratch.old }
     ensures renames { RenamesBeside others old_name.now name.now row.old result row.new }

@@ -1,9 +1,13 @@
 //! The names of a page: its strings and macros, and its number registers.
-ghost use Rattle.std.specs.Prelude.{◌≡◌, [], ◌++◌, IfOk, MatchOption, Some, None, unwrap_or};
-ghost use Rattle.page_roff_names.specs.Entries.{definition};
-ghost use Rattle.page_roff_names.specs.Names.{Definitions, definitions, string_of, body_of, number_of, with_text, without_text, with_register, without_register, Defines, Renames};
+ghost use Rattle.std.specs.Prelude.{◌≡◌, [], ◌++◌, IfOk, unwrap_or};
+ghost use Rattle.page_roff_names.specs.Names.{Definitions, definitions, string_of, body_of, number_of};
+ghost use Rattle.page_roff_names.specs.Names.{without_text, with_register, without_register};
+ghost use Rattle.page_roff_names.specs.Names.{Lends, Defines, DefinesText, Renames};
 
-use crate::changes::{body, body_so_far, copy, find, others, rename, settle, settle_longer, string, string_so_far, withdraw};
+use crate::changes::{
+    body, body_so_far, copy, find, others, rename, settle, settle_longer, string, string_so_far,
+    withdraw,
+};
 use crate::rows::{Meaning, Row};
 use page_core_limits::{BODY, Limit};
 use std::alloc::{AllocError, Global};
@@ -45,14 +49,14 @@ impl Names {
 
     /// The value of a string, also of a predefined one that no definition hides.
     pub fn string(&self, name: &[u8]) -> Option<&[u8]>
-        ensures { MatchOption result (string_of name.now self.now ≡ None) (λ value. string_of name.now self.now ≡ Some value.now) }
+        ensures { Lends result (string_of name.now self.now) }
     {
         string(&self.texts, name)
     }
 
     /// The body of a macro: its lines, each with its end.
     pub fn body(&self, name: &[u8]) -> Option<&[u8]>
-        ensures { MatchOption result (body_of name.now self.now ≡ None) (λ value. body_of name.now self.now ≡ Some value.now) }
+        ensures { Lends result (body_of name.now self.now) }
     {
         body(&self.texts, name)
     }
@@ -73,32 +77,60 @@ impl Names {
 
     /// Defines a string, in place of what the name stood for.
     pub fn define_string(&mut self, name: &[u8], value: &[u8]) -> Result<(), Limit>
-        ensures { let wanted = with_text name.now (definition Meaning.String value.now) self.old in Defines name.now value.now wanted self.old result self.new }
+        ensures { DefinesText Meaning.String name.now value.now self.old result self.new }
     {
-        settle(&mut self.texts, name, Meaning::String, value, others(&self.registers))
+        settle(
+            &mut self.texts,
+            name,
+            Meaning::String,
+            value,
+            others(&self.registers),
+        )
     }
 
     /// Defines a macro, in place of what the name stood for.
     pub fn define_macro(&mut self, name: &[u8], body: &[u8]) -> Result<(), Limit>
-        ensures { let wanted = with_text name.now (definition Meaning.Macro body.now) self.old in Defines name.now body.now wanted self.old result self.new }
+        ensures { DefinesText Meaning.Macro name.now body.now self.old result self.new }
     {
-        settle(&mut self.texts, name, Meaning::Macro, body, others(&self.registers))
+        settle(
+            &mut self.texts,
+            name,
+            Meaning::Macro,
+            body,
+            others(&self.registers),
+        )
     }
 
     /// Appends to a string, or begins one where the name stands for none.
     pub fn append_string(&mut self, name: &[u8], more: &[u8]) -> Result<(), Limit>
-        ensures { let value = unwrap_or (string_of name.now self.old) [] ++ more.now in Defines name.now value (with_text name.now (definition Meaning.String value) self.old) self.old result self.new }
+        ensures { let value = unwrap_or (string_of name.now self.old) [] ++ more.now in
+            DefinesText Meaning.String name.now value self.old result self.new }
     {
         copy(&mut self.scratch, string_so_far(&self.texts, name));
-        settle_longer(&mut self.texts, &mut self.scratch, name, Meaning::String, more, others(&self.registers))
+        settle_longer(
+            &mut self.texts,
+            &mut self.scratch,
+            name,
+            Meaning::String,
+            more,
+            others(&self.registers),
+        )
     }
 
     /// Appends to a macro, or begins one where the name stands for none.
     pub fn append_macro(&mut self, name: &[u8], more: &[u8]) -> Result<(), Limit>
-        ensures { let value = unwrap_or (body_of name.now self.old) [] ++ more.now in Defines name.now value (with_text name.now (definition Meaning.Macro value) self.old) self.old result self.new }
+        ensures { let value = unwrap_or (body_of name.now self.old) [] ++ more.now in
+            DefinesText Meaning.Macro name.now value self.old result self.new }
     {
         copy(&mut self.scratch, body_so_far(&self.texts, name));
-        settle_longer(&mut self.texts, &mut self.scratch, name, Meaning::Macro, more, others(&self.registers))
+        settle_longer(
+            &mut self.texts,
+            &mut self.scratch,
+            name,
+            Meaning::Macro,
+            more,
+            others(&self.registers),
+        )
     }
 
     /// Takes the definition of a string or macro away.
@@ -112,14 +144,26 @@ impl Names {
     pub fn rename(&mut self, old_name: &[u8], name: &[u8]) -> Result<(), Limit>
         ensures { Renames old_name.now name.now self.old result self.new }
     {
-        rename(&mut self.texts, &mut self.scratch, old_name, name, others(&self.registers))
+        rename(
+            &mut self.texts,
+            &mut self.scratch,
+            old_name,
+            name,
+            others(&self.registers),
+        )
     }
 
     /// Gives a register a number.
     pub fn set_register(&mut self, name: &[u8], number: i32) -> Result<(), Limit>
         ensures { Defines name.now [] (with_register name.now number self.old) self.old result self.new }
     {
-        settle(&mut self.registers, name, Meaning::Register(number), b"", others(&self.texts))
+        settle(
+            &mut self.registers,
+            name,
+            Meaning::Register(number),
+            b"",
+            others(&self.texts),
+        )
     }
 
     /// Takes a register away.

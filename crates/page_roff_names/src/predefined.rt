@@ -1,12 +1,13 @@
 //! The strings that are there before any is defined (roff(7)).
 
-ghost use Rattle.std.specs.Prelude.{◌≡◌, ◌≤◌, length, MatchOption, Some, None};
+ghost use Rattle.std.specs.Prelude.{◌≤◌, length, MatchOption};
 ghost use Rattle.page_roff_names.specs.Predefined.{predefined};
+ghost use Rattle.page_roff_names.specs.Names.{Lends};
 
 /// The value of a predefined string.
 #[tactic(auto, unfolding(crate::specs::Predefined::predefined))]
 pub(crate) fn predefined(name: &[u8]) -> Option<&'static [u8]>
-    ensures is { MatchOption result (predefined name.now ≡ None) (λ value. predefined name.now ≡ Some value.now) }
+    ensures is { Lends result (predefined name.now) }
     ensures short { MatchOption result (Unit {0}) (λ value. length value.now ≤ 4) }
 {
     match name {

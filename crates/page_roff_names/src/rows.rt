@@ -1,5 +1,6 @@
 //! A row of names with what they stand for, their bytes in one text.
-ghost use Rattle.std.specs.Prelude.{◌≡◌, ℕ, ◌+◌, ◌<◌, ◌≤◌, ◌^◌, List, [], ◌∷◌, ◌++◌, length, take, drop, IfOk};
+ghost use Rattle.std.specs.Prelude.{◌≡◌, ℕ, ◌+◌, ◌<◌, ◌≤◌, ◌^◌, IfOk};
+ghost use Rattle.std.specs.Prelude.{List, [], ◌∷◌, ◌++◌, length, take, drop};
 ghost use Rattle.std.specs.List.{insert, remove};
 ghost use Rattle.std.specs.Vec.{vec_len, vec_capacity};
 ghost use Rattle.page_roff_names.specs.Entries.{Entries, size, name_at, definition_at, definition, with_meaning};
@@ -61,7 +62,8 @@ pub(crate) fn append(text: &mut Vec<u8>, more: &[u8])
 fn open_text(text: &mut Vec<u8>, start: usize, name: &[u8], value: &[u8])
     requires start { start ≤ vec_len text.old }
     requires room { vec_len text.old + length name.now + length value.now ≤ vec_capacity text.old }
-    ensures items { text.new.items ≡ take start text.old.items ++ (name.now ++ (value.now ++ drop start text.old.items)) }
+    ensures items { text.new.items
+        ≡ take start text.old.items ++ (name.now ++ (value.now ++ drop start text.old.items)) }
     ensures capacity { vec_capacity text.old ≤ vec_capacity text.new }
 {
     append(text, name);
@@ -138,7 +140,8 @@ fn mark_span(spans: &mut Vec<Span>, i: usize, meaning: Meaning)
 
 /// Where the i-th entry begins, or the end.
 fn start_of(spans: &[Span], i: usize, end: usize) -> usize
-    ensures { (m : Entries) → spans.now ≡ layout 0 m → end ≡ size m → i ≤ length m → result ≡ size (take i m) }
+    ensures { (m : Entries) → spans.now ≡ layout 0 m → end ≡ size m → i ≤ length m
+        → result ≡ size (take i m) }
 {
     if i < spans.len() { spans[i].start } else { end }
 }

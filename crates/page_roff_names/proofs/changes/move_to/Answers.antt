@@ -43,6 +43,7 @@ returns-in-Ok-clause-settles c =
 pub returns-in-Err-clause-settles : goal.returns-in-Err-clause-settles
 returns-in-Err-clause-settles c =
     let d = same_definition _ _ _ c.meaning-meaning.ensures (c.deref.ensures.value ∙ c.copy.ensures.items ∙ c.value.ensures) in
-    let again = same_definition _ _ _ c.meaning-meaning.ensures (c.deref-in-Err.ensures.value ∙ c.copy.ensures.items ∙ c.value.ensures) in
-    (not_moved _ _ (definition c.meaning-meaning.result c.deref.result.now) _ _ _ _ c.remove.ensures d c.in-Err.ensures.0,
-     c.insert.ensures ∙ undone _ _ _ _ _ c.requires.place c.requires.same again (c.in-Err.ensures.1 ∙ c.remove.ensures))
+    let again = same_definition _ _ _ c.meaning-meaning.ensures (c.deref-in-Err.ensures.value ∙ c.copy.ensures.items ∙ c.value.ensures) in (
+      not_moved _ _ (definition c.meaning-meaning.result c.deref.result.now) _ _ _ _ c.remove.ensures d c.in-Err.ensures.0,
+      c.insert.ensures ∙ undone _ _ _ _ _ c.requires.place c.requires.same again (c.in-Err.ensures.1 ∙ c.remove.ensures),
+    )

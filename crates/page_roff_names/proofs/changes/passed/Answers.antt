@@ -1,4 +1,4 @@
-use Rattle.std.proofs.Common.{◌+◌, ◌∙◌, sym, ap, arith, length}
+use Rattle.std.proofs.Common.{◌∙◌, sym, ap, arith, length}
 use Rattle.page_roff_names.proofs.Laid.{size-remove}
 use Rattle.page_roff_names.proofs.Kept.{hit_length, hit_size, miss_length, miss_size}
 use Rattle.page_roff_names.proofs.Refused.{same_limits}

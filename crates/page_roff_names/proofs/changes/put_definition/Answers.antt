@@ -1,4 +1,4 @@
-use Rattle.std.proofs.Common.{◌∙◌, subst, sym, ap, arith, ◌≤◌}
+use Rattle.std.proofs.Common.{◌∙◌, subst, sym, arith, ◌≤◌}
 use Rattle.page_core_limits.specs.declared.TheConstants.{DEFS}
 use Rattle.page_roff_names.specs.Entries.{size, definition}
 use Rattle.page_roff_names.proofs.Search.{same_name, put_hit, put_miss}

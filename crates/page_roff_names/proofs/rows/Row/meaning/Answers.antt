@@ -1,4 +1,4 @@
-use Rattle.std.proofs.Common.{◌∙◌, ap, arith}
+use Rattle.std.proofs.Common.{arith}
 use Rattle.page_roff_names.proofs.Laid.{opened, begins}
 use Rattle.page_roff_names.proofs.rows.Row.meaning.Goals as goal
 
