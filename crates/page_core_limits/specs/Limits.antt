@@ -1,10 +1,14 @@
 -- The names that messages show where a limit of a page is passed. Source: mandoc(1), "DIAGNOSTICS".
 use Rattle.std.specs.Prelude.{ℕ, List, codes}
 use Rattle.page_core_limits.specs.declared.Limit.{Limit}
-use Rattle.page_core_limits.specs.declared.Limit.TheVariants.{Line, Field, Cells, Parens}
+use Rattle.page_core_limits.specs.declared.Limit.TheVariants.{Line, Field, Cells, Parens, Name, Names, Body, Defs}
 
 abbrev pub name_of : Limit → List ℕ
 name_of Line = codes "LINE"
 name_of Field = codes "FIELD"
 name_of Cells = codes "CELLS"
 name_of Parens = codes "PARENS"
+name_of Name = codes "NAME"
+name_of Names = codes "NAMES"
+name_of Body = codes "BODY"
+name_of Defs = codes "DEFS"

@@ -16,6 +16,18 @@ pub const CELLS: usize = 4096;
 /// The open parentheses of an expression.
 pub const PARENS: u32 = 16;
 
+/// The bytes of the name of a string, macro or register.
+pub const NAME: usize = 64;
+
+/// The names of strings, macros and registers.
+pub const NAMES: usize = 1_024;
+
+/// The bytes of a string, or of the lines of a macro's body, each with its end.
+pub const BODY: usize = 16_384;
+
+/// The bytes of all names, strings and bodies.
+pub const DEFS: usize = 65_536;
+
 /// A limit of a page that has a message of its own where it is passed.
 #[derive(Clone, Copy)]
 pub enum Limit {
@@ -23,6 +35,10 @@ pub enum Limit {
     Field,
     Cells,
     Parens,
+    Name,
+    Names,
+    Body,
+    Defs,
 }
 
 impl Limit {
@@ -35,6 +51,10 @@ impl Limit {
             Limit::Field => "FIELD",
             Limit::Cells => "CELLS",
             Limit::Parens => "PARENS",
+            Limit::Name => "NAME",
+            Limit::Names => "NAMES",
+            Limit::Body => "BODY",
+            Limit::Defs => "DEFS",
         }
     }
 }

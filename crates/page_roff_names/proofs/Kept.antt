@@ -1,0 +1,185 @@
+-- What each change of one set keeps.
+use Rattle.std.proofs.Common.{◌≡◌, ℕ, zero, suc, ◌+◌, ◌<◌, ◌≤◌, Bool, true, false, cond, not, List, [], ◌∷◌, ◌++◌, length, unwrap_or, T, Some, None, MatchOption, subst, refl, sym, ap, ◌∙◌, arith}
+use Rattle.std.specs.declared.cmp.Ordering.{Ordering}
+use Rattle.std.specs.declared.cmp.Ordering.TheVariants.{Less, Equal, Greater}
+use Rattle.std.specs.Ordering.{is_eq}
+use Rattle.std.specs.declared.option.Option.{Option}
+use Rattle.std.specs.declared.result.Result.{Result}
+use Rattle.std.specs.declared.result.Result.TheVariants.{Ok, Err}
+use Rattle.std.specs.FinMap.{is_sorted}
+use Rattle.std.specs.FinMap.Entries.{by_order, is_sorted-put, is_sorted-where_key}
+use Rattle.std.specs.List.{insert, remove}
+use Rattle.std.proofs.lemmas.Cmp.{nat_list_cmp_total}
+use Rattle.page_core_limits.specs.declared.TheConstants.{BODY}
+use Rattle.page_core_limits.specs.declared.Limit.{Limit}
+use Rattle.page_roff_names.specs.declared.changes.OtherSet.{OtherSet}
+use Rattle.page_roff_names.specs.declared.rows.Meaning.{Meaning}
+use Rattle.page_roff_names.specs.Entries.{Entries, Definition, definition, size, name_at, definition_at, value_at}
+use Rattle.page_roff_names.specs.Names.{Definitions, definitions, with_text, Defines, by_bytes, look, put, without}
+use Rattle.page_roff_names.specs.Changes.{refusal_beside, Settles, RenamesBeside, AreShort, IsKept, IsStore, IsBelow, IsAbove}
+use Rattle.page_roff_names.proofs.Laid.{length-remove, size-remove, length-insert, size-insert}
+use Rattle.page_roff_names.proofs.Search.{same_name, look_hit, put_hit, without_hit, look_miss, put_miss}
+use Rattle.page_roff_names.proofs.Refused.{within, same_limits}
+
+short_by_order : (r : Ordering) (a b c : Entries) → AreShort a → AreShort b → AreShort c → AreShort (by_order r a b c)
+short_by_order Less a b c p q s = p
+short_by_order Equal a b c p q s = q
+short_by_order Greater a b c p q s = s
+
+short_put : (n : List ℕ) (d : Definition) (es : Entries) → length d.value ≤ BODY → AreShort es → AreShort (put n d es)
+short_put n d [] l h = (l, tt)
+short_put n d (e ∷ es) l h = short_by_order (by_bytes n e.0) _ _ _ (l, h) (l, h.1) (h.0, short_put n d es l h.1)
+
+pub short_remove : (es : Entries) (i : ℕ) → AreShort es → AreShort (remove es i)
+short_remove [] zero h = tt
+short_remove [] (suc i) h = tt
+short_remove (e ∷ es) zero h = h.1
+short_remove (e ∷ es) (suc i) h = (h.0, short_remove es i h.1)
+
+pub short_at : (es : Entries) (i : ℕ) → AreShort es → length (value_at es i) ≤ BODY
+short_at [] i h = omega arith
+short_at (e ∷ es) zero h = h.0
+short_at (e ∷ es) (suc i) h = short_at es i h.1
+
+pub kept_put : (o : OtherSet) (n : List ℕ) (d : Definition) (es : Entries) → T (is_sorted by_bytes es) → AreShort es → refusal_beside o n d.value (put n d es) ≡ None → IsKept o (put n d es)
+kept_put o n d es h k e =
+    let w = within _ _ _ _ e in
+    record { sorted = is_sorted-put by_bytes nat_list_cmp_total n d es h; few = w.0; small = w.2; short = short_put n d es w.1 k }
+
+pub sorted_remove : (n : List ℕ) (es : Entries) (i : ℕ) → T (is_sorted by_bytes es) → i < length es → by_bytes n (name_at es i) ≡ Equal → T (is_sorted by_bytes (remove es i))
+sorted_remove n es i h l e = subst (λ es. T (is_sorted by_bytes es)) (without_hit n es i h l e) (is_sorted-where_key by_bytes _ es h)
+
+pub kept_remove : (o : OtherSet) (n : List ℕ) (es : Entries) (i : ℕ) → IsKept o es → i < length es → by_bytes n (name_at es i) ≡ Equal → IsKept o (remove es i)
+kept_remove o n es i h l e =
+    let a = length-remove es i l in
+    let b = size-remove es i l in
+    record { sorted = sorted_remove n es i h.sorted l e; few = omega (arith, a, h.few); small = omega (arith, b, h.small); short = short_remove es i h.short }
+
+length_cond : (b : Bool) (e : List ℕ × Definition) (xs es : Entries) → length xs ≤ length es → length (cond b (e ∷ xs) xs) ≤ length (e ∷ es)
+length_cond true e xs es h = omega (arith, h)
+length_cond false e xs es h = omega (arith, h)
+
+length_without : (n : List ℕ) (es : Entries) → length (without n es) ≤ length es
+length_without n [] = omega arith
+length_without n (e ∷ es) = length_cond (not (is_eq (by_bytes n e.0))) e (without n es) es (length_without n es)
+
+size_cond : (b : Bool) (e : List ℕ × Definition) (xs es : Entries) → size xs ≤ size es → size (cond b (e ∷ xs) xs) ≤ size (e ∷ es)
+size_cond true e xs es h = omega (arith, h)
+size_cond false e xs es h = omega (arith, h)
+
+size_without : (n : List ℕ) (es : Entries) → size (without n es) ≤ size es
+size_without n [] = omega arith
+size_without n (e ∷ es) = size_cond (not (is_eq (by_bytes n e.0))) e (without n es) es (size_without n es)
+
+short_cond : (b : Bool) (e : List ℕ × Definition) (xs : Entries) → length e.1.value ≤ BODY → AreShort xs → AreShort (cond b (e ∷ xs) xs)
+short_cond true e xs l h = (l, h)
+short_cond false e xs l h = h
+
+short_without : (n : List ℕ) (es : Entries) → AreShort es → AreShort (without n es)
+short_without n [] h = tt
+short_without n (e ∷ es) h = short_cond (not (is_eq (by_bytes n e.0))) e (without n es) h.0 (short_without n es h.1)
+
+pub kept_without : (o : OtherSet) (n : List ℕ) (es : Entries) → IsKept o es → IsKept o (without n es)
+kept_without o n es h =
+    let a = length_without n es in
+    let b = size_without n es in
+    record { sorted = is_sorted-where_key by_bytes _ es h.sorted; few = omega (arith, a, h.few); small = omega (arith, b, h.small); short = short_without n es h.short }
+
+-- a definition that is settled keeps the set; `base` is what it is put into
+pub settled_kept : (o : OtherSet) (n : List ℕ) (d : Definition) (base es new : Entries) (r : Result (Unit {0}) Limit) → IsKept o base → IsKept o es → Settles o n d.value (put n d base) es r new → IsKept o new
+settled_kept o n d base es new (Ok u) g h s = subst (IsKept o) (sym s.1) (kept_put o n d base g.sorted g.short s.0)
+settled_kept o n d base es new (Err l) g h s = subst (IsKept o) (sym s.1) h
+
+renamed_kept_by : (o : OtherSet) (n : List ℕ) (base es new : Entries) (r : Result (Unit {0}) Limit) (found : Option Definition) → IsKept o base → IsKept o es → MatchOption found ((r ≡ Ok tt) × (new ≡ es)) (λ d. Settles o n d.value (put n d base) es r new) → IsKept o new
+renamed_kept_by o n base es new r None g h s = subst (IsKept o) (sym s.1) h
+renamed_kept_by o n base es new r (Some d) g h s = settled_kept o n d base es new r g h s
+
+pub renamed_kept : (o : OtherSet) (old_name n : List ℕ) (es new : Entries) (r : Result (Unit {0}) Limit) → IsKept o es → RenamesBeside o old_name n es r new → IsKept o new
+renamed_kept o old_name n es new r h s = renamed_kept_by o n (without old_name es) es new r (look old_name es) (kept_without o old_name es h) h s
+
+-- one set of a store, beside the other
+pub texts_kept : (o : OtherSet) (t r : Entries) → IsStore (definitions t r) → (o.names ≡ length r) × (o.bytes ≡ size r) → IsKept o t
+texts_kept o t r h e = record { sorted = h.sorted; few = omega (arith, h.few, e.0); small = omega (arith, h.small, e.1); short = h.short }
+
+pub registers_kept : (o : OtherSet) (t r : Entries) → IsStore (definitions t r) → (o.names ≡ length t) × (o.bytes ≡ size t) → IsKept o r
+registers_kept o t r h e = record { sorted = h.registers_sorted; few = omega (arith, h.few, e.0); small = omega (arith, h.small, e.1); short = h.registers_short }
+
+pub store_texts : (o : OtherSet) (t new r : Entries) → IsStore (definitions t r) → (o.names ≡ length r) × (o.bytes ≡ size r) → IsKept o new → IsStore (definitions new r)
+store_texts o t new r h e k = record { sorted = k.sorted; registers_sorted = h.registers_sorted; few = omega (arith, k.few, e.0); small = omega (arith, k.small, e.1); short = k.short; registers_short = h.registers_short }
+
+pub store_registers : (o : OtherSet) (t r new : Entries) → IsStore (definitions t r) → (o.names ≡ length t) × (o.bytes ≡ size t) → IsKept o new → IsStore (definitions t new)
+store_registers o t r new h e k = record { sorted = h.sorted; registers_sorted = k.sorted; few = omega (arith, k.few, e.0); small = omega (arith, k.small, e.1); short = h.short; registers_short = k.short }
+
+pub store_without_text : (n : List ℕ) (t new r : Entries) → IsStore (definitions t r) → new ≡ without n t → IsStore (definitions new r)
+store_without_text n t new r h e =
+    let o : OtherSet = record { names = length r; bytes = size r } in
+    subst (λ t. IsStore (definitions t r)) (sym e) (store_texts o t (without n t) r h (refl, refl) (kept_without o n t (texts_kept o t r h (refl, refl))))
+
+pub store_without_register : (n : List ℕ) (t r new : Entries) → IsStore (definitions t r) → new ≡ without n r → IsStore (definitions t new)
+store_without_register n t r new h e =
+    let o : OtherSet = record { names = length t; bytes = size t } in
+    subst (λ r. IsStore (definitions t r)) (sym e) (store_registers o t r (without n r) h (refl, refl) (kept_without o n r (registers_kept o t r h (refl, refl))))
+
+pub hit_length : (n : List ℕ) (d : Definition) (es : Entries) (i : ℕ) → T (is_sorted by_bytes es) → i < length es → by_bytes n (name_at es i) ≡ Equal → length (put n d es) ≡ length es
+hit_length n d es i h l e =
+    let r = length-remove es i l in
+    let p = length-insert (remove es i) i (n, d) (omega (arith, r, l)) in
+    ap length (put_hit n d es i h l e) ∙ omega (arith, r, p)
+
+pub hit_size : (n : List ℕ) (d : Definition) (es : Entries) (i : ℕ) → T (is_sorted by_bytes es) → i < length es → by_bytes n (name_at es i) ≡ Equal → size (put n d es) + (length (name_at es i) + length (value_at es i)) ≡ size es + (length n + length d.value)
+hit_size n d es i h l e =
+    let r = size-remove es i l in
+    let p = size-insert (remove es i) i (n, d) in
+    let q = ap size (put_hit n d es i h l e) in
+    omega (arith, r, p, q)
+
+pub miss_length : (n : List ℕ) (d : Definition) (es : Entries) (i : ℕ) → i ≤ length es → IsBelow n i es → IsAbove n i es → length (put n d es) ≡ length es + 1
+miss_length n d es i l b a = ap length (put_miss n d es i l b a) ∙ length-insert es i (n, d) l
+
+pub miss_size : (n : List ℕ) (d : Definition) (es : Entries) (i : ℕ) → i ≤ length es → IsBelow n i es → IsAbove n i es → size (put n d es) ≡ size es + (length n + length d.value)
+miss_size n d es i l b a = ap size (put_miss n d es i l b a) ∙ size-insert es i (n, d)
+
+pub put_back : (es : Entries) (i : ℕ) → i < length es → insert (remove es i) i (name_at es i, definition_at es i) ≡ es
+put_back [] i l = absurd (omega arith)
+put_back (e ∷ es) zero l = refl
+put_back (e ∷ es) (suc i) l = ap (λ es. e ∷ es) (put_back es i (omega arith))
+
+-- what was taken out is put in again
+pub undone : (old_name : List ℕ) (d : Definition) (es less : Entries) (i : ℕ) → i < length es → by_bytes old_name (name_at es i) ≡ Equal → d ≡ definition_at es i → less ≡ remove es i → insert less i (old_name, d) ≡ es
+undone old_name d es less i l e f is =
+    ap (λ m. insert m i (old_name, d)) is
+    ∙ ap (λ n. insert (remove es i) i (n, d)) (same_name old_name es i e)
+    ∙ ap (λ d. insert (remove es i) i (name_at es i, d)) f
+    ∙ put_back es i l
+
+pub same_definition : (meaning : Meaning) (value : List ℕ) (d : Definition) → meaning ≡ d.meaning → value ≡ d.value → definition meaning value ≡ d
+same_definition meaning value d e f = ap (λ m. definition m value) e ∙ ap (definition d.meaning) f
+
+pub moved : (o : OtherSet) (n : List ℕ) (d e : Definition) (base less new : Entries) → less ≡ base → d ≡ e → (refusal_beside o n d.value (put n d less) ≡ None) × (new ≡ put n d less) → (refusal_beside o n e.value (put n e base) ≡ None) × (new ≡ put n e base)
+moved o n d e base less new is same s =
+    subst (λ d. (refusal_beside o n d.value (put n d base) ≡ None) × (new ≡ put n d base)) same (subst (λ m. (refusal_beside o n d.value (put n d m) ≡ None) × (new ≡ put n d m)) is s)
+
+pub not_moved : (o : OtherSet) (n : List ℕ) (d e : Definition) (base less : Entries) (limit : Limit) → less ≡ base → d ≡ e → refusal_beside o n d.value (put n d less) ≡ Some limit → refusal_beside o n e.value (put n e base) ≡ Some limit
+not_moved o n d e base less limit is same s =
+    subst (λ d. refusal_beside o n d.value (put n d base) ≡ Some limit) same (subst (λ m. refusal_beside o n d.value (put n d m) ≡ Some limit) is s)
+
+pub renamed : (o : OtherSet) (old_name n : List ℕ) (es new : Entries) (i : ℕ) (r : Result (Unit {0}) Limit) → T (is_sorted by_bytes es) → i < length es → by_bytes old_name (name_at es i) ≡ Equal → Settles o n (value_at es i) (put n (definition_at es i) (remove es i)) es r new → RenamesBeside o old_name n es r new
+renamed o old_name n es new i r h l e s =
+    subst (λ found. MatchOption found ((r ≡ Ok tt) × (new ≡ es)) (λ d. Settles o n d.value (put n d (without old_name es)) es r new)) (sym (look_hit old_name es i h l e))
+    (subst (λ all. Settles o n (value_at es i) (put n (definition_at es i) all) es r new) (sym (without_hit old_name es i h l e)) s)
+
+pub not_renamed : (o : OtherSet) (old_name n : List ℕ) (es : Entries) (i : ℕ) → IsBelow old_name i es → IsAbove old_name i es → RenamesBeside o old_name n es (Ok tt) es
+not_renamed o old_name n es i b a =
+    let r : Result (Unit {0}) Limit = Ok tt in
+    subst (λ found. MatchOption found ((r ≡ r) × (es ≡ es)) (λ d. Settles o n d.value (put n d (without old_name es)) es r es)) (sym (look_miss old_name es i b a)) (refl, refl)
+
+-- what is settled beside the other set is defined
+defined_at : (o : OtherSet) (n : List ℕ) (d : Definition) (t r new : Entries) (res : Result (Unit {0}) Limit) → (o.names ≡ length r) × (o.bytes ≡ size r) → Settles o n d.value (put n d t) t res new → Defines n d.value (with_text n d (definitions t r)) (definitions t r) res (definitions new r)
+defined_at o n d t r new (Ok u) e s = (same_limits (length n) (ap (λ k. length (put n d t) + k) (sym e.0)) refl (ap (λ k. size (put n d t) + k) (sym e.1)) ∙ s.0, ap (λ t. definitions t r) s.1)
+defined_at o n d t r new (Err l) e s = (same_limits (length n) (ap (λ k. length (put n d t) + k) (sym e.0)) refl (ap (λ k. size (put n d t) + k) (sym e.1)) ∙ s.0, ap (λ t. definitions t r) s.1)
+
+pub appended : (m : Meaning) (so_far : Definitions → Option (List ℕ)) (o : OtherSet) (n more items : List ℕ) (t r new : Entries) (old : Definitions) (res : Result (Unit {0}) Limit) → definitions t r ≡ old → (o.names ≡ length r) × (o.bytes ≡ size r) → items ≡ unwrap_or (so_far (definitions t r)) [] → Settles o n (items ++ more) (put n (definition m (items ++ more)) t) t res new → Defines n (unwrap_or (so_far old) [] ++ more) (with_text n (definition m (unwrap_or (so_far old) [] ++ more)) old) old res (definitions new r)
+appended m so_far o n more items t r new old res is e f s =
+    subst (λ old. Defines n (unwrap_or (so_far old) [] ++ more) (with_text n (definition m (unwrap_or (so_far old) [] ++ more)) old) old res (definitions new r)) is
+    (subst (λ v. Defines n (v ++ more) (with_text n (definition m (v ++ more)) (definitions t r)) (definitions t r) res (definitions new r)) f
+    (defined_at o n (definition m (items ++ more)) t r new res e s))

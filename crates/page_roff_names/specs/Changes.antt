@@ -1,0 +1,68 @@
+-- The changes of one set of names beside the other: the code's own form of them.
+use Rattle.std.specs.Prelude.{◌≡◌, ℕ, ◌+◌, ◌<◌, ◌≤◌, List, [], ◌∷◌, length, T}
+use Rattle.std.specs.Prelude.{MatchOption, MatchResult}
+use Rattle.std.specs.declared.option.Option.{Option}
+use Rattle.std.specs.declared.option.Option.TheVariants.{Some, None}
+use Rattle.std.specs.declared.result.Result.{Result}
+use Rattle.std.specs.declared.result.Result.TheVariants.{Ok}
+use Rattle.std.specs.declared.cmp.Ordering.TheVariants.{Less, Equal, Greater}
+use Rattle.std.specs.FinMap.{is_sorted}
+use Rattle.page_core_limits.specs.declared.TheConstants.{NAMES, BODY, DEFS}
+use Rattle.page_core_limits.specs.declared.Limit.{Limit}
+use Rattle.page_roff_names.specs.declared.changes.OtherSet.{OtherSet}
+use Rattle.page_roff_names.specs.Entries.{Entries, size, name_at, definition_at}
+use Rattle.page_roff_names.specs.Names.{Definitions, by_bytes, look, put, without, first_passed}
+
+-- the limit that a definition passes, where the entries of its set would be these
+abbrev pub refusal_beside : OtherSet → List ℕ → List ℕ → Entries → Option Limit
+refusal_beside others name value es =
+    first_passed (length name) (length es + others.names) (length value) (size es + others.bytes)
+
+abbrev pub Settles :
+    OtherSet → List ℕ → List ℕ → Entries → Entries → Result (Unit {0}) Limit → Entries → Type 0
+Settles others name value wanted old result new = MatchResult result
+    (λ _. (refusal_beside others name value wanted ≡ None) × (new ≡ wanted))
+    (λ limit. (refusal_beside others name value wanted ≡ Some limit) × (new ≡ old))
+
+abbrev pub RenamesBeside :
+    OtherSet → List ℕ → List ℕ → Entries → Result (Unit {0}) Limit → Entries → Type 0
+RenamesBeside others old_name name old result new = MatchOption (look old_name old)
+    ((result ≡ Ok tt) × (new ≡ old))
+    (λ d. Settles others name d.value (put name d (without old_name old)) old result new)
+
+abbrev pub AreShort : Entries → Type 0
+AreShort [] = Unit {0}
+AreShort (e ∷ es) = (length e.1.value ≤ BODY) × AreShort es
+
+-- one set of names beside the other
+pub record IsKept (others : OtherSet) (es : Entries) : Type 0 where
+  pub sorted : T (is_sorted by_bytes es)
+  pub few : length es + others.names ≤ NAMES
+  pub small : size es + others.bytes ≤ DEFS
+  pub short : AreShort es
+
+-- both
+pub record IsStore (d : Definitions) : Type 0 where
+  pub sorted : T (is_sorted by_bytes d.texts)
+  pub registers_sorted : T (is_sorted by_bytes d.registers)
+  pub few : length d.texts + length d.registers ≤ NAMES
+  pub small : size d.texts + size d.registers ≤ DEFS
+  pub short : AreShort d.texts
+  pub registers_short : AreShort d.registers
+
+-- the names before the i-th are less than n
+abbrev pub IsBelow : List ℕ → ℕ → Entries → Type 0
+IsBelow n i es = (k : ℕ) → k < i → by_bytes n (name_at es k) ≡ Greater
+
+-- those from the i-th on are greater
+abbrev pub IsAbove : List ℕ → ℕ → Entries → Type 0
+IsAbove n i es = (k : ℕ) → i ≤ k → k < length es → by_bytes n (name_at es k) ≡ Less
+
+abbrev pub FoundAt : List ℕ → Entries → ℕ → Type 0
+FoundAt n es i = by_bytes n (name_at es i) ≡ Equal
+
+abbrev pub MissingAt : List ℕ → Entries → ℕ → Type 0
+MissingAt n es i = IsBelow n i es × IsAbove n i es
+
+abbrev pub StandsAt : List ℕ → Entries → ℕ → Type 0
+StandsAt n es i = (i < length es) × (look n es ≡ Some (definition_at es i))

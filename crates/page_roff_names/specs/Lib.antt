@@ -1,0 +1,5 @@
+pub mod Changes
+pub mod Entries
+pub mod Layout
+pub mod Names
+pub mod Predefined

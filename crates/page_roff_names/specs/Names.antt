@@ -1,0 +1,130 @@
+-- Strings and macros by name, number registers by name, and which definitions are refused.
+-- Source: roff(7), "MACRO SYNTAX", "ds", "as", "de", "am", "rm", "rn", "nr", "rr".
+use Rattle.std.specs.Prelude.{◌≡◌, ℕ, ◌+◌, ℤ, nat_lt, cond, not, List, [], length, MatchOption, MatchResult}
+use Rattle.std.specs.Borrow.{Bor}
+use Rattle.std.specs.declared.option.Option.{Option}
+use Rattle.std.specs.declared.option.Option.TheVariants.{Some, None}
+use Rattle.std.specs.declared.result.Result.{Result}
+use Rattle.std.specs.declared.result.Result.TheVariants.{Ok}
+use Rattle.std.specs.declared.cmp.Ordering.{Ordering}
+use Rattle.std.specs.Ordering.{nat_cmp, eq_by_cmp}
+use Rattle.std.specs.Cmp.Lexicographic.{slice_cmp}
+use Rattle.std.specs.FinMap.{find, put as put_entry}
+use Rattle.std.specs.FinMap.Entries.{where_key}
+use Rattle.page_core_limits.specs.declared.TheConstants.{NAME, NAMES, BODY, DEFS}
+use Rattle.page_core_limits.specs.declared.Limit.{Limit}
+use Rattle.page_core_limits.specs.declared.Limit.TheVariants.{Name, Names, Body, Defs}
+use Rattle.page_roff_names.specs.declared.rows.Meaning.{Meaning}
+use Rattle.page_roff_names.specs.declared.rows.Meaning.TheVariants.{String, Macro, Register}
+use Rattle.page_roff_names.specs.Entries.{Definition, Entries, definition, size}
+use Rattle.page_roff_names.specs.Predefined.{predefined}
+
+-- names in the order of their bytes
+abbrev pub by_bytes : List ℕ → List ℕ → Ordering
+by_bytes = slice_cmp nat_cmp
+
+abbrev pub look : List ℕ → Entries → Option Definition
+look name es = find by_bytes name es
+
+-- the entries with this definition of the name, in place of one that it has
+abbrev pub put : List ℕ → Definition → Entries → Entries
+put name the_definition es = put_entry by_bytes name the_definition es
+
+abbrev pub without : List ℕ → Entries → Entries
+without name es = where_key by_bytes (λ other. not (eq_by_cmp by_bytes name other)) es
+
+-- strings and macros share one set of names, registers have another
+pub record Definitions : Type 0 where
+  pub texts : Entries
+  pub registers : Entries
+
+abbrev pub definitions : Entries → Entries → Definitions
+definitions the_texts the_registers = record { texts = the_texts; registers = the_registers }
+
+abbrev pub string_in : Meaning → List ℕ → Option (List ℕ)
+string_in String value = Some value
+string_in Macro value = None
+string_in (Register n) value = None
+
+abbrev pub body_in : Meaning → List ℕ → Option (List ℕ)
+body_in String value = None
+body_in Macro value = Some value
+body_in (Register n) value = None
+
+abbrev pub number_in : Meaning → Option ℤ
+number_in String = None
+number_in Macro = None
+number_in (Register n) = Some n
+
+abbrev pub string_or : Option (List ℕ) → Option Definition → Option (List ℕ)
+string_or otherwise None = otherwise
+string_or otherwise (Some d) = string_in d.meaning d.value
+
+abbrev pub body_or_none : Option Definition → Option (List ℕ)
+body_or_none None = None
+body_or_none (Some d) = body_in d.meaning d.value
+
+abbrev pub number_or_none : Option Definition → Option ℤ
+number_or_none None = None
+number_or_none (Some d) = number_in d.meaning
+
+-- what is lent is this
+abbrev pub Lends : Option (Bor (List ℕ)) → Option (List ℕ) → Type 0
+Lends lent wanted = MatchOption lent (wanted ≡ None) (λ value. wanted ≡ Some value.now)
+
+-- the string of a name; a predefined one is there while no definition hides it
+abbrev pub string_of : List ℕ → Definitions → Option (List ℕ)
+string_of name d = string_or (predefined name) (look name d.texts)
+
+-- the body of a macro: its lines, each with its end
+abbrev pub body_of : List ℕ → Definitions → Option (List ℕ)
+body_of name d = body_or_none (look name d.texts)
+
+-- the number in a register
+abbrev pub number_of : List ℕ → Definitions → Option ℤ
+number_of name d = number_or_none (look name d.registers)
+
+abbrev pub with_text : List ℕ → Definition → Definitions → Definitions
+with_text name the_definition d = record { texts = put name the_definition d.texts; registers = d.registers }
+
+abbrev pub without_text : List ℕ → Definitions → Definitions
+without_text name d = record { texts = without name d.texts; registers = d.registers }
+
+abbrev pub with_register : List ℕ → ℤ → Definitions → Definitions
+with_register name n d = record { texts = d.texts; registers = put name (definition (Register n) []) d.registers }
+
+abbrev pub without_register : List ℕ → Definitions → Definitions
+without_register name d = record { texts = d.texts; registers = without name d.registers }
+
+-- the first limit that is passed: by the bytes of a name, the count of all names, the bytes of a value, and of all
+unfoldable pub first_passed : ℕ → ℕ → ℕ → ℕ → Option Limit
+first_passed name names value bytes =
+    cond (nat_lt NAME name) (Some Name)
+    (cond (nat_lt NAMES names) (Some Names)
+    (cond (nat_lt BODY value) (Some Body)
+    (cond (nat_lt DEFS bytes) (Some Defs) None)))
+
+-- the limit that the definition of this name with this value passes, where all would be as in `d` after it
+abbrev pub refusal : List ℕ → List ℕ → Definitions → Option Limit
+refusal name value d =
+    first_passed (length name) (length d.texts + length d.registers)
+    (length value) (size d.texts + size d.registers)
+
+-- all is as wanted, or else a limit is named and all is as it was
+abbrev pub Defines :
+    List ℕ → List ℕ → Definitions → Definitions → Result (Unit {0}) Limit → Definitions → Type 0
+Defines name value wanted old result new = MatchResult result
+    (λ _. (refusal name value wanted ≡ None) × (new ≡ wanted))
+    (λ limit. (refusal name value wanted ≡ Some limit) × (new ≡ old))
+
+-- a string or a macro with this value is defined, or a limit is named
+abbrev pub DefinesText :
+    Meaning → List ℕ → List ℕ → Definitions → Result (Unit {0}) Limit → Definitions → Type 0
+DefinesText meaning name value old result new =
+    Defines name value (with_text name (definition meaning value) old) old result new
+
+-- roff(7), "rn": a name without a definition is passed over
+abbrev pub Renames : List ℕ → List ℕ → Definitions → Result (Unit {0}) Limit → Definitions → Type 0
+Renames old_name name old result new = MatchOption (look old_name old.texts)
+    ((result ≡ Ok tt) × (new ≡ old))
+    (λ d. Defines name d.value (with_text name d (without_text old_name old)) old result new)

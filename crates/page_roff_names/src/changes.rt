@@ -1,0 +1,316 @@
+//! Changes of one set of names, which shares its limits with the other.
+ghost use Rattle.std.specs.Prelude.{◌≡◌, ℕ, ◌+◌, ◌<◌, ◌≤◌, List, [], ◌∷◌, ◌++◌, length};
+ghost use Rattle.std.specs.Prelude.{MatchOption, MatchResult, Some, None, unwrap_or, T};
+ghost use Rattle.std.specs.FinMap.{is_sorted};
+ghost use Rattle.std.specs.List.{insert, remove};
+ghost use Rattle.std.specs.Vec.{vec_len, vec_capacity};
+ghost use Rattle.page_roff_names.specs.Entries.{Definition, definition, size, name_at, definition_at};
+ghost use Rattle.page_roff_names.specs.Predefined.{predefined};
+ghost use Rattle.page_roff_names.specs.Names.{by_bytes, look, put, without, string_or, body_or_none};
+ghost use Rattle.page_roff_names.specs.Names.{first_passed, Lends};
+ghost use Rattle.page_roff_names.specs.Changes.{refusal_beside, Settles, RenamesBeside, AreShort, IsKept};
+ghost use Rattle.page_roff_names.specs.Changes.{FoundAt, MissingAt, StandsAt};
+
+use crate::predefined::predefined;
+use crate::rows::{Meaning, Row, append};
+use page_core_limits::{BODY, DEFS, Limit, NAME, NAMES};
+use std::cmp::Ordering;
+
+/// How many names the other set has, and how many bytes their entries.
+#[derive(Clone, Copy)]
+pub struct OtherSet {
+    pub names: usize,
+    pub bytes: usize,
+}
+
+/// What a set is to the other.
+pub(crate) fn others(row: &Row) -> OtherSet
+    ensures { (result.names ≡ length row.now) × (result.bytes ≡ size row.now) }
+{
+    OtherSet {
+        names: row.len(),
+        bytes: row.bytes(),
+    }
+}
+
+/// Where a name stands, or where it would.
+fn search(row: &Row, name: &[u8]) -> Result<usize, usize>
+    requires { T (is_sorted by_bytes row.now) }
+    ensures range { MatchResult result (λ i. i < length row.now) (λ i. i ≤ length row.now) }
+    ensures found { MatchResult result (λ i. FoundAt name.now row.now i) (λ i. MissingAt name.now row.now i) }
+{
+    let mut low = 0;
+    let mut high = row.len();
+    while low < high {
+        let middle = low + (high - low) / 2;
+        match name.cmp(&row.name(middle)) {
+            Ordering::Less => high = middle,
+            Ordering::Equal => return Ok(middle),
+            Ordering::Greater => low = middle + 1,
+        }
+    }
+    Err(low)
+}
+
+/// Where a name stands.
+pub(crate) fn find(row: &Row, name: &[u8]) -> Option<usize>
+    requires { T (is_sorted by_bytes row.now) }
+    ensures { MatchOption result (look name.now row.now ≡ None) (λ i. StandsAt name.now row.now i) }
+{
+    match search(row, name) {
+        Ok(i) => Some(i),
+        Err(_) => None,
+    }
+}
+
+/// The string of a name.
+pub(crate) fn string<'a>(row: &'a Row, name: &[u8]) -> Option<&'a [u8]>
+    requires sorted { T (is_sorted by_bytes row.now) }
+    requires short { AreShort row.now }
+    ensures is { Lends result (string_or (predefined name.now) (look name.now row.now)) }
+    ensures short { MatchOption result (Unit {0}) (λ value. length value.now ≤ BODY) }
+{
+    match find(row, name) {
+        Some(i) => match row.meaning(i) {
+            Meaning::String => Some(row.value(i)),
+            Meaning::Macro => None,
+            Meaning::Register(_) => None,
+        },
+        None => predefined(name),
+    }
+}
+
+/// The body of a macro.
+pub(crate) fn body<'a>(row: &'a Row, name: &[u8]) -> Option<&'a [u8]>
+    requires sorted { T (is_sorted by_bytes row.now) }
+    requires short { AreShort row.now }
+    ensures is { Lends result (body_or_none (look name.now row.now)) }
+    ensures short { MatchOption result (Unit {0}) (λ value. length value.now ≤ BODY) }
+{
+    match find(row, name) {
+        Some(i) => match row.meaning(i) {
+            Meaning::String => None,
+            Meaning::Macro => Some(row.value(i)),
+            Meaning::Register(_) => None,
+        },
+        None => None,
+    }
+}
+
+/// The string of a name, empty where it has none.
+pub(crate) fn string_so_far<'a>(row: &'a Row, name: &[u8]) -> &'a [u8]
+    requires sorted { T (is_sorted by_bytes row.now) }
+    requires short { AreShort row.now }
+    ensures is { result.now ≡ unwrap_or (string_or (predefined name.now) (look name.now row.now)) [] }
+    ensures short { length result.now ≤ BODY }
+{
+    match string(row, name) {
+        Some(value) => value,
+        None => b"",
+    }
+}
+
+/// The body of a macro, empty where the name has none.
+pub(crate) fn body_so_far<'a>(row: &'a Row, name: &[u8]) -> &'a [u8]
+    requires sorted { T (is_sorted by_bytes row.now) }
+    requires short { AreShort row.now }
+    ensures is { result.now ≡ unwrap_or (body_or_none (look name.now row.now)) [] }
+    ensures short { length result.now ≤ BODY }
+{
+    match body(row, name) {
+        Some(value) => value,
+        None => b"",
+    }
+}
+
+/// The first limit that is passed, where the bytes of all else are `others`.
+#[tactic(auto, unfolding(crate::specs::Names::first_passed))]
+fn first_passed(name: usize, names: usize, value: usize, others: usize) -> Option<Limit>
+    requires { others ≤ DEFS }
+    ensures { result ≡ first_passed name names value (others + (name + value)) }
+{
+    if name > NAME {
+        return Some(Limit::Name);
+    }
+    if names > NAMES {
+        return Some(Limit::Names);
+    }
+    if value > BODY {
+        return Some(Limit::Body);
+    }
+    if others + (name + value) > DEFS {
+        return Some(Limit::Defs);
+    }
+    None
+}
+
+/// The limit that a definition with a value of this length passes.
+fn passed(row: &Row, name: &[u8], value: usize, others: OtherSet) -> Option<Limit>
+    requires { IsKept others row.now }
+    ensures { (d : Definition) → length d.value ≡ value
+        → result ≡ refusal_beside others name.now d.value (put name.now d row.now) }
+{
+    match search(row, name) {
+        Ok(i) => {
+            let old = row.name(i).len() + row.value(i).len();
+            first_passed(
+                name.len(),
+                row.len() + others.names,
+                value,
+                row.bytes() - old + others.bytes,
+            )
+        }
+        Err(_) => first_passed(
+            name.len(),
+            row.len() + 1 + others.names,
+            value,
+            row.bytes() + others.bytes,
+        ),
+    }
+}
+
+/// Puts a definition in the place of that of the i-th entry.
+fn replace(row: &mut Row, i: usize, name: &[u8], meaning: Meaning, value: &[u8])
+    requires place { i < length row.old }
+    requires same { name.now ≡ name_at row.old i }
+    requires few { length row.old ≤ NAMES }
+    requires small { size (insert (remove row.old i) i (name.now, definition meaning value.now)) ≤ DEFS }
+    ensures { row.new ≡ insert (remove row.old i) i (name.now, definition meaning value.now) }
+{
+    let bytes = value.len() + row.value(i).len();
+    if bytes == 0 {
+        row.set_meaning(i, meaning);
+    } else {
+        row.remove(i);
+        row.insert(i, name, meaning, value);
+    }
+}
+
+/// Gives a name a definition.
+fn put_definition(row: &mut Row, name: &[u8], meaning: Meaning, value: &[u8])
+    requires sorted { T (is_sorted by_bytes row.old) }
+    requires few { length (put name.now (definition meaning value.now) row.old) ≤ NAMES }
+    requires small { size (put name.now (definition meaning value.now) row.old) ≤ DEFS }
+    ensures { row.new ≡ put name.now (definition meaning value.now) row.old }
+{
+    match search(row, name) {
+        Ok(i) => replace(row, i, name, meaning, value),
+        Err(i) => row.insert(i, name, meaning, value),
+    }
+}
+
+/// Gives a name a definition, unless that passes a limit.
+pub(crate) fn settle(
+    row: &mut Row,
+    name: &[u8],
+    meaning: Meaning,
+    value: &[u8],
+    others: OtherSet,
+) -> Result<(), Limit>
+    requires { IsKept others row.old }
+    ensures { Settles others name.now value.now (put name.now (definition meaning value.now) row.old)
+        row.old result row.new }
+{
+    match passed(row, name, value.len(), others) {
+        Some(limit) => Err(limit),
+        None => {
+            put_definition(row, name, meaning, value);
+            Ok(())
+        }
+    }
+}
+
+/// Gives a name the value in `scratch` with more at the end, unless that passes a limit.
+pub(crate) fn settle_longer(
+    row: &mut Row,
+    scratch: &mut Vec<u8>,
+    name: &[u8],
+    meaning: Meaning,
+    more: &[u8],
+    others: OtherSet,
+) -> Result<(), Limit>
+    requires kept { IsKept others row.old }
+    requires scratch { (length scratch.old.items ≤ BODY) × (BODY ≤ vec_capacity scratch.old) }
+    ensures settles { let value = scratch.old.items ++ more.now in
+        Settles others name.now value (put name.now (definition meaning value) row.old) row.old result row.new }
+    ensures scratch { BODY ≤ vec_capacity scratch.new }
+{
+    match passed(row, name, scratch.len() + more.len(), others) {
+        Some(limit) => Err(limit),
+        None => {
+            append(scratch, more);
+            put_definition(row, name, meaning, scratch);
+            Ok(())
+        }
+    }
+}
+
+/// Copies a value.
+pub(crate) fn copy(scratch: &mut Vec<u8>, value: &[u8])
+    requires capacity { BODY ≤ vec_capacity scratch.old }
+    requires short { length value.now ≤ BODY }
+    ensures items { scratch.new.items ≡ value.now }
+    ensures capacity { BODY ≤ vec_capacity scratch.new }
+{
+    scratch.clear();
+    append(scratch, value);
+}
+
+/// Takes a definition away.
+pub(crate) fn withdraw(row: &mut Row, name: &[u8])
+    requires { T (is_sorted by_bytes row.old) }
+    ensures { row.new ≡ without name.now row.old }
+{
+    match search(row, name) {
+        Ok(i) => row.remove(i),
+        Err(_) => (),
+    }
+}
+
+/// Gives the i-th definition another name, unless that passes a limit.
+fn move_to(
+    row: &mut Row,
+    scratch: &mut Vec<u8>,
+    i: usize,
+    old_name: &[u8],
+    name: &[u8],
+    others: OtherSet,
+) -> Result<(), Limit>
+    requires place { i < length row.old }
+    requires same { by_bytes old_name.now (name_at row.old i) ≡ Ordering.Equal }
+    requires kept { IsKept others row.old }
+    requires scratch { BODY ≤ vec_capacity scratch.old }
+    ensures settles { let d = definition_at row.old i in
+        Settles others name.now d.value (put name.now d (remove row.old i)) row.old result row.new }
+    ensures scratch { BODY ≤ vec_capacity scratch.new }
+{
+    let meaning = row.meaning(i);
+    copy(scratch, row.value(i));
+    row.remove(i);
+    match settle(row, name, meaning, scratch, others) {
+        Ok(()) => Ok(()),
+        Err(limit) => {
+            row.insert(i, old_name, meaning, scratch);
+            Err(limit)
+        }
+    }
+}
+
+/// Gives a definition another name, unless that passes a limit.
+pub(crate) fn rename(
+    row: &mut Row,
+    scratch: &mut Vec<u8>,
+    old_name: &[u8],
+    name: &[u8],
+    others: OtherSet,
+) -> Result<(), Limit>
+    requires kept { IsKept others row.old }
+    requires scratch { BODY ≤ vec_capacity scratch.old }
+    ensures renames { RenamesBeside others old_name.now name.now row.old result row.new }
+    ensures scratch { BODY ≤ vec_capacity scratch.new }
+{
+    match search(row, old_name) {
+        Ok(i) => move_to(row, scratch, i, old_name, name, others),
+        Err(_) => Ok(()),
+    }
+}

@@ -1,0 +1,175 @@
+//! The names of a page: its strings and macros, and its number registers.
+ghost use Rattle.std.specs.Prelude.{◌≡◌, [], ◌++◌, IfOk, unwrap_or};
+ghost use Rattle.page_roff_names.specs.Names.{Definitions, definitions, string_of, body_of, number_of};
+ghost use Rattle.page_roff_names.specs.Names.{without_text, with_register, without_register};
+ghost use Rattle.page_roff_names.specs.Names.{Lends, Defines, DefinesText, Renames};
+
+use crate::changes::{
+    body, body_so_far, copy, find, others, rename, settle, settle_longer, string, string_so_far,
+    withdraw,
+};
+use crate::rows::{Meaning, Row};
+use page_core_limits::{BODY, Limit};
+use std::alloc::{AllocError, Global};
+use std::marker::Model;
+
+/// Strings and macros in one set of names, number registers in another.
+#[derive(Drop)]
+pub struct Names {
+    texts: Row,
+    registers: Row,
+    scratch: Vec<u8>,
+}
+
+impl Model for Names {
+    ghost use Rattle.std.specs.Prelude.{◌≤◌};
+    ghost use Rattle.std.specs.Vec.{vec_capacity};
+    ghost use Rattle.page_core_limits.specs.declared.TheConstants.{BODY};
+    ghost use Rattle.page_roff_names.specs.Names.{Definitions, definitions};
+    ghost use Rattle.page_roff_names.specs.Changes.{IsStore};
+
+    ghost Value = { Definitions };
+
+    ghost view = { λ n. definitions n.texts n.registers };
+
+    ghost invariant = { λ n. IsStore (definitions n.texts n.registers) × (BODY ≤ vec_capacity n.scratch) };
+}
+
+impl Names {
+    /// No definition, with the memory for all.
+    pub fn new(alloc: Global) -> Result<Names, AllocError>
+        ensures { IfOk result (λ names. names ≡ definitions [] []) }
+    {
+        Ok(Names {
+            texts: Row::new(alloc)?,
+            registers: Row::new(alloc)?,
+            scratch: Vec::with_capacity(alloc, BODY)?,
+        })
+    }
+
+    /// The value of a string, also of a predefined one that no definition hides.
+    pub fn string(&self, name: &[u8]) -> Option<&[u8]>
+        ensures { Lends result (string_of name.now self.now) }
+    {
+        string(&self.texts, name)
+    }
+
+    /// The body of a macro: its lines, each with its end.
+    pub fn body(&self, name: &[u8]) -> Option<&[u8]>
+        ensures { Lends result (body_of name.now self.now) }
+    {
+        body(&self.texts, name)
+    }
+
+    /// The number in a register.
+    pub fn register(&self, name: &[u8]) -> Option<i32>
+        ensures { result ≡ number_of name.now self.now }
+    {
+        match find(&self.registers, name) {
+            Some(i) => match self.registers.meaning(i) {
+                Meaning::String => None,
+                Meaning::Macro => None,
+                Meaning::Register(number) => Some(number),
+            },
+            None => None,
+        }
+    }
+
+    /// Defines a string, in place of what the name stood for.
+    pub fn define_string(&mut self, name: &[u8], value: &[u8]) -> Result<(), Limit>
+        ensures { DefinesText Meaning.String name.now value.now self.old result self.new }
+    {
+        settle(
+            &mut self.texts,
+            name,
+            Meaning::String,
+            value,
+            others(&self.registers),
+        )
+    }
+
+    /// Defines a macro, in place of what the name stood for.
+    pub fn define_macro(&mut self, name: &[u8], body: &[u8]) -> Result<(), Limit>
+        ensures { DefinesText Meaning.Macro name.now body.now self.old result self.new }
+    {
+        settle(
+            &mut self.texts,
+            name,
+            Meaning::Macro,
+            body,
+            others(&self.registers),
+        )
+    }
+
+    /// Appends to a string, or begins one where the name stands for none.
+    pub fn append_string(&mut self, name: &[u8], more: &[u8]) -> Result<(), Limit>
+        ensures { let value = unwrap_or (string_of name.now self.old) [] ++ more.now in
+            DefinesText Meaning.String name.now value self.old result self.new }
+    {
+        copy(&mut self.scratch, string_so_far(&self.texts, name));
+        settle_longer(
+            &mut self.texts,
+            &mut self.scratch,
+            name,
+            Meaning::String,
+            more,
+            others(&self.registers),
+        )
+    }
+
+    /// Appends to a macro, or begins one where the name stands for none.
+    pub fn append_macro(&mut self, name: &[u8], more: &[u8]) -> Result<(), Limit>
+        ensures { let value = unwrap_or (body_of name.now self.old) [] ++ more.now in
+            DefinesText Meaning.Macro name.now value self.old result self.new }
+    {
+        copy(&mut self.scratch, body_so_far(&self.texts, name));
+        settle_longer(
+            &mut self.texts,
+            &mut self.scratch,
+            name,
+            Meaning::Macro,
+            more,
+            others(&self.registers),
+        )
+    }
+
+    /// Takes the definition of a string or macro away.
+    pub fn remove(&mut self, name: &[u8])
+        ensures { self.new ≡ without_text name.now self.old }
+    {
+        withdraw(&mut self.texts, name)
+    }
+
+    /// Gives a string or macro another name, in place of what that stood for.
+    pub fn rename(&mut self, old_name: &[u8], name: &[u8]) -> Result<(), Limit>
+        ensures { Renames old_name.now name.now self.old result self.new }
+    {
+        rename(
+            &mut self.texts,
+            &mut self.scratch,
+            old_name,
+            name,
+            others(&self.registers),
+        )
+    }
+
+    /// Gives a register a number.
+    pub fn set_register(&mut self, name: &[u8], number: i32) -> Result<(), Limit>
+        ensures { Defines name.now [] (with_register name.now number self.old) self.old result self.new }
+    {
+        settle(
+            &mut self.registers,
+            name,
+            Meaning::Register(number),
+            b"",
+            others(&self.texts),
+        )
+    }
+
+    /// Takes a register away.
+    pub fn remove_register(&mut self, name: &[u8])
+        ensures { self.new ≡ without_register name.now self.old }
+    {
+        withdraw(&mut self.registers, name)
+    }
+}

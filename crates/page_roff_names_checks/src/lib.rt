@@ -1,0 +1,7 @@
+//! Tests of the names of a page, on public calls.
+#![tactic(auto)]
+
+#[cfg(test)]
+mod against_a_plain_map;
+#[cfg(test)]
+mod tests;
