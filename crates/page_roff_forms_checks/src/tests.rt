@@ -166,6 +166,10 @@ fn reads_arguments(rt: HostRuntime) {
 #[test]
 fn keeps_a_front(rt: HostRuntime) {
     for (text, want) in [("", 0), (" \t", 0), ("a b", 3), (" a \t", 2)] {
-        assert_eq!(rt; kept_len(text.as_bytes(), |byte| is_white(byte)), want, "in {text}");
+        assert_eq!(rt;
+            kept_len(text.as_bytes(), |byte| is_white(byte)),
+            want,
+            "in {text}"
+        );
     }
 }

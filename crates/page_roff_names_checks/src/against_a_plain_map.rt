@@ -74,7 +74,14 @@ fn check_all(rt: &impl Abort, names: &Names, text: &[u8], plains: &[Plain]) {
 }
 
 /// Defines a string or a macro in both.
-fn define(rt: &impl Abort, names: &mut Names, text: &[u8], plains: &mut [Plain], i: usize, plain: Plain) {
+fn define(
+    rt: &impl Abort,
+    names: &mut Names,
+    text: &[u8],
+    plains: &mut [Plain],
+    i: usize,
+    plain: Plain,
+) {
     let name = name_of(i);
     let value = part(rt, text, plain.start, plain.len);
     let old = at(rt, plains, i);
