@@ -117,7 +117,7 @@ fn tells<R: Files + AllocGlobal + Abort>(
     rt: &R,
     words: &[&str],
     fails: Fails,
-    journal: &str,
+    journal: String,
     status: u8,
 ) {
     let told = Journal::new(rt.alloc());
@@ -134,15 +134,30 @@ fn tells<R: Files + AllocGlobal + Abort>(
     let mut input = Broken {
         page: BLANK.as_bytes(),
     };
-    match command(rt.alloc(), words) {
-        Ok(Command::Format(format)) => {
-            let ended = format_all(rt, rt.alloc(), &format, &mut input, &mut out, &mut notes);
-            assert_eq!(rt; ended, status, "at {words:?}");
-        }
-        Err(refusal) => assert!(rt; false, "{refusal} at {words:?}"),
+    if let Ok(Command::Format(format)) = command(rt.alloc(), words) {
+        let ended = format_all(rt, rt.alloc(), &format, &mut input, &mut out, &mut notes);
+        check_told(rt, &told.into_inner().text, &journal);
+        check(rt, ended == status, "the status");
+    } else {
+        check(rt, false, "the words");
     }
-    let told = told.into_inner().text;
-    assert_eq!(rt; told.as_str(), journal, "at {words:?}");
+}
+
+fn check(rt: &impl Abort, holds: bool, what: &str) {
+    assert!(rt; holds, "{what}");
+}
+
+fn check_told(rt: &impl Abort, told: &String, journal: &String) {
+    assert!(rt; told == journal, "{told}");
+}
+
+// These texts one after another.
+fn joined(alloc: Global, texts: &[&str]) -> Result<String, AllocError> {
+    let mut whole = String::new(alloc);
+    for text in texts {
+        whole.push_str(text)?;
+    }
+    Ok(whole)
 }
 
 // A folder of a test's own with two pages: a quiet one and one with a warning.
@@ -157,13 +172,13 @@ fn folder<R: Files + Env + AllocGlobal>(rt: &R, id: u32, name: &str) -> io::Resu
 
 // The path of a file in a folder.
 fn file(alloc: Global, folder: &String, name: &str) -> Result<String, AllocError> {
-    format!(in alloc; "{folder}/{name}")
+    joined(alloc, &[folder.as_str(), "/", name])
 }
 
-// What the writers are told of the quiet page.
-fn quiet_told(alloc: Global) -> Result<String, AllocError> {
-    format!(in alloc; "[out]{HEAD}       t - x\n{FOOT}[out flushed][notes flushed]")
-}
+// The rows of the quiet page's text.
+const TEXT: &str = "       t - x\n";
+
+const FLUSHED: &str = "[out flushed][notes flushed]";
 
 #[test]
 fn formats_files_in_turn(rt: HostRuntime) -> Result<(), Fail> {
@@ -171,17 +186,28 @@ fn formats_files_in_turn(rt: HostRuntime) -> Result<(), Fail> {
     let folder = folder(&rt, process::id(rt.process()), "turn")?;
     let blank = file(alloc, &folder, "blank.1")?;
     let quiet = file(alloc, &folder, "quiet.1")?;
-    let last = quiet_told(alloc)?;
-    let told = format!(in alloc;
-        "[out]{HEAD}[notes]mandoc: {blank}:4:1: {WARNING}\n[out]       t - x\n\n       y\n{FOOT}[out flushed][notes flushed]{last}"
-    )?;
+    let warned = joined(alloc, &["mandoc: ", blank.as_str(), ":4:1: ", WARNING])?;
+    let told = [
+        "[out]",
+        HEAD,
+        "[notes]",
+        warned.as_str(),
+        "\n[out]",
+        TEXT,
+        "\n       y\n",
+        FOOT,
+        FLUSHED,
+        "[out]",
+        HEAD,
+        TEXT,
+        FOOT,
+        FLUSHED,
+    ];
     let words = ["-Wall", blank.as_str(), quiet.as_str()];
-    tells(&rt, &words, Fails::Never, told.as_str(), 2);
-    let told = format!(in alloc;
-        "[out]mandoc: {blank}:4:1: {WARNING}\n[out flushed][notes flushed][out flushed][notes flushed]"
-    )?;
+    tells(&rt, &words, Fails::Never, joined(alloc, &told)?, 2);
+    let told = ["[out]", warned.as_str(), "\n", FLUSHED, FLUSHED];
     let words = ["-Tlint", blank.as_str(), quiet.as_str()];
-    tells(&rt, &words, Fails::Never, told.as_str(), 2);
+    tells(&rt, &words, Fails::Never, joined(alloc, &told)?, 2);
     fs::remove_dir_all(&rt, folder.as_str())?;
     Ok(())
 }
@@ -192,15 +218,31 @@ fn goes_on_after_a_file_that_fails(rt: HostRuntime) -> Result<(), Fail> {
     let folder = folder(&rt, process::id(rt.process()), "fails")?;
     let missing = file(alloc, &folder, "missing.1")?;
     let quiet = file(alloc, &folder, "quiet.1")?;
-    let last = quiet_told(alloc)?;
-    let told = format!(in alloc; "[notes]mandoc: {missing}: cannot open\n{last}")?;
+    let told = [
+        "[notes]mandoc: ",
+        missing.as_str(),
+        ": cannot open\n",
+        "[out]",
+        HEAD,
+        TEXT,
+        FOOT,
+        FLUSHED,
+    ];
     let words = [missing.as_str(), quiet.as_str()];
-    tells(&rt, &words, Fails::Never, told.as_str(), 6);
-    let told = format!(in alloc;
-        "[out flushed][notes flushed][notes]mandoc: {folder}: cannot read\n{last}"
-    )?;
+    tells(&rt, &words, Fails::Never, joined(alloc, &told)?, 6);
+    let told = [
+        FLUSHED,
+        "[notes]mandoc: ",
+        folder.as_str(),
+        ": cannot read\n",
+        "[out]",
+        HEAD,
+        TEXT,
+        FOOT,
+        FLUSHED,
+    ];
     let words = [folder.as_str(), quiet.as_str()];
-    tells(&rt, &words, Fails::Never, told.as_str(), 6);
+    tells(&rt, &words, Fails::Never, joined(alloc, &told)?, 6);
     fs::remove_dir_all(&rt, folder.as_str())?;
     Ok(())
 }
@@ -211,24 +253,38 @@ fn stops_after_a_writer_that_fails(rt: HostRuntime) -> Result<(), Fail> {
     let folder = folder(&rt, process::id(rt.process()), "stops")?;
     let quiet = file(alloc, &folder, "quiet.1")?;
     let words = [quiet.as_str(), quiet.as_str()];
-    let told = format!(in alloc;
-        "[out]{HEAD}[out flushed][notes flushed][notes]mandoc: {quiet}: cannot write\n"
+    let fault = joined(
+        alloc,
+        &["[notes]mandoc: ", quiet.as_str(), ": cannot write\n"],
     )?;
-    tells(&rt, &words, Fails::Past(HEAD.len()), told.as_str(), 6);
-    let told = format!(in alloc;
-        "[out]{HEAD}       t - x\n{FOOT}[notes flushed][notes]mandoc: {quiet}: cannot write\n"
-    )?;
-    tells(&rt, &words, Fails::AtFlush, told.as_str(), 6);
+    let told = ["[out]", HEAD, FLUSHED, fault.as_str()];
+    tells(
+        &rt,
+        &words,
+        Fails::Past(HEAD.len()),
+        joined(alloc, &told)?,
+        6,
+    );
+    let told = ["[out]", HEAD, TEXT, FOOT, "[notes flushed]", fault.as_str()];
+    tells(&rt, &words, Fails::AtFlush, joined(alloc, &told)?, 6);
     fs::remove_dir_all(&rt, folder.as_str())?;
     Ok(())
 }
 
 #[test]
 fn tells_of_a_page_before_its_fault(rt: HostRuntime) -> Result<(), Fail> {
-    let told = format!(in rt.alloc();
-        "[out]{HEAD}[notes]mandoc: <stdin>:4:1: {WARNING}\n[out]       t - x\n\n[out flushed][notes flushed][notes]mandoc: <stdin>: cannot read\n"
-    )?;
-    tells(&rt, &["-Wall"], Fails::Never, told.as_str(), 6);
+    let told = [
+        "[out]",
+        HEAD,
+        "[notes]mandoc: <stdin>:4:1: ",
+        WARNING,
+        "\n[out]",
+        TEXT,
+        "\n",
+        FLUSHED,
+        "[notes]mandoc: <stdin>: cannot read\n",
+    ];
+    tells(&rt, &["-Wall"], Fails::Never, joined(rt.alloc(), &told)?, 6);
     Ok(())
 }
 
@@ -264,18 +320,24 @@ fn takes_words_that_are_text(rt: HostRuntime) -> Result<(), Fail> {
     let given = Words {
         words: &[b"mandoc", b"-Tutf8", "\u{e9}.1".as_bytes()],
     };
-    let words = words_given(&(given, rt.alloc()));
-    let Ok(words) = words else {
-        return Err(Fail::new("words that are text are refused"));
-    };
-    assert_eq!(rt; words.len(), 2);
-    for (word, wanted) in words.iter().zip(["-Tutf8", "\u{e9}.1"]) {
-        assert_eq!(rt; word.as_str(), wanted);
+    let words = words_given(&(given, rt.alloc())).map_err(|_| "words that are text")?;
+    match words.as_slice() {
+        [first, second] => {
+            check(&rt, first.as_str() == "-Tutf8", "the first word");
+            check(&rt, second.as_str() == "\u{e9}.1", "the second word");
+        }
+        _ => check(&rt, false, "two words"),
     }
+    Ok(())
+}
+
+#[test]
+fn refuses_words_that_are_no_text(rt: HostRuntime) {
     let given = Words {
         words: &[b"mandoc", b"-Tutf8", b"\xe9.1"],
     };
-    let words = words_given(&(given, rt.alloc()));
-    assert!(rt; words.is_err_and(|refusal| refusal == Refusal::Words));
-    Ok(())
+    match words_given(&(given, rt.alloc())) {
+        Ok(_) => check(&rt, false, "a word that is no text"),
+        Err(refusal) => check(&rt, refusal == Refusal::Words, "the refusal"),
+    }
 }

@@ -2,9 +2,8 @@
 #![tactic(auto)]
 
 pub use page_core_base::{
-    Cell, Closer, Deed, Encoding, Event, Fault, Font, Form, Join, Language, Leaf, Level,
-    LineOpener, Note, NoteKind, NoteSink, Opener, Output, Piece, PieceSink, Place, RowSink,
-    SettingFault, Settings, TagForm, Taken, is_line,
+    Cell, Encoding, Fault, Font, Form, Language, Level, Note, NoteKind, NoteSink, Output, Piece,
+    PieceSink, Place, RowSink, SettingFault, Settings, TagForm, Taken, is_line,
 };
 pub use page_core_escapes::{Escape, FontName, escape};
 pub use page_core_limits::{CELLS, FIELD, LINE, Limit, PARENS};

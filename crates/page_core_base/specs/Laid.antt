@@ -3,7 +3,6 @@ use Rattle.std.specs.Prelude.{◌≡◌, List, [], ◌++◌, Result, MatchResult
 use Rattle.std.proofs.Common.{append_assoc}
 use Rattle.page_core_base.specs.Messages.{Message}
 use Rattle.page_core_base.specs.Rows.{LaidRow}
-use Rattle.page_core_base.specs.Sinks.{UpTo}
 
 pub record Laid (E : Type 0) : Type 0 where
   pub rows : List LaidRow
@@ -24,26 +23,13 @@ seq a f = join a (f a.edge)
 pub join_assoc : {E F G : Type 0} (a : Laid E) (b : Laid F) (c : Laid G) → join (join a b) c ≡ join a (join b c)
 join_assoc a b c = rw (append_assoc a.rows b.rows c.rows, append_assoc a.notes b.notes c.notes) refl
 
--- of given, the two sinks got all but left, which leads to the same edge
-pub record LaidUpTo {R N E : Type 0} (row_gave : R → List LaidRow → R → Type 0) (note_gave : N → List Message → N → Type 0)
-    (r r' : R) (n n' : N) (given left : Laid E) : Type 0 where
-  pub rows : UpTo row_gave r given.rows left.rows r'
-  pub notes : UpTo note_gave n given.notes left.notes n'
-  pub edge : given.edge ≡ left.edge
-
 -- both sinks got all
 pub record Gave {R N E : Type 0} (row_gave : R → List LaidRow → R → Type 0) (note_gave : N → List Message → N → Type 0)
     (r r' : R) (n n' : N) (given : Laid E) : Type 0 where
   pub rows : row_gave r given.rows r'
   pub notes : note_gave n given.notes n'
 
--- what a call did that lays something: at `Ok` both sinks got all and the edge is the one after it; else each got a front
-abbrev pub Lays : {R N E F : Type 0} → Result (Unit {0}) F → (R → List LaidRow → R → Type 0) → (R → List LaidRow → R → Type 0)
-    → (N → List Message → N → Type 0) → (N → List Message → N → Type 0) → R → R → N → N → E → Laid E → Type 0
-Lays res row_gave row_within note_gave note_within r r' n n' e given =
-    MatchResult res (λ _. Gave row_gave note_gave r r' n n' given × (e ≡ given.edge)) (λ _. Gave row_within note_within r r' n n' given)
-
--- the same, with nothing said of an edge
+-- what a call did that gives rows and messages: at `Ok` both sinks got all, else each got a front
 abbrev pub Gets : {R N E F : Type 0} → Result (Unit {0}) F → (R → List LaidRow → R → Type 0) → (R → List LaidRow → R → Type 0)
     → (N → List Message → N → Type 0) → (N → List Message → N → Type 0) → R → R → N → N → Laid E → Type 0
 Gets res row_gave row_within note_gave note_within r r' n n' given =

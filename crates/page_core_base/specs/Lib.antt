@@ -6,7 +6,6 @@ pub mod Sinks
 pub mod Fails
 pub mod Laid
 pub mod Pieces
-pub mod Events
 pub mod Latches
 pub mod PiecePlans
 pub mod RowPlans

@@ -1,9 +1,8 @@
-//! What the layers of the formatter share: messages and their levels, settings, faults, cells, what is filled, events, the traits of the
+//! What the layers of the formatter share: messages and their levels, settings, faults, cells, what is filled, the traits of the
 //! sinks that take rows, messages and pieces, and the latches through which inner functions give to them.
 #![tactic(auto)]
 
 mod cells;
-mod events;
 mod faults;
 mod lines_taken;
 mod note_kinds;
@@ -18,7 +17,6 @@ mod row_sinks;
 mod texts;
 
 pub use cells::{Cell, Font};
-pub use events::{Closer, Deed, Event, Join, Leaf, LineOpener, Opener};
 pub use faults::Fault;
 pub use lines_taken::{Form, Taken};
 pub use note_kinds::{Level, NoteKind};

@@ -7,37 +7,7 @@ use Rattle.std.proofs.lemmas.Bool.Decides.{nat_tests}
 use Rattle.page_core_escapes.specs.Escapes.{escape_of}
 use Rattle.page_core_escapes.specs.Tokens.{begins_escape, begins_word, is_space, is_white, prints_itself, token_at, token_bytes, token_len, tokens_within, tokens_of}
 
-take_some : (n : ℕ) (text : List ℕ) → 0 < n → 0 < length text → 0 < length (take n text)
-take_some zero text h k = absurd (omega arith)
-take_some (suc n) [] h k = absurd (omega arith)
-take_some (suc n) (b ∷ bs) h k = omega arith
-
-pub backslash_first : (text : List ℕ) → begins_escape text ≡ true → slice_index text 0 ≡ 92
-backslash_first [] h = grind (arith, nat_tests, h)
-backslash_first (b ∷ bs) h = grind (arith, nat_tests, h)
-
-prefix_some : (p : ℕ → Bool) (b : ℕ) (bs : List ℕ) → p b ≡ true → 0 < prefix_len p (b ∷ bs)
-prefix_some p b bs t = rw t (omega arith)
-
-pub token_some : (quoted : Bool) (text : List ℕ) → (begins_escape text ≡ true → 0 < (escape_of text).1) → 0 < length text → 0 < length (token_bytes (token_at quoted text))
 unfolding token_at
-token_some quoted [] some h = absurd (omega arith)
-token_some quoted (b ∷ bs) some h =
-    elim (cases_Bool (is_white b)) [
-      | inl t ↦ let some = take_some (prefix_len is_white (b ∷ bs)) (b ∷ bs) (prefix_some is_white b bs t) h in rw t (rw t at some)
-      | inr t ↦
-          elim (cases_Bool (b == 92)) [
-            | inl e ↦ rw (t, e) (take_some (escape_of (b ∷ bs)).1 (b ∷ bs) (some e) h)
-            | inr e ↦
-                elim (cases_Bool (quoted && b == 34)) [
-                  | inl q ↦ rw (t, e, q) (take_some 2 (b ∷ bs) (omega arith) h)
-                  | inr q ↦
-                      let some = take_some (prefix_len (prints_itself quoted) (b ∷ bs)) (b ∷ bs) (prefix_some (prints_itself quoted) b bs (rw (t, e, q) refl)) h in
-                      rw (t, e, q) (rw (t, e, q) at some)
-                ]
-          ]
-    ]
-
 -- more tokens than bytes make no difference
 tokens_enough : (quoted : Bool) (n m : ℕ) (text : List ℕ) → length text ≤ n → length text ≤ m → tokens_within quoted n text ≡ tokens_within quoted m text
 tokens_enough quoted zero zero text p q = refl

@@ -52,9 +52,6 @@ pub record Left (output : Output) (text : List ℕ) (sum : ℕ) (rest : List ℕ
   pub enough : length rest < steps
   pub same : columns_of output text ≡ sum + characters_columns (printed_within steps output rest)
 
-pub left-all : (output : Output) (text : List ℕ) → Left output text 0 text
-left-all output text = record { steps = suc (length text); enough = omega arith; same = sym (zero-add (columns_of output text)) }
-
 pub left-next : (output : Output) (text : List ℕ) (sum : ℕ) (rest : List ℕ) (columns len : ℕ) → Left output text sum rest → 0 < length rest
     → columns ≡ characters_columns (printed_front output rest (chars rest)) → len ≡ front_len rest (chars rest) → 0 < len → Left output text (sum + columns) (drop len rest)
 unfolding printed_within

@@ -13,10 +13,6 @@ ten_thousandths-places (a ∷ b ∷ []) = omega arith
 ten_thousandths-places (a ∷ b ∷ c ∷ []) = omega arith
 ten_thousandths-places (a ∷ b ∷ c ∷ d ∷ es) = omega arith
 
--- one more digit, where what is past a bound stays at it
-pub capped_digit : (n d value most next : ℕ) → value ≡ min n most → next ≡ min (value * 10 + d) most → next ≡ min (n * 10 + d) most
-capped_digit n d value most next v e = omega arith
-
 -- digits past the bound are past what 32 bits hold in each unit
 pub units_held : (whole fraction : List ℕ) (scale : Scale) (w : ℕ) → w ≡ min (decimal whole) (2 ^ 31)
     → min ((w * 10000 + ten_thousandths fraction) * numerator scale / (10000 * denominator scale)) (2 ^ 31 - 1) ≡ min (units_of whole fraction scale) (2 ^ 31 - 1)

@@ -12,36 +12,6 @@ use Rattle.page_core_numbers.specs.Signs.{minus_count, after_signs, negated_valu
 
 -- ---- signs from a place on
 
-pub minus_at : (text : List ℕ) (i : ℕ) → i < length text → get_or text i 0 ≡ 45 → minus_count (drop i text) ≡ suc (minus_count (drop (i + 1) text))
-minus_at text i h e = rw (drop_more text i 0 h, e) refl
-
-pub minus_rest : (text : List ℕ) (i : ℕ) → i < length text → get_or text i 0 ≡ 45 → after_signs (drop i text) ≡ after_signs (drop (i + 1) text)
-minus_rest text i h e = rw (drop_more text i 0 h, e) refl
-
-pub plus_at : (text : List ℕ) (i : ℕ) → i < length text → get_or text i 0 ≡ 43 → minus_count (drop i text) ≡ minus_count (drop (i + 1) text)
-plus_at text i h e = rw (drop_more text i 0 h, e) refl
-
-pub plus_rest : (text : List ℕ) (i : ℕ) → i < length text → get_or text i 0 ≡ 43 → after_signs (drop i text) ≡ after_signs (drop (i + 1) text)
-plus_rest text i h e = rw (drop_more text i 0 h, e) refl
-
-pub other_at : (text : List ℕ) (i : ℕ) → i < length text → get_or text i 0 ≢ 45 → get_or text i 0 ≢ 43 → minus_count (drop i text) ≡ 0
-other_at text i h no_minus no_plus =
-    let m : (get_or text i 0 == 45) ≡ false = grind (arith, nat_tests) in
-    let p : (get_or text i 0 == 43) ≡ false = grind (arith, nat_tests) in
-    rw (drop_more text i 0 h, m, p) refl
-
-pub other_rest : (text : List ℕ) (i : ℕ) → i < length text → get_or text i 0 ≢ 45 → get_or text i 0 ≢ 43 → after_signs (drop i text) ≡ drop i text
-other_rest text i h no_minus no_plus =
-    let m : (get_or text i 0 == 45) ≡ false = grind (arith, nat_tests) in
-    let p : (get_or text i 0 == 43) ≡ false = grind (arith, nat_tests) in
-    rw (drop_more text i 0 h, m, p) refl
-
-pub none_at : (text : List ℕ) (i : ℕ) → length text ≤ i → minus_count (drop i text) ≡ 0
-none_at text i h = rw (drop_all i text h) refl
-
-pub none_rest : (text : List ℕ) (i : ℕ) → length text ≤ i → after_signs (drop i text) ≡ drop i text
-none_rest text i h = rw (drop_all i text h) refl
-
 -- ---- what an operand with signs is
 
 pub operand-signs : (inside : Option (List ℕ → Read ℤ)) (scale : Scale) (text : List ℕ)

@@ -52,9 +52,6 @@ pub messages-next : (line column count i : ℕ) → i < count → messages_at li
 messages-next line column count i h =
     let left : count - i ≡ suc (count - (i + 1)) = omega arith in rw left (messages-replicate line column (count - (i + 1)) DivZero)
 
-pub messages-none : (line column count i : ℕ) → count ≤ i → messages_at line column (replicate (count - i) DivZero) ≡ []
-messages-none line column count i h = let none : count - i ≡ 0 = omega arith in rw none refl
-
 -- ---- sinks
 
 -- all came but a part, and then a call gave that

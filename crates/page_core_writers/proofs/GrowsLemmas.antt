@@ -11,12 +11,6 @@ pub GrowsUpTo-more : {A : Type 0} {a b : Option (List A)} {all next : List A} (c
 GrowsUpTo-more {A} {a} {b} {all} {next} c part rest u e g =
     record { done = u.done ++ part; parts = u.parts ∙ (ap (λ l. u.done ++ l) e ∙ sym (append_assoc u.done part rest)); grows = Grows-append a b c u.done part u.grows g }
 
-pub GrowsUpTo-all : {A : Type 0} {a b : Option (List A)} {all : List A} (rest : List A) → rest ≡ [] → GrowsUpTo a b all rest → Grows a b all
-GrowsUpTo-all {A} {a} {b} {all} rest e u = rw (u.parts ∙ ap (λ l. u.done ++ l) e ∙ append-nil u.done) u.grows
-
-pub GrowsUpTo-into : {A : Type 0} {a b : Option (List A)} {all rest : List A} → GrowsUpTo a b all rest → GrowsInto a b all
-GrowsUpTo-into {A} {a} {b} {all} {rest} u = record { done = u.done; rest = rest; parts = u.parts; grows = u.grows }
-
 -- one part, and then a second or a front of it
 pub Grows-two : {A : Type 0} (a b c : Option (List A)) (xs ys : List A) → Grows a b xs → GrowsInto b c ys → GrowsInto a c (xs ++ ys)
 Grows-two a b c xs ys g h = record {
@@ -25,16 +19,6 @@ Grows-two a b c xs ys g h = record {
   parts = ap (λ l. xs ++ l) h.parts ∙ sym (append_assoc xs h.done h.rest);
   grows = Grows-append a b c xs h.done g h.grows;
 }
-
-pub GrowsInto-front : {A : Type 0} (a b : Option (List A)) (xs ys : List A) → GrowsInto a b xs → GrowsInto a b (xs ++ ys)
-GrowsInto-front a b xs ys h =
-    record { done = h.done; rest = h.rest ++ ys; parts = ap (λ l. l ++ ys) h.parts ∙ append_assoc h.done h.rest ys; grows = h.grows }
-
--- one part, and then a call that gives a second
-pub Grows-then : {A : Type 0} (a b c : Option (List A)) (xs ys : List A) (r : Bool) → Grows a b xs → MatchBool r (Grows b c ys) (GrowsInto b c ys)
-    → MatchBool r (Grows a c ((xs ++ ys) ++ [])) (GrowsInto a c ((xs ++ ys) ++ []))
-Grows-then a b c xs ys true g h = rw append-nil (Grows-append a b c xs ys g h)
-Grows-then a b c xs ys false g h = GrowsInto-front a c (xs ++ ys) [] (Grows-two a b c xs ys g h)
 
 -- the front of what is to come flows on
 pub GrowsUpTo-flow : {A : Type 0} {a b : Option (List A)} {all next : List A} (c : Option (List A)) (part left rest : List A)
@@ -57,10 +41,6 @@ pub GrowsUpTo-last : {A : Type 0} {a b : Option (List A)} {all next : List A} (c
     → GrowsUpTo a b all next → next ≡ part → MatchBool r (Grows b c part) (GrowsInto b c part) → MatchBool r (Grows a c all) (GrowsInto a c all)
 GrowsUpTo-last {A} {a} {b} {all} {next} c part true u e g = rw (u.parts ∙ ap (λ l. u.done ++ l) e) (Grows-append a b c u.done part u.grows g)
 GrowsUpTo-last {A} {a} {b} {all} {next} c part false u e g = GrowsUpTo-broken c part [] u (e ∙ sym (append-nil part)) g
-
--- nothing was sent, and all waits
-pub GrowsUpTo-same : {A : Type 0} (a : Option (List A)) (all : List A) → GrowsUpTo a a all all
-GrowsUpTo-same a all = GrowsUpTo-start a all
 
 -- what waited was written, and then a call that writes more
 pub sends : {A : Type 0} (a b c : Option (List A)) (before text left : List A) (r : Bool) → Grows a b before → left ≡ []

@@ -10,9 +10,6 @@ use Rattle.page_core_base.specs.declared.cells.Font.TheVariants.{R}
 use Rattle.page_core_base.specs.Rows.{trimmed, trimmed_before, is_blank}
 use Rattle.page_core_writers.specs.RowBytes.{cell_bytes_of, printed}
 
-trimmed_one : (b : Bool) (x : Cell) → is_blank x ≡ b → b ≡ true → trimmed (x ∷ []) ≡ []
-trimmed_one b x e t = rw (e ∙ t) refl
-
 pub trimmed-blank : (xs : List Cell) (x : Cell) → x.c ≡ 32 → trimmed (xs ++ x ∷ []) ≡ trimmed xs
 trimmed-blank [] x h = let t : is_blank x ≡ true = grind (arith, nat_tests) in rw t refl
 trimmed-blank (y ∷ ys) x h = ap (trimmed_before y) (trimmed-blank ys x h)
@@ -24,17 +21,6 @@ before_last y (z ∷ zs) x = refl
 pub trimmed-full : (xs : List Cell) (x : Cell) → x.c ≢ 32 → trimmed (xs ++ x ∷ []) ≡ xs ++ x ∷ []
 trimmed-full [] x h = let t : is_blank x ≡ false = grind (arith, nat_tests) in rw t refl
 trimmed-full (y ∷ ys) x h = ap (trimmed_before y) (trimmed-full ys x h) ∙ before_last y ys x
-
--- one cell more of a row
-pub cells_taken : (cells : List Cell) (i : ℕ) (x : Cell) → i < length cells
-    → flat_map cell_bytes_of (take (i + 1) cells) ≡ flat_map cell_bytes_of (take i cells) ++ cell_bytes_of (get_or cells i x)
-cells_taken cells i x h =
-    rw (take_more cells i x h, flat_map-append) (ap (λ l. flat_map cell_bytes_of (take i cells) ++ l) (append-nil (cell_bytes_of (get_or cells i x))))
-
--- a character of ASCII in roman is one byte, also where it is a blank
-pub plain_cell : (cell : Cell) (b : Bool) → is_blank cell ≡ b → cell.font ≡ R → cell.c < 128 → cell_bytes_of cell ≡ cell.c ∷ []
-plain_cell cell true e f h = let c : cell.c ≡ 32 = grind (arith, nat_tests) in rw (e, c) refl
-plain_cell cell false e f h = rw (e, f) (encode_ascii cell.c h)
 
 -- the first cells of a row come before the others
 pub cells_moved : (front : List ℕ) (cells : List Cell) (n : ℕ)

@@ -20,10 +20,7 @@ pub laid_one : (e : Edge) (line : Line) → laid e (line ∷ []) ≡ laid_line e
 unfolding laid
 laid_one e line = rw (append-nil, append-nil) refl
 
-pub laid_first : (e : Edge) (line : Line) (lines : List Line) → laid e (line ∷ lines) ≡ join (laid_line e line) (laid (laid_line e line).edge lines)
 unfolding laid
-laid_first e line lines = refl
-
 pub laid-append : (e : Edge) (xs ys : List Line) → laid e (xs ++ ys) ≡ join (laid e xs) (laid (laid e xs).edge ys)
 unfolding laid
 laid-append e [] ys = refl

@@ -46,18 +46,6 @@ pub broken_join : {R N : Type 0} {rg rw_ : R → List LaidRow → R → Type 0} 
 broken_join k l {r} {a} {n} {b} x y p =
     record { rows = k.before r a x.rows y.rows p.rows; notes = l.before n b x.notes y.notes p.notes; cause = p.cause }
 
--- items, and then more items
-pub passed_join : {R N : Type 0} {rg rw_ : R → List LaidRow → R → Type 0} {rf : R → ℕ} {ng nw : N → List Message → N → Type 0} {nf : N → ℕ}
-    → IsSink rg rw_ → IsSink ng nw → {f f' f'' : Option FillEdge} {r a : R} {n b : N} (a' : R) (b' : N) (x y : Laid FillEdge)
-    → Passed rg rf ng nf f f' r a n b x → Passed rg rf ng nf f' f'' a a' b b' y → Passed rg rf ng nf f f'' r a' n b' (join x y)
-passed_join k l {r = r} {a = a} {n = n} {b = b} a' b' x y p q = record {
-  filler = q.filler;
-  rows = k.more r a a' x.rows y.rows p.rows q.rows;
-  notes = l.more n b b' x.notes y.notes p.notes q.notes;
-  rows_failed = q.rows_failed ∙ p.rows_failed;
-  notes_failed = q.notes_failed ∙ p.notes_failed;
-}
-
 -- items, and then a front of more
 pub broken_after : {R N : Type 0} {rg rw_ : R → List LaidRow → R → Type 0} {rf : R → ℕ} {ng nw : N → List Message → N → Type 0} {nf : N → ℕ}
     → IsSink rg rw_ → IsSink ng nw → {f f' : Option FillEdge} {r a : R} {n b : N} {fault : Fault} (a' : R) (b' : N) (x y : Laid FillEdge)

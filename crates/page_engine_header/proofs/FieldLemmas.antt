@@ -7,29 +7,6 @@ use Rattle.page_core_base.specs.declared.places.Place.{Place}
 use Rattle.page_roff_forms.specs.declared.quotes.Argument.{Argument}
 use Rattle.page_engine_header.specs.Fields.{quote_len, single_quotes, first_field, or_else, volume_of, fields_of, cut_items}
 
-same_quote : (b c : ℕ) → (b == 34 && c == 34) ≡ true → b ≡ 34
-same_quote b c h = grind (arith, nat_tests, h)
-
-pub quotes_more : (text : List ℕ) → 0 < length text → single_quotes text ≡ get_or text 0 0 ∷ single_quotes (drop (quote_len text) text)
-quotes_more [] h = absurd (omega arith)
-quotes_more (b ∷ []) h = refl
-quotes_more (b ∷ c ∷ cs) h =
-    elim (cases_Bool (b == 34 && c == 34)) [
-      | inl t ↦ let e = same_quote b c t in rw t (ap (λ x. x ∷ single_quotes cs) (sym e))
-      | inr f ↦ rw f refl
-    ]
-
--- one more byte is kept
-pub kept_more : (kept text rest : List ℕ) (n : ℕ) → kept ++ single_quotes rest ≡ single_quotes text → 0 < length rest → n ≡ quote_len rest
-    → (kept ++ get_or rest 0 0 ∷ []) ++ single_quotes (drop n rest) ≡ single_quotes text
-kept_more kept text rest n e h q =
-    append_assoc kept (get_or rest 0 0 ∷ []) (single_quotes (drop n rest))
-    ∙ ap (λ l. kept ++ l) (rw q (sym (quotes_more rest h))) ∙ e
-
-pub quotes_none : (text : List ℕ) → length text ≤ 0 → single_quotes text ≡ []
-quotes_none [] h = refl
-quotes_none (b ∷ bs) h = absurd (omega arith)
-
 -- ---- arguments, one after another
 
 pub drop_two : {A : Type 0} → (xs : List A) → drop 1 (drop 1 xs) ≡ drop 2 xs

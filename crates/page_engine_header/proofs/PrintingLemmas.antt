@@ -87,9 +87,6 @@ plain_columns-more output bytes rest c u h = rw (plain-more output bytes rest c 
 pub chars-more : (bytes rest : List ℕ) (c : ℕ) → IsUtf8 bytes → bytes ≡ encode_utf8 c ++ rest → length (chars bytes) ≡ 1 + length (chars rest)
 chars-more bytes rest c u h = rw (chars_past_char bytes rest c u h) (omega arith)
 
-pub chars-done : (bytes : List ℕ) → length bytes ≡ 0 → length (chars bytes) ≡ 0
-chars-done bytes h = rw (chars_of_empty bytes h) refl
-
 -- a text has no more characters than bytes
 pub chars-within : (bytes : List ℕ) → IsUtf8 bytes → length (chars bytes) ≤ length bytes
 chars-within bytes u = let h = length-le-encodes (chars bytes) in rw (encodes-chars bytes u) at h

@@ -48,9 +48,6 @@ ends_at text x (y ∷ ys) e p = rw (e, p) refl
 pub bare_none : (text : List ℕ) (i : ℕ) → i < length text → is_blank (get_or text i 0) ≡ true → bare_len (drop i text) ≡ 0
 bare_none text i h p = ends_at (drop i text) (get_or text i 0) (drop (i + 1) text) (drop_more text i 0 h) p
 
-pub bare_over : (text : List ℕ) (i : ℕ) → length text ≤ i → bare_len (drop i text) ≡ 0
-bare_over text i h = rw (drop_all i text h) refl
-
 pub bare_within : (text : List ℕ) → bare_len text ≤ length text
 bare_within [] = omega arith
 bare_within (b ∷ []) = elim (cases_Bool (is_blank b)) [ inl t ↦ rw t (omega arith) | inr t ↦ rw t (omega arith) ]
@@ -79,29 +76,6 @@ quoted_byte text i h e =
     let a = drop_more text i 0 h in
     let t : (get_or text i 0 == 34) ≡ false = grind (arith, nat_tests) in
     rw a (plain_at (get_or text i 0) (drop (i + 1) text) t)
-
-pub quoted_pair : (text : List ℕ) (i : ℕ) → i + 1 < length text → get_or text i 0 ≡ 34 → get_or text (i + 1) 0 ≡ 34
-    → quoted_len (drop i text) ≡ 2 + quoted_len (drop (i + 2) text)
-quoted_pair text i h e f =
-    let a = drop_more text i 0 (omega arith) in
-    let b = drop_more text (i + 1) 0 h in
-    let n : i + 1 + 1 ≡ i + 2 = omega arith in
-    let t : (get_or text i 0 == 34) ≡ true = grind (arith, nat_tests) in
-    let u : (get_or text (i + 1) 0 == 34) ≡ true = grind (arith, nat_tests) in
-    rw (a, b, t, u, n) refl
-
-end_at : (x : ℕ) (xs : List ℕ) → (x == 34) ≡ true → (0 < length xs → get_or xs 0 0 ≢ 34) → quoted_len (x ∷ xs) ≡ 0
-end_at x [] t f = rw t refl
-end_at x (y ∷ ys) t f =
-    let n : y ≢ 34 = f (omega arith) in
-    let s : (y == 34) ≡ false = grind (arith, nat_tests) in
-    rw (t, s) refl
-
-pub quoted_end : (text : List ℕ) (i : ℕ) → i < length text → get_or text i 0 ≡ 34 → (i + 1 < length text → get_or text (i + 1) 0 ≢ 34) → quoted_len (drop i text) ≡ 0
-quoted_end text i h e f =
-    let a = drop_more text i 0 h in
-    let t : (get_or text i 0 == 34) ≡ true = grind (arith, nat_tests) in
-    rw a (end_at (get_or text i 0) (drop (i + 1) text) t (λ k. rw (get_or-drop (i + 1) text 0 0, add-zero) (f (omega (arith, length-drop (i + 1) text, k)))))
 
 pub quoted_within : (text : List ℕ) → quoted_len text ≤ length text
 quoted_within [] = omega arith

@@ -18,30 +18,9 @@ comment_plain line i h n =
     let t : (get_or line i 0 == 92) ≡ false = grind (arith, nat_tests) in
     rw (a, b, t) refl
 
--- a pair that begins no comment
-pub comment_pair : (line : List ℕ) (i : ℕ) → i + 1 < length line → get_or line i 0 ≡ 92 → get_or line (i + 1) 0 ≢ 34 → get_or line (i + 1) 0 ≢ 35
-    → without_comment (drop i line) ≡ get_or line i 0 ∷ get_or line (i + 1) 0 ∷ without_comment (drop (i + 2) line)
-comment_pair line i h e p q =
-    let a = drop_more line i 0 (omega arith) in
-    let b = drop_more line (i + 1) 0 h in
-    let n : i + 1 + 1 ≡ i + 2 = omega arith in
-    let t : (get_or line i 0 == 92) ≡ true = grind (arith, nat_tests) in
-    let u : (get_or line (i + 1) 0 == 34) ≡ false = grind (arith, nat_tests) in
-    let v : (get_or line (i + 1) 0 == 35) ≡ false = grind (arith, nat_tests) in
-    rw (a, b, t, u, v, n) refl
-
 -- a byte before the end that begins nothing
 pub comment_none : (line : List ℕ) (i : ℕ) → i ≤ length line → length line ≤ i + 1 → without_comment (drop i line) ≡ drop i line
 comment_none line i h k = short_line (drop i line) (omega (arith, length-drop i line))
-
--- the comment begins here
-pub comment_here : (line : List ℕ) (i : ℕ) → i + 1 < length line → get_or line i 0 ≡ 92 → (get_or line (i + 1) 0 == 34 || get_or line (i + 1) 0 == 35) ≡ true
-    → without_comment (drop i line) ≡ []
-comment_here line i h e p =
-    let a = drop_more line i 0 (omega arith) in
-    let b = drop_more line (i + 1) 0 h in
-    let t : (get_or line i 0 == 92) ≡ true = grind (arith, nat_tests) in
-    rw (a, b, t, p) refl
 
 -- ---- a line without its comment, so far
 

@@ -39,9 +39,6 @@ pub record FitsSoFar (cs : List Character) (out : List ℕ) (rest : List Charact
   pub text : all_bytes (characters_within line_limit cs) ≡ out ++ all_bytes (characters_within (line_limit - length out) rest)
   pub count : nat_lt (length (characters_within line_limit cs)) (length cs) ≡ nat_lt (length (characters_within (line_limit - length out) rest)) (length rest)
 
-pub so_far-none : (cs : List Character) → FitsSoFar cs [] cs
-so_far-none cs = let room : line_limit - 0 ≡ line_limit = omega arith in record { text = rw room refl; count = rw room refl }
-
 pub so_far-more : (cs : List Character) (out : List ℕ) (c : Character) (rest : List Character)
     → nat_le (length (bytes_of c)) (line_limit - length out) ≡ true → FitsSoFar cs out (c ∷ rest) → FitsSoFar cs (out ++ bytes_of c) rest
 unfolding characters_within

@@ -122,10 +122,6 @@ extent-split i ss = sym (extent-append (take i ss) (drop i ss)) ∙ ap extent (t
 pub extent-insert : (ss : List Span) (i : ℕ) (s : Span) → extent (insert ss i s) ≡ extent ss + (s.name + s.value)
 extent-insert ss i s = let h = extent-split i ss in let g = extent-append (take i ss) (s ∷ drop i ss) in omega (arith, h, g)
 
-extent-drop : (ss : List Span) → extent (drop 1 ss) ≤ extent ss
-extent-drop [] = omega arith
-extent-drop (s ∷ ss) = omega arith
-
 pub extent-remove : (ss : List Span) (i : ℕ) → extent (remove ss i) ≤ extent ss
 extent-remove [] zero = omega arith
 extent-remove [] (suc i) = omega arith
