@@ -7,7 +7,6 @@ use Rattle.std.proofs.lemmas.Bool.Decides.{nat_tests}
 use Rattle.page_core_escapes.specs.Escapes.{escape_of}
 use Rattle.page_core_escapes.specs.Tokens.{begins_escape, begins_word, is_space, is_white, prints_itself, token_at, token_bytes, token_len, tokens_within, tokens_of}
 
-unfolding token_at
 -- more tokens than bytes make no difference
 tokens_enough : (quoted : Bool) (n m : ℕ) (text : List ℕ) → length text ≤ n → length text ≤ m → tokens_within quoted n text ≡ tokens_within quoted m text
 tokens_enough quoted zero zero text p q = refl

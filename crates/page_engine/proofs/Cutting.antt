@@ -20,7 +20,6 @@ pub laid_one : (e : Edge) (line : Line) → laid e (line ∷ []) ≡ laid_line e
 unfolding laid
 laid_one e line = rw (append-nil, append-nil) refl
 
-unfolding laid
 pub laid-append : (e : Edge) (xs ys : List Line) → laid e (xs ++ ys) ≡ join (laid e xs) (laid (laid e xs).edge ys)
 unfolding laid
 laid-append e [] ys = refl

@@ -30,7 +30,6 @@ unfolding spaces run
 spaces-run s zero place = refl
 spaces-run s (suc n) place = ap (λ l. join (space s place) l) (spaces-run (space s place).edge n place)
 
-unfolding run
 one-run : (s : Sheet) (cell : Cell) (place : Place) → letter s cell place ≡ run s (lettered cell place ∷ [])
 unfolding run
 one-run s cell place = rw (append-nil (letter s cell place).rows, append-nil (letter s cell place).notes) refl
