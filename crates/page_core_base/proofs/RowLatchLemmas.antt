@@ -1,5 +1,5 @@
 -- How a latch over a sink of rows and a sink of messages takes items.
-use Rattle.std.proofs.Common.{◌≡◌, ℕ, List, [], ◌++◌, Option, None, Some, is_some, false, refl, Result, Ok, Err, MatchResult, ◌∙◌, append-nil, sym}
+use Rattle.std.proofs.Common.{◌≡◌, List, [], ◌++◌, Option, None, Some, is_some, false, refl, Result, Ok, Err, MatchResult, ◌∙◌, append-nil, sym}
 use Rattle.std.specs.Borrow.{GName}
 use Rattle.std.specs.Result.{result_err}
 use Rattle.page_core_base.specs.Laid.{Laid, Gets}

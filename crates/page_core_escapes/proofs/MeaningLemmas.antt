@@ -1,5 +1,5 @@
 -- The meaning of an escape that is given as a text of its own.
-use Rattle.std.proofs.Common.{◌≡◌, ℕ, ◌<◌, ◌≤◌, IsUtf8, chars, List, [], ◌∷◌, length, drop, get_or, unwrap_or, refl, arith, inl, inr}
+use Rattle.std.proofs.Common.{◌≡◌, ℕ, ◌<◌, ◌≤◌, IsUtf8, chars, List, [], ◌∷◌, length, drop, get_or, refl, arith, inl, inr}
 use Rattle.std.specs.Prelude.{slice_index}
 use Rattle.std.specs.Str.{is_utf8}
 use Rattle.std.proofs.lemmas.Bool.{cases_Bool}

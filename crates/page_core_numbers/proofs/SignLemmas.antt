@@ -1,8 +1,6 @@
 -- Signs before an operand.
-use Rattle.std.proofs.Common.{◌≡◌, ◌≢◌, ℕ, zero, suc, ◌+◌, ◌<◌, ◌≤◌, ◌==◌, Bool, false, List, [], ◌∷◌, length, drop, get_or, Option, None, Some, ℤ, neg_ℤ, add-one, refl, sym, ap, ◌∙◌, arith}
-use Rattle.std.proofs.lemmas.List.{drop_more, drop_all}
+use Rattle.std.proofs.Common.{◌≡◌, ℕ, zero, suc, ◌+◌, ◌==◌, Bool, false, List, [], ◌∷◌, get_or, Option, None, Some, ℤ, neg_ℤ, add-one, refl, sym, ap, ◌∙◌}
 use Rattle.std.proofs.lemmas.Bool.{cases_Bool}
-use Rattle.std.proofs.lemmas.Bool.Decides.{nat_tests}
 use Rattle.std.proofs.Common.{inl, inr}
 use Rattle.page_core_numbers.specs.declared.scales.Scale.{Scale}
 use Rattle.page_core_numbers.specs.declared.troubles.Trouble.{Trouble}

@@ -1,6 +1,6 @@
 -- An expression at a text's front: roff(7), "Numerical expressions". Operands and operators follow one another, and each operation is
 -- done as it comes.
-use Rattle.std.specs.Prelude.{ℕ, zero, suc, Bool, true, false, ◌==◌, List, [], ◌∷◌, ◌++◌, length, fold, map, codes, if◌then◌else◌, Option, Some, None, option_map, unwrap_or, ℤ, pos, neg_ℤ}
+use Rattle.std.specs.Prelude.{ℕ, zero, suc, Bool, true, false, ◌==◌, List, [], ◌∷◌, ◌++◌, length, fold, map, if◌then◌else◌, Option, Some, None, option_map, unwrap_or, ℤ, pos, neg_ℤ}
 use Rattle.page_core_base.specs.declared.note_kinds.NoteKind.{NoteKind}
 use Rattle.page_core_base.specs.declared.note_kinds.NoteKind.TheVariants as kinds
 use Rattle.page_core_base.specs.Messages.{Message}

@@ -1,11 +1,11 @@
 -- What tokens print, and its columns: helpers of proofs.
-use Rattle.std.proofs.Common.{◌≡◌, ℕ, zero, suc, ◌+◌, ◌-◌, ◌<◌, ◌≤◌, ◌*◌, false, List, [], ◌∷◌, ◌++◌, length, drop, replicate, codes, refl, ap, sym, ◌∙◌, arith, inl, inr, append_assoc, IsUtf8, chars, encode_utf8}
+use Rattle.std.proofs.Common.{◌≡◌, ℕ, ◌+◌, ◌<◌, ◌≤◌, ◌*◌, false, List, [], ◌∷◌, ◌++◌, length, drop, codes, refl, ap, sym, ◌∙◌, arith, inl, inr, append_assoc, IsUtf8, chars, encode_utf8}
 use Rattle.std.specs.Str.{is_utf8}
 use Rattle.std.proofs.lemmas.Bool.{cases_Bool}
 use Rattle.std.proofs.lemmas.List.Sums.{sum_by-append}
 use Rattle.std.proofs.lemmas.Str.{chars-nil, chars_past_char, encodes-chars, length-le-encodes, chars-IsAscii, IsUtf8-from_ascii, is_utf8-from_IsUtf8, IsUtf8-from_is_utf8}
 use Rattle.std.proofs.lemmas.Str.Ascii.{IsAscii-nil, IsAscii-cons}
-use Rattle.page_core_base.specs.Pieces.{Item, shown}
+use Rattle.page_core_base.specs.Pieces.{shown}
 use Rattle.page_core_base.specs.declared.pieces.Piece.TheVariants.{Char}
 use Rattle.page_core_base.specs.declared.cells.Font.{Font}
 use Rattle.page_core_base.specs.declared.page_settings.Output.{Output}

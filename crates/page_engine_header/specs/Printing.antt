@@ -1,7 +1,6 @@
 -- What the text of a field prints: its characters, each in a font. Source: man(7), TH; roff(7), "ESCAPE
 -- SEQUENCES"; mandoc_char(7).
 use Rattle.std.specs.Prelude.{ℕ, ◌+◌, List, [], ◌∷◌, ◌++◌, length, replicate, map, codes, if◌then◌else◌}
-use Rattle.std.specs.List.{flat_map}
 use Rattle.std.specs.Str.{chars, is_utf8}
 use Rattle.page_core_base.specs.Pieces.{Item, shown}
 use Rattle.page_core_base.specs.declared.cells.Font.{Font}

@@ -1,5 +1,5 @@
 -- The words of pieces are their marks, and so pieces fill rows as their words do.
-use Rattle.std.proofs.Common.{◌≡◌, ℕ, zero, suc, ◌≤◌, ◌==◌, Bool, true, false, not, ◌&&◌, ◌||◌, List, [], ◌∷◌, ◌++◌, length, map, replicate, inl, inr, refl, sym, subst, ap, ◌∙◌, append_assoc, append-nil, arith, lit≤, Option, None, Some}
+use Rattle.std.proofs.Common.{◌≡◌, ℕ, ◌≤◌, ◌==◌, Bool, true, false, not, ◌&&◌, ◌||◌, List, [], ◌∷◌, ◌++◌, length, map, replicate, inl, inr, refl, sym, subst, ap, ◌∙◌, append_assoc, arith, lit≤}
 use Rattle.std.specs.Prelude.{if◌then◌else◌}
 use Rattle.std.proofs.lemmas.Bool.{cases_Bool}
 use Rattle.std.proofs.lemmas.List.{map-append}
@@ -10,18 +10,18 @@ use Rattle.page_core_base.specs.declared.pieces.Piece.{Piece}
 use Rattle.page_core_base.specs.declared.pieces.Piece.TheVariants.{Text, Glyph, Char, Tab, Blank, Glue, Break, Para, Space, Indent, Literal, Tag, TagEnd, Heading, Column}
 use Rattle.page_core_base.specs.declared.places.Place.{Place}
 use Rattle.page_core_base.specs.Messages.{Message}
-use Rattle.page_core_base.specs.Laid.{Laid, nothing, join, seq}
+use Rattle.page_core_base.specs.Laid.{Laid, join, seq}
 use Rattle.page_core_limits.specs.declared.TheConstants.{CELLS}
 use Rattle.page_core_tables.specs.Printed.{Printing, char_printed, glyph_printed}
 use Rattle.page_fill.specs.declared.words.OpenWord.{OpenWord}
 use Rattle.page_fill.specs.declared.words.Edge.{Edge}
 use Rattle.page_fill.specs.Sheets.{Sheet, over, blank, broken}
-use Rattle.page_fill.specs.Characters.{with_notes, cell_of, cells_of, characters_of, unknown_notes}
+use Rattle.page_fill.specs.Characters.{cell_of, cells_of, characters_of, unknown_notes}
 use Rattle.page_fill.specs.Fill.{laid, ended, tab_notes}
 use Rattle.page_fill.specs.Fill as fill
-use Rattle.page_fill_laws.specs.InWords.{Mark, told, opened, spaced, lettered, letters_of, printed_marks, character_marks, text_marks, tab_marks, blank_marks, opening_marks, after_cell, are_of_words, piece_marks, word_after, marks, words_after, is_sound}
-use Rattle.page_fill_laws.specs.Filled.{Part, shown, noted, Word, Row, first_word, one_word, filling, at_break, filled}
-use Rattle.page_fill_laws.specs.PieceWords.{cell_parts, printed_parts, text_parts, tab_parts, Words, word_of, and_then, words_from, words_of, frame_of, open_row_of, words_between, going_on, IsHeld}
+use Rattle.page_fill_laws.specs.InWords.{Mark, told, opened, lettered, letters_of, printed_marks, character_marks, text_marks, tab_marks, blank_marks, opening_marks, after_cell, are_of_words, piece_marks, word_after, marks, is_sound}
+use Rattle.page_fill_laws.specs.Filled.{Part, shown, noted, Word, Row, filling, at_break, filled}
+use Rattle.page_fill_laws.specs.PieceWords.{cell_parts, printed_parts, text_parts, tab_parts, Words, and_then, words_from, words_of, frame_of, open_row_of, words_between, going_on, IsHeld}
 use Rattle.page_fill_laws.proofs.InWordsRun.{run, run-append}
 use Rattle.page_fill_laws.proofs.InWordsPieces.{AreStanding, laid-run}
 use Rattle.page_fill_laws.proofs.FilledWords.{mark_of, marks_of, word_marks, words_marks, first-run, first-bounded, run-frame, filling-run, rest-run, rest-bounded}

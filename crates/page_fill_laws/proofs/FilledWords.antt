@@ -1,18 +1,17 @@
 -- Words fill rows as their marks do, one by one.
-use Rattle.std.proofs.Common.{◌≡◌, ℕ, zero, suc, ◌+◌, ◌-◌, ◌<◌, ◌≤◌, ◌==◌, nat_lt, Bool, true, false, not, ◌&&◌, List, [], ◌∷◌, ◌++◌, length, take, drop, map, replicate, inl, inr, refl, sym, subst, ap, ◌∙◌, arith, append_assoc, append-nil, length-append, length-drop, lit≤, lit<}
+use Rattle.std.proofs.Common.{◌≡◌, ℕ, zero, suc, ◌+◌, ◌-◌, ◌<◌, ◌≤◌, ◌==◌, nat_lt, true, false, List, [], ◌∷◌, ◌++◌, length, take, drop, map, replicate, inl, inr, refl, sym, subst, ap, ◌∙◌, arith, append_assoc, length-append, length-drop, lit≤, lit<}
 use Rattle.std.proofs.lemmas.List.{take-append-le, drop-append-le, length-take-le, take_all, drop_all}
-use Rattle.std.specs.Prelude.{if◌then◌else◌}
 use Rattle.std.proofs.lemmas.Bool.{cases_Bool}
 use Rattle.std.proofs.lemmas.Bool.Decides.{nat_tests}
 use Rattle.page_core_base.specs.declared.cells.Cell.{Cell}
 use Rattle.page_core_base.specs.declared.places.Place.{Place}
 use Rattle.page_core_base.specs.Messages.{Message}
-use Rattle.page_core_base.specs.Laid.{Laid, nothing, join, seq, join_assoc}
+use Rattle.page_core_base.specs.Laid.{Laid, join, seq}
 use Rattle.page_core_limits.specs.declared.TheConstants.{CELLS}
-use Rattle.page_fill.specs.Sheets.{Sheet, over, blank, columns, cell_columns, passes, letter, space, opens, counted, given, begins, emptied}
+use Rattle.page_fill.specs.Sheets.{Sheet, over, blank, passes, letter, space, opens, counted, given, begins, emptied}
 use Rattle.page_fill.specs.Characters.{with_notes}
 use Rattle.page_fill_laws.specs.InWords.{Mark, told, opened, spaced, lettered}
-use Rattle.page_fill_laws.specs.Filled.{Part, shown, noted, Word, Frame, Row, with_cells, closed, row_begun, row_ended, full_row_ended, with_cell, first_word, Outcome, fits, too_wide, too_many, after_note, is_wide, outcome, started, by_rest, by_word, by_blanks, one_word, rest_of_word, filling}
+use Rattle.page_fill_laws.specs.Filled.{Part, shown, noted, Word, Frame, Row, with_cells, closed, row_begun, row_ended, full_row_ended, first_word, Outcome, fits, too_wide, too_many, after_note, is_wide, outcome, started, by_rest, by_word, by_blanks, one_word, rest_of_word, filling}
 use Rattle.page_fill_laws.specs.PieceWords.{IsHeld, frame_of, open_row_of}
 use Rattle.page_fill_laws.proofs.InWordsRun.{step, run, run-append}
 

@@ -1,7 +1,7 @@
 -- The places of the open row's last word lie within the row, at each edge that a page comes to.
-use Rattle.std.proofs.Common.{◌≡◌, ℕ, zero, suc, ◌+◌, ◌-◌, ◌<◌, ◌≤◌, ◌==◌, nat_lt, Bool, true, false, ◌&&◌, List, [], ◌∷◌, ◌++◌, length, take, drop, map, replicate, Option, None, Some, inl, inr, refl, arith, length-append, length-drop, lit≤}
+use Rattle.std.proofs.Common.{◌≡◌, ℕ, zero, suc, ◌+◌, ◌-◌, ◌<◌, ◌==◌, nat_lt, Bool, true, false, List, [], ◌∷◌, ◌++◌, length, drop, replicate, Option, None, Some, inl, inr, refl, arith, length-append, length-drop, lit≤}
 use Rattle.std.specs.Prelude.{if◌then◌else◌}
-use Rattle.std.proofs.lemmas.Bool.{cases_Bool, and_parts}
+use Rattle.std.proofs.lemmas.Bool.{cases_Bool}
 use Rattle.std.proofs.lemmas.Bool.Decides.{nat_tests}
 use Rattle.page_core_base.specs.declared.cells.Cell.{Cell}
 use Rattle.page_core_base.specs.declared.cells.Font.{Font}
@@ -13,11 +13,11 @@ use Rattle.page_core_base.specs.declared.pieces.TagForm.TheVariants as forms
 use Rattle.page_core_base.specs.declared.places.Place.{Place}
 use Rattle.page_core_base.specs.Laid.{nothing}
 use Rattle.page_core_limits.specs.declared.TheConstants.{CELLS}
-use Rattle.page_core_tables.specs.Printed.{Printing, char_printed, glyph_printed}
+use Rattle.page_core_tables.specs.Printed.{char_printed, glyph_printed}
 use Rattle.page_fill.specs.declared.words.OpenTag.{OpenTag}
 use Rattle.page_fill.specs.declared.words.Edge.{Edge}
-use Rattle.page_fill.specs.Sheets.{Sheet, over, blank, passes, counted, letter, letters, space, spaces, new_word, opens, broken, empty_rows, fresh}
-use Rattle.page_fill.specs.Characters.{cells_of, cell_of, characters_of, put, character, characters, glyph}
+use Rattle.page_fill.specs.Sheets.{Sheet, blank, passes, letter, letters, space, spaces, new_word, opens, broken, empty_rows, fresh}
+use Rattle.page_fill.specs.Characters.{cells_of, cell_of, characters_of, character, characters, glyph}
 use Rattle.page_fill.specs.Fill.{laid_piece, text, one_character, one_glyph, tab, opening, ended, paragraph, spaced, heading, tag_ended, after_tag, fits_hang, without_tag, stands, to_stop, missing_rows}
 use Rattle.page_fill_laws.specs.PieceWords.{IsHeld}
 

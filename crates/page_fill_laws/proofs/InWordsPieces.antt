@@ -1,5 +1,5 @@
 -- What pieces of words lay is what their marks do.
-use Rattle.std.proofs.Common.{◌≡◌, ℕ, zero, suc, ◌==◌, nat_lt, Bool, true, false, not, ◌&&◌, ◌||◌, List, [], ◌∷◌, ◌++◌, length, replicate, map, Option, None, Some, inl, inr, refl, sym, subst, ap, ◌∙◌, arith, append-nil}
+use Rattle.std.proofs.Common.{◌≡◌, ℕ, zero, suc, ◌==◌, Bool, true, false, not, ◌&&◌, ◌||◌, List, [], ◌∷◌, ◌++◌, length, replicate, map, Option, None, Some, inl, inr, refl, sym, subst, ap, ◌∙◌, arith, append-nil}
 use Rattle.std.specs.Prelude.{if◌then◌else◌}
 use Rattle.std.proofs.lemmas.Bool.{cases_Bool, and_parts}
 use Rattle.page_core_base.specs.declared.cells.Cell.{Cell}
@@ -8,7 +8,6 @@ use Rattle.page_core_base.specs.declared.page_settings.Output.{Output}
 use Rattle.page_core_base.specs.declared.pieces.Piece.{Piece}
 use Rattle.page_core_base.specs.declared.pieces.Piece.TheVariants.{Text, Glyph, Char, Tab, Blank, Glue, Break, Para, Space, Indent, Literal, Tag, TagEnd, Heading, Column}
 use Rattle.page_core_base.specs.declared.places.Place.{Place}
-use Rattle.page_core_base.specs.Messages.{Message}
 use Rattle.page_core_base.specs.Laid.{Laid, nothing, join, seq}
 use Rattle.page_core_tables.specs.Printed.{Printing, char_printed, glyph_printed}
 use Rattle.page_core_limits.specs.declared.TheConstants.{CELLS}

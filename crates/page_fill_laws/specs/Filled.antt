@@ -3,7 +3,7 @@
 -- In the first case the row ends before that word, in the second before that cell, which is reported. Blanks before a word count with that word,
 -- and are dropped where a row ends before them or among them. A row without an offending cell goes on. Where rows are kept as they are (no-fill
 -- mode), no row ends for its width, and blanks are cells of words. Source: roff(7), "Filling and adjusting".
-use Rattle.std.specs.Prelude.{ℕ, ◌+◌, Bool, true, false, ◌&&◌, ◌==◌, nat_lt, List, [], ◌∷◌, ◌++◌, length, replicate, if◌then◌else◌}
+use Rattle.std.specs.Prelude.{ℕ, ◌+◌, Bool, ◌&&◌, ◌==◌, nat_lt, List, [], ◌∷◌, ◌++◌, length, replicate, if◌then◌else◌}
 use Rattle.page_core_base.specs.declared.cells.Cell.{Cell}
 use Rattle.page_core_base.specs.declared.places.Place.{Place}
 use Rattle.page_core_base.specs.Messages.{Message}

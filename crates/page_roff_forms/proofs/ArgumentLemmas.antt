@@ -1,10 +1,10 @@
 -- Arguments, one by one: helpers of proofs.
-use Rattle.std.proofs.Common.{◌≡◌, ◌≢◌, ℕ, zero, suc, ◌+◌, ◌<◌, ◌≤◌, ◌==◌, true, false, List, [], ◌∷◌, length, take, drop, get_or, refl, sym, ap, ◌∙◌, arith, inl, inr, length-drop, add-zero}
+use Rattle.std.proofs.Common.{◌≡◌, ◌≢◌, ℕ, zero, suc, ◌+◌, ◌<◌, ◌≤◌, ◌==◌, true, false, List, [], ◌∷◌, length, drop, get_or, refl, sym, ap, ◌∙◌, arith, inl, inr, length-drop, add-zero}
 use Rattle.std.specs.List.{prefix_len}
 use Rattle.std.proofs.lemmas.Bool.{cases_Bool}
 use Rattle.std.proofs.lemmas.Bool.Decides.{nat_tests}
-use Rattle.std.proofs.lemmas.List.{drop_more, drop_all, get_or-drop}
-use Rattle.page_roff_forms.specs.Arguments.{is_blank, bare_len, quoted_len, begins_quoted, argument_len, first_argument, first_arguments, arguments}
+use Rattle.std.proofs.lemmas.List.{drop_more, drop_all}
+use Rattle.page_roff_forms.specs.Arguments.{is_blank, bare_len, quoted_len, argument_len, first_argument, first_arguments, arguments}
 
 -- ---- arguments without quotes
 

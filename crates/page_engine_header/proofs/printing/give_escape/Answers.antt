@@ -1,4 +1,4 @@
-use Rattle.std.proofs.Common.{◌∙◌, sym, ap, replicate}
+use Rattle.std.proofs.Common.{◌∙◌, sym}
 use Rattle.page_core_numbers.proofs.ColumnLemmas.{blanks-columns}
 use Rattle.page_engine_header.proofs.printing.give_escape.Goals as goal
 

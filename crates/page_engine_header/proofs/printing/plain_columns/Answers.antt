@@ -1,4 +1,4 @@
-use Rattle.std.proofs.Common.{◌≡◌, ◌≤◌, ◌*◌, length, chars, arith}
+use Rattle.std.proofs.Common.{length, chars, arith}
 use Rattle.std.proofs.lemmas.Str.{IsUtf8-past_char}
 use Rattle.page_engine_header.proofs.PrintingLemmas.{sum-more, sum-room, plain-done, chars-within}
 use Rattle.page_engine_header.proofs.printing.plain_columns.Goals as goal

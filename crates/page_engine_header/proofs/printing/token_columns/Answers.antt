@@ -1,7 +1,5 @@
-use Rattle.std.proofs.Common.{◌≡◌, arith, refl, sym, ap, ◌∙◌}
-use Rattle.page_core_numbers.specs.Columns.{characters_columns}
+use Rattle.std.proofs.Common.{refl, sym}
 use Rattle.page_core_numbers.proofs.ColumnLemmas.{blanks-columns}
-use Rattle.page_engine_header.specs.Printing.{plain_printed}
 use Rattle.page_engine_header.proofs.PrintingLemmas.{characters_of-text, characters_of-none, quote_column}
 use Rattle.page_engine_header.proofs.printing.token_columns.Goals as goal
 

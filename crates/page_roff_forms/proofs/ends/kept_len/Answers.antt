@@ -1,4 +1,4 @@
-use Rattle.std.proofs.Common.{◌≡◌, true, false, sym, ◌∙◌, arith}
+use Rattle.std.proofs.Common.{sym, ◌∙◌, arith}
 use Rattle.page_roff_forms.proofs.EndLemmas.{kept_less, kept_same, kept_nothing}
 use Rattle.page_roff_forms.proofs.ends.kept_len.Goals as goal
 use Rattle.page_roff_forms.proofs.ends.kept_len.Goals.{then-loop-len-test+else-drops, else-loop-len-test}

@@ -1,6 +1,4 @@
-use Rattle.std.proofs.Common.{◌≡◌, ◌==◌, true, false, arith}
-use Rattle.std.proofs.lemmas.Bool.Decides.{nat_tests}
-use Rattle.page_roff_forms.specs.Arguments.{is_blank}
+use Rattle.std.proofs.Common.{arith}
 use Rattle.page_roff_forms.proofs.ArgumentLemmas.{bare_pair, bare_byte, bare_last, bare_none, blank_test, letter_test}
 use Rattle.page_roff_forms.proofs.quotes.bare_len.Goals as goal
 use Rattle.page_roff_forms.proofs.quotes.bare_len.Goals.{else-text-len-eq92-via-then-text-len-eq92+else-len-text, else-text-len-eq92-via-else-text-len-eq92}

@@ -1,5 +1,5 @@
 use Rattle.std.proofs.Common.{◌∙◌, ap}
-use Rattle.page_engine_header.specs.Fields.{or_else, volume_of}
+use Rattle.page_engine_header.specs.Fields.{volume_of}
 use Rattle.page_engine_header.proofs.FieldLemmas.{fields_read}
 use Rattle.page_engine_header.proofs.fields.Fields.of.Goals as goal
 

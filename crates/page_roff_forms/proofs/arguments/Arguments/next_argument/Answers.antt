@@ -1,6 +1,5 @@
-use Rattle.std.proofs.Common.{◌≡◌, ◌+◌, ◌-◌, ◌∷◌, length, take, drop, sym, ap, ◌∙◌}
+use Rattle.std.proofs.Common.{◌-◌, length, take, drop, sym, ◌∙◌}
 use Rattle.std.proofs.lemmas.List.{take_rest}
-use Rattle.page_roff_forms.specs.Arguments.{arguments}
 use Rattle.page_roff_forms.proofs.ArgumentLemmas.{read_one, read_none}
 use Rattle.page_roff_forms.proofs.arguments.Arguments.next_argument.Goals as goal
 
