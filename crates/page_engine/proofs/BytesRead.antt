@@ -1,14 +1,13 @@
 -- Bytes that are read, part by part, and what their lines settle.
-use Rattle.std.proofs.Common.{◌≡◌, ℕ, ◌+◌, ◌-◌, ◌<◌, ◌≤◌, ◌^◌, min, List, [], ◌∷◌, ◌++◌, length, take, drop, refl, sym, ap, subst, ◌∙◌, append_assoc, append-nil, arith, length-append, Option, Some, None}
-use Rattle.std.specs.Io.KnownBytes.{Consumes, IsAtEnd}
+use Rattle.std.proofs.Common.{◌≡◌, ℕ, ◌+◌, List, [], ◌++◌, length, refl, sym, ap, ◌∙◌, append_assoc, append-nil, arith, length-append, Option, Some, None}
+use Rattle.std.specs.Io.KnownBytes.{Consumes}
 use Rattle.page_core_base.specs.Messages.{Message}
 use Rattle.page_core_base.specs.Rows.{LaidRow}
 use Rattle.page_core_base.specs.Sinks.{IsSink}
-use Rattle.page_core_base.specs.Laid.{Laid, Gave, nothing, join, join_assoc}
+use Rattle.page_core_base.specs.Laid.{Laid, Gave, join, join_assoc}
 use Rattle.page_core_base.proofs.SinkLemmas.{within-join}
-use Rattle.page_roff_lines.specs.Decoding.{Line}
 use Rattle.page_roff_lines.specs.Cutting.{Point, point_after, lines_within, last_line, lines_from}
-use Rattle.page_roff_lines.proofs.PointLemmas.{point_after-append, lines_within-append}
+use Rattle.page_roff_lines.proofs.PointLemmas.{lines_within-append}
 use Rattle.page_engine.specs.Page.{Edge, laid, page, ended}
 use Rattle.page_engine.specs.Runs.{page_from, settled_from}
 use Rattle.page_engine.specs.Sources.{SourceState, HasGiven, counted}

@@ -1,5 +1,5 @@
 -- A line that was cut, and then what it says.
-use Rattle.std.proofs.Common.{◌≡◌, ℕ, List, [], ◌∷◌, ◌++◌, Option, Some, None, Result, Ok, Err, MatchResult, OnOk, refl, sym, ◌∙◌, ap}
+use Rattle.std.proofs.Common.{◌≡◌, ℕ, List, [], Option, Result, Ok, Err}
 use Rattle.page_core_base.specs.Messages.{Message}
 use Rattle.page_core_base.specs.Rows.{LaidRow}
 use Rattle.page_core_base.specs.Sinks.{IsSink}

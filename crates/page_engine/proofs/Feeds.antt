@@ -1,5 +1,5 @@
 -- What a call below a page did, as it is said of the page.
-use Rattle.std.proofs.Common.{◌≡◌, ℕ, List, Option, Some, None, Result, Ok, Err, MatchResult, OnOk, refl, sym, ◌∙◌}
+use Rattle.std.proofs.Common.{◌≡◌, ℕ, List, Option, Some, Result, Ok, Err, MatchResult, OnOk}
 use Rattle.page_core_base.specs.Messages.{Message}
 use Rattle.page_core_base.specs.Rows.{LaidRow}
 use Rattle.page_core_base.specs.declared.faults.Fault.{Fault}
@@ -8,7 +8,7 @@ use Rattle.page_core_base.specs.Laid.{Laid, Gets}
 use Rattle.page_core_base.specs.Fails.{FailsBySink}
 use Rattle.page_fill.specs.declared.words.Edge.{Edge as FillEdge}
 use Rattle.page_prose.specs.declared.prose.Prose.{Prose}
-use Rattle.page_engine.specs.Levels.{given, worst_of, FilterGave, FilterWithin}
+use Rattle.page_engine.specs.Levels.{FilterGave, FilterWithin}
 use Rattle.page_engine.specs.Below.{Passed, Broken, Ends}
 use Rattle.page_engine.specs.Page.{Edge, IsAt, of_page}
 

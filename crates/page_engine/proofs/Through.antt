@@ -1,9 +1,8 @@
 -- Parts of a page that follow one another, and what is known where a sink failed.
-use Rattle.std.proofs.Common.{◌≡◌, ℕ, false, ◌+◌, ◌-◌, ◌<◌, ◌≤◌, ◌^◌, List, [], ◌∷◌, ◌++◌, length, take, drop, refl, sym, ap, ◌∙◌, append_assoc, append-nil, arith, length-append, inl, inr, Result, Ok, Err, MatchResult}
+use Rattle.std.proofs.Common.{◌≡◌, ℕ, false, ◌+◌, ◌<◌, ◌≤◌, ◌^◌, List, [], ◌∷◌, ◌++◌, length, take, drop, refl, sym, ap, ◌∙◌, append_assoc, append-nil, arith, length-append, inl, inr}
 use Rattle.std.proofs.lemmas.List.{take-append-drop, take-take, take_at}
 use Rattle.page_core_base.specs.Sinks.{IsSink}
-use Rattle.page_core_base.specs.Fails.{IsSinkFault}
-use Rattle.page_core_base.specs.Laid.{Laid, Gave, nothing, join}
+use Rattle.page_core_base.specs.Laid.{nothing}
 use Rattle.page_core_base.specs.declared.faults.Fault.{Fault}
 use Rattle.page_core_base.proofs.SinkLemmas.{within-join}
 use Rattle.page_roff_lines.specs.Cutting.{Point, point_after, lines_within, last_line}
@@ -11,10 +10,10 @@ use Rattle.page_roff_lines.proofs.PointLemmas.{point_after-append}
 use Rattle.page_engine.specs.declared.pages.Page.{Page}
 use Rattle.page_engine.specs.declared.runs.Run.{Run}
 use Rattle.page_engine.specs.Below.{cause_later}
-use Rattle.page_engine.specs.Page.{Edge, IsAt, laid, page}
+use Rattle.page_engine.specs.Page.{Edge, IsAt, page}
 use Rattle.page_engine.specs.Streams.{Streams, Sinks, AllCame, FrontCame}
 use Rattle.page_engine.specs.Runs.{page_from, settled_from, Broken, BrokeIn}
-use Rattle.page_engine.specs.Steps.{Came, Front, CanTake, IsFresh, Moved, Settled, Through, PartBroke, ChunkBroke}
+use Rattle.page_engine.specs.Steps.{Front, CanTake, IsFresh, Moved, Settled, Through, ChunkBroke}
 use Rattle.page_engine.proofs.Cutting.{laid_none, count_most, consumed_more}
 use Rattle.page_engine.proofs.BytesRead.{settled_more, page_last, page_front, both_gave, both_within, lines_more}
 

@@ -1,30 +1,27 @@
 -- Whole runs.
-use Rattle.std.proofs.Common.{◌≡◌, ℕ, ◌+◌, ◌-◌, ◌<◌, ◌≤◌, ◌^◌, List, [], ◌++◌, length, take, Option, Result, Ok, Err, MatchResult, refl, sym, ap, ◌∙◌, arith}
+use Rattle.std.proofs.Common.{◌≡◌, ℕ, List, [], length, Result, Ok, Err, MatchResult, refl, sym, ap, ◌∙◌, arith}
 use Rattle.std.specs.Io.KnownBytes.{IsAtEnd}
-use Rattle.page_core_base.specs.Messages.{Message}
-use Rattle.page_core_base.specs.Rows.{LaidRow}
 use Rattle.page_core_base.specs.Sinks.{IsSink}
 use Rattle.page_core_base.specs.Fails.{FailsBySink}
-use Rattle.page_core_base.specs.Laid.{Laid, Gave, Gets, nothing}
+use Rattle.page_core_base.specs.Laid.{Laid, Gets, nothing}
 use Rattle.std.specs.Prelude.{OnOk}
 use Rattle.page_core_base.specs.Checks.{IsGood, IsFirst}
 use Rattle.page_core_base.specs.declared.faults.Fault.{Fault}
 use Rattle.page_core_base.specs.declared.faults.Fault.TheVariants.{Memory, Read, WriteText, WriteNotes, TooLong, Settings, Failed, Ended, BadIndex}
 use Rattle.page_core_base.specs.declared.page_settings.Settings.{Settings as PageSettings}
 use Rattle.page_core_base.specs.declared.page_settings.SettingFault.{SettingFault}
-use Rattle.page_core_base.specs.declared.note_kinds.Level.{Level}
 use Rattle.page_roff_lines.specs.Decoding.{lines}
-use Rattle.page_roff_lines.specs.Cutting.{Point, first_point, lines_from, lines_within, last_line}
+use Rattle.page_roff_lines.specs.Cutting.{Point, first_point, lines_from, last_line}
 use Rattle.page_roff_lines.proofs.LineAgreement.{lines-one_by_one}
 use Rattle.page_engine.specs.declared.runs.Outcome.{Outcome}
 use Rattle.page_engine.specs.declared.runs.Run.{Run}
 use Rattle.page_engine.specs.Page.{Edge, IsAt, page, start, laid, ended}
-use Rattle.page_engine.specs.Sources.{SourceState, HasGiven}
-use Rattle.page_engine.specs.Streams.{Streams, Sinks, AllCame, FrontCame}
-use Rattle.page_engine.specs.Runs.{Runs, RunsOver, Stopped, Whole, HasCause, Untouched, Quiet, Broken, whole_page, page_from, settled_from}
+use Rattle.page_engine.specs.Sources.{SourceState}
+use Rattle.page_engine.specs.Streams.{Streams, Sinks, AllCame}
+use Rattle.page_engine.specs.Runs.{RunsOver, Stopped, HasCause, Broken, whole_page, page_from, settled_from}
 use Rattle.page_engine.specs.Below.{cause_later}
-use Rattle.page_engine.specs.Steps.{Came, Front, TookLast, Finished, Finishes, Through, EndedWell, StoppedFrom, ReadsAll}
-use Rattle.page_engine.proofs.BytesRead.{given_none, given_end, both_gave, both_within, page_last, lines_last}
+use Rattle.page_engine.specs.Steps.{TookLast, Finished, Finishes, Through, EndedWell, StoppedFrom, ReadsAll}
+use Rattle.page_engine.proofs.BytesRead.{given_none, both_gave, both_within, page_last, lines_last}
 use Rattle.page_engine.proofs.Through.{broken_front, broken_end}
 
 -- from the start of a page

@@ -1,16 +1,15 @@
 -- A filler between pieces and a pair of sinks is a sink of pieces.
-use Rattle.std.specs.Prelude.{◌≡◌, ℕ, List, [], ◌∷◌, ◌++◌, Option, Some, None, Result, MatchResult, refl}
-use Rattle.std.proofs.Common.{◌∙◌, ap, sym}
+use Rattle.std.specs.Prelude.{◌≡◌, ℕ, List, Option, Some, Result, MatchResult, refl}
+use Rattle.std.proofs.Common.{◌∙◌}
 use Rattle.page_core_base.specs.Messages.{Message}
 use Rattle.page_core_base.specs.Rows.{LaidRow}
 use Rattle.page_core_base.specs.declared.faults.Fault.{Fault}
 use Rattle.page_core_base.specs.Sinks.{IsSink}
-use Rattle.page_core_base.specs.Fails.{IsSinkFault, Rose}
-use Rattle.page_core_base.specs.Laid.{Laid, Gave, join, join_assoc}
+use Rattle.page_core_base.specs.Fails.{IsSinkFault}
+use Rattle.page_core_base.specs.Laid.{Laid, Gave}
 use Rattle.page_core_base.specs.Pieces.{Item}
 use Rattle.page_fill.specs.declared.words.Edge.{Edge as FillEdge}
-use Rattle.page_fill.specs.Fill as fill
-use Rattle.page_engine.specs.Items.{laid_item, laid_items, laid_items-append}
+use Rattle.page_engine.specs.Items.{laid_items, laid_items-append}
 
 -- the rows and messages of these items came, and the filler's row is the one after them
 pub record Passed {R N : Type 0} (rg : R → List LaidRow → R → Type 0) (rf : R → ℕ) (ng : N → List Message

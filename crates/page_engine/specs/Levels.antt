@@ -1,5 +1,5 @@
 -- Messages by their levels. Source: mandoc(1), -W and "EXIT STATUS".
-use Rattle.std.specs.Prelude.{◌≡◌, ℕ, Bool, not, false, List, [], ◌∷◌, ◌++◌, refl, filter, Option, None, Some, if◌then◌else◌}
+use Rattle.std.specs.Prelude.{◌≡◌, Bool, not, false, List, [], ◌∷◌, ◌++◌, refl, filter, Option, None, Some, if◌then◌else◌}
 use Rattle.std.proofs.Common.{◌∙◌}
 use Rattle.std.proofs.lemmas.List.Elements.{filter-append}
 use Rattle.page_core_base.specs.declared.note_kinds.Level.{Level}

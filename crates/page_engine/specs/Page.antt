@@ -1,9 +1,9 @@
 -- A page on whole lists of lines: what lines settle, and the page to its end. Source: mandoc(1); man(7).
-use Rattle.std.specs.Prelude.{◌≡◌, ℕ, ◌+◌, Option, None, Some, List, [], ◌∷◌, ◌++◌, map}
+use Rattle.std.specs.Prelude.{◌≡◌, ℕ, Option, None, Some, List, [], ◌∷◌}
 use Rattle.page_core_base.specs.declared.note_kinds.Level.{Level}
 use Rattle.page_core_base.specs.declared.page_settings.Settings.{Settings}
 use Rattle.page_core_base.specs.Messages.{Message}
-use Rattle.page_core_base.specs.Laid.{Laid, nothing, join, seq}
+use Rattle.page_core_base.specs.Laid.{Laid, nothing, seq}
 use Rattle.page_fill.specs.declared.words.Edge.{Edge as FillEdge}
 use Rattle.page_fill.specs.Fill as fill
 use Rattle.page_prose.specs.declared.prose.Prose.{Prose}

@@ -1,6 +1,6 @@
 -- Rows that are shown or not. Source: mandoc(1), -T lint.
-use Rattle.std.specs.Prelude.{◌≡◌, Bool, List, [], ◌++◌, refl, if◌then◌else◌}
-use Rattle.std.proofs.Common.{◌∙◌, true, false, subst, inl, inr}
+use Rattle.std.specs.Prelude.{◌≡◌, Bool, List, [], ◌++◌, refl}
+use Rattle.std.proofs.Common.{◌∙◌, true, false}
 use Rattle.page_core_base.specs.Rows.{LaidRow}
 use Rattle.page_core_base.specs.Sinks.{IsSink}
 use Rattle.page_core_base.specs.declared.page_settings.Output.{Output}

@@ -1,5 +1,5 @@
 -- The steps of a run, as the code takes them: a machine of proofs, which no public clause cites.
-use Rattle.std.specs.Prelude.{◌≡◌, ◌<◌, ◌≤◌, ℕ, ◌+◌, ◌-◌, ◌^◌, false, List, [], ◌++◌, Result, MatchResult, length, take}
+use Rattle.std.specs.Prelude.{◌≡◌, ◌<◌, ◌≤◌, ℕ, ◌+◌, ◌-◌, ◌^◌, false, List, ◌++◌, Result, MatchResult, length, take}
 use Rattle.std.specs.Io.KnownBytes.{IsAtEnd}
 use Rattle.page_core_base.specs.Fails.{IsSinkFault, Rose}
 use Rattle.page_core_base.specs.declared.faults.Fault.{Fault}
@@ -11,7 +11,7 @@ use Rattle.page_engine.specs.declared.pages.Page.{Page}
 use Rattle.page_engine.specs.declared.runs.Run.{Run}
 use Rattle.page_engine.specs.Page.{Edge, IsAt, laid, page, start}
 use Rattle.page_engine.specs.Sources.{SourceState, HasGiven}
-use Rattle.page_engine.specs.Streams.{Streams, Sinks, AllCame, FrontCame}
+use Rattle.page_engine.specs.Streams.{Sinks, AllCame, FrontCame}
 use Rattle.page_engine.specs.Runs.{page_from, settled_from, Broken, IsTooLong}
 
 -- all that is laid came, and no sink failed

@@ -1,4 +1,4 @@
-use Rattle.std.proofs.Common.{refl, [], ◌∙◌, sym}
+use Rattle.std.proofs.Common.{[]}
 use Rattle.std.proofs.lemmas.Result.{err_from_is_err_and}
 use Rattle.page_engine.specs.Page.{start}
 use Rattle.page_engine.specs.Streams.{sinks}

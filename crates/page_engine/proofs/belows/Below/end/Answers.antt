@@ -1,9 +1,8 @@
-use Rattle.std.proofs.Common.{refl, ◌∙◌, sym}
 use Rattle.page_prose.specs.Prose.{end_items, footer_items}
 use Rattle.page_fill.specs.Fill as fill
 use Rattle.page_engine.specs.Items.{laid_items}
 use Rattle.page_engine.specs.Levels.{filter-sink}
-use Rattle.page_engine.specs.Page.{end_laid, footer_laid}
+use Rattle.page_engine.specs.Page.{footer_laid}
 use Rattle.page_engine.proofs.Items.{ends_after, ends_join, broken_join, broken_after}
 use Rattle.page_engine.proofs.belows.Below.end.Goals as goal
 

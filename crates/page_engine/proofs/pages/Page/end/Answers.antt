@@ -1,4 +1,4 @@
-use Rattle.std.proofs.Common.{rules, refl, ◌∙◌, sym, ◌≡◌, OnOk}
+use Rattle.std.proofs.Common.{rules, refl}
 use Rattle.page_core_base.specs.Laid.{Gets}
 use Rattle.page_core_base.specs.Fails.{FailsBySink}
 use Rattle.page_engine.specs.Page.{ended, end_laid}

@@ -1,9 +1,9 @@
-use Rattle.std.proofs.Common.{rules, refl, ◌∙◌, sym, ◌≡◌, OnOk}
+use Rattle.std.proofs.Common.{rules, refl}
 use Rattle.page_core_base.specs.Laid.{Gets}
 use Rattle.page_core_base.specs.Fails.{FailsBySink}
 use Rattle.page_prose.specs.Prose.{line_items}
 use Rattle.page_engine.specs.Items.{laid_items}
-use Rattle.page_engine.specs.Page.{IsAt, laid_text, passed}
+use Rattle.page_engine.specs.Page.{laid_text, passed}
 use Rattle.page_engine.proofs.Feeds.{passes_gets, passes_edge, passes_faults}
 use Rattle.page_engine.proofs.pages.Page.feed.Goals as goal
 

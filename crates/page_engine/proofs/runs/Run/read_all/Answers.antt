@@ -1,4 +1,4 @@
-use Rattle.std.proofs.Common.{◌≡◌, ◌<◌, ◌≤◌, ◌+◌, ◌-◌, ◌^◌, ◌++◌, [], refl, ◌∙◌, sym, ap, take, drop, length, length-append, append-nil, arith, inl, inr}
+use Rattle.std.proofs.Common.{◌≡◌, ◌<◌, ◌≤◌, ◌+◌, ◌-◌, ◌^◌, ◌++◌, [], refl, ◌∙◌, take, drop, length, length-append, append-nil, arith, inl, inr}
 use Rattle.std.proofs.lemmas.List.{length-take, take_all}
 use Rattle.page_engine.specs.Streams.{sinks}
 use Rattle.page_engine.proofs.BytesRead.{given_none, given_more, given_end}

@@ -1,4 +1,4 @@
-use Rattle.std.proofs.Common.{◌≡◌, ◌+◌, ◌<◌, ◌^◌, ℕ, List, length}
+use Rattle.std.proofs.Common.{◌≡◌, ◌<◌, ◌^◌, ℕ, List, length}
 use Rattle.page_engine.specs.Sources.{HasGiven}
 use Rattle.page_engine.specs.Streams.{sinks}
 use Rattle.page_engine.specs.Steps.{Through}
