@@ -24,7 +24,7 @@ earlier line from to (argument ∷ arguments) h a = let first = a.0 in (omega ar
 
 -- ---- one argument
 
-cut_at : (line : List ℕ) (start n : ℕ) → start ≤ length line → n ≤ length (drop start line) → IsSlice line start (take n (drop start line))
+pub cut_at : (line : List ℕ) (start n : ℕ) → start ≤ length line → n ≤ length (drop start line) → IsSlice line start (take n (drop start line))
 cut_at line start n w h =
     let l : length (take n (drop start line)) ≡ n = omega (arith, length-take n (drop start line)) in
     record { within = omega (arith, l, length-drop start line); bytes = rw l refl }
