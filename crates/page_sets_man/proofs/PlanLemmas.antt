@@ -50,20 +50,20 @@ control_fits text =
 
 macro_gives : (line : Line) (column start : ℕ) (row : Row) (any : Bool) → has_any (arguments_after start line.text) ≡ any
     → plan_events line (macro_plan row any column start (arguments_after start line.text))
-      ≡ macro_events line.number column row (drop start line.text) (arguments_after start line.text)
+    ≡ macro_events line.number column row (drop start line.text) (arguments_after start line.text)
 macro_gives line column start row any e = rw e (simp append_assoc)
 
 lone_gives : (line : Line) (column start : ℕ) (row : Row) (alone : Alone) (name : List ℕ) → name ≡ name_of line.text
     → has_any (arguments_after start line.text) ≡ false
     → plan_events line (lone_plan row column start (arguments_after start line.text) alone)
-      ≡ lone_events alone line.number column name (macro_events line.number column row (drop start line.text) (arguments_after start line.text))
+    ≡ lone_events alone line.number column name (macro_events line.number column row (drop start line.text) (arguments_after start line.text))
 lone_gives line column start row Same name n e = macro_gives line column start row false e
 lone_gives line column start row Empty name n e = rw n refl
 lone_gives line column start row (Scope opener) name n e = refl
 
 row_gives : (line : Line) (row : Option Row)
     → plan_events line (row_plan (name_start line.text + 1) (name_end line.text) (arguments_after (name_end line.text) line.text) row)
-      ≡ named_events line row
+    ≡ named_events line row
 row_gives line None = refl
 row_gives line (Some row) =
     elim (cases_Bool (has_any (arguments_after (name_end line.text) line.text))) [

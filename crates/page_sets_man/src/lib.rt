@@ -1,7 +1,12 @@
-//! The macros of man(7): the events of a line.
+//! The macros of man(7): what events a line has, by one table.
 #![tactic(auto)]
 
 mod effects;
+mod man_set;
 mod plans;
 mod rows;
 mod words;
+
+pub use man_set::Man;
+pub use plans::{After, Before, Front, Plan, Quote};
+pub use rows::{Closes, Effect, Last, Opens, Sets, Words};
