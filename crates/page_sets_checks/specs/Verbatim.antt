@@ -1,5 +1,5 @@
 -- A set without macros: each line is shown as it is.
-use Rattle.std.specs.Prelude.{◌≡◌, ℕ, ◌+◌, ◌*◌, ◌≤◌, false, List, [], ◌∷◌, length}
+use Rattle.std.specs.Prelude.{ℕ, ◌+◌, ◌*◌, ◌≤◌, false, List, [], ◌∷◌, length}
 use Rattle.std.proofs.Common.{arith}
 use Rattle.page_sets_lines.specs.declared.events.Deed.TheVariants.{Raw}
 use Rattle.page_sets_lines.specs.declared.events.Event.{Event}
@@ -18,10 +18,13 @@ events_from line Start = verbatim_events line
 events_from line Shown = line_end line.number false ∷ []
 events_from line Ended = []
 
-pub verbatim_slices : (line : Line) (stage : Stage) → AreSlices line.text (events_from line stage)
-verbatim_slices line Start = (whole_part line.text, (tt, tt))
-verbatim_slices line Shown = (tt, tt)
-verbatim_slices line Ended = tt
+pub verbatim_slices : (line : Line) → AreSlices line.text (verbatim_events line)
+verbatim_slices line = (whole_part line.text, (tt, tt))
+
+pub stage_slices : (line : Line) (stage : Stage) → AreSlices line.text (events_from line stage)
+stage_slices line Start = verbatim_slices line
+stage_slices line Shown = (tt, tt)
+stage_slices line Ended = tt
 
 pub verbatim_in_order : (line : Line) → AreInOrder 0 (verbatim_events line)
 verbatim_in_order line = (tt, (tt, tt))

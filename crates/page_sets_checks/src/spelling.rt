@@ -1,4 +1,5 @@
-//! Events as short texts: column, kind, name and texts, as in `2 open TP 4`. A quoted text keeps the quotes that it has.
+//! Events as short texts: column, kind, name and texts, as in `2 open TP 4`. A quoted text keeps the quotes that
+//! it has.
 
 ghost use Rattle.std.specs.Prelude.{◌≤◌, length};
 

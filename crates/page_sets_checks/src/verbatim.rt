@@ -18,7 +18,7 @@ pub enum Stage {
 }
 
 impl MacroSet for Verbatim {
-    ghost use Rattle.page_sets_checks.specs.Verbatim.{verbatim_events, events_from, verbatim_slices, verbatim_in_order, verbatim_few};
+    ghost use Rattle.page_sets_checks.specs.Verbatim.{verbatim_events, events_from, verbatim_slices, stage_slices, verbatim_in_order, verbatim_few};
 
     type Place = Stage;
 
@@ -30,7 +30,9 @@ impl MacroSet for Verbatim {
 
     ghost events_from = { λ set line stage. events_from line stage };
 
-    ghost slices = { λ set line stage is. verbatim_slices line stage };
+    ghost slices = { λ set line. verbatim_slices line };
+
+    ghost slices_from = { λ set line stage is. stage_slices line stage };
 
     ghost in_order = { λ set line. verbatim_in_order line };
 

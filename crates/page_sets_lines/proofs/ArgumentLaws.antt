@@ -1,16 +1,14 @@
 -- The arguments of a line are slices of it, in order: helpers of proofs.
-use Rattle.std.proofs.Common.{◌≡◌, ℕ, zero, suc, ◌+◌, ◌-◌, ◌<◌, ◌≤◌, ◌==◌, min, Bool, true, false, nat_lt, List, [], ◌∷◌, length, take, drop, get_or, refl, sym, ap, subst, ◌∙◌, arith, inl, inr, length-drop, length-take, add-zero, add-one, Option, None, Some}
+use Rattle.std.proofs.Common.{◌≡◌, ℕ, zero, suc, ◌+◌, ◌-◌, ◌<◌, ◌≤◌, ◌==◌, min, false, nat_lt, List, [], ◌∷◌, length, take, drop, get_or, refl, sym, ap, subst, ◌∙◌, arith, inl, inr, length-drop, length-take, Some}
 use Rattle.std.specs.List.{prefix_len}
 use Rattle.std.proofs.lemmas.Bool.{cases_Bool}
 use Rattle.std.proofs.lemmas.Bool.Decides.{nat_tests}
 use Rattle.std.proofs.lemmas.List.{drop-drop}
 use Rattle.page_roff_forms.specs.declared.quotes.Argument.{Argument}
-use Rattle.page_roff_forms.specs.declared.quotes.Quoting.{Quoting}
-use Rattle.page_roff_forms.specs.declared.quotes.Quoting.TheVariants.{Bare, Closed, Unclosed}
-use Rattle.page_roff_forms.specs.Arguments.{is_blank, bare_len, quoted_len, quoting_of, begins_quoted, argument_len, first_argument, first_arguments, quoted_argument, bare_argument, arguments}
+use Rattle.page_roff_forms.specs.Arguments.{is_blank, bare_len, quoted_len, begins_quoted, argument_len, first_argument, first_arguments, quoted_argument, bare_argument, arguments}
 use Rattle.page_roff_forms.proofs.ArgumentLemmas.{after_blanks, one_argument, no_argument, no_blank, bare_within, quoted_within}
 use Rattle.page_sets_lines.specs.Laws.{IsSlice, IsArgument}
-use Rattle.page_sets_lines.specs.ControlLines.{arguments_after, first_of, argument_end, closing_len}
+use Rattle.page_sets_lines.specs.ControlLines.{arguments_after, first_of, argument_end}
 
 -- each argument is the slice of the line at its column, and none begins before the one in front of it has ended
 abbrev pub ArgumentsFrom : List ℕ → ℕ → List (Argument (List ℕ)) → Type 0

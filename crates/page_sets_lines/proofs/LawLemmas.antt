@@ -1,6 +1,5 @@
 -- The laws of macro sets, event by event: helpers of proofs.
-use Rattle.std.proofs.Common.{◌≡◌, ℕ, ◌+◌, ◌-◌, ◌≤◌, Bool, true, false, List, [], ◌∷◌, ◌++◌, length, take, drop, refl, arith, inl, inr, length-take, length-drop, Option, None, Some}
-use Rattle.std.specs.List.{prefix_len}
+use Rattle.std.proofs.Common.{◌≡◌, ℕ, ◌+◌, ◌-◌, ◌≤◌, Bool, true, false, List, [], ◌∷◌, ◌++◌, length, drop, refl, arith, inl, inr, length-drop, Option, None, Some}
 use Rattle.std.proofs.lemmas.List.Sums.{prefix_len-le-length}
 use Rattle.std.proofs.lemmas.Bool.{cases_Bool}
 use Rattle.std.proofs.Math.Seq.{take-length}
@@ -15,7 +14,7 @@ use Rattle.page_sets_lines.specs.declared.requests.RequestName.{RequestName}
 use Rattle.page_sets_lines.specs.declared.requests.RequestName.TheVariants as names
 use Rattle.page_sets_lines.specs.Laws.{IsSlice, IsPart, IsArgument, IsPartIfGiven, IsArgumentIfGiven, RequestsSlices, HasSlices, AreSlices, past, BeginsFrom, AreInOrder}
 use Rattle.page_sets_lines.specs.ControlLines.{name_start, name_end, name_of, arguments_after, first_of, second_of, text_of}
-use Rattle.page_sets_lines.specs.PlainLines.{line_word, line_deed, request}
+use Rattle.page_sets_lines.specs.PlainLines.{line_deed, request}
 use Rattle.page_sets_lines.proofs.ArgumentLaws.{ArgumentsFrom, all_after, cut_at}
 
 -- ---- slices

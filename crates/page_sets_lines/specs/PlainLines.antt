@@ -1,5 +1,5 @@
 -- The events of text lines, blank lines and raw lines, and the requests that change rows. Source: roff(7), "LANGUAGE SYNTAX" and "REQUEST REFERENCE".
-use Rattle.std.specs.Prelude.{ℕ, Bool, true, false, List, [], ◌∷◌, Option, None, Some, option_map, find, codes, if◌then◌else◌}
+use Rattle.std.specs.Prelude.{ℕ, Bool, true, false, List, [], ◌∷◌, Option, None, option_map, find, codes, if◌then◌else◌}
 use Rattle.std.specs.Str.{bytes_eq}
 use Rattle.page_core_base.specs.declared.lines_taken.Form.{Form}
 use Rattle.page_core_base.specs.declared.lines_taken.Form.TheVariants as forms
@@ -40,11 +40,11 @@ line_deed forms.Raw text = deeds.Raw text
 line_deed forms.Control text = deeds.Raw text
 
 -- a text line with a word fills line scopes
-abbrev pub fills : Form → List ℕ → Bool
-fills forms.Text text = has_word text
-fills forms.Blank text = false
-fills forms.Raw text = false
-fills forms.Control text = false
+abbrev pub is_filling : Form → List ℕ → Bool
+is_filling forms.Text text = has_word text
+is_filling forms.Blank text = false
+is_filling forms.Raw text = false
+is_filling forms.Control text = false
 
 abbrev pub line_end : ℕ → Bool → Event (List ℕ)
 line_end number filled = event_at number 1 (deeds.End filled)
@@ -52,7 +52,7 @@ line_end number filled = event_at number 1 (deeds.End filled)
 -- the events of a line that is no control line
 abbrev pub plain_events : Line → List (Event (List ℕ))
 plain_events line =
-    event_at line.number 1 (line_deed line.form line.text) ∷ line_end line.number (fills line.form line.text) ∷ []
+    event_at line.number 1 (line_deed line.form line.text) ∷ line_end line.number (is_filling line.form line.text) ∷ []
 
 -- the requests that change rows
 abbrev pub request_names : List (List ℕ × RequestName)

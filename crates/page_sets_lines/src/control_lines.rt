@@ -60,7 +60,8 @@ pub fn arguments_after(text: &[u8], start: usize) -> Arguments<'_>
     Arguments::new(&text[start..], start as u32 + 1)
 }
 
-/// The column of the quote that the last argument lacks at its end, unless it is one of the first, which are printed.
+/// The column of the quote of an argument that lacks its last one, unless the argument is one of the first, which are
+/// printed.
 pub fn open_quote(text: &[u8], start: usize, printed: usize) -> Option<u32>
     requires short { length text.now ≤ LINE }
     requires within { start ≤ length text.now }

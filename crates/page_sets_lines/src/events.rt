@@ -1,4 +1,5 @@
-//! Events: what a macro set makes of a line, for the scopes of a page (man(7)). The macros of mdoc(7) join these with their set.
+//! Events: what a macro set makes of a line, for the scopes of a page (man(7)). The macros of mdoc(7) join these with
+//! their set.
 
 ghost use Rattle.std.specs.Prelude.{◌≡◌};
 

@@ -1,4 +1,5 @@
-//! What is no scope: macros and requests that change what follows, and words that a macro prints itself (man(7), roff(7)).
+//! What is no scope: macros and requests that change what follows, and words that a macro prints itself (man(7),
+//! roff(7)).
 
 ghost use Rattle.std.specs.Prelude.{◌≡◌};
 ghost use Rattle.page_sets_lines.specs.MacroNames as names;

@@ -1,5 +1,5 @@
-//! What every set of macros shares: the events of a line, the trait of macro sets, and the lines and requests of which all sets give the same
-//! events.
+//! What every set of macros shares: the events of a line, the trait of macro sets, and the lines and requests of
+//! which all sets give the same events.
 #![tactic(auto)]
 
 mod control_lines;
@@ -20,5 +20,5 @@ pub use leaves::{Leaf, Own, OwnWord, Request};
 pub use macro_names::{FontMacro, HeadingName, Link, ParagraphName, Prologue, TagName};
 pub use macro_sets::MacroSet;
 pub use openers::{Closer, LineOpener, Opener};
-pub use plain_lines::{fills, line_deed};
+pub use plain_lines::{is_filling, line_deed};
 pub use requests::{RequestName, request, request_of};

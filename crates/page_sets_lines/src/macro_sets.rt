@@ -10,8 +10,8 @@ use crate::events::Event;
 use page_core_base::Taken;
 use page_core_limits::LINE;
 
-/// A set of macros: what events a line has. They are given one by one, from [`MacroSet::start`] on, by [`MacroSet::next`], and their texts
-/// are lent by the line.
+/// A set of macros: what events a line has. They are given one by one, from [`MacroSet::start`] on, by
+/// [`MacroSet::next`], and their texts are lent by the line.
 pub trait MacroSet {
     /// How far the events of a line were given.
     type Place;
@@ -36,7 +36,8 @@ pub trait MacroSet {
     fn start(&self, line: Taken<'_>) -> Self::Place
         requires { length line.text.now ≤ LINE }
         ensures place { IsPlaceOf self.now (line_seen line.entry) result }
-        ensures events { events_from self.now (line_seen line.entry) result ≡ table self.now (line_seen line.entry) };
+        ensures events { events_from self.now (line_seen line.entry) result
+            ≡ table self.now (line_seen line.entry) };
 
     /// The next event of the line.
     fn next<'a>(&self, line: Taken<'a>, place: &mut Self::Place) -> Option<Event<&'a [u8]>>
@@ -49,7 +50,10 @@ pub trait MacroSet {
             ≡ event_seen event ∷ events_from self.now (line_seen line.entry) place.new) };
 
     // each argument is the slice of the line at its column, and each other text a slice of it
-    ghost slices: { (set : Self) (line : Line) (place : Self.Place) →
+    ghost slices: { (set : Self) (line : Line) → AreSlices line.text (table set line) };
+
+    // the same of the events from a place on
+    ghost slices_from: { (set : Self) (line : Line) (place : Self.Place) →
         IsPlaceOf set line place → AreSlices line.text (events_from set line place) };
 
     // the words stand in order

@@ -1,8 +1,9 @@
-//! Text lines, blank lines and raw lines (roff(7), "LANGUAGE SYNTAX"). All sets of macros give the same events of them.
+//! Text lines, blank lines and raw lines (roff(7), "LANGUAGE SYNTAX"). All sets of macros give the same events of
+//! them.
 
 ghost use Rattle.std.specs.Prelude.{◌≡◌};
 ghost use Rattle.page_sets_lines.specs.Events.{deed_seen, word_seen};
-ghost use Rattle.page_sets_lines.specs.PlainLines.{line_word, line_deed, fills};
+ghost use Rattle.page_sets_lines.specs.PlainLines.{line_word, line_deed, is_filling};
 
 use crate::events::{Deed, Join, Role, Word};
 use crate::leaves::Leaf;
@@ -39,8 +40,8 @@ pub fn line_deed<'a>(line: Taken<'a>) -> Deed<&'a [u8]>
 }
 
 /// Whether it fills the line scopes that are open, as a text line with a word does.
-pub fn fills(line: Taken<'_>) -> bool
-    ensures { result ≡ fills line.entry.form line.entry.text.now }
+pub fn is_filling(line: Taken<'_>) -> bool
+    ensures { result ≡ is_filling line.entry.form line.entry.text.now }
 {
     match line.form {
         Form::Text => has_word(line.text),

@@ -1,32 +1,21 @@
 -- The plan of a line gives the line's events: helpers of proofs.
-use Rattle.std.proofs.Common.{◌≡◌, ℕ, ◌+◌, ◌≤◌, Bool, true, false, List, [], ◌∷◌, ◌++◌, length, drop, refl, sym, ap, ◌∙◌, append_assoc, arith, inl, inr, length-drop, Option, None, Some}
-use Rattle.std.specs.List.{prefix_len}
-use Rattle.std.proofs.lemmas.List.Sums.{prefix_len-le-length}
+use Rattle.std.proofs.Common.{◌≡◌, ℕ, ◌+◌, ◌≤◌, Bool, true, false, List, [], ◌∷◌, length, drop, refl, sym, ap, ◌∙◌, append_assoc, arith, inl, inr, Option, None, Some}
 use Rattle.std.proofs.lemmas.Bool.{cases_Bool}
 use Rattle.page_core_base.specs.declared.lines_taken.Form.{Form}
 use Rattle.page_core_base.specs.declared.lines_taken.Form.TheVariants.{Control}
 use Rattle.page_roff_forms.specs.declared.quotes.Argument.{Argument}
-use Rattle.page_roff_forms.specs.LineForms.{is_white, is_name}
 use Rattle.page_sets_lines.specs.TakenLines.{Line}
 use Rattle.page_sets_lines.specs.ControlLines.{name_start, name_end, name_of, arguments_after, has_any}
+use Rattle.page_sets_lines.proofs.LawLemmas.{end_within}
 use Rattle.page_sets_man.specs.declared.rows.Alone.{Alone}
 use Rattle.page_sets_man.specs.declared.rows.Alone.TheVariants.{Same, Empty, Scope}
 use Rattle.page_sets_man.specs.declared.rows.Row.{Row}
 use Rattle.page_sets_man.specs.declared.plans.Plan.{Plan}
 use Rattle.page_sets_man.specs.Rows.{row_of}
-use Rattle.page_sets_man.specs.Man.{macro_events, lone_events, row_events, named_events, form_events, man_events}
-use Rattle.page_sets_man.specs.Plans.{plan_events, macro_plan, lone_plan, row_plan, control_plan, FitsPlan}
+use Rattle.page_sets_man.specs.Man.{macro_events, lone_events, named_events, form_events, man_events}
+use Rattle.page_sets_man.specs.Plans.{plan_events, macro_plan, lone_plan, row_plan, control_plan}
 
 -- ---- where arguments begin
-
-pub start_within : (text : List ℕ) → name_start text ≤ length text
-start_within [] = omega arith
-start_within (control ∷ bytes) = omega (arith, prefix_len-le-length is_white bytes)
-
-pub end_within : (text : List ℕ) → name_end text ≤ length text
-end_within text =
-    let rest = drop (name_start text) text in
-    omega (arith, start_within text, prefix_len-le-length is_name rest, length-drop (name_start text) text)
 
 lone_starts : (row : Row) (column start : ℕ) (arguments : List (Argument (List ℕ))) (alone : Alone)
     → ((lone_plan row column start arguments alone).before.start ≡ start) × ((lone_plan row column start arguments alone).rest ≡ start)

@@ -1,5 +1,5 @@
 -- The words of a macro, one after another: helpers of proofs.
-use Rattle.std.proofs.Common.{◌≡◌, ℕ, true, false, List, [], ◌∷◌, refl}
+use Rattle.std.proofs.Common.{◌≡◌, ℕ, true, List, [], ◌∷◌, refl}
 use Rattle.page_roff_forms.specs.declared.quotes.Argument.{Argument}
 use Rattle.page_sets_man.specs.declared.rows.Words.{Words}
 use Rattle.page_sets_man.specs.declared.rows.Words.TheVariants as words

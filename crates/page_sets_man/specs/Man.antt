@@ -176,17 +176,17 @@ words_events number column words.SectionText arguments = section_text number col
 words_events number column words.SectionEnd arguments = section_end number column arguments
 words_events number column words.Suffix arguments = one_word number None Glued arguments
 
-abbrev pub gives_words : Words → Bool
-gives_words words.Nothing = false
-gives_words words.Plain = true
-gives_words (words.Alternating font other before) = true
-gives_words words.Key = true
-gives_words words.Value = true
-gives_words words.Name = true
-gives_words words.Section = true
-gives_words words.SectionText = true
-gives_words words.SectionEnd = true
-gives_words words.Suffix = true
+abbrev pub has_words : Words → Bool
+has_words words.Nothing = false
+has_words words.Plain = true
+has_words (words.Alternating font other before) = true
+has_words words.Key = true
+has_words words.Value = true
+has_words words.Name = true
+has_words words.Section = true
+has_words words.SectionText = true
+has_words words.SectionEnd = true
+has_words words.Suffix = true
 
 -- ---- the events of a line
 
@@ -233,7 +233,7 @@ macro_events number column row rest arguments =
     ++ (deed_events number column (effect_deed row.effect rest arguments)
     ++ (scope_events number column (line_scope row.effect)
     ++ (words_events number column row.words arguments
-    ++ (last_events number column row.last ++ line_end number (has_any arguments && gives_words row.words) ∷ [])))))
+    ++ (last_events number column row.last ++ line_end number (has_any arguments && has_words row.words) ∷ [])))))
 
 -- a message about a macro's name
 abbrev pub refused_events : NoteKind → ℕ → ℕ → List ℕ → List (Event (List ℕ))

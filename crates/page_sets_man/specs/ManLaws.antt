@@ -1,6 +1,6 @@
 -- The macros of man(7) keep the laws of macro sets: proofs, which the set's laws cite. Source: man(7).
-use Rattle.std.proofs.Common.{◌≡◌, ℕ, ◌+◌, ◌-◌, ◌*◌, ◌<◌, ◌≤◌, Bool, true, false, ◌&&◌, nat_le, List, [], ◌∷◌, ◌++◌, length, take, drop, refl, sym, ap, ◌∙◌, arith, inl, inr, length-append, length-drop, length-take, Option, None, Some, option_map, find}
-use Rattle.std.specs.List.{prefix_len, list_all}
+use Rattle.std.proofs.Common.{◌≡◌, ℕ, ◌+◌, ◌-◌, ◌*◌, ◌≤◌, Bool, true, false, ◌&&◌, nat_le, List, [], ◌∷◌, ◌++◌, length, drop, refl, arith, inl, inr, length-append, length-take, Option, None, Some, option_map, find}
+use Rattle.std.specs.List.{list_all}
 use Rattle.std.specs.Str.{bytes_eq}
 use Rattle.std.proofs.lemmas.Bool.{cases_Bool}
 use Rattle.std.proofs.lemmas.Bool.Decides.{nat_tests}
@@ -8,11 +8,9 @@ use Rattle.page_core_base.specs.declared.cells.Font.{Font}
 use Rattle.page_core_base.specs.declared.cells.Font.TheVariants as fonts
 use Rattle.page_core_base.specs.declared.lines_taken.Form.{Form}
 use Rattle.page_core_base.specs.declared.lines_taken.Form.TheVariants as forms
-use Rattle.page_core_base.specs.declared.note_kinds.NoteKind.TheVariants.{UnknownMacro, EmptyMacro}
 use Rattle.page_roff_forms.specs.declared.quotes.Argument.{Argument}
 use Rattle.page_sets_lines.specs.declared.openers.Opener.{Opener}
 use Rattle.page_sets_lines.specs.declared.openers.LineOpener.{LineOpener}
-use Rattle.page_sets_lines.specs.declared.leaves.Own.{Own}
 use Rattle.page_sets_lines.specs.declared.events.Join.{Join}
 use Rattle.page_sets_lines.specs.declared.events.Join.TheVariants.{Apart, Glued}
 use Rattle.page_sets_lines.specs.declared.events.Deed.{Deed}
@@ -22,9 +20,9 @@ use Rattle.page_sets_lines.specs.declared.requests.RequestName.{RequestName}
 use Rattle.page_sets_lines.specs.TakenLines.{Line}
 use Rattle.page_sets_lines.specs.Laws.{IsArgument, IsArgumentIfGiven, OpensSlices, ClosesSlices, LeavesSlices, HasSlices, AreSlices, AreInOrder}
 use Rattle.page_sets_lines.specs.ControlLines.{name_start, name_end, name_of, arguments_after, first_of, has_any}
-use Rattle.page_sets_lines.specs.PlainLines.{event_at, line_deed, line_end, plain_events, request_of}
+use Rattle.page_sets_lines.specs.PlainLines.{line_end, plain_events, request_of}
 use Rattle.page_sets_lines.proofs.ArgumentLaws.{ArgumentsFrom, all_after, earlier, few_after}
-use Rattle.page_sets_lines.proofs.LawLemmas.{nothing_part, rest_part, end_within, name_part, argument_part, first_slice_after, second_slice_after, first_text_after, second_text_after, request_slices, line_slices, AreSlices-append, HasNoWord, order_after, order_before, line_order}
+use Rattle.page_sets_lines.proofs.LawLemmas.{nothing_part, rest_part, end_within, name_part, first_slice_after, first_text_after, second_text_after, request_slices, line_slices, AreSlices-append, HasNoWord, order_after, order_before, line_order}
 use Rattle.page_sets_man.specs.declared.rows.Opens.{Opens}
 use Rattle.page_sets_man.specs.declared.rows.Opens.TheVariants as opens
 use Rattle.page_sets_man.specs.declared.rows.Closes.{Closes}
@@ -47,8 +45,8 @@ use Rattle.page_sets_man.specs.declared.plans.Front.{Front}
 use Rattle.page_sets_man.specs.declared.plans.Front.TheVariants as fronts
 use Rattle.page_sets_man.specs.declared.plans.Plan.{Plan}
 use Rattle.page_sets_man.specs.Rows.{quiet, structure_rows, words_rows, structure_row, words_row, request_row, either_row, row_of}
-use Rattle.page_sets_man.specs.Man.{opener, closer, leaf, effect_deed, line_scope, opens_line_scope, sets_line_scope, one_word, plain_words, alternating_words, key_words, section_end, section_text, section_words, name_words, words_events, gives_words, break_events, quote_at, missing_quote, quote_events, deed_events, scope_events, last_events, macro_events, refused_events, lone_events, row_events, named_events, form_events, man_events}
-use Rattle.page_sets_man.specs.Plans.{front_deed, before_events, end_events, after_events, plan_events, FitsPlan}
+use Rattle.page_sets_man.specs.Man.{opener, closer, leaf, effect_deed, line_scope, one_word, plain_words, alternating_words, section_text, section_words, words_events, has_words, break_events, quote_at, missing_quote, quote_events, deed_events, scope_events, last_events, macro_events, lone_events, row_events, named_events, form_events, man_events}
+use Rattle.page_sets_man.specs.Plans.{front_deed, end_events, plan_events, FitsPlan}
 
 -- ---- slices
 
@@ -171,8 +169,8 @@ words_slices line number column words.SectionText from arguments h = section_tex
 words_slices line number column words.SectionEnd from arguments h = (tt, one_slices line number _ _ from arguments h)
 words_slices line number column words.Suffix from arguments h = one_slices line number _ _ from arguments h
 
-pub man_slices : (line : Line) (plan : Plan) → FitsPlan line plan → AreSlices line.text (plan_events line plan)
-man_slices line plan fits =
+pub plan_slices : (line : Line) (plan : Plan) → FitsPlan line plan → AreSlices line.text (plan_events line plan)
+plan_slices line plan fits =
     let text = line.text in
     AreSlices-append text _ _
     (AreSlices-append text _ _ (break_slices text line.number plan.column plan.before.breaks)
@@ -181,6 +179,47 @@ man_slices line plan fits =
     (scope_slices text line.number plan.column plan.before.scope))))
     (AreSlices-append text _ _ (words_slices text line.number plan.column plan.words (plan.rest + 1) (arguments_after plan.rest text) (all_after text plan.rest))
     (AreSlices-append text _ _ (last_slices text line.number plan.column plan.after.last) (end_slices text line.number plan.after.end)))
+
+macro_slices : (line : List ℕ) (number column start : ℕ) (row : Row) → start ≤ length line
+    → AreSlices line (macro_events number column row (drop start line) (arguments_after start line))
+macro_slices line number column start row within =
+    let arguments = arguments_after start line in
+    AreSlices-append line _ _ (break_slices line number column row.breaks)
+    (AreSlices-append line _ _ (quote_slices line number (missing_quote row.quotes arguments))
+    (AreSlices-append line _ _ (deed_slices line number column _ (effect_slices line row.effect start within))
+    (AreSlices-append line _ _ (scope_slices line number column (line_scope row.effect))
+    (AreSlices-append line _ _ (words_slices line number column row.words (start + 1) arguments (all_after line start))
+    (AreSlices-append line _ _ (last_slices line number column row.last) (tt, tt))))))
+
+lone_slices : (line : List ℕ) (alone : Alone) (number column : ℕ) (events : List (Event (List ℕ))) → AreSlices line events
+    → AreSlices line (lone_events alone number column (name_of line) events)
+lone_slices line Same number column events h = h
+lone_slices line Empty number column events h = (name_part line, (tt, tt))
+lone_slices line (Scope opener) number column events h = (tt, (tt, tt))
+
+row_slices : (line : List ℕ) (number column start : ℕ) (row : Row) → start ≤ length line
+    → AreSlices line (row_events number column (name_of line) (drop start line) (arguments_after start line) row)
+row_slices line number column start row within =
+    let m = macro_slices line number column start row within in
+    elim (cases_Bool (has_any (arguments_after start line))) [
+      | inl t ↦ rw t (rw t at m)
+      | inr t ↦ rw t (lone_slices line row.alone number column _ (rw t at m))
+    ]
+
+named_slices : (line : Line) (row : Option Row) → AreSlices line.text (named_events line row)
+named_slices line None = (name_part line.text, (tt, tt))
+named_slices line (Some row) =
+    row_slices line.text line.number (name_start line.text + 1) (name_end line.text) row (end_within line.text)
+
+form_slices : (form : Form) (line : Line) → AreSlices line.text (form_events form line)
+form_slices forms.Text line = (line_slices line.form line.text, (tt, tt))
+form_slices forms.Blank line = (line_slices line.form line.text, (tt, tt))
+form_slices forms.Raw line = (line_slices line.form line.text, (tt, tt))
+form_slices forms.Control line = named_slices line (row_of (name_of line.text))
+
+pub man_slices : (line : Line) → AreSlices line.text (man_events line)
+unfolding man_events
+man_slices line = form_slices line.form line
 
 -- ---- order
 
@@ -259,7 +298,7 @@ macro_order line number column start row =
     (order_after 0 _ _ (effect_no_word number column row.effect (drop start line) arguments)
     (order_after 0 _ _ (scope_no_word number column (line_scope row.effect))
     (order_before 0 _ _ (words_order line number column row.words 0 arguments (earlier line 0 (start + 1) arguments (omega arith) (all_after line start)))
-    (last_no_word number column row.last (has_any arguments && gives_words row.words))))))
+    (last_no_word number column row.last (has_any arguments && has_words row.words))))))
 
 lone_order : (alone : Alone) (number column : ℕ) (name : List ℕ) (events : List (Event (List ℕ))) → AreInOrder 0 events → AreInOrder 0 (lone_events alone number column name events)
 lone_order Same number column name events h = h

@@ -28,7 +28,7 @@ use Rattle.page_sets_man.specs.declared.plans.After.{After}
 use Rattle.page_sets_man.specs.declared.plans.Plan.{Plan}
 use Rattle.page_sets_man.specs.declared.words.Step.{Step}
 use Rattle.page_sets_man.specs.Rows.{row_of}
-use Rattle.page_sets_man.specs.Man.{effect_deed, missing_quote, line_scope, gives_words, words_events, break_events, quote_events, deed_events, scope_events, last_events}
+use Rattle.page_sets_man.specs.Man.{effect_deed, missing_quote, line_scope, has_words, words_events, break_events, quote_events, deed_events, scope_events, last_events}
 
 -- what comes first, beside a break and a quote that lacks
 abbrev pub front_deed : Front → Line → ℕ → Option (Deed (List ℕ))
@@ -102,7 +102,7 @@ macro_plan row has_any column start arguments = record {
   };
   words = row.words;
   rest = start;
-  after = record { last = row.last; end = Some (has_any && gives_words row.words) };
+  after = record { last = row.last; end = Some (has_any && has_words row.words) };
 }
 
 abbrev pub lone_plan : Row → ℕ → ℕ → List (Argument (List ℕ)) → Alone → Plan

@@ -1,5 +1,5 @@
 -- The table of macros: what each needs and what it gives. Source: man(7), "MACRO REFERENCE".
-use Rattle.std.specs.Prelude.{ℕ, Bool, true, false, List, [], ◌∷◌, Option, None, Some, option_map, find, codes}
+use Rattle.std.specs.Prelude.{ℕ, true, false, List, [], ◌∷◌, Option, None, Some, option_map, find, codes}
 use Rattle.std.specs.Str.{bytes_eq}
 use Rattle.page_core_base.specs.declared.cells.Font.{Font}
 use Rattle.page_core_base.specs.declared.cells.Font.TheVariants as fonts

@@ -97,7 +97,8 @@ fn leaf(sets: Sets, text: &[u8], start: usize) -> Leaf<&[u8]>
 pub(crate) fn effect_deed(effect: Effect, text: &[u8], start: usize) -> Option<Deed<&[u8]>>
     requires short { length text.now ≤ LINE }
     requires within { start ≤ length text.now }
-    ensures { option_map deed_seen result ≡ man.effect_deed effect (drop start text.now) (arguments_after start text.now) }
+    ensures { option_map deed_seen result
+        ≡ man.effect_deed effect (drop start text.now) (arguments_after start text.now) }
 {
     match effect {
         Effect::Nothing => None,

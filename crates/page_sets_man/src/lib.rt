@@ -8,5 +8,4 @@ mod rows;
 mod words;
 
 pub use man_set::Man;
-pub use plans::{After, Before, Front, Plan, Quote};
-pub use rows::{Closes, Effect, Last, Opens, Sets, Words};
+pub use plans::Plan;

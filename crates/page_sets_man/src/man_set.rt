@@ -13,7 +13,7 @@ pub struct Man;
 impl MacroSet for Man {
     ghost use Rattle.page_sets_man.specs.Man.{man_events};
     ghost use Rattle.page_sets_man.specs.Plans.{plan_events, FitsPlan};
-    ghost use Rattle.page_sets_man.specs.ManLaws.{man_slices, man_in_order, man_few};
+    ghost use Rattle.page_sets_man.specs.ManLaws.{man_slices, plan_slices, man_in_order, man_few};
 
     type Place = Plan;
 
@@ -25,7 +25,9 @@ impl MacroSet for Man {
 
     ghost events_from = { λ set line plan. plan_events line plan };
 
-    ghost slices = { λ set line plan fits. man_slices line plan fits };
+    ghost slices = { λ set line. man_slices line };
+
+    ghost slices_from = { λ set line plan fits. plan_slices line plan fits };
 
     ghost in_order = { λ set line. man_in_order line };
 

@@ -4,6 +4,7 @@ ghost use Rattle.std.specs.Prelude.{◌≡◌, ◌≤◌, ◌+◌, [], ◌∷◌
 ghost use Rattle.page_sets_lines.specs.TakenLines.{line_seen};
 ghost use Rattle.page_sets_lines.specs.Events.{event_seen, deed_seen};
 ghost use Rattle.page_sets_lines.specs.ControlLines.{arguments_after, name_start, name_end, name_of};
+ghost use Rattle.page_sets_lines.specs.PlainLines.{event_at};
 ghost use Rattle.page_sets_man.specs.Man as man;
 ghost use Rattle.page_sets_man.specs.Plans as plans;
 ghost use Rattle.page_sets_man.specs.Plans.{events_seen, front_deed, before_events, after_events, plan_events, FitsPlan, TakesNext};
@@ -14,20 +15,21 @@ use crate::words::{mark, word_step};
 use page_core_base::{Form, NoteKind, Place, Taken};
 use page_core_limits::LINE;
 use page_sets_lines::{
-    Closer, Deed, Event, Join, Leaf, LineOpener, NameSpan, fills, find_name, has_arguments,
+    Closer, Deed, Event, Join, Leaf, LineOpener, NameSpan, find_name, has_arguments, is_filling,
     line_deed, open_quote,
 };
 
-/// A quote that an argument lacks at its end: its column, and whether its message may begin the body of the page.
+/// The quote of an argument that lacks its last one: its column, and whether its message may begin the body of the
+/// page.
 #[derive(Clone, Copy)]
-pub struct Quote {
-    pub column: u32,
-    pub begins_body: bool,
+pub(crate) struct Quote {
+    pub(crate) column: u32,
+    pub(crate) begins_body: bool,
 }
 
 /// What comes first, beside a break and a quote that lacks.
 #[derive(Clone, Copy)]
-pub enum Front {
+pub(crate) enum Front {
     Nothing,
     /// That of a line that is no control line.
     Plain,
@@ -39,39 +41,39 @@ pub enum Front {
 
 /// What is still to come before a line's words, in the order of the fields.
 #[derive(Clone, Copy)]
-pub struct Before {
+pub(crate) struct Before {
     /// The end of the line scopes that are open.
-    pub breaks: bool,
-    pub quote: Option<Quote>,
-    pub front: Front,
-    pub scope: Option<LineOpener>,
+    pub(crate) breaks: bool,
+    pub(crate) quote: Option<Quote>,
+    pub(crate) front: Front,
+    pub(crate) scope: Option<LineOpener>,
     /// The bytes after which the macro's arguments begin.
-    pub start: usize,
+    pub(crate) start: usize,
 }
 
 /// What is still to come after them.
 #[derive(Clone, Copy)]
-pub struct After {
-    pub last: Last,
+pub(crate) struct After {
+    pub(crate) last: Last,
     /// The line's end, and whether it fills line scopes.
-    pub end: Option<bool>,
+    pub(crate) end: Option<bool>,
 }
 
 /// What is still to come of a line's events.
 #[derive(Clone, Copy)]
 pub struct Plan {
     /// The column of the macro's name.
-    pub column: u32,
-    pub before: Before,
-    pub words: Words,
+    pub(crate) column: u32,
+    pub(crate) before: Before,
+    pub(crate) words: Words,
     /// The bytes after which the arguments that are still to be read begin.
-    pub rest: usize,
-    pub after: After,
+    pub(crate) rest: usize,
+    pub(crate) after: After,
 }
 
 // An event in a column of a line.
 fn event_at<'a>(number: u32, column: u32, deed: Deed<&'a [u8]>) -> Event<&'a [u8]>
-    ensures { event_seen result ≡ record { place = record { line = number; column = column }; deed = deed_seen deed.entry } }
+    ensures { event_seen result ≡ event_at number column (deed_seen deed.entry) }
 {
     Event {
         place: Place {
@@ -142,8 +144,8 @@ fn missing_quote(quotes: Quotes, text: &[u8], start: usize) -> Option<Quote>
 }
 
 // Whether arguments are words.
-fn gives_words(words: Words) -> bool
-    ensures { result ≡ man.gives_words words }
+fn has_words(words: Words) -> bool
+    ensures { result ≡ man.has_words words }
 {
     !matches!(words, Words::Nothing)
 }
@@ -211,7 +213,7 @@ fn macro_plan(row: Row, has_any: bool, text: &[u8], column: u32, start: usize) -
         rest: start,
         after: After {
             last: row.last,
-            end: Some(has_any && gives_words(row.words)),
+            end: Some(has_any && has_words(row.words)),
         },
     }
 }
@@ -260,7 +262,7 @@ pub(crate) fn plan_of(line: Taken<'_>) -> Plan
     ensures events { plan_events (line_seen line.entry) result ≡ man.man_events (line_seen line.entry) }
 {
     match line.form {
-        Form::Text | Form::Blank | Form::Raw => front_plan(Front::Plain, fills(line), 1, 0),
+        Form::Text | Form::Blank | Form::Raw => front_plan(Front::Plain, is_filling(line), 1, 0),
         Form::Control => control_plan(line.text),
     }
 }

@@ -10,7 +10,7 @@ use page_sets_lines::{
 
 /// A scope that a macro opens.
 #[derive(Clone, Copy)]
-pub enum Opens {
+pub(crate) enum Opens {
     Section,
     Subsection,
     Paragraph(ParagraphName),
@@ -24,7 +24,7 @@ pub enum Opens {
 
 /// A scope that a macro closes.
 #[derive(Clone, Copy)]
-pub enum Closes {
+pub(crate) enum Closes {
     RelativeMargin,
     Target(Link),
     Syntax,
@@ -32,7 +32,7 @@ pub enum Closes {
 
 /// What a macro or request changes, or prints before its words.
 #[derive(Clone, Copy)]
-pub enum Sets {
+pub(crate) enum Sets {
     Request(RequestName),
     Title,
     Example(bool),
@@ -44,7 +44,7 @@ pub enum Sets {
 
 /// What a macro does, beside its words.
 #[derive(Clone, Copy)]
-pub enum Effect {
+pub(crate) enum Effect {
     Nothing,
     Opens(Opens),
     Closes(Closes),
@@ -53,7 +53,7 @@ pub enum Effect {
 
 /// What a macro does without arguments.
 #[derive(Clone, Copy)]
-pub enum Alone {
+pub(crate) enum Alone {
     /// The same as with arguments.
     Same,
     /// Nothing: it is empty.
@@ -64,7 +64,7 @@ pub enum Alone {
 
 /// Which arguments are told ahead to lack their last quote.
 #[derive(Clone, Copy)]
-pub enum Quotes {
+pub(crate) enum Quotes {
     /// None: all arguments are printed, and told then.
     Printed,
     /// All but so many at the front.
@@ -75,7 +75,7 @@ pub enum Quotes {
 
 /// What becomes of the next argument.
 #[derive(Clone, Copy)]
-pub enum Words {
+pub(crate) enum Words {
     /// It is no word.
     Nothing,
     /// This and all others are words.
@@ -104,7 +104,7 @@ pub enum Words {
 
 /// What comes after a macro's words.
 #[derive(Clone, Copy)]
-pub enum Last {
+pub(crate) enum Last {
     Nothing,
     FontEnds,
     Mark(Own),
@@ -112,14 +112,14 @@ pub enum Last {
 
 /// A row of the table.
 #[derive(Clone, Copy)]
-pub struct Row {
-    pub alone: Alone,
+pub(crate) struct Row {
+    pub(crate) alone: Alone,
     /// Whether it breaks the line scopes that are open.
-    pub breaks: bool,
-    pub quotes: Quotes,
-    pub effect: Effect,
-    pub words: Words,
-    pub last: Last,
+    pub(crate) breaks: bool,
+    pub(crate) quotes: Quotes,
+    pub(crate) effect: Effect,
+    pub(crate) words: Words,
+    pub(crate) last: Last,
 }
 
 // A request, or a macro that breaks no line scope and prints nothing.

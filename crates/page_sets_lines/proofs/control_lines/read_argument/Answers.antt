@@ -1,4 +1,3 @@
-use Rattle.std.proofs.Common.{ap, sym, ◌∙◌}
 use Rattle.page_sets_lines.proofs.ArgumentLaws.{read_first}
 use Rattle.page_sets_lines.proofs.control_lines.read_argument.Goals as goal
 
