@@ -1,0 +1,224 @@
+//! Events as short texts: column, kind, name and texts, as in `2 open TP 4`. A quoted text keeps the quotes that
+//! it has.
+
+ghost use Rattle.std.specs.Prelude.{◌≤◌, length};
+
+use arrayvec::ArrayVec;
+use page_core_base::{Font, NoteKind, Taken};
+use page_core_limits::LINE;
+use page_roff_forms::{Argument, Quoting};
+use page_sets::{Closer, Deed, Event, Join, Leaf, MacroSet, Opener, OwnWord, Request, Role, Word};
+
+pub type Spelling = ArrayVec<u8, 500>;
+
+// An event to be spelled.
+#[derive(Drop)]
+struct Shown<'a> {
+    kind: &'static str,
+    name: &'static str,
+    first: Option<Argument<&'a [u8]>>,
+    second: Option<Argument<&'a [u8]>>,
+}
+
+fn alone<'a>(kind: &'static str, name: &'static str) -> Shown<'a> {
+    with(kind, name, None)
+}
+
+fn with<'a>(
+    kind: &'static str,
+    name: &'static str,
+    first: Option<Argument<&'a [u8]>>,
+) -> Shown<'a> {
+    Shown {
+        kind,
+        name,
+        first,
+        second: None,
+    }
+}
+
+fn bare(text: &[u8]) -> Argument<&[u8]> {
+    Argument {
+        text,
+        column: 1,
+        quoting: Quoting::Bare,
+    }
+}
+
+fn given<'a>(text: Option<&'a [u8]>) -> Option<Argument<&'a [u8]>> {
+    match text {
+        Some(text) => Some(bare(text)),
+        None => None,
+    }
+}
+
+fn font_name(font: Option<Font>) -> &'static str {
+    match font {
+        None => "",
+        Some(Font::R) => "R",
+        Some(Font::B) => "B",
+        Some(Font::I) => "I",
+        Some(Font::BI) => "BI",
+    }
+}
+
+fn show_word<'a>(word: Word<&'a [u8]>) -> Shown<'a> {
+    let kind = match (word.role, word.before) {
+        (Role::Line, _) => "line",
+        (Role::Argument, Join::Apart) => "word",
+        (Role::Argument, Join::Glued) => "+word",
+    };
+    with(kind, font_name(word.font), Some(word.arg))
+}
+
+fn show_own<'a>(word: OwnWord) -> Shown<'a> {
+    let kind = match (word.before, word.after) {
+        (Join::Apart, Join::Apart) => "mark",
+        (Join::Apart, Join::Glued) => "mark+",
+        (Join::Glued, Join::Apart) => "+mark",
+        (Join::Glued, Join::Glued) => "+mark+",
+    };
+    alone(kind, word.own.text())
+}
+
+fn show_opener<'a>(opener: Opener<&'a [u8]>) -> Shown<'a> {
+    match opener {
+        Opener::Section => alone("open", "SH"),
+        Opener::Subsection => alone("open", "SS"),
+        Opener::Paragraph(name) => alone("open", name.name()),
+        Opener::Tagged(hang) => with("open", "TP", given(hang)),
+        Opener::Indented { tag, hang } => Shown {
+            kind: "open",
+            name: "IP",
+            first: tag,
+            second: given(hang),
+        },
+        Opener::Hanging(hang) => with("open", "HP", given(hang)),
+        Opener::RelativeMargin(columns) => with("open", "RS", given(columns)),
+        Opener::Target(link, target) => with("open", link.name(), Some(target)),
+        Opener::Syntax(name) => with("open", "SY", Some(name)),
+    }
+}
+
+fn show_closer<'a>(closer: Closer<&'a [u8]>) -> Shown<'a> {
+    match closer {
+        Closer::Line => alone("close", "lines"),
+        Closer::RelativeMargin(number) => with("close", "RE", given(number)),
+        Closer::Target(link, suffix) => with("close", link.closer_name(), suffix),
+        Closer::Syntax => alone("close", "YS"),
+    }
+}
+
+fn show_request<'a>(request: Request<&'a [u8]>) -> Shown<'a> {
+    match request {
+        Request::Break => alone("request", "br"),
+        Request::Space(rows) => with("request", "sp", given(rows)),
+        Request::Font(name) => with("request", "ft", given(name)),
+        Request::Shift(columns) => with("request", "in", given(columns)),
+        Request::Literal(begins) => alone("request", if begins { "nf" } else { "fi" }),
+    }
+}
+
+fn show_leaf<'a>(leaf: Leaf<&'a [u8]>) -> Shown<'a> {
+    match leaf {
+        Leaf::BlankLine => alone("blank", ""),
+        Leaf::Wordless(text) => with("wordless", "", Some(bare(text))),
+        Leaf::Request(request) => show_request(request),
+        Leaf::Prologue(name, rest) => with("title", name.name(), Some(bare(rest))),
+        Leaf::Own(word) => show_own(word),
+        Leaf::Example(begins) => alone("example", if begins { "EX" } else { "EE" }),
+        Leaf::Distance(rows) => with("distance", "PD", given(rows)),
+        Leaf::Fonts(font) => alone("fonts", font_name(font)),
+        Leaf::FurtherTag => alone("tag", "TQ"),
+    }
+}
+
+fn show_note<'a>(kind: NoteKind, detail: &'a [u8], begins_body: bool) -> Shown<'a> {
+    let name = match kind {
+        NoteKind::EmptyMacro => "empty",
+        NoteKind::UnknownMacro => "unknown",
+        NoteKind::Unterminated => "quote",
+        _ => "other",
+    };
+    let detail = if detail.is_empty() {
+        None
+    } else {
+        Some(bare(detail))
+    };
+    with(if begins_body { "note!" } else { "note" }, name, detail)
+}
+
+fn show<'a>(deed: Deed<&'a [u8]>) -> Shown<'a> {
+    match deed {
+        Deed::Word(word) => show_word(word),
+        Deed::Open(opener) => show_opener(opener),
+        Deed::Close(closer) => show_closer(closer),
+        Deed::LineScope(opener) => alone("scope", opener.name()),
+        Deed::Leaf(leaf) => show_leaf(leaf),
+        Deed::Raw(text) => with("raw", "", Some(bare(text))),
+        Deed::End { fills } => alone(if fills { "filled" } else { "end" }, ""),
+        Deed::Note {
+            kind,
+            detail,
+            begins_body,
+        } => show_note(kind, detail, begins_body),
+    }
+}
+
+fn put(out: &mut Spelling, text: &[u8]) {
+    let _ = out.try_extend_from_slice(text);
+}
+
+fn put_name(out: &mut Spelling, name: &str) {
+    if !name.is_empty() {
+        put(out, b" ");
+        put(out, name.as_bytes());
+    }
+}
+
+fn put_text(out: &mut Spelling, text: Option<Argument<&[u8]>>) {
+    if let Some(argument) = text {
+        put(out, b" ");
+        if argument.is_quoted() {
+            put(out, b"\"");
+        }
+        put(out, argument.text);
+        if let Quoting::Closed = argument.quoting {
+            put(out, b"\"");
+        }
+    }
+}
+
+// A column below 100.
+fn put_column(out: &mut Spelling, column: u32) {
+    if column >= 10 {
+        put(out, &[b'0' + (column / 10 % 10) as u8]);
+    }
+    put(out, &[b'0' + (column % 10) as u8]);
+}
+
+fn put_event(out: &mut Spelling, event: Event<&[u8]>) {
+    if !out.is_empty() {
+        put(out, b"; ");
+    }
+    let shown = show(event.deed);
+    put_column(out, event.place.column);
+    put_name(out, shown.kind);
+    put_name(out, shown.name);
+    put_text(out, shown.first);
+    put_text(out, shown.second);
+}
+
+/// The events that a set gives of a line.
+pub fn spelled<S: MacroSet>(set: &S, line: Taken<'_>) -> Spelling
+where
+    S::Place: Drop,
+    requires { length line.text.now ≤ LINE }
+{
+    let mut out = ArrayVec::new();
+    let mut place = set.start(line);
+    while let Some(event) = set.next(line, &mut place) {
+        put_event(&mut out, event);
+    }
+    out
+}

@@ -1,0 +1,146 @@
+-- The laws of macro sets, event by event: helpers of proofs.
+use Rattle.std.proofs.Common.{◌≡◌, ℕ, ◌+◌, ◌-◌, ◌≤◌, Bool, true, false, List, [], ◌∷◌, ◌++◌, length, drop, refl, arith, inl, inr, length-drop, Option, None, Some}
+use Rattle.std.proofs.lemmas.List.Sums.{prefix_len-le-length}
+use Rattle.std.proofs.lemmas.Bool.{cases_Bool}
+use Rattle.std.proofs.Math.Seq.{take-length}
+use Rattle.page_core_base.specs.declared.lines_taken.Form.{Form}
+use Rattle.page_core_base.specs.declared.lines_taken.Form.TheVariants as forms
+use Rattle.page_roff_forms.specs.declared.quotes.Argument.{Argument}
+use Rattle.page_roff_forms.specs.LineForms.{is_white, is_name, has_word}
+use Rattle.page_sets_lines.specs.declared.events.Deed.{Deed}
+use Rattle.page_sets_lines.specs.declared.events.Deed.TheVariants as deeds
+use Rattle.page_sets_lines.specs.declared.events.Event.{Event}
+use Rattle.page_sets_lines.specs.declared.requests.RequestName.{RequestName}
+use Rattle.page_sets_lines.specs.declared.requests.RequestName.TheVariants as names
+use Rattle.page_sets_lines.specs.Laws.{IsSlice, IsPart, IsArgument, IsPartIfGiven, IsArgumentIfGiven, RequestsSlices, HasSlices, AreSlices, past, BeginsFrom, AreInOrder}
+use Rattle.page_sets_lines.specs.ControlLines.{name_start, name_end, name_of, arguments_after, first_of, second_of, text_of}
+use Rattle.page_sets_lines.specs.PlainLines.{line_deed, request}
+use Rattle.page_sets_lines.proofs.ArgumentLaws.{ArgumentsFrom, all_after, cut_at}
+
+-- ---- slices
+
+pub nothing_part : (line : List ℕ) → IsPart line []
+nothing_part line = (0, record { within = omega arith; bytes = refl })
+
+whole_slice : (line : List ℕ) → IsSlice line 0 line
+whole_slice line = record { within = omega arith; bytes = take-length line }
+
+pub whole_part : (line : List ℕ) → IsPart line line
+whole_part line = (0, whole_slice line)
+
+pub rest_part : (line : List ℕ) (start : ℕ) → start ≤ length line → IsPart line (drop start line)
+rest_part line start h = (start, record { within = omega (arith, length-drop start line); bytes = take-length (drop start line) })
+
+start_within : (text : List ℕ) → name_start text ≤ length text
+start_within [] = omega arith
+start_within (control ∷ bytes) = omega (arith, prefix_len-le-length is_white bytes)
+
+pub end_within : (text : List ℕ) → name_end text ≤ length text
+end_within text =
+    let rest = drop (name_start text) text in
+    omega (arith, start_within text, prefix_len-le-length is_name rest, length-drop (name_start text) text)
+
+pub name_part : (text : List ℕ) → IsPart text (name_of text)
+name_part text =
+    let rest = drop (name_start text) text in
+    (name_start text, cut_at text (name_start text) (name_end text - name_start text) (start_within text) (omega (arith, prefix_len-le-length is_name rest)))
+
+pub argument_part : (line : List ℕ) (argument : Argument (List ℕ)) → IsArgument line argument → IsPart line argument.text
+argument_part line argument h = (argument.column - 1, h.slice)
+
+pub text_part : (line : List ℕ) (given : Option (Argument (List ℕ))) → IsArgumentIfGiven line given → IsPartIfGiven line (text_of given)
+text_part line None h = tt
+text_part line (Some argument) h = argument_part line argument h
+
+first_in : (line : List ℕ) (from : ℕ) (arguments : List (Argument (List ℕ))) → ArgumentsFrom line from arguments → IsArgumentIfGiven line (first_of arguments)
+first_in line from [] h = tt
+first_in line from (argument ∷ arguments) h = h.1
+
+second_in : (line : List ℕ) (from : ℕ) (arguments : List (Argument (List ℕ))) → ArgumentsFrom line from arguments → IsArgumentIfGiven line (second_of arguments)
+second_in line from [] h = tt
+second_in line from (argument ∷ arguments) h = first_in line _ arguments h.2
+
+pub first_slice_after : (line : List ℕ) (start : ℕ) → IsArgumentIfGiven line (first_of (arguments_after start line))
+first_slice_after line start = first_in line (start + 1) (arguments_after start line) (all_after line start)
+
+pub second_slice_after : (line : List ℕ) (start : ℕ) → IsArgumentIfGiven line (second_of (arguments_after start line))
+second_slice_after line start = second_in line (start + 1) (arguments_after start line) (all_after line start)
+
+pub first_text_after : (line : List ℕ) (start : ℕ) → IsPartIfGiven line (text_of (first_of (arguments_after start line)))
+first_text_after line start = text_part line (first_of (arguments_after start line)) (first_slice_after line start)
+
+pub second_text_after : (line : List ℕ) (start : ℕ) → IsPartIfGiven line (text_of (second_of (arguments_after start line)))
+second_text_after line start = text_part line (second_of (arguments_after start line)) (second_slice_after line start)
+
+pub request_slices : (line : List ℕ) (name : RequestName) (given : Option (List ℕ)) → IsPartIfGiven line given → RequestsSlices line (request name given)
+request_slices line names.Break given h = tt
+request_slices line names.Space given h = h
+request_slices line names.Font given h = h
+request_slices line names.Shift given h = h
+request_slices line (names.Literal on) given h = tt
+
+text_slices : (text : List ℕ) → HasSlices text (line_deed forms.Text text)
+text_slices text =
+    elim (cases_Bool (has_word text)) [
+      | inl t ↦ rw t (record { column = omega arith; slice = whole_slice text })
+      | inr t ↦ rw t (whole_part text)
+    ]
+
+pub line_slices : (form : Form) (text : List ℕ) → HasSlices text (line_deed form text)
+line_slices forms.Text text = text_slices text
+line_slices forms.Blank text = tt
+line_slices forms.Raw text = whole_part text
+line_slices forms.Control text = whole_part text
+
+pub AreSlices-append : (line : List ℕ) (front rest : List (Event (List ℕ))) → AreSlices line front → AreSlices line rest → AreSlices line (front ++ rest)
+AreSlices-append line [] rest h k = k
+AreSlices-append line (event ∷ front) rest h k = (h.0, AreSlices-append line front rest h.1 k)
+
+-- ---- order
+
+abbrev pub is_word : Deed (List ℕ) → Bool
+is_word (deeds.Word word) = true
+is_word (deeds.Open opener) = false
+is_word (deeds.Close closer) = false
+is_word (deeds.LineScope opener) = false
+is_word (deeds.Leaf leaf) = false
+is_word (deeds.Raw text) = false
+is_word (deeds.End fills) = false
+is_word (deeds.Note kind detail begins_body) = false
+
+-- none of the events is a word
+abbrev pub HasNoWord : List (Event (List ℕ)) → Type 0
+HasNoWord [] = Unit {0}
+HasNoWord (event ∷ events) = (is_word event.deed ≡ false) × HasNoWord events
+
+no_word_passes : (from : ℕ) (deed : Deed (List ℕ)) → is_word deed ≡ false → BeginsFrom from deed × (past from deed ≡ from)
+no_word_passes from (deeds.Word word) h = cc
+no_word_passes from (deeds.Open opener) h = (tt, refl)
+no_word_passes from (deeds.Close closer) h = (tt, refl)
+no_word_passes from (deeds.LineScope opener) h = (tt, refl)
+no_word_passes from (deeds.Leaf leaf) h = (tt, refl)
+no_word_passes from (deeds.Raw text) h = (tt, refl)
+no_word_passes from (deeds.End fills) h = (tt, refl)
+no_word_passes from (deeds.Note kind detail begins_body) h = (tt, refl)
+
+pub order_after : (from : ℕ) (front rest : List (Event (List ℕ))) → HasNoWord front → AreInOrder from rest → AreInOrder from (front ++ rest)
+order_after from [] rest h k = k
+order_after from (event ∷ front) rest h k =
+    let p = no_word_passes from event.deed h.0 in
+    (p.0, rw p.1 (order_after from front rest h.1 k))
+
+order_of_none : (from : ℕ) (events : List (Event (List ℕ))) → HasNoWord events → AreInOrder from events
+order_of_none from [] h = tt
+order_of_none from (event ∷ events) h =
+    let p = no_word_passes from event.deed h.0 in
+    (p.0, order_of_none (past from event.deed) events h.1)
+
+pub order_before : (from : ℕ) (words rest : List (Event (List ℕ))) → AreInOrder from words → HasNoWord rest → AreInOrder from (words ++ rest)
+order_before from [] rest h k = order_of_none from rest k
+order_before from (event ∷ words) rest h k = (h.0, order_before (past from event.deed) words rest h.1 k)
+
+pub line_order : (form : Form) (text : List ℕ) → BeginsFrom 0 (line_deed form text)
+line_order forms.Text text = elim (cases_Bool (has_word text)) [ inl t ↦ rw t (omega arith) | inr t ↦ rw t tt ]
+line_order forms.Blank text = tt
+line_order forms.Raw text = tt
+line_order forms.Control text = tt

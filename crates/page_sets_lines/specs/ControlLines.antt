@@ -1,0 +1,70 @@
+-- The name and the arguments of a finished control line. Source: roff(7), "LANGUAGE SYNTAX".
+use Rattle.std.specs.Prelude.{◌≡◌, ◌≤◌, MatchOption, ℕ, zero, suc, ◌+◌, ◌-◌, min, Bool, true, false, if◌then◌else◌, List, [], ◌∷◌, length, take, drop, Option, None, Some}
+use Rattle.std.specs.List.{prefix_len}
+use Rattle.page_roff_forms.specs.declared.quotes.Argument.{Argument}
+use Rattle.page_roff_forms.specs.declared.quotes.Quoting.{Quoting}
+use Rattle.page_roff_forms.specs.declared.quotes.Quoting.TheVariants.{Bare, Closed, Unclosed}
+use Rattle.page_roff_forms.specs.LineForms.{is_white, is_name}
+use Rattle.page_roff_forms.specs.Arguments.{arguments, argument_seen}
+use Rattle.std.specs.Borrow.{Bor}
+
+-- after the control character come white space and the name, up to a blank, a tab or a backslash; so many bytes stand before them
+abbrev pub name_start : List ℕ → ℕ
+name_start text = min 1 (length text) + prefix_len is_white (drop 1 text)
+
+abbrev pub name_end : List ℕ → ℕ
+name_end text = name_start text + prefix_len is_name (drop (name_start text) text)
+
+abbrev pub name_of : List ℕ → List ℕ
+name_of text = take (name_end text - name_start text) (drop (name_start text) text)
+
+-- the arguments that begin after so many bytes
+abbrev pub arguments_after : ℕ → List ℕ → List (Argument (List ℕ))
+arguments_after start text = arguments (start + 1) (drop start text)
+
+-- the first of the arguments, if there is one, and the second
+abbrev pub first_of : List (Argument (List ℕ)) → Option (Argument (List ℕ))
+first_of [] = None
+first_of (argument ∷ arguments) = Some argument
+
+abbrev pub second_of : List (Argument (List ℕ)) → Option (Argument (List ℕ))
+second_of [] = None
+second_of (argument ∷ arguments) = first_of arguments
+
+-- the text of an argument that may be missing
+abbrev pub text_of : Option (Argument (List ℕ)) → Option (List ℕ)
+text_of None = None
+text_of (Some argument) = Some argument.text
+
+abbrev pub is_unclosed : Quoting → Bool
+is_unclosed Bare = false
+is_unclosed Closed = false
+is_unclosed Unclosed = true
+
+-- the column of the quote that the last argument lacks at its end, unless it is one of so many at the front
+abbrev pub open_quote : ℕ → List (Argument (List ℕ)) → Option ℕ
+open_quote printed [] = None
+open_quote zero (argument ∷ arguments) =
+    if is_unclosed argument.quoting then Some (argument.column - 1) else open_quote zero arguments
+open_quote (suc printed) (argument ∷ arguments) = open_quote printed arguments
+
+-- whether there is one
+abbrev pub has_any : List (Argument (List ℕ)) → Bool
+has_any [] = false
+has_any (argument ∷ arguments) = true
+
+-- the last quote of an argument
+abbrev pub closing_len : Quoting → ℕ
+closing_len Bare = 0
+closing_len Closed = 1
+closing_len Unclosed = 0
+
+-- the bytes of a line up to an argument's end, with its last quote
+abbrev pub argument_end : Argument (List ℕ) → ℕ
+argument_end argument = argument.column - 1 + length argument.text + closing_len argument.quoting
+
+-- the next of the arguments that begin after so many bytes, if there is one, and where the others begin
+abbrev pub ReadsFrom : List ℕ → ℕ → Option (Argument (Bor (List ℕ)) × ℕ) → Type 0
+ReadsFrom text start result =
+    MatchOption result (arguments_after start text ≡ [])
+    (λ read. (read.1 ≤ length text) × (arguments_after start text ≡ argument_seen read.0 ∷ arguments_after read.1 text))

@@ -1,0 +1,113 @@
+-- What holds of the events of a line in every set of macros. Source: man(7), mdoc(7).
+use Rattle.std.specs.Prelude.{◌≡◌, ℕ, ◌+◌, ◌-◌, ◌≤◌, List, [], ◌∷◌, length, take, drop, Option, None, Some}
+use Rattle.page_roff_forms.specs.declared.quotes.Argument.{Argument}
+use Rattle.page_sets_lines.specs.declared.openers.Opener.{Opener}
+use Rattle.page_sets_lines.specs.declared.openers.Opener.TheVariants as openers
+use Rattle.page_sets_lines.specs.declared.openers.Closer.{Closer}
+use Rattle.page_sets_lines.specs.declared.openers.Closer.TheVariants as closers
+use Rattle.page_sets_lines.specs.declared.leaves.Request.{Request}
+use Rattle.page_sets_lines.specs.declared.leaves.Request.TheVariants as requests
+use Rattle.page_sets_lines.specs.declared.leaves.Leaf.{Leaf}
+use Rattle.page_sets_lines.specs.declared.leaves.Leaf.TheVariants as leaves
+use Rattle.page_sets_lines.specs.declared.events.Deed.{Deed}
+use Rattle.page_sets_lines.specs.declared.events.Deed.TheVariants as deeds
+use Rattle.page_sets_lines.specs.declared.events.Event.{Event}
+
+-- a text is the slice of the line that begins after this many bytes
+pub record IsSlice (line : List ℕ) (start : ℕ) (text : List ℕ) : Type 0 where
+  pub within : start + length text ≤ length line
+  pub bytes : take (length text) (drop start line) ≡ text
+
+-- a text is a slice of the line
+abbrev pub IsPart : List ℕ → List ℕ → Type 0
+IsPart line text = (start : ℕ) × IsSlice line start text
+
+-- an argument is the slice of the line at its column, which counts from 1
+pub record IsArgument (line : List ℕ) (argument : Argument (List ℕ)) : Type 0 where
+  pub column : 1 ≤ argument.column
+  pub slice : IsSlice line (argument.column - 1) argument.text
+
+-- the same of what may be missing
+abbrev pub IsPartIfGiven : List ℕ → Option (List ℕ) → Type 0
+IsPartIfGiven line None = Unit {0}
+IsPartIfGiven line (Some text) = IsPart line text
+
+abbrev pub IsArgumentIfGiven : List ℕ → Option (Argument (List ℕ)) → Type 0
+IsArgumentIfGiven line None = Unit {0}
+IsArgumentIfGiven line (Some argument) = IsArgument line argument
+
+-- each argument of an event is the slice of the line at its column, and each other text a slice of it
+abbrev pub OpensSlices : List ℕ → Opener (List ℕ) → Type 0
+OpensSlices line openers.Section = Unit {0}
+OpensSlices line openers.Subsection = Unit {0}
+OpensSlices line (openers.Paragraph name) = Unit {0}
+OpensSlices line (openers.Tagged hang) = IsPartIfGiven line hang
+OpensSlices line (openers.Indented tag hang) = IsArgumentIfGiven line tag × IsPartIfGiven line hang
+OpensSlices line (openers.Hanging hang) = IsPartIfGiven line hang
+OpensSlices line (openers.RelativeMargin columns) = IsPartIfGiven line columns
+OpensSlices line (openers.Target link target) = IsArgument line target
+OpensSlices line (openers.Syntax name) = IsArgument line name
+
+abbrev pub ClosesSlices : List ℕ → Closer (List ℕ) → Type 0
+ClosesSlices line closers.Line = Unit {0}
+ClosesSlices line (closers.RelativeMargin number) = IsPartIfGiven line number
+ClosesSlices line (closers.Target link suffix) = IsArgumentIfGiven line suffix
+ClosesSlices line closers.Syntax = Unit {0}
+
+abbrev pub RequestsSlices : List ℕ → Request (List ℕ) → Type 0
+RequestsSlices line requests.Break = Unit {0}
+RequestsSlices line (requests.Space rows) = IsPartIfGiven line rows
+RequestsSlices line (requests.Font name) = IsPartIfGiven line name
+RequestsSlices line (requests.Shift columns) = IsPartIfGiven line columns
+RequestsSlices line (requests.Literal on) = Unit {0}
+
+abbrev pub LeavesSlices : List ℕ → Leaf (List ℕ) → Type 0
+LeavesSlices line leaves.BlankLine = Unit {0}
+LeavesSlices line (leaves.Wordless text) = IsPart line text
+LeavesSlices line (leaves.Request request) = RequestsSlices line request
+LeavesSlices line (leaves.Prologue name rest) = IsPart line rest
+LeavesSlices line (leaves.Own word) = Unit {0}
+LeavesSlices line (leaves.Example begins) = Unit {0}
+LeavesSlices line (leaves.Distance rows) = IsPartIfGiven line rows
+LeavesSlices line (leaves.Fonts font) = Unit {0}
+LeavesSlices line leaves.FurtherTag = Unit {0}
+
+abbrev pub HasSlices : List ℕ → Deed (List ℕ) → Type 0
+HasSlices line (deeds.Word word) = IsArgument line word.arg
+HasSlices line (deeds.Open opener) = OpensSlices line opener
+HasSlices line (deeds.Close closer) = ClosesSlices line closer
+HasSlices line (deeds.LineScope opener) = Unit {0}
+HasSlices line (deeds.Leaf leaf) = LeavesSlices line leaf
+HasSlices line (deeds.Raw text) = IsPart line text
+HasSlices line (deeds.End fills) = Unit {0}
+HasSlices line (deeds.Note kind detail begins_body) = IsPart line detail
+
+abbrev pub AreSlices : List ℕ → List (Event (List ℕ)) → Type 0
+AreSlices line [] = Unit {0}
+AreSlices line (event ∷ events) = HasSlices line event.deed × AreSlices line events
+
+-- the column from which the next word may begin, after this event
+abbrev pub past : ℕ → Deed (List ℕ) → ℕ
+past from (deeds.Word word) = word.arg.column + length word.arg.text
+past from (deeds.Open opener) = from
+past from (deeds.Close closer) = from
+past from (deeds.LineScope opener) = from
+past from (deeds.Leaf leaf) = from
+past from (deeds.Raw text) = from
+past from (deeds.End fills) = from
+past from (deeds.Note kind detail begins_body) = from
+
+abbrev pub BeginsFrom : ℕ → Deed (List ℕ) → Type 0
+BeginsFrom from (deeds.Word word) = from ≤ word.arg.column
+BeginsFrom from (deeds.Open opener) = Unit {0}
+BeginsFrom from (deeds.Close closer) = Unit {0}
+BeginsFrom from (deeds.LineScope opener) = Unit {0}
+BeginsFrom from (deeds.Leaf leaf) = Unit {0}
+BeginsFrom from (deeds.Raw text) = Unit {0}
+BeginsFrom from (deeds.End fills) = Unit {0}
+BeginsFrom from (deeds.Note kind detail begins_body) = Unit {0}
+
+-- the words stand in order: none begins before the one in front of it has ended
+abbrev pub AreInOrder : ℕ → List (Event (List ℕ)) → Type 0
+AreInOrder from [] = Unit {0}
+AreInOrder from (event ∷ events) = BeginsFrom from event.deed × AreInOrder (past from event.deed) events

@@ -1,0 +1,6 @@
+pub mod MacroNames
+pub mod Events
+pub mod TakenLines
+pub mod Laws
+pub mod ControlLines
+pub mod PlainLines

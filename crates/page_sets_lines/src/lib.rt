@@ -1,0 +1,24 @@
+//! What every set of macros shares: the events of a line, the trait of macro sets, and the lines and requests of
+//! which all sets give the same events.
+#![tactic(auto)]
+
+mod control_lines;
+mod events;
+mod leaves;
+mod macro_names;
+mod macro_sets;
+mod openers;
+mod plain_lines;
+mod requests;
+
+pub use control_lines::{
+    NameSpan, arguments_after, find_name, first_of, has_arguments, open_quote, read_argument,
+    second_of,
+};
+pub use events::{Deed, Event, Join, Role, Word};
+pub use leaves::{Leaf, Own, OwnWord, Request};
+pub use macro_names::{FontMacro, HeadingName, Link, ParagraphName, Prologue, TagName};
+pub use macro_sets::MacroSet;
+pub use openers::{Closer, LineOpener, Opener};
+pub use plain_lines::{is_filling, line_deed};
+pub use requests::{RequestName, request, request_of};

@@ -1,0 +1,64 @@
+//! The trait of macro sets: what events a line has (man(7), mdoc(7)).
+
+ghost use Rattle.std.specs.Prelude.{◌≡◌, ◌≤◌, ◌+◌, ◌*◌, List, [], ◌∷◌, ℕ, length, MatchOption};
+ghost use Rattle.page_sets_lines.specs.declared.events.Event.{Event};
+ghost use Rattle.page_sets_lines.specs.TakenLines.{Line, line_seen};
+ghost use Rattle.page_sets_lines.specs.Events.{event_seen};
+ghost use Rattle.page_sets_lines.specs.Laws.{AreSlices, AreInOrder};
+
+use crate::events::Event;
+use page_core_base::Taken;
+use page_core_limits::LINE;
+
+/// A set of macros: what events a line has. They are given one by one, from [`MacroSet::start`] on, by
+/// [`MacroSet::next`], and their texts are lent by the line.
+pub trait MacroSet {
+    /// How far the events of a line were given.
+    type Place;
+
+    // the columns of a page's indent
+    ghost page_indent: { Self → ℕ };
+
+    // the table of the set: the events of a line
+    ghost table: { Self → Line → List (Event (List ℕ)) };
+
+    // whether a place is of a line
+    ghost IsPlaceOf: { Self → Line → Self.Place → Type 0 };
+
+    // the events of a line from a place on
+    ghost events_from: { Self → Line → Self.Place → List (Event (List ℕ)) };
+
+    /// The indent of a page, in columns.
+    fn indent(&self) -> u32
+        ensures { result ≡ page_indent self.now };
+
+    /// The place before the line's events.
+    fn start(&self, line: Taken<'_>) -> Self::Place
+        requires { length line.text.now ≤ LINE }
+        ensures place { IsPlaceOf self.now (line_seen line.entry) result }
+        ensures events { events_from self.now (line_seen line.entry) result
+            ≡ table self.now (line_seen line.entry) };
+
+    /// The next event of the line.
+    fn next<'a>(&self, line: Taken<'a>, place: &mut Self::Place) -> Option<Event<&'a [u8]>>
+        requires short { length line.text.now ≤ LINE }
+        requires place { IsPlaceOf self.now (line_seen line) place.old }
+        ensures place { IsPlaceOf self.now (line_seen line.entry) place.new }
+        ensures events { MatchOption result
+            (events_from self.now (line_seen line.entry) place.old ≡ [])
+            (λ event. events_from self.now (line_seen line.entry) place.old
+            ≡ event_seen event ∷ events_from self.now (line_seen line.entry) place.new) };
+
+    // each argument is the slice of the line at its column, and each other text a slice of it
+    ghost slices: { (set : Self) (line : Line) → AreSlices line.text (table set line) };
+
+    // the same of the events from a place on
+    ghost slices_from: { (set : Self) (line : Line) (place : Self.Place) →
+        IsPlaceOf set line place → AreSlices line.text (events_from set line place) };
+
+    // the words stand in order
+    ghost in_order: { (set : Self) (line : Line) → AreInOrder 0 (table set line) };
+
+    // at most two events a byte, and two
+    ghost few: { (set : Self) (line : Line) → length (table set line) ≤ 2 * length line.text + 2 };
+}

@@ -1,0 +1,4 @@
+pub mod Rows
+pub mod Man
+pub mod Plans
+pub mod ManLaws

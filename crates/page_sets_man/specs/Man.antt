@@ -1,0 +1,268 @@
+-- The events of a line. Source: man(7).
+use Rattle.std.specs.Prelude.{ℕ, ◌+◌, Bool, true, false, ◌&&◌, List, [], ◌∷◌, ◌++◌, drop, Option, None, Some, option_map, if◌then◌else◌}
+use Rattle.page_core_base.specs.declared.cells.Font.{Font}
+use Rattle.page_core_base.specs.declared.cells.Font.TheVariants as fonts
+use Rattle.page_core_base.specs.declared.lines_taken.Form.{Form}
+use Rattle.page_core_base.specs.declared.lines_taken.Form.TheVariants as forms
+use Rattle.page_core_base.specs.declared.note_kinds.NoteKind.{NoteKind}
+use Rattle.page_core_base.specs.declared.note_kinds.NoteKind.TheVariants.{Unterminated, UnknownMacro, EmptyMacro}
+use Rattle.page_roff_forms.specs.declared.quotes.Argument.{Argument}
+use Rattle.page_sets_lines.specs.declared.macro_names.HeadingName.TheVariants.{SH, SS}
+use Rattle.page_sets_lines.specs.declared.macro_names.TagName.TheVariants.{TP, TQ}
+use Rattle.page_sets_lines.specs.declared.macro_names.Prologue.TheVariants.{TH}
+use Rattle.page_sets_lines.specs.declared.openers.Opener.{Opener}
+use Rattle.page_sets_lines.specs.declared.openers.Opener.TheVariants as openers
+use Rattle.page_sets_lines.specs.declared.openers.Closer.{Closer}
+use Rattle.page_sets_lines.specs.declared.openers.Closer.TheVariants as closers
+use Rattle.page_sets_lines.specs.declared.openers.LineOpener.{LineOpener}
+use Rattle.page_sets_lines.specs.declared.openers.LineOpener.TheVariants.{Heading, Tag}
+use Rattle.page_sets_lines.specs.declared.leaves.Own.{Own}
+use Rattle.page_sets_lines.specs.declared.leaves.Own.TheVariants.{Round, Unround}
+use Rattle.page_sets_lines.specs.declared.leaves.Leaf.{Leaf}
+use Rattle.page_sets_lines.specs.declared.leaves.Leaf.TheVariants as leaves
+use Rattle.page_sets_lines.specs.declared.events.Join.{Join}
+use Rattle.page_sets_lines.specs.declared.events.Join.TheVariants.{Apart, Glued}
+use Rattle.page_sets_lines.specs.declared.events.Role.TheVariants as roles
+use Rattle.page_sets_lines.specs.declared.events.Deed.{Deed}
+use Rattle.page_sets_lines.specs.declared.events.Deed.TheVariants as deeds
+use Rattle.page_sets_lines.specs.declared.events.Event.{Event}
+use Rattle.page_sets_lines.specs.TakenLines.{Line}
+use Rattle.page_sets_lines.specs.ControlLines.{name_start, name_end, name_of, arguments_after, first_of, second_of, text_of, has_any, open_quote}
+use Rattle.page_sets_lines.specs.PlainLines.{event_at, line_end, plain_events, request}
+use Rattle.page_sets_man.specs.declared.rows.Opens.{Opens}
+use Rattle.page_sets_man.specs.declared.rows.Opens.TheVariants as opens
+use Rattle.page_sets_man.specs.declared.rows.Closes.{Closes}
+use Rattle.page_sets_man.specs.declared.rows.Closes.TheVariants as closes
+use Rattle.page_sets_man.specs.declared.rows.Sets.{Sets}
+use Rattle.page_sets_man.specs.declared.rows.Sets.TheVariants as sets
+use Rattle.page_sets_man.specs.declared.rows.Effect.{Effect}
+use Rattle.page_sets_man.specs.declared.rows.Effect.TheVariants as effects
+use Rattle.page_sets_man.specs.declared.rows.Alone.{Alone}
+use Rattle.page_sets_man.specs.declared.rows.Alone.TheVariants.{Same, Empty, Scope}
+use Rattle.page_sets_man.specs.declared.rows.Quotes.{Quotes}
+use Rattle.page_sets_man.specs.declared.rows.Quotes.TheVariants.{Printed, After, BodyAfter}
+use Rattle.page_sets_man.specs.declared.rows.Words.{Words}
+use Rattle.page_sets_man.specs.declared.rows.Words.TheVariants as words
+use Rattle.page_sets_man.specs.declared.rows.Last.{Last}
+use Rattle.page_sets_man.specs.declared.rows.Last.TheVariants as lasts
+use Rattle.page_sets_man.specs.declared.rows.Row.{Row}
+use Rattle.page_sets_man.specs.declared.plans.Quote.{Quote}
+use Rattle.page_sets_man.specs.Rows.{row_of}
+
+-- ---- what a macro does
+
+-- what it opens
+abbrev pub opener : Opens → List (Argument (List ℕ)) → Option (Opener (List ℕ))
+opener opens.Section arguments = Some openers.Section
+opener opens.Subsection arguments = Some openers.Subsection
+opener (opens.Paragraph name) arguments = Some (openers.Paragraph name)
+opener opens.Tagged arguments = Some (openers.Tagged (text_of (first_of arguments)))
+opener opens.Indented arguments = Some (openers.Indented (first_of arguments) (text_of (second_of arguments)))
+opener opens.Hanging arguments = Some (openers.Hanging (text_of (first_of arguments)))
+opener opens.RelativeMargin arguments = Some (openers.RelativeMargin (text_of (first_of arguments)))
+opener (opens.Target link) arguments = option_map (openers.Target link) (first_of arguments)
+opener opens.Syntax arguments = option_map openers.Syntax (first_of arguments)
+
+-- what it closes
+abbrev pub closer : Closes → List (Argument (List ℕ)) → Closer (List ℕ)
+closer closes.RelativeMargin arguments = closers.RelativeMargin (text_of (first_of arguments))
+closer (closes.Target link) arguments = closers.Target link (first_of arguments)
+closer closes.Syntax arguments = closers.Syntax
+
+-- what it changes, or prints before its words; the text is the rest of its line
+abbrev pub leaf : Sets → List ℕ → List (Argument (List ℕ)) → Leaf (List ℕ)
+leaf (sets.Request name) rest arguments = leaves.Request (request name (text_of (first_of arguments)))
+leaf sets.Title rest arguments = leaves.Prologue TH rest
+leaf (sets.Example begins) rest arguments = leaves.Example begins
+leaf sets.Distance rest arguments = leaves.Distance (text_of (first_of arguments))
+leaf sets.FurtherTag rest arguments = leaves.FurtherTag
+leaf (sets.FontBegins font) rest arguments = leaves.Fonts (Some font)
+leaf (sets.Mark own) rest arguments = leaves.Own (record { own = own; font = None; before = Apart; after = Glued })
+
+abbrev pub effect_deed : Effect → List ℕ → List (Argument (List ℕ)) → Option (Deed (List ℕ))
+effect_deed effects.Nothing rest arguments = None
+effect_deed (effects.Opens scope) rest arguments = option_map deeds.Open (opener scope arguments)
+effect_deed (effects.Closes scope) rest arguments = Some (deeds.Close (closer scope arguments))
+effect_deed (effects.Sets change) rest arguments = Some (deeds.Leaf (leaf change rest arguments))
+
+-- the line scope that it opens
+abbrev pub opens_line_scope : Opens → Option LineOpener
+opens_line_scope opens.Section = Some (Heading SH)
+opens_line_scope opens.Subsection = Some (Heading SS)
+opens_line_scope (opens.Paragraph name) = None
+opens_line_scope opens.Tagged = Some (Tag TP)
+opens_line_scope opens.Indented = None
+opens_line_scope opens.Hanging = None
+opens_line_scope opens.RelativeMargin = None
+opens_line_scope (opens.Target link) = None
+opens_line_scope opens.Syntax = None
+
+abbrev pub sets_line_scope : Sets → Option LineOpener
+sets_line_scope (sets.Request name) = None
+sets_line_scope sets.Title = None
+sets_line_scope (sets.Example begins) = None
+sets_line_scope sets.Distance = None
+sets_line_scope sets.FurtherTag = Some (Tag TQ)
+sets_line_scope (sets.FontBegins font) = None
+sets_line_scope (sets.Mark own) = None
+
+abbrev pub line_scope : Effect → Option LineOpener
+line_scope effects.Nothing = None
+line_scope (effects.Opens scope) = opens_line_scope scope
+line_scope (effects.Closes scope) = None
+line_scope (effects.Sets change) = sets_line_scope change
+
+-- ---- its words
+
+-- an argument as a word
+abbrev pub argument_word : ℕ → Option Font → Join → Argument (List ℕ) → Event (List ℕ)
+argument_word number font before argument =
+    event_at number argument.column
+    (deeds.Word (record { arg = argument; role = roles.Argument; font = font; before = before; after = Apart }))
+
+-- a mark of the macro's own
+abbrev pub mark : ℕ → ℕ → Own → Join → Join → Event (List ℕ)
+mark number column own before after =
+    event_at number column (deeds.Leaf (leaves.Own (record { own = own; font = None; before = before; after = after })))
+
+-- all arguments, in the font around them
+abbrev pub plain_words : ℕ → List (Argument (List ℕ)) → List (Event (List ℕ))
+plain_words number [] = []
+plain_words number (argument ∷ arguments) = argument_word number None Apart argument ∷ plain_words number arguments
+
+-- all arguments, in two fonts in turn, glued
+abbrev pub alternating_words : ℕ → Font → Font → Join → List (Argument (List ℕ)) → List (Event (List ℕ))
+alternating_words number font other before [] = []
+alternating_words number font other before (argument ∷ arguments) =
+    argument_word number (Some font) before argument ∷ alternating_words number other font Glued arguments
+
+-- one argument in a font
+abbrev pub one_word : ℕ → Option Font → Join → List (Argument (List ℕ)) → List (Event (List ℕ))
+one_word number font before [] = []
+one_word number font before (argument ∷ arguments) = argument_word number font before argument ∷ []
+
+-- a key in bold, then its value in italic
+abbrev pub key_words : ℕ → List (Argument (List ℕ)) → List (Event (List ℕ))
+key_words number [] = []
+key_words number (key ∷ arguments) = argument_word number (Some fonts.B) Apart key ∷ one_word number (Some fonts.I) Apart arguments
+
+-- a name in italic, its section in parentheses, and a suffix, all glued
+abbrev pub section_end : ℕ → ℕ → List (Argument (List ℕ)) → List (Event (List ℕ))
+section_end number column arguments = mark number column Unround Glued Apart ∷ one_word number None Glued arguments
+
+abbrev pub section_text : ℕ → ℕ → List (Argument (List ℕ)) → List (Event (List ℕ))
+section_text number column [] = []
+section_text number column (section ∷ arguments) = argument_word number None Apart section ∷ section_end number column arguments
+
+abbrev pub section_words : ℕ → ℕ → List (Argument (List ℕ)) → List (Event (List ℕ))
+section_words number column [] = []
+section_words number column (section ∷ arguments) =
+    mark number column Round Glued Glued ∷ section_text number column (section ∷ arguments)
+
+abbrev pub name_words : ℕ → ℕ → List (Argument (List ℕ)) → List (Event (List ℕ))
+name_words number column [] = []
+name_words number column (name ∷ arguments) =
+    argument_word number (Some fonts.I) Apart name ∷ section_words number column arguments
+
+abbrev pub words_events : ℕ → ℕ → Words → List (Argument (List ℕ)) → List (Event (List ℕ))
+words_events number column words.Nothing arguments = []
+words_events number column words.Plain arguments = plain_words number arguments
+words_events number column (words.Alternating font other before) arguments = alternating_words number font other before arguments
+words_events number column words.Key arguments = key_words number arguments
+words_events number column words.Value arguments = one_word number (Some fonts.I) Apart arguments
+words_events number column words.Name arguments = name_words number column arguments
+words_events number column words.Section arguments = section_words number column arguments
+words_events number column words.SectionText arguments = section_text number column arguments
+words_events number column words.SectionEnd arguments = section_end number column arguments
+words_events number column words.Suffix arguments = one_word number None Glued arguments
+
+abbrev pub has_words : Words → Bool
+has_words words.Nothing = false
+has_words words.Plain = true
+has_words (words.Alternating font other before) = true
+has_words words.Key = true
+has_words words.Value = true
+has_words words.Name = true
+has_words words.Section = true
+has_words words.SectionText = true
+has_words words.SectionEnd = true
+has_words words.Suffix = true
+
+-- ---- the events of a line
+
+abbrev pub break_events : ℕ → ℕ → Bool → List (Event (List ℕ))
+break_events number column true = event_at number column (deeds.Close closers.Line) ∷ []
+break_events number column false = []
+
+-- the quote that an argument lacks, which is told ahead
+abbrev pub quote_at : Bool → Option ℕ → Option Quote
+quote_at begins_body None = None
+quote_at begins_body (Some column) = Some (record { column = column; begins_body = begins_body })
+
+abbrev pub missing_quote : Quotes → List (Argument (List ℕ)) → Option Quote
+missing_quote Printed arguments = None
+missing_quote (After printed) arguments = quote_at false (open_quote printed arguments)
+missing_quote (BodyAfter printed) arguments = quote_at true (open_quote printed arguments)
+
+abbrev pub quote_deed : Quote → Deed (List ℕ)
+quote_deed quote = deeds.Note Unterminated [] quote.begins_body
+
+abbrev pub quote_events : ℕ → Option Quote → List (Event (List ℕ))
+quote_events number None = []
+quote_events number (Some quote) = event_at number quote.column (quote_deed quote) ∷ []
+
+abbrev pub deed_events : ℕ → ℕ → Option (Deed (List ℕ)) → List (Event (List ℕ))
+deed_events number column None = []
+deed_events number column (Some deed) = event_at number column deed ∷ []
+
+abbrev pub scope_events : ℕ → ℕ → Option LineOpener → List (Event (List ℕ))
+scope_events number column None = []
+scope_events number column (Some opener) = event_at number column (deeds.LineScope opener) ∷ []
+
+abbrev pub last_events : ℕ → ℕ → Last → List (Event (List ℕ))
+last_events number column lasts.Nothing = []
+last_events number column lasts.FontEnds = event_at number column (deeds.Leaf (leaves.Fonts None)) ∷ []
+last_events number column (lasts.Mark own) = mark number column own Glued Apart ∷ []
+
+-- a macro with its arguments: it breaks line scopes, a quote that lacks is told, it does what it does, opens a line scope, and has its words;
+-- where it has words, the line fills line scopes
+abbrev pub macro_events : ℕ → ℕ → Row → List ℕ → List (Argument (List ℕ)) → List (Event (List ℕ))
+macro_events number column row rest arguments =
+    break_events number column row.breaks
+    ++ (quote_events number (missing_quote row.quotes arguments)
+    ++ (deed_events number column (effect_deed row.effect rest arguments)
+    ++ (scope_events number column (line_scope row.effect)
+    ++ (words_events number column row.words arguments
+    ++ (last_events number column row.last ++ line_end number (has_any arguments && has_words row.words) ∷ [])))))
+
+-- a message about a macro's name
+abbrev pub refused_events : NoteKind → ℕ → ℕ → List ℕ → List (Event (List ℕ))
+refused_events kind number column name = event_at number column (deeds.Note kind name false) ∷ line_end number false ∷ []
+
+-- a macro without arguments
+abbrev pub lone_events : Alone → ℕ → ℕ → List ℕ → List (Event (List ℕ)) → List (Event (List ℕ))
+lone_events Same number column name events = events
+lone_events Empty number column name events = refused_events EmptyMacro number column name
+lone_events (Scope opener) number column name events =
+    event_at number column (deeds.LineScope opener) ∷ line_end number false ∷ []
+
+abbrev pub row_events : ℕ → ℕ → List ℕ → List ℕ → List (Argument (List ℕ)) → Row → List (Event (List ℕ))
+row_events number column name rest arguments row =
+    if has_any arguments then macro_events number column row rest arguments
+    else lone_events row.alone number column name (macro_events number column row rest arguments)
+
+abbrev pub named_events : Line → Option Row → List (Event (List ℕ))
+named_events line None = refused_events UnknownMacro line.number (name_start line.text + 1) (name_of line.text)
+named_events line (Some row) =
+    row_events line.number (name_start line.text + 1) (name_of line.text) (drop (name_end line.text) line.text)
+    (arguments_after (name_end line.text) line.text) row
+
+abbrev pub form_events : Form → Line → List (Event (List ℕ))
+form_events forms.Text line = plain_events line
+form_events forms.Blank line = plain_events line
+form_events forms.Raw line = plain_events line
+form_events forms.Control line = named_events line (row_of (name_of line.text))
+
+-- the events of a line
+unfoldable pub man_events : Line → List (Event (List ℕ))
+man_events line = form_events line.form line

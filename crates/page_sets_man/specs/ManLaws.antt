@@ -1,0 +1,560 @@
+-- The macros of man(7) keep the laws of macro sets: proofs, which the set's laws cite. Source: man(7).
+use Rattle.std.proofs.Common.{◌≡◌, ℕ, ◌+◌, ◌-◌, ◌*◌, ◌≤◌, Bool, true, false, ◌&&◌, nat_le, List, [], ◌∷◌, ◌++◌, length, drop, refl, arith, inl, inr, length-append, length-take, Option, None, Some, option_map, find}
+use Rattle.std.specs.List.{list_all}
+use Rattle.std.specs.Str.{bytes_eq}
+use Rattle.std.proofs.lemmas.Bool.{cases_Bool}
+use Rattle.std.proofs.lemmas.Bool.Decides.{nat_tests}
+use Rattle.page_core_base.specs.declared.cells.Font.{Font}
+use Rattle.page_core_base.specs.declared.cells.Font.TheVariants as fonts
+use Rattle.page_core_base.specs.declared.lines_taken.Form.{Form}
+use Rattle.page_core_base.specs.declared.lines_taken.Form.TheVariants as forms
+use Rattle.page_roff_forms.specs.declared.quotes.Argument.{Argument}
+use Rattle.page_sets_lines.specs.declared.openers.Opener.{Opener}
+use Rattle.page_sets_lines.specs.declared.openers.LineOpener.{LineOpener}
+use Rattle.page_sets_lines.specs.declared.events.Join.{Join}
+use Rattle.page_sets_lines.specs.declared.events.Join.TheVariants.{Apart, Glued}
+use Rattle.page_sets_lines.specs.declared.events.Deed.{Deed}
+use Rattle.page_sets_lines.specs.declared.events.Deed.TheVariants as deeds
+use Rattle.page_sets_lines.specs.declared.events.Event.{Event}
+use Rattle.page_sets_lines.specs.declared.requests.RequestName.{RequestName}
+use Rattle.page_sets_lines.specs.TakenLines.{Line}
+use Rattle.page_sets_lines.specs.Laws.{IsArgument, IsArgumentIfGiven, OpensSlices, ClosesSlices, LeavesSlices, HasSlices, AreSlices, AreInOrder}
+use Rattle.page_sets_lines.specs.ControlLines.{name_start, name_end, name_of, arguments_after, first_of, has_any}
+use Rattle.page_sets_lines.specs.PlainLines.{line_end, plain_events, request_of}
+use Rattle.page_sets_lines.proofs.ArgumentLaws.{ArgumentsFrom, all_after, earlier, few_after}
+use Rattle.page_sets_lines.proofs.LawLemmas.{nothing_part, rest_part, end_within, name_part, first_slice_after, first_text_after, second_text_after, request_slices, line_slices, AreSlices-append, HasNoWord, order_after, order_before, line_order}
+use Rattle.page_sets_man.specs.declared.rows.Opens.{Opens}
+use Rattle.page_sets_man.specs.declared.rows.Opens.TheVariants as opens
+use Rattle.page_sets_man.specs.declared.rows.Closes.{Closes}
+use Rattle.page_sets_man.specs.declared.rows.Closes.TheVariants as closes
+use Rattle.page_sets_man.specs.declared.rows.Sets.{Sets}
+use Rattle.page_sets_man.specs.declared.rows.Sets.TheVariants as sets
+use Rattle.page_sets_man.specs.declared.rows.Effect.{Effect}
+use Rattle.page_sets_man.specs.declared.rows.Effect.TheVariants as effects
+use Rattle.page_sets_man.specs.declared.rows.Alone.{Alone}
+use Rattle.page_sets_man.specs.declared.rows.Alone.TheVariants.{Same, Empty, Scope}
+use Rattle.page_sets_man.specs.declared.rows.Quotes.{Quotes}
+use Rattle.page_sets_man.specs.declared.rows.Quotes.TheVariants.{Printed, After, BodyAfter}
+use Rattle.page_sets_man.specs.declared.rows.Words.{Words}
+use Rattle.page_sets_man.specs.declared.rows.Words.TheVariants as words
+use Rattle.page_sets_man.specs.declared.rows.Last.{Last}
+use Rattle.page_sets_man.specs.declared.rows.Last.TheVariants as lasts
+use Rattle.page_sets_man.specs.declared.rows.Row.{Row}
+use Rattle.page_sets_man.specs.declared.plans.Quote.{Quote}
+use Rattle.page_sets_man.specs.declared.plans.Front.{Front}
+use Rattle.page_sets_man.specs.declared.plans.Front.TheVariants as fronts
+use Rattle.page_sets_man.specs.declared.plans.Plan.{Plan}
+use Rattle.page_sets_man.specs.Rows.{quiet, structure_rows, words_rows, structure_row, words_row, request_row, either_row, row_of}
+use Rattle.page_sets_man.specs.Man.{opener, closer, leaf, effect_deed, line_scope, one_word, plain_words, alternating_words, section_text, section_words, words_events, has_words, break_events, quote_at, missing_quote, quote_events, deed_events, scope_events, last_events, macro_events, lone_events, row_events, named_events, form_events, man_events}
+use Rattle.page_sets_man.specs.Plans.{front_deed, end_events, plan_events, FitsPlan}
+
+-- ---- slices
+
+break_slices : (line : List ℕ) (number column : ℕ) (breaks : Bool) → AreSlices line (break_events number column breaks)
+break_slices line number column true = (tt, tt)
+break_slices line number column false = tt
+
+quote_slices : (line : List ℕ) (number : ℕ) (quote : Option Quote) → AreSlices line (quote_events number quote)
+quote_slices line number None = tt
+quote_slices line number (Some quote) = (nothing_part line, tt)
+
+scope_slices : (line : List ℕ) (number column : ℕ) (scope : Option LineOpener) → AreSlices line (scope_events number column scope)
+scope_slices line number column None = tt
+scope_slices line number column (Some opener) = (tt, tt)
+
+last_slices : (line : List ℕ) (number column : ℕ) (last : Last) → AreSlices line (last_events number column last)
+last_slices line number column lasts.Nothing = tt
+last_slices line number column lasts.FontEnds = (tt, tt)
+last_slices line number column (lasts.Mark own) = (tt, tt)
+
+end_slices : (line : List ℕ) (number : ℕ) (end : Option Bool) → AreSlices line (end_events number end)
+end_slices line number None = tt
+end_slices line number (Some filled) = (tt, tt)
+
+-- what may be there, and then has slices
+HasSlicesIfGiven : List ℕ → Option (Deed (List ℕ)) → Type 0
+HasSlicesIfGiven line None = Unit {0}
+HasSlicesIfGiven line (Some deed) = HasSlices line deed
+
+deed_slices : (line : List ℕ) (number column : ℕ) (deed : Option (Deed (List ℕ))) → HasSlicesIfGiven line deed → AreSlices line (deed_events number column deed)
+unfolding HasSlicesIfGiven
+deed_slices line number column None h = tt
+deed_slices line number column (Some deed) h = (h, tt)
+
+target_slices : (line : List ℕ) (make : Argument (List ℕ) → Opener (List ℕ)) (given : Option (Argument (List ℕ)))
+    → ((argument : Argument (List ℕ)) → IsArgument line argument → OpensSlices line (make argument)) → IsArgumentIfGiven line given
+    → HasSlicesIfGiven line (option_map deeds.Open (option_map make given))
+unfolding HasSlicesIfGiven
+target_slices line make None keeps h = tt
+target_slices line make (Some argument) keeps h = keeps argument h
+
+opens_slices : (line : List ℕ) (scope : Opens) (start : ℕ) → HasSlicesIfGiven line (option_map deeds.Open (opener scope (arguments_after start line)))
+unfolding HasSlicesIfGiven
+opens_slices line opens.Section start = tt
+opens_slices line opens.Subsection start = tt
+opens_slices line (opens.Paragraph name) start = tt
+opens_slices line opens.Tagged start = first_text_after line start
+opens_slices line opens.Indented start = (first_slice_after line start, second_text_after line start)
+opens_slices line opens.Hanging start = first_text_after line start
+opens_slices line opens.RelativeMargin start = first_text_after line start
+opens_slices line (opens.Target link) start =
+    target_slices line _ (first_of (arguments_after start line)) (λ argument h. h) (first_slice_after line start)
+opens_slices line opens.Syntax start = target_slices line _ (first_of (arguments_after start line)) (λ argument h. h) (first_slice_after line start)
+
+closes_slices : (line : List ℕ) (scope : Closes) (start : ℕ) → ClosesSlices line (closer scope (arguments_after start line))
+closes_slices line closes.RelativeMargin start = first_text_after line start
+closes_slices line (closes.Target link) start = first_slice_after line start
+closes_slices line closes.Syntax start = tt
+
+sets_slices : (line : List ℕ) (change : Sets) (start : ℕ) → start ≤ length line → LeavesSlices line (leaf change (drop start line) (arguments_after start line))
+sets_slices line (sets.Request name) start h = request_slices line name _ (first_text_after line start)
+sets_slices line sets.Title start h = rest_part line start h
+sets_slices line (sets.Example begins) start h = tt
+sets_slices line sets.Distance start h = first_text_after line start
+sets_slices line sets.FurtherTag start h = tt
+sets_slices line (sets.FontBegins font) start h = tt
+sets_slices line (sets.Mark own) start h = tt
+
+effect_slices : (line : List ℕ) (effect : Effect) (start : ℕ) → start ≤ length line
+    → HasSlicesIfGiven line (effect_deed effect (drop start line) (arguments_after start line))
+unfolding HasSlicesIfGiven
+effect_slices line effects.Nothing start h = tt
+effect_slices line (effects.Opens scope) start h = opens_slices line scope start
+effect_slices line (effects.Closes scope) start h = closes_slices line scope start
+effect_slices line (effects.Sets change) start h = sets_slices line change start h
+
+front_slices : (line : Line) (front : Front) (start : ℕ) → start ≤ length line.text → HasSlicesIfGiven line.text (front_deed front line start)
+unfolding HasSlicesIfGiven
+front_slices line fronts.Nothing start h = tt
+front_slices line fronts.Plain start h = line_slices line.form line.text
+front_slices line (fronts.Refused kind) start h = name_part line.text
+front_slices line (fronts.Effect effect) start h = effect_slices line.text effect start h
+
+one_slices : (line : List ℕ) (number : ℕ) (font : Option Font) (before : Join) (from : ℕ) (arguments : List (Argument (List ℕ)))
+    → ArgumentsFrom line from arguments → AreSlices line (one_word number font before arguments)
+one_slices line number font before from [] h = tt
+one_slices line number font before from (argument ∷ arguments) h = (h.1, tt)
+
+plain_slices : (line : List ℕ) (number from : ℕ) (arguments : List (Argument (List ℕ))) → ArgumentsFrom line from arguments → AreSlices line (plain_words number arguments)
+plain_slices line number from [] h = tt
+plain_slices line number from (argument ∷ arguments) h = (h.1, plain_slices line number (argument.column + length argument.text) arguments h.2)
+
+alternating_slices : (line : List ℕ) (number : ℕ) (font other : Font) (before : Join) (from : ℕ) (arguments : List (Argument (List ℕ)))
+    → ArgumentsFrom line from arguments → AreSlices line (alternating_words number font other before arguments)
+alternating_slices line number font other before from [] h = tt
+alternating_slices line number font other before from (argument ∷ arguments) h = (h.1, alternating_slices line number other font _ _ arguments h.2)
+
+section_text_slices : (line : List ℕ) (number column from : ℕ) (arguments : List (Argument (List ℕ)))
+    → ArgumentsFrom line from arguments → AreSlices line (section_text number column arguments)
+section_text_slices line number column from [] h = tt
+section_text_slices line number column from (section ∷ arguments) h = (h.1, (tt, one_slices line number _ _ _ arguments h.2))
+
+section_slices : (line : List ℕ) (number column from : ℕ) (arguments : List (Argument (List ℕ)))
+    → ArgumentsFrom line from arguments → AreSlices line (section_words number column arguments)
+section_slices line number column from [] h = tt
+section_slices line number column from (section ∷ arguments) h = (tt, section_text_slices line number column from (section ∷ arguments) h)
+
+words_slices : (line : List ℕ) (number column : ℕ) (these : Words) (from : ℕ) (arguments : List (Argument (List ℕ)))
+    → ArgumentsFrom line from arguments → AreSlices line (words_events number column these arguments)
+words_slices line number column words.Nothing from arguments h = tt
+words_slices line number column words.Plain from arguments h = plain_slices line number from arguments h
+words_slices line number column (words.Alternating font other before) from arguments h = alternating_slices line number font other before from arguments h
+words_slices line number column words.Key from [] h = tt
+words_slices line number column words.Key from (key ∷ arguments) h = (h.1, one_slices line number _ _ _ arguments h.2)
+words_slices line number column words.Value from arguments h = one_slices line number _ _ from arguments h
+words_slices line number column words.Name from [] h = tt
+words_slices line number column words.Name from (name ∷ arguments) h = (h.1, section_slices line number column _ arguments h.2)
+words_slices line number column words.Section from arguments h = section_slices line number column from arguments h
+words_slices line number column words.SectionText from arguments h = section_text_slices line number column from arguments h
+words_slices line number column words.SectionEnd from arguments h = (tt, one_slices line number _ _ from arguments h)
+words_slices line number column words.Suffix from arguments h = one_slices line number _ _ from arguments h
+
+pub plan_slices : (line : Line) (plan : Plan) → FitsPlan line plan → AreSlices line.text (plan_events line plan)
+plan_slices line plan fits =
+    let text = line.text in
+    AreSlices-append text _ _
+    (AreSlices-append text _ _ (break_slices text line.number plan.column plan.before.breaks)
+    (AreSlices-append text _ _ (quote_slices text line.number plan.before.quote)
+    (AreSlices-append text _ _ (deed_slices text line.number plan.column _ (front_slices line plan.before.front plan.before.start fits.0))
+    (scope_slices text line.number plan.column plan.before.scope))))
+    (AreSlices-append text _ _ (words_slices text line.number plan.column plan.words (plan.rest + 1) (arguments_after plan.rest text) (all_after text plan.rest))
+    (AreSlices-append text _ _ (last_slices text line.number plan.column plan.after.last) (end_slices text line.number plan.after.end)))
+
+macro_slices : (line : List ℕ) (number column start : ℕ) (row : Row) → start ≤ length line
+    → AreSlices line (macro_events number column row (drop start line) (arguments_after start line))
+macro_slices line number column start row within =
+    let arguments = arguments_after start line in
+    AreSlices-append line _ _ (break_slices line number column row.breaks)
+    (AreSlices-append line _ _ (quote_slices line number (missing_quote row.quotes arguments))
+    (AreSlices-append line _ _ (deed_slices line number column _ (effect_slices line row.effect start within))
+    (AreSlices-append line _ _ (scope_slices line number column (line_scope row.effect))
+    (AreSlices-append line _ _ (words_slices line number column row.words (start + 1) arguments (all_after line start))
+    (AreSlices-append line _ _ (last_slices line number column row.last) (tt, tt))))))
+
+lone_slices : (line : List ℕ) (alone : Alone) (number column : ℕ) (events : List (Event (List ℕ))) → AreSlices line events
+    → AreSlices line (lone_events alone number column (name_of line) events)
+lone_slices line Same number column events h = h
+lone_slices line Empty number column events h = (name_part line, (tt, tt))
+lone_slices line (Scope opener) number column events h = (tt, (tt, tt))
+
+row_slices : (line : List ℕ) (number column start : ℕ) (row : Row) → start ≤ length line
+    → AreSlices line (row_events number column (name_of line) (drop start line) (arguments_after start line) row)
+row_slices line number column start row within =
+    let m = macro_slices line number column start row within in
+    elim (cases_Bool (has_any (arguments_after start line))) [
+      | inl t ↦ rw t (rw t at m)
+      | inr t ↦ rw t (lone_slices line row.alone number column _ (rw t at m))
+    ]
+
+named_slices : (line : Line) (row : Option Row) → AreSlices line.text (named_events line row)
+named_slices line None = (name_part line.text, (tt, tt))
+named_slices line (Some row) =
+    row_slices line.text line.number (name_start line.text + 1) (name_end line.text) row (end_within line.text)
+
+form_slices : (form : Form) (line : Line) → AreSlices line.text (form_events form line)
+form_slices forms.Text line = (line_slices line.form line.text, (tt, tt))
+form_slices forms.Blank line = (line_slices line.form line.text, (tt, tt))
+form_slices forms.Raw line = (line_slices line.form line.text, (tt, tt))
+form_slices forms.Control line = named_slices line (row_of (name_of line.text))
+
+pub man_slices : (line : Line) → AreSlices line.text (man_events line)
+unfolding man_events
+man_slices line = form_slices line.form line
+
+-- ---- order
+
+break_no_word : (number column : ℕ) (breaks : Bool) → HasNoWord (break_events number column breaks)
+break_no_word number column true = (refl, tt)
+break_no_word number column false = tt
+
+quote_no_word : (number : ℕ) (quote : Option Quote) → HasNoWord (quote_events number quote)
+quote_no_word number None = tt
+quote_no_word number (Some quote) = (refl, tt)
+
+scope_no_word : (number column : ℕ) (scope : Option LineOpener) → HasNoWord (scope_events number column scope)
+scope_no_word number column None = tt
+scope_no_word number column (Some opener) = (refl, tt)
+
+open_no_word : (number column : ℕ) (given : Option (Opener (List ℕ))) → HasNoWord (deed_events number column (option_map deeds.Open given))
+open_no_word number column None = tt
+open_no_word number column (Some opener) = (refl, tt)
+
+effect_no_word : (number column : ℕ) (effect : Effect) (rest : List ℕ) (arguments : List (Argument (List ℕ)))
+    → HasNoWord (deed_events number column (effect_deed effect rest arguments))
+effect_no_word number column effects.Nothing rest arguments = tt
+effect_no_word number column (effects.Opens scope) rest arguments = open_no_word number column (opener scope arguments)
+effect_no_word number column (effects.Closes scope) rest arguments = (refl, tt)
+effect_no_word number column (effects.Sets change) rest arguments = (refl, tt)
+
+last_no_word : (number column : ℕ) (last : Last) (filled : Bool) → HasNoWord (last_events number column last ++ line_end number filled ∷ [])
+last_no_word number column lasts.Nothing filled = (refl, tt)
+last_no_word number column lasts.FontEnds filled = (refl, (refl, tt))
+last_no_word number column (lasts.Mark own) filled = (refl, (refl, tt))
+
+one_order : (line : List ℕ) (number : ℕ) (font : Option Font) (before : Join) (from : ℕ) (arguments : List (Argument (List ℕ)))
+    → ArgumentsFrom line from arguments → AreInOrder from (one_word number font before arguments)
+one_order line number font before from [] h = tt
+one_order line number font before from (argument ∷ arguments) h = (h.0, tt)
+
+plain_order : (line : List ℕ) (number from : ℕ) (arguments : List (Argument (List ℕ))) → ArgumentsFrom line from arguments → AreInOrder from (plain_words number arguments)
+plain_order line number from [] h = tt
+plain_order line number from (argument ∷ arguments) h = (h.0, plain_order line number (argument.column + length argument.text) arguments h.2)
+
+alternating_order : (line : List ℕ) (number : ℕ) (font other : Font) (before : Join) (from : ℕ) (arguments : List (Argument (List ℕ)))
+    → ArgumentsFrom line from arguments → AreInOrder from (alternating_words number font other before arguments)
+alternating_order line number font other before from [] h = tt
+alternating_order line number font other before from (argument ∷ arguments) h = (h.0, alternating_order line number other font _ _ arguments h.2)
+
+section_text_order : (line : List ℕ) (number column from : ℕ) (arguments : List (Argument (List ℕ)))
+    → ArgumentsFrom line from arguments → AreInOrder from (section_text number column arguments)
+section_text_order line number column from [] h = tt
+section_text_order line number column from (section ∷ arguments) h = (h.0, (tt, one_order line number _ _ _ arguments h.2))
+
+section_order : (line : List ℕ) (number column from : ℕ) (arguments : List (Argument (List ℕ)))
+    → ArgumentsFrom line from arguments → AreInOrder from (section_words number column arguments)
+section_order line number column from [] h = tt
+section_order line number column from (section ∷ arguments) h = (tt, section_text_order line number column from (section ∷ arguments) h)
+
+words_order : (line : List ℕ) (number column : ℕ) (these : Words) (from : ℕ) (arguments : List (Argument (List ℕ)))
+    → ArgumentsFrom line from arguments → AreInOrder from (words_events number column these arguments)
+words_order line number column words.Nothing from arguments h = tt
+words_order line number column words.Plain from arguments h = plain_order line number from arguments h
+words_order line number column (words.Alternating font other before) from arguments h = alternating_order line number font other before from arguments h
+words_order line number column words.Key from [] h = tt
+words_order line number column words.Key from (key ∷ arguments) h = (h.0, one_order line number _ _ _ arguments h.2)
+words_order line number column words.Value from arguments h = one_order line number _ _ from arguments h
+words_order line number column words.Name from [] h = tt
+words_order line number column words.Name from (name ∷ arguments) h = (h.0, section_order line number column _ arguments h.2)
+words_order line number column words.Section from arguments h = section_order line number column from arguments h
+words_order line number column words.SectionText from arguments h = section_text_order line number column from arguments h
+words_order line number column words.SectionEnd from arguments h = (tt, one_order line number _ _ from arguments h)
+words_order line number column words.Suffix from arguments h = one_order line number _ _ from arguments h
+
+macro_order : (line : List ℕ) (number column start : ℕ) (row : Row) → AreInOrder 0 (macro_events number column row (drop start line) (arguments_after start line))
+macro_order line number column start row =
+    let arguments = arguments_after start line in
+    order_after 0 _ _ (break_no_word number column row.breaks)
+    (order_after 0 _ _ (quote_no_word number (missing_quote row.quotes arguments))
+    (order_after 0 _ _ (effect_no_word number column row.effect (drop start line) arguments)
+    (order_after 0 _ _ (scope_no_word number column (line_scope row.effect))
+    (order_before 0 _ _ (words_order line number column row.words 0 arguments (earlier line 0 (start + 1) arguments (omega arith) (all_after line start)))
+    (last_no_word number column row.last (has_any arguments && has_words row.words))))))
+
+lone_order : (alone : Alone) (number column : ℕ) (name : List ℕ) (events : List (Event (List ℕ))) → AreInOrder 0 events → AreInOrder 0 (lone_events alone number column name events)
+lone_order Same number column name events h = h
+lone_order Empty number column name events h = (tt, (tt, tt))
+lone_order (Scope opener) number column name events h = (tt, (tt, tt))
+
+row_order : (line : List ℕ) (number column start : ℕ) (name : List ℕ) (row : Row)
+    → AreInOrder 0 (row_events number column name (drop start line) (arguments_after start line) row)
+row_order line number column start name row =
+    let m = macro_order line number column start row in
+    elim (cases_Bool (has_any (arguments_after start line))) [
+      | inl t ↦ rw t (rw t at m)
+      | inr t ↦ rw t (lone_order row.alone number column name _ (rw t at m))
+    ]
+
+named_order : (line : Line) (row : Option Row) → AreInOrder 0 (named_events line row)
+named_order line None = (tt, (tt, tt))
+named_order line (Some row) = row_order line.text line.number (name_start line.text + 1) (name_end line.text) (name_of line.text) row
+
+plain_line_order : (line : Line) → AreInOrder 0 (plain_events line)
+plain_line_order line = (line_order line.form line.text, (tt, tt))
+
+form_order : (form : Form) (line : Line) → AreInOrder 0 (form_events form line)
+form_order forms.Text line = plain_line_order line
+form_order forms.Blank line = plain_line_order line
+form_order forms.Raw line = plain_line_order line
+form_order forms.Control line = named_order line (row_of (name_of line.text))
+
+pub man_in_order : (line : Line) → AreInOrder 0 (man_events line)
+unfolding man_events
+man_in_order line = form_order line.form line
+
+-- ---- few
+
+-- how many events a row gives, beside its words and the line's end
+break_weight : Bool → ℕ
+break_weight true = 1
+break_weight false = 0
+
+quotes_weight : Quotes → ℕ
+quotes_weight Printed = 0
+quotes_weight (After printed) = 1
+quotes_weight (BodyAfter printed) = 1
+
+effect_weight : Effect → ℕ
+effect_weight effects.Nothing = 0
+effect_weight (effects.Opens scope) = 1
+effect_weight (effects.Closes scope) = 1
+effect_weight (effects.Sets change) = 1
+
+scope_weight : Option LineOpener → ℕ
+scope_weight None = 0
+scope_weight (Some opener) = 1
+
+marks_weight : Words → ℕ
+marks_weight words.Nothing = 0
+marks_weight words.Plain = 0
+marks_weight (words.Alternating font other before) = 0
+marks_weight words.Key = 0
+marks_weight words.Value = 0
+marks_weight words.Name = 2
+marks_weight words.Section = 2
+marks_weight words.SectionText = 1
+marks_weight words.SectionEnd = 1
+marks_weight words.Suffix = 0
+
+last_weight : Last → ℕ
+last_weight lasts.Nothing = 0
+last_weight lasts.FontEnds = 1
+last_weight (lasts.Mark own) = 1
+
+weight : Row → ℕ
+weight row =
+    break_weight row.breaks + (quotes_weight row.quotes + (effect_weight row.effect
+    + (scope_weight (line_scope row.effect) + (marks_weight row.words + last_weight row.last))))
+
+few_break : (number column : ℕ) (breaks : Bool) → length (break_events number column breaks) ≤ break_weight breaks
+unfolding break_weight
+few_break number column true = omega arith
+few_break number column false = omega arith
+
+few_quote_at : (number : ℕ) (begins_body : Bool) (column : Option ℕ) → length (quote_events number (quote_at begins_body column)) ≤ 1
+few_quote_at number begins_body None = omega arith
+few_quote_at number begins_body (Some column) = omega arith
+
+few_quote : (number : ℕ) (quotes : Quotes) (arguments : List (Argument (List ℕ))) → length (quote_events number (missing_quote quotes arguments)) ≤ quotes_weight quotes
+unfolding quotes_weight
+few_quote number Printed arguments = omega arith
+few_quote number (After printed) arguments = few_quote_at number false _
+few_quote number (BodyAfter printed) arguments = few_quote_at number true _
+
+few_deed : (number column : ℕ) (deed : Option (Deed (List ℕ))) → length (deed_events number column deed) ≤ 1
+few_deed number column None = omega arith
+few_deed number column (Some deed) = omega arith
+
+few_effect : (number column : ℕ) (effect : Effect) (rest : List ℕ) (arguments : List (Argument (List ℕ)))
+    → length (deed_events number column (effect_deed effect rest arguments)) ≤ effect_weight effect
+unfolding effect_weight
+few_effect number column effects.Nothing rest arguments = omega arith
+few_effect number column (effects.Opens scope) rest arguments = few_deed number column _
+few_effect number column (effects.Closes scope) rest arguments = omega arith
+few_effect number column (effects.Sets change) rest arguments = omega arith
+
+few_scope : (number column : ℕ) (scope : Option LineOpener) → length (scope_events number column scope) ≤ scope_weight scope
+unfolding scope_weight
+few_scope number column None = omega arith
+few_scope number column (Some opener) = omega arith
+
+few_last : (number column : ℕ) (last : Last) → length (last_events number column last) ≤ last_weight last
+unfolding last_weight
+few_last number column lasts.Nothing = omega arith
+few_last number column lasts.FontEnds = omega arith
+few_last number column (lasts.Mark own) = omega arith
+
+few_one : (number : ℕ) (font : Option Font) (before : Join) (arguments : List (Argument (List ℕ))) → length (one_word number font before arguments) ≤ length arguments
+few_one number font before [] = omega arith
+few_one number font before (argument ∷ arguments) = omega arith
+
+few_plain : (number : ℕ) (arguments : List (Argument (List ℕ))) → length (plain_words number arguments) ≤ length arguments
+few_plain number [] = omega arith
+few_plain number (argument ∷ arguments) = let f = few_plain number arguments in omega (arith, f)
+
+few_alternating : (number : ℕ) (font other : Font) (before : Join) (arguments : List (Argument (List ℕ)))
+    → length (alternating_words number font other before arguments) ≤ length arguments
+few_alternating number font other before [] = omega arith
+few_alternating number font other before (argument ∷ arguments) = let f = few_alternating number other font Glued arguments in omega (arith, f)
+
+few_section_text : (number column : ℕ) (arguments : List (Argument (List ℕ))) → length (section_text number column arguments) ≤ 1 + length arguments
+few_section_text number column [] = omega arith
+few_section_text number column (section ∷ arguments) = let f = few_one number None Glued arguments in omega (arith, f)
+
+few_section : (number column : ℕ) (arguments : List (Argument (List ℕ))) → length (section_words number column arguments) ≤ 2 + length arguments
+few_section number column [] = omega arith
+few_section number column (section ∷ arguments) = let f = few_section_text number column (section ∷ arguments) in omega (arith, f)
+
+few_words : (number column : ℕ) (these : Words) (arguments : List (Argument (List ℕ)))
+    → length (words_events number column these arguments) ≤ marks_weight these + length arguments
+unfolding marks_weight
+few_words number column words.Nothing arguments = omega arith
+few_words number column words.Plain arguments = let f = few_plain number arguments in omega (arith, f)
+few_words number column (words.Alternating font other before) arguments = let f = few_alternating number font other before arguments in omega (arith, f)
+few_words number column words.Key [] = omega arith
+few_words number column words.Key (key ∷ arguments) = let f = few_one number (Some fonts.I) Apart arguments in omega (arith, f)
+few_words number column words.Value arguments = let f = few_one number (Some fonts.I) Apart arguments in omega (arith, f)
+few_words number column words.Name [] = omega arith
+few_words number column words.Name (name ∷ arguments) = let f = few_section number column arguments in omega (arith, f)
+few_words number column words.Section arguments = let f = few_section number column arguments in omega (arith, f)
+few_words number column words.SectionText arguments = let f = few_section_text number column arguments in omega (arith, f)
+few_words number column words.SectionEnd arguments = let f = few_one number None Glued arguments in omega (arith, f)
+few_words number column words.Suffix arguments = let f = few_one number None Glued arguments in omega (arith, f)
+
+few_macro : (number column : ℕ) (row : Row) (rest : List ℕ) (arguments : List (Argument (List ℕ)))
+    → length (macro_events number column row rest arguments) ≤ weight row + length arguments + 1
+unfolding weight
+few_macro number column row rest arguments =
+    let a = few_break number column row.breaks in
+    let b = few_quote number row.quotes arguments in
+    let c = few_effect number column row.effect rest arguments in
+    let d = few_scope number column (line_scope row.effect) in
+    let e = few_words number column row.words arguments in
+    let f = few_last number column row.last in
+    simp length-append (omega (arith, a, b, c, d, e, f))
+
+-- ---- the rows of the table are light
+
+is_light : Row → Bool
+is_light row = nat_le (weight row) 4
+
+light_found : (rows : List (List ℕ × Row)) (name : List ℕ) (row : Row) → list_all (λ (each : List ℕ × Row). is_light each.1) rows ≡ true
+    → option_map (λ (each : List ℕ × Row). each.1) (find (λ (each : List ℕ × Row). bytes_eq name each.0) rows) ≡ Some row → is_light row ≡ true
+light_found [] name row h e = cc
+light_found (first ∷ rows) name row h e =
+    elim (cases_Bool (is_light first.1)) [
+      | inl s ↦
+          elim (cases_Bool (bytes_eq name first.0)) [
+            | inl t ↦ let f = rw t at e in let g : first.1 ≡ row = cc in rw (← g) s
+            | inr t ↦ light_found rows name row (rw s at h) (rw t at e)
+          ]
+      | inr s ↦ let f = rw s at h in cc
+    ]
+
+light_structure : (name : List ℕ) (row : Row) → structure_row name ≡ Some row → is_light row ≡ true
+unfolding structure_row is_light weight break_weight quotes_weight effect_weight scope_weight marks_weight last_weight
+light_structure name row e = light_found structure_rows name row refl e
+
+light_words : (name : List ℕ) (row : Row) → words_row name ≡ Some row → is_light row ≡ true
+unfolding words_row is_light weight break_weight quotes_weight effect_weight scope_weight marks_weight last_weight
+light_words name row e = light_found words_rows name row refl e
+
+light_request : (request : Option RequestName) (row : Row) → option_map (λ name. quiet (sets.Request name)) request ≡ Some row → is_light row ≡ true
+unfolding is_light weight break_weight quotes_weight effect_weight scope_weight marks_weight last_weight
+light_request None row e = cc
+light_request (Some name) row e = let g : quiet (sets.Request name) ≡ row = cc in rw (← g) refl
+
+light_either : (one other : Option Row) (row : Row) → (one ≡ Some row → is_light row ≡ true) → (other ≡ Some row → is_light row ≡ true)
+    → either_row one other ≡ Some row → is_light row ≡ true
+light_either None other row h k e = k e
+light_either (Some found) other row h k e = h e
+
+light_row : (name : List ℕ) (row : Row) → row_of name ≡ Some row → is_light row ≡ true
+light_row name row e =
+    light_either (words_row name) (either_row (structure_row name) (request_row name)) row (light_words name row)
+    (light_either (structure_row name) (request_row name) row (light_structure name row) (light_request (request_of name) row)) e
+
+light_weight : (row : Row) → is_light row ≡ true → weight row ≤ 4
+unfolding is_light
+light_weight row h = grind (arith, nat_tests)
+
+-- no macro has the empty name
+no_empty_name : row_of [] ≡ None
+unfolding structure_row words_row request_of
+no_empty_name = refl
+
+some_name : (name : List ℕ) (row : Row) → row_of name ≡ Some row → 1 ≤ length name
+some_name [] row e = let n = no_empty_name in cc
+some_name (byte ∷ bytes) row e = omega arith
+
+named_bytes : (text : List ℕ) → 1 ≤ length (name_of text) → (2 ≤ name_end text) × (name_end text ≤ length text)
+named_bytes [] h = absurd (omega arith)
+named_bytes (control ∷ bytes) h =
+    let text = control ∷ bytes in
+    let w = end_within text in
+    let l = length-take (name_end text - name_start text) (drop (name_start text) text) in
+    (omega (arith, l, h), w)
+
+few_lone : (alone : Alone) (number column : ℕ) (name : List ℕ) (events : List (Event (List ℕ))) (n : ℕ) → 2 ≤ n → length events ≤ n
+    → length (lone_events alone number column name events) ≤ n
+few_lone Same number column name events n t h = h
+few_lone Empty number column name events n t h = omega arith
+few_lone (Scope opener) number column name events n t h = omega arith
+
+few_row : (number column : ℕ) (name rest : List ℕ) (arguments : List (Argument (List ℕ))) (row : Row) (n : ℕ) → 2 ≤ n
+    → length (macro_events number column row rest arguments) ≤ n → length (row_events number column name rest arguments row) ≤ n
+few_row number column name rest arguments row n t h =
+    elim (cases_Bool (has_any arguments)) [
+      | inl s ↦ rw s (rw s at h)
+      | inr s ↦ rw s (few_lone row.alone number column name _ n t (rw s at h))
+    ]
+
+few_named : (line : Line) (row : Option Row) → row_of (name_of line.text) ≡ row → length (named_events line row) ≤ 2 * length line.text + 2
+few_named line None e = omega arith
+few_named line (Some row) e =
+    let text = line.text in
+    let b = named_bytes text (some_name (name_of text) row e) in
+    let w = light_weight row (light_row (name_of text) row e) in
+    let f = few_after text (name_end text) in
+    let m = few_macro line.number (name_start text + 1) row (drop (name_end text) text) (arguments_after (name_end text) text) in
+    few_row line.number (name_start text + 1) (name_of text) (drop (name_end text) text) (arguments_after (name_end text) text) row
+    (2 * length text + 2) (omega arith) (omega (arith, b.0, b.1, w, f, m))
+
+few_form : (form : Form) (line : Line) → length (form_events form line) ≤ 2 * length line.text + 2
+few_form forms.Text line = omega arith
+few_form forms.Blank line = omega arith
+few_form forms.Raw line = omega arith
+few_form forms.Control line = few_named line (row_of (name_of line.text)) refl
+
+pub man_few : (line : Line) → length (man_events line) ≤ 2 * length line.text + 2
+unfolding man_events
+man_few line = few_form line.form line

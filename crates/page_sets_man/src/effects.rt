@@ -1,0 +1,122 @@
+//! What a macro does, beside its words (man(7), "MACRO REFERENCE").
+
+ghost use Rattle.std.specs.Prelude.{◌≡◌, ◌≤◌, length, drop, option_map};
+ghost use Rattle.page_sets_lines.specs.Events.{deed_seen, opener_seen, closer_seen, leaf_seen, text_seen};
+ghost use Rattle.page_sets_lines.specs.ControlLines.{arguments_after, first_of, second_of, text_of};
+ghost use Rattle.page_sets_man.specs.Man as man;
+
+use crate::rows::{Closes, Effect, Opens, Sets};
+use page_core_limits::LINE;
+use page_sets_lines::{
+    Closer, Deed, HeadingName, Join, Leaf, LineOpener, Opener, OwnWord, Prologue, TagName,
+    first_of, request, second_of,
+};
+
+// The text of the first argument that begins after so many bytes.
+fn first_text(text: &[u8], start: usize) -> Option<&[u8]>
+    requires short { length text.now ≤ LINE }
+    requires within { start ≤ length text.now }
+    ensures { text_seen result ≡ text_of (first_of (arguments_after start text.now)) }
+{
+    match first_of(text, start) {
+        Some(argument) => Some(argument.text),
+        None => None,
+    }
+}
+
+// The text of the second.
+fn second_text(text: &[u8], start: usize) -> Option<&[u8]>
+    requires short { length text.now ≤ LINE }
+    requires within { start ≤ length text.now }
+    ensures { text_seen result ≡ text_of (second_of (arguments_after start text.now)) }
+{
+    match second_of(text, start) {
+        Some(argument) => Some(argument.text),
+        None => None,
+    }
+}
+
+// What a macro opens, with arguments that begin after so many bytes.
+fn opener(opens: Opens, text: &[u8], start: usize) -> Option<Opener<&[u8]>>
+    requires short { length text.now ≤ LINE }
+    requires within { start ≤ length text.now }
+    ensures { option_map opener_seen result ≡ man.opener opens (arguments_after start text.now) }
+{
+    match opens {
+        Opens::Section => Some(Opener::Section),
+        Opens::Subsection => Some(Opener::Subsection),
+        Opens::Paragraph(name) => Some(Opener::Paragraph(name)),
+        Opens::Tagged => Some(Opener::Tagged(first_text(text, start))),
+        Opens::Indented => Some(Opener::Indented {
+            tag: first_of(text, start),
+            hang: second_text(text, start),
+        }),
+        Opens::Hanging => Some(Opener::Hanging(first_text(text, start))),
+        Opens::RelativeMargin => Some(Opener::RelativeMargin(first_text(text, start))),
+        Opens::Target(link) => Some(Opener::Target(link, first_of(text, start)?)),
+        Opens::Syntax => Some(Opener::Syntax(first_of(text, start)?)),
+    }
+}
+
+// What a macro closes.
+fn closer(closes: Closes, text: &[u8], start: usize) -> Closer<&[u8]>
+    requires short { length text.now ≤ LINE }
+    requires within { start ≤ length text.now }
+    ensures { closer_seen result ≡ man.closer closes (arguments_after start text.now) }
+{
+    match closes {
+        Closes::RelativeMargin => Closer::RelativeMargin(first_text(text, start)),
+        Closes::Target(link) => Closer::Target(link, first_of(text, start)),
+        Closes::Syntax => Closer::Syntax,
+    }
+}
+
+// What a macro or request changes, or prints before its words.
+fn leaf(sets: Sets, text: &[u8], start: usize) -> Leaf<&[u8]>
+    requires short { length text.now ≤ LINE }
+    requires within { start ≤ length text.now }
+    ensures { leaf_seen result ≡ man.leaf sets (drop start text.now) (arguments_after start text.now) }
+{
+    match sets {
+        Sets::Request(name) => Leaf::Request(request(name, first_text(text, start))),
+        Sets::Title => Leaf::Prologue(Prologue::TH, &text[start..]),
+        Sets::Example(begins) => Leaf::Example(begins),
+        Sets::Distance => Leaf::Distance(first_text(text, start)),
+        Sets::FurtherTag => Leaf::FurtherTag,
+        Sets::FontBegins(font) => Leaf::Fonts(Some(font)),
+        Sets::Mark(own) => Leaf::Own(OwnWord {
+            own,
+            font: None,
+            before: Join::Apart,
+            after: Join::Glued,
+        }),
+    }
+}
+
+/// What a macro does, with arguments that begin after so many bytes.
+pub(crate) fn effect_deed(effect: Effect, text: &[u8], start: usize) -> Option<Deed<&[u8]>>
+    requires short { length text.now ≤ LINE }
+    requires within { start ≤ length text.now }
+    ensures { option_map deed_seen result
+        ≡ man.effect_deed effect (drop start text.now) (arguments_after start text.now) }
+{
+    match effect {
+        Effect::Nothing => None,
+        Effect::Opens(opens) => Some(Deed::Open(opener(opens, text, start)?)),
+        Effect::Closes(closes) => Some(Deed::Close(closer(closes, text, start))),
+        Effect::Sets(sets) => Some(Deed::Leaf(leaf(sets, text, start))),
+    }
+}
+
+/// The line scope that a macro opens.
+pub(crate) fn line_scope(effect: Effect) -> Option<LineOpener>
+    ensures { result ≡ man.line_scope effect }
+{
+    match effect {
+        Effect::Opens(Opens::Section) => Some(LineOpener::Heading(HeadingName::SH)),
+        Effect::Opens(Opens::Subsection) => Some(LineOpener::Heading(HeadingName::SS)),
+        Effect::Opens(Opens::Tagged) => Some(LineOpener::Tag(TagName::TP)),
+        Effect::Sets(Sets::FurtherTag) => Some(LineOpener::Tag(TagName::TQ)),
+        _ => None,
+    }
+}

@@ -1,0 +1,11 @@
+//! The macros of man(7): what events a line has, by one table.
+#![tactic(auto)]
+
+mod effects;
+mod man_set;
+mod plans;
+mod rows;
+mod words;
+
+pub use man_set::Man;
+pub use plans::Plan;
