@@ -1,0 +1,85 @@
+-- Events with what their texts hold. Source: man(7).
+use Rattle.std.specs.Prelude.{ℕ, List, Option, None, Some}
+use Rattle.std.specs.Borrow.{Bor}
+use Rattle.page_roff_forms.specs.declared.quotes.Argument.{Argument}
+use Rattle.page_roff_forms.specs.Arguments.{argument_seen}
+use Rattle.page_sets_lines.specs.declared.openers.Opener.{Opener}
+use Rattle.page_sets_lines.specs.declared.openers.Opener.TheVariants as openers
+use Rattle.page_sets_lines.specs.declared.openers.Closer.{Closer}
+use Rattle.page_sets_lines.specs.declared.openers.Closer.TheVariants as closers
+use Rattle.page_sets_lines.specs.declared.leaves.Request.{Request}
+use Rattle.page_sets_lines.specs.declared.leaves.Request.TheVariants as requests
+use Rattle.page_sets_lines.specs.declared.leaves.Leaf.{Leaf}
+use Rattle.page_sets_lines.specs.declared.leaves.Leaf.TheVariants as leaves
+use Rattle.page_sets_lines.specs.declared.events.Word.{Word}
+use Rattle.page_sets_lines.specs.declared.events.Deed.{Deed}
+use Rattle.page_sets_lines.specs.declared.events.Deed.TheVariants as deeds
+use Rattle.page_sets_lines.specs.declared.events.Event.{Event}
+
+-- a text that may be there
+abbrev pub text_seen : Option (Bor (List ℕ)) → Option (List ℕ)
+text_seen None = None
+text_seen (Some text) = Some text.now
+
+-- an argument that may be there
+abbrev pub given_seen : Option (Argument (Bor (List ℕ))) → Option (Argument (List ℕ))
+given_seen None = None
+given_seen (Some argument) = Some (argument_seen argument)
+
+abbrev pub opener_seen : Opener (Bor (List ℕ)) → Opener (List ℕ)
+opener_seen openers.Section = openers.Section
+opener_seen openers.Subsection = openers.Subsection
+opener_seen (openers.Paragraph name) = openers.Paragraph name
+opener_seen (openers.Tagged hang) = openers.Tagged (text_seen hang)
+opener_seen (openers.Indented tag hang) = openers.Indented (given_seen tag) (text_seen hang)
+opener_seen (openers.Hanging hang) = openers.Hanging (text_seen hang)
+opener_seen (openers.RelativeMargin columns) = openers.RelativeMargin (text_seen columns)
+opener_seen (openers.Target link target) = openers.Target link (argument_seen target)
+opener_seen (openers.Syntax name) = openers.Syntax (argument_seen name)
+
+abbrev pub closer_seen : Closer (Bor (List ℕ)) → Closer (List ℕ)
+closer_seen closers.Line = closers.Line
+closer_seen (closers.RelativeMargin number) = closers.RelativeMargin (text_seen number)
+closer_seen (closers.Target link suffix) = closers.Target link (given_seen suffix)
+closer_seen closers.Syntax = closers.Syntax
+
+abbrev pub request_seen : Request (Bor (List ℕ)) → Request (List ℕ)
+request_seen requests.Break = requests.Break
+request_seen (requests.Space rows) = requests.Space (text_seen rows)
+request_seen (requests.Font name) = requests.Font (text_seen name)
+request_seen (requests.Shift columns) = requests.Shift (text_seen columns)
+request_seen (requests.Literal on) = requests.Literal on
+
+abbrev pub leaf_seen : Leaf (Bor (List ℕ)) → Leaf (List ℕ)
+leaf_seen leaves.BlankLine = leaves.BlankLine
+leaf_seen (leaves.Wordless text) = leaves.Wordless text.now
+leaf_seen (leaves.Request request) = leaves.Request (request_seen request)
+leaf_seen (leaves.Prologue name rest) = leaves.Prologue name rest.now
+leaf_seen (leaves.Own word) = leaves.Own word
+leaf_seen (leaves.Example begins) = leaves.Example begins
+leaf_seen (leaves.Distance rows) = leaves.Distance (text_seen rows)
+leaf_seen (leaves.Fonts font) = leaves.Fonts font
+leaf_seen leaves.FurtherTag = leaves.FurtherTag
+
+abbrev pub word_seen : Word (Bor (List ℕ)) → Word (List ℕ)
+word_seen word = record {
+  arg = argument_seen word.arg;
+  role = word.role;
+  font = word.font;
+  before = word.before;
+  after = word.after;
+}
+
+abbrev pub deed_seen : Deed (Bor (List ℕ)) → Deed (List ℕ)
+deed_seen (deeds.Word word) = deeds.Word (word_seen word)
+deed_seen (deeds.Open opener) = deeds.Open (opener_seen opener)
+deed_seen (deeds.Close closer) = deeds.Close (closer_seen closer)
+deed_seen (deeds.LineScope opener) = deeds.LineScope opener
+deed_seen (deeds.Leaf leaf) = deeds.Leaf (leaf_seen leaf)
+deed_seen (deeds.Raw text) = deeds.Raw text.now
+deed_seen (deeds.End fills) = deeds.End fills
+deed_seen (deeds.Note kind detail begins_body) = deeds.Note kind detail.now begins_body
+
+-- an event of the program, with what its texts hold
+abbrev pub event_seen : Event (Bor (List ℕ)) → Event (List ℕ)
+event_seen event = record { place = event.place; deed = deed_seen event.deed }

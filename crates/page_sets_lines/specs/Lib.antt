@@ -1,0 +1,2 @@
+pub mod MacroNames
+pub mod Events

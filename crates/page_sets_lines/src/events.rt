@@ -1,0 +1,102 @@
+//! Events: what a macro set makes of a line, for the scopes of a page (man(7)). The macros of mdoc(7) join these with their set.
+
+ghost use Rattle.std.specs.Prelude.{◌≡◌};
+
+use crate::leaves::Leaf;
+use crate::openers::{Closer, LineOpener, Opener};
+use page_core_base::{Font, NoteKind, Place};
+use page_roff_forms::Argument;
+use std::alloc::AllocError;
+
+/// How a word stands beside another.
+#[derive(Clone, Copy, PartialEq, Eq)]
+pub enum Join {
+    /// A blank parts them.
+    Apart,
+    /// Nothing does.
+    Glued,
+}
+
+/// What a word is in its line.
+#[derive(Clone, Copy, PartialEq, Eq)]
+pub enum Role {
+    /// The whole of a text line.
+    Line,
+    /// An argument of a macro.
+    Argument,
+}
+
+/// A word, in a font of its own if it has one; `W` is a text.
+pub struct Word<W> {
+    /// Its text and column.
+    pub arg: Argument<W>,
+    pub role: Role,
+    pub font: Option<Font>,
+    /// How it stands beside the word before it.
+    pub before: Join,
+    /// How it stands beside the word after it.
+    pub after: Join,
+}
+
+/// What an event does; `W` is a text.
+pub enum Deed<W> {
+    Word(Word<W>),
+    Open(Opener<W>),
+    Close(Closer<W>),
+    LineScope(LineOpener),
+    Leaf(Leaf<W>),
+    /// A line as it is.
+    Raw(W),
+    /// The line ends; it may have filled the line scopes that were open.
+    End {
+        fills: bool,
+    },
+    /// A message, with its detail; it may begin the body of the page, where its macro does.
+    Note {
+        kind: NoteKind,
+        detail: W,
+        begins_body: bool,
+    },
+}
+
+/// An event of a line, with the place that its messages name.
+pub struct Event<W> {
+    pub place: Place,
+    pub deed: Deed<W>,
+}
+
+impl<W: Copy> Copy for Word<W> {}
+
+impl<W: Copy> Clone for Word<W> {
+    ghost is_clone = { λ x y. y ≡ x };
+
+    ghost is_infallible = { λ _. Unit {0} };
+
+    fn clone(&self) -> Result<Word<W>, AllocError> {
+        Ok(*self)
+    }
+}
+
+impl<W: Copy> Copy for Deed<W> {}
+
+impl<W: Copy> Clone for Deed<W> {
+    ghost is_clone = { λ x y. y ≡ x };
+
+    ghost is_infallible = { λ _. Unit {0} };
+
+    fn clone(&self) -> Result<Deed<W>, AllocError> {
+        Ok(*self)
+    }
+}
+
+impl<W: Copy> Copy for Event<W> {}
+
+impl<W: Copy> Clone for Event<W> {
+    ghost is_clone = { λ x y. y ≡ x };
+
+    ghost is_infallible = { λ _. Unit {0} };
+
+    fn clone(&self) -> Result<Event<W>, AllocError> {
+        Ok(*self)
+    }
+}

@@ -1,0 +1,104 @@
+//! What is no scope: macros and requests that change what follows, and words that a macro prints itself (man(7), roff(7)).
+
+ghost use Rattle.std.specs.Prelude.{◌≡◌};
+ghost use Rattle.page_sets_lines.specs.MacroNames as names;
+
+use crate::events::Join;
+use crate::macro_names::Prologue;
+use page_core_base::Font;
+use std::alloc::AllocError;
+
+/// A request that changes rows; `W` is a text, a number in it still an expression.
+pub enum Request<W> {
+    /// `br`.
+    Break,
+    /// `sp`, with its rows.
+    Space(Option<W>),
+    /// `ft`, with the name of the font.
+    Font(Option<W>),
+    /// `in`, with its shift.
+    Shift(Option<W>),
+    /// `nf` (true) and `fi` (false).
+    Literal(bool),
+}
+
+/// A text that a macro prints itself.
+#[derive(Clone, Copy, PartialEq, Eq)]
+pub enum Own {
+    /// `(`
+    Round,
+    /// `)`
+    Unround,
+    /// `[`
+    Square,
+    /// `]`
+    Unsquare,
+}
+
+impl Own {
+    /// The text.
+    pub fn text(self) -> &'static str
+        ensures { result.now ≡ names.own_text self }
+    {
+        match self {
+            Own::Round => "(",
+            Own::Unround => ")",
+            Own::Square => "[",
+            Own::Unsquare => "]",
+        }
+    }
+}
+
+/// A word that a macro prints itself, in a font of its own if it has one.
+#[derive(Clone, Copy)]
+pub struct OwnWord {
+    pub own: Own,
+    pub font: Option<Font>,
+    pub before: Join,
+    pub after: Join,
+}
+
+/// What is no scope; `W` is a text.
+pub enum Leaf<W> {
+    /// A blank line.
+    BlankLine,
+    /// A text line without a word: blanks and tabs, or nothing.
+    Wordless(W),
+    Request(Request<W>),
+    /// A macro of the prologue, with the rest of its line.
+    Prologue(Prologue, W),
+    /// A word of the macro's own.
+    Own(OwnWord),
+    /// `EX` (true) and `EE` (false).
+    Example(bool),
+    /// `PD`, with the distance of paragraphs.
+    Distance(Option<W>),
+    /// `B`, `I`, `SM` and `SB` with words: their font begins, and it ends.
+    Fonts(Option<Font>),
+    /// `TQ`: a further tag, which is the line scope that follows.
+    FurtherTag,
+}
+
+impl<W: Copy> Copy for Request<W> {}
+
+impl<W: Copy> Clone for Request<W> {
+    ghost is_clone = { λ x y. y ≡ x };
+
+    ghost is_infallible = { λ _. Unit {0} };
+
+    fn clone(&self) -> Result<Request<W>, AllocError> {
+        Ok(*self)
+    }
+}
+
+impl<W: Copy> Copy for Leaf<W> {}
+
+impl<W: Copy> Clone for Leaf<W> {
+    ghost is_clone = { λ x y. y ≡ x };
+
+    ghost is_infallible = { λ _. Unit {0} };
+
+    fn clone(&self) -> Result<Leaf<W>, AllocError> {
+        Ok(*self)
+    }
+}

@@ -1,0 +1,93 @@
+//! What opens a scope, and what closes one (man(7)).
+
+ghost use Rattle.std.specs.Prelude.{◌≡◌};
+ghost use Rattle.page_sets_lines.specs.MacroNames as names;
+
+use crate::macro_names::{FontMacro, HeadingName, Link, ParagraphName, TagName};
+use page_roff_forms::Argument;
+use std::alloc::AllocError;
+
+/// What opens a scope that goes on after its line; `W` is a text, a number in it still an expression.
+pub enum Opener<W> {
+    /// `SH`; its heading is the line scope that follows.
+    Section,
+    /// `SS`; its heading is the line scope that follows.
+    Subsection,
+    /// `PP`, `LP` and `P`.
+    Paragraph(ParagraphName),
+    /// `TP`, with its hang; its tag is the line scope that follows.
+    Tagged(Option<W>),
+    /// `IP`.
+    Indented {
+        tag: Option<Argument<W>>,
+        hang: Option<W>,
+    },
+    /// `HP`, with its hang.
+    Hanging(Option<W>),
+    /// `RS`, with the columns further in.
+    RelativeMargin(Option<W>),
+    /// `UR` and `MT`, with their target.
+    Target(Link, Argument<W>),
+    /// `SY`, with the command's name.
+    Syntax(Argument<W>),
+}
+
+/// What closes a scope; `W` is a text.
+pub enum Closer<W> {
+    /// What breaks the line scopes that are open: most macros of man(7).
+    Line,
+    /// `RE`: the innermost relative margin, or all from that of a number on.
+    RelativeMargin(Option<W>),
+    /// `UE` and `ME`, with what is glued to the target.
+    Target(Link, Option<Argument<W>>),
+    /// `YS`.
+    Syntax,
+}
+
+/// What opens a scope that ends with a line: its own, or the next one that gives words.
+#[derive(Clone, Copy, PartialEq, Eq)]
+pub enum LineOpener {
+    /// The words of `SH` and `SS`.
+    Heading(HeadingName),
+    /// The tag of `TP`, and a further one of `TQ`.
+    Tag(TagName),
+    /// `B`, `I`, `SM` and `SB` without words.
+    FontWords(FontMacro),
+}
+
+impl LineOpener {
+    /// The macro's name.
+    pub fn name(self) -> &'static str
+        ensures { result.now ≡ names.line_opener_name self }
+    {
+        match self {
+            LineOpener::Heading(heading) => heading.name(),
+            LineOpener::Tag(tag) => tag.name(),
+            LineOpener::FontWords(font_macro) => font_macro.name(),
+        }
+    }
+}
+
+impl<W: Copy> Copy for Opener<W> {}
+
+impl<W: Copy> Clone for Opener<W> {
+    ghost is_clone = { λ x y. y ≡ x };
+
+    ghost is_infallible = { λ _. Unit {0} };
+
+    fn clone(&self) -> Result<Opener<W>, AllocError> {
+        Ok(*self)
+    }
+}
+
+impl<W: Copy> Copy for Closer<W> {}
+
+impl<W: Copy> Clone for Closer<W> {
+    ghost is_clone = { λ x y. y ≡ x };
+
+    ghost is_infallible = { λ _. Unit {0} };
+
+    fn clone(&self) -> Result<Closer<W>, AllocError> {
+        Ok(*self)
+    }
+}
