@@ -1,22 +1,22 @@
 -- What the tree gives is what the stack gives, act by act.
-use Rattle.std.proofs.Common.{◌≡◌, ℕ, zero, suc, ◌+◌, ◌≤◌, ◌<◌, List, [], ◌∷◌, ◌++◌, length, map, drop, refl, sym, ◌∙◌, ap, subst, append_assoc, arith}
+use Rattle.std.proofs.Common.{◌≡◌, ℕ, zero, suc, ◌≤◌, List, [], ◌∷◌, ◌++◌, length, drop, refl, sym, ◌∙◌, ap, subst, append_assoc, arith}
 use Rattle.std.proofs.lemmas.List.{append-nil, drop-map}
-use Rattle.page_scopes_laws.specs.Nestings.{Standing, as_node, as_leaf, as_nothing, Nesting, left_by, standing_of, mode_of}
-use Rattle.page_scopes_laws.specs.Forests.{Ender, by_act, still_open, Forest, none, leaf, node, After, Rest, leaf_first, node_of, node_first, ended, placed, all_open, tree}
-use Rattle.page_scopes_laws.specs.Layouts.{Layout, Scope, scope_of, left_items, left_state, after, lay, lay_outer, lay_rest, labels, Edge, settled}
-use Rattle.page_scopes_laws.specs.Machines.{ended_items, ended_state, placed_items, placed_state, placed_scopes, count_ended, state_left, step_items, step, run_items, run}
+use Rattle.page_scopes_laws.specs.Nestings.{Standing, as_node, as_leaf, as_nothing, Nesting, standing_of, mode_of}
+use Rattle.page_scopes_laws.specs.Forests.{Forest, After, Rest, node_of, ended, placed, all_open, tree}
+use Rattle.page_scopes_laws.specs.Layouts.{Layout, Scope, scope_of, lay_outer, lay_rest, labels, Edge, settled}
+use Rattle.page_scopes_laws.specs.Machines.{ended_items, ended_state, placed_items, placed_state, placed_scopes, count_ended, state_left, step, run_items}
 
 -- the end of the list
 lay_all_open : {L A F S B I : Type 0} (lays : Layout L A F S B I) (scopes : List (Scope L B)) (s : S) →
-  lay_outer lays scopes s (all_open (labels scopes)) ≡ []
+    lay_outer lays scopes s (all_open (labels scopes)) ≡ []
 lay_all_open lays [] s = refl
 lay_all_open lays (scope ∷ scopes) s = lay_all_open lays scopes s
 
 -- an act that ends so many nodes
 lay_ended : {L A F S B I : Type 0} (lays : Layout L A F S B I) (n : ℕ) (a : A) (r : Rest L A F) (scopes : List (Scope L B)) (s : S) →
-  n ≤ length scopes →
-  lay_rest lays scopes s (ended n a r)
-  ≡ ended_items lays n a scopes s ++ lay_rest lays (drop n scopes) (ended_state lays n a scopes s) r
+    n ≤ length scopes →
+    lay_rest lays scopes s (ended n a r)
+    ≡ ended_items lays n a scopes s ++ lay_rest lays (drop n scopes) (ended_state lays n a scopes s) r
 lay_ended lays zero a r scopes s h = refl
 lay_ended lays (suc n) a r [] s h = absurd (omega arith)
 lay_ended lays (suc n) a r (scope ∷ scopes) s h =
@@ -27,18 +27,18 @@ lay_ended lays (suc n) a r (scope ∷ scopes) s h =
 
 -- a node that an act opens
 lay_node_of : {L A F S B I : Type 0} (lays : Layout L A F S B I) (l : L) (a : A) (inner : Forest L A F) (outer : List (After L A F))
-  (scopes : List (Scope L B)) (s : S) →
-  lay_rest lays scopes s (node_of l a inner outer)
-  ≡ lays.begin_items l a s
+    (scopes : List (Scope L B)) (s : S) →
+    lay_rest lays scopes s (node_of l a inner outer)
+    ≡ lays.begin_items l a s
     ++ lay_rest lays (scope_of lays l a s ∷ scopes) (lays.begin_state l a s) (record { here = inner; outer = outer })
 lay_node_of lays l a inner [] scopes s = simp (append_assoc, append-nil)
 lay_node_of lays l a inner (next ∷ outer) scopes s = simp append_assoc
 
 -- the act itself
 lay_placed : {L A F S B I : Type 0} (lays : Layout L A F S B I) (st : Standing L F) (a : A) (left : List L) (rest : List L → Rest L A F)
-  (scopes : List (Scope L B)) (s : S) → left ≡ labels scopes →
-  lay_rest lays scopes s (placed st a left rest)
-  ≡ placed_items lays st a s
+    (scopes : List (Scope L B)) (s : S) → left ≡ labels scopes →
+    lay_rest lays scopes s (placed st a left rest)
+    ≡ placed_items lays st a s
     ++ lay_rest lays (placed_scopes lays st a scopes s) (placed_state lays st a s) (rest (labels (placed_scopes lays st a scopes s)))
 lay_placed lays (as_node l) a left rest scopes s h =
     lay_node_of lays l a (rest (l ∷ left)).here (rest (l ∷ left)).outer scopes s
@@ -60,7 +60,7 @@ left_labels n scopes = drop-map (λ scope. scope.label) n scopes
 
 -- what the tree of the acts gives is what the stack gives act by act
 lay_tree : {M L A F S B I : Type 0} (nests : Nesting M L A F) (lays : Layout L A F S B I) (d : Edge M L S B) (acts : List A) →
-  lay_rest lays d.scopes d.state (tree nests d.mode (labels d.scopes) acts) ≡ run_items nests lays d acts
+    lay_rest lays d.scopes d.state (tree nests d.mode (labels d.scopes) acts) ≡ run_items nests lays d acts
 lay_tree nests lays d [] = lay_all_open lays d.scopes d.state
 lay_tree nests lays d (a ∷ acts) =
     let n = count_ended nests d a in
@@ -74,11 +74,11 @@ lay_tree nests lays d (a ∷ acts) =
     let more = run_items nests lays (step nests lays d a) acts in
     lay_ended lays n a (placed st a left rest) d.scopes d.state (ends_fit nests d a)
     ∙ ap (λ t. first ++ t)
-      (lay_placed lays st a left rest scopes s (left_labels n d.scopes)
-       ∙ ap (λ t. then ++ t) (lay_tree nests lays (step nests lays d a) acts))
+    (lay_placed lays st a left rest scopes s (left_labels n d.scopes)
+    ∙ ap (λ t. then ++ t) (lay_tree nests lays (step nests lays d a) acts))
     ∙ sym (append_assoc first then more)
 
 pub settled-run : {M L A F S B I : Type 0} (nests : Nesting M L A F) (lays : Layout L A F S B I) (d : Edge M L S B) (acts : List A) →
-  settled nests lays d acts ≡ run_items nests lays d acts
+    settled nests lays d acts ≡ run_items nests lays d acts
 unfolding settled
 settled-run nests lays d acts = lay_tree nests lays d acts

@@ -39,9 +39,9 @@ node_first l a r = node_of l a r.here r.outer
 abbrev pub ended : {L A F : Type 0} → ℕ → A → Rest L A F → Rest L A F
 ended zero a r = r
 ended (suc n) a r = record {
-    here = none;
-    outer = record { ender = by_act a; siblings = (ended n a r).here } ∷ (ended n a r).outer
-  }
+  here = none;
+  outer = record { ender = by_act a; siblings = (ended n a r).here } ∷ (ended n a r).outer;
+}
 
 -- the act itself, in front of the rest inside the nodes that it leaves
 abbrev pub placed : {L A F : Type 0} → Standing L F → A → List L → (List L → Rest L A F) → Rest L A F

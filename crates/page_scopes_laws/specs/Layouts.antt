@@ -1,5 +1,5 @@
 -- Laying out a block tree: what it gives, sibling after sibling, and what decides the rest. Source: man(7), mdoc(7).
-use Rattle.std.specs.Prelude.{List, [], ◌∷◌, ◌++◌, map, drop}
+use Rattle.std.specs.Prelude.{List, [], ◌∷◌, ◌++◌, map}
 use Rattle.page_scopes_laws.specs.Nestings.{Nesting, left_by, standing_of, mode_of, inside}
 use Rattle.page_scopes_laws.specs.Forests.{Ender, by_act, still_open, Forest, none, leaf, node, After, Rest, tree}
 
@@ -78,7 +78,7 @@ open_outer lays found [] s (next ∷ outer) = found
 open_outer lays found (scope ∷ scopes) s (next ∷ outer) =
     if_open next.ender (found ++ scope ∷ scopes)
     (open_outer lays (open_in lays next.siblings (left_state lays scope next.ender s)) scopes
-      (after lays next.siblings (left_state lays scope next.ender s)) outer)
+    (after lays next.siblings (left_state lays scope next.ender s)) outer)
 
 abbrev pub open_rest : {L A F S B I : Type 0} → Layout L A F S B I → List (Scope L B) → S → Rest L A F → List (Scope L B)
 open_rest lays scopes s r = open_outer lays (open_in lays r.here s) scopes (after lays r.here s) r.outer
@@ -115,7 +115,7 @@ settled nests lays d acts = lay_rest lays d.scopes d.state (tree nests d.mode (l
 -- what decides the rest after them
 unfoldable pub edge : {M L A F S B I : Type 0} → Nesting M L A F → Layout L A F S B I → Edge M L S B → List A → Edge M L S B
 edge nests lays d acts = record {
-    mode = mode_after nests d.mode (labels d.scopes) acts;
-    scopes = open_rest lays d.scopes d.state (tree nests d.mode (labels d.scopes) acts);
-    state = after_rest lays d.scopes d.state (tree nests d.mode (labels d.scopes) acts)
-  }
+  mode = mode_after nests d.mode (labels d.scopes) acts;
+  scopes = open_rest lays d.scopes d.state (tree nests d.mode (labels d.scopes) acts);
+  state = after_rest lays d.scopes d.state (tree nests d.mode (labels d.scopes) acts);
+}

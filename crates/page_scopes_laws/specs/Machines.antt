@@ -1,8 +1,7 @@
 -- The code's own steps: the same by a stack of open nodes, the innermost first, and no tree. Source: man(7), mdoc(7).
 use Rattle.std.specs.Prelude.{ℕ, zero, suc, List, [], ◌∷◌, ◌++◌, drop}
 use Rattle.page_scopes_laws.specs.Nestings.{Standing, as_node, as_leaf, as_nothing, Nesting, standing_of, mode_of}
-use Rattle.page_scopes_laws.specs.Forests.{Ender, by_act}
-use Rattle.page_scopes_laws.specs.Layouts.{Layout, Scope, scope_of, left_items, left_state, labels, Edge}
+use Rattle.page_scopes_laws.specs.Layouts.{Layout, Scope, scope_of, labels, Edge}
 
 -- an act ends so many of the innermost nodes
 abbrev pub ended_items : {L A F S B I : Type 0} → Layout L A F S B I → ℕ → A → List (Scope L B) → S → List I
@@ -46,10 +45,10 @@ step_items nests lays d a =
 
 abbrev pub step : {M L A F S B I : Type 0} → Nesting M L A F → Layout L A F S B I → Edge M L S B → A → Edge M L S B
 step nests lays d a = record {
-    mode = mode_of nests d.mode a (labels d.scopes);
-    scopes = placed_scopes lays (standing_of nests d.mode a (labels d.scopes)) a (drop (count_ended nests d a) d.scopes) (state_left nests lays d a);
-    state = placed_state lays (standing_of nests d.mode a (labels d.scopes)) a (state_left nests lays d a)
-  }
+  mode = mode_of nests d.mode a (labels d.scopes);
+  scopes = placed_scopes lays (standing_of nests d.mode a (labels d.scopes)) a (drop (count_ended nests d a) d.scopes) (state_left nests lays d a);
+  state = placed_state lays (standing_of nests d.mode a (labels d.scopes)) a (state_left nests lays d a);
+}
 
 abbrev pub run_items : {M L A F S B I : Type 0} → Nesting M L A F → Layout L A F S B I → Edge M L S B → List A → List I
 run_items nests lays d [] = []

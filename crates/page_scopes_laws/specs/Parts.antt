@@ -1,6 +1,6 @@
 -- The block tree node by node: what an inner forest leaves of the list goes to the enclosing one. Source: man(7), mdoc(7).
 use Rattle.std.specs.Prelude.{ℕ, zero, suc, List, [], ◌∷◌}
-use Rattle.page_scopes_laws.specs.Nestings.{Standing, as_node, as_leaf, as_nothing, Nesting, mode_of, inside}
+use Rattle.page_scopes_laws.specs.Nestings.{Standing, as_node, as_leaf, as_nothing, Nesting}
 use Rattle.page_scopes_laws.specs.Forests.{Ender, by_act, still_open, Forest, none, leaf, node}
 
 -- What is left of a list: nothing; the list, under a mode; or an act that still ends so many nodes (of so many in all), and those after it, under the
