@@ -3,7 +3,8 @@ use Rattle.std.proofs.Common.{◌≡◌, ℕ, zero, suc, ◌≤◌, List, [], �
 use Rattle.std.proofs.lemmas.List.{append-nil}
 use Rattle.page_scopes_laws.specs.Nestings.{Standing, as_node, as_leaf, as_nothing, Nesting, left_by, standing_of, mode_of, inside}
 use Rattle.page_scopes_laws.specs.Forests.{Ender, by_act, still_open, Forest, none, node, After, Rest, leaf_first, node_of, ended, placed, all_open, tree}
-use Rattle.page_scopes_laws.specs.Layouts.{Layout, Scope, scope_of, after, labels, Edge, open_in, open_outer, open_rest, after_outer, after_rest, mode_after, edge}
+use Rattle.page_scopes_laws.specs.declared.Scope.{Scope}
+use Rattle.page_scopes_laws.specs.Layouts.{Layout, scope_of, after, labels, Edge, open_in, open_outer, open_rest, after_outer, after_rest, mode_after, edge}
 use Rattle.page_scopes_laws.specs.Machines.{ended_state, placed_state, placed_scopes, count_ended, state_left, step, run}
 use Rattle.page_scopes_laws.proofs.RunLemmas.{ends_fit, left_labels}
 

@@ -3,7 +3,8 @@ use Rattle.std.proofs.Common.{◌≡◌, ℕ, zero, suc, ◌≤◌, List, [], �
 use Rattle.std.proofs.lemmas.List.{append-nil, drop-map}
 use Rattle.page_scopes_laws.specs.Nestings.{Standing, as_node, as_leaf, as_nothing, Nesting, standing_of, mode_of}
 use Rattle.page_scopes_laws.specs.Forests.{Forest, After, Rest, node_of, ended, placed, all_open, tree}
-use Rattle.page_scopes_laws.specs.Layouts.{Layout, Scope, scope_of, lay_outer, lay_rest, labels, Edge, settled}
+use Rattle.page_scopes_laws.specs.declared.Scope.{Scope}
+use Rattle.page_scopes_laws.specs.Layouts.{Layout, scope_of, lay_outer, lay_rest, labels, Edge, settled}
 use Rattle.page_scopes_laws.specs.Machines.{ended_items, ended_state, placed_items, placed_state, placed_scopes, count_ended, state_left, step, run_items}
 
 -- the end of the list

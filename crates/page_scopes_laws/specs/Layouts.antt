@@ -1,6 +1,7 @@
 -- Laying out a block tree: what it gives, sibling after sibling, and what decides the rest. Source: man(7), mdoc(7).
 use Rattle.std.specs.Prelude.{List, [], ◌∷◌, ◌++◌, map}
 use Rattle.page_scopes_laws.specs.Nestings.{Nesting, left_by, standing_of, mode_of, inside}
+use Rattle.page_scopes_laws.specs.declared.Scope.{Scope}
 use Rattle.page_scopes_laws.specs.Forests.{Ender, by_act, still_open, Forest, none, leaf, node, After, Rest, tree}
 
 -- What a language's tables say of a state: what a node keeps of the state before it; what its beginning, a leaf, and its end by an act give; and the
@@ -14,11 +15,7 @@ pub record Layout (L A F S B I : Type 0) : Type 0 where
   pub end_items : L → B → A → S → List I
   pub end_state : L → B → A → S → S
 
--- an open node, with what it keeps of the state before it
-pub record Scope (L B : Type 0) : Type 0 where
-  pub label : L
-  pub before : B
-
+-- the open node that an opener makes
 abbrev pub scope_of : {L A F S B I : Type 0} → Layout L A F S B I → L → A → S → Scope L B
 scope_of lays l a s = record { label = l; before = lays.keep l a s }
 

@@ -1,7 +1,8 @@
 -- The code's own steps: the same by a stack of open nodes, the innermost first, and no tree. Source: man(7), mdoc(7).
 use Rattle.std.specs.Prelude.{ℕ, zero, suc, List, [], ◌∷◌, ◌++◌, drop}
 use Rattle.page_scopes_laws.specs.Nestings.{Standing, as_node, as_leaf, as_nothing, Nesting, standing_of, mode_of}
-use Rattle.page_scopes_laws.specs.Layouts.{Layout, Scope, scope_of, labels, Edge}
+use Rattle.page_scopes_laws.specs.declared.Scope.{Scope}
+use Rattle.page_scopes_laws.specs.Layouts.{Layout, scope_of, labels, Edge}
 
 -- an act ends so many of the innermost nodes
 abbrev pub ended_items : {L A F S B I : Type 0} → Layout L A F S B I → ℕ → A → List (Scope L B) → S → List I

@@ -8,6 +8,13 @@ ghost use Rattle.page_scopes_laws.specs.Machines.{run, run_items};
 ghost use Rattle.page_scopes_laws.specs.Nestings.{Nesting};
 ghost use Rattle.page_scopes_laws.specs.Parts.{on, part};
 
+/// An open node, with what it keeps of the state before it.
+#[derive(Drop)]
+pub struct Scope<L, B> {
+    pub label: L,
+    pub before: B,
+}
+
 /// A page cut anywhere between two acts: what all acts give is what those before the cut give, and then what those after it give from the edge at the
 /// cut; and the edge at the end is the same.
 pub fn cut_law<M, L, A, F, S, B, I>()

@@ -1,0 +1,6 @@
+pub mod Labels
+pub mod Acts
+pub mod Ends
+pub mod Standings
+pub mod Broken
+pub mod Nests

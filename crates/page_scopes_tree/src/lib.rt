@@ -1,0 +1,17 @@
+//! The scopes of a page: what opens them, what ends them, and a stack of them that gives what the block tree gives (man(7)).
+#![tactic(auto)]
+
+mod acts;
+mod broken;
+mod ends;
+mod labels;
+mod numbers;
+mod standings;
+
+pub use acts::Act;
+pub use ends::count_ended;
+pub use labels::{Explicit, Label};
+pub use standings::{Outcome, Refusal, is_passed_over, outcome_of, skips_after};
+
+/// The scopes that may be open at once.
+pub const SCOPES: usize = 64;
