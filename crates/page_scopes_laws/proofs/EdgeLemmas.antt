@@ -1,7 +1,7 @@
 -- What decides the rest after the tree is what the stack has.
 use Rattle.std.proofs.Common.{◌≡◌, ℕ, zero, suc, ◌≤◌, List, [], ◌∷◌, ◌++◌, length, drop, refl, sym, ◌∙◌, ap, append_assoc, arith}
 use Rattle.std.proofs.lemmas.List.{append-nil}
-use Rattle.page_scopes_laws.specs.Nestings.{Standing, as_node, as_leaf, as_nothing, Nesting, left_by, standing_of, mode_of, inside}
+use Rattle.page_scopes_laws.specs.Nestings.{Standing, as_node, as_leaf, as_nothing, Nesting, left_by, standing_of, mode_of, inside, IsSound}
 use Rattle.page_scopes_laws.specs.Forests.{Ender, by_act, still_open, Forest, none, node, After, Rest, leaf_first, node_of, ended, placed, all_open, tree}
 use Rattle.page_scopes_laws.specs.declared.Scope.{Scope}
 use Rattle.page_scopes_laws.specs.Layouts.{Layout, scope_of, after, labels, Edge, open_in, open_outer, open_rest, after_outer, after_rest, mode_after, edge}
@@ -135,10 +135,10 @@ placed_labels lays (as_node l) a left scopes s h = ap (λ t. l ∷ t) h
 placed_labels lays (as_leaf f) a left scopes s h = h
 placed_labels lays as_nothing a left scopes s h = h
 
-held_tree : {M L A F S B I : Type 0} (nests : Nesting M L A F) (lays : Layout L A F S B I) (d : Edge M L S B) (acts : List A) →
+held_tree : {M L A F S B I : Type 0} (nests : Nesting M L A F) {most : ℕ} (sound : IsSound nests most) (lays : Layout L A F S B I) (d : Edge M L S B) (acts : List A) →
     held_of lays d.scopes d.state (tree nests d.mode (labels d.scopes) acts) ≡ held (run nests lays d acts).scopes (run nests lays d acts).state
-held_tree nests lays d [] = held_all_open lays d.scopes d.state
-held_tree nests lays d (a ∷ acts) =
+held_tree nests sound lays d [] = held_all_open lays d.scopes d.state
+held_tree nests sound lays d (a ∷ acts) =
     let n = count_ended nests d a in
     let left = drop n (labels d.scopes) in
     let st = standing_of nests d.mode a (labels d.scopes) in
@@ -146,9 +146,9 @@ held_tree nests lays d (a ∷ acts) =
     let s = state_left nests lays d a in
     let m = mode_of nests d.mode a (labels d.scopes) in
     let rest : List _ → Rest _ _ _ = λ open_nodes. tree nests m open_nodes acts in
-    held_ended lays n a (placed st a left rest) d.scopes d.state (ends_fit nests d a)
+    held_ended lays n a (placed st a left rest) d.scopes d.state (ends_fit nests sound d a)
     ∙ held_placed lays st a left rest scopes s (λ open_nodes. IsTidy-tree nests acts m open_nodes) (left_labels n d.scopes)
-    ∙ held_tree nests lays (step nests lays d a) acts
+    ∙ held_tree nests sound lays (step nests lays d a) acts
 
 mode_run : {M L A F S B I : Type 0} (nests : Nesting M L A F) (lays : Layout L A F S B I) (d : Edge M L S B) (acts : List A) →
     mode_after nests d.mode (labels d.scopes) acts ≡ (run nests lays d acts).mode
@@ -161,11 +161,11 @@ mode_run nests lays d (a ∷ acts) =
     (left_labels (count_ended nests d a) d.scopes))
     ∙ mode_run nests lays (step nests lays d a) acts
 
-pub edge-run : {M L A F S B I : Type 0} (nests : Nesting M L A F) (lays : Layout L A F S B I) (d : Edge M L S B) (acts : List A) →
+pub edge-run : {M L A F S B I : Type 0} (nests : Nesting M L A F) {most : ℕ} (sound : IsSound nests most) (lays : Layout L A F S B I) (d : Edge M L S B) (acts : List A) →
     edge nests lays d acts ≡ run nests lays d acts
 unfolding held_of held edge
-edge-run nests lays d acts =
-    let h = held_tree nests lays d acts in
+edge-run nests sound lays d acts =
+    let h = held_tree nests sound lays d acts in
     let of_mode : _ → Edge _ _ _ _ = λ m. record {
       mode = m;
       scopes = open_rest lays d.scopes d.state (tree nests d.mode (labels d.scopes) acts);

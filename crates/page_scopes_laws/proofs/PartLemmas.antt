@@ -1,6 +1,6 @@
 -- The tree is what is found node by node.
 use Rattle.std.proofs.Common.{◌≡◌, ℕ, zero, suc, ◌+◌, ◌*◌, ◌≤◌, List, [], ◌∷◌, length, drop, refl, ◌∙◌, ap, arith}
-use Rattle.page_scopes_laws.specs.Nestings.{Standing, as_node, as_leaf, as_nothing, Nesting}
+use Rattle.page_scopes_laws.specs.Nestings.{Standing, as_node, as_leaf, as_nothing, Nesting, IsSound}
 use Rattle.page_scopes_laws.specs.Forests.{Ender, still_open, Forest, none, node, Rest, leaf_first, node_first, ended, placed, all_open, tree}
 use Rattle.page_scopes_laws.specs.Parts.{Left, over, on, ending, Part, with_leaf, with_node, stand, part}
 
@@ -80,28 +80,28 @@ good-stand nests k more m a nodes n acts h (as_node l) s =
 good-stand nests k more m a nodes n acts h (as_leaf f) s = good-leaf nests m a f nodes n acts _ s (more nodes (on (nests.mode m a n nodes) acts) h tt)
 good-stand nests k more m a nodes n acts h as_nothing s = good-nothing nests m a nodes n acts _ s (more nodes (on (nests.mode m a n nodes) acts) h tt)
 
-good : {M L A F : Type 0} (nests : Nesting M L A F) (k : ℕ) (nodes : List L) (r : Left M A) → size r ≤ k → Fits nodes r →
+good : {M L A F : Type 0} (nests : Nesting M L A F) {most : ℕ} (sound : IsSound nests most) (k : ℕ) (nodes : List L) (r : Left M A) → size r ≤ k → Fits nodes r →
     Good nests nodes r (part nests k nodes r)
-good nests zero nodes over h f = good-over nests nodes over refl
-good nests zero nodes (on m acts) h f = absurd (omega arith)
-good nests zero nodes (ending left n m a acts) h f = absurd (omega arith)
-good nests (suc k) nodes over h f = good-over nests nodes over refl
-good nests (suc k) nodes (on m []) h f = good-over nests nodes (on m []) refl
-good nests (suc k) nodes (on m (a ∷ acts)) h f =
+good nests sound zero nodes over h f = good-over nests nodes over refl
+good nests sound zero nodes (on m acts) h f = absurd (omega arith)
+good nests sound zero nodes (ending left n m a acts) h f = absurd (omega arith)
+good nests sound (suc k) nodes over h f = good-over nests nodes over refl
+good nests sound (suc k) nodes (on m []) h f = good-over nests nodes (on m []) refl
+good nests sound (suc k) nodes (on m (a ∷ acts)) h f =
     let n = nests.ends m a nodes in
-    let g = good nests k nodes (ending n n m a acts) (omega arith) (nests.fits m a nodes) in
+    let g = good nests sound k nodes (ending n n m a acts) (omega arith) (sound.fits m a nodes) in
     let less = g.less in
     record { same = g.same; less = omega arith; fits = g.fits }
-good nests (suc k) [] (ending (suc left) n m a acts) h f = absurd (omega arith)
-good nests (suc k) (l ∷ nodes) (ending (suc left) n m a acts) h f = record { same = refl; less = omega arith; fits = omega arith }
-good nests (suc k) nodes (ending zero n m a acts) h f = good-stand nests k (good nests k) m a nodes n acts (omega arith) (nests.standing m a n nodes) refl
+good nests sound (suc k) [] (ending (suc left) n m a acts) h f = absurd (omega arith)
+good nests sound (suc k) (l ∷ nodes) (ending (suc left) n m a acts) h f = record { same = refl; less = omega arith; fits = omega arith }
+good nests sound (suc k) nodes (ending zero n m a acts) h f = good-stand nests k (good nests sound k) m a nodes n acts (omega arith) (nests.standing m a n nodes) refl
 
 front : {M L A F : Type 0} (nests : Nesting M L A F) (nodes : List L) (p : Part M L A F) (r : Rest L A F) → r ≡ joined nests nodes p → r.here ≡ p.forest
 front nests [] p r h = ap (λ t. t.here) h
 front nests (l ∷ nodes) p r h = ap (λ t. t.here) h
 
 -- what goes into the innermost node is its part, and what follows in the node around it is the tree of what that leaves
-pub tree-part : {M L A F : Type 0} (nests : Nesting M L A F) (m : M) (nodes : List L) (acts : List A) →
+pub tree-part : {M L A F : Type 0} (nests : Nesting M L A F) {most : ℕ} (sound : IsSound nests most) (m : M) (nodes : List L) (acts : List A) →
     (tree nests m nodes acts).here ≡ (part nests (2 * length acts + 1) nodes (on m acts)).forest
-tree-part nests m nodes acts =
-    front nests nodes _ (tree nests m nodes acts) (good nests (2 * length acts + 1) nodes (on m acts) (omega arith) tt).same
+tree-part nests sound m nodes acts =
+    front nests nodes _ (tree nests m nodes acts) (good nests sound (2 * length acts + 1) nodes (on m acts) (omega arith) tt).same

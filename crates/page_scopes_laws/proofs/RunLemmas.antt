@@ -1,7 +1,7 @@
 -- What the tree gives is what the stack gives, act by act.
 use Rattle.std.proofs.Common.{◌≡◌, ℕ, zero, suc, ◌≤◌, List, [], ◌∷◌, ◌++◌, length, drop, refl, sym, ◌∙◌, ap, subst, append_assoc, arith}
 use Rattle.std.proofs.lemmas.List.{append-nil, drop-map}
-use Rattle.page_scopes_laws.specs.Nestings.{Standing, as_node, as_leaf, as_nothing, Nesting, standing_of, mode_of}
+use Rattle.page_scopes_laws.specs.Nestings.{Standing, as_node, as_leaf, as_nothing, Nesting, standing_of, mode_of, IsSound}
 use Rattle.page_scopes_laws.specs.Forests.{Forest, After, Rest, node_of, ended, placed, all_open, tree}
 use Rattle.page_scopes_laws.specs.declared.Scope.{Scope}
 use Rattle.page_scopes_laws.specs.Layouts.{Layout, scope_of, lay_outer, lay_rest, labels, Edge, settled}
@@ -53,17 +53,17 @@ length-labels [] = refl
 length-labels (scope ∷ scopes) = ap suc (length-labels scopes)
 
 -- an act ends no more than there is
-pub ends_fit : {M L A F S B : Type 0} (nests : Nesting M L A F) (d : Edge M L S B) (a : A) → count_ended nests d a ≤ length d.scopes
-ends_fit nests d a = subst (λ m. count_ended nests d a ≤ m) (length-labels d.scopes) (nests.fits d.mode a (labels d.scopes))
+pub ends_fit : {M L A F S B : Type 0} (nests : Nesting M L A F) {most : ℕ} (sound : IsSound nests most) (d : Edge M L S B) (a : A) → count_ended nests d a ≤ length d.scopes
+ends_fit nests sound d a = subst (λ m. count_ended nests d a ≤ m) (length-labels d.scopes) (sound.fits d.mode a (labels d.scopes))
 
 pub left_labels : {L B : Type 0} (n : ℕ) (scopes : List (Scope L B)) → drop n (labels scopes) ≡ labels (drop n scopes)
 left_labels n scopes = drop-map (λ scope. scope.label) n scopes
 
 -- what the tree of the acts gives is what the stack gives act by act
-lay_tree : {M L A F S B I : Type 0} (nests : Nesting M L A F) (lays : Layout L A F S B I) (d : Edge M L S B) (acts : List A) →
+lay_tree : {M L A F S B I : Type 0} (nests : Nesting M L A F) {most : ℕ} (sound : IsSound nests most) (lays : Layout L A F S B I) (d : Edge M L S B) (acts : List A) →
     lay_rest lays d.scopes d.state (tree nests d.mode (labels d.scopes) acts) ≡ run_items nests lays d acts
-lay_tree nests lays d [] = lay_all_open lays d.scopes d.state
-lay_tree nests lays d (a ∷ acts) =
+lay_tree nests sound lays d [] = lay_all_open lays d.scopes d.state
+lay_tree nests sound lays d (a ∷ acts) =
     let n = count_ended nests d a in
     let left = drop n (labels d.scopes) in
     let st = standing_of nests d.mode a (labels d.scopes) in
@@ -73,13 +73,13 @@ lay_tree nests lays d (a ∷ acts) =
     let first = ended_items lays n a d.scopes d.state in
     let then = placed_items lays st a s in
     let more = run_items nests lays (step nests lays d a) acts in
-    lay_ended lays n a (placed st a left rest) d.scopes d.state (ends_fit nests d a)
+    lay_ended lays n a (placed st a left rest) d.scopes d.state (ends_fit nests sound d a)
     ∙ ap (λ t. first ++ t)
     (lay_placed lays st a left rest scopes s (left_labels n d.scopes)
-    ∙ ap (λ t. then ++ t) (lay_tree nests lays (step nests lays d a) acts))
+    ∙ ap (λ t. then ++ t) (lay_tree nests sound lays (step nests lays d a) acts))
     ∙ sym (append_assoc first then more)
 
-pub settled-run : {M L A F S B I : Type 0} (nests : Nesting M L A F) (lays : Layout L A F S B I) (d : Edge M L S B) (acts : List A) →
+pub settled-run : {M L A F S B I : Type 0} (nests : Nesting M L A F) {most : ℕ} (sound : IsSound nests most) (lays : Layout L A F S B I) (d : Edge M L S B) (acts : List A) →
     settled nests lays d acts ≡ run_items nests lays d acts
 unfolding settled
-settled-run nests lays d acts = lay_tree nests lays d acts
+settled-run nests sound lays d acts = lay_tree nests sound lays d acts

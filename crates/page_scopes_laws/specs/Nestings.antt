@@ -8,14 +8,16 @@ pub data Standing (L F : Type 0) : Type 0 where
   as_nothing : Standing L F
 
 -- Of acts inside open nodes, whose labels stand the innermost first, under a mode: how many of the innermost nodes an act ends; what becomes of it
--- where it ended so many and these are left; and the mode after it. An act ends no more nodes than are open, and opens none where that many are.
+-- where it ended so many and these are left; and the mode after it.
 pub record Nesting (M L A F : Type 0) : Type 0 where
-  pub most : ℕ
   pub ends : M → A → List L → ℕ
   pub standing : M → A → ℕ → List L → Standing L F
   pub mode : M → A → ℕ → List L → M
-  pub fits : (m : M) (a : A) (nodes : List L) → ends m a nodes ≤ length nodes
-  pub room : (m : M) (a : A) (n : ℕ) (left : List L) (l : L) → standing m a n left ≡ as_node l → length left < most
+
+-- an act ends no more nodes than are open, and opens none where that many are
+pub record IsSound {M L A F : Type 0} (nests : Nesting M L A F) (most : ℕ) : Type 0 where
+  pub fits : (m : M) (a : A) (nodes : List L) → nests.ends m a nodes ≤ length nodes
+  pub room : (m : M) (a : A) (n : ℕ) (left : List L) (l : L) → nests.standing m a n left ≡ as_node l → length left < most
 
 -- the nodes that an act leaves open
 abbrev pub left_by : {M L A F : Type 0} → Nesting M L A F → M → A → List L → List L

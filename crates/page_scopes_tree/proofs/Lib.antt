@@ -1,0 +1,3 @@
+pub mod MarginLemmas
+pub mod FitLemmas
+pub mod StackLemmas

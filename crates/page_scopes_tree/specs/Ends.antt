@@ -1,5 +1,5 @@
 -- How many of the open scopes, the innermost first, an event ends. Source: man(7), "MACRO OVERVIEW".
-use Rattle.std.specs.Prelude.{ℕ, zero, suc, ◌+◌, ◌-◌, ◌==◌, Bool, true, false, not, List, [], ◌∷◌, length, reverse, Option, None, Some, if◌then◌else◌, position, ℤ, pos, negsuc}
+use Rattle.std.specs.Prelude.{ℕ, zero, suc, ◌+◌, ◌-◌, ◌==◌, Bool, true, false, not, List, [], ◌∷◌, length, reverse, Option, None, Some, if◌then◌else◌, position, ℤ, pos, int_lt, nat_abs}
 use Rattle.std.specs.Option.{option_map}
 use Rattle.std.specs.List.{take_while}
 use Rattle.page_core_numbers.specs.Expressions.{expression_of}
@@ -48,9 +48,8 @@ but_outside (Some outside) count = count - outside
 
 -- up to the relative margin of a number from the outside
 abbrev pub up_to_margin : ℤ → List Label → ℕ
-up_to_margin (pos zero) nodes = 0
-up_to_margin (pos (suc k)) nodes = but_outside (place_of_margin (suc k) (reverse nodes)) (length nodes)
-up_to_margin (negsuc k) nodes = 0
+up_to_margin number nodes =
+    if int_lt number (pos 1) then 0 else but_outside (place_of_margin (nat_abs number) (reverse nodes)) (length nodes)
 
 abbrev pub margin_ends : Option (List ℕ) → List Label → ℕ
 margin_ends None nodes = up_to (position is_margin nodes)

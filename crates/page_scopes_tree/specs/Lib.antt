@@ -4,3 +4,5 @@ pub mod Ends
 pub mod Standings
 pub mod Broken
 pub mod Nests
+pub mod Frames
+pub mod Edges

@@ -34,3 +34,11 @@ step_standing skips (does act) n left = if is_passed_over skips act then as_noth
 abbrev pub step_skips : Bool → Step → ℕ → List Label → Bool
 step_skips skips (comes event) n left = skips
 step_skips skips (does act) n left = act_skips skips act left
+
+-- the tables of events as a nesting of scopes
+abbrev pub scopes_nesting : Nesting Bool Label Step Fact
+scopes_nesting = record {
+    ends = step_ends;
+    standing = step_standing;
+    mode = step_skips
+  }

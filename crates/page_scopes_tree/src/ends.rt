@@ -166,10 +166,10 @@ fn closer_ends<B>(closer: &Closer<&[u8]>, scopes: &[Scope<Label, B>]) -> usize
     requires { length scopes.now ≤ SCOPES }
     ensures { result ≡ ends.closer_ends (closer_seen closer.now) (labels (reverse scopes.now)) }
 {
-    match *closer {
+    match closer {
         Closer::Line => line_scopes(scopes),
-        Closer::RelativeMargin(number) => margin_ends(number, scopes),
-        Closer::Target(link, _) => up_to(find_target(link, scopes)),
+        Closer::RelativeMargin(number) => margin_ends(*number, scopes),
+        Closer::Target(link, _) => up_to(find_target(*link, scopes)),
         Closer::Syntax => up_to(find_syntax(scopes)),
     }
 }

@@ -5,12 +5,14 @@ mod acts;
 mod broken;
 mod ends;
 mod labels;
+mod layings;
 mod numbers;
 mod standings;
 
 pub use acts::Act;
 pub use ends::count_ended;
 pub use labels::{Explicit, Label};
+pub use layings::Laying;
 pub use standings::{Outcome, Refusal, is_passed_over, outcome_of, skips_after};
 
 /// The scopes that may be open at once.

@@ -3,6 +3,6 @@ use Rattle.page_scopes_laws.proofs.cut_law.Goals as goal
 
 pub returns : goal.returns
 returns g c = record {
-  given = λ nests lays d acts more. settled-append nests lays d acts more;
-  edge = λ nests lays d acts more. edge-append nests lays d acts more;
+  given = λ nests most sound lays d acts more. settled-append nests sound lays d acts more;
+  edge = λ nests most sound lays d acts more. edge-append nests sound lays d acts more;
 }

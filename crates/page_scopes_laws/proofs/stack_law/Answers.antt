@@ -5,7 +5,7 @@ use Rattle.page_scopes_laws.proofs.stack_law.Goals as goal
 
 pub returns : goal.returns
 returns g c = record {
-  given = λ nests lays d acts. settled-run nests lays d acts;
-  edge = λ nests lays d acts. edge-run nests lays d acts;
-  depth = λ nests lays d acts h. edge-fits nests lays d acts h;
+  given = λ nests most sound lays d acts. settled-run nests sound lays d acts;
+  edge = λ nests most sound lays d acts. edge-run nests sound lays d acts;
+  depth = λ nests most sound lays d acts h. edge-fits nests sound lays d acts h;
 }
