@@ -6,3 +6,4 @@ pub mod Broken
 pub mod Nests
 pub mod Frames
 pub mod Edges
+pub mod Stacks

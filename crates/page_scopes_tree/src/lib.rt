@@ -7,6 +7,7 @@ mod ends;
 mod labels;
 mod layings;
 mod numbers;
+mod stacks;
 mod standings;
 
 pub use acts::Act;
