@@ -62,7 +62,7 @@ placed_fit lays most (as_node l) a scopes s h k = let less : length scopes < mos
 placed_fit lays most (as_leaf f) a scopes s h k = k
 placed_fit lays most as_nothing a scopes s h k = k
 
-step_fits : {M L A F S B I : Type 0} (nests : Nesting M L A F) {most : ℕ} (sound : IsSound nests most) (lays : Layout L A F S B I) (d : Edge M L S B) (a : A) →
+pub step_fits : {M L A F S B I : Type 0} (nests : Nesting M L A F) {most : ℕ} (sound : IsSound nests most) (lays : Layout L A F S B I) (d : Edge M L S B) (a : A) →
     length d.scopes ≤ most → length (step nests lays d a).scopes ≤ most
 step_fits nests {most = most} sound lays d a h =
     let n = count_ended nests d a in

@@ -11,7 +11,7 @@ use page_core_base::{PieceOut, Place};
 use page_sets_lines::Event;
 
 /// The state of a layout, which says what scopes and leaves give.
-pub trait Laying {
+pub trait Laying: Drop {
     /// What a scope keeps of the state before it.
     type Kept: Drop;
 

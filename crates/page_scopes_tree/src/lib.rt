@@ -7,6 +7,7 @@ mod ends;
 mod labels;
 mod layings;
 mod numbers;
+mod scope_stacks;
 mod stacks;
 mod standings;
 
@@ -14,6 +15,7 @@ pub use acts::Act;
 pub use ends::count_ended;
 pub use labels::{Explicit, Label};
 pub use layings::Laying;
+pub use scope_stacks::ScopeStack;
 pub use standings::{Outcome, Refusal, is_passed_over, outcome_of, skips_after};
 
 /// The scopes that may be open at once.
