@@ -1,3 +1,4 @@
 pub mod MarginLemmas
 pub mod FitLemmas
 pub mod StackLemmas
+pub mod EventLemmas
