@@ -1,8 +1,6 @@
 -- Events that are cut between two of them.
-use Rattle.std.proofs.Common.{◌≡◌, ℕ, ◌+◌, ◌*◌, ◌≤◌, Bool, List, [], ◌∷◌, ◌++◌, length, refl, sym, ap, ◌∙◌, append_assoc}
-use Rattle.page_core_base.specs.Pieces.{Item}
+use Rattle.std.proofs.Common.{◌≡◌, ℕ, ◌≤◌, List, [], ◌∷◌, ◌++◌, length, refl, sym, ap, ◌∙◌, append_assoc}
 use Rattle.page_scopes_laws.proofs.CutLemmas.{settled-append, edge-append, edge-fits}
-use Rattle.page_scopes_laws.proofs.PartLemmas.{tree-part}
 use Rattle.page_scopes_laws.specs.Layouts.{settled, edge}
 use Rattle.page_sets_lines.specs.declared.events.Event.{Event}
 use Rattle.page_scopes_tree.proofs.FitLemmas.{scopes-sound}

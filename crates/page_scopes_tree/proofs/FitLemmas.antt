@@ -1,12 +1,12 @@
 -- No event ends more scopes than are open, and none opens where too many are.
-use Rattle.std.proofs.Common.{◌≡◌, ◌≢◌, ℕ, zero, suc, ◌+◌, ◌-◌, ◌<◌, ◌≤◌, Bool, true, false, not, nat_lt, List, [], ◌∷◌, length, take, if◌then◌else◌, Option, None, Some, position, refl, arith, length-take}
+use Rattle.std.proofs.Common.{◌≡◌, ℕ, zero, suc, ◌<◌, ◌≤◌, Bool, true, false, not, List, length, take, if◌then◌else◌, Option, None, Some, position, refl, arith, length-take}
 use Rattle.std.specs.Prelude.{ℤ, pos, int_lt, nat_abs, reverse}
 use Rattle.std.specs.List.{take_while}
 use Rattle.std.proofs.lemmas.Bool.Decides.{nat_tests}
 use Rattle.std.proofs.lemmas.List.Quantifiers.{position-Some}
 use Rattle.page_core_numbers.specs.Expressions.{expression_of}
 use Rattle.page_core_numbers.specs.declared.scales.Scale.TheVariants.{Basic}
-use Rattle.page_scopes_laws.specs.Nestings.{Standing, as_node, as_nothing, IsSound}
+use Rattle.page_scopes_laws.specs.Nestings.{as_node, as_nothing, IsSound}
 use Rattle.page_sets_lines.specs.declared.events.Deed.{Deed}
 use Rattle.page_sets_lines.specs.declared.events.Deed.TheVariants as deeds
 use Rattle.page_sets_lines.specs.declared.leaves.Leaf.{Leaf}
@@ -17,10 +17,10 @@ use Rattle.page_sets_lines.specs.declared.openers.Opener.TheVariants as openers
 use Rattle.page_sets_lines.specs.declared.openers.Closer.{Closer}
 use Rattle.page_sets_lines.specs.declared.openers.Closer.TheVariants as closers
 use Rattle.page_scopes_tree.specs.Acts.{Step, comes, does}
-use Rattle.page_scopes_tree.specs.Ends.{up_to, line_scopes, inside_section, up_to_paragraph, place_of_margin, but_outside, up_to_margin, margin_ends, opener_ends, closer_ends, leaf_ends, deed_ends, act_ends}
+use Rattle.page_scopes_tree.specs.Ends.{up_to, line_scopes, up_to_paragraph, place_of_margin, but_outside, up_to_margin, opener_ends, closer_ends, leaf_ends, deed_ends, act_ends}
 use Rattle.page_scopes_tree.specs.Labels.{is_line, is_section, is_paragraph, is_margin, is_syntax, is_target, is_level}
-use Rattle.page_scopes_tree.specs.Nests.{Fact, standing_by, step_ends, step_standing, scopes_nesting}
-use Rattle.page_scopes_tree.specs.Standings.{has_room, opened, closed, closer_outcome, in_line_scope, is_dropped, request_outcome, leaf_outcome, deed_outcome, act_outcome, opener_label, is_passed_over, margin_refusal}
+use Rattle.page_scopes_tree.specs.Nests.{standing_by, step_ends, step_standing, scopes_nesting}
+use Rattle.page_scopes_tree.specs.Standings.{has_room, opened, closed, closer_outcome, in_line_scope, is_dropped, request_outcome, leaf_outcome, deed_outcome, act_outcome, opener_label, is_passed_over}
 use Rattle.page_scopes_tree.specs.declared.TheConstants.{SCOPES}
 use Rattle.page_scopes_tree.specs.declared.acts.Act.{Act}
 use Rattle.page_scopes_tree.specs.declared.acts.Act.TheVariants as acts
@@ -110,7 +110,7 @@ Opens (outcomes.Node label) = Unit {0}
 Opens _ = ⊥
 
 opened-by : (room : Bool) (left : List Label) (label : Label) → has_room left ≡ room
-  → Opens (if room then outcomes.Node label else outcomes.Refused Scopes) → length left < SCOPES
+    → Opens (if room then outcomes.Node label else outcomes.Refused Scopes) → length left < SCOPES
 unfolding Opens
 opened-by true left label e k = grind (arith, nat_tests)
 opened-by false left label e k = absurd k
@@ -175,7 +175,7 @@ node-outcome act (outcomes.Refused refusal) label h = let no : ⊥ = cc in absur
 node-outcome act outcomes.Nothing label h = let no : ⊥ = cc in absurd no
 
 placed-room : (test : Bool) (act : Act (List ℕ)) (n : ℕ) (left : List Label) (label : Label)
-  → (if test then as_nothing else standing_by act (act_outcome act n left)) ≡ as_node label → length left < SCOPES
+    → (if test then as_nothing else standing_by act (act_outcome act n left)) ≡ as_node label → length left < SCOPES
 placed-room true act n left label h = let no : ⊥ = cc in absurd no
 placed-room false act n left label h = act-room act n left label (node-outcome act (act_outcome act n left) label h)
 

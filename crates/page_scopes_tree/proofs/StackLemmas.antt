@@ -1,5 +1,5 @@
 -- A stack whose innermost scopes end one by one.
-use Rattle.std.proofs.Common.{◌≡◌, ℕ, ◌+◌, ◌-◌, ◌<◌, ◌≤◌, Bool, vec_len, length, reverse, List, [], ◌∷◌, ◌++◌, drop, refl, sym, ap, ◌∙◌, arith}
+use Rattle.std.proofs.Common.{◌≡◌, ℕ, ◌+◌, ◌-◌, ◌<◌, ◌≤◌, Bool, vec_len, length, reverse, List, [], ◌∷◌, ◌++◌, drop, sym, ap, ◌∙◌, arith}
 use Rattle.std.specs.Global.{Vec}
 use Rattle.std.proofs.lemmas.List.{drop-drop, append-nil, length-reverse}
 use Rattle.page_scopes_laws.proofs.CutLemmas.{ended_items-add, ended_state-add, settled-one, edge-one, step_fits}

@@ -1,5 +1,5 @@
 -- How many of the open scopes, the innermost first, an event ends. Source: man(7), "MACRO OVERVIEW".
-use Rattle.std.specs.Prelude.{ℕ, zero, suc, ◌+◌, ◌-◌, ◌==◌, Bool, true, false, not, List, [], ◌∷◌, length, reverse, Option, None, Some, if◌then◌else◌, position, ℤ, pos, int_lt, nat_abs}
+use Rattle.std.specs.Prelude.{ℕ, suc, ◌+◌, ◌-◌, ◌==◌, not, List, [], ◌∷◌, length, reverse, Option, None, Some, if◌then◌else◌, position, ℤ, pos, int_lt, nat_abs}
 use Rattle.std.specs.Option.{option_map}
 use Rattle.std.specs.List.{take_while}
 use Rattle.page_core_numbers.specs.Expressions.{expression_of}

@@ -1,6 +1,6 @@
 -- The frame of a layout: messages of scopes that are broken and of events that are refused, before what the layout itself gives.
 -- Source: man(7); mandoc(1), "DIAGNOSTICS".
-use Rattle.std.specs.Prelude.{ℕ, List, [], ◌++◌, false}
+use Rattle.std.specs.Prelude.{ℕ, List, ◌++◌, false}
 use Rattle.page_core_base.specs.Pieces.{Item}
 use Rattle.page_core_base.specs.declared.places.Place.{Place}
 use Rattle.page_scopes_laws.specs.Layouts.{Layout}
@@ -51,11 +51,11 @@ ending_items tables label before act s = broken_notes act label ++ tables.end_it
 
 abbrev pub framed : {S B : Type 0} → Tables S B → Layout Label Step Fact S B Item
 framed tables = record {
-    keep = λ label step s. tables.keep label (event_of (act_of step)) s;
-    begin_items = λ label step s. tables.begin_items label (event_of (act_of step)) s;
-    begin_state = λ label step s. tables.begin_state label (event_of (act_of step)) s;
-    leaf_items = λ fact s. fact_items tables fact s;
-    leaf_state = λ fact s. fact_state tables fact s;
-    end_items = λ label before step s. ending_items tables label before (act_of step) s;
-    end_state = λ label before step s. tables.end_state label before (act_place (act_of step)) s
-  }
+  keep = λ label step s. tables.keep label (event_of (act_of step)) s;
+  begin_items = λ label step s. tables.begin_items label (event_of (act_of step)) s;
+  begin_state = λ label step s. tables.begin_state label (event_of (act_of step)) s;
+  leaf_items = λ fact s. fact_items tables fact s;
+  leaf_state = λ fact s. fact_state tables fact s;
+  end_items = λ label before step s. ending_items tables label before (act_of step) s;
+  end_state = λ label before step s. tables.end_state label before (act_place (act_of step)) s;
+}

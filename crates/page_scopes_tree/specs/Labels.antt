@@ -1,5 +1,5 @@
 -- What an open scope is. Source: man(7), "MACRO OVERVIEW".
-use Rattle.std.specs.Prelude.{ℕ, Bool, true, false, ◌||◌, List, codes}
+use Rattle.std.specs.Prelude.{ℕ, Bool, true, false, List, codes}
 use Rattle.page_sets_lines.specs.MacroNames.{link_name}
 use Rattle.page_sets_lines.specs.declared.macro_names.Link.{Link}
 use Rattle.page_sets_lines.specs.declared.macro_names.Link.TheVariants.{UR, MT}

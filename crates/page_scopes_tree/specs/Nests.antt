@@ -1,5 +1,5 @@
 -- The nesting of scopes: the tables of events as those of the block tree. Source: man(7), "MACRO OVERVIEW".
-use Rattle.std.specs.Prelude.{ℕ, Bool, true, false, List, if◌then◌else◌}
+use Rattle.std.specs.Prelude.{ℕ, Bool, List, if◌then◌else◌}
 use Rattle.page_scopes_laws.specs.Nestings.{Nesting, Standing, as_node, as_leaf, as_nothing}
 use Rattle.page_scopes_tree.specs.Acts.{Step, comes, does}
 use Rattle.page_scopes_tree.specs.Ends.{act_ends}
@@ -38,7 +38,7 @@ step_skips skips (does act) n left = act_skips skips act left
 -- the tables of events as a nesting of scopes
 abbrev pub scopes_nesting : Nesting Bool Label Step Fact
 scopes_nesting = record {
-    ends = step_ends;
-    standing = step_standing;
-    mode = step_skips
-  }
+  ends = step_ends;
+  standing = step_standing;
+  mode = step_skips;
+}

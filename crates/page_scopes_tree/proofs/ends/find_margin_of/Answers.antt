@@ -1,4 +1,4 @@
-use Rattle.std.proofs.Common.{◌≡◌, ◌==◌, true, false, sym, ◌∙◌, rules, arith}
+use Rattle.std.proofs.Common.{◌≡◌, ◌==◌, true, false, sym, ◌∙◌, rules}
 use Rattle.page_scopes_tree.specs.Labels.{is_margin}
 use Rattle.page_scopes_tree.proofs.MarginLemmas.{from_start, margin_goes_on, margin_counts, margin_found, margin_missing}
 use Rattle.page_scopes_tree.proofs.ends.find_margin_of.Goals as goal
@@ -14,17 +14,17 @@ loop-outside-preserved g c =
     let here = c.index-scopes-outside.is in
     elim c.if-is_margin.branch [
       | then-is_margin+else-left-eq1 w ↦
-        let margin : is_margin scope.label ≡ true = search rules in
-        let other : (l.left == 1) ≡ false = search rules in
-        rw w.left-is (record {
+          let margin : is_margin scope.label ≡ true = search rules in
+          let other : (l.left == 1) ≡ false = search rules in
+          rw w.left-is (record {
             found = l.invariant.found ∙ margin_counts c.args.scopes.now l.outside l.left scope c.loop-outside-test.true here margin other;
-            some = search rules
+            some = search rules;
           })
       | else-is_margin w ↦
-        let none : is_margin scope.label ≡ false = search rules in
-        rw w.left-is (record {
+          let none : is_margin scope.label ≡ false = search rules in
+          rw w.left-is (record {
             found = l.invariant.found ∙ margin_goes_on c.args.scopes.now l.outside l.left scope c.loop-outside-test.true here none;
-            some = l.invariant.some
+            some = l.invariant.some;
           })
     ]
 

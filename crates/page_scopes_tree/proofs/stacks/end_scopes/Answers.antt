@@ -1,5 +1,4 @@
-use Rattle.std.proofs.Common.{◌≡◌, ◌+◌, ◌-◌, ◌<◌, arith, ap, ◌∙◌, sym, drop, reverse, refl, append_assoc}
-use Rattle.page_scopes_laws.specs.Machines.{ended_items, ended_state}
+use Rattle.std.proofs.Common.{◌≡◌, ◌-◌, arith, ◌∙◌, sym, reverse, refl, append_assoc}
 use Rattle.page_scopes_tree.specs.Acts.{act_seen, does}
 use Rattle.page_scopes_tree.specs.Frames.{framed}
 use Rattle.page_scopes_tree.proofs.StackLemmas.{items_more, state_more, drop_more}
@@ -21,12 +20,12 @@ loop-i-preserved g c =
     let states = state_more (framed g.Y.Laying.tables) c.args.count l._i less act (reverse l.scopes.items) l.state in
     let dropped = drop_more c.args.count l._i less (reverse l.scopes.items) in
     rw (h.state, h.scopes.0) (record {
-        came = λ plan rest k. h.came plan _ (rw (items, append_assoc) at (i.came plan rest k));
-        state = i.state ∙ states;
-        scopes = i.scopes ∙ dropped;
-        room = h.scopes.1 ∙ i.room;
-        len = omega arith
-      })
+      came = λ plan rest k. h.came plan _ (rw (items, append_assoc) at (i.came plan rest k));
+      state = i.state ∙ states;
+      scopes = i.scopes ∙ dropped;
+      room = h.scopes.1 ∙ i.room;
+      len = omega arith;
+    })
 
 pub returns : goal.returns
 returns g c =
@@ -35,5 +34,5 @@ returns g c =
     record {
       came = λ plan rest h. rw none at (i.came plan rest h);
       state = sym (rw none at i.state);
-      scopes = (sym (rw none at i.scopes), i.room)
+      scopes = (sym (rw none at i.scopes), i.room);
     }

@@ -1,4 +1,4 @@
-use Rattle.std.proofs.Common.{◌≡◌, ◌∙◌, sym}
+use Rattle.std.proofs.Common.{◌∙◌, sym}
 use Rattle.page_scopes_tree.proofs.FitLemmas.{scopes-sound}
 use Rattle.page_scopes_tree.proofs.StackLemmas.{items_by_one, edge_by_one}
 use Rattle.page_scopes_tree.specs.Acts.{does}
@@ -12,7 +12,7 @@ pub returns-clause-came : goal.returns-clause-came
 returns-clause-came g c = λ plan rest h.
     let i = c.self.inside in
     let one = items_by_one scopes_nesting scopes-sound (framed g.Y.Laying.tables) c.args.self.now (stack_edge i.skips i.scopes i.state)
-      (does (PageEnd c.args.line)) c.self.view_is in
+    (does (PageEnd c.args.line)) c.self.view_is in
     c.take_act.ensures.came plan rest (rw one at h)
 
 pub returns-clause-edge : goal.returns-clause-edge
@@ -20,4 +20,4 @@ returns-clause-edge g c =
     let i = c.self.inside in
     c.take_act.ensures.edge
     ∙ sym (edge_by_one scopes_nesting scopes-sound (framed g.Y.Laying.tables) c.args.self.now (stack_edge i.skips i.scopes i.state)
-      (does (PageEnd c.args.line)) c.self.view_is)
+    (does (PageEnd c.args.line)) c.self.view_is)
