@@ -18,7 +18,8 @@ pub fn events_law<Y: Laying>()
         → events_items Y.tables d (events ++ more)
         ≡ events_items Y.tables d events ++ events_items Y.tables (events_edge Y.tables d events) more }
     ensures edge { (d : ScopesEdge Y Y.Kept) (events more : List (Event (List ℕ)))
-        → events_edge Y.tables d (events ++ more) ≡ events_edge Y.tables (events_edge Y.tables d events) more }
+        → events_edge Y.tables d (events ++ more)
+        ≡ events_edge Y.tables (events_edge Y.tables d events) more }
     ensures depth { (d : ScopesEdge Y Y.Kept) (events : List (Event (List ℕ)))
         → length d.scopes ≤ SCOPES → length (events_edge Y.tables d events).scopes ≤ SCOPES }
 {}

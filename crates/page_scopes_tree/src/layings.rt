@@ -24,7 +24,8 @@ pub trait Laying: Drop {
 
     /// A scope begins.
     fn begin<O: PieceOut>(&mut self, label: Label, event: &Event<&[u8]>, out: &mut O)
-        ensures came { Came O.left out.old (tables.begin_items label (event_seen event.now) self.old) out.new }
+        ensures came { Came O.left out.old
+            (tables.begin_items label (event_seen event.now) self.old) out.new }
         ensures state { self.new ≡ tables.begin_state label (event_seen event.now) self.old };
 
     /// An event comes, before it ends or opens anything.

@@ -23,7 +23,12 @@ impl NoteSink for NoNotes {
 
     ghost loans = { λ s. tt };
 
-    ghost laws = { record { none = λ s. tt; more = λ s t u xs ys h k. tt; after = λ s t u xs ys h k. tt; before = λ s t xs ys h. tt } };
+    ghost laws = { record {
+      none = λ _. tt;
+      more = λ _ _ _ _ _ _ _. tt;
+      after = λ _ _ _ _ _ _ _. tt;
+      before = λ _ _ _ _ _. tt;
+    } };
 
     ghost whole = { λ s t xs h. tt };
 

@@ -56,7 +56,8 @@ impl<Y: Laying> ScopeStack<Y> {
 
     /// Takes an event, and gives what it settles.
     pub fn apply<O: PieceOut>(&mut self, event: Event<&[u8]>, out: &mut O)
-        ensures came { Came O.left out.old (events_items Y.tables self.old (event_seen event.entry ∷ [])) out.new }
+        ensures came { Came O.left out.old
+            (events_items Y.tables self.old (event_seen event.entry ∷ [])) out.new }
         ensures edge { self.new ≡ events_edge Y.tables self.old (event_seen event.entry ∷ []) }
     {
         take_coming(

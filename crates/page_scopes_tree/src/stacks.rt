@@ -2,13 +2,12 @@
 
 ghost use Rattle.std.specs.Prelude.{◌≡◌, ◌≤◌, ◌<◌, ◌+◌, Bool, List, [], ◌∷◌, length, drop, reverse, vec_capacity, vec_len};
 ghost use Rattle.page_core_base.specs.Latches.{Came};
-ghost use Rattle.page_scopes_laws.specs.Layouts.{Edge, labels, scope_of};
+ghost use Rattle.page_scopes_laws.specs.Layouts.{Edge};
 ghost use Rattle.page_scopes_laws.specs.Machines.{ended_items, ended_state, placed_items, placed_scopes, placed_state, step, step_items};
 ghost use Rattle.page_scopes_tree.specs.Acts.{act_seen, comes, does};
 ghost use Rattle.page_scopes_tree.specs.Frames.{framed};
-ghost use Rattle.page_scopes_tree.specs.Nests.{scopes_nesting, standing_by};
-ghost use Rattle.page_scopes_tree.specs.Standings.{act_outcome};
-ghost use Rattle.page_scopes_tree.specs.Stacks.{Keeps, stack_edge};
+ghost use Rattle.page_scopes_tree.specs.Nests.{scopes_nesting};
+ghost use Rattle.page_scopes_tree.specs.Stacks.{Keeps, stack_edge, stack_standing};
 ghost use Rattle.page_sets_lines.specs.Events.{event_seen};
 
 use crate::broken::{report_broken, report_refusal};
@@ -28,7 +27,8 @@ fn end_innermost<Y: Laying, O: PieceOut>(
 )
     requires { 0 < vec_len scopes.old }
     ensures came { Came O.left out.old
-        (ended_items (framed Y.tables) 1 (does (act_seen act.now)) (reverse scopes.old.items) state.old) out.new }
+        (ended_items (framed Y.tables) 1 (does (act_seen act.now)) (reverse scopes.old.items) state.old)
+        out.new }
     ensures state { state.new
         ≡ ended_state (framed Y.tables) 1 (does (act_seen act.now)) (reverse scopes.old.items) state.old }
     ensures scopes { Keeps scopes.old scopes.new (drop 1 (reverse scopes.old.items)) }
@@ -50,7 +50,8 @@ fn end_scopes<Y: Laying, O: PieceOut>(
 )
     requires { count ≤ vec_len scopes.old }
     ensures came { Came O.left out.old
-        (ended_items (framed Y.tables) count (does (act_seen act.now)) (reverse scopes.old.items) state.old) out.new }
+        (ended_items (framed Y.tables) count (does (act_seen act.now)) (reverse scopes.old.items) state.old)
+        out.new }
     ensures state { state.new
         ≡ ended_state (framed Y.tables) count (does (act_seen act.now)) (reverse scopes.old.items) state.old }
     ensures scopes { Keeps scopes.old scopes.new (drop count (reverse scopes.old.items)) }
@@ -72,7 +73,8 @@ fn open_scope<Y: Laying, O: PieceOut>(
     ensures came { Came O.left out.old (Y.tables.begin_items label (event_seen event.now) state.old) out.new }
     ensures state { state.new ≡ Y.tables.begin_state label (event_seen event.now) state.old }
     ensures scopes { Keeps scopes.old scopes.new
-        (record { label = label; before = Y.tables.keep label (event_seen event.now) state.old } ∷ reverse scopes.old.items) }
+        (record { label = label; before = Y.tables.keep label (event_seen event.now) state.old }
+        ∷ reverse scopes.old.items) }
 {
     let before = state.keep(label, event);
     state.begin(label, event, out);
@@ -89,12 +91,14 @@ fn place_act<Y: Laying, O: PieceOut>(
 )
     requires depth { vec_len scopes.old ≤ SCOPES }
     requires reserved { SCOPES ≤ vec_capacity scopes.old }
-    ensures came { let st = standing_by (act_seen act.now) (act_outcome (act_seen act.now) count (labels (reverse scopes.old.items)))
-        in Came O.left out.old (placed_items (framed Y.tables) st (does (act_seen act.now)) state.old) out.new }
-    ensures state { let st = standing_by (act_seen act.now) (act_outcome (act_seen act.now) count (labels (reverse scopes.old.items)))
+    ensures came { let st = stack_standing (act_seen act.now) count scopes.old
+        in Came O.left out.old (placed_items (framed Y.tables) st (does (act_seen act.now)) state.old)
+        out.new }
+    ensures state { let st = stack_standing (act_seen act.now) count scopes.old
         in state.new ≡ placed_state (framed Y.tables) st (does (act_seen act.now)) state.old }
-    ensures scopes { let st = standing_by (act_seen act.now) (act_outcome (act_seen act.now) count (labels (reverse scopes.old.items)))
-        in Keeps scopes.old scopes.new (placed_scopes (framed Y.tables) st (does (act_seen act.now)) (reverse scopes.old.items) state.old) }
+    ensures scopes { let st = stack_standing (act_seen act.now) count scopes.old
+        in Keeps scopes.old scopes.new
+        (placed_scopes (framed Y.tables) st (does (act_seen act.now)) (reverse scopes.old.items) state.old) }
 {
     match outcome_of(act, count, scopes.as_slice()) {
         Outcome::Node(label) => open_scope(scopes, state, label, &act.event(), out),
@@ -115,9 +119,11 @@ pub(crate) fn take_act<Y: Laying, O: PieceOut>(
     requires depth { vec_len scopes.old ≤ SCOPES }
     requires reserved { SCOPES ≤ vec_capacity scopes.old }
     ensures came { Came O.left out.old
-        (step_items scopes_nesting (framed Y.tables) (stack_edge skips.old scopes.old state.old) (does (act_seen act.now))) out.new }
+        (step_items scopes_nesting (framed Y.tables) (stack_edge skips.old scopes.old state.old)
+        (does (act_seen act.now))) out.new }
     ensures edge { stack_edge skips.new scopes.new state.new
-        ≡ step scopes_nesting (framed Y.tables) (stack_edge skips.old scopes.old state.old) (does (act_seen act.now)) }
+        ≡ step scopes_nesting (framed Y.tables) (stack_edge skips.old scopes.old state.old)
+        (does (act_seen act.now)) }
     ensures kept { vec_capacity scopes.new ≡ vec_capacity scopes.old }
 {
     if is_passed_over(*skips, act) {
@@ -138,10 +144,12 @@ pub(crate) fn take_coming<Y: Laying, O: PieceOut>(
     out: &mut O,
 )
     ensures came { Came O.left out.old (step_items scopes_nesting (framed Y.tables)
-        (record { mode = skips; scopes = reverse scopes.now; state = state.old }) (comes (event_seen event.now))) out.new }
+        (record { mode = skips; scopes = reverse scopes.now; state = state.old })
+        (comes (event_seen event.now))) out.new }
     ensures edge { record { mode = skips; scopes = reverse scopes.now; state = state.new }
         ≡ step scopes_nesting (framed Y.tables)
-        (record { mode = skips; scopes = reverse scopes.now; state = state.old }) (comes (event_seen event.now)) }
+        (record { mode = skips; scopes = reverse scopes.now; state = state.old })
+        (comes (event_seen event.now)) }
 {
     if !skips {
         state.come(event, out);
