@@ -1,0 +1,4 @@
+pub mod RunLemmas
+pub mod EdgeLemmas
+pub mod CutLemmas
+pub mod PartLemmas

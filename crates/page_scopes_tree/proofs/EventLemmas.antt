@@ -1,0 +1,35 @@
+-- Events that are cut between two of them.
+use Rattle.std.proofs.Common.{◌≡◌, ℕ, ◌≤◌, List, [], ◌∷◌, ◌++◌, length, refl, sym, ap, ◌∙◌, append_assoc}
+use Rattle.page_scopes_laws.proofs.CutLemmas.{settled-append, edge-append, edge-fits}
+use Rattle.page_scopes_laws.specs.Layouts.{settled, edge}
+use Rattle.page_sets_lines.specs.declared.events.Event.{Event}
+use Rattle.page_scopes_tree.proofs.FitLemmas.{scopes-sound}
+use Rattle.page_scopes_tree.specs.Acts.{steps_of}
+use Rattle.page_scopes_tree.specs.Edges.{ScopesEdge, steps_of_all, events_items, events_edge}
+use Rattle.page_scopes_tree.specs.Frames.{Tables, framed}
+use Rattle.page_scopes_tree.specs.Nests.{scopes_nesting}
+use Rattle.page_scopes_tree.specs.declared.TheConstants.{SCOPES}
+
+pub steps_of_all-append : (events more : List (Event (List ℕ))) → steps_of_all (events ++ more) ≡ steps_of_all events ++ steps_of_all more
+steps_of_all-append [] more = refl
+steps_of_all-append (event ∷ events) more =
+    ap (λ t. steps_of event ++ t) (steps_of_all-append events more) ∙ sym (append_assoc (steps_of event) (steps_of_all events) (steps_of_all more))
+
+-- the cut law of events: what they give
+pub events_items-append : {S B : Type 0} (tables : Tables S B) (d : ScopesEdge S B) (events more : List (Event (List ℕ)))
+    → events_items tables d (events ++ more) ≡ events_items tables d events ++ events_items tables (events_edge tables d events) more
+events_items-append tables d events more =
+    ap (settled scopes_nesting (framed tables) d) (steps_of_all-append events more)
+    ∙ settled-append scopes_nesting scopes-sound (framed tables) d (steps_of_all events) (steps_of_all more)
+
+-- the cut law of events: what decides the rest
+pub events_edge-append : {S B : Type 0} (tables : Tables S B) (d : ScopesEdge S B) (events more : List (Event (List ℕ)))
+    → events_edge tables d (events ++ more) ≡ events_edge tables (events_edge tables d events) more
+events_edge-append tables d events more =
+    ap (edge scopes_nesting (framed tables) d) (steps_of_all-append events more)
+    ∙ edge-append scopes_nesting scopes-sound (framed tables) d (steps_of_all events) (steps_of_all more)
+
+-- no more scopes are open than there may be
+pub events_edge-fits : {S B : Type 0} (tables : Tables S B) (d : ScopesEdge S B) (events : List (Event (List ℕ)))
+    → length d.scopes ≤ SCOPES → length (events_edge tables d events).scopes ≤ SCOPES
+events_edge-fits tables d events h = edge-fits scopes_nesting scopes-sound (framed tables) d (steps_of_all events) h

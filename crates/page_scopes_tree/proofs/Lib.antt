@@ -1,0 +1,4 @@
+pub mod MarginLemmas
+pub mod FitLemmas
+pub mod StackLemmas
+pub mod EventLemmas

@@ -1,0 +1,7 @@
+use Rattle.page_scopes_laws.proofs.PartLemmas.{tree-part}
+use Rattle.page_scopes_tree.proofs.FitLemmas.{scopes-sound}
+use Rattle.page_scopes_tree.specs.Nests.{scopes_nesting}
+use Rattle.page_scopes_tree.proofs.laws.tree_law.Goals as goal
+
+pub returns : goal.returns
+returns c = λ skips nodes steps. tree-part scopes_nesting scopes-sound skips nodes steps

@@ -1,0 +1,26 @@
+-- What happens to the open scopes of a page. Source: man(7).
+use Rattle.std.specs.Prelude.{ℕ, List, [], ◌∷◌}
+use Rattle.std.specs.Borrow.{Bor}
+use Rattle.page_core_base.specs.declared.places.Place.{Place}
+use Rattle.page_sets_lines.specs.Events.{event_seen}
+use Rattle.page_sets_lines.specs.declared.events.Event.{Event}
+use Rattle.page_scopes_tree.specs.declared.acts.Act.{Act}
+use Rattle.page_scopes_tree.specs.declared.acts.Act.TheVariants as acts
+
+-- an act of the program, with what its texts hold
+abbrev pub act_seen : Act (Bor (List ℕ)) → Act (List ℕ)
+act_seen (acts.Event event) = acts.Event (event_seen event)
+act_seen (acts.PageEnd line) = acts.PageEnd line
+
+-- the page's end stands at the first column of its line
+abbrev pub act_place : Act (List ℕ) → Place
+act_place (acts.Event event) = event.place
+act_place (acts.PageEnd line) = record { line = line; column = 1 }
+
+-- An event comes first: it may begin the body, and its closer's number is read. Then it does what it does.
+pub data Step : Type 0 where
+  comes : Event (List ℕ) → Step
+  does : Act (List ℕ) → Step
+
+abbrev pub steps_of : Event (List ℕ) → List Step
+steps_of event = comes event ∷ does (acts.Event event) ∷ []

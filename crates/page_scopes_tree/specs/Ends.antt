@@ -1,0 +1,92 @@
+-- How many of the open scopes, the innermost first, an event ends. Source: man(7), "MACRO OVERVIEW".
+use Rattle.std.specs.Prelude.{ℕ, suc, ◌+◌, ◌-◌, ◌==◌, not, List, [], ◌∷◌, length, reverse, Option, None, Some, if◌then◌else◌, position, ℤ, pos, int_lt, nat_abs}
+use Rattle.std.specs.Option.{option_map}
+use Rattle.std.specs.List.{take_while}
+use Rattle.page_core_numbers.specs.Expressions.{expression_of}
+use Rattle.page_core_numbers.specs.declared.scales.Scale.TheVariants.{Basic}
+use Rattle.page_sets_lines.specs.declared.events.Deed.{Deed}
+use Rattle.page_sets_lines.specs.declared.events.Deed.TheVariants as deeds
+use Rattle.page_sets_lines.specs.declared.leaves.Leaf.{Leaf}
+use Rattle.page_sets_lines.specs.declared.leaves.Leaf.TheVariants as leaves
+use Rattle.page_sets_lines.specs.declared.openers.Opener.{Opener}
+use Rattle.page_sets_lines.specs.declared.openers.Opener.TheVariants as openers
+use Rattle.page_sets_lines.specs.declared.openers.Closer.{Closer}
+use Rattle.page_sets_lines.specs.declared.openers.Closer.TheVariants as closers
+use Rattle.page_scopes_tree.specs.Labels.{is_line, is_section, is_paragraph, is_margin, is_syntax, is_target, is_level}
+use Rattle.page_scopes_tree.specs.declared.acts.Act.{Act}
+use Rattle.page_scopes_tree.specs.declared.acts.Act.TheVariants as acts
+use Rattle.page_scopes_tree.specs.declared.labels.Label.{Label}
+
+-- all scopes up to the one that was found and with it, and none where none was
+abbrev pub up_to : Option ℕ → ℕ
+up_to None = 0
+up_to (Some i) = i + 1
+
+-- the line scopes that are innermost
+abbrev pub line_scopes : List Label → ℕ
+line_scopes nodes = length (take_while is_line nodes)
+
+-- all inside the section
+abbrev pub inside_section : List Label → ℕ
+inside_section nodes = length (take_while (λ label. not (is_section label)) nodes)
+
+-- up to the open paragraph of the same relative margin or section
+abbrev pub up_to_paragraph : List Label → ℕ
+up_to_paragraph nodes = up_to (position is_paragraph (take_while (λ label. not (is_level label)) nodes))
+
+-- where the relative margin of a number stands, counted from the outermost scope on
+abbrev pub place_of_margin : ℕ → List Label → Option ℕ
+place_of_margin k [] = None
+place_of_margin k (label ∷ nodes) =
+    if is_margin label then (if k == 1 then Some 0 else option_map suc (place_of_margin (k - 1) nodes))
+    else option_map suc (place_of_margin k nodes)
+
+-- all but those outside of it, and none where it is not there
+abbrev pub but_outside : Option ℕ → ℕ → ℕ
+but_outside None count = 0
+but_outside (Some outside) count = count - outside
+
+-- up to the relative margin of a number from the outside
+abbrev pub up_to_margin : ℤ → List Label → ℕ
+up_to_margin number nodes =
+    if int_lt number (pos 1) then 0 else but_outside (place_of_margin (nat_abs number) (reverse nodes)) (length nodes)
+
+abbrev pub margin_ends : Option (List ℕ) → List Label → ℕ
+margin_ends None nodes = up_to (position is_margin nodes)
+margin_ends (Some number) nodes = up_to_margin (expression_of Basic number).value nodes
+
+abbrev pub opener_ends : Opener (List ℕ) → List Label → ℕ
+opener_ends openers.Section nodes = length nodes
+opener_ends openers.Subsection nodes = inside_section nodes
+opener_ends (openers.Paragraph name) nodes = up_to_paragraph nodes
+opener_ends (openers.Tagged hang) nodes = up_to_paragraph nodes
+opener_ends (openers.Indented tag hang) nodes = up_to_paragraph nodes
+opener_ends (openers.Hanging hang) nodes = up_to_paragraph nodes
+opener_ends (openers.RelativeMargin columns) nodes = 0
+opener_ends (openers.Target link target) nodes = 0
+opener_ends (openers.Syntax name) nodes = up_to (position is_syntax nodes)
+
+abbrev pub closer_ends : Closer (List ℕ) → List Label → ℕ
+closer_ends closers.Line nodes = line_scopes nodes
+closer_ends (closers.RelativeMargin number) nodes = margin_ends number nodes
+closer_ends (closers.Target link suffix) nodes = up_to (position (is_target link) nodes)
+closer_ends closers.Syntax nodes = up_to (position is_syntax nodes)
+
+abbrev pub leaf_ends : Leaf (List ℕ) → List Label → ℕ
+leaf_ends leaves.BlankLine nodes = line_scopes nodes
+leaf_ends _ nodes = 0
+
+abbrev pub deed_ends : Deed (List ℕ) → List Label → ℕ
+deed_ends (deeds.Word word) nodes = 0
+deed_ends (deeds.Open opener) nodes = opener_ends opener nodes
+deed_ends (deeds.Close closer) nodes = closer_ends closer nodes
+deed_ends (deeds.LineScope opener) nodes = 0
+deed_ends (deeds.Leaf leaf) nodes = leaf_ends leaf nodes
+deed_ends (deeds.Raw text) nodes = line_scopes nodes
+deed_ends (deeds.End fills) nodes = if fills then line_scopes nodes else 0
+deed_ends (deeds.Note kind detail begins_body) nodes = 0
+
+-- the page's end ends all
+abbrev pub act_ends : Act (List ℕ) → List Label → ℕ
+act_ends (acts.Event event) nodes = deed_ends event.deed nodes
+act_ends (acts.PageEnd line) nodes = length nodes

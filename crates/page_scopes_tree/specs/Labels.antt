@@ -1,0 +1,50 @@
+-- What an open scope is. Source: man(7), "MACRO OVERVIEW".
+use Rattle.std.specs.Prelude.{ℕ, Bool, true, false, List, codes}
+use Rattle.page_sets_lines.specs.MacroNames.{link_name}
+use Rattle.page_sets_lines.specs.declared.macro_names.Link.{Link}
+use Rattle.page_sets_lines.specs.declared.macro_names.Link.TheVariants.{UR, MT}
+use Rattle.page_scopes_tree.specs.declared.labels.Explicit.{Explicit}
+use Rattle.page_scopes_tree.specs.declared.labels.Explicit.TheVariants.{RelativeMargin, Target, Syntax}
+use Rattle.page_scopes_tree.specs.declared.labels.Label.{Label}
+use Rattle.page_scopes_tree.specs.declared.labels.Label.TheVariants as labels
+
+abbrev pub explicit_name : Explicit → List ℕ
+explicit_name RelativeMargin = codes "RS"
+explicit_name (Target link) = link_name link
+explicit_name Syntax = codes "SY"
+
+abbrev pub is_line : Label → Bool
+is_line (labels.Line opener) = true
+is_line _ = false
+
+abbrev pub is_section : Label → Bool
+is_section labels.Section = true
+is_section _ = false
+
+abbrev pub is_paragraph : Label → Bool
+is_paragraph labels.Paragraph = true
+is_paragraph _ = false
+
+abbrev pub is_margin : Label → Bool
+is_margin (labels.Explicit RelativeMargin) = true
+is_margin _ = false
+
+abbrev pub is_syntax : Label → Bool
+is_syntax (labels.Explicit Syntax) = true
+is_syntax _ = false
+
+abbrev pub same_link : Link → Link → Bool
+same_link UR UR = true
+same_link MT MT = true
+same_link UR MT = false
+same_link MT UR = false
+
+abbrev pub is_target : Link → Label → Bool
+is_target link (labels.Explicit (Target other)) = same_link link other
+is_target link _ = false
+
+-- paragraphs inside it are apart from those around it
+abbrev pub is_level : Label → Bool
+is_level labels.Section = true
+is_level labels.Subsection = true
+is_level label = is_margin label

@@ -1,0 +1,45 @@
+//! A layout: what scopes and leaves give, over a state (man(7)).
+
+ghost use Rattle.std.specs.Prelude.{◌≡◌};
+ghost use Rattle.page_core_base.specs.Latches.{Came};
+ghost use Rattle.page_scopes_tree.specs.Acts.{act_seen};
+ghost use Rattle.page_scopes_tree.specs.Frames.{Tables};
+ghost use Rattle.page_sets_lines.specs.Events.{event_seen};
+
+use crate::{Act, Label};
+use page_core_base::{PieceOut, Place};
+use page_sets_lines::Event;
+
+/// The state of a layout, which says what scopes and leaves give.
+pub trait Laying: Drop {
+    /// What a scope keeps of the state before it.
+    type Kept: Drop;
+
+    // The tables of the layout.
+    ghost tables: { Tables Self Self.Kept };
+
+    /// What a scope that an event opens keeps of the state.
+    fn keep(&self, label: Label, event: &Event<&[u8]>) -> Self::Kept
+        ensures { result ≡ tables.keep label (event_seen event.now) self.now };
+
+    /// A scope begins.
+    fn begin<O: PieceOut>(&mut self, label: Label, event: &Event<&[u8]>, out: &mut O)
+        ensures came { Came O.left out.old
+            (tables.begin_items label (event_seen event.now) self.old) out.new }
+        ensures state { self.new ≡ tables.begin_state label (event_seen event.now) self.old };
+
+    /// An event comes, before it ends or opens anything.
+    fn come<O: PieceOut>(&mut self, event: &Event<&[u8]>, out: &mut O)
+        ensures came { Came O.left out.old (tables.coming_items (event_seen event.now) self.old) out.new }
+        ensures state { self.new ≡ tables.coming_state (event_seen event.now) self.old };
+
+    /// An act stands that opens and closes nothing itself.
+    fn leaf<O: PieceOut>(&mut self, act: &Act<&[u8]>, out: &mut O)
+        ensures came { Came O.left out.old (tables.leaf_items (act_seen act.now) self.old) out.new }
+        ensures state { self.new ≡ tables.leaf_state (act_seen act.now) self.old };
+
+    /// A scope ends, with what it kept, at a place.
+    fn end<O: PieceOut>(&mut self, label: Label, before: Self::Kept, place: Place, out: &mut O)
+        ensures came { Came O.left out.old (tables.end_items label before place self.old) out.new }
+        ensures state { self.new ≡ tables.end_state label before place self.old };
+}

@@ -1,0 +1,92 @@
+//! The open scopes of a page (man(7)).
+
+ghost use Rattle.std.specs.Prelude.{◌≡◌, ◌≤◌, [], ◌∷◌, length, false, IfOk};
+ghost use Rattle.page_core_base.specs.Latches.{Came};
+ghost use Rattle.page_scopes_tree.specs.Edges.{events_edge, events_items, page_end_edge, page_end_items};
+ghost use Rattle.page_sets_lines.specs.Events.{event_seen};
+
+use crate::stacks::{take_act, take_coming};
+use crate::{Act, Label, Laying, SCOPES};
+use page_core_base::PieceOut;
+use page_scopes_laws::Scope;
+use page_sets_lines::Event;
+use std::alloc::{AllocError, Global};
+use std::marker::Model;
+
+/// The open scopes of a page, with the state of its layout. Its room is reserved when it is made.
+#[derive(Drop)]
+pub struct ScopeStack<Y: Laying> {
+    scopes: Vec<Scope<Label, Y::Kept>>,
+    skips: bool,
+    state: Y,
+}
+
+impl<Y: Laying> Model for ScopeStack<Y> {
+    ghost use Rattle.std.specs.Prelude.{◌≤◌, vec_capacity, vec_len};
+    ghost use Rattle.page_scopes_tree.specs.Edges.{ScopesEdge};
+    ghost use Rattle.page_scopes_tree.specs.Stacks.{stack_edge};
+    ghost use Rattle.page_scopes_tree.specs.declared.TheConstants.{SCOPES};
+
+    ghost Value = { ScopesEdge Y Y.Kept };
+
+    ghost view = { λ s. stack_edge s.skips s.scopes s.state };
+
+    ghost invariant = { λ s. (vec_len s.scopes ≤ SCOPES) × (SCOPES ≤ vec_capacity s.scopes) };
+}
+
+impl<Y: Laying> ScopeStack<Y> {
+    /// No scope is open.
+    pub fn new(alloc: Global, state: Y) -> Result<ScopeStack<Y>, AllocError>
+        ensures { IfOk result (λ stack. stack ≡ record { mode = false; scopes = []; state = state }) }
+    {
+        Ok(ScopeStack {
+            scopes: Vec::with_capacity(alloc, SCOPES)?,
+            skips: false,
+            state,
+        })
+    }
+
+    /// The number of open scopes.
+    pub fn depth(&self) -> usize
+        ensures is { result ≡ length self.now.scopes }
+        ensures within { result ≤ SCOPES }
+    {
+        self.scopes.len()
+    }
+
+    /// Takes an event, and gives what it settles.
+    pub fn apply<O: PieceOut>(&mut self, event: Event<&[u8]>, out: &mut O)
+        ensures came { Came O.left out.old
+            (events_items Y.tables self.old (event_seen event.entry ∷ [])) out.new }
+        ensures edge { self.new ≡ events_edge Y.tables self.old (event_seen event.entry ∷ []) }
+    {
+        take_coming(
+            self.scopes.as_slice(),
+            self.skips,
+            &mut self.state,
+            &event,
+            out,
+        );
+        take_act(
+            &mut self.scopes,
+            &mut self.skips,
+            &mut self.state,
+            &Act::Event(event),
+            out,
+        );
+    }
+
+    /// Ends the page on the line of a number, and gives what that settles.
+    pub fn finish<O: PieceOut>(&mut self, line: u32, out: &mut O)
+        ensures came { Came O.left out.old (page_end_items Y.tables self.old line) out.new }
+        ensures edge { self.new ≡ page_end_edge Y.tables self.old line }
+    {
+        take_act(
+            &mut self.scopes,
+            &mut self.skips,
+            &mut self.state,
+            &Act::PageEnd(line),
+            out,
+        );
+    }
+}

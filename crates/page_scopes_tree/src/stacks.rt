@@ -1,0 +1,157 @@
+//! A stack of open scopes: each act ends the innermost of them, and opens one more or stands as a leaf (man(7)).
+
+ghost use Rattle.std.specs.Prelude.{◌≡◌, ◌≤◌, ◌<◌, ◌+◌, Bool, List, [], ◌∷◌, length, drop, reverse, vec_capacity, vec_len};
+ghost use Rattle.page_core_base.specs.Latches.{Came};
+ghost use Rattle.page_scopes_laws.specs.Layouts.{Edge};
+ghost use Rattle.page_scopes_laws.specs.Machines.{ended_items, ended_state, placed_items, placed_scopes, placed_state, step, step_items};
+ghost use Rattle.page_scopes_tree.specs.Acts.{act_seen, comes, does};
+ghost use Rattle.page_scopes_tree.specs.Frames.{framed};
+ghost use Rattle.page_scopes_tree.specs.Nests.{scopes_nesting};
+ghost use Rattle.page_scopes_tree.specs.Stacks.{Keeps, stack_edge, stack_standing};
+ghost use Rattle.page_sets_lines.specs.Events.{event_seen};
+
+use crate::broken::{report_broken, report_refusal};
+use crate::ends::count_ended;
+use crate::standings::{is_passed_over, outcome_of, skips_after};
+use crate::{Act, Label, Laying, Outcome, SCOPES};
+use page_core_base::PieceOut;
+use page_scopes_laws::Scope;
+use page_sets_lines::Event;
+
+// An act ends the innermost scope.
+fn end_innermost<Y: Laying, O: PieceOut>(
+    scopes: &mut Vec<Scope<Label, Y::Kept>>,
+    state: &mut Y,
+    act: &Act<&[u8]>,
+    out: &mut O,
+)
+    requires { 0 < vec_len scopes.old }
+    ensures came { Came O.left out.old
+        (ended_items (framed Y.tables) 1 (does (act_seen act.now)) (reverse scopes.old.items) state.old)
+        out.new }
+    ensures state { state.new
+        ≡ ended_state (framed Y.tables) 1 (does (act_seen act.now)) (reverse scopes.old.items) state.old }
+    ensures scopes { Keeps scopes.old scopes.new (drop 1 (reverse scopes.old.items)) }
+    ensures len { vec_len scopes.new + 1 ≡ vec_len scopes.old }
+{
+    if let Some(scope) = scopes.pop() {
+        report_broken(out, act, scope.label);
+        state.end(scope.label, scope.before, act.place(), out);
+    }
+}
+
+// An act ends so many of the innermost scopes.
+fn end_scopes<Y: Laying, O: PieceOut>(
+    scopes: &mut Vec<Scope<Label, Y::Kept>>,
+    state: &mut Y,
+    count: usize,
+    act: &Act<&[u8]>,
+    out: &mut O,
+)
+    requires { count ≤ vec_len scopes.old }
+    ensures came { Came O.left out.old
+        (ended_items (framed Y.tables) count (does (act_seen act.now)) (reverse scopes.old.items) state.old)
+        out.new }
+    ensures state { state.new
+        ≡ ended_state (framed Y.tables) count (does (act_seen act.now)) (reverse scopes.old.items) state.old }
+    ensures scopes { Keeps scopes.old scopes.new (drop count (reverse scopes.old.items)) }
+{
+    for _i in 0..count {
+        end_innermost(scopes, state, act, out);
+    }
+}
+
+// A scope opens.
+fn open_scope<Y: Laying, O: PieceOut>(
+    scopes: &mut Vec<Scope<Label, Y::Kept>>,
+    state: &mut Y,
+    label: Label,
+    event: &Event<&[u8]>,
+    out: &mut O,
+)
+    requires { vec_len scopes.old < vec_capacity scopes.old }
+    ensures came { Came O.left out.old (Y.tables.begin_items label (event_seen event.now) state.old) out.new }
+    ensures state { state.new ≡ Y.tables.begin_state label (event_seen event.now) state.old }
+    ensures scopes { Keeps scopes.old scopes.new
+        (record { label = label; before = Y.tables.keep label (event_seen event.now) state.old }
+        ∷ reverse scopes.old.items) }
+{
+    let before = state.keep(label, event);
+    state.begin(label, event, out);
+    scopes.push_reserved(Scope { label, before });
+}
+
+// The act itself, after it ended so many scopes.
+fn place_act<Y: Laying, O: PieceOut>(
+    scopes: &mut Vec<Scope<Label, Y::Kept>>,
+    state: &mut Y,
+    count: usize,
+    act: &Act<&[u8]>,
+    out: &mut O,
+)
+    requires depth { vec_len scopes.old ≤ SCOPES }
+    requires reserved { SCOPES ≤ vec_capacity scopes.old }
+    ensures came { let st = stack_standing (act_seen act.now) count scopes.old
+        in Came O.left out.old (placed_items (framed Y.tables) st (does (act_seen act.now)) state.old)
+        out.new }
+    ensures state { let st = stack_standing (act_seen act.now) count scopes.old
+        in state.new ≡ placed_state (framed Y.tables) st (does (act_seen act.now)) state.old }
+    ensures scopes { let st = stack_standing (act_seen act.now) count scopes.old
+        in Keeps scopes.old scopes.new
+        (placed_scopes (framed Y.tables) st (does (act_seen act.now)) (reverse scopes.old.items) state.old) }
+{
+    match outcome_of(act, count, scopes.as_slice()) {
+        Outcome::Node(label) => open_scope(scopes, state, label, &act.event(), out),
+        Outcome::Leaf => state.leaf(act, out),
+        Outcome::Refused(refusal) => report_refusal(out, refusal, act),
+        Outcome::Nothing => {}
+    }
+}
+
+/// An act ends what it ends, and then opens a scope or stands as a leaf.
+pub(crate) fn take_act<Y: Laying, O: PieceOut>(
+    scopes: &mut Vec<Scope<Label, Y::Kept>>,
+    skips: &mut bool,
+    state: &mut Y,
+    act: &Act<&[u8]>,
+    out: &mut O,
+)
+    requires depth { vec_len scopes.old ≤ SCOPES }
+    requires reserved { SCOPES ≤ vec_capacity scopes.old }
+    ensures came { Came O.left out.old
+        (step_items scopes_nesting (framed Y.tables) (stack_edge skips.old scopes.old state.old)
+        (does (act_seen act.now))) out.new }
+    ensures edge { stack_edge skips.new scopes.new state.new
+        ≡ step scopes_nesting (framed Y.tables) (stack_edge skips.old scopes.old state.old)
+        (does (act_seen act.now)) }
+    ensures kept { vec_capacity scopes.new ≡ vec_capacity scopes.old }
+{
+    if is_passed_over(*skips, act) {
+        return;
+    }
+    let count = count_ended(act, scopes.as_slice());
+    end_scopes(scopes, state, count, act, out);
+    *skips = skips_after(*skips, act, scopes.as_slice());
+    place_act(scopes, state, count, act, out);
+}
+
+/// An event comes.
+pub(crate) fn take_coming<Y: Laying, O: PieceOut>(
+    scopes: &[Scope<Label, Y::Kept>],
+    skips: bool,
+    state: &mut Y,
+    event: &Event<&[u8]>,
+    out: &mut O,
+)
+    ensures came { Came O.left out.old (step_items scopes_nesting (framed Y.tables)
+        (record { mode = skips; scopes = reverse scopes.now; state = state.old })
+        (comes (event_seen event.now))) out.new }
+    ensures edge { record { mode = skips; scopes = reverse scopes.now; state = state.new }
+        ≡ step scopes_nesting (framed Y.tables)
+        (record { mode = skips; scopes = reverse scopes.now; state = state.old })
+        (comes (event_seen event.now)) }
+{
+    if !skips {
+        state.come(event, out);
+    }
+}

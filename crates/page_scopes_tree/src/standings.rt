@@ -1,0 +1,206 @@
+//! What becomes of an event itself, once it ended what it ends (man(7)). Open scopes stand in a list with the outermost first.
+
+ghost use Rattle.std.specs.Prelude.{◌≡◌, ◌≤◌, length, reverse};
+ghost use Rattle.page_scopes_laws.specs.Layouts.{labels};
+ghost use Rattle.page_scopes_tree.specs.Acts.{act_seen};
+ghost use Rattle.page_scopes_tree.specs.Standings as standings;
+ghost use Rattle.page_sets_lines.specs.Events.{closer_seen, deed_seen, leaf_seen, opener_seen, request_seen, text_seen};
+
+use crate::{Act, Explicit, Label, SCOPES};
+use page_scopes_laws::Scope;
+use page_sets_lines::{Closer, Deed, Leaf, Opener, Request};
+
+/// Why an event is refused.
+#[derive(Clone, Copy, PartialEq, Eq)]
+pub enum Refusal {
+    /// [`SCOPES`] scopes are open.
+    Scopes,
+    /// No scope of the closer is open.
+    NotOpen,
+    /// Fewer relative margins are open than the number of `RE` says.
+    FewerMargins,
+}
+
+/// What becomes of an event.
+#[derive(Clone, Copy, PartialEq, Eq)]
+pub enum Outcome {
+    /// A scope opens.
+    Node(Label),
+    /// It opens none.
+    Leaf,
+    /// It is reported, and does nothing.
+    Refused(Refusal),
+    /// It does nothing.
+    Nothing,
+}
+
+// The scope that an opener opens.
+fn opener_label(opener: &Opener<&[u8]>) -> Label
+    ensures { result ≡ standings.opener_label (opener_seen opener.now) }
+{
+    match *opener {
+        Opener::Section => Label::Section,
+        Opener::Subsection => Label::Subsection,
+        Opener::Paragraph(_) | Opener::Tagged(_) | Opener::Indented { .. } | Opener::Hanging(_) => {
+            Label::Paragraph
+        }
+        Opener::RelativeMargin(_) => Label::Explicit(Explicit::RelativeMargin),
+        Opener::Target(link, _) => Label::Explicit(Explicit::Target(link)),
+        Opener::Syntax(_) => Label::Explicit(Explicit::Syntax),
+    }
+}
+
+// Whether a scope more may open.
+fn has_room<B>(left: &[Scope<Label, B>]) -> bool
+    requires { length left.now ≤ SCOPES }
+    ensures { result ≡ standings.has_room (labels (reverse left.now)) }
+{
+    left.len() < SCOPES
+}
+
+// A scope opens where there is room.
+fn opened<B>(left: &[Scope<Label, B>], label: Label) -> Outcome
+    requires { length left.now ≤ SCOPES }
+    ensures { result ≡ standings.opened (labels (reverse left.now)) label }
+{
+    if has_room(left) {
+        Outcome::Node(label)
+    } else {
+        Outcome::Refused(Refusal::Scopes)
+    }
+}
+
+// A closer that ended no scope is refused.
+fn closed(refusal: Refusal, count: usize) -> Outcome
+    ensures { result ≡ standings.closed refusal count }
+{
+    if count == 0 {
+        Outcome::Refused(refusal)
+    } else {
+        Outcome::Leaf
+    }
+}
+
+// Why `RE` is refused.
+fn margin_refusal(number: Option<&[u8]>) -> Refusal
+    ensures { result ≡ standings.margin_refusal (text_seen number.entry) }
+{
+    match number {
+        None => Refusal::NotOpen,
+        Some(_) => Refusal::FewerMargins,
+    }
+}
+
+// What becomes of a closer.
+fn closer_outcome(closer: &Closer<&[u8]>, count: usize) -> Outcome
+    ensures { result ≡ standings.closer_outcome (closer_seen closer.now) count }
+{
+    match *closer {
+        Closer::Line => Outcome::Nothing,
+        Closer::RelativeMargin(number) => closed(margin_refusal(number), count),
+        Closer::Target(_, _) | Closer::Syntax => closed(Refusal::NotOpen, count),
+    }
+}
+
+// Whether the innermost scope is a line scope.
+fn in_line_scope<B>(left: &[Scope<Label, B>]) -> bool
+    requires { length left.now ≤ SCOPES }
+    ensures { result ≡ standings.in_line_scope (labels (reverse left.now)) }
+{
+    match left.last() {
+        Some(scope) => scope.label.is_line(),
+        None => false,
+    }
+}
+
+// Whether a line scope drops a request.
+fn is_dropped(request: &Request<&[u8]>) -> bool
+    ensures { result ≡ standings.is_dropped (request_seen request.now) }
+{
+    matches!(request, Request::Break | Request::Space(_))
+}
+
+// What becomes of a leaf.
+fn leaf_outcome<B>(leaf: &Leaf<&[u8]>, left: &[Scope<Label, B>]) -> Outcome
+    requires { length left.now ≤ SCOPES }
+    ensures { result ≡ standings.leaf_outcome (leaf_seen leaf.now) (labels (reverse left.now)) }
+{
+    match leaf {
+        Leaf::Request(request) => {
+            if in_line_scope(left) && is_dropped(request) {
+                Outcome::Nothing
+            } else {
+                Outcome::Leaf
+            }
+        }
+        _ => Outcome::Leaf,
+    }
+}
+
+// What becomes of a deed that ended so many scopes and leaves these.
+fn deed_outcome<B>(deed: &Deed<&[u8]>, count: usize, left: &[Scope<Label, B>]) -> Outcome
+    requires { length left.now ≤ SCOPES }
+    ensures { result ≡ standings.deed_outcome (deed_seen deed.now) count (labels (reverse left.now)) }
+{
+    match deed {
+        Deed::Open(opener) => opened(left, opener_label(opener)),
+        Deed::Close(closer) => closer_outcome(closer, count),
+        Deed::LineScope(opener) => opened(left, Label::Line(*opener)),
+        Deed::Leaf(leaf) => leaf_outcome(leaf, left),
+        _ => Outcome::Leaf,
+    }
+}
+
+/// What becomes of an act that ended so many scopes and leaves these.
+pub fn outcome_of<B>(act: &Act<&[u8]>, count: usize, left: &[Scope<Label, B>]) -> Outcome
+    requires { length left.now ≤ SCOPES }
+    ensures { result ≡ standings.act_outcome (act_seen act.now) count (labels (reverse left.now)) }
+{
+    match act {
+        Act::Event(event) => deed_outcome(&event.deed, count, left),
+        Act::PageEnd(_) => Outcome::Leaf,
+    }
+}
+
+// Whether an opener is of a paragraph.
+fn opens_paragraph(opener: &Opener<&[u8]>) -> bool
+    ensures { result ≡ standings.opens_paragraph (opener_seen opener.now) }
+{
+    matches!(
+        opener,
+        Opener::Paragraph(_) | Opener::Tagged(_) | Opener::Indented { .. } | Opener::Hanging(_)
+    )
+}
+
+// Whether the rest of the line is passed over after a deed.
+fn deed_skips<B>(skips: bool, deed: &Deed<&[u8]>, left: &[Scope<Label, B>]) -> bool
+    requires { length left.now ≤ SCOPES }
+    ensures { result ≡ standings.deed_skips skips (deed_seen deed.now) (labels (reverse left.now)) }
+{
+    match deed {
+        Deed::End { .. } => false,
+        Deed::Open(opener) => skips || (opens_paragraph(opener) && !has_room(left)),
+        _ => skips,
+    }
+}
+
+/// Whether the rest of the line is passed over after an act that leaves these scopes.
+pub fn skips_after<B>(skips: bool, act: &Act<&[u8]>, left: &[Scope<Label, B>]) -> bool
+    requires { length left.now ≤ SCOPES }
+    ensures { result ≡ standings.act_skips skips (act_seen act.now) (labels (reverse left.now)) }
+{
+    match act {
+        Act::Event(event) => deed_skips(skips, &event.deed, left),
+        Act::PageEnd(_) => skips,
+    }
+}
+
+/// Whether an act is passed over.
+pub fn is_passed_over(skips: bool, act: &Act<&[u8]>) -> bool
+    ensures { result ≡ standings.is_passed_over skips (act_seen act.now) }
+{
+    match act {
+        Act::Event(event) => skips && !matches!(event.deed, Deed::End { .. }),
+        Act::PageEnd(_) => false,
+    }
+}

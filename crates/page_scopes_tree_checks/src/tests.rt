@@ -1,0 +1,224 @@
+//! What events open and end, and what is reported.
+
+use crate::nested::Nested;
+use page_core_base::{Font, Note, NoteKind, Piece, PieceOut, Place};
+use page_roff_forms::{Argument, Quoting};
+use page_scopes_tree::{SCOPES, ScopeStack};
+use page_sets_lines::{
+    Closer, Deed, Event, FontMacro, HeadingName, Join, Leaf, LineOpener, Link, Opener,
+    ParagraphName, Request, Role, TagName, Word,
+};
+use std::alloc::Global;
+use std::process::Abort;
+use std::test::Fail;
+
+fn check_bytes(rt: &impl Abort, got: &[u8], wanted: &[u8]) {
+    assert_eq!(rt; got, wanted);
+}
+
+fn check_count(rt: &impl Abort, got: usize, wanted: usize) {
+    assert_eq!(rt; got, wanted);
+}
+
+// Keeps a text of what it is given: a scope's name, ")" and the level where one ends, and messages between "!" and ";".
+#[derive(Drop)]
+struct Shown {
+    text: Vec<u8>,
+}
+
+impl Shown {
+    fn add(&mut self, bytes: &[u8]) {
+        let _ = self.text.extend_from_slice(bytes);
+    }
+}
+
+fn kind_name(kind: NoteKind) -> &'static str {
+    match kind {
+        NoteKind::BadNest => "BadNest ",
+        NoteKind::MissingEnd => "MissingEnd ",
+        NoteKind::LineScope => "LineScope ",
+        NoteKind::NotOpen => "NotOpen ",
+        NoteKind::FewerRs => "FewerRs",
+        NoteKind::Limit => "Limit ",
+        _ => "?",
+    }
+}
+
+impl PieceOut for Shown {
+    ghost Plan = { Unit {0} };
+
+    ghost left = { λ plan s rest. Unit {0} };
+
+    fn give(&mut self, piece: Piece<&[u8]>) {
+        match piece {
+            Piece::Text { text, .. } => self.add(text),
+            Piece::Indent { first, .. } => {
+                self.add(b")");
+                self.add(&[b'0' + (first / 4 % 10) as u8]);
+            }
+            _ => self.add(b"."),
+        }
+    }
+
+    fn report(&mut self, note: &Note) {
+        self.add(b"!");
+        self.add(kind_name(note.kind).as_bytes());
+        self.add(note.detail.as_str().as_bytes());
+        self.add(b";");
+    }
+
+    fn has_failed(&self) -> bool {
+        false
+    }
+}
+
+const TEXT: Argument<&[u8]> = Argument {
+    text: b"w",
+    column: 1,
+    quoting: Quoting::Bare,
+};
+
+// What a letter opens.
+fn opener(letter: u8) -> Option<Opener<&'static [u8]>> {
+    match letter {
+        b'H' => Some(Opener::Section),
+        b'h' => Some(Opener::Subsection),
+        b'P' => Some(Opener::Paragraph(ParagraphName::PP)),
+        b'T' => Some(Opener::Tagged(None)),
+        b'R' => Some(Opener::RelativeMargin(None)),
+        b'U' => Some(Opener::Target(Link::UR, TEXT)),
+        b'M' => Some(Opener::Target(Link::MT, TEXT)),
+        b'S' => Some(Opener::Syntax(TEXT)),
+        _ => None,
+    }
+}
+
+// What a letter closes.
+fn closer(letter: u8) -> Option<Closer<&'static [u8]>> {
+    match letter {
+        b'L' => Some(Closer::Line),
+        b'r' => Some(Closer::RelativeMargin(None)),
+        b'0' => Some(Closer::RelativeMargin(Some(b"0"))),
+        b'2' => Some(Closer::RelativeMargin(Some(b"1+1"))),
+        b'3' => Some(Closer::RelativeMargin(Some(b"3"))),
+        b'u' => Some(Closer::Target(Link::UR, None)),
+        b'm' => Some(Closer::Target(Link::MT, None)),
+        b's' => Some(Closer::Syntax),
+        _ => None,
+    }
+}
+
+// What else a letter does.
+fn other(letter: u8) -> Deed<&'static [u8]> {
+    match letter {
+        b't' => Deed::LineScope(LineOpener::Tag(TagName::TP)),
+        b'b' => Deed::LineScope(LineOpener::FontWords(FontMacro::B)),
+        b'd' => Deed::LineScope(LineOpener::Heading(HeadingName::SH)),
+        b'B' => Deed::Leaf(Leaf::BlankLine),
+        b'.' => Deed::Leaf(Leaf::Request(Request::Break)),
+        b'X' => Deed::Raw(b"x"),
+        b'e' => Deed::End { fills: false },
+        b'E' => Deed::End { fills: true },
+        _ => Deed::Word(Word {
+            arg: TEXT,
+            role: Role::Argument,
+            font: None,
+            before: Join::Apart,
+            after: Join::Apart,
+        }),
+    }
+}
+
+fn deed(letter: u8) -> Deed<&'static [u8]> {
+    if let Some(opener) = opener(letter) {
+        return Deed::Open(opener);
+    }
+    if let Some(closer) = closer(letter) {
+        return Deed::Close(closer);
+    }
+    other(letter)
+}
+
+fn apply_letter(scopes: &mut ScopeStack<Nested>, out: &mut Shown, letter: u8) {
+    let event = Event {
+        place: Place { line: 1, column: 2 },
+        deed: deed(letter),
+    };
+    scopes.apply(event, out);
+}
+
+fn apply_letters(scopes: &mut ScopeStack<Nested>, out: &mut Shown, script: &str) {
+    for letter in script.as_bytes() {
+        apply_letter(scopes, out, *letter);
+    }
+}
+
+// What the events of a script give, up to the page's end.
+fn given_by(alloc: Global, script: &str) -> Result<Vec<u8>, Fail> {
+    let mut out = Shown {
+        text: Vec::new(alloc),
+    };
+    let mut scopes = ScopeStack::new(alloc, Nested { margin: 0 })?;
+    apply_letters(&mut scopes, &mut out, script);
+    out.add(b" ");
+    scopes.finish(1, &mut out);
+    Ok(out.text)
+}
+
+// Letters as above; then what they give, and what the page's end gives.
+const CASES: [(&str, &str); 20] = [
+    ("RUr", "RSUR!BadNest UR;)1)0 "),
+    ("R3", "RS!FewerRs; !MissingEnd RS;)0"),
+    ("R0", "RS!FewerRs; !MissingEnd RS;)0"),
+    ("3", "!FewerRs; "),
+    ("RRR2", "RSRSRS)2)1 !MissingEnd RS;)0"),
+    ("RUR2", "RSURRS)2 !MissingEnd UR;)1!MissingEnd RS;)0"),
+    ("HRUH", "SHRSUR!MissingEnd UR;)2!MissingEnd RS;)1)0SH )0"),
+    ("HhPh", "SHSSPP)2)1SS )1)0"),
+    ("PRPP", "PPRSPP)2PP )2!MissingEnd RS;)1)0"),
+    ("PUP", "PPUR!MissingEnd UR;)1)0PP )0"),
+    ("UPu", "URPP)1)0 "),
+    ("Hde", "SHSH )1)0"),
+    ("HdewE", "SHSHw)1 )0"),
+    ("TteL", "PPTP!LineScope TP;)1 )0"),
+    ("TtbwE", "PPTPBw)2)1 )0"),
+    ("bXbB", "B!LineScope B;)0B!LineScope B;)0 "),
+    ("b.E.", "B)0. "),
+    ("umrs", "!NotOpen UE;!NotOpen ME;!NotOpen RE;!NotOpen YS; "),
+    ("SUS", "SYUR!MissingEnd UR;)1)0SY !MissingEnd SY;)0"),
+    ("MUm", "MTUR!BadNest UR;)1)0 "),
+];
+
+#[test]
+fn scopes_of_events(rt: HostRuntime) -> Result<(), Fail> {
+    for (script, wanted) in CASES {
+        check_bytes(
+            &rt,
+            given_by(rt.alloc(), script)?.as_slice(),
+            wanted.as_bytes(),
+        );
+    }
+    Ok(())
+}
+
+// The 65th scope is refused; so is a paragraph, which passes over the rest of its line.
+#[test]
+fn a_scope_too_many(rt: HostRuntime) -> Result<(), Fail> {
+    let mut out = Shown {
+        text: Vec::new(rt.alloc()),
+    };
+    let mut scopes = ScopeStack::new(rt.alloc(), Nested { margin: 0 })?;
+    for _i in 0..SCOPES {
+        apply_letter(&mut scopes, &mut out, b'R');
+    }
+    check_count(&rt, scopes.depth(), SCOPES);
+    out.text.clear();
+    apply_letters(&mut scopes, &mut out, "RewETtwEwEr");
+    check_bytes(
+        &rt,
+        out.text.as_slice(),
+        b"!Limit SCOPES;w!Limit SCOPES;w)3",
+    );
+    check_count(&rt, scopes.depth(), SCOPES - 1);
+    Ok(())
+}
