@@ -1,0 +1,18 @@
+//! Laws of sources.
+
+ghost use Rattle.std.specs.Prelude.{◌≡◌, ℕ, List, ◌++◌};
+ghost use Rattle.page_roff_blocks.specs.Levels.{Place};
+ghost use Rattle.page_roff_blocks.specs.Run.{Meaning, run_lines, At};
+ghost use Rattle.page_roff_blocks.specs.Steps.{step_lines};
+
+/// What the forest of a source does is what its parts do one after another, from every place on.
+pub fn fold_law<S>()
+    ensures { (m : Meaning S) (lines : List (List ℕ)) (at : At S) → run_lines m lines at ≡ step_lines m lines at }
+{}
+
+/// A source may be cut between any two lines, inside regions, blocks and remainders that are skipped too: what follows the cut goes on from the nodes
+/// that the lines before it left open.
+pub fn cut_law<S>()
+    ensures { (m : Meaning S) (above below : List (List ℕ)) (at : At S)
+        → run_lines m (above ++ below) at ≡ run_lines m below (run_lines m above at) }
+{}
