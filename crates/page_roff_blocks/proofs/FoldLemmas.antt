@@ -2,13 +2,15 @@
 use Rattle.std.proofs.Common.{◌≡◌, ℕ, zero, suc, Bool, true, false, List, [], ◌∷◌, ◌++◌, length, Option, Some, None, refl, sym, ap, ◌∙◌}
 use Rattle.page_roff_blocks.specs.declared.atoms.Atom.{Atom}
 use Rattle.page_roff_blocks.specs.declared.atoms.Atom.TheVariants.{Leaf, Guard, Block, End, Region}
-use Rattle.page_roff_blocks.specs.declared.heads.Head.{Head}
+use Rattle.page_roff_blocks.specs.declared.atoms.Head.{Head}
 use Rattle.page_roff_blocks.specs.declared.regions.RegionHead.{RegionHead}
 use Rattle.page_roff_blocks.specs.Atoms.{atoms}
 use Rattle.page_roff_blocks.specs.Regions.{is_ending}
 use Rattle.page_roff_blocks.specs.Forest.{Forest, empty, line, leaf, guard, block, region, Source, ends, shuts, opens, holds, Inside, unended, ended, before, enclose, enregion, keep, line_of, region_line, source_of, inside_of}
-use Rattle.page_roff_blocks.specs.Levels.{Levels, Way, runs, skips, exceeds, enter, skip, Opened, opened, Place}
-use Rattle.page_roff_blocks.specs.Run.{Meaning, Flow, At, fresh, past, guarded, meet, pass_region, pass, leaf_if, guard_if, enter_if, block_by, run, read, here_at, here, enter_at, enter_block, leave_level, leave_at, leave_block, meet_at, open_region, read_at, run_source, run_inside, run_from, run_lines}
+use Rattle.page_roff_blocks.specs.Levels.{Levels, enter, skip, leave, leave_from, leave_level, has_block, is_block, Opened, opened, Place}
+use Rattle.page_roff_blocks.specs.declared.levels.Way.{Way}
+use Rattle.page_roff_blocks.specs.declared.levels.Way.TheVariants.{Runs, Skips, Exceeds}
+use Rattle.page_roff_blocks.specs.Run.{Meaning, Flow, At, fresh, past, guarded, meet, pass_region, pass, leaf_if, guard_if, enter_if, block_by, run, read, here_at, here, enter_at, enter_block, unopened_if, leave_block, meet_at, open_region, read_at, run_source, run_inside, run_from, run_lines}
 use Rattle.page_roff_blocks.specs.Steps.{leaf_at, guard_at, step_parts, step_inside, step_from, step, step_lines}
 
 module _ {S : Type 0} (m : Meaning S) where
@@ -38,11 +40,11 @@ module _ {S : Type 0} (m : Meaning S) where
   line_here t b o zero w f = refl
   line_here t b o (suc n) w f = refl
 
-  leaf_here : (t : List ℕ) (c : ℕ) (b : Bool) (o : List Bool) (n : ℕ) (w : Flow S) (f : Forest)
-      → here m (leaf t c f) (levels b o n) w ≡ here m f (levels b o n) (leaf_at m n t c w)
+  leaf_here : (t : List ℕ) (b : Bool) (o : List Bool) (n : ℕ) (w : Flow S) (f : Forest)
+      → here m (leaf t f) (levels b o n) w ≡ here m f (levels b o n) (leaf_at m n t w)
   unfolding here here_at run pass leaf_at levels
-  leaf_here t c b o zero w f = refl
-  leaf_here t c b o (suc n) w f = refl
+  leaf_here t b o zero w f = refl
+  leaf_here t b o (suc n) w f = refl
 
   guard_here : (h : Head (List ℕ)) (b : Bool) (o : List Bool) (n : ℕ) (w : Flow S) (f : Forest)
       → let g = guard_at m n h (levels b o n) w in here m (guard h f) (levels b o n) w ≡ here m f g.0 g.1
@@ -59,20 +61,20 @@ module _ {S : Type 0} (m : Meaning S) where
   -- a block at a level that is run, after it is known how it is entered
   block_way : (way : Way) (bit : Bool) (s : S) (f rest : Forest) (b : Bool) (o : List Bool)
       → let r = here m f (enter way bit (levels b o 0)) (past s) in
-        let z = leave_block m r.0 r.1 in
-        let y = run m (length o) rest bit (past (block_by m way (λ s. (run m (suc (length o)) f false (past s)).1.state) (λ s. (pass m f (past s)).state) s)) in
-        (levels y.0 o 0, y.1) ≡ here m rest z.0 z.1
-  unfolding here here_at levels enter leave_block leave_at leave_level block_by
-  block_way runs bit s f rest b o = refl
-  block_way skips bit s f rest b o = refl
-  block_way exceeds bit s f rest b o = refl
+      let z = leave_block m r.0 r.1 in
+      let y = run m (length o) rest bit (past (block_by m way (λ s. (run m (suc (length o)) f false (past s)).1.state) (λ s. (pass m f (past s)).state) s)) in
+      (levels y.0 o 0, y.1) ≡ here m rest z.0 z.1
+  unfolding here here_at levels enter leave_block leave leave_from leave_level has_block is_block unopened_if block_by
+  block_way Runs bit s f rest b o = refl
+  block_way Skips bit s f rest b o = refl
+  block_way Exceeds bit s f rest b o = refl
 
   block_here : (h : Head (List ℕ)) (f : Forest) (b : Bool) (o : List Bool) (n : ℕ) (w : Flow S) (rest : Forest)
       → let q = enter_block m h (levels b o n) w in
-        let r = here m f q.0 q.1 in
-        let z = leave_block m r.0 r.1 in
-        here m (block h f rest) (levels b o n) w ≡ here m rest z.0 z.1
-  unfolding here here_at run pass levels enter_block enter_at leave_block leave_at skip
+      let r = here m f q.0 q.1 in
+      let z = leave_block m r.0 r.1 in
+      here m (block h f rest) (levels b o n) w ≡ here m rest z.0 z.1
+  unfolding here here_at run pass levels enter_block enter_at leave_block leave leave_from has_block is_block unopened_if skip
   block_here h f b o zero w rest =
       let q = meet m w in
       let i = enter_if m q.0 (length o) h b q.1 in
@@ -122,9 +124,9 @@ module _ {S : Type 0} (m : Meaning S) where
       → run_source m (line_of parts src inside) l w ≡ from src inside (step_parts m parts l w)
   unfolding line_of step_parts from run_from run_source IsSteady open_region opened levels
   parts_step [] src inside steady l w = steady l w
-  parts_step (Leaf t c ∷ rest) src inside steady l w =
-      run_before (leaf t c) l w (l, leaf_at m l.skipped t c w) (leaf_here t c l.bit l.outer l.skipped w) (line_of rest src inside)
-      ∙ parts_step rest src inside steady l (leaf_at m l.skipped t c w)
+  parts_step (Leaf t ∷ rest) src inside steady l w =
+      run_before (leaf t) l w (l, leaf_at m l.skipped t w) (leaf_here t l.bit l.outer l.skipped w) (line_of rest src inside)
+      ∙ parts_step rest src inside steady l (leaf_at m l.skipped t w)
   parts_step (Guard h ∷ rest) src inside steady l w =
       let g = guard_at m l.skipped h l w in
       run_before (guard h) l w g (guard_here h l.bit l.outer l.skipped w) (line_of rest src inside)

@@ -2,7 +2,7 @@
 use Rattle.std.specs.Prelude.{ℕ, Bool, true, false, List, [], ◌∷◌}
 use Rattle.page_roff_blocks.specs.declared.atoms.Atom.{Atom}
 use Rattle.page_roff_blocks.specs.declared.atoms.Atom.TheVariants.{Leaf, Guard, Block, End, Region}
-use Rattle.page_roff_blocks.specs.declared.heads.Head.{Head}
+use Rattle.page_roff_blocks.specs.declared.atoms.Head.{Head}
 use Rattle.page_roff_blocks.specs.declared.regions.RegionHead.{RegionHead}
 use Rattle.page_roff_blocks.specs.Atoms.{atoms}
 use Rattle.page_roff_blocks.specs.Regions.{is_ending}
@@ -12,8 +12,7 @@ pub data Forest : Type 0 where
   empty : Forest
   -- a raw line begins
   line : List ℕ → Forest → Forest
-  -- a text and its column
-  leaf : List ℕ → ℕ → Forest → Forest
+  leaf : List ℕ → Forest → Forest
   -- the head of a conditional without a block, which guards the next node of its line
   guard : Head (List ℕ) → Forest → Forest
   -- the head of a conditional with its block
@@ -60,7 +59,7 @@ keep l (ended ls e s) = ended (l ∷ ls) e s
 -- the parts of a line before what follows the line, which is seen in both ways: as it begins outside, and inside a region of that end name
 unfoldable pub line_of : List (Atom (List ℕ)) → Source → (List ℕ → Inside) → Source
 line_of [] after inside = after
-line_of (Leaf text column ∷ rest) after inside = before (leaf text column) (line_of rest after inside)
+line_of (Leaf text ∷ rest) after inside = before (leaf text) (line_of rest after inside)
 line_of (Guard h ∷ rest) after inside = before (guard h) (line_of rest after inside)
 line_of (Block h ∷ rest) after inside = enclose h (line_of rest after inside)
 line_of (End ∷ rest) after inside = shuts empty (line_of rest after inside)

@@ -1,11 +1,16 @@
 -- What a source does, by recursion on its forest. Source: roff(7), "if", "ie", "el", "de", "ig".
 use Rattle.std.specs.Prelude.{ℕ, zero, suc, Bool, true, false, not, List, [], ◌∷◌, length, Option, Some, None}
-use Rattle.page_roff_blocks.specs.declared.heads.Branch.{Branch}
-use Rattle.page_roff_blocks.specs.declared.heads.Branch.TheVariants.{If, IfElse, Else}
-use Rattle.page_roff_blocks.specs.declared.heads.Head.{Head}
+use Rattle.page_roff_heads.specs.declared.conditions.Condition.{Condition}
+use Rattle.page_roff_blocks.specs.declared.atoms.Branch.{Branch}
+use Rattle.page_roff_blocks.specs.declared.atoms.Branch.TheVariants.{If, IfElse, Else}
+use Rattle.page_roff_blocks.specs.declared.atoms.Head.{Head}
+use Rattle.page_roff_blocks.specs.declared.levels.Way.{Way}
+use Rattle.page_roff_blocks.specs.declared.levels.Way.TheVariants.{Runs, Skips, Exceeds}
 use Rattle.page_roff_blocks.specs.declared.regions.RegionHead.{RegionHead}
+use Rattle.page_roff_blocks.specs.declared.spots.Reached.{Reached}
+use Rattle.page_roff_blocks.specs.declared.spots.Reached.TheVariants.{PassedOver, First, Remainder}
 use Rattle.page_roff_blocks.specs.Forest.{Forest, empty, line, leaf, guard, block, region, Source, ends, shuts, opens, holds, Inside, unended, ended, source_of, inside_of}
-use Rattle.page_roff_blocks.specs.Levels.{Levels, bit_after, Way, runs, skips, exceeds, way_of, enter, skip, Opened, opened, Place}
+use Rattle.page_roff_blocks.specs.Levels.{Levels, bit_after, way_of, enter, skip, leave, has_block, reached_if, Opened, opened, Place}
 
 -- What the parts of a source do to a state: all that has no part in its forest.
 pub record Meaning (S : Type 0) : Type 0 where
@@ -14,9 +19,9 @@ pub record Meaning (S : Type 0) : Type 0 where
   -- A node is reached that no block and no head passes over, with whether it is a remainder: whether it is run.
   pub meets : Bool → S → Bool × S
   -- the condition of an `if` or `ie` that is run
-  pub tests : Head (List ℕ) → S → Bool × S
-  -- a leaf that is run, and its column
-  pub gives : List ℕ → ℕ → S → S
+  pub tests : Condition (List ℕ) → S → Bool × S
+  -- a leaf that is run
+  pub gives : List ℕ → S → S
   -- a true block beyond the limit of open ones
   pub refuses : Head (List ℕ) → S → S
   -- the end of a block where none is open
@@ -45,7 +50,7 @@ fresh s = record { begun = false; passing = false; state = s }
 unfoldable pub past : {S : Type 0} → S → Flow S
 past s = record { begun = true; passing = false; state = s }
 
--- a head passes over, or is passed over
+-- after a head that may pass over the next node
 unfoldable pub guarded : {S : Type 0} → Bool → S → Flow S
 guarded passing s = record { begun = true; passing = passing; state = s }
 
@@ -57,21 +62,19 @@ pub record Entered (S : Type 0) : Type 0 where
 
 module _ {S : Type 0} (m : Meaning S) where
   -- a node is reached where nothing is skipped: whether it is run
-  unfoldable pub meet_if : Bool → Bool → S → Bool × S
-  meet_if true begun s = (false, s)
-  meet_if false begun s = m.meets begun s
+  unfoldable pub meet_as : Reached → S → Bool × S
+  meet_as PassedOver s = (false, s)
+  meet_as First s = m.meets false s
+  meet_as Remainder s = m.meets true s
 
   unfoldable pub meet : Flow S → Bool × S
-  meet w = meet_if w.passing w.begun w.state
+  meet w = meet_as (reached_if w.passing w.begun) w.state
 
   -- the value of a head that is run; `el` has that of its level's bit
-  unfoldable pub value_by : Branch → Head (List ℕ) → Bool → S → Bool × S
-  value_by If h bit s = m.tests h s
-  value_by IfElse h bit s = m.tests h s
-  value_by Else h bit s = (bit, s)
-
-  unfoldable pub value : Head (List ℕ) → Bool → S → Bool × S
-  value h bit s = value_by h.branch h bit s
+  unfoldable pub value : Branch (List ℕ) → Bool → S → Bool × S
+  value (If condition) bit s = m.tests condition s
+  value (IfElse condition) bit s = m.tests condition s
+  value Else bit s = (bit, s)
 
   -- the lines of a region
   unfoldable pub read : Opened → List (List ℕ) → S → S
@@ -86,46 +89,46 @@ module _ {S : Type 0} (m : Meaning S) where
   unfoldable pub pass : Forest → Flow S → Flow S
   pass empty w = w
   pass (line l rest) w = pass rest (fresh (m.begins l w.state))
-  pass (leaf text column rest) w = pass rest (past w.state)
-  pass (guard h rest) w = pass rest (past w.state)
+  pass (leaf text rest) w = pass rest (past w.state)
+  pass (guard h rest) w = pass rest (guarded w.passing w.state)
   pass (region r ls e rest) w = pass rest (fresh (pass_region r false ls e w.state))
   pass (block h inner rest) w = pass rest (past (pass inner (past w.state)).state)
 
-  unfoldable pub leaf_if : Bool → List ℕ → ℕ → S → S
-  leaf_if true text column s = m.gives text column s
-  leaf_if false text column s = s
+  unfoldable pub leaf_if : Bool → List ℕ → S → S
+  leaf_if true text s = m.gives text s
+  leaf_if false text s = s
 
   -- a head without a block: the level's bit, and the state in which the next node is met
   unfoldable pub guard_if : Bool → Head (List ℕ) → Bool → Bool → S → Bool × Flow S
   guard_if true h passing bit s =
-      let v = value h bit s in
+      let v = value h.branch bit s in
       (bit_after h.branch v.0 bit, guarded (not v.0) v.1)
   guard_if false h passing bit s = (bit, guarded passing s)
 
   unfoldable pub refuse_if : Way → Head (List ℕ) → S → S
-  refuse_if runs h s = s
-  refuse_if skips h s = s
-  refuse_if exceeds h s = m.refuses h s
+  refuse_if Runs h s = s
+  refuse_if Skips h s = s
+  refuse_if Exceeds h s = m.refuses h s
 
   unfoldable pub enter_if : Bool → ℕ → Head (List ℕ) → Bool → S → Entered S
   enter_if true n h bit s =
-      let v = value h bit s in
+      let v = value h.branch bit s in
       let way = way_of v.0 n in
       record { way = way; bit = bit_after h.branch v.0 bit; state = refuse_if way h v.1 }
-  enter_if false n h bit s = record { way = skips; bit = bit; state = s }
+  enter_if false n h bit s = record { way = Skips; bit = bit; state = s }
 
   unfoldable pub block_by : Way → (S → S) → (S → S) → S → S
-  block_by runs run_it pass_it s = run_it s
-  block_by skips run_it pass_it s = pass_it s
-  block_by exceeds run_it pass_it s = pass_it s
+  block_by Runs run_it pass_it s = run_it s
+  block_by Skips run_it pass_it s = pass_it s
+  block_by Exceeds run_it pass_it s = pass_it s
 
   -- What is run, where so many true blocks are open around it: the level's bit and the state.
   unfoldable pub run : ℕ → Forest → Bool → Flow S → Bool × Flow S
   run n empty bit w = (bit, w)
   run n (line l rest) bit w = run n rest bit (fresh (m.begins l w.state))
-  run n (leaf text column rest) bit w =
+  run n (leaf text rest) bit w =
       let q = meet w in
-      run n rest bit (past (leaf_if q.0 text column q.1))
+      run n rest bit (past (leaf_if q.0 text q.1))
   run n (guard h rest) bit w =
       let q = meet w in
       let g = guard_if q.0 h w.passing bit q.1 in
@@ -158,17 +161,13 @@ module _ {S : Type 0} (m : Meaning S) where
   unfoldable pub enter_block : Head (List ℕ) → Levels → Flow S → Levels × Flow S
   enter_block h l w = enter_at l.skipped h l w
 
-  -- the innermost block ends
-  unfoldable pub leave_level : List Bool → Levels → Flow S → Levels × Flow S
-  leave_level [] l w = (l, past (m.unopened w.state))
-  leave_level (b ∷ bs) l w = (record { bit = b; outer = bs; skipped = 0 }, past w.state)
-
-  unfoldable pub leave_at : ℕ → Levels → Flow S → Levels × Flow S
-  leave_at zero l w = leave_level l.outer l w
-  leave_at (suc k) l w = (record l { skipped = k }, past w.state)
+  -- the innermost block ends, if there is one
+  unfoldable pub unopened_if : Bool → S → S
+  unopened_if true s = s
+  unopened_if false s = m.unopened s
 
   unfoldable pub leave_block : Levels → Flow S → Levels × Flow S
-  leave_block l w = leave_at l.skipped l w
+  leave_block l w = (leave l, past (unopened_if (has_block l) w.state))
 
   -- whether a region's head is run
   unfoldable pub meet_at : ℕ → Flow S → Bool × S

@@ -1,12 +1,22 @@
-//! The raw lines of a source as a forest of leaves, regions and blocks (roff(7), "if", "ie", "el", "de", "ig").
+//! The raw lines of a source as a forest of leaves, regions and blocks: what heads and ends them is found from the raw text
+//! alone (roff(7), "if", "ie", "el", "de", "am", "ig").
 #![tactic(auto)]
 
 mod atoms;
-mod heads;
 mod laws;
+mod levels;
+mod open_regions;
+mod parts;
 mod regions;
+mod spots;
 
-pub use atoms::Atom;
-pub use heads::{Branch, Head};
+pub use atoms::{Atom, Branch, Head};
 pub use laws::{cut_law, fold_law};
-pub use regions::{RegionHead, RegionKind};
+pub use levels::{Levels, Way};
+pub use open_regions::OpenRegion;
+pub use parts::Atoms;
+pub use regions::{RegionHead, RegionKind, is_ending};
+pub use spots::{Reached, Spot};
+
+/// The open true blocks of a source: a page or a running macro.
+pub const CONDS: usize = 64;
