@@ -1,1 +1,3 @@
+pub mod AtomLemmas
 pub mod FoldLemmas
+pub mod LevelLemmas

@@ -1,9 +1,14 @@
 //! Laws of sources.
 
 ghost use Rattle.std.specs.Prelude.{◌≡◌, ℕ, List, ◌++◌};
-ghost use Rattle.page_roff_blocks.specs.Levels.{Place};
+ghost use Rattle.page_roff_blocks.specs.Atoms.{with_part, part_of, atoms, atoms_left};
 ghost use Rattle.page_roff_blocks.specs.Run.{Meaning, run_lines, At};
 ghost use Rattle.page_roff_blocks.specs.Steps.{step_lines};
+
+/// The parts of a line are its first one, and those of what is left of the line.
+pub fn atoms_law()
+    ensures { (line : List ℕ) → atoms line ≡ with_part (part_of line) (atoms_left (part_of line).rest) }
+{}
 
 /// What the forest of a source does is what its parts do one after another, from every place on.
 pub fn fold_law<S>()

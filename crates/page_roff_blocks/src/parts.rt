@@ -69,7 +69,7 @@ fn keyword_of(name: &[u8]) -> Keyword
 
 // What is left of a line, as a text.
 fn rest_text(remainder: Option<Placed<&[u8]>>) -> Option<&[u8]>
-    requires { FitsRest (rest_text (remainder_seen remainder.entry)) }
+    requires { FitsRest (rest_text (remainder_seen remainder)) }
     ensures value { text_seen result ≡ rest_text (remainder_seen remainder.entry) }
     ensures fits { FitsRest (text_seen result) }
 {
@@ -81,8 +81,8 @@ fn rest_text(remainder: Option<Placed<&[u8]>>) -> Option<&[u8]>
 
 // A head, and what it guards.
 fn head_part<'a>(head: Head<&'a [u8]>, guarded: Guarded<&'a [u8]>) -> Part<&'a [u8]>
-    requires head { FitsBranch (head_seen head.entry).branch }
-    requires guarded { FitsGuarded (guarded_seen guarded.entry) }
+    requires head { FitsBranch (head_seen head).branch }
+    requires guarded { FitsGuarded (guarded_seen guarded) }
     ensures value { part_seen result ≡ head_part (head_seen head.entry) (guarded_seen guarded.entry) }
     ensures fits { FitsPart (part_seen result) }
 {
@@ -100,7 +100,7 @@ fn head_part<'a>(head: Head<&'a [u8]>, guarded: Guarded<&'a [u8]>) -> Part<&'a [
 // What stands before the end of a block, and what is left after it.
 fn end_part<'a>(before: &'a [u8], rest: Option<&'a [u8]>) -> Part<&'a [u8]>
     requires before { length before.now ≤ LINE }
-    requires rest { FitsRest (text_seen rest.entry) }
+    requires rest { FitsRest (text_seen rest) }
     ensures value { part_seen result ≡ end_part before.now (text_seen rest.entry) }
     ensures fits { FitsPart (part_seen result) }
 {
@@ -198,6 +198,7 @@ fn else_part(raw_rest: &[u8], column: u32, rest_column: u32) -> Part<&[u8]>
 }
 
 // The first part of a line.
+#[tactic(auto, unfolding(crate::specs::Atoms::part_of))]
 fn part_of(line: &[u8]) -> Part<&[u8]>
     requires { length line.now ≤ LINE }
     ensures value { part_seen result ≡ part_of line.now }
@@ -210,7 +211,7 @@ fn part_of(line: &[u8]) -> Part<&[u8]>
             rest,
             rest_column,
         } => keyword_part(keyword_of(name), line, column, rest, rest_column),
-        _ => plain_part(line),
+        LineForm::Comment | LineForm::BlankLine | LineForm::Text(_) => plain_part(line),
     }
 }
 
