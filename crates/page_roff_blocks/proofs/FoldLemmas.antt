@@ -7,11 +7,11 @@ use Rattle.page_roff_blocks.specs.declared.regions.RegionHead.{RegionHead}
 use Rattle.page_roff_blocks.specs.Atoms.{atoms}
 use Rattle.page_roff_blocks.specs.Regions.{is_ending}
 use Rattle.page_roff_blocks.specs.Forest.{Forest, empty, line, leaf, guard, block, region, Source, ends, shuts, opens, holds, Inside, unended, ended, before, enclose, enregion, keep, line_of, region_line, source_of, inside_of}
-use Rattle.page_roff_blocks.specs.Levels.{Levels, enter, skip, leave, leave_from, leave_level, has_block, is_block, Opened, opened, Place}
+use Rattle.page_roff_blocks.specs.Levels.{Levels, enter, skip, leave, leave_from, leave_level, has_block, is_block, Spot, at_line, after_part, reached, reached_from, Opened, opened, Place}
 use Rattle.page_roff_blocks.specs.declared.levels.Way.{Way}
 use Rattle.page_roff_blocks.specs.declared.levels.Way.TheVariants.{Runs, Skips, Exceeds}
-use Rattle.page_roff_blocks.specs.Run.{Meaning, Flow, At, fresh, past, guarded, meet, pass_region, pass, leaf_if, guard_if, enter_if, block_by, run, read, here_at, here, enter_at, enter_block, unopened_if, leave_block, meet_at, open_region, read_at, run_source, run_inside, run_from, run_lines}
-use Rattle.page_roff_blocks.specs.Steps.{leaf_at, guard_at, step_parts, step_inside, step_from, step, step_lines}
+use Rattle.page_roff_blocks.specs.Run.{Meaning, Flow, At, fresh, past, guarded, meet_as, meet, pass_region, pass, leaf_if, guard_if, enter_if, block_by, run, read, here_at, here, enter_at, enter_block, unopened_if, leave_block, meet_at, open_region, read_at, run_source, run_inside, run_from, run_lines}
+use Rattle.page_roff_blocks.specs.Steps.{met, step_leaf, guard_with, guard_met, step_guard, block_with, block_met, step_block, step_end, step_region, step_parts, step_inside, step_from, step, step_lines}
 
 module _ {S : Type 0} (m : Meaning S) where
   levels : Bool → List Bool → ℕ → Levels
@@ -40,16 +40,31 @@ module _ {S : Type 0} (m : Meaning S) where
   line_here t b o zero w f = refl
   line_here t b o (suc n) w f = refl
 
+  spot_at : Levels → Flow S → Spot
+  spot_at l w = record { levels = l; begun = w.begun; passing = w.passing }
+
+  flow_of : Spot × S → Flow S
+  flow_of r = record { begun = r.0.begun; passing = r.0.passing; state = r.1 }
+
   leaf_here : (t : List ℕ) (b : Bool) (o : List Bool) (n : ℕ) (w : Flow S) (f : Forest)
-      → here m (leaf t f) (levels b o n) w ≡ here m f (levels b o n) (leaf_at m n t w)
-  unfolding here here_at run pass leaf_at levels
+      → let r = step_leaf m t (spot_at (levels b o n) w) w.state in here m (leaf t f) (levels b o n) w ≡ here m f r.0.levels (flow_of r)
+  unfolding here here_at run pass step_leaf met meet meet_as reached reached_from after_part past leaf_if spot_at flow_of levels
   leaf_here t b o zero w f = refl
   leaf_here t b o (suc n) w f = refl
 
+  guard_run : (v : Bool) (h : Head (List ℕ)) (b : Bool) (o : List Bool) (w : Flow S) (s : S) (f : Forest)
+      → let g = guard_if m v h w.passing b s in
+      let y = run m (length o) f g.0 g.1 in
+      let r = guard_met m v h (spot_at (levels b o 0) w) s in
+      (levels y.0 o 0, y.1) ≡ here m f r.0.levels (flow_of r)
+  unfolding here here_at guard_if guard_met guard_with guarded spot_at flow_of levels
+  guard_run true h b o w s f = refl
+  guard_run false h b o w s f = refl
+
   guard_here : (h : Head (List ℕ)) (b : Bool) (o : List Bool) (n : ℕ) (w : Flow S) (f : Forest)
-      → let g = guard_at m n h (levels b o n) w in here m (guard h f) (levels b o n) w ≡ here m f g.0 g.1
-  unfolding here here_at run pass guard_at levels
-  guard_here h b o zero w f = refl
+      → let r = step_guard m h (spot_at (levels b o n) w) w.state in here m (guard h f) (levels b o n) w ≡ here m f r.0.levels (flow_of r)
+  unfolding here here_at run pass step_guard met meet meet_as reached reached_from guarded guard_met spot_at flow_of levels
+  guard_here h b o zero w f = let q = meet m w in guard_run q.0 h b o w q.1 f
   guard_here h b o (suc n) w f = refl
 
   region_here : (r : RegionHead (List ℕ)) (ls : List (List ℕ)) (e : List ℕ) (b : Bool) (o : List Bool) (n : ℕ) (w : Flow S) (f : Forest)
@@ -100,6 +115,26 @@ module _ {S : Type 0} (m : Meaning S) where
       let q = meet_at m l.skipped w in
       run_before (region r ls e) l w (l, fresh (pass_region m r q.0 ls e q.1)) (region_here r ls e l.bit l.outer l.skipped w) rest
 
+  enter_met : (v : Bool) (h : Head (List ℕ)) (b : Bool) (o : List Bool) (w : Flow S) (s : S)
+      → let i = enter_if m v (length o) h b s in
+      let r = block_met m v h (spot_at (levels b o 0) w) s in
+      let q : Levels × Flow S = (enter i.way i.bit (levels b o 0), past i.state) in
+      q ≡ (r.0.levels, flow_of r)
+  unfolding enter_if block_met block_with enter skip after_part past spot_at flow_of levels
+  enter_met true h b o w s = refl
+  enter_met false h b o w s = refl
+
+  enter_same : (h : Head (List ℕ)) (b : Bool) (o : List Bool) (n : ℕ) (w : Flow S)
+      → let r = step_block m h (spot_at (levels b o n) w) w.state in enter_block m h (levels b o n) w ≡ (r.0.levels, flow_of r)
+  unfolding enter_block enter_at step_block met meet meet_as reached reached_from block_met skip after_part past spot_at flow_of levels
+  enter_same h b o zero w = let q = meet m w in enter_met q.0 h b o w q.1
+  enter_same h b o (suc n) w = refl
+
+  met_same : (b : Bool) (o : List Bool) (n : ℕ) (w : Flow S) → meet_at m n w ≡ met m (spot_at (levels b o n) w) w.state
+  unfolding meet_at met meet meet_as reached reached_from spot_at levels
+  met_same b o zero w = refl
+  met_same b o (suc n) w = refl
+
   -- what follows a line begins a line
   IsSteady : Source → Type 0
   IsSteady src = (l : Levels) (w : Flow S) → run_source m src l w ≡ run_source m src l (fresh w.state)
@@ -121,24 +156,29 @@ module _ {S : Type 0} (m : Meaning S) where
   from src inside a = run_from m src inside a.place.region a.place.levels a.state
 
   parts_step : (parts : List (Atom (List ℕ))) (src : Source) (inside : List ℕ → Inside) → IsSteady src → (l : Levels) (w : Flow S)
-      → run_source m (line_of parts src inside) l w ≡ from src inside (step_parts m parts l w)
-  unfolding line_of step_parts from run_from run_source IsSteady open_region opened levels
+      → run_source m (line_of parts src inside) l w ≡ from src inside (step_parts m parts (spot_at l w) w.state)
+  unfolding line_of step_parts from run_from run_source IsSteady step_end step_region leave_block after_part past opened spot_at flow_of levels
   parts_step [] src inside steady l w = steady l w
   parts_step (Leaf t ∷ rest) src inside steady l w =
-      run_before (leaf t) l w (l, leaf_at m l.skipped t w) (leaf_here t l.bit l.outer l.skipped w) (line_of rest src inside)
-      ∙ parts_step rest src inside steady l (leaf_at m l.skipped t w)
+      let r = step_leaf m t (spot_at l w) w.state in
+      run_before (leaf t) l w (r.0.levels, flow_of r) (leaf_here t l.bit l.outer l.skipped w) (line_of rest src inside)
+      ∙ parts_step rest src inside steady r.0.levels (flow_of r)
   parts_step (Guard h ∷ rest) src inside steady l w =
-      let g = guard_at m l.skipped h l w in
-      run_before (guard h) l w g (guard_here h l.bit l.outer l.skipped w) (line_of rest src inside)
-      ∙ parts_step rest src inside steady g.0 g.1
+      let r = step_guard m h (spot_at l w) w.state in
+      run_before (guard h) l w (r.0.levels, flow_of r) (guard_here h l.bit l.outer l.skipped w) (line_of rest src inside)
+      ∙ parts_step rest src inside steady r.0.levels (flow_of r)
   parts_step (Block h ∷ rest) src inside steady l w =
-      let q = enter_block m h l w in
-      open_step h l w (line_of rest src inside) ∙ parts_step rest src inside steady q.0 q.1
+      let r = step_block m h (spot_at l w) w.state in
+      open_step h l w (line_of rest src inside)
+      ∙ ap (λ q. run_source m (line_of rest src inside) q.0 q.1) (enter_same h l.bit l.outer l.skipped w)
+      ∙ parts_step rest src inside steady r.0.levels (flow_of r)
   parts_step (End ∷ rest) src inside steady l w =
       let q = leave_block m l w in
       empty_first l w (λ q. let z = leave_block m q.0 q.1 in run_source m (line_of rest src inside) z.0 z.1)
       ∙ parts_step rest src inside steady q.0 q.1
-  parts_step (Region r ∷ rest) src inside steady l w = region_step r l w (inside r.ending)
+  parts_step (Region r ∷ rest) src inside steady l w =
+      region_step r l w (inside r.ending)
+      ∙ ap (λ q. run_inside m (opened r q.0) (inside r.ending) l (m.opens_region r q.0 q.1)) (met_same l.bit l.outer l.skipped w)
 
   region_line_step : (is_end : Bool) (t : List ℕ) (o : Opened) (l : Levels) (s : S) (src : Source) (after : Inside) (inside : List ℕ → Inside) → inside o.ending ≡ after
       → run_inside m o (region_line is_end t src after) l s ≡ from src inside (step_inside m is_end o t l s)
@@ -149,7 +189,7 @@ module _ {S : Type 0} (m : Meaning S) where
 
   from_step : (t : List ℕ) (ts : List (List ℕ)) (o : Option Opened) (l : Levels) (s : S)
       → run_from m (source_of (t ∷ ts)) (inside_of (t ∷ ts)) o l s ≡ from (source_of ts) (inside_of ts) (step_from m o t l s)
-  unfolding run_from source_of step_from fresh
+  unfolding run_from source_of step_from fresh spot_at at_line
   from_step t ts None l s =
       line_first t (line_of (atoms t) (source_of ts) (inside_of ts)) l (fresh s)
       ∙ parts_step (atoms t) (source_of ts) (inside_of ts) (steady_source ts) l (fresh (m.begins t s))

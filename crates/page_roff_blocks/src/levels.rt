@@ -1,6 +1,6 @@
 //! The levels of the blocks of one source (roff(7), "if", "ie", "el").
 
-ghost use Rattle.std.specs.Prelude.{◌≡◌, ◌<◌, ◌^◌, ◌↔◌, IsTrue, length};
+ghost use Rattle.std.specs.Prelude.{◌≡◌, ◌<◌, ◌^◌, length};
 ghost use Rattle.page_roff_blocks.specs.Atoms.{branch_seen};
 ghost use Rattle.page_roff_blocks.specs.Levels.{outside, bit_after, way_of, enter, skip, leave, has_block};
 
@@ -73,11 +73,11 @@ impl Levels {
         self.bit
     }
 
-    /// Whether no block is skipped here.
-    pub fn is_run(&self) -> bool
-        ensures { IsTrue result ↔ (self.now.skipped ≡ 0) }
+    /// The number of skipped blocks that are open here.
+    pub fn skipped(&self) -> u64
+        ensures { result ≡ self.now.skipped }
     {
-        self.skipped == 0
+        self.skipped
     }
 
     /// A head with this value is run.
@@ -89,7 +89,6 @@ impl Levels {
 
     /// Enters a block whose head is run, and has this value.
     pub fn enter(&mut self, branch: &Branch<&[u8]>, value: bool) -> Way
-        requires { self.old.skipped ≡ 0 }
         ensures way { result ≡ way_of value (length self.old.outer) }
         ensures levels { self.new ≡ enter result (bit_after (branch_seen branch.now) value self.old.bit) self.old }
     {
@@ -100,7 +99,6 @@ impl Levels {
     /// Enters a block whose head has this value.
     #[tactic(auto, unfolding(crate::specs::Levels::way_of, crate::specs::Levels::way_in, crate::specs::Levels::enter))]
     fn enter_block(&mut self, value: bool) -> Way
-        requires { self.old.skipped ≡ 0 }
         ensures way { result ≡ way_of value (length self.old.outer) }
         ensures levels { self.new ≡ enter result self.old.bit self.old }
     {
@@ -114,6 +112,7 @@ impl Levels {
         }
         self.outer.push(self.bit);
         self.bit = false;
+        self.skipped = 0;
         Way::Runs
     }
 

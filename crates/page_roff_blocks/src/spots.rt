@@ -56,6 +56,13 @@ impl Spot {
         self.levels.bit()
     }
 
+    /// The number of skipped blocks that are open here.
+    pub fn skipped(&self) -> u64
+        ensures { result ≡ self.now.levels.skipped }
+    {
+        self.levels.skipped()
+    }
+
     /// A line begins, or has ended.
     #[tactic(auto, unfolding(crate::specs::Levels::at_line))]
     pub fn begin_line(&mut self)
@@ -70,7 +77,7 @@ impl Spot {
     pub fn reached(&self) -> Reached
         ensures { result ≡ reached self.now }
     {
-        if self.passing || !self.levels.is_run() {
+        if self.passing || self.levels.skipped() > 0 {
             Reached::PassedOver
         } else if self.begun {
             Reached::Remainder
@@ -111,7 +118,6 @@ impl Spot {
     /// Enters a block whose head is run, and has this value.
     #[tactic(auto, unfolding(crate::specs::Levels::after_part))]
     pub fn enter(&mut self, branch: &Branch<&[u8]>, value: bool) -> Way
-        requires { self.old.levels.skipped ≡ 0 }
         ensures way { result ≡ way_of value (length self.old.levels.outer) }
         ensures spot { self.new ≡ after_part
             (enter result (bit_after (branch_seen branch.now) value self.old.levels.bit) self.old.levels) }
