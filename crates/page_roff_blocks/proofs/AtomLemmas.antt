@@ -1,5 +1,5 @@
 -- The parts of a line: each remainder is shorter than its line. Helpers of proofs.
-use Rattle.std.proofs.Common.{◌≡◌, ℕ, zero, suc, ◌+◌, ◌-◌, ◌<◌, ◌≤◌, Bool, true, false, List, [], ◌∷◌, length, drop, Option, Some, None, IfSome, refl, sym, ap, ◌∙◌, arith, length-drop}
+use Rattle.std.proofs.Common.{◌≡◌, ℕ, zero, suc, ◌+◌, ◌-◌, ◌<◌, ◌≤◌, List, [], ◌∷◌, length, Option, Some, None, IfSome, refl, ap, arith, length-drop}
 use Rattle.page_roff_forms.specs.LineForms.{form_of}
 use Rattle.page_roff_forms.specs.declared.line_forms.LineForm.{LineForm}
 use Rattle.page_roff_forms.specs.declared.line_forms.LineForm.TheVariants.{Comment, BlankLine, Text, Control}
@@ -10,7 +10,6 @@ use Rattle.page_roff_heads.proofs.Within.{conditional_within, guarded_within, en
 use Rattle.page_roff_heads.proofs.Within as remainders
 use Rattle.page_roff_blocks.specs.declared.parts.Keyword.{Keyword}
 use Rattle.page_roff_blocks.specs.declared.parts.Keyword.TheVariants as keywords
-use Rattle.page_roff_blocks.specs.declared.parts.Part.{Part}
 use Rattle.page_roff_blocks.specs.Atoms.{rest_text, end_part, cut_part, plain_part, raw_rest, keyword_of, keyword_part, form_part, part_of, with_part, parts, atoms, atoms_left, IsWithin}
 
 -- what is left of a line is shorter than the line

@@ -7,7 +7,7 @@ use Rattle.page_roff_blocks.specs.declared.regions.RegionHead.{RegionHead}
 use Rattle.page_roff_blocks.specs.Atoms.{atoms}
 use Rattle.page_roff_blocks.specs.Regions.{is_ending}
 use Rattle.page_roff_blocks.specs.Forest.{Forest, empty, line, leaf, guard, block, region, Source, ends, shuts, opens, holds, Inside, unended, ended, before, enclose, enregion, keep, line_of, region_line, source_of, inside_of}
-use Rattle.page_roff_blocks.specs.Levels.{Levels, enter, skip, leave, leave_from, leave_level, has_block, is_block, Spot, at_line, after_part, reached, reached_from, Opened, opened, Place}
+use Rattle.page_roff_blocks.specs.Levels.{Levels, enter, skip, leave, leave_from, leave_level, has_block, is_block, Spot, at_line, after_part, guarded_by, reached, reached_from, Opened, opened}
 use Rattle.page_roff_blocks.specs.declared.levels.Way.{Way}
 use Rattle.page_roff_blocks.specs.declared.levels.Way.TheVariants.{Runs, Skips, Exceeds}
 use Rattle.page_roff_blocks.specs.Run.{Meaning, Flow, At, fresh, past, guarded, meet_as, meet, pass_region, pass, leaf_if, guard_if, enter_if, block_by, run, read, here_at, here, enter_at, enter_block, unopened_if, leave_block, meet_at, open_region, read_at, run_source, run_inside, run_from, run_lines}
@@ -57,7 +57,7 @@ module _ {S : Type 0} (m : Meaning S) where
       let y = run m (length o) f g.0 g.1 in
       let r = guard_met m v h (spot_at (levels b o 0) w) s in
       (levels y.0 o 0, y.1) ≡ here m f r.0.levels (flow_of r)
-  unfolding here here_at guard_if guard_met guard_with guarded spot_at flow_of levels
+  unfolding here here_at guard_if guard_met guard_with guarded guarded_by spot_at flow_of levels
   guard_run true h b o w s f = refl
   guard_run false h b o w s f = refl
 

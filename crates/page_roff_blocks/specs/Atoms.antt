@@ -58,7 +58,8 @@ conditional_part branch column read = head_part (record { column = column; branc
 abbrev pub else_part : ℕ → Guarded (List ℕ) → Part (List ℕ)
 else_part column guarded = head_part (record { column = column; branch = Else }) guarded
 
--- A line that heads nothing is cut at its first end of a block. What stands before it is a leaf, unless empty.
+-- A line that heads nothing is cut at its first end of a block. What stands before it is a leaf, unless
+-- empty.
 abbrev pub end_part : List ℕ → Option (List ℕ) → Part (List ℕ)
 end_part [] rest = record { atom = End; is_end = false; rest = rest }
 end_part (byte ∷ bytes) rest = record { atom = Leaf (byte ∷ bytes); is_end = true; rest = rest }

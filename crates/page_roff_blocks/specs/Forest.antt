@@ -1,4 +1,5 @@
--- The raw lines of one source as a forest, found from the raw text alone: no definition and no value of a condition has a part in it. Source: roff(7), "if", "de", "ig".
+-- The raw lines of one source as a forest, found from the raw text alone. Source: roff(7), "if", "de", "ig".
+-- No definition and no value of a condition has a part in it.
 use Rattle.std.specs.Prelude.{ℕ, Bool, true, false, List, [], ◌∷◌}
 use Rattle.page_roff_blocks.specs.declared.atoms.Atom.{Atom}
 use Rattle.page_roff_blocks.specs.declared.atoms.Atom.TheVariants.{Leaf, Guard, Block, End, Region}
@@ -20,7 +21,8 @@ pub data Forest : Type 0 where
   -- the head of a region, its lines and the line that ends it
   region : RegionHead (List ℕ) → List (List ℕ) → List ℕ → Forest → Forest
 
--- A source cut at what it leaves open: at each end of a block that began before it, and at each block and region that doesn't end in it.
+-- A source cut at what it leaves open: at each end of a block that began before it, and at each block and
+-- region that doesn't end in it.
 pub data Source : Type 0 where
   ends : Forest → Source
   shuts : Forest → Source → Source
@@ -56,7 +58,8 @@ unfoldable pub keep : List ℕ → Inside → Inside
 keep l (unended ls) = unended (l ∷ ls)
 keep l (ended ls e s) = ended (l ∷ ls) e s
 
--- the parts of a line before what follows the line, which is seen in both ways: as it begins outside, and inside a region of that end name
+-- the parts of a line before what follows the line, which is seen in both ways: as it begins outside, and
+-- inside a region of that end name
 unfoldable pub line_of : List (Atom (List ℕ)) → Source → (List ℕ → Inside) → Source
 line_of [] after inside = after
 line_of (Leaf text ∷ rest) after inside = before (leaf text) (line_of rest after inside)

@@ -1,4 +1,4 @@
--- Where a source stands: the levels of its blocks, and an open region. Source: roff(7), "if", "ie", "el", "de", "ig".
+-- Where a source stands: the levels of its blocks, and an open region. Source: roff(7), "if", "ie", "el".
 use Rattle.std.specs.Prelude.{ℕ, zero, suc, Bool, true, false, not, List, [], ◌∷◌, length, Option, Some, None, nat_lt, nat_le, if◌then◌else◌}
 use Rattle.page_core_limits.specs.declared.TheConstants.{NAME}
 use Rattle.page_roff_blocks.specs.declared.TheConstants.{CONDS}
@@ -11,7 +11,8 @@ use Rattle.page_roff_blocks.specs.declared.spots.Reached.TheVariants.{PassedOver
 use Rattle.page_roff_blocks.specs.declared.levels.Way.{Way}
 use Rattle.page_roff_blocks.specs.declared.levels.Way.TheVariants.{Runs, Skips, Exceeds}
 
--- The innermost level's bit for `ie`, the bits of the levels around it from the inside out, and the number of skipped blocks that are open in it.
+-- The innermost level's bit for `ie`, the bits of the levels around it from the inside out, and the number
+-- of skipped blocks that are open in it.
 pub record Levels : Type 0 where
   pub bit : Bool
   pub outer : List Bool
@@ -66,7 +67,8 @@ is_block zero [] = false
 unfoldable pub has_block : Levels → Bool
 has_block l = is_block l.skipped l.outer
 
--- Where a source stands in a line: its levels, whether a part of the line was reached, and whether the next part is passed over, since a head guards it.
+-- Where a source stands in a line: its levels, whether a part of the line was reached, and whether the next
+-- part is passed over, since a head guards it.
 pub record Spot : Type 0 where
   pub levels : Levels
   pub begun : Bool
@@ -79,6 +81,11 @@ at_line l = record { levels = l; begun = false; passing = false }
 -- after a part of a line
 unfoldable pub after_part : Levels → Spot
 after_part l = record { levels = l; begun = true; passing = false }
+
+-- after a head without a block that is run, and has this value
+unfoldable pub guarded_by : Branch (List ℕ) → Bool → Levels → Spot
+guarded_by branch value l =
+    record { levels = record l { bit = bit_after branch value l.bit }; begun = true; passing = not value }
 
 -- how a part is reached where no block is skipped
 unfoldable pub reached_if : Bool → Bool → Reached
@@ -93,7 +100,8 @@ reached_from (suc skipped) passing begun = PassedOver
 unfoldable pub reached : Spot → Reached
 reached s = reached_from s.levels.skipped s.passing s.begun
 
--- An open region: what it is, the macro that it defines, the name of its end line, and whether it is run. A name beyond the limit of names defines nothing.
+-- An open region: what it is, the macro that it defines, the name of its end line, and whether it is run. A
+-- name beyond the limit of names defines nothing.
 pub record Opened : Type 0 where
   pub kind : RegionKind
   pub name : Option (List ℕ)

@@ -1,5 +1,5 @@
--- Regions: their heads, and the lines that end them. Source: roff(7), "de", "am", "ig"; tbl(7), eqn(7), pic(7).
-use Rattle.std.specs.Prelude.{◌≡◌, ℕ, ◌≤◌, Bool, true, false, not, nat_le, List, [], ◌∷◌, length, codes, if◌then◌else◌, Option, Some, None}
+-- Regions: their heads, and the lines that end them. Source: roff(7), "de", "am", "ig", "TS", "EQ", "PS".
+use Rattle.std.specs.Prelude.{◌≡◌, ℕ, ◌≤◌, Bool, false, not, nat_le, List, [], ◌∷◌, length, codes, if◌then◌else◌, Option, Some, None}
 use Rattle.std.specs.Str.{bytes_eq}
 use Rattle.std.specs.Borrow.{Bor}
 use Rattle.page_core_limits.specs.declared.TheConstants.{NAME}
@@ -34,7 +34,8 @@ name_in Table args = None
 name_in Equation args = None
 name_in Picture args = None
 
--- the end name is the argument after it, or the first one of `ig`; that of a table, an equation or a picture is fixed
+-- the end name is the argument after it, or the first one of `ig`; that of a table, an equation or a
+-- picture is fixed
 abbrev pub ending_in : RegionKind → List (Argument (List ℕ)) → Option (List ℕ)
 ending_in Define args = second_text args
 ending_in Append args = second_text args

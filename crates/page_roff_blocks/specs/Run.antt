@@ -16,7 +16,8 @@ use Rattle.page_roff_blocks.specs.Levels.{Levels, bit_after, way_of, enter, skip
 pub record Meaning (S : Type 0) : Type 0 where
   -- a raw line begins outside of regions
   pub begins : List ℕ → S → S
-  -- A node is reached that no block and no head passes over, with whether it is a remainder: whether it is run.
+  -- A node is reached that no block and no head passes over, with whether it is a remainder: whether it is
+  -- run.
   pub meets : Bool → S → Bool × S
   -- the condition of an `if` or `ie` that is run
   pub tests : Condition (List ℕ) → S → Bool × S
@@ -31,7 +32,8 @@ pub record Meaning (S : Type 0) : Type 0 where
   pub reads : Opened → List ℕ → S → S
   pub ends_region : Opened → List ℕ → S → S
 
--- A state within a line: whether a node of the line was reached, and whether the next one is passed over, since a head guards it.
+-- A state within a line: whether a node of the line was reached, and whether the next one is passed over,
+-- since a head guards it.
 pub record Flow (S : Type 0) : Type 0 where
   pub begun : Bool
   pub passing : Bool

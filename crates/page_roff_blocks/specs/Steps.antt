@@ -1,12 +1,12 @@
--- The parts of a source one after another, each at a spot: the steps of the code. Source: roff(7), "if", "de", "ig".
-use Rattle.std.specs.Prelude.{ℕ, Bool, true, false, not, List, [], ◌∷◌, length, Option, Some, None}
+-- The parts of a source, one after another: the steps of the code. Source: roff(7), "if", "de", "ig".
+use Rattle.std.specs.Prelude.{ℕ, Bool, true, false, List, [], ◌∷◌, length, Option, Some, None}
 use Rattle.page_roff_blocks.specs.declared.atoms.Atom.{Atom}
 use Rattle.page_roff_blocks.specs.declared.atoms.Atom.TheVariants.{Leaf, Guard, Block, End, Region}
 use Rattle.page_roff_blocks.specs.declared.atoms.Head.{Head}
 use Rattle.page_roff_blocks.specs.declared.regions.RegionHead.{RegionHead}
 use Rattle.page_roff_blocks.specs.Atoms.{atoms}
 use Rattle.page_roff_blocks.specs.Regions.{is_ending}
-use Rattle.page_roff_blocks.specs.Levels.{Levels, bit_after, way_of, enter, skip, leave, has_block, Spot, at_line, after_part, reached, Opened, opened, Place}
+use Rattle.page_roff_blocks.specs.Levels.{Levels, bit_after, way_of, enter, skip, leave, has_block, Spot, at_line, after_part, guarded_by, reached, Opened, opened}
 use Rattle.page_roff_blocks.specs.Run.{Meaning, At, meet_as, value, leaf_if, refuse_if, unopened_if}
 
 module _ {S : Type 0} (m : Meaning S) where
@@ -19,14 +19,7 @@ module _ {S : Type 0} (m : Meaning S) where
 
   -- a head without a block that is run, and has this value
   unfoldable pub guard_with : Head (List ℕ) → Spot → Bool × S → Spot × S
-  guard_with h spot v = (
-    record {
-      levels = record spot.levels { bit = bit_after h.branch v.0 spot.levels.bit };
-      begun = true;
-      passing = not v.0;
-    },
-    v.1,
-  )
+  guard_with h spot v = (guarded_by h.branch v.0 spot.levels, v.1)
 
   unfoldable pub guard_met : Bool → Head (List ℕ) → Spot → S → Spot × S
   guard_met true h spot s = guard_with h spot (value m h.branch spot.levels.bit s)

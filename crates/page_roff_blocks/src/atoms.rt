@@ -23,10 +23,11 @@ pub struct Head<W> {
     pub branch: Branch<W>,
 }
 
-/// A part of a raw line; `W` is a text. What follows a part on its line is a remainder, a line of its own: columns are those of
-/// the remainder in which they stand.
+/// A part of a raw line; `W` is a text. What follows a part on its line is a remainder, a line of its own:
+/// columns are those of the remainder in which they stand.
 pub enum Atom<W> {
-    /// A line that heads no conditional and no region, or what stands in such a line before the end of a block.
+    /// A line that heads no conditional and no region, or what stands in such a line before the end of a
+    /// block.
     Leaf(W),
     /// The head of a conditional without a block. It guards the next part of its line, if there is one.
     Guard(Head<W>),

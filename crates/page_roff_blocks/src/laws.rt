@@ -12,11 +12,12 @@ pub fn atoms_law()
 
 /// What the forest of a source does is what its parts do one after another, from every place on.
 pub fn fold_law<S>()
-    ensures { (m : Meaning S) (lines : List (List ℕ)) (at : At S) → run_lines m lines at ≡ step_lines m lines at }
+    ensures { (m : Meaning S) (lines : List (List ℕ)) (at : At S)
+        → run_lines m lines at ≡ step_lines m lines at }
 {}
 
-/// A source may be cut between any two lines, inside regions, blocks and remainders that are skipped too: what follows the cut goes on from the nodes
-/// that the lines before it left open.
+/// A source may be cut between any two lines, inside regions, blocks and remainders that are skipped too:
+/// what follows the cut goes on from the nodes that the lines before it left open.
 pub fn cut_law<S>()
     ensures { (m : Meaning S) (above below : List (List ℕ)) (at : At S)
         → run_lines m (above ++ below) at ≡ run_lines m below (run_lines m above at) }

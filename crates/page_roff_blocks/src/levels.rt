@@ -20,8 +20,9 @@ pub enum Way {
     Exceeds,
 }
 
-/// The levels of the blocks of one source: for each true block that is open, and for what is outside of all, the bit that `ie` leaves to `el`; and
-/// the number of skipped blocks that are open in the innermost of them.
+/// The levels of the blocks of one source: for each true block that is open, and for what is outside of
+/// all, the bit that `ie` leaves to `el`; and the number of skipped blocks that are open in the innermost
+/// of them.
 #[derive(Drop)]
 pub struct Levels {
     bit: bool,
@@ -90,7 +91,8 @@ impl Levels {
     /// Enters a block whose head is run, and has this value.
     pub fn enter(&mut self, branch: &Branch<&[u8]>, value: bool) -> Way
         ensures way { result ≡ way_of value (length self.old.outer) }
-        ensures levels { self.new ≡ enter result (bit_after (branch_seen branch.now) value self.old.bit) self.old }
+        ensures levels { self.new
+            ≡ enter result (bit_after (branch_seen branch.now) value self.old.bit) self.old }
     {
         self.bit = branch.bit_after(value, self.bit);
         self.enter_block(value)

@@ -1,5 +1,5 @@
-//! The raw lines of a source as a forest of leaves, regions and blocks: what heads and ends them is found from the raw text
-//! alone (roff(7), "if", "ie", "el", "de", "am", "ig").
+//! The raw lines of a source as a forest of leaves, regions and blocks: what heads and ends them is found
+//! from the raw text alone (roff(7), "if", "ie", "el", "de", "am", "ig").
 #![tactic(auto)]
 
 mod atoms;

@@ -27,7 +27,12 @@ impl Model for OpenRegion {
 
     ghost use Rattle.page_roff_blocks.specs.Levels.{name_if};
 
-    ghost view = { λ r. record { kind = r.kind; name = name_if r.has_name r.name.items; ending = r.ending.items; is_run = r.is_run } };
+    ghost view = { λ r. record {
+      kind = r.kind;
+      name = name_if r.has_name r.name.items;
+      ending = r.ending.items;
+      is_run = r.is_run;
+    } };
 }
 
 // A name of its own.
@@ -40,7 +45,8 @@ fn copy_of(name: &[u8]) -> ArrayVec<u8, NAME>
     copy
 }
 
-// The name that a region defines: the bytes of it that are kept, and whether there is one within the limit of names.
+// The name that a region defines: the bytes of it that are kept, and whether there is one within the limit
+// of names.
 #[tactic(auto, unfolding(crate::specs::Levels::within_limit))]
 fn usable_name(name: Option<&[u8]>) -> (&[u8], bool)
     ensures value { name_if result.1 result.0.now ≡ within_limit (text_seen name.entry) }

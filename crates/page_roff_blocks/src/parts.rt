@@ -134,7 +134,8 @@ fn plain_part(line: &[u8]) -> Part<&[u8]>
     }
 }
 
-// The first part of a control line that heads this: the column of its name and the rest, also from the column on, with its comment.
+// The first part of a control line that heads this: the column of its name and the rest, also from the
+// column on, with its comment.
 fn keyword_part<'a>(
     keyword: Keyword,
     line: &'a [u8],
@@ -166,7 +167,8 @@ fn keyword_part<'a>(
 fn if_part(raw_rest: &[u8], column: u32, rest_column: u32) -> Part<&[u8]>
     requires short { length raw_rest.now ≤ LINE }
     requires room { rest_column + length raw_rest.now ≤ LINE + 1 }
-    ensures value { part_seen result ≡ conditional_part If column (conditional_of rest_column raw_rest.now) }
+    ensures value { part_seen result
+        ≡ conditional_part If column (conditional_of rest_column raw_rest.now) }
     ensures fits { FitsPart (part_seen result) }
 {
     let read = read_conditional(raw_rest, rest_column);
@@ -178,7 +180,8 @@ fn if_part(raw_rest: &[u8], column: u32, rest_column: u32) -> Part<&[u8]>
 fn if_else_part(raw_rest: &[u8], column: u32, rest_column: u32) -> Part<&[u8]>
     requires short { length raw_rest.now ≤ LINE }
     requires room { rest_column + length raw_rest.now ≤ LINE + 1 }
-    ensures value { part_seen result ≡ conditional_part IfElse column (conditional_of rest_column raw_rest.now) }
+    ensures value { part_seen result
+        ≡ conditional_part IfElse column (conditional_of rest_column raw_rest.now) }
     ensures fits { FitsPart (part_seen result) }
 {
     let read = read_conditional(raw_rest, rest_column);

@@ -26,7 +26,8 @@ pub enum RegionKind {
     Picture,
 }
 
-/// The head of a region; `W` is a text. Its names are arguments as they are written, and nothing in them is expanded.
+/// The head of a region; `W` is a text. Its names are arguments as they are written, and nothing in them is
+/// expanded.
 pub struct RegionHead<W> {
     pub kind: RegionKind,
     /// The column of its own name.
@@ -82,7 +83,8 @@ fn ending_of(asked: Option<&[u8]>) -> &[u8]
     }
 }
 
-/// The head of a region of a kind: the column of its name and, without its comment, the rest of its line, of which the first byte stands at another.
+/// The head of a region of a kind: the column of its name and, without its comment, the rest of its line,
+/// of which the first byte stands at another.
 #[tactic(auto, unfolding(crate::specs::Regions::region_head))]
 pub(crate) fn region_head(
     kind: RegionKind,

@@ -1,8 +1,8 @@
 //! Where a source stands in a line (roff(7), "if", "ie", "el").
 
-ghost use Rattle.std.specs.Prelude.{◌≡◌, ◌<◌, ◌^◌, true, not, length};
+ghost use Rattle.std.specs.Prelude.{◌≡◌, ◌<◌, ◌^◌, true, length};
 ghost use Rattle.page_roff_blocks.specs.Atoms.{branch_seen};
-ghost use Rattle.page_roff_blocks.specs.Levels.{outside, bit_after, way_of, enter, skip, leave, has_block, at_line, after_part, reached};
+ghost use Rattle.page_roff_blocks.specs.Levels.{outside, bit_after, way_of, enter, skip, leave, has_block, at_line, after_part, guarded_by, reached};
 
 use crate::atoms::Branch;
 use crate::levels::{Levels, Way};
@@ -19,8 +19,8 @@ pub enum Reached {
     Remainder,
 }
 
-/// Where a source stands in a line, outside of regions: the levels of its blocks, whether a part of the line was reached, and whether a head passes over the
-/// next one.
+/// Where a source stands in a line, outside of regions: the levels of its blocks, whether a part of the
+/// line was reached, and whether a head passes over the next one.
 #[derive(Drop)]
 pub struct Spot {
     levels: Levels,
@@ -103,12 +103,9 @@ impl Spot {
     }
 
     /// Goes past a head without a block that is run, and has this value.
+    #[tactic(auto, unfolding(crate::specs::Levels::guarded_by))]
     pub fn guard(&mut self, branch: &Branch<&[u8]>, value: bool)
-        ensures { self.new ≡ record {
-          levels = record self.old.levels { bit = bit_after (branch_seen branch.now) value self.old.levels.bit };
-          begun = true;
-          passing = not value;
-        } }
+        ensures { self.new ≡ guarded_by (branch_seen branch.now) value self.old.levels }
     {
         self.levels.turn(branch, value);
         self.begun = true;

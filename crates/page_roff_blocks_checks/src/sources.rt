@@ -10,7 +10,8 @@ use std::process::Abort;
 struct Source {
     spot: Spot,
     region: Option<OpenRegion>,
-    // The leaves that were run, with a bar after each, and the regions: in brackets where they are run, else in braces.
+    // The leaves that were run, with a bar after each, and the regions: in brackets where they are run,
+    // else in braces.
     given: ArrayVec<u8, 400>,
     // The lines, and the remainders that were run.
     taken: u32,
