@@ -74,11 +74,11 @@ column_within line name rest column rest_column e =
 
 -- ---- so many remainders are enough
 
-room : Option (List ℕ) → ℕ
+unfoldable pub room : Option (List ℕ) → ℕ
 room None = 0
 room (Some line) = suc (length line)
 
-room_left : (line : List ℕ) (rest : Option (List ℕ)) → IsShorter line rest → room rest ≤ length line
+pub room_left : (line : List ℕ) (rest : Option (List ℕ)) → IsShorter line rest → room rest ≤ length line
 unfolding room
 room_left line None h = omega arith
 room_left line (Some rest) h = omega arith

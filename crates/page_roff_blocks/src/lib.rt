@@ -11,7 +11,7 @@ mod regions;
 mod spots;
 
 pub use atoms::{Atom, Branch, Head};
-pub use laws::{atoms_law, cut_law, fold_law};
+pub use laws::{atoms_law, cut_law, fold_law, room_law};
 pub use levels::{Levels, Way};
 pub use open_regions::OpenRegion;
 pub use parts::Atoms;
