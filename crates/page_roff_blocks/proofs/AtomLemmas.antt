@@ -1,0 +1,108 @@
+-- The parts of a line: each remainder is shorter than its line. Helpers of proofs.
+use Rattle.std.proofs.Common.{◌≡◌, ℕ, zero, suc, ◌+◌, ◌-◌, ◌<◌, ◌≤◌, List, [], ◌∷◌, length, Option, Some, None, IfSome, refl, ap, arith, length-drop}
+use Rattle.page_roff_forms.specs.LineForms.{form_of}
+use Rattle.page_roff_forms.specs.declared.line_forms.LineForm.{LineForm}
+use Rattle.page_roff_forms.specs.declared.line_forms.LineForm.TheVariants.{Comment, BlankLine, Text, Control}
+use Rattle.page_roff_heads.specs.Heads.{conditional_of, guarded_of, block_end_of}
+use Rattle.page_roff_heads.specs.declared.heads.BlockEnd.{BlockEnd}
+use Rattle.page_roff_heads.specs.declared.texts.Placed.{Placed}
+use Rattle.page_roff_heads.proofs.Within.{conditional_within, guarded_within, end_shorter, rest_within}
+use Rattle.page_roff_heads.proofs.Within as remainders
+use Rattle.page_roff_blocks.specs.declared.parts.Keyword.{Keyword}
+use Rattle.page_roff_blocks.specs.declared.parts.Keyword.TheVariants as keywords
+use Rattle.page_roff_blocks.specs.Atoms.{rest_text, end_part, cut_part, plain_part, raw_rest, keyword_of, keyword_part, form_part, part_of, with_part, parts, atoms, atoms_left, IsWithin}
+
+-- what is left of a line is shorter than the line
+abbrev pub IsShorter : List ℕ → Option (List ℕ) → Type 0
+IsShorter line None = Unit {0}
+IsShorter line (Some rest) = length rest < length line
+
+within_shorter : (n : ℕ) (line : List ℕ) (remainder : Option (Placed (List ℕ))) → remainders.IsWithin n remainder → n < length line
+    → IsShorter line (rest_text remainder)
+within_shorter n line None w h = tt
+within_shorter n line (Some r) w h = omega arith
+
+end_rest : (before : List ℕ) (rest : Option (List ℕ)) → (end_part before rest).rest ≡ rest
+end_rest [] rest = refl
+end_rest (byte ∷ bytes) rest = refl
+
+cut_shorter : (line : List ℕ) (end : Option (BlockEnd (List ℕ)))
+    → IfSome end (λ end. (length end.before < length line) × remainders.IsWithin (length line - 2) end.remainder)
+    → IsShorter line (cut_part line end).rest
+cut_shorter line None h = tt
+cut_shorter line (Some end) h =
+    let k = within_shorter (length line - 2) line end.remainder h.1 (omega (arith, h.0)) in
+    rw (end_rest end.before (rest_text end.remainder)) k
+
+plain_shorter : (line : List ℕ) → IsShorter line (plain_part line).rest
+plain_shorter line = cut_shorter line (block_end_of line) (end_shorter line)
+
+raw_shorter : (line : List ℕ) (column : ℕ) → 2 ≤ column → column ≤ length line + 1 → length (raw_rest line column) < length line
+raw_shorter line column a b = omega (arith, length-drop (column - 1) line)
+
+keyword_shorter : (k : Keyword) (line : List ℕ) (column : ℕ) (rest : List ℕ) (rest_column : ℕ) → 2 ≤ rest_column → rest_column ≤ length line + 1
+    → IsShorter line (keyword_part k line column rest rest_column).rest
+keyword_shorter keywords.If line column rest rest_column a b =
+    let raw = raw_rest line rest_column in
+    within_shorter (length raw) line (conditional_of rest_column raw).guarded.remainder (conditional_within rest_column raw) (raw_shorter line rest_column a b)
+keyword_shorter keywords.IfElse line column rest rest_column a b =
+    let raw = raw_rest line rest_column in
+    within_shorter (length raw) line (conditional_of rest_column raw).guarded.remainder (conditional_within rest_column raw) (raw_shorter line rest_column a b)
+keyword_shorter keywords.Else line column rest rest_column a b =
+    let raw = raw_rest line rest_column in
+    within_shorter (length raw) line (guarded_of rest_column raw).remainder (guarded_within rest_column raw) (raw_shorter line rest_column a b)
+keyword_shorter (keywords.Region kind) line column rest rest_column a b = tt
+keyword_shorter keywords.Other line column rest rest_column a b = plain_shorter line
+
+form_shorter : (line : List ℕ) (form : LineForm (List ℕ)) → form_of line ≡ form → IsShorter line (form_part line form).rest
+form_shorter line Comment e = plain_shorter line
+form_shorter line BlankLine e = plain_shorter line
+form_shorter line (Text text) e = plain_shorter line
+form_shorter line (Control name column rest rest_column) e =
+    let h = rest_within line name rest column rest_column e in
+    keyword_shorter (keyword_of name) line column rest rest_column h.0 h.1
+
+pub part_shorter : (line : List ℕ) → IsShorter line (part_of line).rest
+unfolding part_of
+part_shorter line = form_shorter line (form_of line) refl
+
+-- the rest of a control line begins behind its control character
+pub column_within : (line name rest : List ℕ) (column rest_column : ℕ) → form_of line ≡ Control name column rest rest_column → IsWithin rest_column line
+column_within line name rest column rest_column e =
+    let h = rest_within line name rest column rest_column e in
+    record { behind = h.0; within = h.1 }
+
+-- ---- so many remainders are enough
+
+unfoldable pub room : Option (List ℕ) → ℕ
+room None = 0
+room (Some line) = suc (length line)
+
+pub room_left : (line : List ℕ) (rest : Option (List ℕ)) → IsShorter line rest → room rest ≤ length line
+unfolding room
+room_left line None h = omega arith
+room_left line (Some rest) h = omega arith
+
+enough : (n k : ℕ) (rest : Option (List ℕ)) → room rest ≤ n → room rest ≤ k → parts n rest ≡ parts k rest
+unfolding room
+enough zero zero rest p q = refl
+enough zero (suc k) None p q = refl
+enough zero (suc k) (Some line) p q = absurd (omega arith)
+enough (suc n) zero None p q = refl
+enough (suc n) zero (Some line) p q = absurd (omega arith)
+enough (suc n) (suc k) None p q = refl
+enough (suc n) (suc k) (Some line) p q =
+    let h = room_left line (part_of line).rest (part_shorter line) in
+    ap (with_part (part_of line)) (enough n k (part_of line).rest (omega (arith, h, p)) (omega (arith, h, q)))
+
+all_left : (n : ℕ) (rest : Option (List ℕ)) → room rest ≤ n → parts n rest ≡ atoms_left rest
+unfolding room atoms
+all_left zero None p = refl
+all_left (suc n) None p = refl
+all_left n (Some line) p = enough n (suc (length line)) (Some line) p (omega arith)
+
+-- the parts of a line are its first one, and those of what is left of the line
+pub atoms_cons : (line : List ℕ) → atoms line ≡ with_part (part_of line) (atoms_left (part_of line).rest)
+unfolding atoms
+atoms_cons line =
+    ap (with_part (part_of line)) (all_left (length line) (part_of line).rest (room_left line (part_of line).rest (part_shorter line)))

@@ -1,0 +1,4 @@
+pub mod AtomLemmas
+pub mod FoldLemmas
+pub mod LevelLemmas
+pub mod RoomLemmas

@@ -1,0 +1,84 @@
+-- How many parts a line has, and how many blocks they skip: helpers of proofs.
+use Rattle.std.proofs.Common.{◌≡◌, ℕ, zero, suc, ◌+◌, ◌*◌, ◌≤◌, Bool, true, false, List, [], ◌∷◌, length, Option, Some, None, refl, arith}
+use Rattle.page_roff_blocks.specs.declared.atoms.Atom.{Atom}
+use Rattle.page_roff_blocks.specs.declared.atoms.Atom.TheVariants.{Leaf, Guard, Block, End, Region}
+use Rattle.page_roff_blocks.specs.declared.atoms.Head.{Head}
+use Rattle.page_roff_blocks.specs.declared.levels.Way.{Way}
+use Rattle.page_roff_blocks.specs.declared.levels.Way.TheVariants.{Runs, Skips, Exceeds}
+use Rattle.page_roff_blocks.specs.Atoms.{ends_first, part_of, parts, atoms}
+use Rattle.page_roff_blocks.specs.Levels.{Levels, bit_after, way_of, enter, skip, leave, leave_from, leave_level, Spot, after_part, guarded_by}
+use Rattle.page_roff_blocks.specs.Run.{Meaning, value}
+use Rattle.page_roff_blocks.specs.Steps.{met, step_leaf, guard_with, guard_met, step_guard, block_with, block_met, step_block, step_end, step_region, step_parts}
+use Rattle.page_roff_blocks.proofs.AtomLemmas.{room, room_left, part_shorter}
+
+ends_room : (is_end : Bool) (more : List (Atom (List ℕ))) → length (ends_first is_end more) ≤ suc (length more)
+ends_room true more = omega arith
+ends_room false more = omega arith
+
+parts_room : (n : ℕ) (rest : Option (List ℕ)) → length (parts n rest) ≤ 2 * room rest
+unfolding room
+parts_room zero rest = omega arith
+parts_room (suc n) None = omega arith
+parts_room (suc n) (Some line) =
+    let part = part_of line in
+    let h = parts_room n part.rest in
+    let k = room_left line part.rest (part_shorter line) in
+    let e = ends_room part.is_end (parts n part.rest) in
+    omega (arith, h, k, e)
+
+-- a line has at most two parts a byte, and two
+pub atoms_room : (line : List ℕ) → length (atoms line) ≤ 2 * length line + 2
+unfolding atoms room
+atoms_room line = let h = parts_room (suc (length line)) (Some line) in omega (arith, h)
+
+enter_room : (way : Way) (bit : Bool) (l : Levels) → (enter way bit l).skipped ≤ l.skipped + 1
+unfolding enter
+enter_room Runs bit l = omega arith
+enter_room Skips bit l = omega arith
+enter_room Exceeds bit l = omega arith
+
+leave_room : (bit : Bool) (outer : List Bool) (n : ℕ) → (leave (record { bit = bit; outer = outer; skipped = n })).skipped ≤ n
+unfolding leave leave_from leave_level
+leave_room bit [] zero = omega arith
+leave_room bit (b ∷ bs) zero = omega arith
+leave_room bit outer (suc n) = omega arith
+
+module _ {S : Type 0} (m : Meaning S) where
+  guard_room : (is_met : Bool) (h : Head (List ℕ)) (spot : Spot) (s : S) → (guard_met m is_met h spot s).0.levels.skipped ≡ spot.levels.skipped
+  unfolding guard_met guard_with guarded_by
+  guard_room true h spot s = refl
+  guard_room false h spot s = refl
+
+  block_room : (is_met : Bool) (h : Head (List ℕ)) (spot : Spot) (s : S) → (block_met m is_met h spot s).0.levels.skipped ≤ spot.levels.skipped + 1
+  unfolding block_met block_with after_part skip
+  block_room true h spot s =
+      let v = value m h.branch spot.levels.bit s in
+      enter_room (way_of v.0 (length spot.levels.outer)) (bit_after h.branch v.0 spot.levels.bit) spot.levels
+  block_room false h spot s = omega arith
+
+  -- each part skips one block at most
+  pub step_room : (parts : List (Atom (List ℕ))) (spot : Spot) (s : S) → (step_parts m parts spot s).place.levels.skipped ≤ spot.levels.skipped + length parts
+  unfolding step_parts step_leaf step_guard step_block step_end step_region after_part
+  step_room [] spot s = omega arith
+  step_room (Leaf text ∷ rest) spot s =
+      let r = step_leaf m text spot s in
+      let h = step_room rest r.0 r.1 in
+      omega (arith, h)
+  step_room (Guard head ∷ rest) spot s =
+      let q = met m spot s in
+      let r = step_guard m head spot s in
+      let h = step_room rest r.0 r.1 in
+      let k = guard_room q.0 head spot q.1 in
+      omega (arith, h, k)
+  step_room (Block head ∷ rest) spot s =
+      let q = met m spot s in
+      let r = step_block m head spot s in
+      let h = step_room rest r.0 r.1 in
+      let k = block_room q.0 head spot q.1 in
+      omega (arith, h, k)
+  step_room (End ∷ rest) spot s =
+      let r = step_end m spot s in
+      let h = step_room rest r.0 r.1 in
+      let k = leave_room spot.levels.bit spot.levels.outer spot.levels.skipped in
+      omega (arith, h, k)
+  step_room (Region head ∷ rest) spot s = omega arith

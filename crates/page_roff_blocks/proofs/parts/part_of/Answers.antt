@@ -1,0 +1,18 @@
+use Rattle.std.proofs.Common.{◌∙◌, ap, sym}
+use Rattle.page_roff_blocks.specs.Atoms.{keyword_part, form_part, part_of}
+use Rattle.page_roff_blocks.proofs.AtomLemmas.{column_within}
+use Rattle.page_roff_blocks.proofs.parts.part_of.Goals as goal
+
+pub keyword_part-requires-clause-column : goal.keyword_part-requires-clause-column
+keyword_part-requires-clause-column c =
+    let k = c.in-Control in
+    column_within c.args.line.now k.name.now k.rest.now k.column k.rest_column (sym k.ensures.value)
+
+pub returns-in-Control-clause-value : goal.returns-in-Control-clause-value
+unfolding part_of
+returns-in-Control-clause-value c =
+    let k = c.in-Control in
+    let line = c.args.line.now in
+    c.keyword_part.ensures.value
+    ∙ ap (λ word. keyword_part word line k.column k.rest.now k.rest_column) c.keyword_of.ensures
+    ∙ ap (form_part line) k.ensures.value

@@ -1,0 +1,130 @@
+-- Where a source stands: the levels of its blocks, and an open region. Source: roff(7), "if", "ie", "el".
+use Rattle.std.specs.Prelude.{ℕ, zero, suc, Bool, true, false, not, List, [], ◌∷◌, length, Option, Some, None, nat_lt, nat_le, if◌then◌else◌}
+use Rattle.page_core_limits.specs.declared.TheConstants.{NAME}
+use Rattle.page_roff_blocks.specs.declared.TheConstants.{CONDS}
+use Rattle.page_roff_blocks.specs.declared.atoms.Branch.{Branch}
+use Rattle.page_roff_blocks.specs.declared.atoms.Branch.TheVariants.{If, IfElse, Else}
+use Rattle.page_roff_blocks.specs.declared.regions.RegionHead.{RegionHead}
+use Rattle.page_roff_blocks.specs.declared.regions.RegionKind.{RegionKind}
+use Rattle.page_roff_blocks.specs.declared.spots.Reached.{Reached}
+use Rattle.page_roff_blocks.specs.declared.spots.Reached.TheVariants.{PassedOver, First, Remainder}
+use Rattle.page_roff_blocks.specs.declared.levels.Way.{Way}
+use Rattle.page_roff_blocks.specs.declared.levels.Way.TheVariants.{Runs, Skips, Exceeds}
+
+-- The innermost level's bit for `ie`, the bits of the levels around it from the inside out, and the number
+-- of skipped blocks that are open in it.
+pub record Levels : Type 0 where
+  pub bit : Bool
+  pub outer : List Bool
+  pub skipped : ℕ
+
+-- outside all blocks
+unfoldable pub outside : Levels
+outside = record { bit = false; outer = []; skipped = 0 }
+
+-- `ie` sets the bit of its level to the opposite of its condition, `el` clears it
+unfoldable pub bit_after : Branch (List ℕ) → Bool → Bool → Bool
+bit_after (If condition) value bit = bit
+bit_after (IfElse condition) value bit = not value
+bit_after Else value bit = false
+
+unfoldable pub way_in : Bool → Way
+way_in true = Runs
+way_in false = Exceeds
+
+-- how a block is entered whose head has this value, where so many true blocks are open
+unfoldable pub way_of : Bool → ℕ → Way
+way_of false count = Skips
+way_of true count = way_in (nat_lt count CONDS)
+
+-- a block is entered in a level that is run, whose bit is this one from then on
+unfoldable pub enter : Way → Bool → Levels → Levels
+enter Runs bit l = record { bit = false; outer = bit ∷ l.outer; skipped = 0 }
+enter Skips bit l = record { bit = bit; outer = l.outer; skipped = 1 }
+enter Exceeds bit l = record { bit = bit; outer = l.outer; skipped = 1 }
+
+-- a block is skipped
+unfoldable pub skip : Levels → Levels
+skip l = record l { skipped = suc l.skipped }
+
+-- the innermost block ends, if there is one
+unfoldable pub leave_level : List Bool → Levels → Levels
+leave_level [] l = l
+leave_level (bit ∷ outer) l = record { bit = bit; outer = outer; skipped = 0 }
+
+unfoldable pub leave_from : ℕ → Levels → Levels
+leave_from zero l = leave_level l.outer l
+leave_from (suc skipped) l = record l { skipped = skipped }
+
+unfoldable pub leave : Levels → Levels
+leave l = leave_from l.skipped l
+
+unfoldable pub is_block : ℕ → List Bool → Bool
+is_block (suc skipped) outer = true
+is_block zero (bit ∷ outer) = true
+is_block zero [] = false
+
+unfoldable pub has_block : Levels → Bool
+has_block l = is_block l.skipped l.outer
+
+-- Where a source stands in a line: its levels, whether a part of the line was reached, and whether the next
+-- part is passed over, since a head guards it.
+pub record Spot : Type 0 where
+  pub levels : Levels
+  pub begun : Bool
+  pub passing : Bool
+
+-- a line begins
+unfoldable pub at_line : Levels → Spot
+at_line l = record { levels = l; begun = false; passing = false }
+
+-- after a part of a line
+unfoldable pub after_part : Levels → Spot
+after_part l = record { levels = l; begun = true; passing = false }
+
+-- after a head without a block that is run, and has this value
+unfoldable pub guarded_by : Branch (List ℕ) → Bool → Levels → Spot
+guarded_by branch value l =
+    record { levels = record l { bit = bit_after branch value l.bit }; begun = true; passing = not value }
+
+-- how a part is reached where no block is skipped
+unfoldable pub reached_if : Bool → Bool → Reached
+reached_if true begun = PassedOver
+reached_if false false = First
+reached_if false true = Remainder
+
+unfoldable pub reached_from : ℕ → Bool → Bool → Reached
+reached_from zero passing begun = reached_if passing begun
+reached_from (suc skipped) passing begun = PassedOver
+
+unfoldable pub reached : Spot → Reached
+reached s = reached_from s.levels.skipped s.passing s.begun
+
+-- An open region: what it is, the macro that it defines, the name of its end line, and whether it is run. A
+-- name beyond the limit of names defines nothing.
+pub record Opened : Type 0 where
+  pub kind : RegionKind
+  pub name : Option (List ℕ)
+  pub ending : List ℕ
+  pub is_run : Bool
+
+-- a name, where there is one
+abbrev pub name_if : Bool → List ℕ → Option (List ℕ)
+name_if true name = Some name
+name_if false name = None
+
+unfoldable pub within_limit : Option (List ℕ) → Option (List ℕ)
+within_limit None = None
+within_limit (Some name) = if nat_le (length name) NAME then Some name else None
+
+unfoldable pub opened : RegionHead (List ℕ) → Bool → Opened
+opened head is_run = record { kind = head.kind; name = within_limit head.name; ending = head.ending; is_run = is_run }
+
+-- where a source stands between two lines
+pub record Place : Type 0 where
+  pub region : Option Opened
+  pub levels : Levels
+
+-- before the first line of a source
+unfoldable pub first_place : Place
+first_place = record { region = None; levels = outside }

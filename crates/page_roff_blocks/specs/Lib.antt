@@ -1,0 +1,6 @@
+pub mod Atoms
+pub mod Regions
+pub mod Forest
+pub mod Levels
+pub mod Run
+pub mod Steps

@@ -1,0 +1,214 @@
+-- What a source does, by recursion on its forest. Source: roff(7), "if", "ie", "el", "de", "ig".
+use Rattle.std.specs.Prelude.{ℕ, zero, suc, Bool, true, false, not, List, [], ◌∷◌, length, Option, Some, None}
+use Rattle.page_roff_heads.specs.declared.conditions.Condition.{Condition}
+use Rattle.page_roff_blocks.specs.declared.atoms.Branch.{Branch}
+use Rattle.page_roff_blocks.specs.declared.atoms.Branch.TheVariants.{If, IfElse, Else}
+use Rattle.page_roff_blocks.specs.declared.atoms.Head.{Head}
+use Rattle.page_roff_blocks.specs.declared.levels.Way.{Way}
+use Rattle.page_roff_blocks.specs.declared.levels.Way.TheVariants.{Runs, Skips, Exceeds}
+use Rattle.page_roff_blocks.specs.declared.regions.RegionHead.{RegionHead}
+use Rattle.page_roff_blocks.specs.declared.spots.Reached.{Reached}
+use Rattle.page_roff_blocks.specs.declared.spots.Reached.TheVariants.{PassedOver, First, Remainder}
+use Rattle.page_roff_blocks.specs.Forest.{Forest, empty, line, leaf, guard, block, region, Source, ends, shuts, opens, holds, Inside, unended, ended, source_of, inside_of}
+use Rattle.page_roff_blocks.specs.Levels.{Levels, bit_after, way_of, enter, skip, leave, has_block, reached_if, Opened, opened, Place}
+
+-- What the parts of a source do to a state: all that has no part in its forest.
+pub record Meaning (S : Type 0) : Type 0 where
+  -- a raw line begins outside of regions
+  pub begins : List ℕ → S → S
+  -- A node is reached that no block and no head passes over, with whether it is a remainder: whether it is
+  -- run.
+  pub meets : Bool → S → Bool × S
+  -- the condition of an `if` or `ie` that is run
+  pub tests : Condition (List ℕ) → S → Bool × S
+  -- a leaf that is run
+  pub gives : List ℕ → S → S
+  -- a true block beyond the limit of open ones
+  pub refuses : Head (List ℕ) → S → S
+  -- the end of a block where none is open
+  pub unopened : S → S
+  -- the head of a region, with whether it is run; a line of the region, and its end line
+  pub opens_region : RegionHead (List ℕ) → Bool → S → S
+  pub reads : Opened → List ℕ → S → S
+  pub ends_region : Opened → List ℕ → S → S
+
+-- A state within a line: whether a node of the line was reached, and whether the next one is passed over,
+-- since a head guards it.
+pub record Flow (S : Type 0) : Type 0 where
+  pub begun : Bool
+  pub passing : Bool
+  pub state : S
+
+-- where a source stands between two lines, and the state
+pub record At (S : Type 0) : Type 0 where
+  pub place : Place
+  pub state : S
+
+-- a line begins
+unfoldable pub fresh : {S : Type 0} → S → Flow S
+fresh s = record { begun = false; passing = false; state = s }
+
+-- after a node
+unfoldable pub past : {S : Type 0} → S → Flow S
+past s = record { begun = true; passing = false; state = s }
+
+-- after a head that may pass over the next node
+unfoldable pub guarded : {S : Type 0} → Bool → S → Flow S
+guarded passing s = record { begun = true; passing = passing; state = s }
+
+-- how a block is entered, the bit of the level around it, and the state
+pub record Entered (S : Type 0) : Type 0 where
+  pub way : Way
+  pub bit : Bool
+  pub state : S
+
+module _ {S : Type 0} (m : Meaning S) where
+  -- a node is reached where nothing is skipped: whether it is run
+  unfoldable pub meet_as : Reached → S → Bool × S
+  meet_as PassedOver s = (false, s)
+  meet_as First s = m.meets false s
+  meet_as Remainder s = m.meets true s
+
+  unfoldable pub meet : Flow S → Bool × S
+  meet w = meet_as (reached_if w.passing w.begun) w.state
+
+  -- the value of a head that is run; `el` has that of its level's bit
+  unfoldable pub value : Branch (List ℕ) → Bool → S → Bool × S
+  value (If condition) bit s = m.tests condition s
+  value (IfElse condition) bit s = m.tests condition s
+  value Else bit s = (bit, s)
+
+  -- the lines of a region
+  unfoldable pub read : Opened → List (List ℕ) → S → S
+  read o [] s = s
+  read o (l ∷ ls) s = read o ls (m.reads o l s)
+
+  -- a whole region
+  unfoldable pub pass_region : RegionHead (List ℕ) → Bool → List (List ℕ) → List ℕ → S → S
+  pass_region r is_run ls e s = m.ends_region (opened r is_run) e (read (opened r is_run) ls (m.opens_region r is_run s))
+
+  -- what is skipped: only lines, regions and ends are looked at
+  unfoldable pub pass : Forest → Flow S → Flow S
+  pass empty w = w
+  pass (line l rest) w = pass rest (fresh (m.begins l w.state))
+  pass (leaf text rest) w = pass rest (past w.state)
+  pass (guard h rest) w = pass rest (guarded w.passing w.state)
+  pass (region r ls e rest) w = pass rest (fresh (pass_region r false ls e w.state))
+  pass (block h inner rest) w = pass rest (past (pass inner (past w.state)).state)
+
+  unfoldable pub leaf_if : Bool → List ℕ → S → S
+  leaf_if true text s = m.gives text s
+  leaf_if false text s = s
+
+  -- a head without a block: the level's bit, and the state in which the next node is met
+  unfoldable pub guard_if : Bool → Head (List ℕ) → Bool → Bool → S → Bool × Flow S
+  guard_if true h passing bit s =
+      let v = value h.branch bit s in
+      (bit_after h.branch v.0 bit, guarded (not v.0) v.1)
+  guard_if false h passing bit s = (bit, guarded passing s)
+
+  unfoldable pub refuse_if : Way → Head (List ℕ) → S → S
+  refuse_if Runs h s = s
+  refuse_if Skips h s = s
+  refuse_if Exceeds h s = m.refuses h s
+
+  unfoldable pub enter_if : Bool → ℕ → Head (List ℕ) → Bool → S → Entered S
+  enter_if true n h bit s =
+      let v = value h.branch bit s in
+      let way = way_of v.0 n in
+      record { way = way; bit = bit_after h.branch v.0 bit; state = refuse_if way h v.1 }
+  enter_if false n h bit s = record { way = Skips; bit = bit; state = s }
+
+  unfoldable pub block_by : Way → (S → S) → (S → S) → S → S
+  block_by Runs run_it pass_it s = run_it s
+  block_by Skips run_it pass_it s = pass_it s
+  block_by Exceeds run_it pass_it s = pass_it s
+
+  -- What is run, where so many true blocks are open around it: the level's bit and the state.
+  unfoldable pub run : ℕ → Forest → Bool → Flow S → Bool × Flow S
+  run n empty bit w = (bit, w)
+  run n (line l rest) bit w = run n rest bit (fresh (m.begins l w.state))
+  run n (leaf text rest) bit w =
+      let q = meet w in
+      run n rest bit (past (leaf_if q.0 text q.1))
+  run n (guard h rest) bit w =
+      let q = meet w in
+      let g = guard_if q.0 h w.passing bit q.1 in
+      run n rest g.0 g.1
+  run n (region r ls e rest) bit w =
+      let q = meet w in
+      run n rest bit (fresh (pass_region r q.0 ls e q.1))
+  run n (block h inner rest) bit w =
+      let q = meet w in
+      let i = enter_if q.0 n h bit q.1 in
+      let s = block_by i.way (λ s. (run (suc n) inner false (past s)).1.state) (λ s. (pass inner (past s)).state) i.state in
+      run n rest i.bit (past s)
+
+  -- a forest at the innermost level of a source: it is run, or stands in a skipped block
+  unfoldable pub here_at : Forest → ℕ → Levels → Flow S → Levels × Flow S
+  here_at f zero l w = let r = run (length l.outer) f l.bit w in (record l { bit = r.0 }, r.1)
+  here_at f (suc k) l w = (l, pass f w)
+
+  unfoldable pub here : Forest → Levels → Flow S → Levels × Flow S
+  here f l w = here_at f l.skipped l w
+
+  -- a block is entered that doesn't end here
+  unfoldable pub enter_at : ℕ → Head (List ℕ) → Levels → Flow S → Levels × Flow S
+  enter_at zero h l w =
+      let q = meet w in
+      let i = enter_if q.0 (length l.outer) h l.bit q.1 in
+      (enter i.way i.bit l, past i.state)
+  enter_at (suc k) h l w = (skip l, past w.state)
+
+  unfoldable pub enter_block : Head (List ℕ) → Levels → Flow S → Levels × Flow S
+  enter_block h l w = enter_at l.skipped h l w
+
+  -- the innermost block ends, if there is one
+  unfoldable pub unopened_if : Bool → S → S
+  unopened_if true s = s
+  unopened_if false s = m.unopened s
+
+  unfoldable pub leave_block : Levels → Flow S → Levels × Flow S
+  leave_block l w = (leave l, past (unopened_if (has_block l) w.state))
+
+  -- whether a region's head is run
+  unfoldable pub meet_at : ℕ → Flow S → Bool × S
+  meet_at zero w = meet w
+  meet_at (suc k) w = (false, w.state)
+
+  unfoldable pub open_region : RegionHead (List ℕ) → Levels → Bool × S → At S
+  open_region r l q = record { place = record { region = Some (opened r q.0); levels = l }; state = m.opens_region r q.0 q.1 }
+
+  unfoldable pub read_at : List (List ℕ) → Opened → At S → At S
+  read_at ls o a = record { place = a.place; state = read o ls a.state }
+
+  -- a source inside open levels, and inside an open region
+  unfoldable pub run_source : Source → Levels → Flow S → At S
+  run_source (ends f) l w =
+      let r = here f l w in
+      record { place = record { region = None; levels = r.0 }; state = r.1.state }
+  run_source (shuts f rest) l w =
+      let r = here f l w in
+      let q = leave_block r.0 r.1 in
+      run_source rest q.0 q.1
+  run_source (opens f h rest) l w =
+      let r = here f l w in
+      let q = enter_block h r.0 r.1 in
+      run_source rest q.0 q.1
+  run_source (holds f r ls) l w =
+      let p = here f l w in
+      let q = meet_at p.0.skipped p.1 in
+      read_at ls (opened r q.0) (open_region r p.0 q)
+
+  unfoldable pub run_inside : Opened → Inside → Levels → S → At S
+  run_inside o (unended ls) l s = record { place = record { region = Some o; levels = l }; state = read o ls s }
+  run_inside o (ended ls e rest) l s = run_source rest l (fresh (m.ends_region o e (read o ls s)))
+
+  -- lines that are seen in both ways, as they begin outside and inside a region
+  unfoldable pub run_from : Source → (List ℕ → Inside) → Option Opened → Levels → S → At S
+  run_from source inside None l s = run_source source l (fresh s)
+  run_from source inside (Some o) l s = run_inside o (inside o.ending) l s
+
+  -- The lines of a source as a forest inside the open nodes, and what that does.
+  unfoldable pub run_lines : List (List ℕ) → At S → At S
+  run_lines ls a = run_from (source_of ls) (inside_of ls) a.place.region a.place.levels a.state

@@ -1,0 +1,79 @@
+-- The parts of a source, one after another: the steps of the code. Source: roff(7), "if", "de", "ig".
+use Rattle.std.specs.Prelude.{ℕ, Bool, true, false, List, [], ◌∷◌, length, Option, Some, None}
+use Rattle.page_roff_blocks.specs.declared.atoms.Atom.{Atom}
+use Rattle.page_roff_blocks.specs.declared.atoms.Atom.TheVariants.{Leaf, Guard, Block, End, Region}
+use Rattle.page_roff_blocks.specs.declared.atoms.Head.{Head}
+use Rattle.page_roff_blocks.specs.declared.regions.RegionHead.{RegionHead}
+use Rattle.page_roff_blocks.specs.Atoms.{atoms}
+use Rattle.page_roff_blocks.specs.Regions.{is_ending}
+use Rattle.page_roff_blocks.specs.Levels.{Levels, bit_after, way_of, enter, skip, leave, has_block, Spot, at_line, after_part, guarded_by, reached, Opened, opened}
+use Rattle.page_roff_blocks.specs.Run.{Meaning, At, meet_as, value, leaf_if, refuse_if, unopened_if}
+
+module _ {S : Type 0} (m : Meaning S) where
+  -- how the next part is met
+  unfoldable pub met : Spot → S → Bool × S
+  met spot s = meet_as m (reached spot) s
+
+  unfoldable pub step_leaf : List ℕ → Spot → S → Spot × S
+  step_leaf text spot s = let q = met spot s in (after_part spot.levels, leaf_if m q.0 text q.1)
+
+  -- a head without a block that is run, and has this value
+  unfoldable pub guard_with : Head (List ℕ) → Spot → Bool × S → Spot × S
+  guard_with h spot v = (guarded_by h.branch v.0 spot.levels, v.1)
+
+  unfoldable pub guard_met : Bool → Head (List ℕ) → Spot → S → Spot × S
+  guard_met true h spot s = guard_with h spot (value m h.branch spot.levels.bit s)
+  guard_met false h spot s = (record spot { begun = true }, s)
+
+  unfoldable pub step_guard : Head (List ℕ) → Spot → S → Spot × S
+  step_guard h spot s = let q = met spot s in guard_met q.0 h spot q.1
+
+  -- a head with a block that is run, and has this value
+  unfoldable pub block_with : Head (List ℕ) → Spot → Bool × S → Spot × S
+  block_with h spot v =
+      let way = way_of v.0 (length spot.levels.outer) in
+      (after_part (enter way (bit_after h.branch v.0 spot.levels.bit) spot.levels), refuse_if m way h v.1)
+
+  unfoldable pub block_met : Bool → Head (List ℕ) → Spot → S → Spot × S
+  block_met true h spot s = block_with h spot (value m h.branch spot.levels.bit s)
+  block_met false h spot s = (after_part (skip spot.levels), s)
+
+  unfoldable pub step_block : Head (List ℕ) → Spot → S → Spot × S
+  step_block h spot s = let q = met spot s in block_met q.0 h spot q.1
+
+  -- the end of a block
+  unfoldable pub step_end : Spot → S → Spot × S
+  step_end spot s = (after_part (leave spot.levels), unopened_if m (has_block spot.levels) s)
+
+  -- the head of a region, with which its line ends
+  unfoldable pub step_region : RegionHead (List ℕ) → Spot → S → At S
+  step_region r spot s =
+      let q = met spot s in
+      record { place = record { region = Some (opened r q.0); levels = spot.levels }; state = m.opens_region r q.0 q.1 }
+
+  -- the parts of a line that are left
+  unfoldable pub step_parts : List (Atom (List ℕ)) → Spot → S → At S
+  step_parts [] spot s = record { place = record { region = None; levels = spot.levels }; state = s }
+  step_parts (Leaf text ∷ rest) spot s = let r = step_leaf text spot s in step_parts rest r.0 r.1
+  step_parts (Guard h ∷ rest) spot s = let r = step_guard h spot s in step_parts rest r.0 r.1
+  step_parts (Block h ∷ rest) spot s = let r = step_block h spot s in step_parts rest r.0 r.1
+  step_parts (End ∷ rest) spot s = let r = step_end spot s in step_parts rest r.0 r.1
+  step_parts (Region head ∷ rest) spot s = step_region head spot s
+
+  -- a line in an open region
+  unfoldable pub step_inside : Bool → Opened → List ℕ → Levels → S → At S
+  step_inside true o line l s = record { place = record { region = None; levels = l }; state = m.ends_region o line s }
+  step_inside false o line l s = record { place = record { region = Some o; levels = l }; state = m.reads o line s }
+
+  unfoldable pub step_from : Option Opened → List ℕ → Levels → S → At S
+  step_from None line l s = step_parts (atoms line) (at_line l) (m.begins line s)
+  step_from (Some o) line l s = step_inside (is_ending o.ending line) o line l s
+
+  -- one line
+  unfoldable pub step : List ℕ → At S → At S
+  step line a = step_from a.place.region line a.place.levels a.state
+
+  -- line after line
+  unfoldable pub step_lines : List (List ℕ) → At S → At S
+  step_lines [] a = a
+  step_lines (line ∷ lines) a = step_lines lines (step line a)

@@ -1,0 +1,76 @@
+//! What a raw line is made of (roff(7), "if", "ie", "el").
+
+ghost use Rattle.std.specs.Prelude.{◌≡◌};
+
+use crate::regions::RegionHead;
+use page_roff_heads::Condition;
+use std::alloc::AllocError;
+
+/// What the head of a conditional asks; `W` is a text.
+pub enum Branch<W> {
+    /// `if`.
+    If(Condition<W>),
+    /// `ie`.
+    IfElse(Condition<W>),
+    /// `el`.
+    Else,
+}
+
+/// The head of a conditional; `W` is a text.
+pub struct Head<W> {
+    /// The column of its name.
+    pub column: u32,
+    pub branch: Branch<W>,
+}
+
+/// A part of a raw line; `W` is a text. What follows a part on its line is a remainder, a line of its own:
+/// columns are those of the remainder in which they stand.
+pub enum Atom<W> {
+    /// A line that heads no conditional and no region, or what stands in such a line before the end of a
+    /// block.
+    Leaf(W),
+    /// The head of a conditional without a block. It guards the next part of its line, if there is one.
+    Guard(Head<W>),
+    /// The head of a conditional that opens a block.
+    Block(Head<W>),
+    /// The end of the innermost block.
+    End,
+    /// The head of a region. Nothing follows it on its line.
+    Region(RegionHead<W>),
+}
+
+impl<W: Copy> Copy for Branch<W> {}
+
+impl<W: Copy> Clone for Branch<W> {
+    ghost is_clone = { λ x y. y ≡ x };
+
+    ghost is_infallible = { λ _. Unit {0} };
+
+    fn clone(&self) -> Result<Branch<W>, AllocError> {
+        Ok(*self)
+    }
+}
+
+impl<W: Copy> Copy for Head<W> {}
+
+impl<W: Copy> Clone for Head<W> {
+    ghost is_clone = { λ x y. y ≡ x };
+
+    ghost is_infallible = { λ _. Unit {0} };
+
+    fn clone(&self) -> Result<Head<W>, AllocError> {
+        Ok(*self)
+    }
+}
+
+impl<W: Copy> Copy for Atom<W> {}
+
+impl<W: Copy> Clone for Atom<W> {
+    ghost is_clone = { λ x y. y ≡ x };
+
+    ghost is_infallible = { λ _. Unit {0} };
+
+    fn clone(&self) -> Result<Atom<W>, AllocError> {
+        Ok(*self)
+    }
+}

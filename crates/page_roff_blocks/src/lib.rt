@@ -1,0 +1,22 @@
+//! The raw lines of a source as a forest of leaves, regions and blocks: what heads and ends them is found
+//! from the raw text alone (roff(7), "if", "ie", "el", "de", "am", "ig").
+#![tactic(auto)]
+
+mod atoms;
+mod laws;
+mod levels;
+mod open_regions;
+mod parts;
+mod regions;
+mod spots;
+
+pub use atoms::{Atom, Branch, Head};
+pub use laws::{atoms_law, cut_law, fold_law, room_law};
+pub use levels::{Levels, Way};
+pub use open_regions::OpenRegion;
+pub use parts::Atoms;
+pub use regions::{RegionHead, RegionKind, is_ending};
+pub use spots::{Reached, Spot};
+
+/// The open true blocks of a source: a page or a running macro.
+pub const CONDS: usize = 64;

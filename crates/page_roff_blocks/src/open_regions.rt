@@ -1,0 +1,110 @@
+//! A region that is open (roff(7), "de", "am", "ig").
+
+ghost use Rattle.std.specs.Prelude.{◌≡◌, ◌≤◌, length};
+ghost use Rattle.page_core_limits.specs.declared.TheConstants.{LINE, NAME};
+ghost use Rattle.page_roff_blocks.specs.Levels.{name_if, within_limit, opened};
+ghost use Rattle.page_roff_blocks.specs.Regions.{is_ending, text_seen, region_seen, FitsRegion};
+
+use crate::regions::{RegionHead, RegionKind, is_ending};
+use arrayvec::ArrayVec;
+use page_core_limits::{LINE, NAME};
+use std::marker::Model;
+
+/// A region that is open, with what of its head decides the rest.
+#[derive(Drop)]
+pub struct OpenRegion {
+    kind: RegionKind,
+    has_name: bool,
+    name: ArrayVec<u8, NAME>,
+    ending: ArrayVec<u8, NAME>,
+    is_run: bool,
+}
+
+impl Model for OpenRegion {
+    ghost use Rattle.page_roff_blocks.specs.Levels.{Opened};
+
+    ghost Value = { Opened };
+
+    ghost use Rattle.page_roff_blocks.specs.Levels.{name_if};
+
+    ghost view = { λ r. record {
+      kind = r.kind;
+      name = name_if r.has_name r.name.items;
+      ending = r.ending.items;
+      is_run = r.is_run;
+    } };
+}
+
+// A name of its own.
+fn copy_of(name: &[u8]) -> ArrayVec<u8, NAME>
+    requires { length name.now ≤ NAME }
+    ensures { result.items ≡ name.now }
+{
+    let mut copy = ArrayVec::new();
+    let _ = copy.try_extend_from_slice(name);
+    copy
+}
+
+// The name that a region defines: the bytes of it that are kept, and whether there is one within the limit
+// of names.
+#[tactic(auto, unfolding(crate::specs::Levels::within_limit))]
+fn usable_name(name: Option<&[u8]>) -> (&[u8], bool)
+    ensures value { name_if result.1 result.0.now ≡ within_limit (text_seen name.entry) }
+    ensures short { length result.0.now ≤ NAME }
+{
+    match name {
+        Some(text) if text.len() <= NAME => (text, true),
+        _ => (b"", false),
+    }
+}
+
+impl OpenRegion {
+    /// The region of a head, which may be run or not.
+    #[tactic(auto, unfolding(crate::specs::Levels::opened))]
+    pub fn new(head: &RegionHead<&[u8]>, is_run: bool) -> OpenRegion
+        requires { FitsRegion (region_seen head.now) }
+        ensures { result ≡ opened (region_seen head.now) is_run }
+    {
+        let (name, has_name) = usable_name(head.name);
+        OpenRegion {
+            kind: head.kind,
+            has_name,
+            name: copy_of(name),
+            ending: copy_of(head.ending),
+            is_run,
+        }
+    }
+
+    /// What it is.
+    pub fn kind(&self) -> RegionKind
+        ensures { result ≡ self.now.kind }
+    {
+        self.kind
+    }
+
+    /// Whether it is run.
+    pub fn is_run(&self) -> bool
+        ensures { result ≡ self.now.is_run }
+    {
+        self.is_run
+    }
+
+    /// The macro that it defines, if it defines one.
+    pub fn name(&self) -> Option<&[u8]>
+        ensures { text_seen result ≡ self.now.name }
+    {
+        if self.has_name {
+            Some(self.name.as_slice())
+        } else {
+            None
+        }
+    }
+
+    /// Whether a raw line ends it.
+    pub fn is_ended_by(&self, line: &[u8]) -> bool
+        requires { length line.now ≤ LINE }
+        ensures { result ≡ is_ending self.now.ending line.now }
+    {
+        is_ending(self.ending.as_slice(), line)
+    }
+}

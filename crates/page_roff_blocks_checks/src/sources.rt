@@ -1,0 +1,242 @@
+//! Sources: what is run of them, where `n` is true and every other condition false.
+
+use arrayvec::ArrayVec;
+use page_roff_blocks::{Atom, Atoms, Branch, Head, OpenRegion, Reached, Spot, Way};
+use page_roff_heads::{Condition, Test};
+use std::process::Abort;
+
+// A source that is run line by line.
+#[derive(Drop)]
+struct Source {
+    spot: Spot,
+    region: Option<OpenRegion>,
+    // The leaves that were run, with a bar after each, and the regions: in brackets where they are run,
+    // else in braces.
+    given: ArrayVec<u8, 400>,
+    // The lines, and the remainders that were run.
+    taken: u32,
+    // Blocks beyond the limit, and ends of blocks that were not open.
+    exceeding: u32,
+    unopened: u32,
+}
+
+impl Source {
+    fn new() -> Source {
+        Source {
+            spot: Spot::new(),
+            region: None,
+            given: ArrayVec::new(),
+            taken: 0,
+            exceeding: 0,
+            unopened: 0,
+        }
+    }
+
+    fn give(&mut self, text: &[u8]) {
+        let _ = self.given.try_extend_from_slice(text);
+    }
+
+    // Whether the next part is run.
+    fn meets(&mut self) -> bool {
+        match self.spot.reached() {
+            Reached::PassedOver => false,
+            Reached::First => true,
+            Reached::Remainder => {
+                self.taken = self.taken.saturating_add(1);
+                true
+            }
+        }
+    }
+
+    fn value(&self, head: Head<&[u8]>) -> bool {
+        match head.branch {
+            Branch::If(condition) => holds(condition),
+            Branch::IfElse(condition) => holds(condition),
+            Branch::Else => self.spot.bit(),
+        }
+    }
+
+    fn leaf(&mut self, text: &[u8]) {
+        if self.meets() {
+            self.give(text);
+            self.give(b"|");
+        }
+        self.spot.pass();
+    }
+
+    fn guard(&mut self, head: Head<&[u8]>) {
+        if !self.meets() {
+            self.spot.pass_guard();
+            return;
+        }
+        let value = self.value(head);
+        self.spot.guard(&head.branch, value);
+    }
+
+    fn block(&mut self, rt: &impl Abort, head: Head<&[u8]>) {
+        if !self.meets() {
+            assert!(rt; self.spot.skipped() < 1000);
+            self.spot.skip();
+            return;
+        }
+        let value = self.value(head);
+        if matches!(self.spot.enter(&head.branch, value), Way::Exceeds) {
+            self.exceeding = self.exceeding.saturating_add(1);
+        }
+    }
+
+    fn part(&mut self, rt: &impl Abort, atom: Atom<&[u8]>) {
+        match atom {
+            Atom::Leaf(text) => self.leaf(text),
+            Atom::Guard(head) => self.guard(head),
+            Atom::Block(head) => self.block(rt, head),
+            Atom::End => {
+                if !self.spot.leave() {
+                    self.unopened = self.unopened.saturating_add(1);
+                }
+            }
+            Atom::Region(head) => {
+                let is_run = self.meets();
+                assert!(rt; head.ending.len() <= 64);
+                self.give(if is_run { b"[" } else { b"{" });
+                self.give(head.name.unwrap_or(b""));
+                self.region = Some(OpenRegion::new(&head, is_run));
+            }
+        }
+    }
+
+    // A line in a region; whether there is one.
+    fn line_in_region(&mut self, rt: &impl Abort, line: &[u8]) -> bool {
+        assert!(rt; line.len() < 100);
+        let (ends, is_run) = match &self.region {
+            None => return false,
+            Some(region) => (region.is_ended_by(line), region.is_run()),
+        };
+        if ends {
+            self.give(if is_run { b"]" } else { b"}" });
+            self.region = None;
+        }
+        true
+    }
+
+    fn line(&mut self, rt: &impl Abort, line: &str) {
+        self.taken = self.taken.saturating_add(1);
+        if self.line_in_region(rt, line.as_bytes()) {
+            return;
+        }
+        assert!(rt; line.len() < 100);
+        self.spot.begin_line();
+        let mut atoms = Atoms::new(line.as_bytes());
+        for _ in 0..50 {
+            if let Some(atom) = atoms.next_atom() {
+                self.part(rt, atom);
+            }
+        }
+    }
+}
+
+fn holds(condition: Condition<&[u8]>) -> bool {
+    match condition.test {
+        Test::Always(value) => value != condition.is_turned,
+        _ => false,
+    }
+}
+
+// Checks what is run of a source, how many lines it takes, and how many ends of blocks are not open.
+fn check(rt: &impl Abort, lines: &[&str], given: &str, taken: u32, unopened: u32) {
+    let mut source = Source::new();
+    for line in lines {
+        source.line(rt, line);
+    }
+    assert_eq!(rt; source.given.as_slice(), given.as_bytes());
+    assert_eq!(rt; source.taken, taken, "lines taken for {given}");
+    assert_eq!(rt; source.unopened, unopened, "ends for {given}");
+    assert_eq!(rt; source.exceeding, 0);
+}
+
+#[test]
+fn blocks(rt: HostRuntime) {
+    check(
+        &rt,
+        &[
+            ".ie n \\{.ds q ab",
+            "'br\\}",
+            ".el \\{.ds q cd",
+            "'br\\}",
+            "\\*q",
+        ],
+        ".ds q ab|'br|\\*q|",
+        6,
+        0,
+    );
+    check(&rt, &[".if t .sp .5v", ".if n .sp"], ".sp|", 3, 0);
+    check(&rt, &[".if n \\{a\\} b"], "a|b|", 3, 0);
+    check(&rt, &[".if n .if n .if t x"], "", 3, 0);
+    check(&rt, &[".ie t x", ".el y", ".el z"], "y|", 4, 0);
+    check(&rt, &[".ie t \\{", ".ie n a", ".\\}", ".el b"], "b|", 5, 0);
+    check(&rt, &[".ie n \\{", ".ie t a", ".\\}", ".el b"], ".|", 4, 0);
+}
+
+#[test]
+fn skipped_remainders(rt: HostRuntime) {
+    check(&rt, &[".if n \\{", ".if t foo \\} bar"], "bar|", 3, 0);
+    check(&rt, &[".if t .if n \\{ a \\} bar"], "bar|", 2, 0);
+    check(&rt, &[".if t .if n \\{", "a", "\\} bar"], "bar|", 4, 0);
+    check(&rt, &[".if t \\} bar"], "bar|", 2, 1);
+    check(&rt, &["  \\}"], "  |", 1, 1);
+    check(&rt, &[".if n .\\\" x", ".if n \\\" x"], ".\\\" x|", 3, 0);
+    check(&rt, &[".if t", "a"], "a|", 2, 0);
+}
+
+#[test]
+fn regions(rt: HostRuntime) {
+    check(
+        &rt,
+        &[".de m", ".de m zz", "new", ".zz", "old", "..", ".m"],
+        "[m].m|",
+        7,
+        0,
+    );
+    check(&rt, &[".de m zz", "new", ".zz", "old"], "[m]old|", 4, 0);
+    check(
+        &rt,
+        &[".if n \\{", ".ig", "\\}", "..", "z", ".\\}"],
+        "[]z|.|",
+        6,
+        0,
+    );
+    check(
+        &rt,
+        &[".if \\n(zZ=1 .ig zZ", "a", ".zZ x", "b"],
+        "{}b|",
+        4,
+        0,
+    );
+    check(&rt, &[".if t \\{", ".ig x", "\\}"], "{", 3, 0);
+    check(&rt, &[".TS", "a b", "..", ".TE", "c"], "[]c|", 5, 0);
+    check(
+        &rt,
+        &[".if n .de x y", ".if t \\}", ".y", "c"],
+        "[x]c|",
+        5,
+        0,
+    );
+}
+
+#[test]
+fn blocks_beyond_the_limit(rt: HostRuntime) {
+    let mut source = Source::new();
+    for _ in 0..65 {
+        source.line(&rt, ".if n \\{");
+    }
+    source.line(&rt, "x");
+    assert_eq!(rt; source.given.len(), 0);
+    for _ in 0..65 {
+        source.line(&rt, "\\}");
+    }
+    source.line(&rt, "y");
+    assert_eq!(rt; source.given.as_slice(), b"y|".as_slice());
+    assert_eq!(rt; source.exceeding, 1);
+    assert_eq!(rt; source.unopened, 0);
+    assert_eq!(rt; source.taken, 132);
+}

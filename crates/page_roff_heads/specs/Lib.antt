@@ -1,0 +1,4 @@
+pub mod Texts
+pub mod Delimiters
+pub mod Conditions
+pub mod Heads

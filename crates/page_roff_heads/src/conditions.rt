@@ -1,0 +1,293 @@
+//! Conditions as they are written (roff(7), "Conditional expressions").
+
+ghost use Rattle.std.specs.Prelude.{◌≡◌, ◌≤◌, ◌<◌, ◌+◌, ◌^◌, length};
+ghost use Rattle.std.specs.List.{prefix_len};
+ghost use Rattle.page_roff_forms.specs.LineForms.{is_name};
+ghost use Rattle.page_roff_heads.specs.Conditions as written;
+ghost use Rattle.page_roff_heads.specs.Conditions.{read_seen, test_seen, condition_seen, FitsTest};
+ghost use Rattle.page_roff_heads.specs.declared.conditions.Kind.TheVariants as kinds;
+ghost use Rattle.page_roff_heads.specs.declared.conditions.Test.TheVariants as tests;
+ghost use Rattle.page_roff_heads.specs.Texts.{blank_len};
+
+use crate::delimiters::{delimiter_len, place_of};
+use crate::expressions::expression_len;
+use crate::texts::{Placed, blank_len};
+use page_core_limits::LINE;
+use page_roff_forms::is_white;
+use std::alloc::AllocError;
+
+/// What a condition asks; `W` is a text.
+pub enum Test<W> {
+    /// A letter that is always true, `n` or `o`, or always false, `t`, `e` or `v`.
+    Always(bool),
+    /// Another letter.
+    Unknown(W),
+    /// Whether this is the name of a string, macro or request.
+    IsDefined(W),
+    /// Whether this is the name of a register.
+    IsRegister(W),
+    /// Whether this expression is above 0.
+    Expression(Placed<W>),
+    /// Whether two texts are equal.
+    Texts { first: Placed<W>, second: Placed<W> },
+    /// Nothing, or a delimiter is missing: the condition is false, whatever turns it.
+    Missing,
+}
+
+/// A condition.
+pub struct Condition<W> {
+    /// The column of its first byte.
+    pub column: u32,
+    /// Whether `!` turns its test.
+    pub is_turned: bool,
+    pub test: Test<W>,
+}
+
+impl<W: Copy> Copy for Test<W> {}
+
+impl<W: Copy> Clone for Test<W> {
+    ghost is_clone = { λ x y. y ≡ x };
+
+    ghost is_infallible = { λ _. Unit {0} };
+
+    fn clone(&self) -> Result<Test<W>, AllocError> {
+        Ok(*self)
+    }
+}
+
+impl<W: Copy> Copy for Condition<W> {}
+
+impl<W: Copy> Clone for Condition<W> {
+    ghost is_clone = { λ x y. y ≡ x };
+
+    ghost is_infallible = { λ _. Unit {0} };
+
+    fn clone(&self) -> Result<Condition<W>, AllocError> {
+        Ok(*self)
+    }
+}
+
+/// What a test is, by its first byte.
+#[derive(Clone, Copy)]
+pub(crate) enum Kind {
+    True,
+    False,
+    Defined,
+    Register,
+    Expression,
+    Letter,
+    Delimiter,
+}
+
+/// A test, and the number of its bytes.
+pub(crate) struct TestRead<W> {
+    pub(crate) test: Test<W>,
+    pub(crate) len: usize,
+}
+
+impl<W: Copy> Copy for TestRead<W> {}
+
+impl<W: Copy> Clone for TestRead<W> {
+    ghost is_clone = { λ x y. y ≡ x };
+
+    ghost is_infallible = { λ _. Unit {0} };
+
+    fn clone(&self) -> Result<TestRead<W>, AllocError> {
+        Ok(*self)
+    }
+}
+
+#[tactic(auto, unfolding(crate::specs::Conditions::kind_of))]
+fn kind_of(byte: u8) -> Kind
+    ensures { result ≡ written.kind_of byte }
+{
+    match byte {
+        b'n' | b'o' => Kind::True,
+        b't' | b'e' | b'v' => Kind::False,
+        b'd' => Kind::Defined,
+        b'r' => Kind::Register,
+        b'0'..=b'9' | b'(' | b'\\' | b'+' | b'-' | b'.' => Kind::Expression,
+        b'A'..=b'Z' | b'a'..=b'z' => Kind::Letter,
+        _ => Kind::Delimiter,
+    }
+}
+
+// A name after blanks, and how many bytes both have.
+fn name_after(text: &[u8]) -> (&[u8], usize)
+    ensures name { result.0.now ≡ written.name_after text.now }
+    ensures len { result.1 ≡ blank_len text.now + written.name_len text.now }
+    ensures within { result.1 ≤ length text.now }
+    ensures short { length result.0.now ≤ length text.now }
+{
+    let blanks = blank_len(text);
+    let named = &text[blanks..];
+    let len = name_len(named);
+    (&named[..len], blanks + len)
+}
+
+// The number of bytes of the name at a text's front.
+fn name_len(text: &[u8]) -> usize
+    ensures value { result ≡ prefix_len is_name text.now }
+    ensures within { result ≤ length text.now }
+{
+    text.iter()
+        .take_while(|byte| !(is_white(**byte) || **byte == b'\\'))
+        .count()
+}
+
+// A test of one letter.
+fn letter(test: Test<&[u8]>) -> TestRead<&[u8]>
+    ensures { read_seen result ≡ written.reads (test_seen test.entry) 1 }
+{
+    TestRead { test, len: 1 }
+}
+
+// A test of a letter and a name behind it.
+fn named(test: Test<&[u8]>, len: usize) -> TestRead<&[u8]>
+    requires { len < 2 ^ 63 }
+    ensures { read_seen result ≡ written.reads (test_seen test.entry) (1 + len) }
+{
+    TestRead { test, len: 1 + len }
+}
+
+// The number of `!` at a text's front.
+fn turn_len(text: &[u8]) -> usize
+    ensures value { result ≡ written.turn_len text.now }
+    ensures within { result ≤ length text.now }
+{
+    text.iter().take_while(|byte| **byte == b'!').count()
+}
+
+// No condition: it takes the whole rest of a line.
+fn missing(text: &[u8]) -> TestRead<&[u8]>
+    ensures { read_seen result ≡ written.reads tests.Missing (length text.now) }
+{
+    TestRead {
+        test: Test::Missing,
+        len: text.len(),
+    }
+}
+
+// Two texts after the first delimiter.
+fn texts_after<'a>(delimiter: &[u8], text: &'a [u8], column: u32) -> TestRead<&'a [u8]>
+    requires short { length text.now ≤ LINE }
+    requires room { column + length text.now ≤ LINE + 1 }
+    ensures value { read_seen result ≡ written.texts_after delimiter.now column text.now }
+    ensures within { result.len ≤ length text.now }
+    ensures fits { FitsTest (test_seen result.test) }
+{
+    let end = place_of(delimiter, text);
+    if end == text.len() {
+        return missing(text);
+    }
+    let start = end + delimiter.len();
+    let second = &text[start..];
+    let second_end = place_of(delimiter, second);
+    if second_end == second.len() {
+        return missing(text);
+    }
+    TestRead {
+        test: Test::Texts {
+            first: Placed {
+                text: &text[..end],
+                column,
+            },
+            second: Placed {
+                text: &second[..second_end],
+                column: column + start as u32,
+            },
+        },
+        len: start + second_end + delimiter.len(),
+    }
+}
+
+// Two texts with their delimiters.
+fn read_texts(text: &[u8], column: u32) -> TestRead<&[u8]>
+    requires short { length text.now ≤ LINE }
+    requires room { column + length text.now ≤ LINE + 1 }
+    ensures value { read_seen result ≡ written.texts_at column text.now }
+    ensures within { result.len ≤ length text.now }
+    ensures fits { FitsTest (test_seen result.test) }
+{
+    let len = delimiter_len(text);
+    let (delimiter, rest) = text.split_at(len);
+    let read = texts_after(delimiter, rest, column + len as u32);
+    TestRead {
+        test: read.test,
+        len: len + read.len,
+    }
+}
+
+// An expression at a column.
+fn read_expression(text: &[u8], column: u32) -> TestRead<&[u8]>
+    requires short { length text.now ≤ LINE }
+    requires room { column + length text.now ≤ LINE + 1 }
+    ensures value { read_seen result ≡ written.read_kind kinds.Expression column text.now }
+    ensures within { result.len ≤ length text.now }
+    ensures fits { FitsTest (test_seen result.test) }
+{
+    let len = expression_len(text);
+    TestRead {
+        test: Test::Expression(Placed {
+            text: &text[..len],
+            column,
+        }),
+        len,
+    }
+}
+
+// A test of a kind, of which the first byte stands at a column.
+fn read_kind(kind: Kind, text: &[u8], column: u32) -> TestRead<&[u8]>
+    requires some { 0 < length text.now }
+    requires short { length text.now ≤ LINE }
+    requires room { column + length text.now ≤ LINE + 1 }
+    ensures value { read_seen result ≡ written.read_kind kind column text.now }
+    ensures within { result.len ≤ length text.now }
+    ensures fits { FitsTest (test_seen result.test) }
+{
+    let (name, len) = name_after(&text[1..]);
+    match kind {
+        Kind::True => letter(Test::Always(true)),
+        Kind::False => letter(Test::Always(false)),
+        Kind::Letter => letter(Test::Unknown(&text[..1])),
+        Kind::Defined => named(Test::IsDefined(name), len),
+        Kind::Register => named(Test::IsRegister(name), len),
+        Kind::Expression => read_expression(text, column),
+        Kind::Delimiter => read_texts(text, column),
+    }
+}
+
+// The test at a text's front, of which the first byte stands at a column.
+#[tactic(auto, unfolding(crate::specs::Conditions::read_test))]
+fn read_test(text: &[u8], column: u32) -> TestRead<&[u8]>
+    requires short { length text.now ≤ LINE }
+    requires room { column + length text.now ≤ LINE + 1 }
+    ensures value { read_seen result ≡ written.read_test column text.now }
+    ensures within { result.len ≤ length text.now }
+    ensures fits { FitsTest (test_seen result.test) }
+{
+    match text {
+        [] => missing(text),
+        [first, ..] => read_kind(kind_of(*first), text, column),
+    }
+}
+
+/// The condition at a text's front, and how many bytes it takes. Its first byte stands at a column.
+#[tactic(auto, unfolding(crate::specs::Conditions::condition_of, crate::specs::Conditions::condition_len))]
+pub(crate) fn read_condition(text: &[u8], column: u32) -> (Condition<&[u8]>, usize)
+    requires short { length text.now ≤ LINE }
+    requires room { column + length text.now ≤ LINE + 1 }
+    ensures value { condition_seen result.0 ≡ written.condition_of column text.now }
+    ensures len { result.1 ≡ written.condition_len column text.now }
+    ensures within { result.1 ≤ length text.now }
+    ensures fits { FitsTest (test_seen result.0.test) }
+{
+    let turns = turn_len(text);
+    let read = read_test(&text[turns..], column + turns as u32);
+    let condition = Condition {
+        column,
+        is_turned: turns % 2 == 1,
+        test: read.test,
+    };
+    (condition, turns + read.len)
+}

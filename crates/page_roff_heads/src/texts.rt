@@ -1,0 +1,79 @@
+//! Texts at their places in a line.
+
+ghost use Rattle.std.specs.Prelude.{◌≡◌, ◌≤◌, ◌+◌, length, drop, IfSome};
+ghost use Rattle.page_roff_heads.specs.Texts.{placed_seen, FitsPlaced, blank_len, begins_pair, is_some_line, remainder_at, remainder_of, remainder_seen};
+
+use page_core_limits::LINE;
+use std::alloc::AllocError;
+
+/// A text that stands at a column of its line; `W` is a text.
+pub struct Placed<W> {
+    pub text: W,
+    /// The column of the text's first byte.
+    pub column: u32,
+}
+
+impl<W: Copy> Copy for Placed<W> {}
+
+impl<W: Copy> Clone for Placed<W> {
+    ghost is_clone = { λ x y. y ≡ x };
+
+    ghost is_infallible = { λ _. Unit {0} };
+
+    fn clone(&self) -> Result<Placed<W>, AllocError> {
+        Ok(*self)
+    }
+}
+
+/// The number of blanks at a text's front.
+pub(crate) fn blank_len(text: &[u8]) -> usize
+    ensures value { result ≡ blank_len text.now }
+    ensures within { result ≤ length text.now }
+{
+    text.iter().take_while(|byte| **byte == b' ').count()
+}
+
+/// Whether a text begins with the pair of a backslash and this byte.
+pub(crate) fn begins_pair(key: u8, text: &[u8]) -> bool
+    ensures { result ≡ begins_pair key text.now }
+{
+    match text {
+        [first, second, ..] => *first == b'\\' && *second == key,
+        _ => false,
+    }
+}
+
+// Whether a text is a line of its own: neither empty nor a comment.
+fn is_some_line(text: &[u8]) -> bool
+    ensures { result ≡ is_some_line text.now }
+{
+    match text {
+        [] => false,
+        [b'\\', b'"' | b'#', ..] => false,
+        _ => true,
+    }
+}
+
+// The remainder that begins at a column, if it is a line.
+fn remainder_at(text: &[u8], column: u32) -> Option<Placed<&[u8]>>
+    ensures { remainder_seen result ≡ remainder_at column text.now }
+{
+    if is_some_line(text) {
+        Some(Placed { text, column })
+    } else {
+        None
+    }
+}
+
+/// The remainder of a line, without the blanks before it: a line of its own, unless it is empty or a comment. The column is that
+/// of the first byte.
+#[tactic(auto, unfolding(crate::specs::Texts::remainder_of))]
+pub fn remainder(text: &[u8], column: u32) -> Option<Placed<&[u8]>>
+    requires short { length text.now ≤ LINE }
+    requires room { column + length text.now ≤ LINE + 1 }
+    ensures value { remainder_seen result ≡ remainder_of column text.now }
+    ensures fits { IfSome result (λ line. FitsPlaced (placed_seen line)) }
+{
+    let blanks = blank_len(text);
+    remainder_at(&text[blanks..], column + blanks as u32)
+}
