@@ -52,14 +52,18 @@ abbrev pub unit_len : List ℕ → ℕ
 unit_len [] = 0
 unit_len (b ∷ bs) = suc (paired_len b bs)
 
+abbrev pub further : ℕ → Option ℕ → Option ℕ
+further n None = None
+further n (Some k) = Some (n + k)
+
 -- how many bytes stand before a delimiter's next occurrence; a backslash and its next character are a pair, which is passed over.
 -- The first `skipped` bytes are passed over, too.
 unfoldable pub content_len : (delimiter : List ℕ) → (skipped : ℕ) → List ℕ → Option ℕ
 content_len delimiter skipped [] = None
-content_len delimiter (suc skipped) (b ∷ bs) = option_map (λ k. suc k) (content_len delimiter skipped bs)
+content_len delimiter (suc skipped) (b ∷ bs) = further 1 (content_len delimiter skipped bs)
 content_len delimiter zero (b ∷ bs) =
     if starts_with nat_eq (b ∷ bs) delimiter then Some 0
-    else option_map (λ k. suc k) (content_len delimiter (paired_len b bs) bs)
+    else further 1 (content_len delimiter (paired_len b bs) bs)
 
 -- the first character is the delimiter
 abbrev pub delimited : ℕ → List ℕ → Option CutText

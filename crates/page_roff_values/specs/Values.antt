@@ -121,7 +121,7 @@ inside s = record {
   };
   text = [];
   count = s.count;
-  ended = false;
+  ended = s.ended;
 }
 
 -- the line after the text; where the text has ended the line, it ends before the `\w`
@@ -172,7 +172,7 @@ expanded env line text = value env NEST text (start line)
 -- so many bytes of the line stand before the text that comes
 abbrev pub after_bytes : ℕ → Spot → Spot
 after_bytes base s = record s {
-  around = record { line = s.around.line; base = base; fixed = s.around.fixed; before = s.around.before }
+  around = record { line = s.around.line; base = base; fixed = s.around.fixed; before = s.around.before };
 }
 
 -- what a line gives: itself, or what was finished

@@ -6,6 +6,7 @@ ghost use Rattle.page_roff_values.specs.Arguments.{arguments_in, argument_at, ar
 ghost use Rattle.page_roff_values.specs.Environments.{argument_count};
 ghost use Rattle.page_roff_names.specs.Names.{Lends};
 
+use crate::endings::after;
 use crate::parts::Cut;
 use memchr::memchr;
 use std::alloc::{AllocError, Global};
@@ -83,11 +84,11 @@ fn split_first(packed: &[u8]) -> Cut<'_>
     match memchr(b'\n', packed) {
         Some(end) => Cut {
             front: &packed[..end],
-            rest: &packed[end + 1..],
+            rest: after(packed, end + 1),
         },
         None => Cut {
             front: packed,
-            rest: &packed[packed.len()..],
+            rest: after(packed, packed.len()),
         },
     }
 }
@@ -193,7 +194,10 @@ impl CallArguments {
             return None;
         }
         match escape {
-            [_, _, digit @ b'1'..=b'9'] => Some(argument_at(&self.packed, (*digit - b'1') as usize)),
+            [_, _, digit @ b'1'..=b'9'] => Some(argument_at(
+                &self.packed,
+                (*digit - b'1') as usize,
+            )),
             [_, _, b'*'] => Some(after_first(&self.joined)),
             [_, _, b'@'] => Some(after_first(&self.quoted)),
             _ => None,

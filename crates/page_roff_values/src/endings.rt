@@ -1,8 +1,16 @@
 //! Where texts are cut.
 
-ghost use Rattle.std.specs.Prelude.{◌≡◌, ◌≤◌, ◌<◌, length};
+ghost use Rattle.std.specs.Prelude.{◌≡◌, ◌≤◌, ◌<◌, length, drop};
 ghost use Rattle.page_roff_values.specs.Values as laying;
 ghost use Rattle.page_roff_values.specs.Parts as reading;
+
+/// A text after some bytes of it.
+pub(crate) fn after(text: &[u8], bytes: usize) -> &[u8]
+    requires { bytes ≤ length text.now }
+    ensures { result.now ≡ drop bytes text.now }
+{
+    &text[bytes..]
+}
 
 // The last place up to `room` where a character ends.
 fn character_end(text: &[u8], room: usize) -> usize
@@ -42,9 +50,8 @@ pub(crate) fn without_lone(text: &[u8]) -> &[u8]
             at += 1;
         }
     }
-    if at < text.len() && text[at] == b'\\' {
-        &text[..at]
-    } else {
-        text
+    if at == text.len() {
+        return text;
     }
+    if text[at] == b'\\' { &text[..at] } else { text }
 }

@@ -208,7 +208,7 @@ impl Expansion {
     fn units(&self, output: Output) -> u32
         ensures { result ≡ laying.units_of output self.now.text }
     {
-        match std::str::from_utf8(&self.text[self.start..]) {
+        match std::str::from_utf8(self.text()) {
             Ok(text) => 24 * columns(text.as_bytes(), output),
             Err(_) => 0,
         }
@@ -227,18 +227,18 @@ impl Expansion {
 
     // Puts the width of a text, which is expanded by itself.
     #[cycle(texts)]
-    fn put_width<O: NoteOut>(
+    fn put_width<'e, O: NoteOut>(
         &mut self,
-        env: &Environment<'_>,
+        env: &'e Environment<'e>,
         room: usize,
-        text: &[u8],
+        text: &'e [u8],
         out: &mut O,
     )
         requires going { self.old.ended ≡ false }
         requires fits { length self.old.around.before + LINE * (room + 1) ≤ LINE * NEST }
-        ensures goes { Goes O.left out.old (laying.width env.now.output (laying.value (surroundings_of env.now) room text.now) self.old)
+        ensures { Goes O.left out.old
+            (laying.width env.now.output (laying.value (surroundings_of env.now) room text.now) self.old)
             out.new (laying.nothing self.new) }
-        ensures counted { self.old.count ≤ self.new.count }
     {
         let outside = self.go_inside();
         let mut sources = Sources::new(text);
@@ -264,8 +264,9 @@ impl Expansion {
         requires fits { length self.old.around.before + LINE * room ≤ LINE * NEST }
         ensures goes { Goes O.left out.old
             (laying.seq (laying.call_at (surroundings_of env.now) (room_in room (texts_of sources.old)) (call_of call.entry) self.old)
-                (rest (surroundings_of env.now) room (texts_of sources.old)))
+            (rest (surroundings_of env.now) room (texts_of sources.old)))
             out.new (laying.seq (laying.nothing self.new) (rest (surroundings_of env.now) room (texts_of sources.new))) }
+        ensures around { self.new.around ≡ self.old.around }
         ensures falls { steps self.new (texts_of sources.new) ≤ steps self.old (texts_of sources.old) }
     {
         if !self.charge() {
@@ -299,8 +300,8 @@ impl Expansion {
         sources: &mut Sources<'e>,
         out: &mut O,
     )
-        requires fits { length self.old.around.before + LINE * room ≤ LINE * NEST }
-        ensures goes { Goes O.left out.old (laying.seq (laying.nothing self.old) (rest (surroundings_of env.now) room (texts_of sources.old)))
+        requires { length self.old.around.before + LINE * room ≤ LINE * NEST }
+        ensures { Goes O.left out.old (laying.seq (laying.nothing self.old) (rest (surroundings_of env.now) room (texts_of sources.old)))
             out.new (laying.nothing self.new) }
     {
         'parts: while self.is_going() {
@@ -355,7 +356,8 @@ impl Expansion {
 
     /// What is finished.
     pub fn text(&self) -> &[u8]
-        ensures { result.now ≡ self.now.text }
+        ensures value { result.now ≡ self.now.text }
+        ensures bound { length result.now ≤ LINE }
     {
         &self.text[self.start..]
     }

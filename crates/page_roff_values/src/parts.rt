@@ -4,6 +4,7 @@ ghost use Rattle.std.specs.Prelude.{◌≡◌, ℕ, ◌<◌, ◌≤◌, ◌+◌,
 ghost use Rattle.page_roff_values.specs.Parts as reading;
 ghost use Rattle.page_roff_values.specs.Views.{seen_of, cut_of, call_of};
 
+use crate::endings::after;
 use memchr::memchr;
 
 /// An interpolation: of a string, a number register, an argument (the escape as it is written), or the width of a text.
@@ -62,7 +63,7 @@ fn cut_at(text: &[u8], len: usize, over: usize) -> Cut<'_>
 {
     Cut {
         front: &text[..len],
-        rest: &text[len + over..],
+        rest: after(text, len + over),
     }
 }
 
@@ -71,7 +72,7 @@ fn two_characters(text: &[u8]) -> Option<Cut<'_>>
     ensures { option_map cut_of result ≡ reading.two_characters text.now }
 {
     let first = character_len(text);
-    let second = character_len(&text[first..]);
+    let second = character_len(after(text, first));
     if second == 0 {
         return None;
     }
@@ -115,7 +116,7 @@ fn content_len(delimiter: &[u8], text: &[u8]) -> Option<usize>
 {
     let mut at = 0;
     while at < text.len() {
-        let rest = &text[at..];
+        let rest = after(text, at);
         if rest.starts_with(delimiter) {
             return Some(at);
         }
@@ -132,7 +133,7 @@ fn unit_len(text: &[u8]) -> usize
     ensures within { result ≤ length text.now }
 {
     if text[0] == b'\\' {
-        1 + character_len(&text[1..])
+        1 + character_len(after(text, 1))
     } else {
         1
     }
@@ -146,7 +147,7 @@ fn read_width(text: &[u8]) -> Option<Cut<'_>>
     if mark == 0 {
         return None;
     }
-    let inner = &text[mark..];
+    let inner = after(text, mark);
     match content_len(&text[..mark], inner) {
         None => None,
         Some(len) => Some(cut_at(inner, len, mark)),
@@ -172,10 +173,11 @@ fn called<'e>(call: Call<&'e [u8]>, rest: &'e [u8]) -> Seen<'e>
 
 // The interpolation at a text's front, where a backslash and a letter are.
 fn read_call(text: &[u8], copy: bool) -> Option<Seen<'_>>
-    requires { 2 ≤ length text.now }
+    requires some { 2 ≤ length text.now }
+    requires escape { IsTrue (reading.begins_escape text.now) }
     ensures { option_map seen_of result ≡ reading.call_cut copy (get_or text.now 1 0) (drop 2 text.now) }
 {
-    let rest = &text[2..];
+    let rest = after(text, 2);
     match text[1] {
         b'*' => match read_name(rest) {
             None => None,
@@ -187,7 +189,7 @@ fn read_call(text: &[u8], copy: bool) -> Option<Seen<'_>>
         },
         b'$' => {
             let end = 2 + character_len(rest);
-            Some(called(Call::Argument(&text[..end]), &text[end..]))
+            Some(called(Call::Argument(&text[..end]), after(text, end)))
         }
         b'w' if !copy => match read_width(rest) {
             None => None,
@@ -211,7 +213,7 @@ fn read_escape(text: &[u8], copy: bool) -> Seen<'_>
     }
     match read_call(text, copy) {
         Some(seen) => seen,
-        None => copied(text, 1 + character_len(&text[1..]), 0),
+        None => copied(text, 1 + character_len(after(text, 1)), 0),
     }
 }
 
@@ -222,7 +224,7 @@ fn copied(text: &[u8], len: usize, over: usize) -> Seen<'_>
 {
     Seen {
         part: Part::Copied(&text[..len]),
-        rest: &text[len + over..],
+        rest: after(text, len + over),
     }
 }
 
