@@ -2,7 +2,6 @@
 use Rattle.std.specs.Prelude.{◌≡◌, ℕ, suc, ◌+◌, ◌-◌, ◌*◌, ◌^◌, false, List, [], ◌∷◌, length, map, reverse, Bool, Option, MatchOption}
 use Rattle.std.specs.Borrow.{Bor}
 use Rattle.page_roff_values.specs.declared.expansions.TheConstants.{EXPAND}
-use Rattle.page_roff_values.specs.declared.parts.Call.{Call}
 use Rattle.page_roff_values.specs.declared.parts.Part.{Part}
 use Rattle.page_roff_values.specs.declared.parts.Part.TheVariants.{Copied, Called}
 use Rattle.page_roff_values.specs.declared.sources.Sources.{Sources}
