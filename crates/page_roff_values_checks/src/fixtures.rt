@@ -9,10 +9,10 @@ use std::process::Abort;
 use std::test::Fail;
 
 /// A message: its kind, its column and its detail.
-pub type Message<'a> = (NoteKind, u32, &'a str);
+pub type Message = (NoteKind, u32, &'static str);
 
 /// A text, what it gives, how many interpolations it makes, and its messages.
-pub type Case<'a> = (&'a str, &'a str, u32, &'a [Message<'a>]);
+pub type Case = (&'static str, &'static str, u32, &'static [Message]);
 
 pub const UNDEFINED: NoteKind = NoteKind::UndefString;
 
@@ -44,17 +44,19 @@ impl Fixture {
     }
 }
 
-/// Defines a string.
-pub fn define(rt: &impl Abort, fixture: &mut Fixture, name: &str, value: &str) {
-    assert!(rt;
-        fixture
-            .names
-            .define_string(name.as_bytes(), value.as_bytes())
-            .is_ok()
-    );
+/// Defines strings: names with their values.
+pub fn define(rt: &impl Abort, fixture: &mut Fixture, strings: &[(&'static str, &'static str)]) {
+    for (name, value) in strings {
+        assert!(rt;
+            fixture
+                .names
+                .define_string(name.as_bytes(), value.as_bytes())
+                .is_ok()
+        );
+    }
 }
 
-fn check_note(rt: &impl Abort, note: &Note, want: Message<'_>, text: &str) {
+fn check_note(rt: &impl Abort, note: &Note, want: Message, text: &str) {
     let (kind, column, detail) = want;
     assert!(rt;
         note.kind == kind && note.line == 7 && note.column == column,
@@ -63,18 +65,17 @@ fn check_note(rt: &impl Abort, note: &Note, want: Message<'_>, text: &str) {
     assert!(rt; note.detail.as_str() == detail, "{text}: {note:?}");
 }
 
-/// Checks what was reported, and forgets it.
-pub fn check_notes(rt: &impl Abort, fixture: &mut Fixture, wanted: &[Message<'_>], text: &str) {
+/// Checks what was reported.
+pub fn check_notes(rt: &impl Abort, fixture: &Fixture, wanted: &[Message], text: &str) {
     assert!(rt; fixture.notes.notes.len() == wanted.len(), "{text}");
     for (note, want) in fixture.notes.notes.iter().zip(wanted) {
         check_note(rt, note, *want, text);
     }
-    fixture.notes.notes.clear();
 }
 
 /// Expands line 7, and checks what it gives and how many interpolations it makes.
 pub fn check_text(
-    rt: &impl Abort,
+    rt: &(impl Abort + AllocGlobal),
     fixture: &mut Fixture,
     copy: bool,
     text: &[u8],
@@ -87,17 +88,24 @@ pub fn check_text(
         arguments: &fixture.arguments,
         output: fixture.output,
     };
-    let mut latch = NoteLatch::new(&mut fixture.notes);
+    let mut notes = KeptNotes::new(rt.alloc());
+    let mut latch = NoteLatch::new(&mut notes);
     assert!(rt; text.len() <= LINE);
     let is_plain = fixture.line.expand(&env, text, 7, &mut latch);
     assert!(rt; latch.done().is_ok());
     let got = if is_plain { text } else { fixture.line.text() };
     assert!(rt; got == want);
     assert_eq!(rt; fixture.line.count(), count);
+    fixture.notes = notes;
 }
 
 /// Checks lines with their messages.
-pub fn check_all(rt: &impl Abort, fixture: &mut Fixture, copy: bool, cases: &[Case<'_>]) {
+pub fn check_all(
+    rt: &(impl Abort + AllocGlobal),
+    fixture: &mut Fixture,
+    copy: bool,
+    cases: &[Case],
+) {
     for (text, want, count, messages) in cases {
         check_text(rt, fixture, copy, text.as_bytes(), want.as_bytes(), *count);
         check_notes(rt, fixture, messages, text);

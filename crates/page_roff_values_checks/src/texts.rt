@@ -2,22 +2,29 @@
 
 use crate::fixtures::{Case, Fixture, OUTSIDE, UNDEFINED, check_all, check_notes, define};
 use page_core_base::Output;
-use page_roff_values::{Environment, NoteLatch};
+use page_core_writers::KeptNotes;
+use page_roff_values::{Environment, Expansion, NoteLatch};
 use std::process::Abort;
 use std::test::Fail;
 
 fn with_strings(rt: &(impl Abort + AllocGlobal)) -> Result<Fixture, Fail> {
     let mut fixture = Fixture::new(rt)?;
-    define(rt, &mut fixture, "a", "A");
-    define(rt, &mut fixture, "b", "<\\*a\\*a>");
-    define(rt, &mut fixture, "xx", "two");
-    define(rt, &mut fixture, "two words", "W");
-    define(rt, &mut fixture, "\u{e9}", "E");
-    define(rt, &mut fixture, "\u{e9}\u{fc}", "U");
-    define(rt, &mut fixture, "l", "a\\");
-    define(rt, &mut fixture, "k", "a\\\\");
-    define(rt, &mut fixture, "u", "\\*");
-    define(rt, &mut fixture, "v", "\\\\na");
+    define(
+        rt,
+        &mut fixture,
+        &[
+            ("a", "A"),
+            ("b", "<\\*a\\*a>"),
+            ("xx", "two"),
+            ("two words", "W"),
+            ("\u{e9}", "E"),
+            ("\u{e9}\u{fc}", "U"),
+            ("l", "a\\"),
+            ("k", "a\\\\"),
+            ("u", "\\*"),
+            ("v", "\\\\na"),
+        ],
+    );
     assert!(rt; fixture.names.set_register(b"n", 5).is_ok());
     assert!(rt; fixture.names.set_register(b"m", -12).is_ok());
     Ok(fixture)
@@ -128,7 +135,7 @@ fn found_registers(rt: HostRuntime) -> Result<(), Fail> {
 #[test]
 fn arguments(rt: HostRuntime) -> Result<(), Fail> {
     let mut fixture = with_strings(&rt)?;
-    let outside: &[Case<'_>] = &[
+    let outside: &[Case] = &[
         (
             "\\$1\\$*",
             "",
@@ -232,24 +239,27 @@ fn copy_mode(rt: HostRuntime) -> Result<(), Fail> {
 #[test]
 fn two_texts_of_a_line(rt: HostRuntime) -> Result<(), Fail> {
     let mut fixture = with_strings(&rt)?;
+    let mut line = Expansion::new(rt.alloc())?;
+    let mut notes = KeptNotes::new(rt.alloc());
     let env = Environment {
         copy: false,
         names: &fixture.names,
         arguments: &fixture.arguments,
         output: Output::Ascii,
     };
-    let mut latch = NoteLatch::new(&mut fixture.notes);
-    fixture.line.begin(7);
-    fixture.line.expand_more(&env, b"a\\*z\\*a", 5, &mut latch);
-    assert!(rt; !fixture.line.has_ended());
-    assert!(rt; fixture.line.text() == b"aA".as_slice());
-    fixture.line.expand_more(&env, b"\\*y", 9, &mut latch);
+    let mut latch = NoteLatch::new(&mut notes);
+    line.begin(7);
+    line.expand_more(&env, b"a\\*z\\*a", 5, &mut latch);
+    assert!(rt; !line.has_ended());
+    assert!(rt; line.text() == b"aA".as_slice());
+    line.expand_more(&env, b"\\*y", 9, &mut latch);
     assert!(rt; latch.done().is_ok());
-    assert!(rt; fixture.line.text() == b"aA".as_slice());
-    assert!(rt; fixture.line.count() == 3);
+    assert!(rt; line.text() == b"aA".as_slice());
+    assert!(rt; line.count() == 3);
+    fixture.notes = notes;
     check_notes(
         &rt,
-        &mut fixture,
+        &fixture,
         &[(UNDEFINED, 7, "z"), (UNDEFINED, 12, "y")],
         "two texts",
     );
