@@ -32,7 +32,7 @@ fn turned(is_turned: bool, holds: bool) -> bool
 }
 
 // Expands a text behind what is finished of its line. Answers whether that was cut.
-fn is_cut<O: NoteOut>(
+fn expand_text<O: NoteOut>(
     text: &[u8],
     base: u32,
     env: &Environment<'_>,
@@ -42,7 +42,8 @@ fn is_cut<O: NoteOut>(
     requires going { line.old.ended ≡ false }
     requires outside { line.old.around.before ≡ [] }
     requires base { base ≤ 2 ^ 31 }
-    ensures goes { Goes O.left out.old (asked.expands (surroundings_of env.now) base text.now line.old) out.new (nothing line.new) }
+    ensures goes { Goes O.left out.old (asked.expands (surroundings_of env.now) base text.now line.old)
+        out.new (nothing line.new) }
     ensures ended { result ≡ line.new.ended }
     ensures outside { line.new.around.before ≡ [] }
 {
@@ -63,9 +64,10 @@ fn is_positive<O: NoteOut>(
     requires going { line.old.ended ≡ false }
     requires outside { line.old.around.before ≡ [] }
     ensures { Gives O.left out.old out.new result line.new
-        (asked.test_answer (surroundings_of env.now) place is_turned (Test.Expression (placed_seen text.now)) line.old) }
+        (asked.test_answer (surroundings_of env.now) place is_turned
+        (Test.Expression (placed_seen text.now)) line.old) }
 {
-    if is_cut(text.text, text.column.saturating_sub(1), env, line, out) {
+    if expand_text(text.text, text.column.saturating_sub(1), env, line, out) {
         return false;
     }
     turned(is_turned, expression(line.text(), place, out) > 0)
@@ -94,9 +96,10 @@ fn are_equal<O: NoteOut>(
     requires going { line.old.ended ≡ false }
     requires outside { line.old.around.before ≡ [] }
     ensures { Gives O.left out.old out.new result line.new
-        (asked.test_answer (surroundings_of env.now) place is_turned (Test.Texts (placed_seen first.now) (placed_seen second.now)) line.old) }
+        (asked.test_answer (surroundings_of env.now) place is_turned
+        (Test.Texts (placed_seen first.now) (placed_seen second.now)) line.old) }
 {
-    if is_cut(first.text, first.column.saturating_sub(1), env, line, out) {
+    if expand_text(first.text, first.column.saturating_sub(1), env, line, out) {
         return false;
     }
     let len = line.text().len();
@@ -104,13 +107,14 @@ fn are_equal<O: NoteOut>(
         .column
         .saturating_sub(1)
         .saturating_sub(first.text.len() as u32);
-    if is_cut(second.text, base, env, line, out) {
+    if expand_text(second.text, base, env, line, out) {
         return false;
     }
     turned(is_turned, has_equal_parts(line.text(), len))
 }
 
-/// Whether the condition of a head in a source line holds. Its texts are expanded in `expansion`, with one budget for both.
+/// Whether the condition of a head in a source line holds. Its texts are expanded in `expansion`, with one budget for
+/// both.
 #[tactic(auto, unfolding(crate::specs::Answers::condition_answer))]
 pub fn holds<O: NoteOut>(
     condition: &Condition<&[u8]>,

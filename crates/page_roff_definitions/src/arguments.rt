@@ -74,7 +74,8 @@ fn without_quote(text: &[u8]) -> &[u8]
     }
 }
 
-/// The value of a string: what follows its name and blanks in the rest of a line, of which the first byte stands at a column.
+/// The value of a string: what follows its name and blanks in the rest of a line, of which the first byte stands at a
+/// column.
 pub(crate) fn value_after<'a>(rest: &'a [u8], column: u32, name: Argument<&[u8]>) -> &'a [u8]
     requires { length name.text.now ≤ LINE }
     ensures { result.now ≡ value_after column rest.now (argument_seen name.entry) }

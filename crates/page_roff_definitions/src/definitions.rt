@@ -85,7 +85,8 @@ fn define_string<O: NoteOut>(
     names: &mut Names,
     out: &mut O,
 )
-    ensures { Does O.left out.old out.new names.new (defining.defines_string name.now value.now place names.old) }
+    ensures { Does O.left out.old out.new names.new
+        (defining.defines_string name.now value.now place names.old) }
 {
     if let Err(limit) = names.define_string(name, value) {
         report_limit(limit, place, out);
@@ -94,7 +95,8 @@ fn define_string<O: NoteOut>(
 
 // Appends to a string.
 fn append_string<O: NoteOut>(name: &[u8], more: &[u8], place: Place, names: &mut Names, out: &mut O)
-    ensures { Does O.left out.old out.new names.new (defining.appends_string name.now more.now place names.old) }
+    ensures { Does O.left out.old out.new names.new
+        (defining.appends_string name.now more.now place names.old) }
 {
     if let Err(limit) = names.append_string(name, more) {
         report_limit(limit, place, out);
@@ -103,7 +105,8 @@ fn append_string<O: NoteOut>(name: &[u8], more: &[u8], place: Place, names: &mut
 
 // Gives a string or macro another name.
 fn rename<O: NoteOut>(old_name: &[u8], name: &[u8], place: Place, names: &mut Names, out: &mut O)
-    ensures { Does O.left out.old out.new names.new (defining.renames old_name.now name.now place names.old) }
+    ensures { Does O.left out.old out.new names.new
+        (defining.renames old_name.now name.now place names.old) }
 {
     if let Err(limit) = names.rename(old_name, name) {
         report_limit(limit, place, out);
@@ -112,7 +115,8 @@ fn rename<O: NoteOut>(old_name: &[u8], name: &[u8], place: Place, names: &mut Na
 
 // Gives a register a number.
 fn set_register<O: NoteOut>(name: &[u8], number: i32, place: Place, names: &mut Names, out: &mut O)
-    ensures { Does O.left out.old out.new names.new (defining.sets_register name.now number place names.old) }
+    ensures { Does O.left out.old out.new names.new
+        (defining.sets_register name.now number place names.old) }
 {
     if let Err(limit) = names.set_register(name, number) {
         report_limit(limit, place, out);
@@ -135,7 +139,8 @@ fn is_read_only(name: &[u8]) -> bool
 
 // Gives a register the number of a value, or changes it by that.
 fn set_number<O: NoteOut>(name: &[u8], value: &[u8], place: Place, names: &mut Names, out: &mut O)
-    ensures { Does O.left out.old out.new names.new (defining.reads_number name.now value.now place names.old) }
+    ensures { Does O.left out.old out.new names.new
+        (defining.reads_number name.now value.now place names.old) }
 {
     let number = expression(value, place, out);
     if is_read_only(name) {

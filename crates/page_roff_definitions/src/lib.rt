@@ -1,4 +1,5 @@
-//! The requests that define strings and number registers, and take definitions away (roff(7), `ds`, `as`, `nr`, `rm`, `rn`, `rr`).
+//! The requests that define strings and number registers, and take definitions away (roff(7), `ds`, `as`, `nr`, `rm`,
+//! `rn`, `rr`).
 #![tactic(auto)]
 
 mod arguments;

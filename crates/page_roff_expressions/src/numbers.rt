@@ -43,7 +43,8 @@ impl<O: NoteOut> NoteSink for IntoLatch<'_, O> {
     }
 }
 
-/// The value of the expression at a text's front, with its messages at a place. A number without a unit is in basic units.
+/// The value of the expression at a text's front, with its messages at a place. A number without a unit is in basic
+/// units.
 pub fn expression<O: NoteOut>(text: &[u8], place: Place, out: &mut O) -> i32
     ensures value { result ≡ value_of text.now }
     ensures came { Came O.left out.old (messages_of place text.now) out.new }
