@@ -1,0 +1,11 @@
+pub mod ArgumentLemmas
+pub mod CallLemmas
+pub mod EndLemmas
+pub mod FollowLemmas
+pub mod GoingLemmas
+pub mod LatchLemmas
+pub mod LayLemmas
+pub mod LineLemmas
+pub mod ReadLemmas
+pub mod TextLemmas
+pub mod WidthLemmas

@@ -1,0 +1,50 @@
+-- Widths: helpers of proofs.
+use Rattle.std.specs.Fmt.{decimal}
+use Rattle.std.proofs.Common.{◌≡◌, ℕ, ◌+◌, ◌*◌, ◌≤◌, Bool, true, false, List, [], ◌∷◌, ◌++◌, length, take, drop, Option, Some, refl, sym, ap, ◌∙◌, arith, length-append}
+use Rattle.std.proofs.Math.Seq.{take-append_seam, drop-append_seam, take-length, drop-length}
+use Rattle.std.proofs.lemmas.List.{take-append-drop}
+use Rattle.std.proofs.lemmas.Str.{is_utf8-from_IsUtf8, IsUtf8-from_is_utf8}
+use Rattle.std.specs.Str.{IsUtf8, is_utf8}
+use Rattle.page_core_base.specs.Messages.{Message}
+use Rattle.page_core_base.specs.declared.page_settings.Output.{Output}
+use Rattle.page_core_numbers.specs.Columns.{columns_of}
+use Rattle.page_roff_values.specs.declared.expansions.Expansion.TheInside.{Inside}
+use Rattle.page_roff_values.specs.Expansions.{spot_of}
+use Rattle.page_roff_values.specs.Latches.{Goes}
+use Rattle.page_roff_values.specs.Steps.{going_outside}
+use Rattle.page_roff_values.specs.Values.{Spot, Laid, nothing, join, seq, put, inside, outside, leaves, column_of, units_of, width}
+use Rattle.page_roff_values.proofs.LayLemmas.{seq_more, goes_on}
+
+-- the code begins a text where the line is
+pub inside_is : (a : Inside) (start column : ℕ) → start ≡ length a.text.items → column ≡ column_of (spot_of a)
+    → spot_of (record a { start = start; fixed = Some column }) ≡ inside (spot_of a)
+inside_is a start column e f =
+    let t = a.text.items in
+    rw (e, f, take-length t, drop-length t, take-append-drop a.start t) refl
+
+-- the code goes on where the line was
+pub outside_is : (s t : Spot) → t.around ≡ (inside s).around → going_outside (length s.around.before) s.around.fixed t ≡ outside s t
+outside_is s t e =
+    rw (e, take-append_seam s.around.before s.text, drop-append_seam s.around.before s.text) refl
+
+pub units_known : (output : Output) (text : List ℕ) → IsUtf8 text → 24 * columns_of output text ≡ units_of output text
+units_known output text h = rw (is_utf8-from_IsUtf8 text h) refl
+
+no_true : (b : Bool) → ¬ (b ≡ true) → b ≡ false
+no_true true h = absurd (h refl)
+no_true false h = refl
+
+pub units_none : (output : Output) (text : List ℕ) → ¬ (IsUtf8 text) → 0 ≡ units_of output text
+units_none output text h = rw (no_true (is_utf8 text) (λ e. h (IsUtf8-from_is_utf8 text e))) refl
+
+-- the messages of the text came, and the line goes on with the width
+pub width_goes : {P S : Type 0} (left : P → S → List Message → Type 0) (o p : S) (output : Output) (f : Spot → Laid) (s t u : Spot) (units : ℕ)
+    → Goes left o (f (inside s)) p (nothing t) → u ≡ outside s t → units ≡ units_of output t.text
+    → Goes left o (width output f s) p (seq (nothing u) (put (decimal units)))
+unfolding width
+width_goes left o p output f s t u units k e h =
+    let a = f (inside s) in
+    let n : units ≡ units_of output a.edge.text = h ∙ ap (λ (x : Spot). units_of output x.text) k.1 in
+    goes_on left o p (seq (leaves s a) (put (decimal (units_of output a.edge.text)))) (leaves s a) u (put (decimal units))
+    (seq_more (leaves s a) (put (decimal (units_of output a.edge.text))) ∙ ap (λ (m : ℕ). join (leaves s a) (seq (nothing (leaves s a).edge) (put (decimal m)))) (sym n))
+    (k.0, e ∙ ap (outside s) k.1)

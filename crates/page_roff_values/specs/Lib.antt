@@ -1,0 +1,12 @@
+pub mod Arguments
+pub mod Environments
+pub mod Expansions
+pub mod Held
+pub mod Latches
+pub mod NotePlans
+pub mod Parts
+pub mod Rest
+pub mod Steps
+pub mod Texts
+pub mod Values
+pub mod Views

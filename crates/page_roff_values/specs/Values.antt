@@ -1,0 +1,186 @@
+-- The value of a text: the finished line, its messages, and how many interpolations were made. Source: roff(7), "Escape sequences".
+use Rattle.std.specs.Fmt.{decimal, signed_decimal}
+use Rattle.std.specs.Prelude.{ℕ, zero, suc, ◌+◌, ◌-◌, ◌*◌, ◌≤◌, Bool, true, false, ◌&&◌, nat_le, nat_lt, List, [], ◌∷◌, ◌++◌, length, take, get_or, codes, if◌then◌else◌}
+use Rattle.std.specs.Prelude.{Option, Some, None, unwrap_or}
+use Rattle.std.specs.Str.{is_utf8}
+use Rattle.page_core_limits.specs.declared.TheConstants.{LINE}
+use Rattle.page_core_base.specs.Messages.{Message, message_about}
+use Rattle.page_core_base.specs.declared.page_settings.Output.{Output}
+use Rattle.page_core_base.specs.declared.note_kinds.NoteKind.{NoteKind}
+use Rattle.page_core_base.specs.declared.note_kinds.NoteKind.TheVariants.{UndefString, ArgOutside, Loop, Limit}
+use Rattle.page_core_numbers.specs.Columns.{columns_of}
+use Rattle.page_roff_names.specs.Names.{string_of}
+use Rattle.page_roff_values.specs.declared.expansions.TheConstants.{EXPAND}
+use Rattle.page_roff_values.specs.declared.parts.Call.{Call}
+use Rattle.page_roff_values.specs.declared.parts.Call.TheVariants.{String, Register, Argument, Width}
+use Rattle.page_roff_values.specs.declared.parts.Part.{Part}
+use Rattle.page_roff_values.specs.declared.parts.Part.TheVariants.{Copied, Called}
+use Rattle.page_roff_values.specs.Arguments.{argument_of}
+use Rattle.page_roff_values.specs.Environments.{Surroundings, register_of}
+use Rattle.page_roff_values.specs.Parts.{parts, without_lone}
+
+-- how many interpolations may stand inside one another
+unfoldable pub NEST : ℕ
+NEST = 16
+
+-- Where a text stands: its source line, how many bytes are before it, the column of the width that it is in, if it is in one,
+-- and what is finished outside that.
+pub record Around : Type 0 where
+  pub line : ℕ
+  pub base : ℕ
+  pub fixed : Option ℕ
+  pub before : List ℕ
+
+-- a line so far: where it stands, what is finished of it, how many interpolations it made, whether it has ended
+pub record Spot : Type 0 where
+  pub around : Around
+  pub text : List ℕ
+  pub count : ℕ
+  pub ended : Bool
+
+-- the messages of a part of a line, and the line with it
+pub record Laid : Type 0 where
+  pub notes : List Message
+  pub edge : Spot
+
+abbrev pub nothing : Spot → Laid
+nothing s = record { notes = []; edge = s }
+
+abbrev pub join : Laid → Laid → Laid
+join a b = record { notes = a.notes ++ b.notes; edge = b.edge }
+
+abbrev pub unless : Bool → Laid → Laid → Laid
+unless true a b = a
+unless false a b = join a b
+
+-- one thing, and then another unless the line has ended
+unfoldable pub seq : Laid → (Spot → Laid) → Laid
+seq a f = unless a.edge.ended a (f a.edge)
+
+-- a message's column is the byte after what is finished; in a width it is that of the width
+abbrev pub column_of : Spot → ℕ
+column_of s = unwrap_or s.around.fixed (s.around.base + length s.text + 1)
+
+abbrev pub message_at : NoteKind → List ℕ → Spot → Message
+message_at kind detail s = message_about kind (record { line = s.around.line; column = column_of s }) detail
+
+abbrev pub says : NoteKind → List ℕ → Spot → Laid
+says kind detail s = record { notes = message_at kind detail s ∷ []; edge = s }
+
+-- the line ends here, with a message
+abbrev pub ends : NoteKind → List ℕ → Spot → Laid
+ends kind detail s = record { notes = message_at kind detail s ∷ []; edge = record s { ended = true } }
+
+abbrev pub adds : List ℕ → Spot → Spot
+adds run s = record s { text = s.text ++ run }
+
+-- the last place up to n where a character ends
+abbrev pub character_end : List ℕ → ℕ → ℕ
+character_end text zero = zero
+character_end text (suc n) =
+    if nat_le 128 (get_or text (suc n) 0) && nat_lt (get_or text (suc n) 0) 192 then character_end text n else suc n
+
+-- how many bytes of a text are kept where there is so much room: all, or up to a character's end
+abbrev pub kept : List ℕ → ℕ → ℕ
+kept text room = if nat_le (length text) room then length text else character_end text room
+
+-- Bytes are copied. Beyond LINE the line is cut at a character's end, and ends.
+unfoldable pub put : List ℕ → Spot → Laid
+put run s =
+    let end = kept run (LINE - length s.text) in
+    if nat_lt end (length run) then ends Limit (codes "LINE") (adds (take end run) s) else nothing (adds (take end run) s)
+
+-- parts, from the left; what an interpolation does is given
+unfoldable pub lay : (Call (List ℕ) → Spot → Laid) → List (Part (List ℕ)) → Spot → Laid
+lay call [] s = nothing s
+lay call (Copied run ∷ rest) s = seq (put run s) (lay call rest)
+lay call (Called name ∷ rest) s = seq (call name s) (lay call rest)
+
+abbrev pub counts : Spot → Spot
+counts s = record s { count = s.count + 1 }
+
+-- An interpolation counts one. The one beyond EXPAND ends the line.
+unfoldable pub charge : (Spot → Laid) → Spot → Laid
+charge f s = if nat_lt s.count EXPAND then f (counts s) else ends Loop (codes "EXPAND") s
+
+-- a value is expanded by itself; where there is none, a message
+abbrev pub value_or : NoteKind → List ℕ → Option (List ℕ) → (List ℕ → Spot → Laid) → Spot → Laid
+value_or kind detail (Some text) f s = f (without_lone text) s
+value_or kind detail None f s = says kind detail s
+
+-- ---- widths: roff(7), `\w`
+
+-- a text whose width is measured begins with nothing, and messages in it have the column of the `\w`
+abbrev pub inside : Spot → Spot
+inside s = record {
+  around = record {
+    line = s.around.line;
+    base = s.around.base;
+    fixed = Some (column_of s);
+    before = s.around.before ++ s.text;
+  };
+  text = [];
+  count = s.count;
+  ended = s.ended;
+}
+
+-- the line after the text; where the text has ended the line, it ends before the `\w`
+abbrev pub outside : Spot → Spot → Spot
+outside s t = record { around = s.around; text = s.text; count = t.count; ended = t.ended }
+
+abbrev pub leaves : Spot → Laid → Laid
+leaves s a = record { notes = a.notes; edge = outside s a.edge }
+
+-- basic units, 24 a column; what isn't UTF-8, which no line is, has none
+abbrev pub units_of : Output → List ℕ → ℕ
+units_of output text = if is_utf8 text then 24 * columns_of output text else 0
+
+-- The text is expanded by itself, and the line goes on with its width.
+unfoldable pub width : Output → (Spot → Laid) → Spot → Laid
+width output f s =
+    let a = f (inside s) in
+    seq (leaves s a) (put (decimal (units_of output a.edge.text)))
+
+-- ---- values
+
+-- what an interpolation gives; `f` expands a text by itself
+unfoldable pub interpolated : Surroundings → (List ℕ → Spot → Laid) → Call (List ℕ) → Spot → Laid
+interpolated env f (String name) s = value_or UndefString name (string_of name env.definitions) f s
+interpolated env f (Register name) s = put (signed_decimal (register_of name env)) s
+interpolated env f (Argument escape) s = value_or ArgOutside escape (argument_of escape env.arguments) f s
+interpolated env f (Width text) s = width env.output (f text) s
+
+-- An interpolation in which so many more may stand inside one another. One too deep gives nothing.
+unfoldable pub call_at : Surroundings → ℕ → Call (List ℕ) → Spot → Laid
+call_at env zero call s = charge (says Loop (codes "NEST")) s
+call_at env (suc depth) call s =
+    charge (interpolated env (λ text. lay (call_at env depth) (parts env.copy text)) call) s
+
+-- The value of a text in which so many interpolations may stand inside one another, after what is finished of its line.
+unfoldable pub value : Surroundings → ℕ → List ℕ → Spot → Laid
+value env depth text s = lay (call_at env depth) (parts env.copy text) s
+
+-- the beginning of a line
+abbrev pub start : ℕ → Spot
+start line =
+    record { around = record { line = line; base = 0; fixed = None; before = [] }; text = []; count = 0; ended = false }
+
+-- a whole line
+abbrev pub expanded : Surroundings → ℕ → List ℕ → Laid
+expanded env line text = value env NEST text (start line)
+
+-- so many bytes of the line stand before the text that comes
+abbrev pub after_bytes : ℕ → Spot → Spot
+after_bytes base s = record s {
+  around = record { line = s.around.line; base = base; fixed = s.around.fixed; before = s.around.before };
+}
+
+-- what a line gives: itself, or what was finished
+abbrev pub taken : Bool → ℕ → List ℕ → Spot → Spot
+taken true line text s = adds text (start line)
+taken false line text s = s
+
+-- within its limits
+pub record IsWithin (s : Spot) : Type 0 where
+  pub text : length s.text ≤ LINE
+  pub count : s.count ≤ EXPAND

@@ -1,0 +1,11 @@
+//! Laws of expansion.
+
+ghost use Rattle.std.specs.Prelude.{ℕ, List};
+ghost use Rattle.page_roff_values.specs.Environments.{Surroundings};
+ghost use Rattle.page_roff_values.specs.Values as laying;
+
+/// No line makes more than `EXPAND` interpolations, and none is longer than `LINE`.
+pub fn is_bounded()
+    ensures { (env : Surroundings) (depth : ℕ) (text : List ℕ) (s : laying.Spot) → laying.IsWithin s
+        → laying.IsWithin (laying.value env depth text s).edge }
+{}

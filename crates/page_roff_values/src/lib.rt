@@ -1,0 +1,19 @@
+//! Expansion of a text (roff(7), "Escape sequences"): strings, number registers, macro arguments and widths are interpolated, in one pass
+//! with a stack of texts, in memory that is reserved once. And the latch through which the layers of roff give their messages.
+#![tactic(auto)]
+
+mod call_arguments;
+mod endings;
+mod environments;
+mod expansions;
+mod laws;
+mod note_latches;
+mod parts;
+mod sources;
+
+pub use call_arguments::{ARGS, CallArguments};
+pub use environments::Environment;
+pub use expansions::{EXPAND, Expansion};
+pub use laws::is_bounded;
+pub use note_latches::{NoteLatch, NoteOut};
+pub use sources::NEST;

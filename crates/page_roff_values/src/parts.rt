@@ -1,0 +1,241 @@
+//! What a text is made of (roff(7), "Escape sequences").
+
+ghost use Rattle.std.specs.Prelude.{◌≡◌, ℕ, ◌<◌, ◌≤◌, ◌+◌, ◌==◌, List, length, Some, None, IsTrue, MatchOption, option_map, position, IfSome, take, drop, get_or};
+ghost use Rattle.page_roff_values.specs.Parts as reading;
+ghost use Rattle.page_roff_values.specs.Views.{seen_of, cut_of, call_of};
+
+use crate::endings::after;
+use memchr::memchr;
+
+/// An interpolation: of a string, a number register, an argument (the escape as it is written), or the width of a text.
+#[derive(Drop)]
+pub enum Call<W> {
+    String(W),
+    Register(W),
+    Argument(W),
+    Width(W),
+}
+
+/// A part of a text: bytes that are copied, or an interpolation.
+#[derive(Drop)]
+pub enum Part<W> {
+    Copied(W),
+    Called(Call<W>),
+}
+
+/// The first part of a text, and what follows it.
+#[derive(Drop)]
+pub struct Seen<'e> {
+    pub part: Part<&'e [u8]>,
+    pub rest: &'e [u8],
+}
+
+/// What was read of a text, and what follows that.
+#[derive(Drop)]
+pub struct Cut<'e> {
+    pub front: &'e [u8],
+    pub rest: &'e [u8],
+}
+
+// The bytes of a text's first character.
+fn character_len(text: &[u8]) -> usize
+    ensures value { result ≡ reading.character_len text.now }
+    ensures within { result ≤ length text.now }
+{
+    match text.first() {
+        None => 0,
+        Some(first) => {
+            let len = match *first {
+                0..=0x7F => 1,
+                0x80..=0xDF => 2,
+                0xE0..=0xEF => 3,
+                _ => 4,
+            };
+            len.min(text.len())
+        }
+    }
+}
+
+// So many bytes of a text; some more after them are passed over.
+fn cut_at(text: &[u8], len: usize, over: usize) -> Cut<'_>
+    requires { len + over ≤ length text.now }
+    ensures { cut_of result ≡ reading.cut len over text.now }
+{
+    Cut {
+        front: &text[..len],
+        rest: after(text, len + over),
+    }
+}
+
+// A name of two characters.
+fn two_characters(text: &[u8]) -> Option<Cut<'_>>
+    ensures { option_map cut_of result ≡ reading.two_characters text.now }
+{
+    let first = character_len(text);
+    let second = character_len(after(text, first));
+    if second == 0 {
+        return None;
+    }
+    Some(cut_at(text, first + second, 0))
+}
+
+// Where the first bracket that closes stands.
+fn bracket_place(text: &[u8]) -> Option<usize>
+    ensures value { result ≡ position (λ b. b == 93) text.now }
+    ensures bound { IfSome result (λ place. place < length text.now) }
+{
+    text.iter().position(|b| *b == b']')
+}
+
+// A name up to its bracket.
+fn bracketed(text: &[u8]) -> Option<Cut<'_>>
+    ensures { option_map cut_of result ≡ reading.bracketed text.now }
+{
+    match bracket_place(text) {
+        None => None,
+        Some(place) => Some(cut_at(text, place, 1)),
+    }
+}
+
+// The name at a text's front: `x`, `(xx` or `[name]`. None where the text ends before the name does.
+fn read_name(text: &[u8]) -> Option<Cut<'_>>
+    ensures { option_map cut_of result ≡ reading.name_cut text.now }
+{
+    match text {
+        [] => None,
+        [b'(', rest @ ..] => two_characters(rest),
+        [b'[', rest @ ..] => bracketed(rest),
+        _ => Some(cut_at(text, character_len(text), 0)),
+    }
+}
+
+// How many bytes stand before a delimiter's next occurrence outside pairs.
+fn content_len(delimiter: &[u8], text: &[u8]) -> Option<usize>
+    ensures value { result ≡ reading.content_len delimiter.now 0 text.now }
+    ensures bound { IfSome result (λ len. len + length delimiter.now ≤ length text.now) }
+{
+    let mut at = 0;
+    while at < text.len() {
+        let rest = after(text, at);
+        if rest.starts_with(delimiter) {
+            return Some(at);
+        }
+        at += unit_len(rest);
+    }
+    None
+}
+
+// The bytes of a pair, or of one byte that begins none.
+fn unit_len(text: &[u8]) -> usize
+    requires { 0 < length text.now }
+    ensures value { result ≡ reading.unit_len text.now }
+    ensures some { 0 < result }
+    ensures within { result ≤ length text.now }
+{
+    if text[0] == b'\\' {
+        1 + character_len(after(text, 1))
+    } else {
+        1
+    }
+}
+
+// The text between two delimiters, of which the first character is one.
+fn read_width(text: &[u8]) -> Option<Cut<'_>>
+    ensures { option_map cut_of result ≡ reading.width_cut text.now }
+{
+    let mark = character_len(text);
+    if mark == 0 {
+        return None;
+    }
+    let inner = after(text, mark);
+    match content_len(&text[..mark], inner) {
+        None => None,
+        Some(len) => Some(cut_at(inner, len, mark)),
+    }
+}
+
+// Whether a backslash and this byte make one backslash.
+fn is_doubled(copy: bool, letter: u8) -> bool
+    ensures { result ≡ reading.is_doubled copy letter }
+{
+    copy && letter == b'\\'
+}
+
+// An interpolation that was read, and what follows it.
+fn called<'e>(call: Call<&'e [u8]>, rest: &'e [u8]) -> Seen<'e>
+    ensures { seen_of result ≡ reading.calls (call_of call.entry) rest.entry.now }
+{
+    Seen {
+        part: Part::Called(call),
+        rest,
+    }
+}
+
+// The interpolation at a text's front, where a backslash and a letter are.
+fn read_call(text: &[u8], copy: bool) -> Option<Seen<'_>>
+    requires some { 2 ≤ length text.now }
+    requires escape { IsTrue (reading.begins_escape text.now) }
+    ensures { option_map seen_of result ≡ reading.call_cut copy (get_or text.now 1 0) (drop 2 text.now) }
+{
+    let rest = after(text, 2);
+    match text[1] {
+        b'*' => match read_name(rest) {
+            None => None,
+            Some(name) => Some(called(Call::String(name.front), name.rest)),
+        },
+        b'n' => match read_name(rest) {
+            None => None,
+            Some(name) => Some(called(Call::Register(name.front), name.rest)),
+        },
+        b'$' => {
+            let end = 2 + character_len(rest);
+            Some(called(Call::Argument(&text[..end]), after(text, end)))
+        }
+        b'w' if !copy => match read_width(rest) {
+            None => None,
+            Some(inner) => Some(called(Call::Width(inner.front), inner.rest)),
+        },
+        _ => None,
+    }
+}
+
+// The first part of a text that begins with a backslash.
+fn read_escape(text: &[u8], copy: bool) -> Seen<'_>
+    requires some { 0 < length text.now }
+    requires escape { IsTrue (reading.begins_escape text.now) }
+    ensures { seen_of result ≡ reading.seen copy text.now }
+{
+    if text.len() < 2 {
+        return copied(text, text.len(), 0);
+    }
+    if is_doubled(copy, text[1]) {
+        return copied(text, 1, 1);
+    }
+    match read_call(text, copy) {
+        Some(seen) => seen,
+        None => copied(text, 1 + character_len(after(text, 1)), 0),
+    }
+}
+
+// So many bytes that are copied; some more after them are passed over.
+fn copied(text: &[u8], len: usize, over: usize) -> Seen<'_>
+    requires { len + over ≤ length text.now }
+    ensures { seen_of result ≡ reading.copies (take len text.now) (drop (len + over) text.now) }
+{
+    Seen {
+        part: Part::Copied(&text[..len]),
+        rest: after(text, len + over),
+    }
+}
+
+/// Reads the first part of a text, in copy mode or not.
+pub(crate) fn read(text: &[u8], copy: bool) -> Seen<'_>
+    requires { 0 < length text.now }
+    ensures { seen_of result ≡ reading.seen copy text.now }
+{
+    let end = memchr(b'\\', text).unwrap_or(text.len());
+    if end == 0 {
+        return read_escape(text, copy);
+    }
+    copied(text, end, 0)
+}

@@ -1,0 +1,63 @@
+//! The texts that are being read.
+
+ghost use Rattle.std.specs.Prelude.{◌≡◌, ℕ, ◌<◌, ◌≤◌, ◌+◌, ◌^◌, nat_le, List, [], ◌∷◌, length, Option, Some, None, MatchOption};
+ghost use Rattle.page_roff_values.specs.Rest.{texts_of, size, Reads};
+
+use crate::parts::{Part, Seen, read};
+use arrayvec::ArrayVec;
+
+/// Interpolations inside one another.
+pub const NEST: usize = 16;
+
+/// What is left of the innermost text, and of those around it, the outermost first.
+#[derive(Drop)]
+pub(crate) struct Sources<'e> {
+    pub(crate) text: &'e [u8],
+    pub(crate) outer: ArrayVec<&'e [u8], NEST>,
+}
+
+impl<'e> Sources<'e> {
+    /// A text alone.
+    pub(crate) fn new(text: &'e [u8]) -> Sources<'e>
+        ensures { texts_of result ≡ text.now ∷ [] }
+    {
+        Sources {
+            text,
+            outer: ArrayVec::new(),
+        }
+    }
+
+    /// The next part of the innermost text that isn't at its end.
+    pub(crate) fn next(&mut self, copy: bool) -> Option<Part<&'e [u8]>>
+        ensures reads { Reads copy (texts_of self.old) result (texts_of self.new) }
+        ensures falls { MatchOption result ℕ (λ p. size (texts_of self.new) < size (texts_of self.old)) }
+    {
+        while self.text.is_empty() {
+            match self.outer.pop() {
+                None => return None,
+                Some(text) => self.text = text,
+            }
+        }
+        let seen = read(self.text, copy);
+        self.text = seen.rest;
+        Some(seen.part)
+    }
+
+    /// How many texts stand around the innermost.
+    pub(crate) fn depth(&self) -> usize
+        ensures value { result + 1 ≡ length (texts_of self.now) }
+        ensures fits { result ≤ NEST }
+    {
+        self.outer.len()
+    }
+
+    /// A value is read before the rest.
+    pub(crate) fn enter(&mut self, value: &'e [u8])
+        requires { length (texts_of self.old) < NEST + 1 }
+        ensures texts { texts_of self.new ≡ value.now ∷ texts_of self.old }
+        ensures fits { length value.now < 2 ^ 64 }
+    {
+        self.outer.push(self.text);
+        self.text = value;
+    }
+}
