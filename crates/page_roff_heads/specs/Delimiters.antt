@@ -1,4 +1,5 @@
--- Texts between delimiters, and what ends an expression. Source: roff(7), "Conditional expressions" and "Escape sequences".
+-- Texts between delimiters, and what ends an expression. Source: roff(7), "Conditional expressions" and
+-- "Escape sequences".
 use Rattle.std.specs.Prelude.{ℕ, zero, suc, ◌+◌, ◌==◌, nat_eq, nat_lt, min, List, [], ◌∷◌, length, take, drop, if◌then◌else◌}
 use Rattle.std.specs.List.{starts_with}
 use Rattle.std.specs.Str.{continuation_len}
@@ -12,8 +13,8 @@ delimiter_len (byte ∷ bytes) = min (continuation_len byte + 1) (length (byte �
 abbrev pub delimiter_of : List ℕ → List ℕ
 delimiter_of text = take (delimiter_len text) text
 
--- The bytes before the delimiter's next occurrence, where a backslash (92) and its next byte are a pair; all of them where there
--- is none.
+-- The bytes before the delimiter's next occurrence, where a backslash (92) and its next byte are a pair; all of
+-- them where there is none.
 abbrev pub place_of : List ℕ → List ℕ → ℕ
 place_of delimiter [] = 0
 place_of delimiter (byte ∷ []) = if starts_with nat_eq (byte ∷ []) delimiter then 0 else 1
@@ -22,7 +23,7 @@ place_of delimiter (byte ∷ next ∷ bytes) =
     else if byte == 92 then 2 + place_of delimiter bytes
     else 1 + place_of delimiter (next ∷ bytes)
 
--- the bytes of a text in delimiters with these, of which the first is given; none where the other is missing
+-- the bytes of a text in delimiters, with these; none where the second is missing
 abbrev pub quoted_len : List ℕ → ℕ
 quoted_len text =
     let inner = drop (delimiter_len text) text in

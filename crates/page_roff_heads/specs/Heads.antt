@@ -46,7 +46,10 @@ end_place (byte ∷ next ∷ bytes) =
 unfoldable pub block_end_of : List ℕ → Option (BlockEnd (List ℕ))
 block_end_of line =
     if nat_lt (end_place line) (length line)
-    then Some (record { before = take (end_place line) line; remainder = remainder_of (end_place line + 3) (drop (end_place line + 2) line) })
+    then Some (record {
+      before = take (end_place line) line;
+      remainder = remainder_of (end_place line + 3) (drop (end_place line + 2) line);
+    })
     else None
 
 -- ---- of the program, with what its texts hold

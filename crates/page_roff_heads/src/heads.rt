@@ -67,8 +67,8 @@ impl<W: Copy> Clone for BlockEnd<W> {
     }
 }
 
-/// Reads what stands after a condition, or after the name of `el`: an optional `\{` and a remainder. The first byte stands at a
-/// column.
+/// Reads what stands after a condition, or after the name of `el`: an optional `\{` and a remainder. The first byte
+/// stands at a column.
 #[tactic(auto, unfolding(crate::specs::Heads::guarded_of))]
 pub fn read_guarded(text: &[u8], column: u32) -> Guarded<&[u8]>
     requires short { length text.now ≤ LINE }
@@ -104,7 +104,8 @@ fn conditional_at(text: &[u8], column: u32) -> Conditional<&[u8]>
     }
 }
 
-/// Reads the rest of a control line `if` or `ie` with its comment: what follows its name. The first byte stands at a column.
+/// Reads the rest of a control line `if` or `ie` with its comment: what follows its name. The first byte stands at a
+/// column.
 #[tactic(auto, unfolding(crate::specs::Heads::conditional_of))]
 pub fn read_conditional(rest: &[u8], column: u32) -> Conditional<&[u8]>
     requires short { length rest.now ≤ LINE }

@@ -1,5 +1,5 @@
-//! The heads of conditionals as they are written: what `if`, `ie` and `el` test and guard, and where blocks end (roff(7),
-//! "Conditional expressions"). All of it is read from the raw line alone.
+//! The heads of conditionals as they are written: what `if`, `ie` and `el` test and guard, and where blocks end
+//! (roff(7), "Conditional expressions"). All of it is read from the raw line alone.
 #![tactic(auto)]
 
 mod comments;

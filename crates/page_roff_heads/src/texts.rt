@@ -65,8 +65,8 @@ fn remainder_at(text: &[u8], column: u32) -> Option<Placed<&[u8]>>
     }
 }
 
-/// The remainder of a line, without the blanks before it: a line of its own, unless it is empty or a comment. The column is that
-/// of the first byte.
+/// The remainder of a line, without the blanks before it: a line of its own, unless it is empty or a comment. The
+/// first byte stands at a column.
 #[tactic(auto, unfolding(crate::specs::Texts::remainder_of))]
 pub fn remainder(text: &[u8], column: u32) -> Option<Placed<&[u8]>>
     requires short { length text.now ≤ LINE }

@@ -1,0 +1,150 @@
+//! Whether a condition holds (roff(7), "Conditional expressions").
+
+ghost use Rattle.std.specs.Prelude.{◌≡◌, false, ◌-◌, ◌≤◌, ◌^◌, [], take, drop, length};
+ghost use Rattle.std.specs.Str.{bytes_eq};
+ghost use Rattle.page_roff_conditions.specs.Answers as asked;
+ghost use Rattle.page_roff_conditions.specs.Answers.{Gives};
+ghost use Rattle.page_roff_heads.specs.Conditions.{condition_seen, test_seen, FitsTest};
+ghost use Rattle.page_roff_heads.specs.Texts.{placed_seen, FitsPlaced};
+ghost use Rattle.page_roff_values.specs.Environments.{surroundings_of};
+ghost use Rattle.page_roff_values.specs.Latches.{Goes};
+ghost use Rattle.page_roff_values.specs.Values.{nothing};
+
+use crate::requests::is_request;
+use page_core_base::{Note, NoteKind, Place};
+use page_roff_expressions::expression;
+use page_roff_heads::{Condition, Placed, Test};
+use page_roff_names::Names;
+use page_roff_values::{Environment, Expansion, NoteOut};
+
+// Whether a string, a macro or a request has a name.
+fn is_defined(name: &[u8], names: &Names) -> bool
+    ensures { result ≡ asked.is_defined name.now names.now }
+{
+    names.string(name).is_some() || names.body(name).is_some() || is_request(name)
+}
+
+// What `!` makes of a test.
+fn turned(is_turned: bool, holds: bool) -> bool
+    ensures { result ≡ asked.turned is_turned holds }
+{
+    holds != is_turned
+}
+
+// Expands a text behind what is finished of its line. Answers whether that was cut.
+fn expand_text<O: NoteOut>(
+    text: &[u8],
+    base: u32,
+    env: &Environment<'_>,
+    line: &mut Expansion,
+    out: &mut O,
+) -> bool
+    requires going { line.old.ended ≡ false }
+    requires outside { line.old.around.before ≡ [] }
+    requires base { base ≤ 2 ^ 31 }
+    ensures goes { Goes O.left out.old (asked.expands (surroundings_of env.now) base text.now line.old)
+        out.new (nothing line.new) }
+    ensures ended { result ≡ line.new.ended }
+    ensures outside { line.new.around.before ≡ [] }
+{
+    line.expand_more(env, text, base, out);
+    line.has_ended()
+}
+
+// Whether an expression is above 0.
+fn is_positive<O: NoteOut>(
+    text: &Placed<&[u8]>,
+    place: Place,
+    is_turned: bool,
+    env: &Environment<'_>,
+    line: &mut Expansion,
+    out: &mut O,
+) -> bool
+    requires fits { FitsPlaced (placed_seen text.now) }
+    requires going { line.old.ended ≡ false }
+    requires outside { line.old.around.before ≡ [] }
+    ensures { Gives O.left out.old out.new result line.new
+        (asked.test_answer (surroundings_of env.now) place is_turned
+        (Test.Expression (placed_seen text.now)) line.old) }
+{
+    if expand_text(text.text, text.column.saturating_sub(1), env, line, out) {
+        return false;
+    }
+    turned(is_turned, expression(line.text(), place, out) > 0)
+}
+
+// Whether the texts up to `len` and from there on are equal.
+fn has_equal_parts(text: &[u8], len: usize) -> bool
+    ensures { result ≡ bytes_eq (take len text.now) (drop len text.now) }
+{
+    let middle = len.min(text.len());
+    text[..middle] == text[middle..]
+}
+
+// Whether two texts are equal.
+fn are_equal<O: NoteOut>(
+    first: &Placed<&[u8]>,
+    second: &Placed<&[u8]>,
+    place: Place,
+    is_turned: bool,
+    env: &Environment<'_>,
+    line: &mut Expansion,
+    out: &mut O,
+) -> bool
+    requires first { FitsPlaced (placed_seen first.now) }
+    requires second { FitsPlaced (placed_seen second.now) }
+    requires going { line.old.ended ≡ false }
+    requires outside { line.old.around.before ≡ [] }
+    ensures { Gives O.left out.old out.new result line.new
+        (asked.test_answer (surroundings_of env.now) place is_turned
+        (Test.Texts (placed_seen first.now) (placed_seen second.now)) line.old) }
+{
+    if expand_text(first.text, first.column.saturating_sub(1), env, line, out) {
+        return false;
+    }
+    let len = line.text().len();
+    let base = second
+        .column
+        .saturating_sub(1)
+        .saturating_sub(first.text.len() as u32);
+    if expand_text(second.text, base, env, line, out) {
+        return false;
+    }
+    turned(is_turned, has_equal_parts(line.text(), len))
+}
+
+/// Whether the condition of a head in a source line holds. Its texts are expanded in `expansion`, with one budget for
+/// both.
+#[tactic(auto, unfolding(crate::specs::Answers::condition_answer))]
+pub fn holds<O: NoteOut>(
+    condition: &Condition<&[u8]>,
+    line: u32,
+    env: &Environment<'_>,
+    expansion: &mut Expansion,
+    out: &mut O,
+) -> bool
+    requires { FitsTest (test_seen condition.now.test) }
+    ensures { Gives O.left out.old out.new result expansion.new
+        (asked.condition_answer (surroundings_of env.now) line (condition_seen condition.now)) }
+{
+    expansion.begin(line);
+    let is_turned = condition.is_turned;
+    let place = Place {
+        line,
+        column: condition.column,
+    };
+    match &condition.test {
+        Test::Always(answer) => turned(is_turned, *answer),
+        Test::Unknown(letter) => {
+            out.report(&Note::about(NoteKind::BadCondition, place, letter));
+            turned(is_turned, false)
+        }
+        Test::IsDefined(name) => turned(is_turned, is_defined(name, env.names)),
+        Test::IsRegister(name) => turned(is_turned, env.find_register(name).is_some()),
+        Test::Expression(text) => is_positive(text, place, is_turned, env, expansion, out),
+        Test::Texts { first, second } => {
+            are_equal(first, second, place, is_turned, env, expansion, out)
+        }
+        Test::Missing => false,
+    }
+}

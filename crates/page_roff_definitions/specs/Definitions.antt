@@ -1,0 +1,157 @@
+-- What the requests for definitions do. Source: roff(7), "ds", "as", "nr", "rm", "rn", "rr".
+use Rattle.std.specs.Prelude.{◌≡◌, ℕ, ◌+◌, ◌≤◌, length, Bool, true, false, ◌==◌, ◌||◌, List, [], ◌∷◌, ◌++◌, if◌then◌else◌, Option, Some, None, unwrap_or, ℤ, pos, ◌+ℤ◌, codes}
+use Rattle.std.specs.Str.{bytes_eq}
+use Rattle.page_core_base.specs.Messages.{Message, message_about}
+use Rattle.page_core_base.specs.declared.note_kinds.NoteKind.TheVariants as kinds
+use Rattle.page_core_base.specs.declared.places.Place.{Place}
+use Rattle.page_core_limits.specs.declared.TheConstants.{LINE}
+use Rattle.page_core_limits.specs.declared.Limit.{Limit}
+use Rattle.page_core_limits.specs.Limits.{name_of}
+use Rattle.page_core_numbers.specs.Numbers.{in_range}
+use Rattle.page_roff_forms.specs.Arguments.{arguments}
+use Rattle.page_roff_forms.specs.declared.quotes.Argument.{Argument}
+use Rattle.page_roff_names.specs.declared.rows.Meaning.TheVariants.{String}
+use Rattle.page_roff_names.specs.Entries.{definition, Definition}
+use Rattle.page_roff_names.specs.Names.{Definitions, look, string_of, number_of, with_text, without_text, with_register, without_register, refusal}
+use Rattle.page_roff_values.specs.Latches.{Came}
+use Rattle.page_roff_expressions.specs.Values.{value_of, messages_of}
+use Rattle.page_roff_definitions.specs.declared.definitions.RequestLine.{RequestLine}
+use Rattle.page_roff_definitions.specs.declared.definitions.DefinitionRequest.{DefinitionRequest}
+use Rattle.page_roff_definitions.specs.declared.definitions.DefinitionRequest.TheVariants.{DefineString, AppendString, SetRegister, Remove, Rename, RemoveRegisters}
+use Rattle.page_roff_definitions.specs.Arguments.{closings_notes, first_text, value_after}
+
+-- what is defined after a request, and its messages
+pub record Outcome : Type 0 where
+  pub definitions : Definitions
+  pub notes : List Message
+
+abbrev pub outcome : Definitions → List Message → Outcome
+outcome definitions notes = record { definitions = definitions; notes = notes }
+
+abbrev pub limit_notes : Place → Limit → List Message
+limit_notes place limit = message_about kinds.Limit place (name_of limit) ∷ []
+
+-- a definition that passes a limit is reported, and all stays
+abbrev pub settled : Option Limit → Definitions → Place → Definitions → Outcome
+settled None wanted place old = outcome wanted []
+settled (Some limit) wanted place old = outcome old (limit_notes place limit)
+
+abbrev pub settles : List ℕ → List ℕ → Definitions → Place → Definitions → Outcome
+settles name value wanted place old = settled (refusal name value wanted) wanted place old
+
+-- ---- strings
+
+abbrev pub defines_string : List ℕ → List ℕ → Place → Definitions → Outcome
+defines_string name value place old = settles name value (with_text name (definition String value) old) place old
+
+abbrev pub appends_string : List ℕ → List ℕ → Place → Definitions → Outcome
+appends_string name more place old = defines_string name (unwrap_or (string_of name old) [] ++ more) place old
+
+-- a name without a definition is passed over
+abbrev pub renames_found : Option Definition → List ℕ → List ℕ → Place → Definitions → Outcome
+renames_found None old_name name place old = outcome old []
+renames_found (Some d) old_name name place old = settles name d.value (with_text name d (without_text old_name old)) place old
+
+abbrev pub renames : List ℕ → List ℕ → Place → Definitions → Outcome
+renames old_name name place old = renames_found (look old_name old.texts) old_name name place old
+
+abbrev pub removes : List (Argument (List ℕ)) → Definitions → Definitions
+removes [] old = old
+removes (name ∷ names) old = removes names (without_text name.text old)
+
+-- ---- registers
+
+abbrev pub removes_registers : List (Argument (List ℕ)) → Definitions → Definitions
+removes_registers [] old = old
+removes_registers (name ∷ names) old = removes_registers names (without_register name.text old)
+
+-- a full stop (46)
+abbrev pub is_read_only : List ℕ → Bool
+is_read_only [] = false
+is_read_only (byte ∷ bytes) = byte == 46
+
+-- a plus (43) or minus (45) sign
+abbrev pub is_change : List ℕ → Bool
+is_change [] = false
+is_change (byte ∷ bytes) = byte == 43 || byte == 45
+
+-- a value with a leading sign changes by it; a register that there is not has 0
+abbrev pub next_number : List ℕ → List ℕ → Definitions → ℤ
+next_number name value old =
+    if is_change value then in_range (unwrap_or (number_of name old) (pos 0) +ℤ value_of value) else value_of value
+
+abbrev pub sets_register : List ℕ → ℤ → Place → Definitions → Outcome
+sets_register name number place old = settles name [] (with_register name number old) place old
+
+-- a name that begins with a full stop is not set, but its value is read
+abbrev pub sets_number : List ℕ → List ℕ → Place → Definitions → Outcome
+sets_number name value place old =
+    if is_read_only name then outcome old [] else sets_register name (next_number name value old) place old
+
+abbrev pub says_first : List Message → Outcome → Outcome
+says_first notes after = outcome after.definitions (notes ++ after.notes)
+
+abbrev pub reads_number : List ℕ → List ℕ → Place → Definitions → Outcome
+reads_number name value place old = says_first (messages_of place value) (sets_number name value place old)
+
+-- ---- the requests by their names
+
+abbrev pub request_of : List ℕ → Option DefinitionRequest
+request_of name =
+    if bytes_eq name (codes "ds") then Some DefineString
+    else if bytes_eq name (codes "as") then Some AppendString
+    else if bytes_eq name (codes "nr") then Some SetRegister
+    else if bytes_eq name (codes "rm") then Some Remove
+    else if bytes_eq name (codes "rn") then Some Rename
+    else if bytes_eq name (codes "rr") then Some RemoveRegisters
+    else None
+
+-- strings are read in copy mode, name and value
+abbrev pub is_in_copy_mode : DefinitionRequest → Bool
+is_in_copy_mode DefineString = true
+is_in_copy_mode AppendString = true
+is_in_copy_mode SetRegister = false
+is_in_copy_mode Remove = false
+is_in_copy_mode Rename = false
+is_in_copy_mode RemoveRegisters = false
+
+-- ---- requests, by their arguments; a request without its name defines nothing
+
+abbrev pub nr : List (Argument (List ℕ)) → Place → Definitions → Outcome
+nr [] place old = outcome old []
+nr (name ∷ values) place old = reads_number name.text (first_text values) place old
+
+abbrev pub rn : List (Argument (List ℕ)) → Place → Definitions → Outcome
+rn [] place old = outcome old []
+rn (old_name ∷ []) place old = outcome old []
+rn (old_name ∷ name ∷ more) place old = renames old_name.text name.text place old
+
+abbrev pub ds : ℕ → List ℕ → List (Argument (List ℕ)) → Place → Definitions → Outcome
+ds column rest [] place old = outcome old []
+ds column rest (name ∷ more) place old = defines_string name.text (value_after column rest name) place old
+
+abbrev pub as_request : ℕ → List ℕ → List (Argument (List ℕ)) → Place → Definitions → Outcome
+as_request column rest [] place old = outcome old []
+as_request column rest (name ∷ more) place old = appends_string name.text (value_after column rest name) place old
+
+-- arguments without their last quote are reported first, but not of strings
+abbrev pub does : DefinitionRequest → ℕ → List ℕ → List (Argument (List ℕ)) → Place → Definitions → Outcome
+does DefineString column rest names place old = ds column rest names place old
+does AppendString column rest names place old = as_request column rest names place old
+does SetRegister column rest names place old = says_first (closings_notes place.line names) (nr names place old)
+does Remove column rest names place old = outcome (removes names old) (closings_notes place.line names)
+does Rename column rest names place old = says_first (closings_notes place.line names) (rn names place old)
+does RemoveRegisters column rest names place old =
+    outcome (removes_registers names old) (closings_notes place.line names)
+
+-- what a request does at a place, of which the finished rest begins at a column
+unfoldable pub outcome_of : DefinitionRequest → Place → ℕ → List ℕ → Definitions → Outcome
+outcome_of request place column rest old = does request column rest (arguments column rest) place old
+
+-- the definitions are those of the outcome, and its messages came
+abbrev pub Does : {P S : Type 0} → (P → S → List Message → Type 0) → S → S → Definitions → Outcome → Type 0
+Does left old new definitions wanted = (definitions ≡ wanted.definitions) × Came left old wanted.notes new
+
+-- the rest of a request's line lies within a line
+abbrev pub FitsRequest : RequestLine → Type 0
+FitsRequest line = (length line.rest.now ≤ LINE) × (line.rest_column + length line.rest.now ≤ LINE + 1)

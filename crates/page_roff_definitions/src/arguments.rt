@@ -1,0 +1,86 @@
+//! The arguments of requests for definitions.
+
+ghost use Rattle.std.specs.Prelude.{◌≡◌, ◌≤◌, ◌+◌, length};
+ghost use Rattle.std.specs.List.{prefix_len};
+ghost use Rattle.page_roff_values.specs.Latches.{Came};
+ghost use Rattle.page_roff_forms.specs.Arguments.{argument_seen, arguments, is_blank};
+ghost use Rattle.page_roff_definitions.specs.Arguments as ends;
+ghost use Rattle.page_roff_definitions.specs.Arguments.{closing_notes, closings_notes, end_of, after_blanks, without_quote, value_after};
+
+use page_core_base::{Note, NoteKind, Place};
+use page_core_limits::LINE;
+use page_roff_forms::{Argument, Arguments, Quoting};
+use page_roff_values::NoteOut;
+
+// Reports an argument without its last quote, at its first one.
+fn report_closing<O: NoteOut>(out: &mut O, line: u32, argument: Argument<&[u8]>)
+    ensures { Came O.left out.old (closing_notes line (argument_seen argument.entry)) out.new }
+{
+    let place = Place {
+        line,
+        column: argument.column.saturating_sub(1),
+    };
+    match argument.quoting {
+        Quoting::Bare | Quoting::Closed => {}
+        Quoting::Unclosed => out.report(&Note::about(NoteKind::Unterminated, place, b"")),
+    }
+}
+
+/// Reports the arguments without their last quote. The first byte of `rest` stands at the place.
+pub(crate) fn report_closings<O: NoteOut>(out: &mut O, place: Place, rest: &[u8])
+    requires short { length rest.now ≤ LINE }
+    requires room { place.column + length rest.now ≤ LINE + 1 }
+    ensures { Came O.left out.old (closings_notes place.line (arguments place.column rest.now)) out.new }
+{
+    let mut arguments = Arguments::new(rest, place.column);
+    while let Some(argument) = arguments.next_argument() {
+        report_closing(out, place.line, argument);
+    }
+}
+
+// The number of an argument's bytes after its text.
+fn closing_len(quoting: Quoting) -> usize
+    ensures value { result ≡ ends.closing_len quoting }
+    ensures bound { result ≤ 1 }
+{
+    match quoting {
+        Quoting::Bare | Quoting::Unclosed => 0,
+        Quoting::Closed => 1,
+    }
+}
+
+// The number of blanks at a text's front.
+fn blank_len(text: &[u8]) -> usize
+    ensures value { result ≡ prefix_len is_blank text.now }
+    ensures within { result ≤ length text.now }
+{
+    text.iter().take_while(|byte| **byte == b' ').count()
+}
+
+// A text without its leading blanks.
+fn after_blanks(text: &[u8]) -> &[u8]
+    ensures { result.now ≡ after_blanks text.now }
+{
+    &text[blank_len(text)..]
+}
+
+// A text without its leading quote.
+fn without_quote(text: &[u8]) -> &[u8]
+    ensures { result.now ≡ without_quote text.now }
+{
+    match text {
+        [b'"', rest @ ..] => rest,
+        _ => text,
+    }
+}
+
+/// The value of a string: what follows its name and blanks in the rest of a line, of which the first byte stands at a
+/// column.
+pub(crate) fn value_after<'a>(rest: &'a [u8], column: u32, name: Argument<&[u8]>) -> &'a [u8]
+    requires { length name.text.now ≤ LINE }
+    ensures { result.now ≡ value_after column rest.now (argument_seen name.entry) }
+{
+    let before = name.column.saturating_sub(column) as usize;
+    let end = before + name.text.len() + closing_len(name.quoting);
+    without_quote(after_blanks(&rest[end.min(rest.len())..]))
+}

@@ -1,0 +1,8 @@
+//! The requests that define strings and number registers, and take definitions away (roff(7), `ds`, `as`, `nr`, `rm`,
+//! `rn`, `rr`).
+#![tactic(auto)]
+
+mod arguments;
+mod definitions;
+
+pub use definitions::{DefinitionRequest, RequestLine, define};
