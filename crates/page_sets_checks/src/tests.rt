@@ -20,8 +20,11 @@ where
     assert_eq!(rt; spelled(set, line).as_slice(), want.as_bytes(), "of {text}");
 }
 
-fn check_macro(rt: &impl Abort, text: &str, want: &str) {
-    check(rt, &Man, Form::Control, text, want);
+// Checks control lines: each with its events.
+fn check_macros(rt: &impl Abort, rows: &[(&str, &str)]) {
+    for (text, want) in rows {
+        check(rt, &Man, Form::Control, text, want);
+    }
 }
 
 #[test]
@@ -42,268 +45,279 @@ fn lines_without_macros(rt: HostRuntime) {
 
 #[test]
 fn requests(rt: HostRuntime) {
-    for (text, want) in [
-        (".br", "2 request br; 1 end"),
-        (".br x y", "2 request br; 1 end"),
-        (".br \"x", "5 note quote; 2 request br; 1 end"),
-        (".sp", "2 request sp; 1 end"),
-        (".sp 2v 3", "2 request sp 2v; 1 end"),
-        (".sp \"1", "5 note quote; 2 request sp 1; 1 end"),
-        (".ft", "2 request ft; 1 end"),
-        (".ft B", "2 request ft B; 1 end"),
-        (".ft \"\" x", "2 request ft ; 1 end"),
-        (".in", "2 request in; 1 end"),
-        (".in +4", "2 request in +4; 1 end"),
-        (".nf x", "2 request nf; 1 end"),
-        (".fi", "2 request fi; 1 end"),
-        (".fi a \"x", "7 note quote; 2 request fi; 1 end"),
-    ] {
-        check_macro(&rt, text, want);
-    }
+    check_macros(
+        &rt,
+        &[
+            (".br", "2 request br; 1 end"),
+            (".br x y", "2 request br; 1 end"),
+            (".br \"x", "5 note quote; 2 request br; 1 end"),
+            (".sp", "2 request sp; 1 end"),
+            (".sp 2v 3", "2 request sp 2v; 1 end"),
+            (".sp \"1", "5 note quote; 2 request sp 1; 1 end"),
+            (".ft", "2 request ft; 1 end"),
+            (".ft B", "2 request ft B; 1 end"),
+            (".ft \"\" x", "2 request ft ; 1 end"),
+            (".in", "2 request in; 1 end"),
+            (".in +4", "2 request in +4; 1 end"),
+            (".nf x", "2 request nf; 1 end"),
+            (".fi", "2 request fi; 1 end"),
+            (".fi a \"x", "7 note quote; 2 request fi; 1 end"),
+        ],
+    );
 }
 
 #[test]
 fn names_of_no_macro(rt: HostRuntime) {
-    for (text, want) in [
-        (".ZZ", "2 note unknown ZZ; 1 end"),
-        (".ZZ \"a", "2 note unknown ZZ; 1 end"),
-        ("'\t zz a", "4 note unknown zz; 1 end"),
-        ("..", "2 note unknown .; 1 end"),
-        (".tp", "2 note unknown tp; 1 end"),
-        (".PPP", "2 note unknown PPP; 1 end"),
-        (".B\\fIx", "2 fonts B; 3 word \\fIx; 2 fonts; 1 filled"),
-        (". B x", "3 fonts B; 5 word x; 3 fonts; 1 filled"),
-        (".B\tx", "2 fonts B; 3 word \tx; 2 fonts; 1 filled"),
-        (".", "2 note unknown; 1 end"),
-        ("", "1 note unknown; 1 end"),
-    ] {
-        check_macro(&rt, text, want);
-    }
+    check_macros(
+        &rt,
+        &[
+            (".ZZ", "2 note unknown ZZ; 1 end"),
+            (".ZZ \"a", "2 note unknown ZZ; 1 end"),
+            ("'\t zz a", "4 note unknown zz; 1 end"),
+            ("..", "2 note unknown .; 1 end"),
+            (".tp", "2 note unknown tp; 1 end"),
+            (".PPP", "2 note unknown PPP; 1 end"),
+            (".B\\fIx", "2 fonts B; 3 word \\fIx; 2 fonts; 1 filled"),
+            (". B x", "3 fonts B; 5 word x; 3 fonts; 1 filled"),
+            (".B\tx", "2 fonts B; 3 word \tx; 2 fonts; 1 filled"),
+            (".", "2 note unknown; 1 end"),
+            ("", "1 note unknown; 1 end"),
+        ],
+    );
 }
 
 #[test]
 fn titles_and_headings(rt: HostRuntime) {
-    for (text, want) in [
-        (".TH", "2 title TH ; 1 end"),
-        (".TH a 1 b c d e", "2 title TH  a 1 b c d e; 1 end"),
-        (
-            ".TH \"a b\" \"1",
-            "11 note quote; 2 title TH  \"a b\" \"1; 1 end",
-        ),
-        (".SH", "2 close lines; 2 open SH; 2 scope SH; 1 end"),
-        (
-            ".SH a",
-            "2 close lines; 2 open SH; 2 scope SH; 5 word a; 1 filled",
-        ),
-        (
-            ".SH a \"b c",
-            "2 close lines; 2 open SH; 2 scope SH; 5 word a; 8 word \"b c; 1 filled",
-        ),
-        (".SS", "2 close lines; 2 open SS; 2 scope SS; 1 end"),
-        (
-            ".SS \"\" b",
-            "2 close lines; 2 open SS; 2 scope SS; 6 word \"\"; 8 word b; 1 filled",
-        ),
-    ] {
-        check_macro(&rt, text, want);
-    }
+    check_macros(
+        &rt,
+        &[
+            (".TH", "2 title TH ; 1 end"),
+            (".TH a 1 b c d e", "2 title TH  a 1 b c d e; 1 end"),
+            (
+                ".TH \"a b\" \"1",
+                "11 note quote; 2 title TH  \"a b\" \"1; 1 end",
+            ),
+            (".SH", "2 close lines; 2 open SH; 2 scope SH; 1 end"),
+            (
+                ".SH a",
+                "2 close lines; 2 open SH; 2 scope SH; 5 word a; 1 filled",
+            ),
+            (
+                ".SH a \"b c",
+                "2 close lines; 2 open SH; 2 scope SH; 5 word a; 8 word \"b c; 1 filled",
+            ),
+            (".SS", "2 close lines; 2 open SS; 2 scope SS; 1 end"),
+            (
+                ".SS \"\" b",
+                "2 close lines; 2 open SS; 2 scope SS; 6 word \"\"; 8 word b; 1 filled",
+            ),
+        ],
+    );
 }
 
 #[test]
 fn paragraphs(rt: HostRuntime) {
-    for (text, want) in [
-        (".PP", "2 close lines; 2 open PP; 1 end"),
-        (".PP x y", "2 close lines; 2 open PP; 1 end"),
-        (".LP", "2 close lines; 2 open LP; 1 end"),
-        (".P \"x", "2 close lines; 4 note! quote; 2 open P; 1 end"),
-        (".HP", "2 close lines; 2 open HP; 1 end"),
-        (".HP 4 5", "2 close lines; 2 open HP 4; 1 end"),
-        (
-            ".HP \"4",
-            "2 close lines; 5 note! quote; 2 open HP 4; 1 end",
-        ),
-        (".IP", "2 close lines; 2 open IP; 1 end"),
-        (".IP a", "2 close lines; 2 open IP a; 1 end"),
-        (".IP \"a b\" 4", "2 close lines; 2 open IP \"a b\" 4; 1 end"),
-        (".IP a 4 x", "2 close lines; 2 open IP a 4; 1 end"),
-        (".IP \"a 4", "2 close lines; 2 open IP \"a 4; 1 end"),
-        (
-            ".IP a \"4",
-            "2 close lines; 7 note! quote; 2 open IP a 4; 1 end",
-        ),
-    ] {
-        check_macro(&rt, text, want);
-    }
+    check_macros(
+        &rt,
+        &[
+            (".PP", "2 close lines; 2 open PP; 1 end"),
+            (".PP x y", "2 close lines; 2 open PP; 1 end"),
+            (".LP", "2 close lines; 2 open LP; 1 end"),
+            (".P \"x", "2 close lines; 4 note! quote; 2 open P; 1 end"),
+            (".HP", "2 close lines; 2 open HP; 1 end"),
+            (".HP 4 5", "2 close lines; 2 open HP 4; 1 end"),
+            (
+                ".HP \"4",
+                "2 close lines; 5 note! quote; 2 open HP 4; 1 end",
+            ),
+            (".IP", "2 close lines; 2 open IP; 1 end"),
+            (".IP a", "2 close lines; 2 open IP a; 1 end"),
+            (".IP \"a b\" 4", "2 close lines; 2 open IP \"a b\" 4; 1 end"),
+            (".IP a 4 x", "2 close lines; 2 open IP a 4; 1 end"),
+            (".IP \"a 4", "2 close lines; 2 open IP \"a 4; 1 end"),
+            (
+                ".IP a \"4",
+                "2 close lines; 7 note! quote; 2 open IP a 4; 1 end",
+            ),
+        ],
+    );
 }
 
 #[test]
 fn tags(rt: HostRuntime) {
-    for (text, want) in [
-        (".TP", "2 close lines; 2 open TP; 2 scope TP; 1 end"),
-        (".TP 4", "2 close lines; 2 open TP 4; 2 scope TP; 1 end"),
-        (".TP 4 x", "2 close lines; 2 open TP 4; 2 scope TP; 1 end"),
-        (
-            ".TP \"4",
-            "2 close lines; 5 note! quote; 2 open TP 4; 2 scope TP; 1 end",
-        ),
-        (".TQ", "2 close lines; 2 tag TQ; 2 scope TQ; 1 end"),
-        (".TQ 4", "2 close lines; 2 tag TQ; 2 scope TQ; 1 end"),
-        (
-            ".TQ \"4",
-            "2 close lines; 5 note! quote; 2 tag TQ; 2 scope TQ; 1 end",
-        ),
-    ] {
-        check_macro(&rt, text, want);
-    }
+    check_macros(
+        &rt,
+        &[
+            (".TP", "2 close lines; 2 open TP; 2 scope TP; 1 end"),
+            (".TP 4", "2 close lines; 2 open TP 4; 2 scope TP; 1 end"),
+            (".TP 4 x", "2 close lines; 2 open TP 4; 2 scope TP; 1 end"),
+            (
+                ".TP \"4",
+                "2 close lines; 5 note! quote; 2 open TP 4; 2 scope TP; 1 end",
+            ),
+            (".TQ", "2 close lines; 2 tag TQ; 2 scope TQ; 1 end"),
+            (".TQ 4", "2 close lines; 2 tag TQ; 2 scope TQ; 1 end"),
+            (
+                ".TQ \"4",
+                "2 close lines; 5 note! quote; 2 tag TQ; 2 scope TQ; 1 end",
+            ),
+        ],
+    );
 }
 
 #[test]
 fn margins(rt: HostRuntime) {
-    for (text, want) in [
-        (".RS", "2 close lines; 2 open RS; 1 end"),
-        (".RS 4 5", "2 close lines; 2 open RS 4; 1 end"),
-        (
-            ".RS \"4",
-            "2 close lines; 5 note! quote; 2 open RS 4; 1 end",
-        ),
-        (".RE", "2 close lines; 2 close RE; 1 end"),
-        (".RE 2 3", "2 close lines; 2 close RE 2; 1 end"),
-        (
-            ".RE \"2",
-            "2 close lines; 5 note quote; 2 close RE 2; 1 end",
-        ),
-        (".PD", "2 distance PD; 1 end"),
-        (".PD 0 1", "2 distance PD 0; 1 end"),
-        (".PD \"0", "5 note quote; 2 distance PD 0; 1 end"),
-        (".EX", "2 example EX; 1 end"),
-        (".EX \"x", "5 note quote; 2 example EX; 1 end"),
-        (".EE x", "2 example EE; 1 end"),
-    ] {
-        check_macro(&rt, text, want);
-    }
+    check_macros(
+        &rt,
+        &[
+            (".RS", "2 close lines; 2 open RS; 1 end"),
+            (".RS 4 5", "2 close lines; 2 open RS 4; 1 end"),
+            (
+                ".RS \"4",
+                "2 close lines; 5 note! quote; 2 open RS 4; 1 end",
+            ),
+            (".RE", "2 close lines; 2 close RE; 1 end"),
+            (".RE 2 3", "2 close lines; 2 close RE 2; 1 end"),
+            (
+                ".RE \"2",
+                "2 close lines; 5 note quote; 2 close RE 2; 1 end",
+            ),
+            (".PD", "2 distance PD; 1 end"),
+            (".PD 0 1", "2 distance PD 0; 1 end"),
+            (".PD \"0", "5 note quote; 2 distance PD 0; 1 end"),
+            (".EX", "2 example EX; 1 end"),
+            (".EX \"x", "5 note quote; 2 example EX; 1 end"),
+            (".EE x", "2 example EE; 1 end"),
+        ],
+    );
 }
 
 #[test]
 fn words_in_one_font(rt: HostRuntime) {
-    for (text, want) in [
-        (".B", "2 scope B; 1 end"),
-        (".B  ", "2 scope B; 1 end"),
-        (".B a b", "2 fonts B; 4 word a; 6 word b; 2 fonts; 1 filled"),
-        (
-            ".B \"a b\"c \"d",
-            "2 fonts B; 5 word \"a b\"; 9 word c; 12 word \"d; 2 fonts; 1 filled",
-        ),
-        (".B \"\"", "2 fonts B; 5 word \"\"; 2 fonts; 1 filled"),
-        (".I", "2 scope I; 1 end"),
-        (".I a", "2 fonts I; 4 word a; 2 fonts; 1 filled"),
-        (".SM", "2 scope SM; 1 end"),
-        (".SM a", "2 fonts R; 5 word a; 2 fonts; 1 filled"),
-        (".SB", "2 scope SB; 1 end"),
-        (".SB a\\ b", "2 fonts B; 5 word a\\ b; 2 fonts; 1 filled"),
-    ] {
-        check_macro(&rt, text, want);
-    }
+    check_macros(
+        &rt,
+        &[
+            (".B", "2 scope B; 1 end"),
+            (".B  ", "2 scope B; 1 end"),
+            (".B a b", "2 fonts B; 4 word a; 6 word b; 2 fonts; 1 filled"),
+            (
+                ".B \"a b\"c \"d",
+                "2 fonts B; 5 word \"a b\"; 9 word c; 12 word \"d; 2 fonts; 1 filled",
+            ),
+            (".B \"\"", "2 fonts B; 5 word \"\"; 2 fonts; 1 filled"),
+            (".I", "2 scope I; 1 end"),
+            (".I a", "2 fonts I; 4 word a; 2 fonts; 1 filled"),
+            (".SM", "2 scope SM; 1 end"),
+            (".SM a", "2 fonts R; 5 word a; 2 fonts; 1 filled"),
+            (".SB", "2 scope SB; 1 end"),
+            (".SB a\\ b", "2 fonts B; 5 word a\\ b; 2 fonts; 1 filled"),
+        ],
+    );
 }
 
 #[test]
 fn words_in_two_fonts(rt: HostRuntime) {
-    for (text, want) in [
-        (".BI", "2 note empty BI; 1 end"),
-        (".BI a", "5 word B a; 1 filled"),
-        (".BI a b", "5 word B a; 7 +word I b; 1 filled"),
-        (
-            ".BR a b c d",
-            "5 word B a; 7 +word R b; 9 +word B c; 11 +word R d; 1 filled",
-        ),
-        (
-            ".IB \"a b\" \"c",
-            "6 word I \"a b\"; 12 +word B \"c; 1 filled",
-        ),
-        (".IR a b", "5 word I a; 7 +word R b; 1 filled"),
-        (".RB a b", "5 word R a; 7 +word B b; 1 filled"),
-        (".RI a b", "5 word R a; 7 +word I b; 1 filled"),
-        (".RI", "2 note empty RI; 1 end"),
-    ] {
-        check_macro(&rt, text, want);
-    }
+    check_macros(
+        &rt,
+        &[
+            (".BI", "2 note empty BI; 1 end"),
+            (".BI a", "5 word B a; 1 filled"),
+            (".BI a b", "5 word B a; 7 +word I b; 1 filled"),
+            (
+                ".BR a b c d",
+                "5 word B a; 7 +word R b; 9 +word B c; 11 +word R d; 1 filled",
+            ),
+            (
+                ".IB \"a b\" \"c",
+                "6 word I \"a b\"; 12 +word B \"c; 1 filled",
+            ),
+            (".IR a b", "5 word I a; 7 +word R b; 1 filled"),
+            (".RB a b", "5 word R a; 7 +word B b; 1 filled"),
+            (".RI a b", "5 word R a; 7 +word I b; 1 filled"),
+            (".RI", "2 note empty RI; 1 end"),
+        ],
+    );
 }
 
 #[test]
 fn links(rt: HostRuntime) {
-    for (text, want) in [
-        (".UR", "2 note empty UR; 1 end"),
-        (".UR u v", "2 close lines; 2 open UR u; 1 end"),
-        (
-            ".UR \"u",
-            "2 close lines; 5 note! quote; 2 open UR \"u; 1 end",
-        ),
-        (".UE", "2 close lines; 2 close UE; 1 end"),
-        (".UE .", "2 close lines; 2 close UE .; 1 end"),
-        (".UE \"x", "2 close lines; 2 close UE \"x; 1 end"),
-        (
-            ".UE . \"x",
-            "2 close lines; 7 note quote; 2 close UE .; 1 end",
-        ),
-        (".MT", "2 note empty MT; 1 end"),
-        (".MT a@b", "2 close lines; 2 open MT a@b; 1 end"),
-        (".ME", "2 close lines; 2 close ME; 1 end"),
-        (".ME , x", "2 close lines; 2 close ME ,; 1 end"),
-    ] {
-        check_macro(&rt, text, want);
-    }
+    check_macros(
+        &rt,
+        &[
+            (".UR", "2 note empty UR; 1 end"),
+            (".UR u v", "2 close lines; 2 open UR u; 1 end"),
+            (
+                ".UR \"u",
+                "2 close lines; 5 note! quote; 2 open UR \"u; 1 end",
+            ),
+            (".UE", "2 close lines; 2 close UE; 1 end"),
+            (".UE .", "2 close lines; 2 close UE .; 1 end"),
+            (".UE \"x", "2 close lines; 2 close UE \"x; 1 end"),
+            (
+                ".UE . \"x",
+                "2 close lines; 7 note quote; 2 close UE .; 1 end",
+            ),
+            (".MT", "2 note empty MT; 1 end"),
+            (".MT a@b", "2 close lines; 2 open MT a@b; 1 end"),
+            (".ME", "2 close lines; 2 close ME; 1 end"),
+            (".ME , x", "2 close lines; 2 close ME ,; 1 end"),
+        ],
+    );
 }
 
 #[test]
 fn commands(rt: HostRuntime) {
-    for (text, want) in [
-        (".SY", "2 note empty SY; 1 end"),
-        (".SY n x", "2 close lines; 2 open SY n; 1 end"),
-        (".SY \"n", "2 close lines; 2 open SY \"n; 1 end"),
-        (
-            ".SY n \"x",
-            "2 close lines; 7 note! quote; 2 open SY n; 1 end",
-        ),
-        (".YS", "2 close lines; 2 close YS; 1 end"),
-        (".YS \"x", "2 close lines; 5 note quote; 2 close YS; 1 end"),
-        (".OP", "2 note empty OP; 1 end"),
-        (".OP k", "2 mark+ [; 5 word B k; 2 +mark ]; 1 filled"),
-        (
-            ".OP k v",
-            "2 mark+ [; 5 word B k; 7 word I v; 2 +mark ]; 1 filled",
-        ),
-        (
-            ".OP k v \"x",
-            "9 note! quote; 2 mark+ [; 5 word B k; 7 word I v; 2 +mark ]; 1 filled",
-        ),
-        (".OP \"k", "2 mark+ [; 6 word B \"k; 2 +mark ]; 1 filled"),
-    ] {
-        check_macro(&rt, text, want);
-    }
+    check_macros(
+        &rt,
+        &[
+            (".SY", "2 note empty SY; 1 end"),
+            (".SY n x", "2 close lines; 2 open SY n; 1 end"),
+            (".SY \"n", "2 close lines; 2 open SY \"n; 1 end"),
+            (
+                ".SY n \"x",
+                "2 close lines; 7 note! quote; 2 open SY n; 1 end",
+            ),
+            (".YS", "2 close lines; 2 close YS; 1 end"),
+            (".YS \"x", "2 close lines; 5 note quote; 2 close YS; 1 end"),
+            (".OP", "2 note empty OP; 1 end"),
+            (".OP k", "2 mark+ [; 5 word B k; 2 +mark ]; 1 filled"),
+            (
+                ".OP k v",
+                "2 mark+ [; 5 word B k; 7 word I v; 2 +mark ]; 1 filled",
+            ),
+            (
+                ".OP k v \"x",
+                "9 note! quote; 2 mark+ [; 5 word B k; 7 word I v; 2 +mark ]; 1 filled",
+            ),
+            (".OP \"k", "2 mark+ [; 6 word B \"k; 2 +mark ]; 1 filled"),
+        ],
+    );
 }
 
 #[test]
 fn references(rt: HostRuntime) {
-    for (text, want) in [
-        (".MR", "2 note empty MR; 1 end"),
-        (".MR n", "5 word I n; 1 filled"),
-        (
-            ".MR n 1",
-            "5 word I n; 2 +mark+ (; 7 word 1; 2 +mark ); 1 filled",
-        ),
-        (
-            ".MR n 1 ,",
-            "5 word I n; 2 +mark+ (; 7 word 1; 2 +mark ); 9 +word ,; 1 filled",
-        ),
-        (
-            ".MR n 1 , \"x",
-            "11 note! quote; 5 word I n; 2 +mark+ (; 7 word 1; 2 +mark ); 9 +word ,; 1 filled",
-        ),
-        (".AT", "2 close lines; 1 end"),
-        (".DT x", "2 close lines; 1 end"),
-        (".UC \"x", "2 close lines; 5 note quote; 1 end"),
-    ] {
-        check_macro(&rt, text, want);
-    }
+    check_macros(
+        &rt,
+        &[
+            (".MR", "2 note empty MR; 1 end"),
+            (".MR n", "5 word I n; 1 filled"),
+            (
+                ".MR n 1",
+                "5 word I n; 2 +mark+ (; 7 word 1; 2 +mark ); 1 filled",
+            ),
+            (
+                ".MR n 1 ,",
+                "5 word I n; 2 +mark+ (; 7 word 1; 2 +mark ); 9 +word ,; 1 filled",
+            ),
+            (
+                ".MR n 1 , \"x",
+                "11 note! quote; 5 word I n; 2 +mark+ (; 7 word 1; 2 +mark ); 9 +word ,; 1 filled",
+            ),
+            (".AT", "2 close lines; 1 end"),
+            (".DT x", "2 close lines; 1 end"),
+            (".UC \"x", "2 close lines; 5 note quote; 1 end"),
+        ],
+    );
 }
 
 #[test]
