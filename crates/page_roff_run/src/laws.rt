@@ -1,0 +1,18 @@
+//! Laws of macros that run.
+
+ghost use Rattle.std.specs.Prelude.{◌≡◌, ℕ, List, ◌++◌, Some, None};
+ghost use Rattle.page_roff_blocks.specs.Run.{At};
+ghost use Rattle.page_roff_run.specs.Languages.{Language, run_page};
+ghost use Rattle.page_roff_run.specs.Machine.{Running, rest_of, next, stands_at};
+
+/// What is still to come of running sources is what comes of them after one step more, down to the end of the page's line.
+pub fn machine_law<S>()
+    ensures step { (l : Language S) (r q : Running S) → next l r ≡ Some q → rest_of l r ≡ rest_of l q }
+    ensures end { (l : Language S) (r : Running S) → next l r ≡ None → rest_of l r ≡ stands_at r }
+{}
+
+/// A page may be cut between any two lines.
+pub fn page_cut_law<S>()
+    ensures { (l : Language S) (above below : List (List ℕ)) (at : At S)
+        → run_page l (above ++ below) at ≡ run_page l below (run_page l above at) }
+{}
