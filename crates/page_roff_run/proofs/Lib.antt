@@ -1,1 +1,3 @@
+pub mod BudgetLemmas
+pub mod KeepLemmas
 pub mod MachineLemmas

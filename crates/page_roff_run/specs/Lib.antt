@@ -1,2 +1,3 @@
+pub mod Budgets
 pub mod Languages
 pub mod Machine

@@ -1,7 +1,9 @@
 //! Laws of macros that run.
 
-ghost use Rattle.std.specs.Prelude.{◌≡◌, ℕ, List, ◌++◌, Some, None};
+ghost use Rattle.std.specs.Prelude.{◌≡◌, ◌≤◌, ℕ, ◌+◌, List, [], ◌∷◌, ◌++◌, Some, None};
 ghost use Rattle.page_roff_blocks.specs.Run.{At};
+ghost use Rattle.page_roff_run.specs.declared.TheConstants.{REREAD};
+ghost use Rattle.page_roff_run.specs.Budgets.{Budgeted, Effects, language};
 ghost use Rattle.page_roff_run.specs.Languages.{Language, run_page};
 ghost use Rattle.page_roff_run.specs.Machine.{Running, rest_of, next, stands_at};
 
@@ -15,4 +17,10 @@ pub fn machine_law<S>()
 pub fn page_cut_law<S>()
     ensures { (l : Language S) (above below : List (List ℕ)) (at : At S)
         → run_page l (above ++ below) at ≡ run_page l below (run_page l above at) }
+{}
+
+/// A source line takes no more than itself and its budget, whatever its macros and remainders do.
+pub fn budget_law<R>()
+    ensures { (e : Effects R) (line : List ℕ) (at : At (Budgeted R))
+        → (run_page (language e) (line ∷ []) at).state.taken ≤ at.state.taken + 1 + REREAD }
 {}

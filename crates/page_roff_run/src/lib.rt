@@ -3,7 +3,10 @@
 
 mod laws;
 
-pub use laws::{machine_law, page_cut_law};
+pub use laws::{budget_law, machine_law, page_cut_law};
 
 /// The macros that run inside one another.
 pub const CALLS: usize = 16;
+
+/// The re-read lines of one source line: lines of running macros, and remainders that are run.
+pub const REREAD: usize = 1_000;
