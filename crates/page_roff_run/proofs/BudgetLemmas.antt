@@ -1,13 +1,13 @@
 -- What a source line takes of its budget: helpers of proofs.
-use Rattle.std.proofs.Common.{◌≡◌, ℕ, zero, suc, ◌+◌, ◌≤◌, Bool, true, false, ◌&&◌, not, List, [], ◌∷◌, Option, Some, None, refl, sym, subst, arith}
+use Rattle.std.proofs.Common.{ℕ, zero, suc, ◌+◌, ◌≤◌, Bool, true, false, List, [], ◌∷◌, Option, Some, None, sym, subst, arith}
 use Rattle.page_roff_blocks.specs.Atoms.{atoms}
 use Rattle.page_roff_blocks.specs.Regions.{is_ending}
 use Rattle.page_roff_blocks.specs.Levels.{Levels, at_line, Opened, first_place}
-use Rattle.page_roff_blocks.specs.Run.{Meaning, At, run_lines}
-use Rattle.page_roff_blocks.specs.Steps.{step_parts, step_inside, step_from, step, step_lines}
+use Rattle.page_roff_blocks.specs.Run.{At, run_lines}
+use Rattle.page_roff_blocks.specs.Steps.{step_inside, step_from, step, step_lines}
 use Rattle.page_roff_blocks.proofs.FoldLemmas.{run_is_steps}
 use Rattle.page_roff_run.specs.declared.TheConstants.{REREAD, CALLS}
-use Rattle.page_roff_run.specs.Languages.{Kind, page, body, Done, gives, calls, Language, finish_at, call_with, gives_at, meaning_at, run_page}
+use Rattle.page_roff_run.specs.Languages.{Kind, page, body, Done, gives, calls, finish_at, call_with, gives_at, meaning_at, run_page}
 use Rattle.page_roff_run.specs.Budgets.{Budgeted, Effects, with_rest, charge_by, charge, begin_line, whether_run, meet, test, unopened_by, read_line, end_line, meaning, done_with, language}
 use Rattle.page_roff_run.proofs.KeepLemmas.{KeepsParts, KeepsLines, parts_keep, run_keeps}
 

@@ -1,3 +1,4 @@
 pub mod BudgetLemmas
+pub mod FrontLemmas
 pub mod KeepLemmas
 pub mod MachineLemmas

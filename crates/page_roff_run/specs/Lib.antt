@@ -1,3 +1,4 @@
 pub mod Budgets
+pub mod Fronts
 pub mod Languages
 pub mod Machine

@@ -4,6 +4,7 @@ ghost use Rattle.std.specs.Prelude.{◌≡◌, ◌≤◌, ℕ, ◌+◌, List, []
 ghost use Rattle.page_roff_blocks.specs.Run.{At};
 ghost use Rattle.page_roff_run.specs.declared.TheConstants.{REREAD};
 ghost use Rattle.page_roff_run.specs.Budgets.{Budgeted, Effects, language};
+ghost use Rattle.page_roff_run.specs.Fronts.{over, over_running, IsFront};
 ghost use Rattle.page_roff_run.specs.Languages.{Language, run_page};
 ghost use Rattle.page_roff_run.specs.Machine.{Running, rest_of, next, stands_at};
 
@@ -23,4 +24,10 @@ pub fn page_cut_law<S>()
 pub fn budget_law<R>()
     ensures { (e : Effects R) (line : List ℕ) (at : At (Budgeted R))
         → (run_page (language e) (line ∷ []) at).state.taken ≤ at.state.taken + 1 + REREAD }
+{}
+
+/// What nothing of a source looks at, as what was given out before, stays as it is in front of all that is still to come.
+pub fn front_law<S>()
+    ensures { (l : Language S) (front : S → S) → IsFront front l → (r : Running S)
+        → rest_of l (over_running front r) ≡ over front (rest_of l r) }
 {}
