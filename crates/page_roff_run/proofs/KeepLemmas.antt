@@ -40,7 +40,7 @@ module _ {S : Type 0} (m : Meaning S) (P : S → Type 0) (k : KeepsParts m P) wh
   meet_keeps First s h = k.meets false s h
   meet_keeps Remainder s h = k.meets true s h
 
-  met_keeps : (spot : Spot) (s : S) → P s → P (met m spot s).1
+  pub met_keeps : (spot : Spot) (s : S) → P s → P (met m spot s).1
   unfolding met
   met_keeps spot s h = meet_keeps (reached spot) s h
 
@@ -55,7 +55,7 @@ module _ {S : Type 0} (m : Meaning S) (P : S → Type 0) (k : KeepsParts m P) wh
   leaf_keeps true text s h = k.gives text s h
   leaf_keeps false text s h = h
 
-  guard_keeps : (is_met : Bool) (h : Head (List ℕ)) (spot : Spot) (s : S) → P s → P (guard_met m is_met h spot s).1
+  pub guard_keeps : (is_met : Bool) (h : Head (List ℕ)) (spot : Spot) (s : S) → P s → P (guard_met m is_met h spot s).1
   unfolding guard_met guard_with
   guard_keeps true h spot s p = value_keeps h.branch spot.levels.bit s p
   guard_keeps false h spot s p = p
@@ -66,14 +66,14 @@ module _ {S : Type 0} (m : Meaning S) (P : S → Type 0) (k : KeepsParts m P) wh
   refuse_keeps Skips h s p = p
   refuse_keeps Exceeds h s p = k.refuses h s p
 
-  block_keeps : (is_met : Bool) (h : Head (List ℕ)) (spot : Spot) (s : S) → P s → P (block_met m is_met h spot s).1
+  pub block_keeps : (is_met : Bool) (h : Head (List ℕ)) (spot : Spot) (s : S) → P s → P (block_met m is_met h spot s).1
   unfolding block_met block_with
   block_keeps true h spot s p =
       let v = value m h.branch spot.levels.bit s in
       refuse_keeps (way_of v.0 (length spot.levels.outer)) h v.1 (value_keeps h.branch spot.levels.bit s p)
   block_keeps false h spot s p = p
 
-  unopened_keeps : (is_open : Bool) (s : S) → P s → P (unopened_if m is_open s)
+  pub unopened_keeps : (is_open : Bool) (s : S) → P s → P (unopened_if m is_open s)
   unfolding unopened_if
   unopened_keeps true s h = h
   unopened_keeps false s h = k.unopened s h

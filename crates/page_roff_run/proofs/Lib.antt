@@ -2,3 +2,4 @@ pub mod BudgetLemmas
 pub mod FrontLemmas
 pub mod KeepLemmas
 pub mod MachineLemmas
+pub mod MeasureLemmas

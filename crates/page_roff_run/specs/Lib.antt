@@ -2,3 +2,4 @@ pub mod Budgets
 pub mod Fronts
 pub mod Languages
 pub mod Machine
+pub mod Measures

@@ -1,11 +1,12 @@
 //! Laws of macros that run.
 
-ghost use Rattle.std.specs.Prelude.{◌≡◌, ◌≤◌, ℕ, ◌+◌, List, [], ◌∷◌, ◌++◌, Some, None};
+ghost use Rattle.std.specs.Prelude.{◌≡◌, ◌≤◌, ℕ, suc, ◌+◌, List, [], ◌∷◌, ◌++◌, Some, None};
 ghost use Rattle.page_roff_blocks.specs.Run.{At};
 ghost use Rattle.page_roff_run.specs.declared.TheConstants.{REREAD};
 ghost use Rattle.page_roff_run.specs.Budgets.{Budgeted, Effects, language};
 ghost use Rattle.page_roff_run.specs.Fronts.{over, over_running, IsFront};
 ghost use Rattle.page_roff_run.specs.Languages.{Language, run_page};
+ghost use Rattle.page_roff_run.specs.Measures.{measure, HasMeasure, HasBodiesWithin};
 ghost use Rattle.page_roff_run.specs.Machine.{Running, rest_of, next, stands_at};
 
 /// What is still to come of running sources is what comes of them after one step more, down to the end of the page's line.
@@ -30,4 +31,10 @@ pub fn budget_law<R>()
 pub fn front_law<S>()
     ensures { (l : Language S) (front : S → S) → IsFront front l → (r : Running S)
         → rest_of l (over_running front r) ≡ over front (rest_of l r) }
+{}
+
+/// Sources that are run end: each step leaves less work, where bodies of macros are bounded.
+pub fn measure_law<R>()
+    ensures { (e : Effects R) (huge : ℕ) → HasBodiesWithin huge e → (r q : Running (Budgeted R)) → HasMeasure r
+        → next (language e) r ≡ Some q → (suc (measure huge q) ≤ measure huge r) × HasMeasure q }
 {}
