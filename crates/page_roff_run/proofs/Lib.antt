@@ -3,3 +3,4 @@ pub mod FrontLemmas
 pub mod KeepLemmas
 pub mod MachineLemmas
 pub mod MeasureLemmas
+pub mod SpendLemmas

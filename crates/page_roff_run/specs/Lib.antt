@@ -3,3 +3,4 @@ pub mod Fronts
 pub mod Languages
 pub mod Machine
 pub mod Measures
+pub mod Spending

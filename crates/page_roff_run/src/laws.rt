@@ -1,12 +1,13 @@
 //! Laws of macros that run.
 
-ghost use Rattle.std.specs.Prelude.{◌≡◌, ◌≤◌, ℕ, suc, ◌+◌, List, [], ◌∷◌, ◌++◌, Some, None};
+ghost use Rattle.std.specs.Prelude.{◌≡◌, ◌≤◌, ℕ, suc, ◌+◌, ◌*◌, List, [], ◌∷◌, ◌++◌, Some, None};
 ghost use Rattle.page_roff_blocks.specs.Run.{At};
 ghost use Rattle.page_roff_run.specs.declared.TheConstants.{REREAD};
 ghost use Rattle.page_roff_run.specs.Budgets.{Budgeted, Effects, language};
 ghost use Rattle.page_roff_run.specs.Fronts.{over, over_running, IsFront};
 ghost use Rattle.page_roff_run.specs.Languages.{Language, run_page};
 ghost use Rattle.page_roff_run.specs.Measures.{measure, HasMeasure, HasBodiesWithin};
+ghost use Rattle.page_roff_run.specs.Spending.{Spends};
 ghost use Rattle.page_roff_run.specs.Machine.{Running, rest_of, next, stands_at};
 
 /// What is still to come of running sources is what comes of them after one step more, down to the end of the page's line.
@@ -37,4 +38,12 @@ pub fn front_law<S>()
 pub fn measure_law<R>()
     ensures { (e : Effects R) (huge : ℕ) → HasBodiesWithin huge e → (r q : Running (Budgeted R)) → HasMeasure r
         → next (language e) r ≡ Some q → (suc (measure huge q) ≤ measure huge r) × HasMeasure q }
+{}
+
+/// What lines spend, as interpolations, lies within so much for each line that they take.
+pub fn spending_law<R>()
+    ensures { (spent : R → ℕ) (most : ℕ) (e : Effects R) → Spends spent most e
+        → (lines : List (List ℕ)) (at : At (Budgeted R))
+        → let after = run_page (language e) lines at in
+        spent after.state.rest + most * at.state.taken ≤ most * after.state.taken + spent at.state.rest }
 {}
