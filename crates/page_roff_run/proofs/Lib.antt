@@ -4,3 +4,4 @@ pub mod KeepLemmas
 pub mod MachineLemmas
 pub mod MeasureLemmas
 pub mod SpendLemmas
+pub mod DepthLemmas

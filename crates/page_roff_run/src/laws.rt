@@ -1,8 +1,8 @@
 //! Laws of macros that run.
 
-ghost use Rattle.std.specs.Prelude.{◌≡◌, ◌≤◌, ℕ, suc, ◌+◌, ◌*◌, List, [], ◌∷◌, ◌++◌, Some, None};
+ghost use Rattle.std.specs.Prelude.{◌≡◌, ◌≤◌, ℕ, suc, ◌+◌, ◌*◌, List, [], ◌∷◌, ◌++◌, length, Some, None};
 ghost use Rattle.page_roff_blocks.specs.Run.{At};
-ghost use Rattle.page_roff_run.specs.declared.TheConstants.{REREAD};
+ghost use Rattle.page_roff_run.specs.declared.TheConstants.{CALLS, REREAD};
 ghost use Rattle.page_roff_run.specs.Budgets.{Budgeted, Effects, language};
 ghost use Rattle.page_roff_run.specs.Fronts.{over, over_running, IsFront};
 ghost use Rattle.page_roff_run.specs.Languages.{Language, run_page};
@@ -46,4 +46,10 @@ pub fn spending_law<R>()
         → (lines : List (List ℕ)) (at : At (Budgeted R))
         → let after = run_page (language e) lines at in
         spent after.state.rest + most * at.state.taken ≤ most * after.state.taken + spent at.state.rest }
+{}
+
+/// No more than so many macros run inside one another.
+pub fn calls_law<S>()
+    ensures { (l : Language S) (r q : Running S) → length r.under ≤ CALLS → next l r ≡ Some q
+        → length q.under ≤ CALLS }
 {}

@@ -3,7 +3,9 @@
 
 mod laws;
 
-pub use laws::{budget_law, front_law, machine_law, measure_law, page_cut_law, spending_law};
+pub use laws::{
+    budget_law, calls_law, front_law, machine_law, measure_law, page_cut_law, spending_law,
+};
 
 /// The macros that run inside one another.
 pub const CALLS: usize = 16;
