@@ -1,0 +1,7 @@
+pub mod BudgetLemmas
+pub mod FrontLemmas
+pub mod KeepLemmas
+pub mod MachineLemmas
+pub mod MeasureLemmas
+pub mod SpendLemmas
+pub mod DepthLemmas

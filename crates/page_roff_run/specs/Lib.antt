@@ -1,0 +1,6 @@
+pub mod Budgets
+pub mod Fronts
+pub mod Languages
+pub mod Machine
+pub mod Measures
+pub mod Spending
