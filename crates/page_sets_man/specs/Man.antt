@@ -194,7 +194,7 @@ abbrev pub break_events : ℕ → ℕ → Bool → List (Event (List ℕ))
 break_events number column true = event_at number column (deeds.Close closers.Line) ∷ []
 break_events number column false = []
 
--- the quote that an argument lacks, which is told ahead
+-- the quote of an argument that lacks its last one, which is told ahead
 abbrev pub quote_at : Bool → Option ℕ → Option Quote
 quote_at begins_body None = None
 quote_at begins_body (Some column) = Some (record { column = column; begins_body = begins_body })
@@ -224,7 +224,7 @@ last_events number column lasts.Nothing = []
 last_events number column lasts.FontEnds = event_at number column (deeds.Leaf (leaves.Fonts None)) ∷ []
 last_events number column (lasts.Mark own) = mark number column own Glued Apart ∷ []
 
--- a macro with its arguments: it breaks line scopes, a quote that lacks is told, it does what it does, opens a line scope, and has its words;
+-- a macro with its arguments: it breaks line scopes, a missing quote is told, it has its effect, opens a line scope, and gives its words;
 -- where it has words, the line fills line scopes
 abbrev pub macro_events : ℕ → ℕ → Row → List ℕ → List (Argument (List ℕ)) → List (Event (List ℕ))
 macro_events number column row rest arguments =

@@ -30,7 +30,7 @@ use Rattle.page_sets_man.specs.declared.words.Step.{Step}
 use Rattle.page_sets_man.specs.Rows.{row_of}
 use Rattle.page_sets_man.specs.Man.{effect_deed, missing_quote, line_scope, has_words, words_events, break_events, quote_events, deed_events, scope_events, last_events}
 
--- what comes first, beside a break and a quote that lacks
+-- what comes first, after a break and a missing quote
 abbrev pub front_deed : Front → Line → ℕ → Option (Deed (List ℕ))
 front_deed fronts.Nothing line rest = None
 front_deed fronts.Plain line rest = Some (line_deed line.form line.text)

@@ -27,7 +27,7 @@ pub(crate) struct Quote {
     pub(crate) begins_body: bool,
 }
 
-/// What comes first, beside a break and a quote that lacks.
+/// What comes first, after a break and a missing quote.
 #[derive(Clone, Copy)]
 pub(crate) enum Front {
     Nothing,
@@ -84,7 +84,7 @@ fn event_at<'a>(number: u32, column: u32, deed: Deed<&'a [u8]>) -> Event<&'a [u8
     }
 }
 
-// The message about a quote that lacks.
+// The message about a missing last quote.
 fn quote_deed<'a>(quote: Quote) -> Deed<&'a [u8]>
     ensures { deed_seen result ≡ man.quote_deed quote }
 {
@@ -130,7 +130,7 @@ fn quote_at(begins_body: bool, column: Option<u32>) -> Option<Quote>
     }
 }
 
-// The quote that is told ahead, if one of the arguments that begin after so many bytes lacks one.
+// The quote that is told ahead, if one of the arguments that begin after so many bytes lacks its last one.
 fn missing_quote(quotes: Quotes, text: &[u8], start: usize) -> Option<Quote>
     requires short { length text.now ≤ LINE }
     requires within { start ≤ length text.now }
