@@ -1,0 +1,4 @@
+pub mod Settings
+pub mod Contexts
+pub mod Margins
+pub mod Begins
