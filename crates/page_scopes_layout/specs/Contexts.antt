@@ -1,12 +1,30 @@
 -- The context of a text, and what stays of it after a scope. Source: man(7), "MACRO OVERVIEW".
-use Rattle.std.specs.Prelude.{Bool, true, false, ◌||◌, if◌then◌else◌}
+use Rattle.std.specs.Prelude.{ℕ, Option, None, ℤ, pos, Bool, true, false, ◌||◌, if◌then◌else◌}
 use Rattle.page_sets_lines.specs.declared.openers.LineOpener.{LineOpener}
 use Rattle.page_sets_lines.specs.declared.openers.LineOpener.TheVariants as lines
 use Rattle.page_scopes_tree.specs.declared.labels.Explicit.TheVariants.{RelativeMargin}
 use Rattle.page_scopes_tree.specs.declared.labels.Label.{Label}
 use Rattle.page_scopes_tree.specs.declared.labels.Label.TheVariants as labels
-use Rattle.page_scopes_layout.specs.Settings.{left}
+use Rattle.page_scopes_layout.specs.Settings.{left, at_first}
+use Rattle.page_scopes_layout.specs.declared.TheConstants.{INDENT}
 use Rattle.page_scopes_layout.specs.declared.contexts.Context.{Context}
+use Rattle.page_scopes_layout.specs.declared.contexts.Part.TheVariants.{Text}
+use Rattle.page_scopes_words.specs.Fonts.{roman_fonts}
+
+-- before the first line of a page: at its indent, filled, in R
+abbrev pub start : ℕ → Context
+start indent = record {
+  margin = indent;
+  indent = pos 0;
+  first = None;
+  has_row = true;
+  part = Text;
+  prevailing = INDENT;
+  fonts = at_first roman_fonts;
+  is_literal = at_first false;
+  shift = at_first (pos 0);
+  distance = at_first 1;
+}
 
 -- the prevailing indent holds up to the end of its relative margin or section
 abbrev pub owns_indent : Label → Bool

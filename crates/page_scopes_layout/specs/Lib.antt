@@ -2,3 +2,4 @@ pub mod Settings
 pub mod Contexts
 pub mod Margins
 pub mod Begins
+pub mod Nodes

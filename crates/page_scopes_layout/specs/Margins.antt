@@ -8,7 +8,7 @@ use Rattle.page_scopes_layout.specs.declared.margins.Margins.{Margins}
 
 -- a margin is held to 0 to 1000 columns
 abbrev pub hold : ℤ → ℕ
-hold columns = if int_lt columns (pos 0) then 0 else if int_lt (pos 1000) columns then MARGIN else nat_abs columns
+hold columns = if int_lt columns (pos 0) then 0 else if int_lt (pos MARGIN) columns then MARGIN else nat_abs columns
 
 -- the text of a paragraph stands its indent further in, and the shift of `in`
 abbrev pub rest_margin : Context → ℕ

@@ -2,6 +2,10 @@
 use Rattle.std.specs.Prelude.{Bool, true, false, if◌then◌else◌}
 use Rattle.page_scopes_layout.specs.declared.settings.Setting.{Setting}
 
+-- a value that nothing has set yet
+abbrev pub at_first : {T : Type 0} → T → Setting T
+at_first value = record { value = value; is_set = false }
+
 abbrev pub set_to : {T : Type 0} → T → Setting T
 set_to value = record { value = value; is_set = true }
 

@@ -3,9 +3,9 @@
 ghost use Rattle.std.specs.Prelude.{◌≡◌};
 ghost use Rattle.page_scopes_layout.specs.Contexts as contexts;
 
-use crate::Setting;
+use crate::{INDENT, Setting};
 use page_scopes_tree::{Explicit, Label};
-use page_scopes_words::Fonts;
+use page_scopes_words::{Fonts, ROMAN};
 use page_sets_lines::LineOpener;
 
 /// What part of a page a text is.
@@ -39,6 +39,26 @@ pub struct Context {
     pub shift: Setting<i32>,
     /// The blank rows before a paragraph.
     pub distance: Setting<u32>,
+}
+
+impl Context {
+    /// The context of a page before its first line, where the page has this indent in columns.
+    pub fn start(indent: u32) -> Context
+        ensures { result ≡ contexts.start indent }
+    {
+        Context {
+            margin: indent,
+            indent: 0,
+            first: None,
+            has_row: true,
+            part: Part::Text,
+            prevailing: INDENT,
+            fonts: Setting::at_first(ROMAN),
+            is_literal: Setting::at_first(false),
+            shift: Setting::at_first(0),
+            distance: Setting::at_first(1),
+        }
+    }
 }
 
 // Whether the prevailing indent ends with a scope.

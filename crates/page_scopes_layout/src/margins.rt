@@ -1,6 +1,6 @@
 //! The margins of rows (man(7)).
 
-ghost use Rattle.std.specs.Prelude.{◌≡◌, ◌≤ℤ◌, ◌+ℤ◌, pos, negsuc, ◌≤◌};
+ghost use Rattle.std.specs.Prelude.{◌≡◌};
 ghost use Rattle.page_scopes_layout.specs.Margins as margins;
 
 use crate::{Context, MARGIN, Part};
@@ -18,7 +18,7 @@ pub fn hold(columns: i64) -> u32
 {
     if columns < 0 {
         0
-    } else if columns > 1_000 {
+    } else if columns > i64::from(MARGIN) {
         MARGIN
     } else {
         columns as u32

@@ -24,6 +24,16 @@ impl<T: Copy> Clone for Setting<T> {
 }
 
 impl<T: Copy> Setting<T> {
+    /// A value that nothing has set yet.
+    pub fn at_first(value: T) -> Setting<T>
+        ensures { result ≡ settings.at_first value }
+    {
+        Setting {
+            value,
+            is_set: false,
+        }
+    }
+
     /// The value, set to another one.
     pub fn set_to(value: T) -> Setting<T>
         ensures { result ≡ settings.set_to value }
