@@ -7,7 +7,6 @@ mod margins;
 mod nodes;
 mod settings;
 
-
 pub use contexts::{Context, Part, restored};
 pub use margins::{Margins, hold, margins_of};
 pub use nodes::{give_begin, give_end};

@@ -17,5 +17,5 @@ returns c =
     let far : FitsSigned w64 (c.from.result +ℤ c.from-2.result +ℤ c.from-3.result) = omega (arith, ints, c.from.ensures, a, b, indent, shift) in
     let near : FitsSigned w64 (c.from.result +ℤ c.from-2.result) = omega (arith, ints, c.from.ensures, a, indent) in
     let sum : c.from.result +ℤ c.from-2.result +ℤ c.from-3.result ≡ pos context.margin +ℤ context.indent +ℤ context.shift.value =
-      rw (c.from.ensures, a, b) refl in
+    rw (c.from.ensures, a, b) refl in
     c.hold.ensures ∙ ap hold (sum_of_three c.from.result c.from-2.result c.from-3.result fm fi fs near far ∙ sum)
