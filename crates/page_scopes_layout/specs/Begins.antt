@@ -1,0 +1,74 @@
+-- The context in which a scope begins. Source: man(7), "MACRO OVERVIEW".
+use Rattle.std.specs.Prelude.{ℕ, false, Option, None, Some, unwrap_or, ℤ, pos, ◌+ℤ◌}
+use Rattle.page_core_base.specs.declared.cells.Font.{Font}
+use Rattle.page_core_base.specs.declared.cells.Font.TheVariants.{R, B}
+use Rattle.page_scopes_words.specs.Fonts.{roman_fonts, with_font}
+use Rattle.page_scopes_layout.specs.Margins.{hold}
+use Rattle.page_scopes_layout.specs.Settings.{entered, set_to}
+use Rattle.page_scopes_layout.specs.declared.TheConstants.{INDENT}
+use Rattle.page_scopes_layout.specs.declared.contexts.Context.{Context}
+use Rattle.page_scopes_layout.specs.declared.contexts.Part.TheVariants as parts
+
+-- at the front of a scope nothing is set in it yet
+abbrev pub entered_context : Context → Context
+entered_context c = record c {
+  fonts = entered c.fonts;
+  is_literal = entered c.is_literal;
+  shift = entered c.shift;
+  distance = entered c.distance;
+}
+
+-- paragraphs and headings begin in R, without a shift
+abbrev pub reset : Context → Context
+reset c = record c { fonts = set_to roman_fonts; shift = set_to (pos 0) }
+
+-- no paragraph stands further in
+abbrev pub flat : Context → Context
+flat c = record c { indent = pos 0; first = None }
+
+-- a section stands at the page's indent, filled
+abbrev pub section_begun : ℕ → Context → Context
+section_begun indent c = record (flat (reset c)) {
+  margin = indent;
+  part = parts.Text;
+  prevailing = INDENT;
+  is_literal = set_to false;
+}
+
+-- a heading stands at its column, bold
+abbrev pub heading_begun : ℕ → Context → Context
+heading_begun column c = record c {
+  part = parts.Heading column;
+  fonts = record { value = record { font = B; former = R }; is_set = c.fonts.is_set };
+}
+
+abbrev pub paragraph_begun : Context → Context
+paragraph_begun c = record (flat (reset c)) { prevailing = INDENT }
+
+-- an indent that is given prevails from here on
+abbrev pub prevailing_from : Option ℤ → Context → Context
+prevailing_from columns c = record c { prevailing = unwrap_or columns c.prevailing }
+
+-- the text stands the prevailing indent further in
+abbrev pub indented_begun : Option ℤ → Context → Context
+indented_begun columns c = record (flat (reset (prevailing_from columns c))) { indent = unwrap_or columns c.prevailing }
+
+-- the first row stands at the margin
+abbrev pub first_at_margin : Context → Context
+first_at_margin c = record c { first = Some c.margin; has_row = false }
+
+abbrev pub hanging_begun : Option ℤ → Context → Context
+hanging_begun columns c = first_at_margin (indented_begun columns c)
+
+abbrev pub tag_begun : Context → Context
+tag_begun c = record (first_at_margin c) { part = parts.Tag }
+
+-- a font macro's words are in its font; what `\fP` goes back to is the font before them
+abbrev pub font_begun : Font → Context → Context
+font_begun font c = record c { fonts = record { value = with_font font c.fonts.value; is_set = c.fonts.is_set } }
+
+abbrev pub margin_begun : Option ℤ → Context → Context
+margin_begun columns c = record (flat c) {
+  margin = hold (pos c.margin +ℤ unwrap_or columns c.prevailing);
+  prevailing = INDENT;
+}

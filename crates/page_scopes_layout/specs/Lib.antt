@@ -1,0 +1,5 @@
+pub mod Settings
+pub mod Contexts
+pub mod Margins
+pub mod Begins
+pub mod Nodes

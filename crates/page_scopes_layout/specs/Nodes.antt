@@ -1,0 +1,54 @@
+-- What a scope gives where it begins and where it ends, but its words. Source: man(7), "MACRO OVERVIEW".
+use Rattle.std.specs.Prelude.{List, [], ◌∷◌, false}
+use Rattle.page_core_base.specs.Pieces.{Item, shown}
+use Rattle.page_core_base.specs.declared.pieces.Piece.TheVariants as pieces
+use Rattle.page_core_base.specs.declared.pieces.TagForm.TheVariants.{Row}
+use Rattle.page_sets_lines.specs.declared.openers.LineOpener.{LineOpener}
+use Rattle.page_sets_lines.specs.declared.openers.LineOpener.TheVariants as lines
+use Rattle.page_scopes_tree.specs.declared.labels.Explicit.{Explicit}
+use Rattle.page_scopes_tree.specs.declared.labels.Explicit.TheVariants.{RelativeMargin, Target, Syntax}
+use Rattle.page_scopes_tree.specs.declared.labels.Label.{Label}
+use Rattle.page_scopes_tree.specs.declared.labels.Label.TheVariants as labels
+use Rattle.page_scopes_layout.specs.Margins.{hold, margins}
+use Rattle.page_scopes_layout.specs.declared.contexts.Context.{Context}
+
+abbrev pub margin_items : Context → List Item
+margin_items c = shown (pieces.Indent (margins c).first (margins c).rest) ∷ []
+
+-- a tag stands in front of its text, which hangs
+abbrev pub line_begin_items : LineOpener → Context → List Item
+line_begin_items (lines.Heading name) c = margin_items c
+line_begin_items (lines.Tag name) c =
+    shown (pieces.Indent (margins c).first (margins c).rest) ∷ shown (pieces.Tag (hold c.indent) Row) ∷ []
+line_begin_items (lines.FontWords name) c = []
+
+abbrev pub explicit_begin_items : Explicit → Context → List Item
+explicit_begin_items RelativeMargin c = shown pieces.Break ∷ margin_items c
+explicit_begin_items (Target link) c = []
+explicit_begin_items Syntax c = []
+
+-- in the context of a scope's front: a section is a paragraph, and filled; a relative margin breaks the row
+abbrev pub begin_items : Label → Context → List Item
+begin_items labels.Section c = shown (pieces.Para c.distance.value) ∷ shown (pieces.Literal false) ∷ []
+begin_items labels.Subsection c = shown (pieces.Para c.distance.value) ∷ shown (pieces.Literal false) ∷ []
+begin_items labels.Paragraph c = shown (pieces.Para c.distance.value) ∷ margin_items c
+begin_items (labels.Explicit explicit) c = explicit_begin_items explicit c
+begin_items (labels.Line opener) c = line_begin_items opener c
+
+abbrev pub line_end_items : LineOpener → Context → List Item
+line_end_items (lines.Heading name) c = shown pieces.Heading ∷ margin_items c
+line_end_items (lines.Tag name) c = shown pieces.TagEnd ∷ margin_items c
+line_end_items (lines.FontWords name) c = []
+
+abbrev pub explicit_end_items : Explicit → Context → List Item
+explicit_end_items RelativeMargin c = shown pieces.Break ∷ margin_items c
+explicit_end_items (Target link) c = []
+explicit_end_items Syntax c = shown pieces.Break ∷ margin_items c
+
+-- in the context after a scope: its margins hold again
+abbrev pub end_items : Label → Context → List Item
+end_items labels.Section c = margin_items c
+end_items labels.Subsection c = margin_items c
+end_items labels.Paragraph c = margin_items c
+end_items (labels.Explicit explicit) c = explicit_end_items explicit c
+end_items (labels.Line opener) c = line_end_items opener c

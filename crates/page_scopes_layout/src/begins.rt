@@ -1,0 +1,162 @@
+//! The context in which a scope begins (man(7)).
+
+ghost use Rattle.std.specs.Prelude.{◌≡◌};
+ghost use Rattle.page_scopes_layout.specs.Begins as begins;
+
+use crate::{Context, INDENT, Part, Setting, hold};
+use page_core_base::Font;
+use page_scopes_words::{Fonts, ROMAN};
+
+impl Context {
+    /// The context at the front of a scope: nothing is set in it yet.
+    pub fn entered(self) -> Context
+        ensures { result ≡ begins.entered_context self }
+    {
+        Context {
+            fonts: self.fonts.entered(),
+            is_literal: self.is_literal.entered(),
+            shift: self.shift.entered(),
+            distance: self.distance.entered(),
+            ..self
+        }
+    }
+
+    // Paragraphs and headings begin in R, without a shift.
+    fn reset(self) -> Context
+        ensures { result ≡ begins.reset self }
+    {
+        Context {
+            fonts: Setting::set_to(ROMAN),
+            shift: Setting::set_to(0),
+            ..self
+        }
+    }
+
+    // No paragraph stands further in.
+    fn flat(self) -> Context
+        ensures { result ≡ begins.flat self }
+    {
+        Context {
+            indent: 0,
+            first: None,
+            ..self
+        }
+    }
+
+    /// A section or subsection begins, where the page has this indent in columns.
+    pub fn section_begun(self, indent: u32) -> Context
+        ensures { result ≡ begins.section_begun indent self }
+    {
+        Context {
+            margin: indent,
+            part: Part::Text,
+            prevailing: INDENT,
+            is_literal: Setting::set_to(false),
+            ..self.reset().flat()
+        }
+    }
+
+    /// A heading begins, at a column.
+    pub fn heading_begun(self, column: u32) -> Context
+        ensures { result ≡ begins.heading_begun column self }
+    {
+        Context {
+            part: Part::Heading(column),
+            fonts: Setting {
+                value: Fonts {
+                    font: Font::B,
+                    former: Font::R,
+                },
+                is_set: self.fonts.is_set,
+            },
+            ..self
+        }
+    }
+
+    /// A plain paragraph begins.
+    pub fn paragraph_begun(self) -> Context
+        ensures { result ≡ begins.paragraph_begun self }
+    {
+        Context {
+            prevailing: INDENT,
+            ..self.reset().flat()
+        }
+    }
+
+    // An indent in columns prevails from here on, where one is given.
+    fn prevailing_from(self, columns: Option<i32>) -> Context
+        ensures { result ≡ begins.prevailing_from columns self }
+    {
+        Context {
+            prevailing: columns.unwrap_or(self.prevailing),
+            ..self
+        }
+    }
+
+    /// A paragraph begins whose text stands this many columns, or the prevailing indent, further in.
+    pub fn indented_begun(self, columns: Option<i32>) -> Context
+        ensures { result ≡ begins.indented_begun columns self }
+    {
+        let context = self.prevailing_from(columns).reset().flat();
+        Context {
+            indent: context.prevailing,
+            ..context
+        }
+    }
+
+    // The first row stands at the margin.
+    fn first_at_margin(self) -> Context
+        ensures { result ≡ begins.first_at_margin self }
+    {
+        Context {
+            first: Some(self.margin),
+            has_row: false,
+            ..self
+        }
+    }
+
+    /// The same, but the first row stands at the margin.
+    pub fn hanging_begun(self, columns: Option<i32>) -> Context
+        ensures { result ≡ begins.hanging_begun columns self }
+    {
+        self.indented_begun(columns).first_at_margin()
+    }
+
+    /// A tag begins.
+    pub fn tag_begun(self) -> Context
+        ensures { result ≡ begins.tag_begun self }
+    {
+        Context {
+            part: Part::Tag,
+            ..self.first_at_margin()
+        }
+    }
+
+    /// The words of a font macro begin.
+    pub fn font_begun(self, font: Font) -> Context
+        ensures { result ≡ begins.font_begun font self }
+    {
+        Context {
+            fonts: Setting {
+                value: Fonts {
+                    font,
+                    former: self.fonts.value.font,
+                },
+                is_set: self.fonts.is_set,
+            },
+            ..self
+        }
+    }
+
+    /// A relative margin begins, this many columns, or the prevailing indent, further in.
+    pub fn margin_begun(self, columns: Option<i32>) -> Context
+        ensures { result ≡ begins.margin_begun columns self }
+    {
+        let further = columns.unwrap_or(self.prevailing);
+        Context {
+            margin: hold(i64::from(self.margin) + i64::from(further)),
+            prevailing: INDENT,
+            ..self.flat()
+        }
+    }
+}

@@ -1,0 +1,108 @@
+//! The context of a text (man(7)).
+
+ghost use Rattle.std.specs.Prelude.{◌≡◌};
+ghost use Rattle.page_scopes_layout.specs.Contexts as contexts;
+
+use crate::{INDENT, Setting};
+use page_scopes_tree::{Explicit, Label};
+use page_scopes_words::{Fonts, ROMAN};
+use page_sets_lines::LineOpener;
+
+/// What part of a page a text is.
+#[derive(Clone, Copy, PartialEq, Eq)]
+pub enum Part {
+    /// The text of a section or a paragraph.
+    Text,
+    /// A tag.
+    Tag,
+    /// A heading, at a column.
+    Heading(u32),
+}
+
+/// What a text is laid out by. Columns are counted from the left edge of the page.
+#[derive(Clone, Copy)]
+pub struct Context {
+    /// The margin of the section or the relative margin, up to [`MARGIN`](crate::MARGIN).
+    pub margin: u32,
+    /// How much further in the open paragraph's text stands.
+    pub indent: i32,
+    /// The margin of the paragraph's first row, where it has one of its own.
+    pub first: Option<u32>,
+    /// A row has begun since that was set.
+    pub has_row: bool,
+    pub part: Part,
+    /// The indent of paragraphs that give none.
+    pub prevailing: i32,
+    pub fonts: Setting<Fonts>,
+    pub is_literal: Setting<bool>,
+    /// What `in` adds to all margins.
+    pub shift: Setting<i32>,
+    /// The blank rows before a paragraph.
+    pub distance: Setting<u32>,
+}
+
+impl Context {
+    /// The context of a page before its first line, where the page has this indent in columns.
+    pub fn start(indent: u32) -> Context
+        ensures { result ≡ contexts.start indent }
+    {
+        Context {
+            margin: indent,
+            indent: 0,
+            first: None,
+            has_row: true,
+            part: Part::Text,
+            prevailing: INDENT,
+            fonts: Setting::at_first(ROMAN),
+            is_literal: Setting::at_first(false),
+            shift: Setting::at_first(0),
+            distance: Setting::at_first(1),
+        }
+    }
+}
+
+// Whether the prevailing indent ends with a scope.
+fn owns_indent(label: Label) -> bool
+    ensures { result ≡ contexts.owns_indent label }
+{
+    match label {
+        Label::Section | Label::Subsection | Label::Explicit(Explicit::RelativeMargin) => true,
+        _ => false,
+    }
+}
+
+// Whether a scope leaves the fonts as they were before it.
+fn guards_fonts(label: Label) -> bool
+    ensures { result ≡ contexts.guards_fonts label }
+{
+    match label {
+        Label::Line(LineOpener::Heading(_) | LineOpener::FontWords(_)) => true,
+        _ => false,
+    }
+}
+
+/// The context after a scope: that before it, but for what was set inside for good.
+pub fn restored(label: Label, before: Context, now: Context) -> Context
+    ensures { result ≡ contexts.restored label before now }
+{
+    Context {
+        margin: before.margin,
+        indent: before.indent,
+        first: before.first,
+        has_row: before.has_row || now.has_row,
+        part: before.part,
+        prevailing: if owns_indent(label) {
+            before.prevailing
+        } else {
+            now.prevailing
+        },
+        fonts: if guards_fonts(label) {
+            before.fonts
+        } else {
+            now.fonts.left(before.fonts)
+        },
+        is_literal: now.is_literal.left(before.is_literal),
+        shift: now.shift.left(before.shift),
+        distance: now.distance.left(before.distance),
+    }
+}

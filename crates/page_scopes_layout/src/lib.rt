@@ -1,0 +1,19 @@
+//! Contexts: what the texts of a page are laid out by, what each scope begins with and gives but its words, and what stays after it (man(7)).
+#![tactic(auto)]
+
+mod begins;
+mod contexts;
+mod margins;
+mod nodes;
+mod settings;
+
+pub use contexts::{Context, Part, restored};
+pub use margins::{Margins, hold, margins_of};
+pub use nodes::{give_begin, give_end};
+pub use settings::Setting;
+
+/// The columns at most of a margin.
+pub const MARGIN: u32 = 1_000;
+
+/// The prevailing indent, in columns, of a section, a relative margin and a plain paragraph.
+pub const INDENT: i32 = 7;

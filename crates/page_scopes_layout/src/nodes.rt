@@ -1,0 +1,92 @@
+//! What a scope gives where it begins and where it ends, but its words (man(7)).
+
+ghost use Rattle.std.specs.Prelude.{◌≡◌, [], ◌∷◌};
+ghost use Rattle.page_core_base.specs.Latches.{Came};
+ghost use Rattle.page_scopes_layout.specs.Nodes as nodes;
+
+use crate::{Context, hold, margins_of};
+use page_core_base::{Piece, PieceOut, TagForm};
+use page_scopes_tree::{Explicit, Label};
+use page_sets_lines::LineOpener;
+
+// Gives the margins of a context.
+fn give_margins<O: PieceOut>(out: &mut O, context: &Context)
+    ensures { Came O.left out.old (nodes.margin_items context.now) out.new }
+{
+    let margins = margins_of(context);
+    out.give(Piece::Indent {
+        first: margins.first,
+        rest: margins.rest,
+    });
+}
+
+// Gives what a line scope begins with.
+fn give_line_begin<O: PieceOut>(out: &mut O, opener: LineOpener, context: &Context)
+    ensures { Came O.left out.old (nodes.line_begin_items opener context.now) out.new }
+{
+    match opener {
+        LineOpener::Heading(_) => give_margins(out, context),
+        LineOpener::Tag(_) => {
+            give_margins(out, context);
+            out.give(Piece::Tag {
+                hang: hold(i64::from(context.indent)),
+                form: TagForm::Row,
+            });
+        }
+        LineOpener::FontWords(_) => {}
+    }
+}
+
+/// Gives what a scope begins with, in the context of its front.
+pub fn give_begin<O: PieceOut>(out: &mut O, label: Label, context: &Context)
+    ensures { Came O.left out.old (nodes.begin_items label context.now) out.new }
+{
+    match label {
+        Label::Section | Label::Subsection => {
+            out.give(Piece::Para(context.distance.value));
+            out.give(Piece::Literal(false));
+        }
+        Label::Paragraph => {
+            out.give(Piece::Para(context.distance.value));
+            give_margins(out, context);
+        }
+        Label::Explicit(Explicit::RelativeMargin) => {
+            out.give(Piece::Break);
+            give_margins(out, context);
+        }
+        Label::Explicit(_) => {}
+        Label::Line(opener) => give_line_begin(out, opener, context),
+    }
+}
+
+// Gives what ends a line scope, and the margins of the context after it.
+fn give_line_end<O: PieceOut>(out: &mut O, opener: LineOpener, context: &Context)
+    ensures { Came O.left out.old (nodes.line_end_items opener context.now) out.new }
+{
+    match opener {
+        LineOpener::Heading(_) => {
+            out.give(Piece::Heading);
+            give_margins(out, context);
+        }
+        LineOpener::Tag(_) => {
+            out.give(Piece::TagEnd);
+            give_margins(out, context);
+        }
+        LineOpener::FontWords(_) => {}
+    }
+}
+
+/// Gives what ends a scope, and the margins of the context after it.
+pub fn give_end<O: PieceOut>(out: &mut O, label: Label, context: &Context)
+    ensures { Came O.left out.old (nodes.end_items label context.now) out.new }
+{
+    match label {
+        Label::Section | Label::Subsection | Label::Paragraph => give_margins(out, context),
+        Label::Explicit(Explicit::RelativeMargin | Explicit::Syntax) => {
+            out.give(Piece::Break);
+            give_margins(out, context);
+        }
+        Label::Explicit(Explicit::Target(_)) => {}
+        Label::Line(opener) => give_line_end(out, opener, context),
+    }
+}

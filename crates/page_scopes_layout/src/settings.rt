@@ -1,0 +1,63 @@
+//! Values that outlive the scope in which a request set them (man(7), roff(7)).
+
+ghost use Rattle.std.specs.Prelude.{◌≡◌};
+ghost use Rattle.page_scopes_layout.specs.Settings as settings;
+
+use std::alloc::AllocError;
+
+/// A value, and whether it was set inside the innermost scope.
+pub struct Setting<T> {
+    pub value: T,
+    pub is_set: bool,
+}
+
+impl<T: Copy> Copy for Setting<T> {}
+
+impl<T: Copy> Clone for Setting<T> {
+    ghost is_clone = { λ x y. y ≡ x };
+
+    ghost is_infallible = { λ _. Unit {0} };
+
+    fn clone(&self) -> Result<Setting<T>, AllocError> {
+        Ok(*self)
+    }
+}
+
+impl<T: Copy> Setting<T> {
+    /// A value that nothing has set yet.
+    pub fn at_first(value: T) -> Setting<T>
+        ensures { result ≡ settings.at_first value }
+    {
+        Setting {
+            value,
+            is_set: false,
+        }
+    }
+
+    /// The value, set to another one.
+    pub fn set_to(value: T) -> Setting<T>
+        ensures { result ≡ settings.set_to value }
+    {
+        Setting {
+            value,
+            is_set: true,
+        }
+    }
+
+    /// The value as a scope begins: nothing is set in it yet.
+    pub fn entered(self) -> Setting<T>
+        ensures { result ≡ settings.entered self }
+    {
+        Setting {
+            value: self.value,
+            is_set: false,
+        }
+    }
+
+    /// The value after a scope: that before it, unless another one was set inside.
+    pub fn left(self, before: Setting<T>) -> Setting<T>
+        ensures { result ≡ settings.left before self }
+    {
+        if self.is_set { self } else { before }
+    }
+}

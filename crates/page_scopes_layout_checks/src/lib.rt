@@ -1,0 +1,5 @@
+//! Tests of contexts, on public calls.
+#![tactic(auto)]
+
+#[cfg(test)]
+mod tests;
