@@ -1,6 +1,6 @@
 -- What an interpolation does, before the rest of the texts: helpers of proofs.
 use Rattle.std.specs.Fmt.{signed_decimal}
-use Rattle.std.proofs.Common.{◌≡◌, ℕ, zero, suc, ◌+◌, ◌-◌, ◌*◌, ◌^◌, ◌<◌, ◌≤◌, Bool, true, false, nat_lt, List, [], ◌∷◌, length, codes, ℤ, Some, None, refl, sym, ap, ◌∙◌, arith}
+use Rattle.std.proofs.Common.{◌≡◌, ℕ, zero, suc, ◌+◌, ◌-◌, ◌*◌, ◌^◌, ◌<◌, ◌≤◌, true, false, nat_lt, List, ◌∷◌, length, codes, ℤ, Some, None, refl, sym, ap, ◌∙◌, arith}
 use Rattle.std.proofs.Math.Nat.{mul-suc, mul-le-mul_left}
 use Rattle.std.proofs.lemmas.Bool.{ltb-true}
 use Rattle.page_core_base.specs.declared.note_kinds.NoteKind.TheVariants.{Loop, UndefString, ArgOutside}
@@ -10,8 +10,8 @@ use Rattle.page_roff_values.specs.declared.parts.Call.{Call}
 use Rattle.page_roff_values.specs.declared.parts.Call.TheVariants.{String, Register, Argument, Width}
 use Rattle.page_roff_values.specs.Arguments.{argument_of}
 use Rattle.page_roff_values.specs.Environments.{Surroundings, register_of}
-use Rattle.page_roff_values.specs.Parts.{parts, without_lone}
-use Rattle.page_roff_values.specs.Values.{Spot, Laid, nothing, join, seq, says, ends, counts, put, charge, width, interpolated, lay, call_at, value}
+use Rattle.page_roff_values.specs.Parts.{without_lone}
+use Rattle.page_roff_values.specs.Values.{Spot, Laid, nothing, join, seq, says, ends, counts, put, charge, width, interpolated, call_at, value}
 use Rattle.page_roff_values.specs.Rest.{HUGE, rest, room_in, size, steps}
 use Rattle.page_roff_values.proofs.LayLemmas.{seq_more, seq_nothing}
 

@@ -1,5 +1,5 @@
 -- How a latch over a sink of messages takes them.
-use Rattle.std.proofs.Common.{◌≡◌, ℕ, List, [], ◌++◌, Option, None, Some, is_some, false, refl, Result, Ok, Err, ◌∙◌, append-nil, sym}
+use Rattle.std.proofs.Common.{◌≡◌, ℕ, List, ◌++◌, Option, None, Some, is_some, false, refl, Result, Ok, Err, ◌∙◌}
 use Rattle.std.specs.Result.{result_err}
 use Rattle.std.specs.Borrow.{GName}
 use Rattle.page_core_base.specs.Fails.{FailsAs, Rose}

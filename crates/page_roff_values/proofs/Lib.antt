@@ -6,6 +6,9 @@ pub mod GoingLemmas
 pub mod LatchLemmas
 pub mod LayLemmas
 pub mod LineLemmas
+pub mod PartTexts
+pub mod PlainTexts
 pub mod ReadLemmas
 pub mod TextLemmas
+pub mod ValueTexts
 pub mod WidthLemmas

@@ -1,6 +1,6 @@
 -- The limits of a line, and a line without a backslash: helpers of proofs.
 use Rattle.std.specs.Fmt.{decimal, signed_decimal}
-use Rattle.std.proofs.Common.{◌≡◌, ℕ, zero, suc, ◌+◌, ◌-◌, ◌<◌, ◌≤◌, Bool, true, false, nat_le, nat_lt, List, [], ◌∷◌, ◌++◌, length, take, get_or, ◌&&◌, codes, if◌then◌else◌, Option, None, Some, refl, sym, ap, ◌∙◌, arith, length-append}
+use Rattle.std.proofs.Common.{◌≡◌, ℕ, zero, suc, ◌-◌, ◌<◌, ◌≤◌, Bool, true, false, nat_le, nat_lt, List, [], ◌∷◌, ◌++◌, length, take, get_or, ◌&&◌, codes, if◌then◌else◌, Option, None, Some, refl, arith, length-append}
 use Rattle.std.proofs.Math.Seq.{drop-length, take-length}
 use Rattle.std.proofs.lemmas.Bool.{le-leb, leb-true, ltb-true}
 use Rattle.memchr.specs.Find.{IsFirstByte, is_byte}
@@ -18,7 +18,7 @@ use Rattle.page_roff_values.specs.declared.parts.Part.TheVariants.{Copied, Calle
 use Rattle.page_roff_values.specs.Arguments.{argument_of}
 use Rattle.page_roff_values.specs.Environments.{Surroundings, register_of}
 use Rattle.page_roff_values.specs.Parts.{copies, seen, parts, parts_up_to, without_lone}
-use Rattle.page_roff_values.specs.Values.{NEST, Spot, Laid, nothing, unless, seq, says, ends, adds, counts, kept, character_end, put, lay, charge, value_or, inside, outside, leaves, units_of, width, interpolated, call_at, value, start, expanded, IsWithin}
+use Rattle.page_roff_values.specs.Values.{Spot, Laid, nothing, unless, seq, says, ends, adds, counts, kept, character_end, put, lay, charge, value_or, inside, leaves, units_of, width, interpolated, call_at, value, start, expanded, IsWithin}
 use Rattle.page_roff_values.proofs.ReadLemmas.{parts_more, plain_part}
 
 unless_within : (b : Bool) (x y : Laid) → IsWithin x.edge → IsWithin y.edge → IsWithin (unless b x y).edge

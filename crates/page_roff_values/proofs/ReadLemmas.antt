@@ -1,13 +1,11 @@
 -- How a text is read: helpers of proofs.
-use Rattle.std.proofs.Common.{◌≡◌, ℕ, zero, suc, ◌+◌, ◌-◌, ◌<◌, ◌≤◌, Bool, true, false, not, ◌&&◌, ◌==◌, nat_eq, List, [], ◌∷◌, ◌++◌, length, get_or, take, drop, slice_range, if◌then◌else◌, Option, None, Some, MatchOption, option_map, unwrap_or, position, refl, sym, ap, ◌∙◌, append-nil, add_assoc, arith, length-drop}
-use Rattle.std.proofs.Math.Seq.{drop-length}
+use Rattle.std.proofs.Common.{◌≡◌, ℕ, zero, suc, ◌+◌, ◌<◌, ◌≤◌, Bool, true, false, not, ◌&&◌, ◌==◌, nat_eq, List, [], ◌∷◌, length, get_or, take, drop, if◌then◌else◌, Option, None, Some, MatchOption, option_map, unwrap_or, position, refl, sym, ap, ◌∙◌, add_assoc, arith, length-drop}
 use Rattle.std.proofs.lemmas.Bool.{eqb-true}
 use Rattle.std.specs.List.{starts_with}
 use Rattle.memchr.specs.Find.{IsFirstByte, is_byte}
 use Rattle.page_roff_values.specs.declared.parts.Call.{Call}
 use Rattle.page_roff_values.specs.declared.parts.Call.TheVariants.{String, Register, Argument, Width}
-use Rattle.page_roff_values.specs.declared.parts.Part.TheVariants.{Copied, Called}
-use Rattle.page_roff_values.specs.Parts.{CutText, SeenText, copies, calls, cut, character_len, two_characters, bracketed, name_cut, further, paired_len, unit_len, content_len, delimited, width_cut, plain, after_plain, argument_call, call_cut, pair, is_doubled, escape, begins_escape, seen, parts_up_to, parts}
+use Rattle.page_roff_values.specs.Parts.{CutText, SeenText, copies, calls, cut, character_len, two_characters, bracketed, name_cut, further, paired_len, unit_len, content_len, width_cut, plain, after_plain, argument_call, call_cut, pair, is_doubled, escape, begins_escape, seen, parts_up_to, parts}
 
 -- ---- copies
 

@@ -1,5 +1,5 @@
 -- What is still to be laid of texts: helpers of proofs.
-use Rattle.std.proofs.Common.{◌≡◌, ℕ, suc, ◌+◌, ◌-◌, ◌<◌, ◌≤◌, Bool, true, false, ◌==◌, List, [], ◌∷◌, ◌++◌, length, map, reverse, refl, sym, ap, ◌∙◌, arith}
+use Rattle.std.proofs.Common.{◌≡◌, ℕ, suc, ◌-◌, ◌<◌, Bool, true, false, ◌==◌, List, [], ◌∷◌, ◌++◌, length, map, reverse, refl, ap, arith}
 use Rattle.std.proofs.lemmas.Bool.{eqb-true}
 use Rattle.std.proofs.lemmas.List.{reverse-append}
 use Rattle.std.specs.Borrow.{Bor}
@@ -7,7 +7,7 @@ use Rattle.page_roff_values.specs.declared.parts.Part.{Part}
 use Rattle.page_roff_values.specs.declared.parts.Part.TheVariants.{Copied, Called}
 use Rattle.page_roff_values.specs.Environments.{Surroundings}
 use Rattle.page_roff_values.specs.Parts.{SeenText, seen, parts, parts_up_to}
-use Rattle.page_roff_values.specs.Values.{Spot, Laid, nothing, seq, put, lay, call_at, value}
+use Rattle.page_roff_values.specs.Values.{Spot, nothing, seq, lay, call_at, value}
 use Rattle.page_roff_values.specs.Rest.{rest, room_in, one, size}
 use Rattle.page_roff_values.proofs.LayLemmas.{seq_nothing, seq_assoc}
 use Rattle.page_roff_values.proofs.ReadLemmas.{parts_more, seen_shorter}

@@ -1,5 +1,5 @@
 -- The arguments of the macro that runs: roff(7), "Macro syntax", and the escape `\$`.
-use Rattle.std.specs.Prelude.{ℕ, zero, suc, ◌+◌, ◌-◌, ◌==◌, nat_le, ◌&&◌, List, [], ◌∷◌, ◌++◌, drop, get_or, if◌then◌else◌}
+use Rattle.std.specs.Prelude.{ℕ, zero, suc, ◌-◌, ◌==◌, nat_le, ◌&&◌, List, [], ◌∷◌, ◌++◌, drop, if◌then◌else◌}
 use Rattle.std.specs.Prelude.{Option, Some, None}
 
 -- a byte in front of the first text of a list

@@ -1,5 +1,5 @@
 -- What interpolations read: roff(7), "Escape sequences", and the read-only number registers.
-use Rattle.std.specs.Prelude.{ℕ, ◌+◌, Bool, List, [], ◌∷◌, length, codes, if◌then◌else◌, ℤ, pos, Option, Some, None, unwrap_or, is_some}
+use Rattle.std.specs.Prelude.{ℕ, Bool, List, length, codes, if◌then◌else◌, ℤ, pos, Option, Some, None, unwrap_or}
 use Rattle.std.specs.Str.{bytes_eq}
 use Rattle.page_core_base.specs.declared.page_settings.Output.{Output}
 use Rattle.page_roff_names.specs.Names.{Definitions, number_of}

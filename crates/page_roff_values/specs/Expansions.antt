@@ -1,5 +1,5 @@
 -- How the code holds a line: the code's own form of it.
-use Rattle.std.specs.Prelude.{ℕ, ◌+◌, ◌*◌, ◌^◌, ◌≤◌, length, take, drop}
+use Rattle.std.specs.Prelude.{◌+◌, ◌*◌, ◌^◌, ◌≤◌, length, take, drop}
 use Rattle.std.specs.Vec.{vec_capacity}
 use Rattle.page_core_limits.specs.declared.TheConstants.{LINE}
 use Rattle.page_roff_values.specs.declared.sources.TheConstants.{NEST}

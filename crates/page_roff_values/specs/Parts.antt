@@ -1,6 +1,6 @@
 -- What a text is made of: bytes that are copied, and interpolations. Source: roff(7), "Escape sequences", `\*`, `\n`, `\$`, `\w`,
 -- and on copy mode.
-use Rattle.std.specs.Prelude.{ℕ, zero, suc, ◌+◌, Bool, true, false, not, ◌==◌, nat_eq, ◌&&◌, min, List, [], ◌∷◌, length, take, drop, position}
+use Rattle.std.specs.Prelude.{ℕ, zero, suc, ◌+◌, Bool, false, not, ◌==◌, nat_eq, ◌&&◌, min, List, [], ◌∷◌, length, take, drop, position}
 use Rattle.std.specs.Prelude.{Option, Some, None, option_map, unwrap_or, if◌then◌else◌}
 use Rattle.std.specs.List.{starts_with}
 use Rattle.std.specs.Str.{continuation_len}

@@ -24,6 +24,14 @@ abbrev pub one : Surroundings → ℕ → Part (List ℕ) → Spot → Laid
 one env depth (Copied run) s = put run s
 one env depth (Called call) s = call_at env depth call s
 
+-- what a line goes on with
+abbrev pub going_on : Surroundings → ℕ → List (List ℕ) → Spot → Laid
+going_on env room ts s = seq (nothing s) (rest env room ts)
+
+-- an interpolation, and what a line goes on with after it
+abbrev pub calling : Surroundings → ℕ → Call (List ℕ) → List (List ℕ) → Spot → Laid
+calling env room call ts s = seq (call_at env (room_in room ts) call s) (rest env room ts)
+
 -- a part was read, or nothing is left
 abbrev pub Reads : Bool → List (List ℕ) → Option (Part (Bor (List ℕ))) → List (List ℕ) → Type 0
 Reads copy ts result us =

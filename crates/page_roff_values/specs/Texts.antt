@@ -1,7 +1,7 @@
 -- Texts that stand in lines. Source: mandoc(1), -K; roff(7), "LANGUAGE SYNTAX".
 use Rattle.std.specs.Prelude.{◌≡◌, ℕ, true, List, [], ◌∷◌, Option, Some, None, IsUtf8}
 use Rattle.page_core_base.specs.Texts.{has_no_control}
-use Rattle.page_roff_names.specs.Names.{Definitions, string_of}
+use Rattle.page_roff_names.specs.Names.{string_of}
 use Rattle.page_roff_values.specs.Environments.{Surroundings}
 
 -- UTF-8 without a control character but the tab

@@ -5,8 +5,7 @@ ghost use Rattle.std.specs.Fmt.{decimal, signed_decimal};
 ghost use Rattle.page_core_limits.specs.declared.TheConstants.{LINE};
 ghost use Rattle.page_roff_values.specs.Environments.{Surroundings, surroundings_of};
 ghost use Rattle.page_roff_values.specs.Latches.{Goes};
-ghost use Rattle.page_roff_values.specs.Rest.{room_in, rest, steps, texts_of};
-ghost use Rattle.page_roff_values.specs.Texts.{AreLines, IsText};
+ghost use Rattle.page_roff_values.specs.Rest.{calling, going_on, steps, texts_of};
 ghost use Rattle.page_roff_values.specs.Values as laying;
 ghost use Rattle.page_roff_values.specs.Steps.{going_outside};
 ghost use Rattle.page_roff_values.specs.Views.{call_of};
@@ -173,7 +172,8 @@ impl Expansion {
 
     // Puts a register's number.
     fn put_number<O: NoteOut>(&mut self, number: i32, out: &mut O)
-        ensures { Goes O.left out.old (laying.put (signed_decimal number) self.old) out.new (laying.nothing self.new) }
+        ensures { Goes O.left out.old (laying.put (signed_decimal number) self.old)
+            out.new (laying.nothing self.new) }
     {
         let mut buffer = Buffer::new();
         self.put(buffer.format(number).as_bytes(), out);
@@ -263,9 +263,8 @@ impl Expansion {
         requires going { self.old.ended ≡ false }
         requires fits { length self.old.around.before + LINE * room ≤ LINE * NEST }
         ensures goes { Goes O.left out.old
-            (laying.seq (laying.call_at (surroundings_of env.now) (room_in room (texts_of sources.old)) (call_of call.entry) self.old)
-            (rest (surroundings_of env.now) room (texts_of sources.old)))
-            out.new (laying.seq (laying.nothing self.new) (rest (surroundings_of env.now) room (texts_of sources.new))) }
+            (calling (surroundings_of env.now) room (call_of call.entry) (texts_of sources.old) self.old)
+            out.new (going_on (surroundings_of env.now) room (texts_of sources.new) self.new) }
         ensures around { self.new.around ≡ self.old.around }
         ensures falls { steps self.new (texts_of sources.new) ≤ steps self.old (texts_of sources.old) }
     {
@@ -301,7 +300,7 @@ impl Expansion {
         out: &mut O,
     )
         requires { length self.old.around.before + LINE * room ≤ LINE * NEST }
-        ensures { Goes O.left out.old (laying.seq (laying.nothing self.old) (rest (surroundings_of env.now) room (texts_of sources.old)))
+        ensures { Goes O.left out.old (going_on (surroundings_of env.now) room (texts_of sources.old) self.old)
             out.new (laying.nothing self.new) }
     {
         'parts: while self.is_going() {
@@ -325,7 +324,8 @@ impl Expansion {
         requires going { self.old.ended ≡ false }
         requires outside { self.old.around.before ≡ [] }
         requires base { base ≤ 2 ^ 31 }
-        ensures goes { Goes O.left out.old (laying.value (surroundings_of env.now) laying.NEST text.now (laying.after_bytes base self.old))
+        ensures goes { Goes O.left out.old
+            (laying.value (surroundings_of env.now) laying.NEST text.now (laying.after_bytes base self.old))
             out.new (laying.nothing self.new) }
         ensures around { self.new.around ≡ (laying.after_bytes base self.old).around }
     {

@@ -2,10 +2,17 @@
 
 ghost use Rattle.std.specs.Prelude.{ℕ, List};
 ghost use Rattle.page_roff_values.specs.Environments.{Surroundings};
+ghost use Rattle.page_roff_values.specs.Texts.{AreLines, IsText};
 ghost use Rattle.page_roff_values.specs.Values as laying;
 
 /// No line makes more than `EXPAND` interpolations, and none is longer than `LINE`.
 pub fn is_bounded()
     ensures { (env : Surroundings) (depth : ℕ) (text : List ℕ) (s : laying.Spot) → laying.IsWithin s
         → laying.IsWithin (laying.value env depth text s).edge }
+{}
+
+/// What is finished of a line is again a text of a line, where the text, the strings and the arguments are.
+pub fn keeps_texts()
+    ensures { (env : Surroundings) → AreLines env → (depth : ℕ) (text : List ℕ) (s : laying.Spot)
+        → IsText text → IsText s.text → IsText (laying.value env depth text s).edge.text }
 {}

@@ -14,6 +14,6 @@ mod sources;
 pub use call_arguments::{ARGS, CallArguments};
 pub use environments::Environment;
 pub use expansions::{EXPAND, Expansion};
-pub use laws::is_bounded;
+pub use laws::{is_bounded, keeps_texts};
 pub use note_latches::{NoteLatch, NoteOut};
 pub use sources::NEST;

@@ -57,7 +57,8 @@ impl<'a, N: NoteSink> NoteLatch<'a, N> {
 impl<N: NoteSink> NoteOut for NoteLatch<'_, N> {
     ghost Plan = { Planned N N.Loans };
 
-    ghost left = { λ plan s rest. Left N.gave N.within N.failed N.loans plan s.notes.ghost_name s.notes.now s.fault rest };
+    ghost left = { λ plan s rest. Left N.gave N.within N.failed N.loans
+        plan s.notes.ghost_name s.notes.now s.fault rest };
 
     fn report(&mut self, note: &Note) {
         if self.fault.is_none() {

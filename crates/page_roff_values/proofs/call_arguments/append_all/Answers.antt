@@ -1,4 +1,4 @@
-use Rattle.std.proofs.Common.{◌≡◌, ◌∙◌, sym}
+use Rattle.std.proofs.Common.{◌∙◌, sym}
 use Rattle.page_roff_values.proofs.ArgumentLemmas.{counted_end, spaced_end, quoted_end}
 use Rattle.page_roff_values.proofs.call_arguments.append_all.Goals as goal
 

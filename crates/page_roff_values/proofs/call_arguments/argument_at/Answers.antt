@@ -1,4 +1,4 @@
-use Rattle.std.proofs.Common.{◌≡◌, ◌∙◌, sym}
+use Rattle.std.proofs.Common.{◌∙◌, sym}
 use Rattle.page_roff_values.proofs.ArgumentLemmas.{no_argument}
 use Rattle.page_roff_values.proofs.call_arguments.argument_at.Goals as goal
 

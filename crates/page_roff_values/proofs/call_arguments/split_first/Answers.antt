@@ -1,4 +1,4 @@
-use Rattle.std.proofs.Common.{rules, ◌≡◌, ℕ, ◌+◌, ◌<◌, ◌==◌, [], ◌∷◌, Bool, true, false, length, get_or, take, drop, arith, ap, ◌∙◌, sym}
+use Rattle.std.proofs.Common.{◌==◌, ◌∷◌, get_or, take, arith, ap, ◌∙◌, sym}
 use Rattle.std.proofs.Math.Seq.{drop-length}
 use Rattle.page_roff_values.specs.Arguments.{arguments_in}
 use Rattle.page_roff_values.proofs.ArgumentLemmas.{first_of, last_of, none_in, not_true}

@@ -1,4 +1,4 @@
-use Rattle.std.proofs.Common.{◌≡◌, ℕ, ◌≤◌}
+use Rattle.std.proofs.Common.{◌≡◌, ◌≤◌}
 use Rattle.page_roff_values.specs.Values as laying
 use Rattle.page_roff_values.proofs.endings.character_end.Given as goal
 

@@ -1,4 +1,4 @@
-use Rattle.std.proofs.Common.{◌≡◌, ℕ, ◌<◌, ◌≤◌, length, arith}
+use Rattle.std.proofs.Common.{arith}
 use Rattle.page_roff_values.proofs.EndLemmas.{one_more, two_more, lone_end, whole_end}
 use Rattle.page_roff_values.proofs.endings.without_lone.Goals as goal
 

@@ -1,6 +1,6 @@
-use Rattle.std.proofs.Common.{◌≡◌, ℕ, ◌+◌, ◌<◌, ◌≤◌, List, [], length, drop, Some, None, add-zero, arith, ap, ◌∙◌, sym, rules, drop-drop, length-drop}
+use Rattle.std.proofs.Common.{◌≡◌, ◌+◌, length, drop, Some, add-zero, arith, ap, ◌∙◌, sym, drop-drop, length-drop}
 use Rattle.std.proofs.Math.Seq.{drop-length}
-use Rattle.page_roff_values.specs.Parts.{content_len, further, unit_len}
+use Rattle.page_roff_values.specs.Parts.{content_len, further}
 use Rattle.page_roff_values.proofs.ReadLemmas.{content_past, content_here, content_none, further_further}
 use Rattle.page_roff_values.proofs.parts.content_len.Goals as goal
 

@@ -1,4 +1,4 @@
-use Rattle.std.proofs.Common.{◌≡◌, ℕ, ◌<◌, ◌≤◌, length, add-zero, arith, ◌∙◌, rules}
+use Rattle.std.proofs.Common.{add-zero, arith, ◌∙◌}
 use Rattle.page_roff_values.proofs.ReadLemmas.{plain_part}
 use Rattle.page_roff_values.proofs.parts.read.Goals as goal
 

@@ -1,4 +1,4 @@
-use Rattle.std.proofs.Common.{◌≡◌, ap, ◌∙◌, Some}
+use Rattle.std.proofs.Common.{ap, ◌∙◌, Some}
 use Rattle.page_roff_values.proofs.ReadLemmas.{argument_seen}
 use Rattle.page_roff_values.proofs.parts.read_call.Goals as goal
 

@@ -1,6 +1,5 @@
-use Rattle.std.proofs.Common.{◌≡◌, ℕ, ◌+◌, ◌<◌, ◌≤◌, length, drop, take, get_or, None, Some, add-zero, arith, ap, ◌∙◌, sym, rules}
+use Rattle.std.proofs.Common.{◌+◌, length, add-zero, ◌∙◌, sym}
 use Rattle.std.proofs.Math.Seq.{take-length, drop-length}
-use Rattle.page_roff_values.specs.Parts.{copies, character_len}
 use Rattle.page_roff_values.specs.Views.{seen_of}
 use Rattle.page_roff_values.proofs.ReadLemmas.{escape_alone, escape_pair, escape_called, escape_doubled}
 use Rattle.page_roff_values.proofs.parts.read_escape.Goals as goal

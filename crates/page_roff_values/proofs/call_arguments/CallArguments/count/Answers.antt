@@ -1,4 +1,4 @@
-use Rattle.std.proofs.Common.{◌≤◌, length, arith}
+use Rattle.std.proofs.Common.{arith}
 use Rattle.page_roff_values.proofs.ArgumentLemmas.{arguments_len}
 use Rattle.page_roff_values.proofs.call_arguments.CallArguments.count.Goals as goal
 

@@ -1,4 +1,3 @@
-use Rattle.std.proofs.Common.{rules}
 use Rattle.page_roff_values.proofs.ArgumentLemmas.{held_none}
 use Rattle.page_roff_values.proofs.call_arguments.CallArguments.new.Goals as goal
 

@@ -1,4 +1,4 @@
-use Rattle.std.proofs.Common.{◌≡◌, ℕ, ◌+◌, ◌*◌}
+use Rattle.std.proofs.Common.{◌≡◌, ◌+◌, ◌*◌}
 use Rattle.page_roff_values.specs.Environments.{surroundings_of}
 use Rattle.page_roff_values.specs.Latches.{Goes}
 use Rattle.page_roff_values.specs.Rest.{rest, texts_of, steps}

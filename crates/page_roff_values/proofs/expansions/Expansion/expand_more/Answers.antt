@@ -1,4 +1,4 @@
-use Rattle.std.proofs.Common.{◌≡◌, [], ◌∷◌, ap, ◌∙◌, sym}
+use Rattle.std.proofs.Common.{[], ◌∷◌, ap, ◌∙◌, sym}
 use Rattle.page_roff_values.specs.Environments.{surroundings_of}
 use Rattle.page_roff_values.specs.Rest.{rest}
 use Rattle.page_roff_values.specs.Values.{NEST, Spot, after_bytes, nothing, seq, value}

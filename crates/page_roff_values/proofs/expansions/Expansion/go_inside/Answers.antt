@@ -1,4 +1,4 @@
-use Rattle.std.proofs.Common.{◌≡◌, ◌∙◌, ap, sym, rules}
+use Rattle.std.proofs.Common.{◌∙◌, ap, sym, rules}
 use Rattle.page_roff_values.specs.Values.{inside, column_of}
 use Rattle.page_roff_values.proofs.WidthLemmas.{inside_is}
 use Rattle.page_roff_values.proofs.expansions.Expansion.go_inside.Goals as goal

@@ -1,4 +1,4 @@
-use Rattle.std.proofs.Common.{◌≡◌, ◌*◌, ap, ◌∙◌}
+use Rattle.std.proofs.Common.{◌*◌, ap, ◌∙◌}
 use Rattle.page_roff_values.proofs.WidthLemmas.{units_known, units_none}
 use Rattle.page_roff_values.proofs.expansions.Expansion.units.Goals as goal
 

@@ -1,4 +1,4 @@
-use Rattle.std.proofs.Common.{◌≡◌, ℕ, ◌<◌, ◌≤◌, List, [], ◌∷◌, length, map, reverse, arith, ap, ◌∙◌, sym, rules}
+use Rattle.std.proofs.Common.{arith, ◌∙◌, sym, rules}
 use Rattle.page_roff_values.specs.Views.{seen_of}
 use Rattle.page_roff_values.proofs.TextLemmas.{outer_of, rest_none, rest_pop, size_pop, rest_reads, shorter}
 use Rattle.page_roff_values.proofs.sources.Sources.next.Goals as goal
