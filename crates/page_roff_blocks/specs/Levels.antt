@@ -32,7 +32,7 @@ unfoldable pub way_in : Bool → Way
 way_in true = Runs
 way_in false = Exceeds
 
--- how a block is entered whose head has this value, where so many true blocks are open
+-- how a block is entered whose head has this value, where this many true blocks are open
 unfoldable pub way_of : Bool → ℕ → Way
 way_of false count = Skips
 way_of true count = way_in (nat_lt count CONDS)

@@ -124,7 +124,7 @@ module _ {S : Type 0} (m : Meaning S) where
   block_by Skips run_it pass_it s = pass_it s
   block_by Exceeds run_it pass_it s = pass_it s
 
-  -- What is run, where so many true blocks are open around it: the level's bit and the state.
+  -- What is run, where this many true blocks are open around it: the level's bit and the state.
   unfoldable pub run : ℕ → Forest → Bool → Flow S → Bool × Flow S
   run n empty bit w = (bit, w)
   run n (line l rest) bit w = run n rest bit (fresh (m.begins l w.state))

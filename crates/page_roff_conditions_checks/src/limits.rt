@@ -6,7 +6,7 @@ use std::alloc::Global;
 use std::process::Abort;
 use std::test::Fail;
 
-// A text, another so many times, and a third.
+// A text, another this many times, and a third.
 fn repeated(
     alloc: Global,
     before: &str,

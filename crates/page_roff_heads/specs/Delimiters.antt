@@ -34,7 +34,7 @@ quoted_len text =
 abbrev pub argument_len : ℕ → List ℕ → ℕ
 argument_len letter text = if letter == 119 then quoted_len text else 0
 
--- An expression goes up to a blank, a tab or \{ (123). So many bytes at its front belong to the argument of a \w.
+-- An expression goes up to a blank, a tab or \{ (123). This many bytes at its front belong to the argument of a \w.
 abbrev pub expression_rest : ℕ → List ℕ → ℕ
 expression_rest zero [] = 0
 expression_rest zero (byte ∷ []) = if is_white byte then 0 else 1

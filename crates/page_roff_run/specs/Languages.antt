@@ -29,7 +29,7 @@ module _ {S : Type 0} (l : Language S) where
   call_with call (gives s) = s
   call_with call (calls lines args s) = call lines args s
 
-  -- A leaf where so many more macros may run. A macro runs the forest of its body as it stands at the call.
+  -- A leaf where this many more macros may run. A macro runs the forest of its body as it stands at the call.
   unfoldable pub gives_at : ℕ → Kind → List ℕ → S → S
   gives_at zero kind text s = call_with (λ lines args s. s) (l.leaf false kind text s)
   gives_at (suc depth) kind text s =

@@ -48,7 +48,7 @@ pub fn spending_law<R>()
         spent after.state.rest + most * at.state.taken ≤ most * after.state.taken + spent at.state.rest }
 {}
 
-/// No more than so many macros run inside one another.
+/// No more than `CALLS` macros run inside one another.
 pub fn calls_law<S>()
     ensures { (l : Language S) (r q : Running S) → length r.under ≤ CALLS → next l r ≡ Some q
         → length q.under ≤ CALLS }

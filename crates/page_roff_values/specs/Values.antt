@@ -150,13 +150,13 @@ interpolated env f (Register name) s = put (signed_decimal (register_of name env
 interpolated env f (Argument escape) s = value_or ArgOutside escape (argument_of escape env.arguments) f s
 interpolated env f (Width text) s = width env.output (f text) s
 
--- An interpolation in which so many more may stand inside one another. One too deep gives nothing.
+-- An interpolation in which this many more may stand inside one another. One too deep gives nothing.
 unfoldable pub call_at : Surroundings → ℕ → Call (List ℕ) → Spot → Laid
 call_at env zero call s = charge (says Loop (codes "NEST")) s
 call_at env (suc depth) call s =
     charge (interpolated env (λ text. lay (call_at env depth) (parts env.copy text)) call) s
 
--- The value of a text in which so many interpolations may stand inside one another, after what is finished of its line.
+-- The value of a text in which this many interpolations may stand inside one another, after what is finished of its line.
 unfoldable pub value : Surroundings → ℕ → List ℕ → Spot → Laid
 value env depth text s = lay (call_at env depth) (parts env.copy text) s
 
@@ -169,7 +169,7 @@ start line =
 abbrev pub expanded : Surroundings → ℕ → List ℕ → Laid
 expanded env line text = value env NEST text (start line)
 
--- so many bytes of the line stand before the text that comes
+-- this many bytes of the line stand before the text that comes
 abbrev pub after_bytes : ℕ → Spot → Spot
 after_bytes base s = record s {
   around = record { line = s.around.line; base = base; fixed = s.around.fixed; before = s.around.before };

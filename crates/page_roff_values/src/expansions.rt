@@ -87,7 +87,7 @@ impl Expansion {
         self.ended = false;
     }
 
-    // So many bytes of the line stand before the text that comes.
+    // Sets how many bytes of the line stand before the text that comes.
     fn set_base(&mut self, base: u32)
         requires { base ≤ 2 ^ 31 }
         ensures { self.new ≡ laying.after_bytes base self.old }
@@ -312,7 +312,7 @@ impl Expansion {
         }
     }
 
-    /// Expands a text behind what is finished of its line, of which so many bytes stand before the text, with what is left of the line's
+    /// Expands a text behind what is finished of its line, of which `base` bytes stand before the text, with what is left of the line's
     /// interpolations.
     pub fn expand_more<O: NoteOut>(
         &mut self,

@@ -56,7 +56,7 @@ fn character_len(text: &[u8]) -> usize
     }
 }
 
-// So many bytes of a text; some more after them are passed over.
+// This many bytes of a text; some more after them are passed over.
 fn cut_at(text: &[u8], len: usize, over: usize) -> Cut<'_>
     requires { len + over ≤ length text.now }
     ensures { cut_of result ≡ reading.cut len over text.now }
@@ -217,7 +217,7 @@ fn read_escape(text: &[u8], copy: bool) -> Seen<'_>
     }
 }
 
-// So many bytes that are copied; some more after them are passed over.
+// This many bytes that are copied; some more after them are passed over.
 fn copied(text: &[u8], len: usize, over: usize) -> Seen<'_>
     requires { len + over ≤ length text.now }
     ensures { seen_of result ≡ reading.copies (take len text.now) (drop (len + over) text.now) }

@@ -207,6 +207,8 @@ fn widths(rt: HostRuntime) -> Result<(), Fail> {
             ("\\w\u{e9}ab\u{e9}x", "48x", 1, &[]),
             ("\\w'a\\*a\\*b'", "144", 5, &[]),
             ("\\w'\\(em'", "48", 1, &[]),
+            ("\\w'\\fBa\\fPb'", "48", 1, &[]),
+            ("\\w'\u{4e00}'", "72", 1, &[]),
             ("\\w'a\\'b'", "72", 1, &[]),
             ("\\w'a\\w\"bc\"d'", "96", 2, &[]),
             ("xy\\w'ab\\*z' w", "xy48 w", 2, &[(UNDEFINED, 3, "z")]),
@@ -214,7 +216,16 @@ fn widths(rt: HostRuntime) -> Result<(), Fail> {
         ],
     );
     fixture.output = Output::Utf8;
-    check_all(&rt, &mut fixture, false, &[("\\w'\\(em'", "24", 1, &[])]);
+    check_all(
+        &rt,
+        &mut fixture,
+        false,
+        &[
+            ("\\w'\\fI\\(em\\fP'", "24", 1, &[]),
+            ("\\w'\u{4e00}'", "48", 1, &[]),
+            ("\\w'e\u{301}'", "24", 1, &[]),
+        ],
+    );
     Ok(())
 }
 

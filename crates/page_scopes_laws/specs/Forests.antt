@@ -35,7 +35,7 @@ node_of l a inner (next ∷ outer) = record { here = node l a inner next.ender n
 abbrev pub node_first : {L A F : Type 0} → L → A → Rest L A F → Rest L A F
 node_first l a r = node_of l a r.here r.outer
 
--- the act ends so many nodes before what follows
+-- the act ends this many nodes before what follows
 abbrev pub ended : {L A F : Type 0} → ℕ → A → Rest L A F → Rest L A F
 ended zero a r = r
 ended (suc n) a r = record {

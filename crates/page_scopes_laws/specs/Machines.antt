@@ -4,7 +4,7 @@ use Rattle.page_scopes_laws.specs.Nestings.{Standing, as_node, as_leaf, as_nothi
 use Rattle.page_scopes_laws.specs.declared.Scope.{Scope}
 use Rattle.page_scopes_laws.specs.Layouts.{Layout, scope_of, labels, Edge}
 
--- an act ends so many of the innermost nodes
+-- an act ends this many of the innermost nodes
 abbrev pub ended_items : {L A F S B I : Type 0} → Layout L A F S B I → ℕ → A → List (Scope L B) → S → List I
 ended_items lays zero a scopes s = []
 ended_items lays (suc n) a [] s = []

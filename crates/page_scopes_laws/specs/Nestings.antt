@@ -8,7 +8,7 @@ pub data Standing (L F : Type 0) : Type 0 where
   as_nothing : Standing L F
 
 -- Of acts inside open nodes, whose labels stand the innermost first, under a mode: how many of the innermost nodes an act ends; what becomes of it
--- where it ended so many and these are left; and the mode after it.
+-- where it ended this many and these are left; and the mode after it.
 pub record Nesting (M L A F : Type 0) : Type 0 where
   pub ends : M → A → List L → ℕ
   pub standing : M → A → ℕ → List L → Standing L F

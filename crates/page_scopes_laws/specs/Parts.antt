@@ -3,7 +3,7 @@ use Rattle.std.specs.Prelude.{ℕ, zero, suc, List, [], ◌∷◌}
 use Rattle.page_scopes_laws.specs.Nestings.{Standing, as_node, as_leaf, as_nothing, Nesting}
 use Rattle.page_scopes_laws.specs.Forests.{Ender, by_act, still_open, Forest, none, leaf, node}
 
--- What is left of a list: nothing; the list, under a mode; or an act that still ends so many nodes (of so many in all), and those after it, under the
+-- What is left of a list: nothing; the list, under a mode; or an act that still ends this many nodes (of this many in all), and those after it, under the
 -- mode before it.
 pub data Left (M A : Type 0) : Type 0 where
   over : Left M A
@@ -28,7 +28,7 @@ stand (as_node l) m a nodes acts part = with_node l a (part (l ∷ nodes) (on m 
 stand (as_leaf f) m a nodes acts part = with_leaf f (part nodes (on m acts))
 stand as_nothing m a nodes acts part = part nodes (on m acts)
 
--- the forest of the innermost node, in at most so many steps
+-- the forest of the innermost node, in at most this many steps
 abbrev pub part : {M L A F : Type 0} → Nesting M L A F → ℕ → List L → Left M A → Part M L A F
 part nests zero nodes r = record { forest = none; ender = still_open; left = over }
 part nests (suc k) nodes over = record { forest = none; ender = still_open; left = over }

@@ -17,6 +17,6 @@ Keeps old new scopes = (reverse new.items ≡ scopes) × (vec_capacity new ≡ v
 abbrev pub stack_edge : {S B : Type 0} → Bool → Vec (Scope Label B) → S → Edge Bool Label S B
 stack_edge skips scopes state = record { mode = skips; scopes = reverse scopes.items; state = state }
 
--- what becomes of an act that ended so many scopes and leaves these
+-- what becomes of an act that ended this many scopes and leaves these
 abbrev pub stack_standing : {B : Type 0} → Act (List ℕ) → ℕ → Vec (Scope Label B) → Standing Label Fact
 stack_standing act count scopes = standing_by act (act_outcome act count (labels (reverse scopes.items)))

@@ -76,7 +76,7 @@ abbrev pub leaf_outcome : Leaf (List ℕ) → List Label → Outcome
 leaf_outcome (leaves.Request request) left = request_outcome (in_line_scope left) request
 leaf_outcome _ left = outcomes.Leaf
 
--- of a deed that ended so many scopes, where these are left
+-- of a deed that ended this many scopes, where these are left
 abbrev pub deed_outcome : Deed (List ℕ) → ℕ → List Label → Outcome
 deed_outcome (deeds.Word word) n left = outcomes.Leaf
 deed_outcome (deeds.Open opener) n left = opened left (opener_label opener)

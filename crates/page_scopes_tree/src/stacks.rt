@@ -40,7 +40,7 @@ fn end_innermost<Y: Laying, O: PieceOut>(
     }
 }
 
-// An act ends so many of the innermost scopes.
+// An act ends this many of the innermost scopes.
 fn end_scopes<Y: Laying, O: PieceOut>(
     scopes: &mut Vec<Scope<Label, Y::Kept>>,
     state: &mut Y,
@@ -81,7 +81,7 @@ fn open_scope<Y: Laying, O: PieceOut>(
     scopes.push_reserved(Scope { label, before });
 }
 
-// The act itself, after it ended so many scopes.
+// The act itself, after it ended this many scopes.
 fn place_act<Y: Laying, O: PieceOut>(
     scopes: &mut Vec<Scope<Label, Y::Kept>>,
     state: &mut Y,

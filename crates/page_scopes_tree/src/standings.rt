@@ -137,7 +137,7 @@ fn leaf_outcome<B>(leaf: &Leaf<&[u8]>, left: &[Scope<Label, B>]) -> Outcome
     }
 }
 
-// What becomes of a deed that ended so many scopes and leaves these.
+// What becomes of a deed that ended this many scopes and leaves these.
 fn deed_outcome<B>(deed: &Deed<&[u8]>, count: usize, left: &[Scope<Label, B>]) -> Outcome
     requires { length left.now ≤ SCOPES }
     ensures { result ≡ standings.deed_outcome (deed_seen deed.now) count (labels (reverse left.now)) }
@@ -151,7 +151,7 @@ fn deed_outcome<B>(deed: &Deed<&[u8]>, count: usize, left: &[Scope<Label, B>]) -
     }
 }
 
-/// What becomes of an act that ended so many scopes and leaves these.
+/// What becomes of an act that ended this many scopes and leaves these.
 pub fn outcome_of<B>(act: &Act<&[u8]>, count: usize, left: &[Scope<Label, B>]) -> Outcome
     requires { length left.now ≤ SCOPES }
     ensures { result ≡ standings.act_outcome (act_seen act.now) count (labels (reverse left.now)) }

@@ -8,7 +8,7 @@ use Rattle.page_roff_forms.specs.LineForms.{is_white, is_name}
 use Rattle.page_roff_forms.specs.Arguments.{arguments, argument_seen}
 use Rattle.std.specs.Borrow.{Bor}
 
--- after the control character come white space and the name, up to a blank, a tab or a backslash; so many bytes stand before them
+-- after the control character come white space and the name, up to a blank, a tab or a backslash; this many bytes stand before them
 abbrev pub name_start : List ℕ → ℕ
 name_start text = min 1 (length text) + prefix_len is_white (drop 1 text)
 
@@ -18,7 +18,7 @@ name_end text = name_start text + prefix_len is_name (drop (name_start text) tex
 abbrev pub name_of : List ℕ → List ℕ
 name_of text = take (name_end text - name_start text) (drop (name_start text) text)
 
--- the arguments that begin after so many bytes
+-- the arguments that begin after this many bytes
 abbrev pub arguments_after : ℕ → List ℕ → List (Argument (List ℕ))
 arguments_after start text = arguments (start + 1) (drop start text)
 
@@ -41,7 +41,7 @@ is_unclosed Bare = false
 is_unclosed Closed = false
 is_unclosed Unclosed = true
 
--- the column of the quote that the last argument lacks at its end, unless it is one of so many at the front
+-- the column of the quote that the last argument lacks at its end, unless it is one of this many at the front
 abbrev pub open_quote : ℕ → List (Argument (List ℕ)) → Option ℕ
 open_quote printed [] = None
 open_quote zero (argument ∷ arguments) =
@@ -63,7 +63,7 @@ closing_len Unclosed = 0
 abbrev pub argument_end : Argument (List ℕ) → ℕ
 argument_end argument = argument.column - 1 + length argument.text + closing_len argument.quoting
 
--- the next of the arguments that begin after so many bytes, if there is one, and where the others begin
+-- the next of the arguments that begin after this many bytes, if there is one, and where the others begin
 abbrev pub ReadsFrom : List ℕ → ℕ → Option (Argument (Bor (List ℕ)) × ℕ) → Type 0
 ReadsFrom text start result =
     MatchOption result (arguments_after start text ≡ [])

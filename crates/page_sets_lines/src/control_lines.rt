@@ -51,7 +51,7 @@ pub fn find_name(text: &[u8]) -> NameSpan
     }
 }
 
-/// The arguments of a line that begin after so many bytes.
+/// The arguments of a line that begin after this many bytes.
 pub fn arguments_after(text: &[u8], start: usize) -> Arguments<'_>
     requires short { length text.now ≤ LINE }
     requires within { start ≤ length text.now }
@@ -79,7 +79,7 @@ pub fn open_quote(text: &[u8], start: usize, printed: usize) -> Option<u32>
     None
 }
 
-/// The first argument that begins after so many bytes.
+/// The first argument that begins after this many bytes.
 pub fn first_of(text: &[u8], start: usize) -> Option<Argument<&[u8]>>
     requires short { length text.now ≤ LINE }
     requires within { start ≤ length text.now }
@@ -89,7 +89,7 @@ pub fn first_of(text: &[u8], start: usize) -> Option<Argument<&[u8]>>
     arguments_after(text, start).next_argument()
 }
 
-/// The second argument that begins after so many bytes.
+/// The second argument that begins after this many bytes.
 pub fn second_of(text: &[u8], start: usize) -> Option<Argument<&[u8]>>
     requires short { length text.now ≤ LINE }
     requires within { start ≤ length text.now }
@@ -100,7 +100,7 @@ pub fn second_of(text: &[u8], start: usize) -> Option<Argument<&[u8]>>
     arguments.next_argument()
 }
 
-/// Whether there is an argument after so many bytes.
+/// Whether there is an argument after this many bytes.
 pub fn has_arguments(text: &[u8], start: usize) -> bool
     requires short { length text.now ≤ LINE }
     requires within { start ≤ length text.now }
@@ -128,7 +128,7 @@ fn argument_end(argument: Argument<&[u8]>) -> usize
     argument.column as usize - 1 + argument.text.len() + closing_len(argument.quoting)
 }
 
-/// Reads the first argument that begins after so many bytes, and says after how many the others begin.
+/// Reads the first argument that begins after this many bytes, and says after how many the others begin.
 pub fn read_argument(text: &[u8], start: usize) -> Option<(Argument<&[u8]>, usize)>
     requires short { length text.now ≤ LINE }
     requires within { start ≤ length text.now }

@@ -158,7 +158,7 @@ words_after words.SectionText = words.SectionEnd
 words_after words.SectionEnd = words.Nothing
 words_after words.Suffix = words.Nothing
 
--- a step gives the first event of the words that begin after so many bytes, if there is one, and says what is left
+-- a step gives the first event of the words that begin after this many bytes, if there is one, and says what is left
 abbrev pub StepsWords : Line → ℕ → Words → ℕ → Option Step → Type 0
 StepsWords line column words rest result =
     MatchOption result (words_events line.number column words (arguments_after rest line.text) ≡ [])

@@ -52,7 +52,7 @@ block alone quotes effect = record {
   last = lasts.Nothing;
 }
 
--- it opens or closes a scope, and so many of its arguments are printed; it may need an argument
+-- it opens or closes a scope, and this many of its arguments are printed; it may need an argument
 abbrev pub opening : ℕ → Opens → Row
 opening printed scope = block Same (BodyAfter printed) (effects.Opens scope)
 

@@ -12,7 +12,7 @@ use page_sets_lines::{
     first_of, request, second_of,
 };
 
-// The text of the first argument that begins after so many bytes.
+// The text of the first argument that begins after this many bytes.
 fn first_text(text: &[u8], start: usize) -> Option<&[u8]>
     requires short { length text.now ≤ LINE }
     requires within { start ≤ length text.now }
@@ -36,7 +36,7 @@ fn second_text(text: &[u8], start: usize) -> Option<&[u8]>
     }
 }
 
-// What a macro opens, with arguments that begin after so many bytes.
+// What a macro opens, with arguments that begin after this many bytes.
 fn opener(opens: Opens, text: &[u8], start: usize) -> Option<Opener<&[u8]>>
     requires short { length text.now ≤ LINE }
     requires within { start ≤ length text.now }
@@ -93,7 +93,7 @@ fn leaf(sets: Sets, text: &[u8], start: usize) -> Leaf<&[u8]>
     }
 }
 
-/// What a macro does, with arguments that begin after so many bytes.
+/// What a macro does, with arguments that begin after this many bytes.
 pub(crate) fn effect_deed(effect: Effect, text: &[u8], start: usize) -> Option<Deed<&[u8]>>
     requires short { length text.now ≤ LINE }
     requires within { start ≤ length text.now }

@@ -130,7 +130,7 @@ fn quote_at(begins_body: bool, column: Option<u32>) -> Option<Quote>
     }
 }
 
-// The quote that is told ahead, if one of the arguments that begin after so many bytes lacks its last one.
+// The quote that is told ahead, if one of the arguments that begin after this many bytes lacks its last one.
 fn missing_quote(quotes: Quotes, text: &[u8], start: usize) -> Option<Quote>
     requires short { length text.now ≤ LINE }
     requires within { start ≤ length text.now }
@@ -194,7 +194,7 @@ fn scope_plan(opener: LineOpener, column: u32, start: usize) -> Plan
     }
 }
 
-// The plan of a macro whose arguments begin after so many bytes.
+// The plan of a macro whose arguments begin after this many bytes.
 fn macro_plan(row: Row, has_any: bool, text: &[u8], column: u32, start: usize) -> Plan
     requires short { length text.now ≤ LINE }
     requires within { start ≤ length text.now }

@@ -67,7 +67,7 @@ pub(crate) enum Alone {
 pub(crate) enum Quotes {
     /// None: all arguments are printed, and told then.
     Printed,
-    /// All but so many at the front.
+    /// All but this many at the front.
     After(usize),
     /// The same, of a macro that begins the body of a page.
     BodyAfter(usize),
@@ -150,7 +150,7 @@ fn block(alone: Alone, quotes: Quotes, effect: Effect) -> Row
     }
 }
 
-// A macro that opens a scope, of which so many arguments are printed.
+// A macro that opens a scope, of which this many arguments are printed.
 fn opening(printed: usize, opens: Opens) -> Row
     ensures { result ≡ rows.opening printed opens }
 {
@@ -172,7 +172,7 @@ fn needy_opening(printed: usize, opens: Opens) -> Row
     )
 }
 
-// A macro that closes a scope, of which so many arguments are printed.
+// A macro that closes a scope, of which this many arguments are printed.
 fn closing(printed: usize, closes: Closes) -> Row
     ensures { result ≡ rows.closing printed closes }
 {

@@ -132,7 +132,7 @@ fn argument_step<'a>(line: Taken<'a>, column: u32, words: Words, rest: usize) ->
     }
 }
 
-/// The next event of a macro's words, if there is one: its arguments begin after so many bytes, and its name stands in
+/// The next event of a macro's words, if there is one: its arguments begin after this many bytes, and its name stands in
 /// a column.
 pub(crate) fn word_step<'a>(
     line: Taken<'a>,
