@@ -156,7 +156,7 @@ FitsRest (Some line) = length line ≤ LINE
 abbrev pub FitsPart : Part (List ℕ) → Type 0
 FitsPart part = FitsAtom part.atom × FitsRest part.rest
 
--- a column behind the control character, in a line or at its end
+-- a column after the control character, in a line or at its end
 pub record IsWithin (column : ℕ) (line : List ℕ) : Type 0 where
   pub behind : 2 ≤ column
   pub within : column ≤ length line + 1

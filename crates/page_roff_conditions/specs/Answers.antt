@@ -37,7 +37,7 @@ is_defined name d = is_some (string_of name d) || is_some (body_of name d) || is
 abbrev pub is_register : List ℕ → Surroundings → Bool
 is_register name env = is_some (register_found name env)
 
--- a text is expanded behind what is finished of its line, of which `base` bytes stand before the text
+-- a text is expanded after what is finished of its line, of which `base` bytes stand before the text
 abbrev pub expands : Surroundings → ℕ → List ℕ → Spot → Laid
 expands env base text s = value env NEST text (after_bytes base s)
 
@@ -53,7 +53,7 @@ after laid f = unless_cut laid.edge.ended laid (f laid.edge)
 abbrev pub number_answer : Bool → Place → Spot → Answer
 number_answer is_turned place s = answers (turned is_turned (is_positive (value_of s.text))) (messages_of place s.text) s
 
--- the second text stands behind the first, of which this many bytes were finished
+-- the second text stands after the first, of which this many bytes were finished
 abbrev pub texts_answer : Bool → ℕ → Spot → Answer
 texts_answer is_turned len s = answers (turned is_turned (bytes_eq (take len s.text) (drop len s.text))) [] s
 

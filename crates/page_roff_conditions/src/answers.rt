@@ -31,7 +31,7 @@ fn turned(is_turned: bool, holds: bool) -> bool
     holds != is_turned
 }
 
-// Expands a text behind what is finished of its line. Answers whether that was cut.
+// Expands a text after what is finished of its line. Answers whether that was cut.
 fn expand_text<O: NoteOut>(
     text: &[u8],
     base: u32,

@@ -142,7 +142,7 @@ fn letter(test: Test<&[u8]>) -> TestRead<&[u8]>
     TestRead { test, len: 1 }
 }
 
-// A test of a letter and a name behind it.
+// A test of a letter and a name after it.
 fn named(test: Test<&[u8]>, len: usize) -> TestRead<&[u8]>
     requires { len < 2 ^ 63 }
     ensures { read_seen result ≡ written.reads (test_seen test.entry) (1 + len) }

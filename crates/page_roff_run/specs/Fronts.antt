@@ -23,7 +23,7 @@ module _ {S : Type 0} (front : S → S) where
   over_done (gives s) = gives (front s)
   over_done (calls lines args s) = calls lines args (front s)
 
-  -- the parts of a source do the same behind it
+  -- the parts of a source do the same after it
   pub record IsFrontOfParts (m : Meaning S) : Type 0 where
     pub begins : (line : List ℕ) (s : S) → m.begins line (front s) ≡ front (m.begins line s)
     pub meets : (is_remainder : Bool) (s : S) → m.meets is_remainder (front s) ≡ over_pair (m.meets is_remainder s)

@@ -43,7 +43,7 @@ name_cut (b ∷ bs) =
 
 -- ---- texts between two delimiters
 
--- how many bytes the character behind a byte has, where that is a backslash (92): both are a pair
+-- how many bytes the character after a byte has, where that is a backslash (92): both are a pair
 abbrev pub paired_len : ℕ → List ℕ → ℕ
 paired_len b bs = if b == 92 then character_len bs else 0
 
@@ -116,7 +116,7 @@ pair bs = let n = character_len bs in copies (92 ∷ take n bs) (drop n bs)
 abbrev pub is_doubled : Bool → ℕ → Bool
 is_doubled copy letter = copy && letter == 92
 
--- what stands behind a backslash. In copy mode another one makes it one. An interpolation without its end stays a pair.
+-- what stands after a backslash. In copy mode another one makes it one. An interpolation without its end stays a pair.
 abbrev pub escape : Bool → List ℕ → SeenText
 escape copy [] = copies (92 ∷ []) []
 escape copy (letter ∷ bs) =

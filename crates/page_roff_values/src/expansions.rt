@@ -312,7 +312,7 @@ impl Expansion {
         }
     }
 
-    /// Expands a text behind what is finished of its line, of which `base` bytes stand before the text, with what is left of the line's
+    /// Expands a text after what is finished of its line, of which `base` bytes stand before the text, with what is left of the line's
     /// interpolations.
     pub fn expand_more<O: NoteOut>(
         &mut self,
