@@ -3,7 +3,7 @@ use Rattle.std.proofs.Common.{◌≡◌, ◌≢◌, ℕ, zero, suc, ◌+◌, ◌
 use Rattle.std.specs.List.{prefix_len}
 use Rattle.std.proofs.lemmas.Bool.{cases_Bool}
 use Rattle.std.proofs.lemmas.Bool.Decides.{nat_tests}
-use Rattle.std.proofs.lemmas.List.{drop_more, drop_all}
+use Rattle.std.proofs.lemmas.List.{drop_more, drop_all, drop-drop}
 use Rattle.page_roff_forms.specs.Arguments.{is_blank, bare_len, quoted_len, argument_len, first_argument, first_arguments, arguments}
 
 -- ---- arguments without quotes
@@ -163,10 +163,14 @@ no_argument column (b ∷ bs) h = absurd (omega arith)
 
 -- one reading: past blanks, and past an argument
 pub read_one : (column blanks len : ℕ) (rest text : List ℕ) → blanks ≡ prefix_len is_blank rest → text ≡ drop blanks rest → (length text == 0) ≡ false
-    → len ≡ argument_len text → arguments column rest ≡ first_argument (column + blanks) text ∷ arguments (column + blanks + len) (drop len text)
+    → len ≡ argument_len text → arguments column rest ≡ first_argument (column + blanks) text ∷ arguments (column + (blanks + len)) (drop (blanks + len) rest)
 read_one column blanks len rest text b t e n =
     let some : 0 < length text = grind (arith, nat_tests) in
-    rw (n, t, b) (after_blanks column rest ∙ one_argument (column + prefix_len is_blank rest) (drop (prefix_len is_blank rest) rest) (rw (t, b) at some) (no_blank rest (rw (t, b) at some)))
+    let past : drop len text ≡ drop (blanks + len) rest = ap (drop len) t ∙ drop-drop len blanks rest in
+    let sum : column + blanks + len ≡ column + (blanks + len) = omega arith in
+    let read : arguments column rest ≡ first_argument (column + blanks) text ∷ arguments (column + blanks + len) (drop len text) =
+    rw (n, t, b) (after_blanks column rest ∙ one_argument (column + prefix_len is_blank rest) (drop (prefix_len is_blank rest) rest) (rw (t, b) at some) (no_blank rest (rw (t, b) at some))) in
+    rw (sum, past) at read
 
 -- no reading: nothing but blanks is left
 pub read_none : (column blanks : ℕ) (rest text : List ℕ) → blanks ≡ prefix_len is_blank rest → text ≡ drop blanks rest → (length text == 0) ≡ true → arguments column rest ≡ []

@@ -1,5 +1,5 @@
 -- The arguments of a control line. Source: roff(7), "Macro syntax".
-use Rattle.std.specs.Prelude.{◌≡◌, ℕ, zero, suc, ◌+◌, Bool, true, false, ◌==◌, nat_lt, min, List, [], ◌∷◌, length, take, drop, if◌then◌else◌, Option, MatchOption}
+use Rattle.std.specs.Prelude.{◌≡◌, ◌≤◌, ℕ, zero, suc, ◌+◌, Bool, true, false, ◌==◌, nat_lt, min, List, [], ◌∷◌, length, take, drop, if◌then◌else◌, Option, MatchOption}
 use Rattle.std.specs.List.{prefix_len}
 use Rattle.std.specs.Borrow.{Bor}
 use Rattle.page_roff_forms.specs.declared.quotes.Argument.{Argument}
@@ -79,6 +79,12 @@ has_arguments rest = nat_lt (prefix_len is_blank rest) (length rest)
 abbrev pub argument_seen : Argument (Bor (List ℕ)) → Argument (List ℕ)
 argument_seen argument =
     record { text = argument.text.now; column = argument.column; quoting = argument.quoting }
+
+-- the first of a text's arguments, if there is one, and the bytes after which the others begin
+abbrev pub ReadsFirst : ℕ → List ℕ → Option (Argument (Bor (List ℕ)) × ℕ) → Type 0
+ReadsFirst column text result =
+    MatchOption result (arguments column text ≡ [])
+    (λ read. (read.1 ≤ length text) × (arguments column text ≡ argument_seen read.0 ∷ arguments (column + read.1) (drop read.1 text)))
 
 -- the first of the arguments that are still to be read, if there is one, and then the others
 abbrev pub ReadsNext : List (Argument (List ℕ)) → Option (Argument (Bor (List ℕ))) → List (Argument (List ℕ)) → Type 0

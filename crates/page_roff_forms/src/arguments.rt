@@ -2,7 +2,7 @@
 
 ghost use Rattle.std.specs.Prelude.{◌≡◌, ◌≤◌, ◌+◌, length, IfSome};
 ghost use Rattle.std.specs.List.{prefix_len};
-ghost use Rattle.page_roff_forms.specs.Arguments.{is_blank, arguments, has_arguments, ReadsNext};
+ghost use Rattle.page_roff_forms.specs.Arguments.{is_blank, arguments, has_arguments, ReadsFirst, ReadsNext};
 
 use crate::quotes::{Argument, argument_len, first_argument};
 use page_core_limits::LINE;
@@ -45,6 +45,23 @@ pub fn has_arguments(rest: &[u8]) -> bool
     blank_len(rest) < rest.len()
 }
 
+/// Reads the first argument of a text of which the first byte stands at a column, and says after how many bytes the
+/// others begin.
+pub fn read_argument(text: &[u8], column: u32) -> Option<(Argument<&[u8]>, usize)>
+    requires { column + length text.now ≤ LINE + 1 }
+    ensures first { ReadsFirst column text.now result }
+    ensures short { IfSome result (λ read. length read.0.text.now ≤ length text.now) }
+    ensures room { IfSome result (λ read. read.0.column + length read.0.text.now ≤ column + length text.now) }
+{
+    let blanks = blank_len(text);
+    let bytes = &text[blanks..];
+    if bytes.is_empty() {
+        return None;
+    }
+    let argument = first_argument(bytes, column + blanks as u32);
+    Some((argument, blanks + argument_len(bytes)))
+}
+
 impl<'a> Arguments<'a> {
     /// The arguments in the rest of a control line, of which the first byte stands at a column.
     pub fn new(rest: &'a [u8], column: u32) -> Arguments<'a>
@@ -61,15 +78,9 @@ impl<'a> Arguments<'a> {
         ensures short { IfSome result (λ argument. length argument.text.now ≤ LINE) }
         ensures room { IfSome result (λ argument. argument.column + length argument.text.now ≤ LINE + 1) }
     {
-        let blanks = blank_len(self.rest);
-        let text = &self.rest[blanks..];
-        if text.is_empty() {
-            return None;
-        }
-        let column = self.column + blanks as u32;
-        let len = argument_len(text);
-        self.rest = &text[len..];
-        self.column = column + len as u32;
-        Some(first_argument(text, column))
+        let (argument, len) = read_argument(self.rest, self.column)?;
+        self.rest = &self.rest[len..];
+        self.column += len as u32;
+        Some(argument)
     }
 }

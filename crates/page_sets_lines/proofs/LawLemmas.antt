@@ -1,21 +1,20 @@
 -- The laws of macro sets, event by event: helpers of proofs.
-use Rattle.std.proofs.Common.{◌≡◌, ℕ, ◌+◌, ◌-◌, ◌≤◌, Bool, true, false, List, [], ◌∷◌, ◌++◌, length, drop, refl, arith, inl, inr, length-drop, Option, None, Some}
+use Rattle.std.proofs.Common.{◌≡◌, ℕ, ◌+◌, ◌-◌, ◌≤◌, Bool, true, false, List, [], ◌∷◌, ◌++◌, length, drop, refl, arith, length-drop, Option, None, Some}
 use Rattle.std.proofs.lemmas.List.Sums.{prefix_len-le-length}
-use Rattle.std.proofs.lemmas.Bool.{cases_Bool}
 use Rattle.std.proofs.Math.Seq.{take-length}
-use Rattle.page_core_base.specs.declared.lines_taken.Form.{Form}
-use Rattle.page_core_base.specs.declared.lines_taken.Form.TheVariants as forms
 use Rattle.page_core_base.specs.LinesTaken.{Line}
 use Rattle.page_roff_forms.specs.declared.quotes.Argument.{Argument}
-use Rattle.page_roff_forms.specs.LineForms.{is_white, has_word}
+use Rattle.page_roff_forms.specs.LineForms.{is_white}
 use Rattle.page_sets_lines.specs.declared.events.Deed.{Deed}
 use Rattle.page_sets_lines.specs.declared.events.Deed.TheVariants as deeds
 use Rattle.page_sets_lines.specs.declared.events.Event.{Event}
-use Rattle.page_sets_lines.specs.declared.requests.RequestName.{RequestName}
-use Rattle.page_sets_lines.specs.declared.requests.RequestName.TheVariants as names
+use Rattle.page_sets_lines.specs.declared.plain_lines.PlainLine.{PlainLine}
+use Rattle.page_sets_lines.specs.declared.plain_lines.PlainLine.TheVariants as lines
+use Rattle.page_sets_lines.specs.declared.requests.LayoutRequest.{LayoutRequest}
+use Rattle.page_sets_lines.specs.declared.requests.LayoutRequest.TheVariants as layout
 use Rattle.page_sets_lines.specs.Laws.{IsSlice, IsPart, IsArgument, IsPartIfGiven, IsArgumentIfGiven, RequestsSlices, HasSlices, AreSlices, past, BeginsFrom, AreInOrder}
-use Rattle.page_sets_lines.specs.ControlLines.{name_start, name_end, name_of, arguments_after, first_of, second_of, text_of}
-use Rattle.page_sets_lines.specs.PlainLines.{line_deed, request}
+use Rattle.page_sets_lines.specs.ControlLines.{before_name, name_end, name_of, arguments_after, first_of, second_of, text_of}
+use Rattle.page_sets_lines.specs.PlainLines.{plain_deed, request}
 use Rattle.page_sets_lines.proofs.ArgumentLaws.{ArgumentsFrom, all_after, cut_at}
 
 -- ---- slices
@@ -32,7 +31,7 @@ whole_part line = (0, whole_slice line)
 pub rest_part : (line : List ℕ) (start : ℕ) → start ≤ length line → IsPart line (drop start line)
 rest_part line start h = (start, record { within = omega (arith, length-drop start line); bytes = take-length (drop start line) })
 
-start_within : (text : List ℕ) → name_start text ≤ length text
+start_within : (text : List ℕ) → before_name text ≤ length text
 start_within [] = omega arith
 start_within (control ∷ bytes) = omega (arith, prefix_len-le-length is_white bytes)
 
@@ -42,7 +41,7 @@ end_within line = omega (arith, start_within line.text)
 pub name_part : (line : Line) → IsPart line.text (name_of line)
 name_part line =
     let text = line.text in
-    let start = name_start text in
+    let start = before_name text in
     (start, cut_at text start (name_end line - start) (start_within text) (omega (arith, end_within line, length-drop start text)))
 
 pub argument_part : (line : List ℕ) (argument : Argument (List ℕ)) → IsArgument line argument → IsPart line argument.text
@@ -72,25 +71,18 @@ first_text_after line start = text_part line (first_of (arguments_after start li
 pub second_text_after : (line : List ℕ) (start : ℕ) → IsPartIfGiven line (text_of (second_of (arguments_after start line)))
 second_text_after line start = text_part line (second_of (arguments_after start line)) (second_slice_after line start)
 
-pub request_slices : (line : List ℕ) (name : RequestName) (given : Option (List ℕ)) → IsPartIfGiven line given → RequestsSlices line (request name given)
-request_slices line names.Break given h = tt
-request_slices line names.Space given h = h
-request_slices line names.Font given h = h
-request_slices line names.Shift given h = h
-request_slices line (names.Literal on) given h = tt
+pub request_slices : (line : List ℕ) (name : LayoutRequest) (given : Option (List ℕ)) → IsPartIfGiven line given → RequestsSlices line (request name given)
+request_slices line layout.Break given h = tt
+request_slices line layout.Space given h = h
+request_slices line layout.Font given h = h
+request_slices line layout.Shift given h = h
+request_slices line (layout.Literal on) given h = tt
 
-text_slices : (text : List ℕ) → HasSlices text (line_deed forms.Text text)
-text_slices text =
-    elim (cases_Bool (has_word text)) [
-      | inl t ↦ rw t (record { column = omega arith; slice = whole_slice text })
-      | inr t ↦ rw t (whole_part text)
-    ]
-
-pub line_slices : (form : Form) (text : List ℕ) → HasSlices text (line_deed form text)
-line_slices forms.Text text = text_slices text
-line_slices forms.Blank text = tt
-line_slices forms.Raw text = whole_part text
-line_slices forms.Control text = whole_part text
+pub line_slices : (line : PlainLine) (text : List ℕ) → HasSlices text (plain_deed line text)
+line_slices lines.Words text = record { column = omega arith; slice = whole_slice text }
+line_slices lines.Wordless text = whole_part text
+line_slices lines.Blank text = tt
+line_slices lines.Raw text = whole_part text
 
 pub AreSlices-append : (line : List ℕ) (front rest : List (Event (List ℕ))) → AreSlices line front → AreSlices line rest → AreSlices line (front ++ rest)
 AreSlices-append line [] rest h k = k
@@ -139,8 +131,8 @@ pub order_before : (from : ℕ) (words rest : List (Event (List ℕ))) → AreIn
 order_before from [] rest h k = order_of_none from rest k
 order_before from (event ∷ words) rest h k = (h.0, order_before (past from event.deed) words rest h.1 k)
 
-pub line_order : (form : Form) (text : List ℕ) → BeginsFrom 0 (line_deed form text)
-line_order forms.Text text = elim (cases_Bool (has_word text)) [ inl t ↦ rw t (omega arith) | inr t ↦ rw t tt ]
-line_order forms.Blank text = tt
-line_order forms.Raw text = tt
-line_order forms.Control text = tt
+pub line_order : (line : PlainLine) (text : List ℕ) → BeginsFrom 0 (plain_deed line text)
+line_order lines.Words text = omega arith
+line_order lines.Wordless text = tt
+line_order lines.Blank text = tt
+line_order lines.Raw text = tt

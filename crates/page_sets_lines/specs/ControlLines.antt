@@ -9,19 +9,19 @@ use Rattle.page_roff_forms.specs.LineForms.{is_white}
 use Rattle.page_roff_forms.specs.Arguments.{arguments, argument_seen}
 use Rattle.std.specs.Borrow.{Bor}
 
--- after the control character come white space and the name; this many bytes stand before it
-abbrev pub name_start : List ℕ → ℕ
-name_start text = min 1 (length text) + prefix_len is_white (drop 1 text)
+-- the bytes before the name: the control character and the white space after it
+abbrev pub before_name : List ℕ → ℕ
+before_name text = min 1 (length text) + prefix_len is_white (drop 1 text)
 
 -- the name goes as far as the line says, but not past the text's end; a name that would end before it begins is empty
 abbrev pub name_end : Line → ℕ
-name_end line = max (name_start line.text) (min line.name_end (length line.text))
+name_end line = max (before_name line.text) (min line.name_end (length line.text))
 
 abbrev pub name_of : Line → List ℕ
-name_of line = take (name_end line - name_start line.text) (drop (name_start line.text) line.text)
+name_of line = take (name_end line - before_name line.text) (drop (before_name line.text) line.text)
 
 abbrev pub is_nameless : Line → Bool
-is_nameless line = name_start line.text == name_end line
+is_nameless line = before_name line.text == name_end line
 
 -- what comes after the name: the arguments, with what stands between them
 abbrev pub rest_of : Line → List ℕ
@@ -57,23 +57,8 @@ open_quote zero (argument ∷ arguments) =
     if is_unclosed argument.quoting then Some (argument.column - 1) else open_quote zero arguments
 open_quote (suc printed) (argument ∷ arguments) = open_quote printed arguments
 
--- whether there is one
-abbrev pub has_any : List (Argument (List ℕ)) → Bool
-has_any [] = false
-has_any (argument ∷ arguments) = true
-
--- the last quote of an argument
-abbrev pub closing_len : Quoting → ℕ
-closing_len Bare = 0
-closing_len Closed = 1
-closing_len Unclosed = 0
-
--- the bytes of a line up to an argument's end, with its last quote
-abbrev pub argument_end : Argument (List ℕ) → ℕ
-argument_end argument = argument.column - 1 + length argument.text + closing_len argument.quoting
-
--- the next of the arguments that begin after this many bytes, if there is one, and where the others begin
-abbrev pub ReadsFrom : List ℕ → ℕ → Option (Argument (Bor (List ℕ)) × ℕ) → Type 0
-ReadsFrom text start result =
+-- the first of the arguments that begin after this many bytes, if there is one, and where the others begin
+abbrev pub ReadsAfter : ℕ → List ℕ → Option (Argument (Bor (List ℕ)) × ℕ) → Type 0
+ReadsAfter start text result =
     MatchOption result (arguments_after start text ≡ [])
     (λ read. (read.1 ≤ length text) × (arguments_after start text ≡ argument_seen read.0 ∷ arguments_after read.1 text))

@@ -1,5 +1,5 @@
 -- Events with what their texts hold. Source: man(7).
-use Rattle.std.specs.Prelude.{ℕ, List, Option, None, Some}
+use Rattle.std.specs.Prelude.{◌≡◌, ℕ, List, [], ◌∷◌, Option, None, Some, MatchOption}
 use Rattle.std.specs.Borrow.{Bor}
 use Rattle.page_roff_forms.specs.declared.quotes.Argument.{Argument}
 use Rattle.page_roff_forms.specs.Arguments.{argument_seen}
@@ -83,3 +83,7 @@ deed_seen (deeds.Note kind detail begins_body) = deeds.Note kind detail.now begi
 -- an event of the program, with what its texts hold
 abbrev pub event_seen : Event (Bor (List ℕ)) → Event (List ℕ)
 event_seen event = record { place = event.place; deed = deed_seen event.deed }
+
+-- the first of the events that are still to come is given, if there is one, and the others are still to come
+abbrev pub TakesNext : List (Event (List ℕ)) → Option (Event (Bor (List ℕ))) → List (Event (List ℕ)) → Type 0
+TakesNext old result new = MatchOption result ((old ≡ []) × (new ≡ [])) (λ event. old ≡ event_seen event ∷ new)

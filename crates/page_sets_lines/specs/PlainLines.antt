@@ -1,5 +1,5 @@
 -- The events of text lines, blank lines and raw lines, and the requests that change rows. Source: roff(7), "LANGUAGE SYNTAX" and "REQUEST REFERENCE".
-use Rattle.std.specs.Prelude.{ℕ, Bool, true, false, List, [], ◌∷◌, Option, None, option_map, find, codes, if◌then◌else◌}
+use Rattle.std.specs.Prelude.{ℕ, Bool, true, false, List, [], ◌∷◌, Option, None, Some, option_map, find, codes, if◌then◌else◌}
 use Rattle.std.specs.Str.{bytes_eq}
 use Rattle.page_core_base.specs.declared.lines_taken.Form.{Form}
 use Rattle.page_core_base.specs.declared.lines_taken.Form.TheVariants as forms
@@ -14,9 +14,10 @@ use Rattle.page_sets_lines.specs.declared.events.Join.TheVariants.{Apart}
 use Rattle.page_sets_lines.specs.declared.events.Deed.{Deed}
 use Rattle.page_sets_lines.specs.declared.events.Deed.TheVariants as deeds
 use Rattle.page_sets_lines.specs.declared.events.Event.{Event}
-use Rattle.page_sets_lines.specs.declared.requests.RequestName.{RequestName}
-use Rattle.page_sets_lines.specs.declared.requests.RequestName.TheVariants as names
-use Rattle.page_core_base.specs.LinesTaken.{Line}
+use Rattle.page_sets_lines.specs.declared.plain_lines.PlainLine.{PlainLine}
+use Rattle.page_sets_lines.specs.declared.plain_lines.PlainLine.TheVariants as lines
+use Rattle.page_sets_lines.specs.declared.requests.LayoutRequest.{LayoutRequest}
+use Rattle.page_sets_lines.specs.declared.requests.LayoutRequest.TheVariants as layout
 
 -- an event in a column of a line
 abbrev pub event_at : ℕ → ℕ → Deed (List ℕ) → Event (List ℕ)
@@ -32,41 +33,47 @@ line_word text = record {
   after = Apart;
 }
 
--- what a text line, a blank line and a raw line are; a control line is what its set says
-abbrev pub line_deed : Form → List ℕ → Deed (List ℕ)
-line_deed forms.Text text = if has_word text then deeds.Word (line_word text) else deeds.Leaf (Wordless text)
-line_deed forms.Blank text = deeds.Leaf BlankLine
-line_deed forms.Raw text = deeds.Raw text
-line_deed forms.Control text = deeds.Raw text
+-- what a line is, unless it is a control line
+abbrev pub plain_line : Form → List ℕ → Option PlainLine
+plain_line forms.Text text = Some (if has_word text then lines.Words else lines.Wordless)
+plain_line forms.Blank text = Some lines.Blank
+plain_line forms.Raw text = Some lines.Raw
+plain_line forms.Control text = None
 
--- a text line with a word fills line scopes
-abbrev pub is_filling : Form → List ℕ → Bool
-is_filling forms.Text text = has_word text
-is_filling forms.Blank text = false
-is_filling forms.Raw text = false
-is_filling forms.Control text = false
+-- what it does
+abbrev pub plain_deed : PlainLine → List ℕ → Deed (List ℕ)
+plain_deed lines.Words text = deeds.Word (line_word text)
+plain_deed lines.Wordless text = deeds.Leaf (Wordless text)
+plain_deed lines.Blank text = deeds.Leaf BlankLine
+plain_deed lines.Raw text = deeds.Raw text
+
+-- text with a word fills line scopes
+abbrev pub fills : PlainLine → Bool
+fills lines.Words = true
+fills lines.Wordless = false
+fills lines.Blank = false
+fills lines.Raw = false
 
 abbrev pub line_end : ℕ → Bool → Event (List ℕ)
 line_end number filled = event_at number 1 (deeds.End filled)
 
 -- the events of a line that is no control line
-abbrev pub plain_events : Line → List (Event (List ℕ))
-plain_events line =
-    event_at line.number 1 (line_deed line.form line.text) ∷ line_end line.number (is_filling line.form line.text) ∷ []
+abbrev pub plain_events : ℕ → List ℕ → PlainLine → List (Event (List ℕ))
+plain_events number text line = event_at number 1 (plain_deed line text) ∷ line_end number (fills line) ∷ []
 
 -- the requests that change rows
-abbrev pub request_names : List (List ℕ × RequestName)
-request_names =
-    (codes "br", names.Break) ∷ (codes "sp", names.Space) ∷ (codes "ft", names.Font) ∷ (codes "in", names.Shift)
-    ∷ (codes "nf", names.Literal true) ∷ (codes "fi", names.Literal false) ∷ []
+abbrev pub layout_requests : List (List ℕ × LayoutRequest)
+layout_requests =
+    (codes "br", layout.Break) ∷ (codes "sp", layout.Space) ∷ (codes "ft", layout.Font) ∷ (codes "in", layout.Shift)
+    ∷ (codes "nf", layout.Literal true) ∷ (codes "fi", layout.Literal false) ∷ []
 
-unfoldable pub request_of : List ℕ → Option RequestName
-request_of name = option_map (λ row. row.1) (find (λ row. bytes_eq name row.0) request_names)
+unfoldable pub layout_request : List ℕ → Option LayoutRequest
+layout_request name = option_map (λ row. row.1) (find (λ row. bytes_eq name row.0) layout_requests)
 
 -- a request with its first argument, where it has one
-abbrev pub request : RequestName → Option (List ℕ) → Request (List ℕ)
-request names.Break given = requests.Break
-request names.Space given = requests.Space given
-request names.Font given = requests.Font given
-request names.Shift given = requests.Shift given
-request (names.Literal on) given = requests.Literal on
+abbrev pub request : LayoutRequest → Option (List ℕ) → Request (List ℕ)
+request layout.Break given = requests.Break
+request layout.Space given = requests.Space given
+request layout.Font given = requests.Font given
+request layout.Shift given = requests.Shift given
+request (layout.Literal on) given = requests.Literal on

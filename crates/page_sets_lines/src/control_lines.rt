@@ -2,13 +2,13 @@
 
 ghost use Rattle.std.specs.Prelude.{◌≡◌, ◌≤◌, ◌+◌, ◌-◌, ◌<◌, ◌^◌, ℕ, List, length, drop, ◌==◌, IfSome};
 ghost use Rattle.page_core_base.specs.LinesTaken.{line_seen};
-ghost use Rattle.page_roff_forms.specs.Arguments.{arguments, argument_seen};
+ghost use Rattle.page_roff_forms.specs.Arguments.{arguments};
 ghost use Rattle.page_sets_lines.specs.Events.{given_seen};
-ghost use Rattle.page_sets_lines.specs.ControlLines.{name_start, name_end, arguments_after, first_of, second_of, open_quote, has_any, closing_len, argument_end, ReadsFrom};
+ghost use Rattle.page_sets_lines.specs.ControlLines.{before_name, name_end, arguments_after, first_of, second_of, open_quote, ReadsAfter};
 
 use page_core_base::Taken;
 use page_core_limits::LINE;
-use page_roff_forms::{Argument, Arguments, Quoting, white_len};
+use page_roff_forms::{Argument, Arguments, Quoting, read_argument, white_len};
 
 /// Where the name of a control line begins and ends, in bytes.
 #[derive(Clone, Copy)]
@@ -17,9 +17,9 @@ pub struct NameSpan {
     pub end: usize,
 }
 
-// Where the name of a control line begins.
-fn name_start(text: &[u8]) -> usize
-    ensures value { result ≡ name_start text.now }
+// The bytes before the name of a control line.
+fn before_name(text: &[u8]) -> usize
+    ensures value { result ≡ before_name text.now }
     ensures within { result ≤ length text.now }
 {
     match text {
@@ -39,11 +39,11 @@ impl NameSpan {
 
 /// Finds the name of a control line.
 pub fn find_name(line: Taken<'_>) -> NameSpan
-    ensures start { result.start ≡ name_start line.entry.text.now }
+    ensures start { result.start ≡ before_name line.entry.text.now }
     ensures end { result.end ≡ name_end (line_seen line.entry) }
     ensures within { (result.start ≤ result.end) × (result.end ≤ length line.entry.text.now) }
 {
-    let start = name_start(line.text);
+    let start = before_name(line.text);
     let end = line.text.len().min(line.name_end as usize);
     NameSpan {
         start,
@@ -79,12 +79,22 @@ pub fn open_quote(text: &[u8], start: usize, printed: usize) -> Option<u32>
     None
 }
 
+/// Reads the first argument that begins after this many bytes, and says after how many the others begin.
+#[tactic(auto, using(crate::proofs::ArgumentLaws::read_from))]
+pub fn read_after(text: &[u8], start: usize) -> Option<(Argument<&[u8]>, usize)>
+    requires short { length text.now ≤ LINE }
+    requires within { start ≤ length text.now }
+    ensures { ReadsAfter start text.now result }
+{
+    let (argument, len) = read_argument(&text[start..], start as u32 + 1)?;
+    Some((argument, start + len))
+}
+
 /// The first argument that begins after this many bytes.
 pub fn first_of(text: &[u8], start: usize) -> Option<Argument<&[u8]>>
     requires short { length text.now ≤ LINE }
     requires within { start ≤ length text.now }
-    ensures value { given_seen result ≡ first_of (arguments_after start text.now) }
-    ensures short { IfSome result (λ argument. length argument.text.now ≤ LINE) }
+    ensures { given_seen result ≡ first_of (arguments_after start text.now) }
 {
     arguments_after(text, start).next_argument()
 }
@@ -98,44 +108,4 @@ pub fn second_of(text: &[u8], start: usize) -> Option<Argument<&[u8]>>
     let mut arguments = arguments_after(text, start);
     arguments.next_argument()?;
     arguments.next_argument()
-}
-
-/// Whether there is an argument after this many bytes.
-pub fn has_arguments(text: &[u8], start: usize) -> bool
-    requires short { length text.now ≤ LINE }
-    requires within { start ≤ length text.now }
-    ensures { result ≡ has_any (arguments_after start text.now) }
-{
-    first_of(text, start).is_some()
-}
-
-// The number of bytes of an argument's last quote.
-fn closing_len(quoting: Quoting) -> usize
-    ensures { result ≡ closing_len quoting }
-{
-    match quoting {
-        Quoting::Closed => 1,
-        Quoting::Bare | Quoting::Unclosed => 0,
-    }
-}
-
-// The number of bytes up to an argument's end, with its last quote.
-fn argument_end(argument: Argument<&[u8]>) -> usize
-    requires column { 1 ≤ argument.column }
-    requires short { length argument.text.now ≤ LINE }
-    ensures { result ≡ argument_end (argument_seen argument.entry) }
-{
-    argument.column as usize - 1 + argument.text.len() + closing_len(argument.quoting)
-}
-
-/// Reads the first argument that begins after this many bytes, and says after how many the others begin.
-pub fn read_argument(text: &[u8], start: usize) -> Option<(Argument<&[u8]>, usize)>
-    requires short { length text.now ≤ LINE }
-    requires within { start ≤ length text.now }
-    ensures { ReadsFrom text.now start result }
-{
-    match first_of(text, start) {
-        Some(argument) => Some((argument, argument_end(argument))),
-        None => None,
-    }
 }

@@ -12,13 +12,12 @@ mod plain_lines;
 mod requests;
 
 pub use control_lines::{
-    NameSpan, arguments_after, find_name, first_of, has_arguments, open_quote, read_argument,
-    second_of,
+    NameSpan, arguments_after, find_name, first_of, open_quote, read_after, second_of,
 };
 pub use events::{Deed, Event, Join, Role, Word};
 pub use leaves::{Leaf, Own, OwnWord, Request};
 pub use macro_names::{FontMacro, HeadingName, Link, ParagraphName, Prologue, TagName};
 pub use macro_sets::MacroSet;
 pub use openers::{Closer, LineOpener, Opener};
-pub use plain_lines::{is_filling, line_deed};
-pub use requests::{RequestName, request, request_of};
+pub use plain_lines::PlainLine;
+pub use requests::LayoutRequest;

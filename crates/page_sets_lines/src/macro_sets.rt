@@ -1,9 +1,9 @@
 //! The trait of macro sets: what events a line has (man(7), mdoc(7)).
 
-ghost use Rattle.std.specs.Prelude.{◌≡◌, ◌≤◌, ◌+◌, ◌*◌, List, [], ◌∷◌, ℕ, length, MatchOption};
+ghost use Rattle.std.specs.Prelude.{◌≡◌, ◌≤◌, ◌+◌, ◌*◌, List, ℕ, length};
 ghost use Rattle.page_sets_lines.specs.declared.events.Event.{Event};
 ghost use Rattle.page_core_base.specs.LinesTaken.{Line, line_seen};
-ghost use Rattle.page_sets_lines.specs.Events.{event_seen};
+ghost use Rattle.page_sets_lines.specs.Events.{TakesNext};
 ghost use Rattle.page_sets_lines.specs.Laws.{AreSlices, AreInOrder};
 
 use crate::events::Event;
@@ -44,10 +44,8 @@ pub trait MacroSet {
         requires short { length line.text.now ≤ LINE }
         requires place { IsPlaceOf self.now (line_seen line) place.old }
         ensures place { IsPlaceOf self.now (line_seen line.entry) place.new }
-        ensures events { MatchOption result
-            (events_from self.now (line_seen line.entry) place.old ≡ [])
-            (λ event. events_from self.now (line_seen line.entry) place.old
-            ≡ event_seen event ∷ events_from self.now (line_seen line.entry) place.new) };
+        ensures events { TakesNext (events_from self.now (line_seen line.entry) place.old) result
+            (events_from self.now (line_seen line.entry) place.new) };
 
     // each argument is the slice of the line at its column, and each other text a slice of it
     ghost slices: { (set : Self) (line : Line) → AreSlices line.text (table set line) };

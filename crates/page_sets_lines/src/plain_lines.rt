@@ -3,12 +3,25 @@
 
 ghost use Rattle.std.specs.Prelude.{◌≡◌};
 ghost use Rattle.page_sets_lines.specs.Events.{deed_seen, word_seen};
-ghost use Rattle.page_sets_lines.specs.PlainLines.{line_word, line_deed, is_filling};
+ghost use Rattle.page_sets_lines.specs.PlainLines.{line_word, plain_line, plain_deed, fills};
 
 use crate::events::{Deed, Join, Role, Word};
 use crate::leaves::Leaf;
 use page_core_base::{Form, Taken};
 use page_roff_forms::{Argument, Quoting, has_word};
+
+/// What a line is that is no control line.
+#[derive(Clone, Copy)]
+pub enum PlainLine {
+    /// Text with a word.
+    Words,
+    /// Text without one: blanks and tabs, or nothing.
+    Wordless,
+    /// A blank line.
+    Blank,
+    /// A line as it is written.
+    Raw,
+}
 
 // A whole line as one word.
 fn line_word(text: &[u8]) -> Word<&[u8]>
@@ -27,24 +40,36 @@ fn line_word(text: &[u8]) -> Word<&[u8]>
     }
 }
 
-/// What a line is that is no control line: a word, a line without words, a blank line or a raw line.
-pub fn line_deed<'a>(line: Taken<'a>) -> Deed<&'a [u8]>
-    ensures { deed_seen result ≡ line_deed line.entry.form line.entry.text.now }
-{
-    match line.form {
-        Form::Text if has_word(line.text) => Deed::Word(line_word(line.text)),
-        Form::Text => Deed::Leaf(Leaf::Wordless(line.text)),
-        Form::Blank => Deed::Leaf(Leaf::BlankLine),
-        Form::Raw | Form::Control => Deed::Raw(line.text),
+impl PlainLine {
+    /// What a line is, unless it is a control line.
+    pub fn of(line: Taken<'_>) -> Option<PlainLine>
+        ensures { result ≡ plain_line line.entry.form line.entry.text.now }
+    {
+        match line.form {
+            Form::Text if has_word(line.text) => Some(PlainLine::Words),
+            Form::Text => Some(PlainLine::Wordless),
+            Form::Blank => Some(PlainLine::Blank),
+            Form::Raw => Some(PlainLine::Raw),
+            Form::Control => None,
+        }
     }
-}
 
-/// Whether it fills the line scopes that are open, as a text line with a word does.
-pub fn is_filling(line: Taken<'_>) -> bool
-    ensures { result ≡ is_filling line.entry.form line.entry.text.now }
-{
-    match line.form {
-        Form::Text => has_word(line.text),
-        Form::Blank | Form::Raw | Form::Control => false,
+    /// What it does, with its text.
+    pub fn deed(self, text: &[u8]) -> Deed<&[u8]>
+        ensures { deed_seen result ≡ plain_deed self text.now }
+    {
+        match self {
+            PlainLine::Words => Deed::Word(line_word(text)),
+            PlainLine::Wordless => Deed::Leaf(Leaf::Wordless(text)),
+            PlainLine::Blank => Deed::Leaf(Leaf::BlankLine),
+            PlainLine::Raw => Deed::Raw(text),
+        }
+    }
+
+    /// Whether it fills the line scopes that are open.
+    pub fn fills(self) -> bool
+        ensures { result ≡ fills self }
+    {
+        matches!(self, PlainLine::Words)
     }
 }

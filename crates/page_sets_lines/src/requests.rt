@@ -2,13 +2,13 @@
 
 ghost use Rattle.std.specs.Prelude.{◌≡◌};
 ghost use Rattle.page_sets_lines.specs.Events.{request_seen, text_seen};
-ghost use Rattle.page_sets_lines.specs.PlainLines.{request_of, request};
+ghost use Rattle.page_sets_lines.specs.PlainLines.{layout_request, request};
 
 use crate::leaves::Request;
 
-/// The name of a request.
+/// A request that changes rows.
 #[derive(Clone, Copy)]
-pub enum RequestName {
+pub enum LayoutRequest {
     /// `br`.
     Break,
     /// `sp`.
@@ -21,31 +21,33 @@ pub enum RequestName {
     Literal(bool),
 }
 
-/// The request of a name.
-#[tactic(auto, unfolding(crate::specs::PlainLines::request_of))]
-pub fn request_of(name: &[u8]) -> Option<RequestName>
-    ensures { result ≡ request_of name.now }
-{
-    match name {
-        b"br" => Some(RequestName::Break),
-        b"sp" => Some(RequestName::Space),
-        b"ft" => Some(RequestName::Font),
-        b"in" => Some(RequestName::Shift),
-        b"nf" => Some(RequestName::Literal(true)),
-        b"fi" => Some(RequestName::Literal(false)),
-        _ => None,
+impl LayoutRequest {
+    /// The request of this name.
+    #[tactic(auto, unfolding(crate::specs::PlainLines::layout_request))]
+    pub fn of(name: &[u8]) -> Option<LayoutRequest>
+        ensures { result ≡ layout_request name.now }
+    {
+        match name {
+            b"br" => Some(LayoutRequest::Break),
+            b"sp" => Some(LayoutRequest::Space),
+            b"ft" => Some(LayoutRequest::Font),
+            b"in" => Some(LayoutRequest::Shift),
+            b"nf" => Some(LayoutRequest::Literal(true)),
+            b"fi" => Some(LayoutRequest::Literal(false)),
+            _ => None,
+        }
     }
-}
 
-/// A request with its first argument, where it has one.
-pub fn request<'a>(name: RequestName, given: Option<&'a [u8]>) -> Request<&'a [u8]>
-    ensures { request_seen result ≡ request name (text_seen given.entry) }
-{
-    match name {
-        RequestName::Break => Request::Break,
-        RequestName::Space => Request::Space(given),
-        RequestName::Font => Request::Font(given),
-        RequestName::Shift => Request::Shift(given),
-        RequestName::Literal(on) => Request::Literal(on),
+    /// It with its first argument, where it has one.
+    pub fn with_argument<'a>(self, given: Option<&'a [u8]>) -> Request<&'a [u8]>
+        ensures { request_seen result ≡ request self (text_seen given.entry) }
+    {
+        match self {
+            LayoutRequest::Break => Request::Break,
+            LayoutRequest::Space => Request::Space(given),
+            LayoutRequest::Font => Request::Font(given),
+            LayoutRequest::Shift => Request::Shift(given),
+            LayoutRequest::Literal(on) => Request::Literal(on),
+        }
     }
 }

@@ -1,4 +1,5 @@
 pub mod Rows
 pub mod Man
+pub mod Steps
 pub mod Plans
 pub mod ManLaws

@@ -2,11 +2,10 @@
 use Rattle.std.specs.Prelude.{ℕ, ◌+◌, Bool, true, false, ◌&&◌, List, [], ◌∷◌, ◌++◌, Option, None, Some, option_map, if◌then◌else◌}
 use Rattle.page_core_base.specs.declared.cells.Font.{Font}
 use Rattle.page_core_base.specs.declared.cells.Font.TheVariants as fonts
-use Rattle.page_core_base.specs.declared.lines_taken.Form.{Form}
-use Rattle.page_core_base.specs.declared.lines_taken.Form.TheVariants as forms
 use Rattle.page_core_base.specs.declared.note_kinds.NoteKind.{NoteKind}
 use Rattle.page_core_base.specs.declared.note_kinds.NoteKind.TheVariants.{Unterminated, UnknownMacro, EmptyMacro}
 use Rattle.page_roff_forms.specs.declared.quotes.Argument.{Argument}
+use Rattle.page_roff_forms.specs.Arguments.{has_arguments}
 use Rattle.page_sets_lines.specs.declared.macro_names.HeadingName.TheVariants.{SH, SS}
 use Rattle.page_sets_lines.specs.declared.macro_names.TagName.TheVariants.{TP, TQ}
 use Rattle.page_sets_lines.specs.declared.macro_names.Prologue.TheVariants.{TH}
@@ -20,6 +19,7 @@ use Rattle.page_sets_lines.specs.declared.leaves.Own.{Own}
 use Rattle.page_sets_lines.specs.declared.leaves.Own.TheVariants.{Round, Unround}
 use Rattle.page_sets_lines.specs.declared.leaves.Leaf.{Leaf}
 use Rattle.page_sets_lines.specs.declared.leaves.Leaf.TheVariants as leaves
+use Rattle.page_sets_lines.specs.declared.plain_lines.PlainLine.{PlainLine}
 use Rattle.page_sets_lines.specs.declared.events.Join.{Join}
 use Rattle.page_sets_lines.specs.declared.events.Join.TheVariants.{Apart, Glued}
 use Rattle.page_sets_lines.specs.declared.events.Role.TheVariants as roles
@@ -27,8 +27,8 @@ use Rattle.page_sets_lines.specs.declared.events.Deed.{Deed}
 use Rattle.page_sets_lines.specs.declared.events.Deed.TheVariants as deeds
 use Rattle.page_sets_lines.specs.declared.events.Event.{Event}
 use Rattle.page_core_base.specs.LinesTaken.{Line}
-use Rattle.page_sets_lines.specs.ControlLines.{name_start, name_end, name_of, is_nameless, rest_of, arguments_after, first_of, second_of, text_of, has_any, open_quote}
-use Rattle.page_sets_lines.specs.PlainLines.{event_at, line_end, plain_events, request}
+use Rattle.page_sets_lines.specs.ControlLines.{before_name, name_end, name_of, is_nameless, rest_of, arguments_after, first_of, second_of, text_of, open_quote}
+use Rattle.page_sets_lines.specs.PlainLines.{event_at, line_end, plain_line, plain_events, request}
 use Rattle.page_sets_man.specs.declared.rows.Opens.{Opens}
 use Rattle.page_sets_man.specs.declared.rows.Opens.TheVariants as opens
 use Rattle.page_sets_man.specs.declared.rows.Closes.{Closes}
@@ -136,57 +136,41 @@ alternating_words number font other before [] = []
 alternating_words number font other before (argument ∷ arguments) =
     argument_word number (Some font) before argument ∷ alternating_words number other font Glued arguments
 
--- one argument in a font
+-- the first argument alone
 abbrev pub one_word : ℕ → Option Font → Join → List (Argument (List ℕ)) → List (Event (List ℕ))
 one_word number font before [] = []
 one_word number font before (argument ∷ arguments) = argument_word number font before argument ∷ []
 
 -- a key in bold, then its value in italic
-abbrev pub key_words : ℕ → List (Argument (List ℕ)) → List (Event (List ℕ))
-key_words number [] = []
-key_words number (key ∷ arguments) = argument_word number (Some fonts.B) Apart key ∷ one_word number (Some fonts.I) Apart arguments
+abbrev pub option_words : ℕ → List (Argument (List ℕ)) → List (Event (List ℕ))
+option_words number [] = []
+option_words number (key ∷ arguments) = argument_word number (Some fonts.B) Apart key ∷ one_word number (Some fonts.I) Apart arguments
 
--- a name in italic, its section in parentheses, and a suffix, all glued
-abbrev pub section_end : ℕ → ℕ → List (Argument (List ℕ)) → List (Event (List ℕ))
-section_end number column arguments = mark number column Unround Glued Apart ∷ one_word number None Glued arguments
-
-abbrev pub section_text : ℕ → ℕ → List (Argument (List ℕ)) → List (Event (List ℕ))
-section_text number column [] = []
-section_text number column (section ∷ arguments) = argument_word number None Apart section ∷ section_end number column arguments
-
+-- a section in parentheses, and a suffix, all glued
 abbrev pub section_words : ℕ → ℕ → List (Argument (List ℕ)) → List (Event (List ℕ))
 section_words number column [] = []
 section_words number column (section ∷ arguments) =
-    mark number column Round Glued Glued ∷ section_text number column (section ∷ arguments)
+    mark number column Round Glued Glued ∷ argument_word number None Apart section ∷ mark number column Unround Glued Apart
+    ∷ one_word number None Glued arguments
 
-abbrev pub name_words : ℕ → ℕ → List (Argument (List ℕ)) → List (Event (List ℕ))
-name_words number column [] = []
-name_words number column (name ∷ arguments) =
-    argument_word number (Some fonts.I) Apart name ∷ section_words number column arguments
+-- a name in italic, with its section and suffix
+abbrev pub reference_words : ℕ → ℕ → List (Argument (List ℕ)) → List (Event (List ℕ))
+reference_words number column [] = []
+reference_words number column (name ∷ arguments) = argument_word number (Some fonts.I) Apart name ∷ section_words number column arguments
 
 abbrev pub words_events : ℕ → ℕ → Words → List (Argument (List ℕ)) → List (Event (List ℕ))
 words_events number column words.Nothing arguments = []
 words_events number column words.Plain arguments = plain_words number arguments
-words_events number column (words.Alternating font other before) arguments = alternating_words number font other before arguments
-words_events number column words.Key arguments = key_words number arguments
-words_events number column words.Value arguments = one_word number (Some fonts.I) Apart arguments
-words_events number column words.Name arguments = name_words number column arguments
-words_events number column words.Section arguments = section_words number column arguments
-words_events number column words.SectionText arguments = section_text number column arguments
-words_events number column words.SectionEnd arguments = section_end number column arguments
-words_events number column words.Suffix arguments = one_word number None Glued arguments
+words_events number column (words.Alternating font other) arguments = alternating_words number font other Apart arguments
+words_events number column words.Option arguments = option_words number arguments
+words_events number column words.Reference arguments = reference_words number column arguments
 
 abbrev pub has_words : Words → Bool
 has_words words.Nothing = false
 has_words words.Plain = true
-has_words (words.Alternating font other before) = true
-has_words words.Key = true
-has_words words.Value = true
-has_words words.Name = true
-has_words words.Section = true
-has_words words.SectionText = true
-has_words words.SectionEnd = true
-has_words words.Suffix = true
+has_words (words.Alternating font other) = true
+has_words words.Option = true
+has_words words.Reference = true
 
 -- ---- the events of a line
 
@@ -233,7 +217,7 @@ macro_events number column row rest arguments =
     ++ (deed_events number column (effect_deed row.effect rest arguments)
     ++ (scope_events number column (line_scope row.effect)
     ++ (words_events number column row.words arguments
-    ++ (last_events number column row.last ++ line_end number (has_any arguments && has_words row.words) ∷ [])))))
+    ++ (last_events number column row.last ++ line_end number (has_words row.words && has_arguments rest) ∷ [])))))
 
 -- a message about a macro's name
 abbrev pub refused_events : NoteKind → ℕ → ℕ → List ℕ → List (Event (List ℕ))
@@ -248,26 +232,24 @@ lone_events (Scope opener) number column name events =
 
 abbrev pub row_events : ℕ → ℕ → List ℕ → List ℕ → List (Argument (List ℕ)) → Row → List (Event (List ℕ))
 row_events number column name rest arguments row =
-    if has_any arguments then macro_events number column row rest arguments
+    if has_arguments rest then macro_events number column row rest arguments
     else lone_events row.alone number column name (macro_events number column row rest arguments)
 
 -- a macro by its row, if its name has one
 abbrev pub named_events : Line → Option Row → List (Event (List ℕ))
-named_events line None = refused_events UnknownMacro line.number (name_start line.text + 1) (name_of line)
+named_events line None = refused_events UnknownMacro line.number (before_name line.text + 1) (name_of line)
 named_events line (Some row) =
-    row_events line.number (name_start line.text + 1) (name_of line) (rest_of line) (arguments_after (name_end line) line.text) row
+    row_events line.number (before_name line.text + 1) (name_of line) (rest_of line) (arguments_after (name_end line) line.text) row
 
 -- a line without a name does nothing
 abbrev pub control_events : Line → List (Event (List ℕ))
 control_events line =
     if is_nameless line then line_end line.number false ∷ [] else named_events line (row_of (name_of line))
 
-abbrev pub form_events : Form → Line → List (Event (List ℕ))
-form_events forms.Text line = plain_events line
-form_events forms.Blank line = plain_events line
-form_events forms.Raw line = plain_events line
-form_events forms.Control line = control_events line
+abbrev pub line_events : Line → Option PlainLine → List (Event (List ℕ))
+line_events line None = control_events line
+line_events line (Some plain) = plain_events line.number line.text plain
 
 -- the events of a line
 unfoldable pub man_events : Line → List (Event (List ℕ))
-man_events line = form_events line.form line
+man_events line = line_events line (plain_line line.form line.text)

@@ -1,14 +1,13 @@
 -- The macros of man(7) keep the laws of macro sets: proofs, which the set's laws cite. Source: man(7).
-use Rattle.std.proofs.Common.{◌≡◌, ℕ, ◌+◌, ◌-◌, ◌*◌, ◌≤◌, ◌<◌, ◌==◌, Bool, true, false, ◌&&◌, nat_le, List, [], ◌∷◌, ◌++◌, length, drop, refl, arith, inl, inr, length-append, Option, None, Some, option_map, find}
+use Rattle.std.proofs.Common.{◌≡◌, ℕ, ◌+◌, ◌*◌, ◌≤◌, ◌<◌, ◌==◌, Bool, true, false, ◌&&◌, nat_le, List, [], ◌∷◌, ◌++◌, length, drop, refl, arith, inl, inr, length-append, Option, None, Some, option_map, find}
 use Rattle.std.specs.List.{list_all}
 use Rattle.std.specs.Str.{bytes_eq}
 use Rattle.std.proofs.lemmas.Bool.{cases_Bool}
 use Rattle.std.proofs.lemmas.Bool.Decides.{nat_tests}
 use Rattle.page_core_base.specs.declared.cells.Font.{Font}
 use Rattle.page_core_base.specs.declared.cells.Font.TheVariants as fonts
-use Rattle.page_core_base.specs.declared.lines_taken.Form.{Form}
-use Rattle.page_core_base.specs.declared.lines_taken.Form.TheVariants as forms
 use Rattle.page_roff_forms.specs.declared.quotes.Argument.{Argument}
+use Rattle.page_roff_forms.specs.Arguments.{has_arguments}
 use Rattle.page_sets_lines.specs.declared.openers.Opener.{Opener}
 use Rattle.page_sets_lines.specs.declared.openers.LineOpener.{LineOpener}
 use Rattle.page_sets_lines.specs.declared.events.Join.{Join}
@@ -16,11 +15,12 @@ use Rattle.page_sets_lines.specs.declared.events.Join.TheVariants.{Apart, Glued}
 use Rattle.page_sets_lines.specs.declared.events.Deed.{Deed}
 use Rattle.page_sets_lines.specs.declared.events.Deed.TheVariants as deeds
 use Rattle.page_sets_lines.specs.declared.events.Event.{Event}
-use Rattle.page_sets_lines.specs.declared.requests.RequestName.{RequestName}
+use Rattle.page_sets_lines.specs.declared.plain_lines.PlainLine.{PlainLine}
+use Rattle.page_sets_lines.specs.declared.requests.LayoutRequest.{LayoutRequest}
 use Rattle.page_core_base.specs.LinesTaken.{Line}
 use Rattle.page_sets_lines.specs.Laws.{IsPart, IsArgument, IsArgumentIfGiven, OpensSlices, ClosesSlices, LeavesSlices, HasSlices, AreSlices, AreInOrder}
-use Rattle.page_sets_lines.specs.ControlLines.{name_start, name_end, name_of, is_nameless, arguments_after, first_of, has_any}
-use Rattle.page_sets_lines.specs.PlainLines.{line_end, plain_events, request_of}
+use Rattle.page_sets_lines.specs.ControlLines.{before_name, name_end, name_of, is_nameless, arguments_after, first_of}
+use Rattle.page_sets_lines.specs.PlainLines.{line_end, plain_line, layout_request}
 use Rattle.page_sets_lines.proofs.ArgumentLaws.{ArgumentsFrom, all_after, earlier, few_after}
 use Rattle.page_sets_lines.proofs.LawLemmas.{nothing_part, rest_part, end_within, name_part, first_slice_after, first_text_after, second_text_after, request_slices, line_slices, AreSlices-append, HasNoWord, order_after, order_before, line_order}
 use Rattle.page_sets_man.specs.declared.rows.Opens.{Opens}
@@ -37,6 +37,8 @@ use Rattle.page_sets_man.specs.declared.rows.Quotes.{Quotes}
 use Rattle.page_sets_man.specs.declared.rows.Quotes.TheVariants.{Printed, After, BodyAfter}
 use Rattle.page_sets_man.specs.declared.rows.Words.{Words}
 use Rattle.page_sets_man.specs.declared.rows.Words.TheVariants as words
+use Rattle.page_sets_man.specs.declared.words.NextWord.{NextWord}
+use Rattle.page_sets_man.specs.declared.words.NextWord.TheVariants as next
 use Rattle.page_sets_man.specs.declared.rows.Last.{Last}
 use Rattle.page_sets_man.specs.declared.rows.Last.TheVariants as lasts
 use Rattle.page_sets_man.specs.declared.rows.Row.{Row}
@@ -45,7 +47,8 @@ use Rattle.page_sets_man.specs.declared.plans.Front.{Front}
 use Rattle.page_sets_man.specs.declared.plans.Front.TheVariants as fronts
 use Rattle.page_sets_man.specs.declared.plans.Plan.{Plan}
 use Rattle.page_sets_man.specs.Rows.{quiet, structure_rows, words_rows, structure_row, words_row, request_row, either_row, row_of}
-use Rattle.page_sets_man.specs.Man.{opener, closer, leaf, effect_deed, line_scope, one_word, plain_words, alternating_words, section_text, section_words, words_events, has_words, break_events, quote_at, missing_quote, quote_events, deed_events, scope_events, last_events, macro_events, lone_events, row_events, named_events, control_events, form_events, man_events}
+use Rattle.page_sets_man.specs.Man.{opener, closer, leaf, effect_deed, line_scope, one_word, plain_words, alternating_words, option_words, section_words, reference_words, words_events, has_words, break_events, quote_at, missing_quote, quote_events, deed_events, scope_events, last_events, macro_events, lone_events, row_events, named_events, control_events, line_events, man_events}
+use Rattle.page_sets_man.specs.Steps.{section_text, next_events}
 use Rattle.page_sets_man.specs.Plans.{front_deed, end_events, plan_events, FitsPlan}
 
 -- ---- slices
@@ -126,7 +129,7 @@ effect_slices line (effects.Sets change) start h = sets_slices line change start
 front_slices : (line : Line) (front : Front) (start : ℕ) → start ≤ length line.text → HasSlicesIfGiven line.text (front_deed front line start)
 unfolding HasSlicesIfGiven
 front_slices line fronts.Nothing start h = tt
-front_slices line fronts.Plain start h = line_slices line.form line.text
+front_slices line (fronts.Plain plain) start h = line_slices plain line.text
 front_slices line (fronts.Refused kind) start h = name_part line
 front_slices line (fronts.Effect effect) start h = effect_slices line.text effect start h
 
@@ -144,30 +147,46 @@ alternating_slices : (line : List ℕ) (number : ℕ) (font other : Font) (befor
 alternating_slices line number font other before from [] h = tt
 alternating_slices line number font other before from (argument ∷ arguments) h = (h.1, alternating_slices line number other font _ _ arguments h.2)
 
+option_slices : (line : List ℕ) (number from : ℕ) (arguments : List (Argument (List ℕ)))
+    → ArgumentsFrom line from arguments → AreSlices line (option_words number arguments)
+option_slices line number from [] h = tt
+option_slices line number from (key ∷ arguments) h = (h.1, one_slices line number _ _ _ arguments h.2)
+
+section_slices : (line : List ℕ) (number column from : ℕ) (arguments : List (Argument (List ℕ)))
+    → ArgumentsFrom line from arguments → AreSlices line (section_words number column arguments)
+section_slices line number column from [] h = tt
+section_slices line number column from (section ∷ arguments) h = (tt, (h.1, (tt, one_slices line number _ _ _ arguments h.2)))
+
+reference_slices : (line : List ℕ) (number column from : ℕ) (arguments : List (Argument (List ℕ)))
+    → ArgumentsFrom line from arguments → AreSlices line (reference_words number column arguments)
+reference_slices line number column from [] h = tt
+reference_slices line number column from (name ∷ arguments) h = (h.1, section_slices line number column _ arguments h.2)
+
 section_text_slices : (line : List ℕ) (number column from : ℕ) (arguments : List (Argument (List ℕ)))
     → ArgumentsFrom line from arguments → AreSlices line (section_text number column arguments)
 section_text_slices line number column from [] h = tt
 section_text_slices line number column from (section ∷ arguments) h = (h.1, (tt, one_slices line number _ _ _ arguments h.2))
 
-section_slices : (line : List ℕ) (number column from : ℕ) (arguments : List (Argument (List ℕ)))
-    → ArgumentsFrom line from arguments → AreSlices line (section_words number column arguments)
-section_slices line number column from [] h = tt
-section_slices line number column from (section ∷ arguments) h = (tt, section_text_slices line number column from (section ∷ arguments) h)
+next_slices : (line : List ℕ) (number column : ℕ) (these : NextWord) (from : ℕ) (arguments : List (Argument (List ℕ)))
+    → ArgumentsFrom line from arguments → AreSlices line (next_events number column these arguments)
+next_slices line number column next.Nothing from arguments h = tt
+next_slices line number column next.Plain from arguments h = plain_slices line number from arguments h
+next_slices line number column (next.Alternating font other before) from arguments h = alternating_slices line number font other before from arguments h
+next_slices line number column next.Key from arguments h = option_slices line number from arguments h
+next_slices line number column next.Value from arguments h = one_slices line number _ _ from arguments h
+next_slices line number column next.Name from arguments h = reference_slices line number column from arguments h
+next_slices line number column next.SectionBegin from arguments h = section_slices line number column from arguments h
+next_slices line number column next.Section from arguments h = section_text_slices line number column from arguments h
+next_slices line number column next.SectionEnd from arguments h = (tt, one_slices line number _ _ from arguments h)
+next_slices line number column next.Suffix from arguments h = one_slices line number _ _ from arguments h
 
 words_slices : (line : List ℕ) (number column : ℕ) (these : Words) (from : ℕ) (arguments : List (Argument (List ℕ)))
     → ArgumentsFrom line from arguments → AreSlices line (words_events number column these arguments)
 words_slices line number column words.Nothing from arguments h = tt
 words_slices line number column words.Plain from arguments h = plain_slices line number from arguments h
-words_slices line number column (words.Alternating font other before) from arguments h = alternating_slices line number font other before from arguments h
-words_slices line number column words.Key from [] h = tt
-words_slices line number column words.Key from (key ∷ arguments) h = (h.1, one_slices line number _ _ _ arguments h.2)
-words_slices line number column words.Value from arguments h = one_slices line number _ _ from arguments h
-words_slices line number column words.Name from [] h = tt
-words_slices line number column words.Name from (name ∷ arguments) h = (h.1, section_slices line number column _ arguments h.2)
-words_slices line number column words.Section from arguments h = section_slices line number column from arguments h
-words_slices line number column words.SectionText from arguments h = section_text_slices line number column from arguments h
-words_slices line number column words.SectionEnd from arguments h = (tt, one_slices line number _ _ from arguments h)
-words_slices line number column words.Suffix from arguments h = one_slices line number _ _ from arguments h
+words_slices line number column (words.Alternating font other) from arguments h = alternating_slices line number font other Apart from arguments h
+words_slices line number column words.Option from arguments h = option_slices line number from arguments h
+words_slices line number column words.Reference from arguments h = reference_slices line number column from arguments h
 
 pub plan_slices : (line : Line) (plan : Plan) → FitsPlan line plan → AreSlices line.text (plan_events line plan)
 plan_slices line plan fits =
@@ -177,7 +196,7 @@ plan_slices line plan fits =
     (AreSlices-append text _ _ (quote_slices text line.number plan.before.quote)
     (AreSlices-append text _ _ (deed_slices text line.number plan.column _ (front_slices line plan.before.front plan.before.start fits.0))
     (scope_slices text line.number plan.column plan.before.scope))))
-    (AreSlices-append text _ _ (words_slices text line.number plan.column plan.words (plan.rest + 1) (arguments_after plan.rest text) (all_after text plan.rest))
+    (AreSlices-append text _ _ (next_slices text line.number plan.column plan.words (plan.rest + 1) (arguments_after plan.rest text) (all_after text plan.rest))
     (AreSlices-append text _ _ (last_slices text line.number plan.column plan.after.last) (end_slices text line.number plan.after.end)))
 
 macro_slices : (line : List ℕ) (number column start : ℕ) (row : Row) → start ≤ length line
@@ -201,7 +220,7 @@ row_slices : (line : List ℕ) (number column start : ℕ) (name : List ℕ) (ro
     → AreSlices line (row_events number column name (drop start line) (arguments_after start line) row)
 row_slices line number column start name row within n =
     let m = macro_slices line number column start row within in
-    elim (cases_Bool (has_any (arguments_after start line))) [
+    elim (cases_Bool (has_arguments (drop start line))) [
       | inl t ↦ rw t (rw t at m)
       | inr t ↦ rw t (lone_slices line row.alone number column name _ n (rw t at m))
     ]
@@ -209,7 +228,7 @@ row_slices line number column start name row within n =
 named_slices : (line : Line) (row : Option Row) → AreSlices line.text (named_events line row)
 named_slices line None = (name_part line, (tt, tt))
 named_slices line (Some row) =
-    row_slices line.text line.number (name_start line.text + 1) (name_end line) (name_of line) row (end_within line) (name_part line)
+    row_slices line.text line.number (before_name line.text + 1) (name_end line) (name_of line) row (end_within line) (name_part line)
 
 control_slices : (line : Line) → AreSlices line.text (control_events line)
 control_slices line =
@@ -218,15 +237,13 @@ control_slices line =
       | inr t ↦ rw t (named_slices line (row_of (name_of line)))
     ]
 
-form_slices : (form : Form) (line : Line) → AreSlices line.text (form_events form line)
-form_slices forms.Text line = (line_slices line.form line.text, (tt, tt))
-form_slices forms.Blank line = (line_slices line.form line.text, (tt, tt))
-form_slices forms.Raw line = (line_slices line.form line.text, (tt, tt))
-form_slices forms.Control line = control_slices line
+form_slices : (line : Line) (plain : Option PlainLine) → AreSlices line.text (line_events line plain)
+form_slices line None = control_slices line
+form_slices line (Some plain) = (line_slices plain line.text, (tt, tt))
 
 pub man_slices : (line : Line) → AreSlices line.text (man_events line)
 unfolding man_events
-man_slices line = form_slices line.form line
+man_slices line = form_slices line (plain_line line.form line.text)
 
 -- ---- order
 
@@ -272,30 +289,28 @@ alternating_order : (line : List ℕ) (number : ℕ) (font other : Font) (before
 alternating_order line number font other before from [] h = tt
 alternating_order line number font other before from (argument ∷ arguments) h = (h.0, alternating_order line number other font _ _ arguments h.2)
 
-section_text_order : (line : List ℕ) (number column from : ℕ) (arguments : List (Argument (List ℕ)))
-    → ArgumentsFrom line from arguments → AreInOrder from (section_text number column arguments)
-section_text_order line number column from [] h = tt
-section_text_order line number column from (section ∷ arguments) h = (h.0, (tt, one_order line number _ _ _ arguments h.2))
+option_order : (line : List ℕ) (number from : ℕ) (arguments : List (Argument (List ℕ)))
+    → ArgumentsFrom line from arguments → AreInOrder from (option_words number arguments)
+option_order line number from [] h = tt
+option_order line number from (key ∷ arguments) h = (h.0, one_order line number _ _ _ arguments h.2)
 
 section_order : (line : List ℕ) (number column from : ℕ) (arguments : List (Argument (List ℕ)))
     → ArgumentsFrom line from arguments → AreInOrder from (section_words number column arguments)
 section_order line number column from [] h = tt
-section_order line number column from (section ∷ arguments) h = (tt, section_text_order line number column from (section ∷ arguments) h)
+section_order line number column from (section ∷ arguments) h = (tt, (h.0, (tt, one_order line number _ _ _ arguments h.2)))
+
+reference_order : (line : List ℕ) (number column from : ℕ) (arguments : List (Argument (List ℕ)))
+    → ArgumentsFrom line from arguments → AreInOrder from (reference_words number column arguments)
+reference_order line number column from [] h = tt
+reference_order line number column from (name ∷ arguments) h = (h.0, section_order line number column _ arguments h.2)
 
 words_order : (line : List ℕ) (number column : ℕ) (these : Words) (from : ℕ) (arguments : List (Argument (List ℕ)))
     → ArgumentsFrom line from arguments → AreInOrder from (words_events number column these arguments)
 words_order line number column words.Nothing from arguments h = tt
 words_order line number column words.Plain from arguments h = plain_order line number from arguments h
-words_order line number column (words.Alternating font other before) from arguments h = alternating_order line number font other before from arguments h
-words_order line number column words.Key from [] h = tt
-words_order line number column words.Key from (key ∷ arguments) h = (h.0, one_order line number _ _ _ arguments h.2)
-words_order line number column words.Value from arguments h = one_order line number _ _ from arguments h
-words_order line number column words.Name from [] h = tt
-words_order line number column words.Name from (name ∷ arguments) h = (h.0, section_order line number column _ arguments h.2)
-words_order line number column words.Section from arguments h = section_order line number column from arguments h
-words_order line number column words.SectionText from arguments h = section_text_order line number column from arguments h
-words_order line number column words.SectionEnd from arguments h = (tt, one_order line number _ _ from arguments h)
-words_order line number column words.Suffix from arguments h = one_order line number _ _ from arguments h
+words_order line number column (words.Alternating font other) from arguments h = alternating_order line number font other Apart from arguments h
+words_order line number column words.Option from arguments h = option_order line number from arguments h
+words_order line number column words.Reference from arguments h = reference_order line number column from arguments h
 
 macro_order : (line : List ℕ) (number column start : ℕ) (row : Row) → AreInOrder 0 (macro_events number column row (drop start line) (arguments_after start line))
 macro_order line number column start row =
@@ -305,7 +320,7 @@ macro_order line number column start row =
     (order_after 0 _ _ (effect_no_word number column row.effect (drop start line) arguments)
     (order_after 0 _ _ (scope_no_word number column (line_scope row.effect))
     (order_before 0 _ _ (words_order line number column row.words 0 arguments (earlier line 0 (start + 1) arguments (omega arith) (all_after line start)))
-    (last_no_word number column row.last (has_any arguments && has_words row.words))))))
+    (last_no_word number column row.last (has_words row.words && has_arguments (drop start line)))))))
 
 lone_order : (alone : Alone) (number column : ℕ) (name : List ℕ) (events : List (Event (List ℕ))) → AreInOrder 0 events → AreInOrder 0 (lone_events alone number column name events)
 lone_order Same number column name events h = h
@@ -316,14 +331,14 @@ row_order : (line : List ℕ) (number column start : ℕ) (name : List ℕ) (row
     → AreInOrder 0 (row_events number column name (drop start line) (arguments_after start line) row)
 row_order line number column start name row =
     let m = macro_order line number column start row in
-    elim (cases_Bool (has_any (arguments_after start line))) [
+    elim (cases_Bool (has_arguments (drop start line))) [
       | inl t ↦ rw t (rw t at m)
       | inr t ↦ rw t (lone_order row.alone number column name _ (rw t at m))
     ]
 
 named_order : (line : Line) (row : Option Row) → AreInOrder 0 (named_events line row)
 named_order line None = (tt, (tt, tt))
-named_order line (Some row) = row_order line.text line.number (name_start line.text + 1) (name_end line) (name_of line) row
+named_order line (Some row) = row_order line.text line.number (before_name line.text + 1) (name_end line) (name_of line) row
 
 control_order : (line : Line) → AreInOrder 0 (control_events line)
 control_order line =
@@ -332,18 +347,13 @@ control_order line =
       | inr t ↦ rw t (named_order line (row_of (name_of line)))
     ]
 
-plain_line_order : (line : Line) → AreInOrder 0 (plain_events line)
-plain_line_order line = (line_order line.form line.text, (tt, tt))
-
-form_order : (form : Form) (line : Line) → AreInOrder 0 (form_events form line)
-form_order forms.Text line = plain_line_order line
-form_order forms.Blank line = plain_line_order line
-form_order forms.Raw line = plain_line_order line
-form_order forms.Control line = control_order line
+form_order : (line : Line) (plain : Option PlainLine) → AreInOrder 0 (line_events line plain)
+form_order line None = control_order line
+form_order line (Some plain) = (line_order plain line.text, (tt, tt))
 
 pub man_in_order : (line : Line) → AreInOrder 0 (man_events line)
 unfolding man_events
-man_in_order line = form_order line.form line
+man_in_order line = form_order line (plain_line line.form line.text)
 
 -- ---- few
 
@@ -370,14 +380,9 @@ scope_weight (Some opener) = 1
 marks_weight : Words → ℕ
 marks_weight words.Nothing = 0
 marks_weight words.Plain = 0
-marks_weight (words.Alternating font other before) = 0
-marks_weight words.Key = 0
-marks_weight words.Value = 0
-marks_weight words.Name = 2
-marks_weight words.Section = 2
-marks_weight words.SectionText = 1
-marks_weight words.SectionEnd = 1
-marks_weight words.Suffix = 0
+marks_weight (words.Alternating font other) = 0
+marks_weight words.Option = 0
+marks_weight words.Reference = 2
 
 last_weight : Last → ℕ
 last_weight lasts.Nothing = 0
@@ -440,29 +445,26 @@ few_alternating : (number : ℕ) (font other : Font) (before : Join) (arguments 
 few_alternating number font other before [] = omega arith
 few_alternating number font other before (argument ∷ arguments) = let f = few_alternating number other font Glued arguments in omega (arith, f)
 
-few_section_text : (number column : ℕ) (arguments : List (Argument (List ℕ))) → length (section_text number column arguments) ≤ 1 + length arguments
-few_section_text number column [] = omega arith
-few_section_text number column (section ∷ arguments) = let f = few_one number None Glued arguments in omega (arith, f)
+few_option : (number : ℕ) (arguments : List (Argument (List ℕ))) → length (option_words number arguments) ≤ length arguments
+few_option number [] = omega arith
+few_option number (key ∷ arguments) = let f = few_one number (Some fonts.I) Apart arguments in omega (arith, f)
 
 few_section : (number column : ℕ) (arguments : List (Argument (List ℕ))) → length (section_words number column arguments) ≤ 2 + length arguments
 few_section number column [] = omega arith
-few_section number column (section ∷ arguments) = let f = few_section_text number column (section ∷ arguments) in omega (arith, f)
+few_section number column (section ∷ arguments) = let f = few_one number None Glued arguments in omega (arith, f)
+
+few_reference : (number column : ℕ) (arguments : List (Argument (List ℕ))) → length (reference_words number column arguments) ≤ 2 + length arguments
+few_reference number column [] = omega arith
+few_reference number column (name ∷ arguments) = let f = few_section number column arguments in omega (arith, f)
 
 few_words : (number column : ℕ) (these : Words) (arguments : List (Argument (List ℕ)))
     → length (words_events number column these arguments) ≤ marks_weight these + length arguments
 unfolding marks_weight
 few_words number column words.Nothing arguments = omega arith
 few_words number column words.Plain arguments = let f = few_plain number arguments in omega (arith, f)
-few_words number column (words.Alternating font other before) arguments = let f = few_alternating number font other before arguments in omega (arith, f)
-few_words number column words.Key [] = omega arith
-few_words number column words.Key (key ∷ arguments) = let f = few_one number (Some fonts.I) Apart arguments in omega (arith, f)
-few_words number column words.Value arguments = let f = few_one number (Some fonts.I) Apart arguments in omega (arith, f)
-few_words number column words.Name [] = omega arith
-few_words number column words.Name (name ∷ arguments) = let f = few_section number column arguments in omega (arith, f)
-few_words number column words.Section arguments = let f = few_section number column arguments in omega (arith, f)
-few_words number column words.SectionText arguments = let f = few_section_text number column arguments in omega (arith, f)
-few_words number column words.SectionEnd arguments = let f = few_one number None Glued arguments in omega (arith, f)
-few_words number column words.Suffix arguments = let f = few_one number None Glued arguments in omega (arith, f)
+few_words number column (words.Alternating font other) arguments = let f = few_alternating number font other Apart arguments in omega (arith, f)
+few_words number column words.Option arguments = let f = few_option number arguments in omega (arith, f)
+few_words number column words.Reference arguments = let f = few_reference number column arguments in omega (arith, f)
 
 few_macro : (number column : ℕ) (row : Row) (rest : List ℕ) (arguments : List (Argument (List ℕ)))
     → length (macro_events number column row rest arguments) ≤ weight row + length arguments + 1
@@ -502,7 +504,7 @@ light_words : (name : List ℕ) (row : Row) → words_row name ≡ Some row → 
 unfolding words_row is_light weight break_weight quotes_weight effect_weight scope_weight marks_weight last_weight
 light_words name row e = light_found words_rows name row refl e
 
-light_request : (request : Option RequestName) (row : Row) → option_map (λ name. quiet (sets.Request name)) request ≡ Some row → is_light row ≡ true
+light_request : (request : Option LayoutRequest) (row : Row) → option_map (λ name. quiet (sets.Request name)) request ≡ Some row → is_light row ≡ true
 unfolding is_light weight break_weight quotes_weight effect_weight scope_weight marks_weight last_weight
 light_request None row e = cc
 light_request (Some name) row e = let g : quiet (sets.Request name) ≡ row = cc in rw (← g) refl
@@ -515,21 +517,21 @@ light_either (Some found) other row h k e = h e
 light_row : (name : List ℕ) (row : Row) → row_of name ≡ Some row → is_light row ≡ true
 light_row name row e =
     light_either (words_row name) (either_row (structure_row name) (request_row name)) row (light_words name row)
-    (light_either (structure_row name) (request_row name) row (light_structure name row) (light_request (request_of name) row)) e
+    (light_either (structure_row name) (request_row name) row (light_structure name row) (light_request (layout_request name) row)) e
 
 light_weight : (row : Row) → is_light row ≡ true → weight row ≤ 4
 unfolding is_light
 light_weight row h = grind (arith, nat_tests)
 
-start_bytes : (text : List ℕ) → 1 ≤ length text → 1 ≤ name_start text
+start_bytes : (text : List ℕ) → 1 ≤ length text → 1 ≤ before_name text
 start_bytes [] h = absurd (omega arith)
 start_bytes (control ∷ bytes) h = omega arith
 
 named_bytes : (line : Line) → is_nameless line ≡ false → (2 ≤ name_end line) × (name_end line ≤ length line.text)
 named_bytes line h =
-    let n : (name_start line.text == name_end line) ≡ false = h in
+    let n : (before_name line.text == name_end line) ≡ false = h in
     let w = end_within line in
-    let some : name_start line.text < name_end line = grind (arith, nat_tests) in
+    let some : before_name line.text < name_end line = grind (arith, nat_tests) in
     let s = start_bytes line.text (omega (arith, w, some)) in
     (omega (arith, s, some), w)
 
@@ -542,7 +544,7 @@ few_lone (Scope opener) number column name events n t h = omega arith
 few_row : (number column : ℕ) (name rest : List ℕ) (arguments : List (Argument (List ℕ))) (row : Row) (n : ℕ) → 2 ≤ n
     → length (macro_events number column row rest arguments) ≤ n → length (row_events number column name rest arguments row) ≤ n
 few_row number column name rest arguments row n t h =
-    elim (cases_Bool (has_any arguments)) [
+    elim (cases_Bool (has_arguments rest)) [
       | inl s ↦ rw s (rw s at h)
       | inr s ↦ rw s (few_lone row.alone number column name _ n t (rw s at h))
     ]
@@ -556,8 +558,8 @@ few_named line (Some row) h e =
     let b = named_bytes line h in
     let w = light_weight row (light_row (name_of line) row e) in
     let f = few_after text start in
-    let m = few_macro line.number (name_start text + 1) row (drop start text) (arguments_after start text) in
-    few_row line.number (name_start text + 1) (name_of line) (drop start text) (arguments_after start text) row
+    let m = few_macro line.number (before_name text + 1) row (drop start text) (arguments_after start text) in
+    few_row line.number (before_name text + 1) (name_of line) (drop start text) (arguments_after start text) row
     (2 * length text + 2) (omega arith) (omega (arith, b.0, b.1, w, f, m))
 
 few_control : (line : Line) → length (control_events line) ≤ 2 * length line.text + 2
@@ -567,12 +569,10 @@ few_control line =
       | inr t ↦ rw t (few_named line (row_of (name_of line)) t refl)
     ]
 
-few_form : (form : Form) (line : Line) → length (form_events form line) ≤ 2 * length line.text + 2
-few_form forms.Text line = omega arith
-few_form forms.Blank line = omega arith
-few_form forms.Raw line = omega arith
-few_form forms.Control line = few_control line
+few_form : (line : Line) (plain : Option PlainLine) → length (line_events line plain) ≤ 2 * length line.text + 2
+few_form line None = few_control line
+few_form line (Some plain) = omega arith
 
 pub man_few : (line : Line) → length (man_events line) ≤ 2 * length line.text + 2
 unfolding man_events
-man_few line = few_form line.form line
+man_few line = few_form line (plain_line line.form line.text)

@@ -9,8 +9,7 @@ use Rattle.page_sets_lines.specs.declared.macro_names.FontMacro.{FontMacro}
 use Rattle.page_sets_lines.specs.declared.macro_names.FontMacro.TheVariants.{B, I, SM, SB}
 use Rattle.page_sets_lines.specs.declared.openers.LineOpener.TheVariants.{FontWords}
 use Rattle.page_sets_lines.specs.declared.leaves.Own.TheVariants.{Square, Unsquare}
-use Rattle.page_sets_lines.specs.declared.events.Join.TheVariants.{Apart}
-use Rattle.page_sets_lines.specs.PlainLines.{request_of}
+use Rattle.page_sets_lines.specs.PlainLines.{layout_request}
 use Rattle.page_sets_man.specs.declared.rows.Opens.{Opens}
 use Rattle.page_sets_man.specs.declared.rows.Opens.TheVariants.{Section, Subsection, Paragraph, Tagged, Indented, Hanging, RelativeMargin, Target, Syntax}
 use Rattle.page_sets_man.specs.declared.rows.Closes.{Closes}
@@ -24,7 +23,7 @@ use Rattle.page_sets_man.specs.declared.rows.Alone.TheVariants.{Same, Empty, Sco
 use Rattle.page_sets_man.specs.declared.rows.Quotes.{Quotes}
 use Rattle.page_sets_man.specs.declared.rows.Quotes.TheVariants.{Printed, After, BodyAfter}
 use Rattle.page_sets_man.specs.declared.rows.Words.{Words}
-use Rattle.page_sets_man.specs.declared.rows.Words.TheVariants.{Plain, Alternating, Key, Name}
+use Rattle.page_sets_man.specs.declared.rows.Words.TheVariants.{Plain, Alternating, Reference}
 use Rattle.page_sets_man.specs.declared.rows.Words.TheVariants as arguments
 use Rattle.page_sets_man.specs.declared.rows.Last.{Last}
 use Rattle.page_sets_man.specs.declared.rows.Last.TheVariants as lasts
@@ -102,15 +101,15 @@ wordy quotes effect these last = record {
 }
 
 abbrev pub alternating : Font → Font → Row
-alternating font other = wordy Printed effects.Nothing (Alternating font other Apart) lasts.Nothing
+alternating font other = wordy Printed effects.Nothing (Alternating font other) lasts.Nothing
 
 -- an option with its value, in brackets
 abbrev pub option : Row
-option = wordy (BodyAfter 2) (effects.Sets (Mark Square)) Key (lasts.Mark Unsquare)
+option = wordy (BodyAfter 2) (effects.Sets (Mark Square)) arguments.Option (lasts.Mark Unsquare)
 
 -- a manual page with its section, in parentheses, and what follows it
 abbrev pub reference : Row
-reference = wordy (BodyAfter 3) effects.Nothing Name lasts.Nothing
+reference = wordy (BodyAfter 3) effects.Nothing Reference lasts.Nothing
 
 abbrev pub structure_rows : List (List ℕ × Row)
 structure_rows =
@@ -167,7 +166,7 @@ words_row name = row_in words_rows name
 
 -- requests are known to every set
 abbrev pub request_row : List ℕ → Option Row
-request_row name = option_map (λ request. quiet (Request request)) (request_of name)
+request_row name = option_map (λ request. quiet (Request request)) (layout_request name)
 
 -- the first that there is
 abbrev pub either_row : Option Row → Option Row → Option Row

@@ -9,7 +9,7 @@ use crate::rows::{Closes, Effect, Opens, Sets};
 use page_core_limits::LINE;
 use page_sets_lines::{
     Closer, Deed, HeadingName, Join, Leaf, LineOpener, Opener, OwnWord, Prologue, TagName,
-    first_of, request, second_of,
+    first_of, second_of,
 };
 
 // The text of the first argument that begins after this many bytes.
@@ -78,7 +78,7 @@ fn leaf(sets: Sets, text: &[u8], start: usize) -> Leaf<&[u8]>
     ensures { leaf_seen result ≡ man.leaf sets (drop start text.now) (arguments_after start text.now) }
 {
     match sets {
-        Sets::Request(name) => Leaf::Request(request(name, first_text(text, start))),
+        Sets::Request(request) => Leaf::Request(request.with_argument(first_text(text, start))),
         Sets::Title => Leaf::Prologue(Prologue::TH, &text[start..]),
         Sets::Example(begins) => Leaf::Example(begins),
         Sets::Distance => Leaf::Distance(first_text(text, start)),

@@ -2,21 +2,21 @@
 
 ghost use Rattle.std.specs.Prelude.{◌≡◌, ◌≤◌, ◌+◌, [], ◌∷◌, length, option_map, MatchOption, true, false};
 ghost use Rattle.page_core_base.specs.LinesTaken.{line_seen};
-ghost use Rattle.page_sets_lines.specs.Events.{event_seen, deed_seen};
-ghost use Rattle.page_sets_lines.specs.ControlLines.{arguments_after, name_start, name_end, name_of};
+ghost use Rattle.page_sets_lines.specs.Events.{event_seen, deed_seen, TakesNext};
+ghost use Rattle.page_sets_lines.specs.ControlLines.{arguments_after};
 ghost use Rattle.page_sets_lines.specs.PlainLines.{event_at};
 ghost use Rattle.page_sets_man.specs.Man as man;
 ghost use Rattle.page_sets_man.specs.Plans as plans;
-ghost use Rattle.page_sets_man.specs.Plans.{events_seen, front_deed, before_events, after_events, plan_events, FitsPlan, TakesNext};
+ghost use Rattle.page_sets_man.specs.Plans.{events_seen, front_deed, before_events, after_events, plan_events, FitsPlan};
 
 use crate::effects::{effect_deed, line_scope};
 use crate::rows::{Alone, Effect, Last, Quotes, Row, Words, row_of};
-use crate::words::{mark, word_step};
-use page_core_base::{Form, NoteKind, Place, Taken};
+use crate::words::{NextWord, mark, word_step};
+use page_core_base::{NoteKind, Place, Taken};
 use page_core_limits::LINE;
+use page_roff_forms::has_arguments;
 use page_sets_lines::{
-    Closer, Deed, Event, Join, Leaf, LineOpener, NameSpan, find_name, has_arguments, is_filling,
-    line_deed, open_quote,
+    Closer, Deed, Event, Join, Leaf, LineOpener, NameSpan, PlainLine, find_name, open_quote,
 };
 
 /// The quote of an argument that lacks its last one: its column, and whether its message may begin the body of the
@@ -31,8 +31,8 @@ pub(crate) struct Quote {
 #[derive(Clone, Copy)]
 pub(crate) enum Front {
     Nothing,
-    /// That of a line that is no control line.
-    Plain,
+    /// What a line is that is no control line.
+    Plain(PlainLine),
     /// A message about the macro's name.
     Refused(NoteKind),
     /// What a macro does.
@@ -65,7 +65,7 @@ pub struct Plan {
     /// The column of the macro's name.
     pub(crate) column: u32,
     pub(crate) before: Before,
-    pub(crate) words: Words,
+    pub(crate) words: NextWord,
     /// The bytes after which the arguments that are still to be read begin.
     pub(crate) rest: usize,
     pub(crate) after: After,
@@ -104,7 +104,7 @@ fn front_deed<'a>(front: Front, line: Taken<'a>, rest: usize) -> Option<Deed<&'a
 {
     match front {
         Front::Nothing => None,
-        Front::Plain => Some(line_deed(line)),
+        Front::Plain(plain) => Some(plain.deed(line.text)),
         Front::Refused(kind) => {
             let name = find_name(line);
             Some(Deed::Note {
@@ -163,7 +163,7 @@ fn front_plan(front: Front, fills: bool, column: u32, start: usize) -> Plan
             scope: None,
             start,
         },
-        words: Words::Nothing,
+        words: NextWord::Nothing,
         rest: start,
         after: After {
             last: Last::Nothing,
@@ -185,7 +185,7 @@ fn scope_plan(opener: LineOpener, column: u32, start: usize) -> Plan
             scope: Some(opener),
             start,
         },
-        words: Words::Nothing,
+        words: NextWord::Nothing,
         rest: start,
         after: After {
             last: Last::Nothing,
@@ -195,10 +195,10 @@ fn scope_plan(opener: LineOpener, column: u32, start: usize) -> Plan
 }
 
 // The plan of a macro whose arguments begin after this many bytes.
-fn macro_plan(row: Row, has_any: bool, text: &[u8], column: u32, start: usize) -> Plan
+fn macro_plan(row: Row, text: &[u8], column: u32, start: usize) -> Plan
     requires short { length text.now ≤ LINE }
     requires within { start ≤ length text.now }
-    ensures { result ≡ plans.macro_plan row has_any column start (arguments_after start text.now) }
+    ensures { result ≡ plans.macro_plan row column start text.now }
 {
     Plan {
         column,
@@ -209,11 +209,11 @@ fn macro_plan(row: Row, has_any: bool, text: &[u8], column: u32, start: usize) -
             scope: line_scope(row.effect),
             start,
         },
-        words: row.words,
+        words: NextWord::first(row.words),
         rest: start,
         after: After {
             last: row.last,
-            end: Some(has_any && has_words(row.words)),
+            end: Some(has_words(row.words) && has_arguments(&text[start..])),
         },
     }
 }
@@ -222,10 +222,10 @@ fn macro_plan(row: Row, has_any: bool, text: &[u8], column: u32, start: usize) -
 fn lone_plan(row: Row, text: &[u8], column: u32, start: usize) -> Plan
     requires short { length text.now ≤ LINE }
     requires within { start ≤ length text.now }
-    ensures { result ≡ plans.lone_plan row column start (arguments_after start text.now) row.alone }
+    ensures { result ≡ plans.lone_plan row column start text.now row.alone }
 {
     match row.alone {
-        Alone::Same => macro_plan(row, false, text, column, start),
+        Alone::Same => macro_plan(row, text, column, start),
         Alone::Empty => front_plan(Front::Refused(NoteKind::EmptyMacro), false, column, start),
         Alone::Scope(opener) => scope_plan(opener, column, start),
     }
@@ -235,10 +235,10 @@ fn lone_plan(row: Row, text: &[u8], column: u32, start: usize) -> Plan
 fn row_plan(row: Option<Row>, text: &[u8], column: u32, start: usize) -> Plan
     requires short { length text.now ≤ LINE }
     requires within { start ≤ length text.now }
-    ensures { result ≡ plans.row_plan column start (arguments_after start text.now) row }
+    ensures { result ≡ plans.row_plan column start text.now row }
 {
     match row {
-        Some(row) if has_arguments(text, start) => macro_plan(row, true, text, column, start),
+        Some(row) if has_arguments(&text[start..]) => macro_plan(row, text, column, start),
         Some(row) => lone_plan(row, text, column, start),
         None => front_plan(Front::Refused(NoteKind::UnknownMacro), false, column, start),
     }
@@ -265,9 +265,9 @@ pub(crate) fn plan_of(line: Taken<'_>) -> Plan
     ensures fits { FitsPlan (line_seen line.entry) result }
     ensures events { plan_events (line_seen line.entry) result ≡ man.man_events (line_seen line.entry) }
 {
-    match line.form {
-        Form::Text | Form::Blank | Form::Raw => front_plan(Front::Plain, is_filling(line), 1, 0),
-        Form::Control => control_plan(line),
+    match PlainLine::of(line) {
+        Some(plain) => front_plan(Front::Plain(plain), plain.fills(), 1, 0),
+        None => control_plan(line),
     }
 }
 

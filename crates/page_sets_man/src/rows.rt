@@ -4,9 +4,7 @@ ghost use Rattle.std.specs.Prelude.{◌≡◌};
 ghost use Rattle.page_sets_man.specs.Rows as rows;
 
 use page_core_base::Font;
-use page_sets_lines::{
-    FontMacro, Join, LineOpener, Link, Own, ParagraphName, RequestName, request_of,
-};
+use page_sets_lines::{FontMacro, LayoutRequest, LineOpener, Link, Own, ParagraphName};
 
 /// A scope that a macro opens.
 #[derive(Clone, Copy)]
@@ -33,7 +31,7 @@ pub(crate) enum Closes {
 /// What a macro or request changes, or prints before its words.
 #[derive(Clone, Copy)]
 pub(crate) enum Sets {
-    Request(RequestName),
+    Request(LayoutRequest),
     Title,
     Example(bool),
     Distance,
@@ -73,33 +71,19 @@ pub(crate) enum Quotes {
     BodyAfter(usize),
 }
 
-/// What becomes of the next argument.
+/// What becomes of a macro's arguments.
 #[derive(Clone, Copy)]
 pub(crate) enum Words {
-    /// It is no word.
+    /// They are no words.
     Nothing,
-    /// This and all others are words.
+    /// All are words.
     Plain,
-    /// They are words in two fonts, in turn.
-    Alternating {
-        font: Font,
-        other: Font,
-        before: Join,
-    },
-    /// The key of `OP`.
-    Key,
-    /// The value of `OP`.
-    Value,
-    /// The name of `MR`.
-    Name,
-    /// The section of `MR`, with its first mark.
-    Section,
-    /// The section of `MR`, after its first mark.
-    SectionText,
-    /// What follows the section of `MR`, after its last mark.
-    SectionEnd,
-    /// The suffix of `MR`.
-    Suffix,
+    /// All are words, in two fonts in turn, glued.
+    Alternating { font: Font, other: Font },
+    /// The key and the value of `OP`.
+    Option,
+    /// The name, the section and the suffix of `MR`.
+    Reference,
 }
 
 /// What comes after a macro's words.
@@ -225,12 +209,12 @@ fn wordy(quotes: Quotes, effect: Effect, words: Words, last: Last) -> Row
 fn alternating(font: Font, other: Font) -> Row
     ensures { result ≡ rows.alternating font other }
 {
-    let turns = Words::Alternating {
-        font,
-        other,
-        before: Join::Apart,
-    };
-    wordy(Quotes::Printed, Effect::Nothing, turns, Last::Nothing)
+    wordy(
+        Quotes::Printed,
+        Effect::Nothing,
+        Words::Alternating { font, other },
+        Last::Nothing,
+    )
 }
 
 // `OP`: an option with its value, in brackets.
@@ -240,7 +224,7 @@ fn option() -> Row
     wordy(
         Quotes::BodyAfter(2),
         Effect::Sets(Sets::Mark(Own::Square)),
-        Words::Key,
+        Words::Option,
         Last::Mark(Own::Unsquare),
     )
 }
@@ -252,7 +236,7 @@ fn reference() -> Row
     wordy(
         Quotes::BodyAfter(3),
         Effect::Nothing,
-        Words::Name,
+        Words::Reference,
         Last::Nothing,
     )
 }
@@ -333,7 +317,7 @@ fn words_row(name: &[u8]) -> Option<Row>
 fn request_row(name: &[u8]) -> Option<Row>
     ensures { result ≡ rows.request_row name.now }
 {
-    let request = request_of(name)?;
+    let request = LayoutRequest::of(name)?;
     Some(quiet(Sets::Request(request)))
 }
 

@@ -1,37 +1,81 @@
 //! The words of a macro, one after another (man(7), "MACRO REFERENCE").
 
 ghost use Rattle.std.specs.Prelude.{◌≡◌, ◌≤◌, true, length};
-ghost use Rattle.page_roff_forms.specs.Arguments.{argument_seen};
 ghost use Rattle.page_core_base.specs.LinesTaken.{line_seen};
+ghost use Rattle.page_roff_forms.specs.Arguments.{argument_seen};
 ghost use Rattle.page_sets_lines.specs.Events.{event_seen};
 ghost use Rattle.page_sets_man.specs.Man as man;
-ghost use Rattle.page_sets_man.specs.Plans.{takes_argument, font_of, join_of, words_after, StepsWords};
+ghost use Rattle.page_sets_man.specs.Steps.{first_word, takes_argument, font_of, join_of, word_after, StepsWords};
 
 use crate::rows::Words;
 use page_core_base::{Font, Place, Taken};
 use page_core_limits::LINE;
 use page_roff_forms::Argument;
-use page_sets_lines::{
-    Deed, Event, Join, Leaf, Own, OwnWord, Role, Word, has_arguments, read_argument,
-};
+use page_sets_lines::{Deed, Event, Join, Leaf, Own, OwnWord, Role, Word, first_of, read_after};
 
-/// The next event of a macro's words, what becomes of the next argument then, and after how many bytes it begins.
+/// What comes next of a macro's words.
+#[derive(Clone, Copy)]
+pub(crate) enum NextWord {
+    Nothing,
+    /// An argument, and then all others.
+    Plain,
+    /// An argument in a font, and then all others, in two fonts in turn.
+    Alternating {
+        font: Font,
+        other: Font,
+        before: Join,
+    },
+    /// The key of `OP`.
+    Key,
+    /// The value of `OP`.
+    Value,
+    /// The name of `MR`.
+    Name,
+    /// The mark before the section of `MR`, if there is one.
+    SectionBegin,
+    /// The section of `MR`, after its first mark.
+    Section,
+    /// The mark after it.
+    SectionEnd,
+    /// The suffix of `MR`.
+    Suffix,
+}
+
+/// The next event of a macro's words, what comes after it, and after how many bytes the arguments begin that are still
+/// to be read.
 #[derive(Drop)]
 pub(crate) struct Step<'a> {
     pub(crate) event: Event<&'a [u8]>,
-    pub(crate) words: Words,
+    pub(crate) words: NextWord,
     pub(crate) rest: usize,
 }
 
-impl Words {
+impl NextWord {
+    /// What comes first of a macro's words.
+    pub(crate) fn first(words: Words) -> NextWord
+        ensures { result ≡ first_word words }
+    {
+        match words {
+            Words::Nothing => NextWord::Nothing,
+            Words::Plain => NextWord::Plain,
+            Words::Alternating { font, other } => NextWord::Alternating {
+                font,
+                other,
+                before: Join::Apart,
+            },
+            Words::Option => NextWord::Key,
+            Words::Reference => NextWord::Name,
+        }
+    }
+
     // The font of the next argument, if it has one of its own.
     fn font(self) -> Option<Font>
         ensures { result ≡ font_of self }
     {
         match self {
-            Words::Alternating { font, .. } => Some(font),
-            Words::Key => Some(Font::B),
-            Words::Value | Words::Name => Some(Font::I),
+            NextWord::Alternating { font, .. } => Some(font),
+            NextWord::Key => Some(Font::B),
+            NextWord::Value | NextWord::Name => Some(Font::I),
             _ => None,
         }
     }
@@ -41,27 +85,27 @@ impl Words {
         ensures { result ≡ join_of self }
     {
         match self {
-            Words::Alternating { before, .. } => before,
-            Words::Suffix => Join::Glued,
+            NextWord::Alternating { before, .. } => before,
+            NextWord::Suffix => Join::Glued,
             _ => Join::Apart,
         }
     }
 
-    // What becomes of the argument after it.
-    fn after(self) -> Words
-        ensures { result ≡ words_after self }
+    // What comes after it.
+    fn after(self) -> NextWord
+        ensures { result ≡ word_after self }
     {
         match self {
-            Words::Plain => Words::Plain,
-            Words::Alternating { font, other, .. } => Words::Alternating {
+            NextWord::Plain => NextWord::Plain,
+            NextWord::Alternating { font, other, .. } => NextWord::Alternating {
                 font: other,
                 other: font,
                 before: Join::Glued,
             },
-            Words::Key => Words::Value,
-            Words::Name => Words::Section,
-            Words::SectionText => Words::SectionEnd,
-            _ => Words::Nothing,
+            NextWord::Key => NextWord::Value,
+            NextWord::Name => NextWord::SectionBegin,
+            NextWord::Section => NextWord::SectionEnd,
+            _ => NextWord::Nothing,
         }
     }
 }
@@ -116,13 +160,13 @@ pub(crate) fn mark<'a>(
 
 // The next argument as a word, if there is one.
 #[tactic(auto, using(crate::proofs::WordLemmas::word_first, crate::proofs::WordLemmas::word_none))]
-fn argument_step<'a>(line: Taken<'a>, column: u32, words: Words, rest: usize) -> Option<Step<'a>>
+fn argument_step<'a>(line: Taken<'a>, column: u32, words: NextWord, rest: usize) -> Option<Step<'a>>
     requires short { length line.text.now ≤ LINE }
     requires within { rest ≤ length line.text.now }
     requires argument { takes_argument words ≡ true }
     ensures { StepsWords (line_seen line.entry) column words rest result }
 {
-    match read_argument(line.text, rest) {
+    match read_after(line.text, rest) {
         Some((argument, end)) => Some(Step {
             event: argument_word(line.line, words.font(), words.join(), argument),
             words: words.after(),
@@ -137,7 +181,7 @@ fn argument_step<'a>(line: Taken<'a>, column: u32, words: Words, rest: usize) ->
 pub(crate) fn word_step<'a>(
     line: Taken<'a>,
     column: u32,
-    words: Words,
+    words: NextWord,
     rest: usize,
 ) -> Option<Step<'a>>
     requires short { length line.text.now ≤ LINE }
@@ -145,20 +189,18 @@ pub(crate) fn word_step<'a>(
     ensures { StepsWords (line_seen line.entry) column words rest result }
 {
     match words {
-        Words::Nothing => None,
-        Words::Section => {
-            if !has_arguments(line.text, rest) {
-                return None;
-            }
+        NextWord::Nothing => None,
+        NextWord::SectionBegin => {
+            first_of(line.text, rest)?;
             Some(Step {
                 event: mark(line.line, column, Own::Round, Join::Glued, Join::Glued),
-                words: Words::SectionText,
+                words: NextWord::Section,
                 rest,
             })
         }
-        Words::SectionEnd => Some(Step {
+        NextWord::SectionEnd => Some(Step {
             event: mark(line.line, column, Own::Unround, Join::Glued, Join::Apart),
-            words: Words::Suffix,
+            words: NextWord::Suffix,
             rest,
         }),
         _ => argument_step(line, column, words, rest),
