@@ -7,5 +7,3 @@ mod checks;
 mod page_tests;
 #[cfg(test)]
 mod sink_tests;
-#[cfg(test)]
-mod text_tests;

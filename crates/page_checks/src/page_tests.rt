@@ -1,10 +1,11 @@
 //! Worked pages from their bytes to rows and messages, however the bytes come and go; and runs whose reader, writer or settings fail.
+//! `page_cases` has the other pages.
 
 use crate::checks::{
     FOOTER, HEADER, all_messages, check, check_count, check_outcome, check_text, framed, gives,
     outcome,
 };
-use page_core_base::{Fault, Level, Output, SettingFault, Settings};
+use page_core_base::{Fault, Level, SettingFault, Settings};
 use page_engine::run_page;
 use std::alloc::Global;
 use std::io::{self, ErrorKind, Read, Write};
@@ -193,48 +194,6 @@ fn formats_pages(rt: HostRuntime) -> Result<(), Fail> {
             case.notes,
             want,
         )?;
-    }
-    Ok(())
-}
-
-#[test]
-fn formats_the_empty_page(rt: HostRuntime) -> Result<(), Fail> {
-    let rows =
-        "()                                                                          ()\n\n                                                                            ()\n";
-    let notes =
-        "mandoc: x.1:1:1: WARNING: missing manual title, using \"\"\nmandoc: x.1:1:1: WARNING: unknown manual section\nmandoc: x.1:1:1: WARNING: missing date, using \"\"\nmandoc: x.1:1:1: WARNING: no document body\n";
-    let mut page = b"".as_slice();
-    let want = outcome(Some(Level::Warning), 0);
-    gives(&rt, &mut page, &all_messages(), rows, notes, want)?;
-    gives(&rt, &mut page, &Settings::new(), rows, "", outcome(None, 0))?;
-    let lint = Settings {
-        output: Output::Lint,
-        ..all_messages()
-    };
-    gives(&rt, &mut page, &lint, "", notes, want)
-}
-
-#[test]
-fn gives_messages_by_level(rt: HostRuntime) -> Result<(), Fail> {
-    let error = "mandoc: x.1:3:2: ERROR: skipping unknown macro: ZZ\n";
-    let both =
-        "mandoc: x.1:3:2: ERROR: skipping unknown macro: ZZ\nmandoc: x.1:5:1: WARNING: blank line in fill mode, using .sp\n";
-    let rows = framed(rt.alloc(), TWO_PARAGRAPHS)?;
-    let cases = [
-        (None, "", None),
-        (Some(Level::Base), both, Some(Level::Error)),
-        (Some(Level::Warning), both, Some(Level::Error)),
-        (Some(Level::Error), error, Some(Level::Error)),
-        (Some(Level::Unsupp), "", None),
-    ];
-    for (least, notes, worst) in cases {
-        let mut page = TWO_MESSAGES;
-        let settings = Settings {
-            least,
-            ..Settings::new()
-        };
-        let want = outcome(worst, 6);
-        gives(&rt, &mut page, &settings, rows.as_str(), notes, want)?;
     }
     Ok(())
 }

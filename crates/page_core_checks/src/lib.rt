@@ -1,4 +1,5 @@
-//! Tests of messages, settings, writers, glyphs and escapes, on public calls.
+//! Tests of messages, settings, writers, and of escapes, columns and numbers where lines are long or writers fail, on public calls; the
+//! cases of escapes, glyphs, columns and numbers are those of `page_core_cases`.
 #![tactic(auto)]
 
 #[cfg(test)]
@@ -6,9 +7,9 @@ mod checks;
 #[cfg(test)]
 mod escapes;
 #[cfg(test)]
-mod glyphs;
-#[cfg(test)]
 mod notes;
+#[cfg(test)]
+mod numbers;
 #[cfg(test)]
 mod rows;
 #[cfg(test)]

@@ -7,7 +7,7 @@ use page_core_writers::{KeptNotes, TextNotes, write_note};
 use std::test::Fail;
 
 #[test]
-fn kinds_have_levels_and_texts(rt: HostRuntime) {
+fn kinds_have_texts_and_levels_an_order(rt: HostRuntime) {
     let kinds = [
         (
             NoteKind::TrailingBlank,
@@ -172,10 +172,6 @@ fn kinds_have_levels_and_texts(rt: HostRuntime) {
         check_text(&rt, kind.level().name(), level.name(), text);
         check_text(&rt, kind.text(), text, text);
     }
-}
-
-#[test]
-fn levels_have_names_and_an_order(rt: HostRuntime) {
     let levels = [
         (0, Level::Base, "BASE"),
         (1, Level::Style, "STYLE"),

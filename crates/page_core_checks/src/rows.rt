@@ -120,11 +120,6 @@ fn rows_are_kept(rt: HostRuntime) -> Result<(), Fail> {
         }
     }
     check_failures(&rt, kept.failures(), failures);
-    Ok(())
-}
-
-#[test]
-fn a_row_has_its_margin_and_cells(rt: HostRuntime) -> Result<(), Fail> {
     let row = Row::new(5, cells(rt.alloc(), "ab", Font::B)?);
     check_row(&rt, &row, 5, cells(rt.alloc(), "ab", Font::B)?.as_slice());
     Ok(())

@@ -115,102 +115,86 @@ fn filled(alloc: Global, script: &str) -> Result<(Vec<u8>, Vec<u8>), Fail> {
     Ok((out, messages))
 }
 
-// Each script gives these rows, and no message.
-fn gives_rows(rt: &impl Abort, alloc: Global, cases: &[(&str, &str)]) -> Result<(), Fail> {
-    for (script, rows) in cases {
-        let (out, notes) = filled(alloc, *script)?;
-        check_bytes(rt, out.as_slice(), rows.as_bytes());
-        check_bytes(rt, notes.as_slice(), b"");
+// Scripts, each with the rows that it gives, without a message.
+const SCRIPTS: [(&str, &str); 51] = [
+    // Words fill rows.
+    ("ab_cde", "ab cde\n"),
+    ("ab_cdef", "ab\ncdef\n"),
+    ("ab=cdefghi_j", "ab\ncdefghi\nj\n"),
+    ("_a=b", "a  b\n"),
+    ("a=._b", "a b\n"),
+    ("._a", "a\n"),
+    ("a b_cd", "a b cd\n"),
+    ("abc_d e", "abc\nd e\n"),
+    ("a_/b", "a\nb\n"),
+    ("", ""),
+    // Glued texts are one word.
+    ("ab_cd+e", "ab cde\n"),
+    ("ab_cd+ef", "ab\ncdef\n"),
+    ("ab_cd_+ef", "ab\ncdef\n"),
+    ("a_.+b", "a b\n"),
+    ("a+/b", "a\nb\n"),
+    // Breaks give blank rows.
+    ("Pa", "a\n"),
+    ("Qa", "\na\n"),
+    ("aPb", "a\n\nb\n"),
+    ("aSSPb", "a\n\n\nb\n"),
+    ("hHPa", "h\na\n"),
+    ("aPHQb", "a\n\n\nb\n"),
+    ("hHSQb", "h\n\n\nb\n"),
+    ("a/ Pb", "a\n\nb\n"),
+    ("aOb", "a\nb\n"),
+    // Margins hold for rows.
+    ("Mabcd_ef_g", " abcd\n  ef g\n"),
+    ("abM_cd_e", "ab cd\n e\n"),
+    ("MSa/b", "\n a\n  b\n"),
+    ("Labcd efgh/  i", "abcd efgh\n  i\n"),
+    // Tags are padded.
+    ("RaEb", "a   b\n"),
+    ("RabcEd", "abc d\n"),
+    ("RabcdEe", "abcd\ne\n"),
+    ("Ra_Eb", "a   b\n"),
+    ("Ra+Eb", "a   b\n"),
+    ("RaE._b", "a   b\n"),
+    ("RaE+b", "a   b\n"),
+    ("RaEbcd", "a\nbcd\n"),
+    ("REa", "a\n"),
+    ("NabcdEe", "abcd e\n"),
+    ("NaEb", "a   b\n"),
+    ("IaEb", "a  b\n"),
+    ("IEb", "b\n"),
+    // Columns are padded.
+    ("aCb", "a   b\n"),
+    ("abcdCe", "abcd e\n"),
+    ("Ca", "    a\n"),
+    ("C_a", "    a\n"),
+    ("aCbcd", "a\nbcd\n"),
+    // Tabs are blanks, or go to stops.
+    ("a>._b", "a b\n"),
+    ("a>", "a\n"),
+    ("LaTb", "a       b\n"),
+    ("LabcdefgTh", "abcdefg h\n"),
+    ("LabcdefghTi", "abcdefgh        i\n"),
+];
+
+#[test]
+fn scripts_give_rows(rt: HostRuntime) -> Result<(), Fail> {
+    let alloc = rt.alloc();
+    for (script, rows) in SCRIPTS {
+        let (out, notes) = filled(alloc, script)?;
+        check_bytes(&rt, out.as_slice(), rows.as_bytes());
+        check_bytes(&rt, notes.as_slice(), b"");
+    }
+    for (script, rows) in [("aTbT", "a b\n"), ("a>b", "a b\n"), ("a>bTc", "a b c\n")] {
+        let (out, notes) = filled(alloc, script)?;
+        check_bytes(&rt, out.as_slice(), rows.as_bytes());
+        check_bytes(
+            &rt,
+            notes.as_slice(),
+            b"mandoc: t:3:7: WARNING: tab in filled text\n".as_slice(),
+        );
     }
     Ok(())
-}
-
-#[test]
-fn words_fill_rows(rt: HostRuntime) -> Result<(), Fail> {
-    let cases = [
-        ("ab_cde", "ab cde\n"),
-        ("ab_cdef", "ab\ncdef\n"),
-        ("ab=cdefghi_j", "ab\ncdefghi\nj\n"),
-        ("_a=b", "a  b\n"),
-        ("a=._b", "a b\n"),
-        ("._a", "a\n"),
-        ("a b_cd", "a b cd\n"),
-        ("abc_d e", "abc\nd e\n"),
-        ("a_/b", "a\nb\n"),
-        ("", ""),
-    ];
-    gives_rows(&rt, rt.alloc(), &cases)
-}
-
-#[test]
-fn glued_texts_are_one_word(rt: HostRuntime) -> Result<(), Fail> {
-    let cases = [
-        ("ab_cd+e", "ab cde\n"),
-        ("ab_cd+ef", "ab\ncdef\n"),
-        ("ab_cd_+ef", "ab\ncdef\n"),
-        ("a_.+b", "a b\n"),
-        ("a+/b", "a\nb\n"),
-    ];
-    gives_rows(&rt, rt.alloc(), &cases)
-}
-
-#[test]
-fn breaks_give_blank_rows(rt: HostRuntime) -> Result<(), Fail> {
-    let cases = [
-        ("Pa", "a\n"),
-        ("Qa", "\na\n"),
-        ("aPb", "a\n\nb\n"),
-        ("aSSPb", "a\n\n\nb\n"),
-        ("hHPa", "h\na\n"),
-        ("aPHQb", "a\n\n\nb\n"),
-        ("hHSQb", "h\n\n\nb\n"),
-        ("a/ Pb", "a\n\nb\n"),
-        ("aOb", "a\nb\n"),
-    ];
-    gives_rows(&rt, rt.alloc(), &cases)
-}
-
-#[test]
-fn margins_hold_for_rows(rt: HostRuntime) -> Result<(), Fail> {
-    let cases = [
-        ("Mabcd_ef_g", " abcd\n  ef g\n"),
-        ("abM_cd_e", "ab cd\n e\n"),
-        ("MSa/b", "\n a\n  b\n"),
-        ("Labcd efgh/  i", "abcd efgh\n  i\n"),
-    ];
-    gives_rows(&rt, rt.alloc(), &cases)
-}
-
-#[test]
-fn tags_are_padded(rt: HostRuntime) -> Result<(), Fail> {
-    let cases = [
-        ("RaEb", "a   b\n"),
-        ("RabcEd", "abc d\n"),
-        ("RabcdEe", "abcd\ne\n"),
-        ("Ra_Eb", "a   b\n"),
-        ("Ra+Eb", "a   b\n"),
-        ("RaE._b", "a   b\n"),
-        ("RaE+b", "a   b\n"),
-        ("RaEbcd", "a\nbcd\n"),
-        ("REa", "a\n"),
-        ("NabcdEe", "abcd e\n"),
-        ("NaEb", "a   b\n"),
-        ("IaEb", "a  b\n"),
-        ("IEb", "b\n"),
-    ];
-    gives_rows(&rt, rt.alloc(), &cases)
-}
-
-#[test]
-fn columns_are_padded(rt: HostRuntime) -> Result<(), Fail> {
-    let cases = [
-        ("aCb", "a   b\n"),
-        ("abcdCe", "abcd e\n"),
-        ("Ca", "    a\n"),
-        ("C_a", "    a\n"),
-        ("aCbcd", "a\nbcd\n"),
-    ];
-    gives_rows(&rt, rt.alloc(), &cases)
 }
 
 // The columns of a tag are counted over its rows: 7 here.
@@ -239,29 +223,6 @@ fn wrapped_tags_count_all_their_rows(rt: HostRuntime) -> Result<(), Fail> {
     Ok(())
 }
 
-#[test]
-fn tabs_are_blanks_or_stops(rt: HostRuntime) -> Result<(), Fail> {
-    let alloc = rt.alloc();
-    let cases = [
-        ("a>._b", "a b\n"),
-        ("a>", "a\n"),
-        ("LaTb", "a       b\n"),
-        ("LabcdefgTh", "abcdefg h\n"),
-        ("LabcdefghTi", "abcdefgh        i\n"),
-    ];
-    gives_rows(&rt, alloc, &cases)?;
-    for (script, rows) in [("aTbT", "a b\n"), ("a>b", "a b\n"), ("a>bTc", "a b c\n")] {
-        let (out, notes) = filled(alloc, script)?;
-        check_bytes(&rt, out.as_slice(), rows.as_bytes());
-        check_bytes(
-            &rt,
-            notes.as_slice(),
-            b"mandoc: t:3:7: WARNING: tab in filled text\n".as_slice(),
-        );
-    }
-    Ok(())
-}
-
 // The bytes of a row of one piece, and of messages.
 fn one_row(alloc: Global, output: Output, piece: Piece<&[u8]>) -> Result<(Vec<u8>, Vec<u8>), Fail> {
     let mut out = Vec::new(alloc);
@@ -276,58 +237,49 @@ fn one_row(alloc: Global, output: Output, piece: Piece<&[u8]>) -> Result<(Vec<u8
     Ok((out, messages))
 }
 
-#[test]
-fn glyphs_are_spelled(rt: HostRuntime) -> Result<(), Fail> {
-    let no_name = "mandoc: t:3:7: WARNING: unknown character, using <?>: zz\n";
-    for (output, name, row, message) in [
-        (Output::Ascii, "em", "--\n", ""),
-        (Output::Lint, "em", "--\n", ""),
-        (Output::Utf8, "em", "\u{2014}\n", ""),
-        (Output::Ascii, "zz", "<?>\n", no_name),
-        (Output::Utf8, "zz", "<?>\n", no_name),
-    ] {
-        let glyph = Piece::Glyph {
-            name: name.as_bytes(),
-            font: Font::R,
-            place: HERE,
-        };
-        let (out, notes) = one_row(rt.alloc(), output, glyph)?;
-        check_bytes(&rt, out.as_slice(), row.as_bytes());
-        check_bytes(&rt, notes.as_slice(), message.as_bytes());
+fn glyph(name: &str) -> Piece<&[u8]> {
+    Piece::Glyph {
+        name: name.as_bytes(),
+        font: Font::R,
+        place: HERE,
     }
-    Ok(())
-}
-
-#[test]
-fn characters_are_spelled(rt: HostRuntime) -> Result<(), Fail> {
-    let no_spelling = "mandoc: t:3:7: WARNING: unknown character, using <?>: \u{4e00}\n";
-    for (output, shown, row, message) in [
-        (Output::Ascii, "\u{e9}", "e\n", ""),
-        (Output::Utf8, "\u{e9}", "\u{e9}\n", ""),
-        (Output::Ascii, "\u{4e00}", "<?>\n", no_spelling),
-        (Output::Utf8, "\u{4e00}", "\u{4e00}\n", ""),
-        (Output::Ascii, "\u{a0}a", " a\n", ""),
-        (Output::Utf8, "\u{a0}a", " a\n", ""),
-    ] {
-        let (out, notes) = one_row(rt.alloc(), output, text(shown))?;
-        check_bytes(&rt, out.as_slice(), row.as_bytes());
-        check_bytes(&rt, notes.as_slice(), message.as_bytes());
-    }
-    Ok(())
 }
 
 // A detail has at most 64 bytes, and ends at a character's end.
+const LONG_NAME: &str = "aaaaaaaaaaaaaaaaaaaaaaaaaaaaaaaaaaaaaaaaaaaaaaaaaaaaaaaaaaaaaaa\u{e9}";
+
 #[test]
-fn long_names_are_cut(rt: HostRuntime) -> Result<(), Fail> {
-    let glyph = Piece::Glyph {
-        name: "aaaaaaaaaaaaaaaaaaaaaaaaaaaaaaaaaaaaaaaaaaaaaaaaaaaaaaaaaaaaaaa\u{e9}".as_bytes(),
-        font: Font::R,
-        place: HERE,
-    };
-    let (_, notes) = one_row(rt.alloc(), Output::Ascii, glyph)?;
-    let message =
-        "mandoc: t:3:7: WARNING: unknown character, using <?>: aaaaaaaaaaaaaaaaaaaaaaaaaaaaaaaaaaaaaaaaaaaaaaaaaaaaaaaaaaaaaaa\n";
-    check_bytes(&rt, notes.as_slice(), message.as_bytes());
+fn glyphs_and_characters_are_spelled(rt: HostRuntime) -> Result<(), Fail> {
+    for (output, piece, row, detail) in [
+        (Output::Ascii, glyph("em"), "--\n", ""),
+        (Output::Lint, glyph("em"), "--\n", ""),
+        (Output::Utf8, glyph("em"), "\u{2014}\n", ""),
+        (Output::Ascii, glyph("zz"), "<?>\n", "zz"),
+        (Output::Utf8, glyph("zz"), "<?>\n", "zz"),
+        (
+            Output::Ascii,
+            glyph(LONG_NAME),
+            "<?>\n",
+            "aaaaaaaaaaaaaaaaaaaaaaaaaaaaaaaaaaaaaaaaaaaaaaaaaaaaaaaaaaaaaaa",
+        ),
+        (Output::Ascii, text("\u{e9}"), "e\n", ""),
+        (Output::Utf8, text("\u{e9}"), "\u{e9}\n", ""),
+        (Output::Ascii, text("\u{4e00}"), "<?>\n", "\u{4e00}"),
+        (Output::Utf8, text("\u{4e00}"), "\u{4e00}\n", ""),
+        (Output::Ascii, text("\u{a0}a"), " a\n", ""),
+        (Output::Utf8, text("\u{a0}a"), " a\n", ""),
+    ] {
+        let (out, notes) = one_row(rt.alloc(), output, piece)?;
+        check_bytes(&rt, out.as_slice(), row.as_bytes());
+        let message = if detail.is_empty() {
+            String::new(rt.alloc())
+        } else {
+            format!(in rt.alloc();
+                "mandoc: t:3:7: WARNING: unknown character, using <?>: {detail}\n"
+            )?
+        };
+        check_bytes(&rt, notes.as_slice(), message.as_bytes());
+    }
     Ok(())
 }
 
@@ -465,7 +417,7 @@ fn run_to_fault(
 }
 
 #[test]
-fn each_row_may_fail(rt: HostRuntime) -> Result<(), Fail> {
+fn each_row_and_message_may_fail(rt: HostRuntime) -> Result<(), Fail> {
     let alloc = rt.alloc();
     let mut settings = Settings::new();
     settings.width = 6;
@@ -484,14 +436,6 @@ fn each_row_may_fail(rt: HostRuntime) -> Result<(), Fail> {
             check_count(&rt, notes.calls, 2);
         }
     }
-    Ok(())
-}
-
-#[test]
-fn each_message_may_fail(rt: HostRuntime) -> Result<(), Fail> {
-    let alloc = rt.alloc();
-    let mut settings = Settings::new();
-    settings.width = 6;
     for good in 0..3 {
         let mut filler = Filler::new(alloc, &settings)?;
         let mut rows = Counter::new(9);

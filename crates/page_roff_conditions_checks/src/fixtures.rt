@@ -1,6 +1,7 @@
 //! Names and a line, and what messages are checked against.
 
 use page_core_base::{Note, NoteKind, Output, Place};
+use page_core_limits::LINE;
 use page_core_writers::KeptNotes;
 use page_roff_conditions::holds;
 use page_roff_definitions::{DefinitionRequest, RequestLine, define};
@@ -90,5 +91,29 @@ pub fn request(
     let mut latch = NoteLatch::new(&mut notes);
     define(request, line, &mut fixture.names, &mut latch);
     assert!(rt; latch.done().is_ok());
+    fixture.notes = notes;
+}
+
+/// Expands line 7, and checks what it gives and how many interpolations it makes.
+pub fn check_text(
+    rt: &(impl Abort + AllocGlobal),
+    fixture: &mut Fixture,
+    text: &[u8],
+    want: &[u8],
+    count: u32,
+) {
+    let env = Environment {
+        copy: false,
+        names: &fixture.names,
+        arguments: &fixture.arguments,
+        output: Output::Ascii,
+    };
+    let mut notes = KeptNotes::new(rt.alloc());
+    let mut latch = NoteLatch::new(&mut notes);
+    assert!(rt; text.len() <= LINE);
+    let is_plain = fixture.line.expand(&env, text, 7, &mut latch);
+    assert!(rt; latch.done().is_ok());
+    let got = if is_plain { text } else { fixture.line.text() };
+    assert!(rt; got == want && fixture.line.count() == count);
     fixture.notes = notes;
 }

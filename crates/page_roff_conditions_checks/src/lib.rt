@@ -1,13 +1,11 @@
-//! Tests of conditions and of the requests for definitions, on public calls.
+//! Tests of the limits of texts, conditions and names, on public calls; `page_roff_cases` has the other cases.
 #![tactic(auto)]
 
 #[cfg(test)]
-mod conditions;
-#[cfg(test)]
-mod definitions;
-#[cfg(test)]
 mod fixtures;
 #[cfg(test)]
-mod heads;
-#[cfg(test)]
 mod limits;
+#[cfg(test)]
+mod names;
+#[cfg(test)]
+mod texts;

@@ -1,0 +1,28 @@
+//! The settings of a page's run, by words.
+
+use page_core_base::{Level, Output, Settings};
+
+/// The settings of a title `WORDS: what it shows`, with the words `utf8`, `lint`, a level in capitals below which no message is given, or
+/// NONE for no message at all. With none of these words the output is ASCII and all messages are given.
+pub(crate) fn settings_of(title: &str) -> Settings {
+    let mut settings = Settings::new();
+    settings.least = Some(Level::Base);
+    let (words, _) = title.split_once(": ").unwrap_or(("", title));
+    for word in words.split(' ') {
+        set(&mut settings, word);
+    }
+    settings
+}
+
+fn set(settings: &mut Settings, word: &str) {
+    match word {
+        "utf8" => settings.output = Output::Utf8,
+        "lint" => settings.output = Output::Lint,
+        "NONE" => settings.least = None,
+        "STYLE" => settings.least = Some(Level::Style),
+        "WARNING" => settings.least = Some(Level::Warning),
+        "ERROR" => settings.least = Some(Level::Error),
+        "UNSUPP" => settings.least = Some(Level::Unsupp),
+        _ => {}
+    }
+}

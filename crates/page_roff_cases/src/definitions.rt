@@ -1,0 +1,41 @@
+//! The requests for definitions.
+
+use crate::names::{Roff, show_messages};
+use page_core_base::Place;
+use page_core_limits::LINE;
+use page_core_writers::TextNotes;
+use page_roff_definitions::{DefinitionRequest, RequestLine, define};
+use page_roff_values::NoteLatch;
+
+/// Does a request in line 7, of which the name and the expanded rest are given, and shows its messages.
+pub(crate) fn show_request(rt: &HostRuntime, roff: &mut Roff, text: &str) {
+    let (name, rest) = text.split_at(text.find(' ').unwrap_or(text.len()));
+    if rest.len() > LINE / 2 {
+        return;
+    }
+    let Some(request) = DefinitionRequest::of(name.as_bytes()) else {
+        return;
+    };
+    let line = RequestLine {
+        place: Place { line: 7, column: 2 },
+        rest: rest.as_bytes(),
+        rest_column: 4,
+    };
+    let mut messages = Vec::new(rt.alloc());
+    let mut notes = TextNotes::new(&mut messages, "roff");
+    let mut latch = NoteLatch::new(&mut notes);
+    define(request, line, &mut roff.names, &mut latch);
+    drop(latch);
+    drop(notes);
+    show_messages(rt, messages.as_slice());
+}
+
+/// Shows whether a name is that of a request for definitions, and whether its rest is expanded in copy mode.
+pub(crate) fn show_mode(rt: &HostRuntime, name: &str) {
+    let word = match DefinitionRequest::of(name.as_bytes()) {
+        Some(request) if request.is_in_copy_mode() => "copy mode",
+        Some(_) => "no copy mode",
+        None => "none",
+    };
+    let _ = print!(rt; " -> {word}");
+}

@@ -1,0 +1,93 @@
+//! Names and arguments that the calls work on.
+
+use page_core_base::Output;
+use page_roff_names::Names;
+use page_roff_values::{CallArguments, Environment, Expansion};
+use std::alloc::{AllocError, Global};
+
+/// The most bytes of the arguments of a case.
+const MOST: usize = 64;
+
+/// What the calls work on.
+#[derive(Drop)]
+pub(crate) struct Roff {
+    pub(crate) names: Names,
+    pub(crate) arguments: CallArguments,
+    pub(crate) line: Expansion,
+    pub(crate) output: Output,
+}
+
+impl Roff {
+    pub(crate) fn new(alloc: Global) -> Result<Roff, AllocError> {
+        Ok(Roff {
+            names: Names::new(alloc)?,
+            arguments: CallArguments::new(alloc)?,
+            line: Expansion::new(alloc)?,
+            output: Output::Ascii,
+        })
+    }
+
+    /// Changes what the calls work on, where this is such a call; it shows nothing: a definition NAME=VALUE of a string or a macro, the
+    /// arguments of a macro that runs, each with a `;` after it, or the output.
+    pub(crate) fn change(&mut self, call: &str, text: &str) {
+        let (name, value) = text.split_once('=').unwrap_or((text, ""));
+        match call {
+            "define" => {
+                let _ = self.names.define_string(name.as_bytes(), value.as_bytes());
+            }
+            "macro" => {
+                let _ = self.names.define_macro(name.as_bytes(), value.as_bytes());
+            }
+            "arguments" => self.set_arguments(text),
+            "outside" => self.arguments.leave(),
+            "utf8" => self.output = Output::Utf8,
+            _ => {}
+        }
+    }
+
+    fn set_arguments(&mut self, text: &str) {
+        let mut packed = [0; MOST];
+        for (place, byte) in packed.iter_mut().zip(text.bytes()) {
+            *place = if byte == b';' { b'\n' } else { byte };
+        }
+        self.arguments.set(&packed[..text.len().min(MOST)]);
+    }
+
+    /// What interpolations read.
+    pub(crate) fn environment(&self, copy: bool) -> Environment<'_> {
+        Environment {
+            copy,
+            names: &self.names,
+            arguments: &self.arguments,
+            output: self.output,
+        }
+    }
+}
+
+/// Shows the number in a register, a read-only one too.
+pub(crate) fn show_register(rt: &HostRuntime, roff: &Roff, name: &str) {
+    let _ = match roff.environment(false).find_register(name.as_bytes()) {
+        Some(number) => print!(rt; " -> {number}"),
+        None => print!(rt; " -> none"),
+    };
+}
+
+/// Shows a string.
+pub(crate) fn show_string(rt: &HostRuntime, roff: &Roff, name: &str) {
+    let _ = match roff.names.string(name.as_bytes()) {
+        Some(value) => print!(rt; " -> {}", shown(value)),
+        None => print!(rt; " -> none"),
+    };
+}
+
+/// A text that calls give.
+pub(crate) fn shown(text: &[u8]) -> &str {
+    std::str::from_utf8(text).unwrap_or("not UTF-8")
+}
+
+/// Shows messages, a line for each.
+pub(crate) fn show_messages(rt: &HostRuntime, messages: &[u8]) {
+    for message in shown(messages).lines() {
+        let _ = print!(rt; "\n{message}");
+    }
+}
