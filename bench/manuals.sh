@@ -1,0 +1,15 @@
+#!/bin/sh
+# Compares the words of real pages of man(7) with those that another formatter, installed as `mandoc`, prints (bench/manuals.py).
+# With no folder, the pages of some packages are fetched into one that is removed at the end (Debian: apt-get download).
+# usage: bench/manuals.sh [FOLDER [LISTED]]
+cd "$(dirname "$0")/.." || exit 1
+if [ $# -gt 0 ]; then
+    exec python3 bench/manuals.py "$@"
+fi
+room=$(mktemp -d) || exit 1
+trap 'rm -rf "$room"' EXIT
+(cd "$room" && chmod 755 . && apt-get download coreutils git-man bash util-linux findutils openssl manpages-dev) > /dev/null || exit 1
+for package in "$room"/*.deb; do
+    dpkg-deb -x "$package" "$room/pages"
+done
+python3 bench/manuals.py "$room/pages"
