@@ -2,6 +2,7 @@
 
 use page_roff_forms::{
     Argument, Arguments, LineForm, Quoting, form_of, has_arguments, is_white, kept_len,
+    read_argument,
 };
 use std::process::Abort;
 
@@ -171,5 +172,21 @@ fn keeps_a_front(rt: HostRuntime) {
             want,
             "in {text}"
         );
+    }
+}
+
+#[test]
+fn says_where_the_other_arguments_begin(rt: HostRuntime) {
+    for (text, want) in [
+        ("", None),
+        ("  ", None),
+        ("a b", Some(1)),
+        ("  a\\ b c", Some(6)),
+        (" \"a b\"c", Some(6)),
+        ("\"a", Some(2)),
+    ] {
+        assert!(rt; text.len() < 100);
+        let end = read_argument(text.as_bytes(), 3).map(|(_, end)| end);
+        assert!(rt; end == want, "in {text}");
     }
 }

@@ -129,6 +129,7 @@ fn names_of_no_macro(rt: HostRuntime) {
             ("..", "2 note unknown .; 1 end"),
             (".tp", "2 note unknown tp; 1 end"),
             (".PPP", "2 note unknown PPP; 1 end"),
+            (".TE", "2 note unknown TE; 1 end"),
             (".B\\fIx", "2 fonts B; 3 word \\fIx; 2 fonts; 1 filled"),
             (". B x", "3 fonts B; 5 word x; 3 fonts; 1 filled"),
             (".B\tx", "2 fonts B; 3 word \tx; 2 fonts; 1 filled"),
@@ -163,6 +164,10 @@ fn titles_and_headings(rt: HostRuntime) {
                 ".SS \"\" b",
                 "2 close lines; 2 open SS; 2 scope SS; 6 word \"\"; 8 word b; 1 filled",
             ),
+            (
+                ".SS a",
+                "2 close lines; 2 open SS; 2 scope SS; 5 word a; 1 filled",
+            ),
         ],
     );
 }
@@ -175,6 +180,9 @@ fn paragraphs(rt: HostRuntime) {
             (".PP", "2 close lines; 2 open PP; 1 end"),
             (".PP x y", "2 close lines; 2 open PP; 1 end"),
             (".LP", "2 close lines; 2 open LP; 1 end"),
+            (".LP x", "2 close lines; 2 open LP; 1 end"),
+            (".LP \"x", "2 close lines; 5 note! quote; 2 open LP; 1 end"),
+            (".P", "2 close lines; 2 open P; 1 end"),
             (".P \"x", "2 close lines; 4 note! quote; 2 open P; 1 end"),
             (".HP", "2 close lines; 2 open HP; 1 end"),
             (".HP 4 5", "2 close lines; 2 open HP 4; 1 end"),
@@ -184,6 +192,7 @@ fn paragraphs(rt: HostRuntime) {
             ),
             (".IP", "2 close lines; 2 open IP; 1 end"),
             (".IP a", "2 close lines; 2 open IP a; 1 end"),
+            (".IP \"\" 4", "2 close lines; 2 open IP \"\" 4; 1 end"),
             (".IP \"a b\" 4", "2 close lines; 2 open IP \"a b\" 4; 1 end"),
             (".IP a 4 x", "2 close lines; 2 open IP a 4; 1 end"),
             (".IP \"a 4", "2 close lines; 2 open IP \"a 4; 1 end"),
@@ -239,6 +248,7 @@ fn margins(rt: HostRuntime) {
             (".PD \"0", "5 note quote; 2 distance PD 0; 1 end"),
             (".EX", "2 example EX; 1 end"),
             (".EX \"x", "5 note quote; 2 example EX; 1 end"),
+            (".EE", "2 example EE; 1 end"),
             (".EE x", "2 example EE; 1 end"),
         ],
     );
@@ -257,6 +267,16 @@ fn words_in_one_font(rt: HostRuntime) {
                 "2 fonts B; 5 word \"a b\"; 9 word c; 12 word \"d; 2 fonts; 1 filled",
             ),
             (".B \"\"", "2 fonts B; 5 word \"\"; 2 fonts; 1 filled"),
+            (
+                ".B \"a\"\"b\" c",
+                "2 fonts B; 5 word \"a\"\"b\"; 11 word c; 2 fonts; 1 filled",
+            ),
+            (".B é x", "2 fonts B; 4 word é; 7 word x; 2 fonts; 1 filled"),
+            (
+                ".B a\tb c",
+                "2 fonts B; 4 word a\tb; 8 word c; 2 fonts; 1 filled",
+            ),
+            (".B a\\", "2 fonts B; 4 word a\\; 2 fonts; 1 filled"),
             (".I", "2 scope I; 1 end"),
             (".I a", "2 fonts I; 4 word a; 2 fonts; 1 filled"),
             (".SM", "2 scope SM; 1 end"),
@@ -287,6 +307,10 @@ fn words_in_two_fonts(rt: HostRuntime) {
             (".RB a b", "5 word R a; 7 +word B b; 1 filled"),
             (".RI a b", "5 word R a; 7 +word I b; 1 filled"),
             (".RI", "2 note empty RI; 1 end"),
+            (".BR", "2 note empty BR; 1 end"),
+            (".IB", "2 note empty IB; 1 end"),
+            (".IR", "2 note empty IR; 1 end"),
+            (".RB", "2 note empty RB; 1 end"),
         ],
     );
 }
@@ -302,6 +326,7 @@ fn links(rt: HostRuntime) {
                 ".UR \"u",
                 "2 close lines; 5 note! quote; 2 open UR \"u; 1 end",
             ),
+            (".UR u", "2 close lines; 2 open UR u; 1 end"),
             (".UE", "2 close lines; 2 close UE; 1 end"),
             (".UE .", "2 close lines; 2 close UE .; 1 end"),
             (".UE \"x", "2 close lines; 2 close UE \"x; 1 end"),
@@ -311,8 +336,18 @@ fn links(rt: HostRuntime) {
             ),
             (".MT", "2 note empty MT; 1 end"),
             (".MT a@b", "2 close lines; 2 open MT a@b; 1 end"),
+            (".MT a b", "2 close lines; 2 open MT a; 1 end"),
+            (
+                ".MT \"a",
+                "2 close lines; 5 note! quote; 2 open MT \"a; 1 end",
+            ),
             (".ME", "2 close lines; 2 close ME; 1 end"),
             (".ME , x", "2 close lines; 2 close ME ,; 1 end"),
+            (".ME \"x", "2 close lines; 2 close ME \"x; 1 end"),
+            (
+                ".ME , \"x",
+                "2 close lines; 7 note quote; 2 close ME ,; 1 end",
+            ),
         ],
     );
 }
@@ -324,6 +359,7 @@ fn commands(rt: HostRuntime) {
         &[
             (".SY", "2 note empty SY; 1 end"),
             (".SY n x", "2 close lines; 2 open SY n; 1 end"),
+            (".SY n", "2 close lines; 2 open SY n; 1 end"),
             (".SY \"n", "2 close lines; 2 open SY \"n; 1 end"),
             (
                 ".SY n \"x",
@@ -342,6 +378,14 @@ fn commands(rt: HostRuntime) {
                 "9 note! quote; 2 mark+ [; 5 word B k; 7 word I v; 2 +mark ]; 1 filled",
             ),
             (".OP \"k", "2 mark+ [; 6 word B \"k; 2 +mark ]; 1 filled"),
+            (
+                ".OP k v x",
+                "2 mark+ [; 5 word B k; 7 word I v; 2 +mark ]; 1 filled",
+            ),
+            (
+                ".OP k \"v",
+                "2 mark+ [; 5 word B k; 8 word I \"v; 2 +mark ]; 1 filled",
+            ),
         ],
     );
 }
@@ -364,6 +408,19 @@ fn references(rt: HostRuntime) {
             (
                 ".MR n 1 , \"x",
                 "11 note! quote; 5 word I n; 2 +mark+ (; 7 word 1; 2 +mark ); 9 +word ,; 1 filled",
+            ),
+            (
+                ".MR n 1 , x",
+                "5 word I n; 2 +mark+ (; 7 word 1; 2 +mark ); 9 +word ,; 1 filled",
+            ),
+            (".MR \"n", "6 word I \"n; 1 filled"),
+            (
+                ".MR n \"1",
+                "5 word I n; 2 +mark+ (; 8 word \"1; 2 +mark ); 1 filled",
+            ),
+            (
+                ".MR n 1 \",",
+                "5 word I n; 2 +mark+ (; 7 word 1; 2 +mark ); 10 +word \",; 1 filled",
             ),
             (".AT", "2 close lines; 1 end"),
             (".DT x", "2 close lines; 1 end"),
