@@ -1,9 +1,8 @@
 # Proves and builds the program, installs it, and checks the whole repository.
 PREFIX ?= /usr/local
 
-# How many crates are in work at a time. Some of them wait for others, so these are two more than there are processors, as far as memory goes
-# (2 GB for each).
-JOBS ?= $(shell awk -v most=$$(($$(nproc) + 2)) '/MemAvailable/ { n = int($$2 / 2000000) } \
+# How many layers are in work at a time: one a processor, as far as memory goes (2 GB for each).
+JOBS ?= $(shell awk -v most=$$(nproc) '/MemAvailable/ { n = int($$2 / 2000000) } \
     END { if (n < 1) n = 1; print n < most ? n : most }' /proc/meminfo)
 
 # All that the program is made of; a folder changes with the names of its files.
@@ -33,7 +32,7 @@ all: mandoc
 # $(PROGRAM)/out/build.log.
 mandoc: $(SOURCES)
 	@mkdir -p $(PROGRAM)/out
-	@echo "Proving the crates of the program, $(JOBS) at a time. The README says how long this takes from nothing."
+	@echo "Proving the crates of the program with $(JOBS) processes. The README says how long this takes from nothing."
 	@{ (cd $(LAYERS) && rt all check --jobs $(JOBS)) 2>&1 && (cd $(PROGRAM) && rt check) 2>&1; echo "status $$?"; } | \
 	    tee $(PROGRAM)/out/build.log | { $(PROGRESS); exit $$status; }
 	@echo "Building the program."
