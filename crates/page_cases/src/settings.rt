@@ -2,14 +2,20 @@
 
 use page_core_base::{Level, Output, Settings};
 
-/// The settings of a title `WORDS: what it shows`, with the words `utf8`, `lint`, a level in capitals below which no message is given, or
-/// NONE for no message at all. With none of these words the output is ASCII and all messages are given.
+/// The settings of a title `WORDS: what it shows`, with the words `utf8`, `lint`, `width=N`, `indent=N`, a level in capitals below which no
+/// message is given, or NONE for no message at all. With none of these words the output is ASCII and all messages are given.
 pub(crate) fn settings_of(title: &str) -> Settings {
     let mut settings = Settings::new();
     settings.least = Some(Level::Base);
     let (words, _) = title.split_once(": ").unwrap_or(("", title));
     for word in words.split(' ') {
-        set(&mut settings, word);
+        if let Some(digits) = word.strip_prefix("width=") {
+            settings.width = digits.parse().unwrap_or(0);
+        } else if let Some(digits) = word.strip_prefix("indent=") {
+            settings.indent = digits.parse().ok();
+        } else {
+            set(&mut settings, word);
+        }
     }
     settings
 }
