@@ -1,7 +1,5 @@
 //! A second set, which keeps the laws of macro sets and is not that of man(7).
 
-ghost use Rattle.std.specs.Prelude.{◌≡◌, ◌≤◌, [], ◌∷◌, length};
-
 use page_core_base::{Place, Taken};
 use page_sets::{Deed, Event, MacroSet};
 

@@ -1,8 +1,7 @@
 //! The name and the arguments of a finished control line (roff(7), "LANGUAGE SYNTAX").
 
-ghost use Rattle.std.specs.Prelude.{◌≡◌, ◌≤◌, ◌+◌, ◌-◌, ◌<◌, ◌^◌, ℕ, List, length, drop, ◌==◌, IfSome};
+ghost use Rattle.std.specs.Prelude.{◌≡◌, ◌≤◌, ◌==◌, length};
 ghost use Rattle.page_core_base.specs.LinesTaken.{line_seen};
-ghost use Rattle.page_roff_forms.specs.Arguments.{arguments};
 ghost use Rattle.page_sets_lines.specs.Events.{given_seen};
 ghost use Rattle.page_sets_lines.specs.ControlLines.{before_name, name_end, arguments_after, first_of, second_of, open_quote, ReadsAfter};
 
@@ -17,6 +16,15 @@ pub struct NameSpan {
     pub end: usize,
 }
 
+impl NameSpan {
+    /// Whether it has no byte.
+    pub fn is_empty(self) -> bool
+        ensures { result ≡ (self.start == self.end) }
+    {
+        self.start == self.end
+    }
+}
+
 // The bytes before the name of a control line.
 fn before_name(text: &[u8]) -> usize
     ensures value { result ≡ before_name text.now }
@@ -25,15 +33,6 @@ fn before_name(text: &[u8]) -> usize
     match text {
         [] => 0,
         [_control, bytes @ ..] => 1 + white_len(bytes),
-    }
-}
-
-impl NameSpan {
-    /// Whether it has no byte.
-    pub fn is_empty(self) -> bool
-        ensures { result ≡ (self.start == self.end) }
-    {
-        self.start == self.end
     }
 }
 
@@ -51,8 +50,8 @@ pub fn find_name(line: Taken<'_>) -> NameSpan
     }
 }
 
-/// The arguments of a line that begin after this many bytes.
-pub fn arguments_after(text: &[u8], start: usize) -> Arguments<'_>
+// The arguments of a line that begin after this many bytes.
+fn arguments_after(text: &[u8], start: usize) -> Arguments<'_>
     requires short { length text.now ≤ LINE }
     requires within { start ≤ length text.now }
     ensures { result ≡ arguments_after start text.now }

@@ -39,7 +39,7 @@ pub trait MacroSet {
         ensures events { events_from self.now (line_seen line.entry) result
             ≡ table self.now (line_seen line.entry) };
 
-    /// The next event of the line.
+    /// The next event of the line, if there is one more. Once there is none, there is none from then on.
     fn next<'a>(&self, line: Taken<'a>, place: &mut Self::Place) -> Option<Event<&'a [u8]>>
         requires short { length line.text.now ≤ LINE }
         requires place { IsPlaceOf self.now (line_seen line) place.old }

@@ -1,7 +1,5 @@
 //! The set of the macros of man(7).
 
-ghost use Rattle.std.specs.Prelude.{◌≡◌, ◌≤◌, [], ◌∷◌, length};
-
 use crate::plans::{Plan, next_event, plan_of};
 use page_core_base::Taken;
 use page_sets_lines::{Event, MacroSet};

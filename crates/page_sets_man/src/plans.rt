@@ -1,6 +1,6 @@
 //! What is still to come of a line's events.
 
-ghost use Rattle.std.specs.Prelude.{◌≡◌, ◌≤◌, ◌+◌, [], ◌∷◌, length, option_map, MatchOption, true, false};
+ghost use Rattle.std.specs.Prelude.{◌≡◌, ◌≤◌, length, option_map};
 ghost use Rattle.page_core_base.specs.LinesTaken.{line_seen};
 ghost use Rattle.page_sets_lines.specs.Events.{event_seen, deed_seen, TakesNext};
 ghost use Rattle.page_sets_lines.specs.ControlLines.{arguments_after};
@@ -16,7 +16,7 @@ use page_core_base::{NoteKind, Place, Taken};
 use page_core_limits::LINE;
 use page_roff_forms::has_arguments;
 use page_sets_lines::{
-    Closer, Deed, Event, Join, Leaf, LineOpener, NameSpan, PlainLine, find_name, open_quote,
+    Closer, Deed, Event, Join, Leaf, LineOpener, PlainLine, find_name, open_quote,
 };
 
 /// The quote of an argument that lacks its last one: its column, and whether its message may begin the body of the
