@@ -31,26 +31,26 @@ pub(crate) fn show_condition(rt: &HostRuntime, roff: &mut Roff, rest: &str) {
 
 /// Expands line 7, and shows how many interpolations it makes, what it gives and its messages.
 pub(crate) fn show_text(rt: &HostRuntime, roff: &mut Roff, copy: bool, text: &str) {
-    if text.len() > LINE {
-        return;
-    }
+    let mut messages = Vec::new(rt.alloc());
+    let is_plain = expand(roff, copy, text.as_bytes(), &mut messages);
+    let _ = print!(rt; " -> {} ", roff.line.count());
+    let _ = if is_plain {
+        print!(rt; "{text}")
+    } else {
+        print!(rt; "{}", shown(roff.line.text()))
+    };
+    show_messages(rt, messages.as_slice());
+}
+
+// Expands line 7, and answers whether it is what it gives.
+fn expand(roff: &mut Roff, copy: bool, text: &[u8], messages: &mut Vec<u8>) -> bool {
     let env = Environment {
         copy,
         names: &roff.names,
         arguments: &roff.arguments,
         output: roff.output,
     };
-    let mut messages = Vec::new(rt.alloc());
-    let mut notes = TextNotes::new(&mut messages, "roff");
+    let mut notes = TextNotes::new(messages, "roff");
     let mut latch = NoteLatch::new(&mut notes);
-    let is_plain = roff.line.expand(&env, text.as_bytes(), 7, &mut latch);
-    drop(latch);
-    drop(notes);
-    let value = if is_plain {
-        text
-    } else {
-        shown(roff.line.text())
-    };
-    let _ = print!(rt; " -> {} {value}", roff.line.count());
-    show_messages(rt, messages.as_slice());
+    text.len() <= LINE && roff.line.expand(&env, text, 7, &mut latch)
 }
