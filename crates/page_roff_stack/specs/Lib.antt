@@ -1,0 +1,4 @@
+pub mod Changes
+pub mod Held
+pub mod Sources
+pub mod Views

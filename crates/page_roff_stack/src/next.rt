@@ -1,0 +1,22 @@
+//! What comes next in the sources that run.
+
+use page_roff_blocks::Atom;
+
+/// What comes next in the sources that run; `W` is a text, and `R` an open region.
+pub enum Next<W, R> {
+    /// A part of the innermost source's present line.
+    Part(Atom<W>),
+    /// A line begins there, outside of regions.
+    Line(W),
+    /// A line in its open region.
+    RegionLine {
+        region: R,
+        line: W,
+        /// Whether it ends the region.
+        is_end: bool,
+    },
+    /// The innermost macro ends, inside a region or not.
+    SourceEnd(Option<R>),
+    /// The page's line is done.
+    Nothing,
+}
