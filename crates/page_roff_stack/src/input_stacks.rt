@@ -1,6 +1,6 @@
 //! The input stack (mandoc(1), "input stack limit exceeded, infinite loop?").
 
-ghost use Rattle.std.specs.Prelude.{◌≡◌, [], ◌∷◌, ◌≤◌, ◌<◌, ◌^◌, true, length, IfOk, IfSome, None};
+ghost use Rattle.std.specs.Prelude.{◌≡◌, [], ◌∷◌, ◌≤◌, ◌<◌, ◌^◌, true, length, IfOk, IfSome, None, Some};
 ghost use Rattle.page_core_base.specs.Texts.{IsLine};
 ghost use Rattle.page_core_limits.specs.declared.TheConstants.{BODY};
 ghost use Rattle.page_roff_blocks.specs.Levels.{after_part, guarded_by, way_of, enter, bit_after, skip, leave, has_block, reached};
@@ -9,7 +9,7 @@ ghost use Rattle.page_roff_run.specs.Machine.{depth, is_some};
 ghost use Rattle.page_roff_values.specs.Arguments.{arguments_in};
 ghost use Rattle.page_roff_values.specs.declared.call_arguments.TheConstants.{ARGS};
 ghost use Rattle.page_roff_stack.specs.Changes.{lines_in, page_line, past, in_region, next_line, first_atoms, is_page};
-ghost use Rattle.page_roff_stack.specs.Stacks.{first_stack, with_top, call_of, next_of, is_part, is_line, is_region_line, is_source_end, is_nothing, branch_in, region_in};
+ghost use Rattle.page_roff_stack.specs.Stacks.{first_stack, with_top, call_of, next_around, next_of, is_part, is_line, is_source_end, is_nothing, branch_in, region_in};
 ghost use Rattle.page_roff_stack.specs.Views.{opened_seen, kind_of, next_seen, FitsNext};
 
 use crate::next::Next;
@@ -166,7 +166,7 @@ impl InputStack {
         requires idle { is_nothing (next_of self.old) ≡ true }
         requires line { IsLine line.now }
         requires skips { self.old.top.spot.levels.skipped < 2 ^ 62 }
-        ensures { self.new ≡ with_top (page_line line.now self.old.top) self.old }
+        ensures { self.new ≡ record { top = page_line line.now self.old.top; under = [] } }
     {
         self.top.set_line(line);
     }

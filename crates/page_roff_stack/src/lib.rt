@@ -2,8 +2,12 @@
 //! inside another, each read part by part in memory that is reserved once.
 #![tactic(auto)]
 
+mod input_stacks;
+mod laws;
 mod next;
 mod sources;
 mod spans;
 
+pub use input_stacks::InputStack;
+pub use laws::stack_law;
 pub use next::Next;

@@ -1,0 +1,4 @@
+pub mod InputStackLemmas
+pub mod LineLemmas
+pub mod SourceLemmas
+pub mod StackLemmas
