@@ -2,7 +2,7 @@
 use Rattle.std.proofs.Common.{◌≡◌, ℕ, zero, suc, ◌+◌, ◌-◌, ◌*◌, ◌<◌, ◌≤◌, Bool, true, false, ◌==◌, ◌&&◌, if◌then◌else◌, List, [], ◌∷◌, ◌++◌, length, get_or, take, drop, refl, sym, ap, ◌∙◌, arith, inl, inr, length-drop}
 use Rattle.std.proofs.Math.Seq.{take-length}
 use Rattle.std.proofs.lemmas.Bool.{cases_Bool, eqb-true}
-use Rattle.std.proofs.lemmas.List.{drop-drop, drop-take, drop_all, length-take-le}
+use Rattle.std.proofs.lemmas.List.{drop-drop, drop-take, drop_all, length-take, length-take-le}
 use Rattle.page_core_base.specs.Texts.{has_no_control, is_no_control}
 use Rattle.page_core_limits.specs.declared.TheConstants.{LINE}
 use Rattle.page_roff_values.specs.Arguments.{begin_first, arguments_in}
@@ -46,7 +46,6 @@ lines_within [] = tt
 lines_within (byte ∷ bytes) = either (byte == 10)
   where
     either : (b : Bool) → AreWithin (suc (length bytes)) (if b then [] ∷ arguments_in bytes else begin_first byte (arguments_in bytes))
-    unfolding AreWithin
     either true = (omega arith, within_more (length bytes) (arguments_in bytes) (lines_within bytes))
     either false = begun_within byte (length bytes) (arguments_in bytes) (lines_within bytes)
 
@@ -69,7 +68,6 @@ lines_weight [] = omega arith
 lines_weight (byte ∷ bytes) = either (byte == 10)
   where
     either : (b : Bool) → weight (if b then [] ∷ arguments_in bytes else begin_first byte (arguments_in bytes)) ≤ 5 * suc (length bytes)
-    unfolding weight
     either true = omega (arith, lines_weight bytes)
     either false = omega (arith, lines_weight bytes, begun_weight byte (arguments_in bytes))
 
@@ -111,3 +109,20 @@ span_drop start end n text p =
     let m = end - (start + n) in
     let e : end - start ≡ n + m = omega arith in
     rw e (drop-take n m (drop start text) ∙ ap (λ rest. take m rest) (drop-drop n start text))
+
+length-take-at-most : (n : ℕ) (xs : List ℕ) → length (take n xs) ≤ n
+length-take-at-most n xs = omega (arith, length-take n xs)
+
+-- the first line and a line feed are passed, or all of the span
+pub rest_before : (start end len : ℕ) (text : List ℕ) → start + len < end
+    → lines_in (drop (len + 1) (take (end - start) (drop start text))) ≡ lines_in (take (end - (start + len + 1)) (drop (start + len + 1) text))
+rest_before start end len text p =
+    let e : start + (len + 1) ≡ start + len + 1 = omega arith in
+    ap lines_in (span_drop start end (len + 1) text (omega arith) ∙ ap (λ k. take (end - k) (drop k text)) e)
+
+pub rest_none : (start end len : ℕ) (text : List ℕ) → end ≤ start + len
+    → lines_in (drop (len + 1) (take (end - start) (drop start text))) ≡ lines_in (take (end - end) (drop end text))
+rest_none start end len text p =
+    let l = length-take-at-most (end - start) (drop start text) in
+    let e : end - end ≡ 0 = omega arith in
+    ap lines_in (drop_all (len + 1) (take (end - start) (drop start text)) (omega (arith, l, p)) ∙ sym (ap (λ k. take k (drop end text)) e))

@@ -132,6 +132,13 @@ impl InputStack {
         self.top.bit()
     }
 
+    /// The number of skipped blocks that are open here.
+    pub fn skipped(&self) -> u64
+        ensures { result ≡ self.now.top.spot.levels.skipped }
+    {
+        self.top.skipped()
+    }
+
     /// Whether one more macro may run inside the innermost source.
     pub fn may_call(&self) -> bool
         ensures { result ≡ is_some (depth self.now.under) }

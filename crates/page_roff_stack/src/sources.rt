@@ -248,6 +248,13 @@ impl Source {
         self.spot.bit()
     }
 
+    /// The number of skipped blocks that are open here.
+    pub(crate) fn skipped(&self) -> u64
+        ensures { result ≡ self.now.spot.levels.skipped }
+    {
+        self.spot.skipped()
+    }
+
     /// Goes past a leaf.
     pub(crate) fn pass(&mut self)
         ensures { self.new ≡ past (after_part self.old.spot.levels) self.old }
