@@ -43,11 +43,11 @@ begun_within byte n (line ∷ lines) h = (omega (arith, h.0), within_more n line
 lines_within : (text : List ℕ) → AreWithin (length text) (arguments_in text)
 unfolding AreWithin arguments_in
 lines_within [] = tt
-lines_within (byte ∷ bytes) = either (byte == 10)
+lines_within (byte ∷ bytes) = either (byte == 10) (arguments_in bytes) (lines_within bytes)
   where
-    either : (b : Bool) → AreWithin (suc (length bytes)) (if b then [] ∷ arguments_in bytes else begin_first byte (arguments_in bytes))
-    either true = (omega arith, within_more (length bytes) (arguments_in bytes) (lines_within bytes))
-    either false = begun_within byte (length bytes) (arguments_in bytes) (lines_within bytes)
+    either : (b : Bool) (lines : List (List ℕ)) → AreWithin (length bytes) lines → AreWithin (suc (length bytes)) (if b then [] ∷ lines else begin_first byte lines)
+    either true lines h = (omega arith, within_more (length bytes) lines h)
+    either false lines h = begun_within byte (length bytes) lines h
 
 short_within : (n : ℕ) (lines : List (List ℕ)) → n ≤ LINE → AreWithin n lines → AreShort lines
 unfolding AreWithin
@@ -65,11 +65,11 @@ begun_weight byte (line ∷ lines) = omega arith
 pub lines_weight : (text : List ℕ) → weight (lines_in text) ≤ 5 * length text
 unfolding weight arguments_in
 lines_weight [] = omega arith
-lines_weight (byte ∷ bytes) = either (byte == 10)
+lines_weight (byte ∷ bytes) = either (byte == 10) (arguments_in bytes) (lines_weight bytes)
   where
-    either : (b : Bool) → weight (if b then [] ∷ arguments_in bytes else begin_first byte (arguments_in bytes)) ≤ 5 * suc (length bytes)
-    either true = omega (arith, lines_weight bytes)
-    either false = omega (arith, lines_weight bytes, begun_weight byte (arguments_in bytes))
+    either : (b : Bool) (lines : List (List ℕ)) → weight lines ≤ 5 * length bytes → weight (if b then [] ∷ lines else begin_first byte lines) ≤ 5 * suc (length bytes)
+    either true lines h = omega arith
+    either false lines h = omega (arith, begun_weight byte lines)
 
 -- ---- a line of the page, with a line feed after it, is one line
 
@@ -126,3 +126,23 @@ rest_none start end len text p =
     let l = length-take-at-most (end - start) (drop start text) in
     let e : end - end ≡ 0 = omega arith in
     ap lines_in (drop_all (len + 1) (take (end - start) (drop start text)) (omega (arith, l, p)) ∙ sym (ap (λ k. take k (drop end text)) e))
+
+-- ---- whether there is a line
+
+pub no_lines : (text : List ℕ) → (length text == 0) ≡ true → lines_in text ≡ []
+unfolding arguments_in
+no_lines [] e = refl
+no_lines (byte ∷ bytes) e = let k : suc (length bytes) ≡ 0 = eqb-true (suc (length bytes)) 0 e in absurd (omega arith)
+
+begun_some : (byte : ℕ) (lines : List (List ℕ)) → 0 < length (begin_first byte lines)
+begun_some byte [] = omega arith
+begun_some byte (line ∷ lines) = omega arith
+
+pub some_line : (text : List ℕ) → (length text == 0) ≡ false → 0 < length (lines_in text)
+unfolding arguments_in
+some_line [] e = cc
+some_line (byte ∷ bytes) e = either (byte == 10) (arguments_in bytes)
+  where
+    either : (b : Bool) (lines : List (List ℕ)) → 0 < length (if b then [] ∷ lines else begin_first byte lines)
+    either true lines = omega arith
+    either false lines = begun_some byte lines

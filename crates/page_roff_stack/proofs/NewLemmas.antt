@@ -107,10 +107,26 @@ body_set a text args n e d r s p =
     (new_held a text n (rw view (body_bounded (body (arguments_in args)) None text p)), view)
 
 -- nothing has come
+empty_bounded : (kind : Kind) → IsBounded (frame kind None (at_line outside) [])
+unfolding work_in weight at_line outside
+empty_bounded kind = record { short = tt; skips = omega arith }
+
 pub empty_set : (a : Inside) → a.text.items ≡ [] → a.line ≡ span 0 0 → a.place ≡ line_end → a.lines ≡ span 0 0 → a.region ≡ None → a.spot ≡ at_line outside
     → AreArgumentsIn a.arguments [] → room_for a.arguments ≤ vec_capacity a.text
     → IsHeld a × (frame_of a ≡ frame (kind_in a.arguments []) None (at_line outside) [])
+unfolding arguments_in
 empty_set a t l p n r s h q =
     let new = new_of a [] [] t l p n (rw t h) q in
-    let view = new_view a [] new ∙ rw (t, r, s) refl in
-    (new_held a [] new (rw view (body_bounded (kind_in a.arguments []) None [] (omega arith))), view)
+    let kind = kind_in a.arguments [] in
+    let view : frame_of a ≡ frame kind None (at_line outside) [] = new_view a [] new ∙ rw (t, r, s) refl in
+    (new_held a [] new (rw view (empty_bounded kind)), view)
+
+-- ---- the memory of a source
+
+pub page_none : (arguments : Option ℕ) (text : List ℕ) → kind_in arguments text ≡ page → arguments ≡ None
+page_none None text e = refl
+page_none (Some start) text e = cc
+
+pub room_enough : (arguments : Option ℕ) → BODY + ARGS ≤ room_for arguments
+room_enough None = omega arith
+room_enough (Some start) = omega arith

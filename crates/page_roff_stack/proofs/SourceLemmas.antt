@@ -21,7 +21,7 @@ use Rattle.page_roff_stack.specs.declared.spans.Span.{Span}
 use Rattle.page_roff_stack.specs.Changes.{lines_in, past, first_branch, first_region, in_region, next_line, first_atoms, page_line, first_frame, is_page, AreShort, IsBounded}
 use Rattle.page_roff_stack.specs.Held.{span_text, kind_in, room_for, IsSpanIn, IsFirstLine}
 use Rattle.page_roff_stack.specs.Sources.{frame_of, IsHeld}
-use Rattle.page_roff_stack.specs.Views.{parts_seen}
+use Rattle.page_roff_stack.specs.Views.{parts_seen, IsNextLine}
 use Rattle.page_roff_stack.proofs.LineLemmas.{lines_short, lines_weight, page_line_in, span_len}
 
 -- ---- a part is read
@@ -218,7 +218,7 @@ skipped_held a line place lines spot h e g held =
       lines = h.lines_within;
       arguments = held.arguments;
       room = held.room;
-      bounds = rw (skipped_view a line place lines spot h e g) (next_bounded a.region [] f (rest_weight f.lines) held.bounds);
+      bounds = rw (skipped_view a line place lines spot h e g) (next_bounded a.region [] f (omega (arith, rest_weight f.lines)) held.bounds);
     }
 
 -- a region ends
@@ -234,3 +234,9 @@ ended_held a h =
       room = h.room;
       bounds = record { short = h.bounds.short; skips = h.bounds.skips };
     }
+
+-- ---- the line that comes next
+
+pub next_line_is : (lines : List (List ℕ)) (text : List ℕ) → IsFirstLine lines text → AreShort lines → 0 < length lines → IsNextLine lines (Some text)
+next_line_is [] text h s p = absurd (omega arith)
+next_line_is (line ∷ lines) text h s p = (h, rw h s.0)

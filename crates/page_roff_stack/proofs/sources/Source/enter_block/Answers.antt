@@ -1,4 +1,5 @@
 use Rattle.std.proofs.Common.{◌≤◌, ◌<◌, ◌+◌, length, ap, sym, ◌∙◌, arith}
+use Rattle.page_roff_blocks.specs.Atoms.{branch_seen}
 use Rattle.page_roff_blocks.specs.Levels.{after_part, guarded_by, enter, bit_after, skip, leave}
 use Rattle.page_roff_blocks.proofs.RoomLemmas.{enter_room, leave_room}
 use Rattle.page_roff_stack.specs.Changes.{past, first_branch}
@@ -18,7 +19,7 @@ invariant_of-self c =
     } in
     let e = ap (λ spot. spot.levels.skipped) c.enter.ensures.spot in
     let there : 0 < length (frame_of a).parts = rw (← c.self.view_is) at c.requires in
-    deeper_held a c.of.result.now c.next_atom-part.result c.next_atom-part.new.self c.enter.new.self c.self.invariant read (omega (arith, e, enter_room c.enter.result (bit_after _ c.args.value a.spot.levels.bit) a.spot.levels)) there
+    deeper_held a c.of.result.now c.next_atom-part.result c.next_atom-part.new.self c.enter.new.self c.self.invariant read (omega (arith, e, enter_room c.enter.result (bit_after (branch_seen c.branch_of.result) c.args.value a.spot.levels.bit) a.spot.levels)) there
 
 pub returns-clause-spot : goal.returns-clause-spot
 returns-clause-spot c =
