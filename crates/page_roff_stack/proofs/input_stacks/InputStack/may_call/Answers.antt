@@ -1,4 +1,5 @@
-use Rattle.std.proofs.Common.{reverse, ap, sym, ◌∙◌, length-reverse}
+use Rattle.std.proofs.Common.{reverse, ap, sym, ◌∙◌}
+use Rattle.std.proofs.lemmas.List.{length-reverse}
 use Rattle.page_roff_run.specs.Machine.{depth, is_some}
 use Rattle.page_roff_stack.proofs.InputStackLemmas.{may_call_is}
 use Rattle.page_roff_stack.proofs.input_stacks.InputStack.may_call.Goals as goal
