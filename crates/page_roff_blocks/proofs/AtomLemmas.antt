@@ -22,7 +22,7 @@ within_shorter : (n : ℕ) (line : List ℕ) (remainder : Option (Placed (List �
 within_shorter n line None w h = tt
 within_shorter n line (Some r) w h = omega arith
 
-end_rest : (before : List ℕ) (rest : Option (List ℕ)) → (end_part before rest).rest ≡ rest
+pub end_rest : (before : List ℕ) (rest : Option (List ℕ)) → (end_part before rest).rest ≡ rest
 end_rest [] rest = refl
 end_rest (byte ∷ bytes) rest = refl
 

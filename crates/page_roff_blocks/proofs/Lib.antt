@@ -1,4 +1,5 @@
 pub mod AtomLemmas
+pub mod EndLemmas
 pub mod FoldLemmas
 pub mod LevelLemmas
 pub mod RoomLemmas

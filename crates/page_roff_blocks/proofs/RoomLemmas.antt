@@ -31,13 +31,13 @@ pub atoms_room : (line : List ℕ) → length (atoms line) ≤ 2 * length line +
 unfolding atoms room
 atoms_room line = let h = parts_room (suc (length line)) (Some line) in omega (arith, h)
 
-enter_room : (way : Way) (bit : Bool) (l : Levels) → (enter way bit l).skipped ≤ l.skipped + 1
+pub enter_room : (way : Way) (bit : Bool) (l : Levels) → (enter way bit l).skipped ≤ l.skipped + 1
 unfolding enter
 enter_room Runs bit l = omega arith
 enter_room Skips bit l = omega arith
 enter_room Exceeds bit l = omega arith
 
-leave_room : (bit : Bool) (outer : List Bool) (n : ℕ) → (leave (record { bit = bit; outer = outer; skipped = n })).skipped ≤ n
+pub leave_room : (bit : Bool) (outer : List Bool) (n : ℕ) → (leave (record { bit = bit; outer = outer; skipped = n })).skipped ≤ n
 unfolding leave leave_from leave_level
 leave_room bit [] zero = omega arith
 leave_room bit (b ∷ bs) zero = omega arith

@@ -2,5 +2,6 @@ pub mod Atoms
 pub mod Regions
 pub mod Forest
 pub mod Levels
+pub mod LinePlaces
 pub mod Run
 pub mod Steps

@@ -5,6 +5,7 @@
 mod atoms;
 mod laws;
 mod levels;
+mod line_places;
 mod open_regions;
 mod parts;
 mod regions;
@@ -13,8 +14,8 @@ mod spots;
 pub use atoms::{Atom, Branch, Head};
 pub use laws::{atoms_law, cut_law, fold_law, room_law};
 pub use levels::{Levels, Way};
+pub use line_places::LinePlace;
 pub use open_regions::OpenRegion;
-pub use parts::Atoms;
 pub use regions::{RegionHead, RegionKind, is_ending};
 pub use spots::{Reached, Spot};
 

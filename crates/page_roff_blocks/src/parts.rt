@@ -1,13 +1,13 @@
-//! The parts of a raw line, one after another (roff(7), "if", "ie", "el").
+//! The first part of a raw line (roff(7), "if", "ie", "el").
 
-ghost use Rattle.std.specs.Prelude.{◌≡◌, ◌≤◌, ◌+◌, [], length, IfSome};
+ghost use Rattle.std.specs.Prelude.{◌≡◌, ◌≤◌, ◌+◌, [], length};
 ghost use Rattle.page_core_limits.specs.declared.TheConstants.{LINE};
 ghost use Rattle.page_roff_forms.specs.LineForms.{FitsLine};
 ghost use Rattle.page_roff_forms.specs.declared.line_forms.LineForm.TheVariants.{Control};
 ghost use Rattle.page_roff_heads.specs.Heads.{conditional_of, guarded_of, guarded_seen, FitsGuarded};
 ghost use Rattle.page_roff_heads.specs.Texts.{remainder_seen};
 ghost use Rattle.page_roff_blocks.specs.declared.atoms.Branch.TheVariants.{If, IfElse};
-ghost use Rattle.page_roff_blocks.specs.Atoms.{keyword_of, rest_text, head_part, head_seen, conditional_part, else_part, end_part, keyword_part, plain_part, part_of, atom_seen, part_seen, atoms, IsWithin, FitsBranch, FitsAtom, FitsRest, FitsPart, ReadsNext};
+ghost use Rattle.page_roff_blocks.specs.Atoms.{keyword_of, rest_text, head_part, head_seen, conditional_part, else_part, end_part, keyword_part, plain_part, part_of, part_seen, IsWithin, FitsBranch, FitsRest, FitsPart};
 ghost use Rattle.page_roff_blocks.specs.Regions.{text_seen};
 
 use crate::atoms::{Atom, Branch, Head};
@@ -16,7 +16,6 @@ use page_core_limits::LINE;
 use page_roff_forms::{LineForm, form_of};
 use page_roff_heads::{Conditional, Guarded, Placed, block_end, read_conditional, read_guarded};
 use std::alloc::AllocError;
-use std::marker::Model;
 
 // What a control line heads.
 #[derive(Clone, Copy)]
@@ -202,7 +201,7 @@ fn else_part(raw_rest: &[u8], column: u32, rest_column: u32) -> Part<&[u8]>
 
 // The first part of a line.
 #[tactic(auto, unfolding(crate::specs::Atoms::part_of))]
-fn part_of(line: &[u8]) -> Part<&[u8]>
+pub(crate) fn part_of(line: &[u8]) -> Part<&[u8]>
     requires { length line.now ≤ LINE }
     ensures value { part_seen result ≡ part_of line.now }
     ensures fits { FitsPart (part_seen result) }
@@ -215,60 +214,5 @@ fn part_of(line: &[u8]) -> Part<&[u8]>
             rest_column,
         } => keyword_part(keyword_of(name), line, column, rest, rest_column),
         LineForm::Comment | LineForm::BlankLine | LineForm::Text(_) => plain_part(line),
-    }
-}
-
-/// Reads the parts of a raw line, one after another. Contracts see the list of those still to be read.
-#[derive(Drop)]
-pub struct Atoms<'a> {
-    // Whether the end of a block comes next.
-    is_end: bool,
-    rest: Option<&'a [u8]>,
-}
-
-impl<'a> Model for Atoms<'a> {
-    ghost use Rattle.std.specs.Prelude.{ℕ, List};
-    ghost use Rattle.page_roff_blocks.specs.declared.atoms.Atom.{Atom};
-
-    ghost Value = { List (Atom (List ℕ)) };
-
-    ghost use Rattle.page_roff_blocks.specs.Atoms.{atoms_left, ends_first, FitsRest};
-    ghost use Rattle.page_roff_blocks.specs.Regions.{text_seen};
-
-    ghost view = { λ a. ends_first a.is_end (atoms_left (text_seen a.rest)) };
-
-    ghost invariant = { λ a. FitsRest (text_seen a.rest) };
-}
-
-impl<'a> Atoms<'a> {
-    /// The parts of a raw line of at most [`LINE`] bytes.
-    pub fn new(line: &'a [u8]) -> Atoms<'a>
-        requires { length line.now ≤ LINE }
-        ensures { result ≡ atoms line.now }
-    {
-        Atoms {
-            is_end: false,
-            rest: Some(line),
-        }
-    }
-
-    /// Reads the next part, if there is one more.
-    pub fn next_atom(&mut self) -> Option<Atom<&'a [u8]>>
-        ensures next { ReadsNext self.old result self.new }
-        ensures fits { IfSome result (λ atom. FitsAtom (atom_seen atom)) }
-    {
-        if self.is_end {
-            self.is_end = false;
-            return Some(Atom::End);
-        }
-        match self.rest {
-            None => None,
-            Some(line) => {
-                let part = part_of(line);
-                self.is_end = part.is_end;
-                self.rest = part.rest;
-                Some(part.atom)
-            }
-        }
     }
 }

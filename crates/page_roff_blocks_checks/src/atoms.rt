@@ -1,7 +1,7 @@
 //! The parts of lines.
 
 use arrayvec::ArrayVec;
-use page_roff_blocks::{Atom, Atoms, Branch, Head, RegionHead, RegionKind};
+use page_roff_blocks::{Atom, Branch, Head, LinePlace, RegionHead, RegionKind};
 use std::process::Abort;
 
 type Shown = ArrayVec<u8, 200>;
@@ -56,9 +56,9 @@ fn show_atom(shown: &mut Shown, atom: Atom<&[u8]>) {
 fn check_atoms(rt: &impl Abort, line: &[u8], want: &[u8]) {
     assert!(rt; line.len() < 200);
     let mut shown = Shown::new();
-    let mut atoms = Atoms::new(line);
+    let mut place = LinePlace::start();
     for _ in 0..100 {
-        if let Some(atom) = atoms.next_atom() {
+        if let Some(atom) = place.next_atom(line) {
             show_atom(&mut shown, atom);
         }
     }

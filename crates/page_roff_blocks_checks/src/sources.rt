@@ -1,7 +1,7 @@
 //! Sources: what is run of them, where `n` is true and every other condition false.
 
 use arrayvec::ArrayVec;
-use page_roff_blocks::{Atom, Atoms, Branch, Head, OpenRegion, Reached, Spot, Way};
+use page_roff_blocks::{Atom, Branch, Head, LinePlace, OpenRegion, Reached, Spot, Way};
 use page_roff_heads::{Condition, Test};
 use std::process::Abort;
 
@@ -126,9 +126,9 @@ impl Source {
         }
         assert!(rt; line.len() < 100);
         self.spot.begin_line();
-        let mut atoms = Atoms::new(line.as_bytes());
+        let mut place = LinePlace::start();
         for _ in 0..50 {
-            if let Some(atom) = atoms.next_atom() {
+            if let Some(atom) = place.next_atom(line.as_bytes()) {
                 self.part(rt, atom);
             }
         }

@@ -1,0 +1,38 @@
+-- Places in a raw line, between its parts: how the code goes through a line. Source: roff(7), "if", "ie", "el".
+use Rattle.std.specs.Prelude.{◌≡◌, ℕ, ◌-◌, ◌≤◌, false, List, length, drop, Option, Some, None}
+use Rattle.page_roff_blocks.specs.declared.atoms.Atom.{Atom}
+use Rattle.page_roff_blocks.specs.declared.line_places.LinePlace.{LinePlace}
+use Rattle.page_roff_blocks.specs.Atoms.{atoms_left, ends_first}
+
+-- before the first part, and after the last one
+abbrev pub line_start : LinePlace
+line_start = record { is_end = false; rest = Some 0 }
+
+abbrev pub line_end : LinePlace
+line_end = record { is_end = false; rest = None }
+
+-- what is left of a line from a place on
+abbrev pub rest_at : List ℕ → Option ℕ → Option (List ℕ)
+rest_at line None = None
+rest_at line (Some start) = Some (drop start line)
+
+-- the parts of a line after a place in it
+abbrev pub parts_at : List ℕ → LinePlace → List (Atom (List ℕ))
+parts_at line place = ends_first place.is_end (atoms_left (rest_at line place.rest))
+
+-- it lies in a line
+abbrev pub IsRestIn : List ℕ → Option ℕ → Type 0
+IsRestIn line None = Unit {0}
+IsRestIn line (Some start) = start ≤ length line
+
+abbrev pub IsPlaceIn : List ℕ → LinePlace → Type 0
+IsPlaceIn line place = IsRestIn line place.rest
+
+-- a text is the end of a line
+abbrev pub IsEndOf : List ℕ → Option (List ℕ) → Type 0
+IsEndOf line None = Unit {0}
+IsEndOf line (Some text) = (length text ≤ length line) × (text ≡ drop (length line - length text) line)
+
+abbrev pub place_after : List ℕ → Option (List ℕ) → Option ℕ
+place_after line None = None
+place_after line (Some text) = Some (length line - length text)

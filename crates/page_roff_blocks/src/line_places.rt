@@ -1,0 +1,76 @@
+//! Places in a raw line, between its parts (roff(7), "if", "ie", "el").
+
+ghost use Rattle.std.specs.Prelude.{◌≡◌, ◌≤◌, length, IfSome};
+ghost use Rattle.page_core_limits.specs.declared.TheConstants.{LINE};
+ghost use Rattle.page_roff_blocks.specs.Atoms.{atom_seen, FitsAtom, ReadsNext};
+ghost use Rattle.page_roff_blocks.specs.LinePlaces.{parts_at, line_start, line_end, place_after, IsPlaceIn, IsEndOf};
+ghost use Rattle.page_roff_blocks.specs.Regions.{text_seen};
+
+use crate::atoms::Atom;
+use crate::parts::part_of;
+use page_core_limits::LINE;
+
+/// A place in a raw line, between two of its parts.
+#[derive(Clone, Copy)]
+pub struct LinePlace {
+    // Whether the end of a block comes next.
+    is_end: bool,
+    // Where what is left of the line after that begins, if anything is left.
+    rest: Option<usize>,
+}
+
+// Where the end of a line that is left begins.
+fn place_after(line: &[u8], rest: Option<&[u8]>) -> Option<usize>
+    requires { IsEndOf line.now (text_seen rest) }
+    ensures { result ≡ place_after line.now (text_seen rest.entry) }
+{
+    match rest {
+        Some(text) => Some(line.len() - text.len()),
+        None => None,
+    }
+}
+
+impl LinePlace {
+    /// Before the first part of a line.
+    pub fn start() -> LinePlace
+        ensures { result ≡ line_start }
+    {
+        LinePlace {
+            is_end: false,
+            rest: Some(0),
+        }
+    }
+
+    /// After the last part of a line.
+    pub fn end() -> LinePlace
+        ensures { result ≡ line_end }
+    {
+        LinePlace {
+            is_end: false,
+            rest: None,
+        }
+    }
+
+    /// Reads the next part of a line of at most [`LINE`] bytes, in which the place is, and goes past it.
+    pub fn next_atom<'a>(&mut self, line: &'a [u8]) -> Option<Atom<&'a [u8]>>
+        requires short { length line.now ≤ LINE }
+        requires within { IsPlaceIn line.now self.old }
+        ensures next { ReadsNext (parts_at line.now self.old) result (parts_at line.now self.new) }
+        ensures within { IsPlaceIn line.now self.new }
+        ensures fits { IfSome result (λ atom. FitsAtom (atom_seen atom)) }
+    {
+        if self.is_end {
+            self.is_end = false;
+            return Some(Atom::End);
+        }
+        match self.rest {
+            None => None,
+            Some(start) => {
+                let part = part_of(&line[start..]);
+                self.is_end = part.is_end;
+                self.rest = place_after(line, part.rest);
+                Some(part.atom)
+            }
+        }
+    }
+}

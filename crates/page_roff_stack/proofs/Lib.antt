@@ -1,0 +1,5 @@
+pub mod InputStackLemmas
+pub mod LineLemmas
+pub mod NewLemmas
+pub mod SourceLemmas
+pub mod StackLemmas

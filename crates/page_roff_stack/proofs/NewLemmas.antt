@@ -1,0 +1,132 @@
+-- A source that begins: helpers of proofs.
+use Rattle.std.proofs.Common.{◌≡◌, ℕ, ◌+◌, ◌-◌, ◌*◌, ◌<◌, ◌≤◌, ◌^◌, List, [], ◌∷◌, ◌++◌, length, take, drop, Option, Some, None, refl, sym, ap, ◌∙◌, arith, length-append}
+use Rattle.std.specs.Vec.{vec_capacity}
+use Rattle.std.proofs.Math.Seq.{take-append_seam, drop-append_seam}
+use Rattle.std.proofs.lemmas.List.{take_all}
+use Rattle.page_core_base.specs.Texts.{IsLine}
+use Rattle.page_core_limits.specs.declared.TheConstants.{LINE, BODY}
+use Rattle.page_roff_blocks.specs.Levels.{Levels, Opened, Spot, at_line, outside}
+use Rattle.page_roff_blocks.specs.LinePlaces.{parts_at, line_end}
+use Rattle.page_roff_run.specs.Languages.{Kind, page, body}
+use Rattle.page_roff_run.specs.Machine.{Frame, entered}
+use Rattle.page_roff_run.specs.Measures.{weight, work_in}
+use Rattle.page_roff_values.specs.declared.call_arguments.TheConstants.{ARGS}
+use Rattle.page_roff_values.specs.Arguments.{arguments_in}
+use Rattle.page_roff_stack.specs.declared.sources.Source.TheInside.{Inside}
+use Rattle.page_roff_stack.specs.declared.spans.Span.{Span}
+use Rattle.page_roff_stack.specs.Changes.{lines_in, IsBounded}
+use Rattle.page_roff_stack.specs.Held.{span_text, kind_in, room_for, AreArgumentsIn}
+use Rattle.page_roff_stack.specs.Sources.{frame_of, IsHeld}
+use Rattle.page_roff_stack.proofs.LineLemmas.{lines_short, lines_weight, page_line_in}
+
+abbrev pub span : ℕ → ℕ → Span
+span start end = record { start = start; end = end }
+
+abbrev pub frame : Kind → Option Opened → Spot → List (List ℕ) → Frame
+frame kind region spot lines = record { kind = kind; region = region; parts = []; spot = spot; lines = lines }
+
+-- no line has begun, and these lines are to come
+pub record IsNew (a : Inside) (lines : List ℕ) : Type 0 where
+  pub line : a.line ≡ span 0 0
+  pub place : a.place ≡ line_end
+  pub lines_are : a.lines ≡ span 0 (length lines)
+  pub front : take (length lines) a.text.items ≡ lines
+  pub within : length lines ≤ length a.text.items
+  pub arguments : AreArgumentsIn a.arguments a.text.items
+  pub room : room_for a.arguments ≤ vec_capacity a.text
+
+pub new_view : (a : Inside) (lines : List ℕ) → IsNew a lines → frame_of a ≡ frame (kind_in a.arguments a.text.items) a.region a.spot (lines_in lines)
+new_view a lines h =
+    rw (h.place, h.lines_are) (
+    ap (λ text. frame (kind_in a.arguments a.text.items) a.region a.spot (lines_in text)) (ap (λ n. take n a.text.items) (let e : length lines - 0 ≡ length lines = omega arith in e) ∙ h.front)
+    )
+
+pub new_held : (a : Inside) (lines : List ℕ) → IsNew a lines → IsBounded (frame_of a) → IsHeld a
+new_held a lines h b =
+    record {
+      line = rw h.line (omega arith, omega arith);
+      short = rw h.line (omega arith);
+      place = rw h.place tt;
+      lines = rw h.lines_are (omega arith, h.within);
+      arguments = h.arguments;
+      room = h.room;
+      bounds = b;
+    }
+
+pub new_of : (a : Inside) (lines more : List ℕ) → a.text.items ≡ lines ++ more → a.line ≡ span 0 0 → a.place ≡ line_end → a.lines ≡ span 0 (length lines)
+    → AreArgumentsIn a.arguments a.text.items → room_for a.arguments ≤ vec_capacity a.text → IsNew a lines
+new_of a lines more e l p n h r =
+    record {
+      line = l;
+      place = p;
+      lines_are = n;
+      front = ap (λ text. take (length lines) text) e ∙ take-append_seam lines more;
+      within = omega (arith, ap length e, length-append lines more);
+      arguments = h;
+      room = r;
+    }
+
+-- ---- a line of the page
+
+line_bounded : (region : Option Opened) (spot : Spot) (line : List ℕ) → length line ≤ LINE → spot.levels.skipped < 2 ^ 62 → IsBounded (frame page region spot (line ∷ []))
+unfolding work_in weight
+line_bounded region spot line p s = record { short = (p, tt); skips = omega arith }
+
+line_view : (a : Inside) (line : List ℕ) → IsLine line → IsNew a (line ++ (10 ∷ [])) → a.arguments ≡ None → frame_of a ≡ frame page a.region a.spot (line ∷ [])
+line_view a line h n e =
+    new_view a (line ++ (10 ∷ [])) n
+    ∙ ap (λ arguments. frame (kind_in arguments a.text.items) a.region a.spot (lines_in (line ++ (10 ∷ [])))) e
+    ∙ ap (λ lines. frame page a.region a.spot lines) (page_line_in 0 line h.plain)
+
+-- a line of the page is to come
+pub page_set : (a : Inside) (line : List ℕ) → IsLine line → IsNew a (line ++ (10 ∷ [])) → a.arguments ≡ None → a.spot.levels.skipped < 2 ^ 62
+    → IsHeld a × (frame_of a ≡ frame page a.region a.spot (line ∷ []))
+page_set a line h n e s =
+    let view = line_view a line h n e in
+    (new_held a (line ++ (10 ∷ [])) n (rw view (line_bounded a.region a.spot line h.bounded s)), view)
+
+-- ---- a macro
+
+body_bounded : (kind : Kind) (region : Option Opened) (text : List ℕ) → length text ≤ BODY → IsBounded (frame kind region (at_line outside) (lines_in text))
+unfolding work_in at_line outside
+body_bounded kind region text p = record { short = lines_short text (omega (arith, p)); skips = omega (arith, lines_weight text, p) }
+
+body_view : (a : Inside) (text args : List ℕ) → IsNew a text → a.arguments ≡ Some (length text) → drop (length text) a.text.items ≡ args → a.region ≡ None → a.spot ≡ at_line outside
+    → frame_of a ≡ entered (lines_in text) (arguments_in args)
+unfolding entered
+body_view a text args n e d r s =
+    new_view a text n
+    ∙ rw (e, d, r, s) refl
+
+-- a macro begins
+pub body_set : (a : Inside) (text args : List ℕ) → IsNew a text → a.arguments ≡ Some (length text) → drop (length text) a.text.items ≡ args → a.region ≡ None → a.spot ≡ at_line outside
+    → length text ≤ BODY → IsHeld a × (frame_of a ≡ entered (lines_in text) (arguments_in args))
+unfolding entered
+body_set a text args n e d r s p =
+    let view = body_view a text args n e d r s in
+    (new_held a text n (rw view (body_bounded (body (arguments_in args)) None text p)), view)
+
+-- nothing has come
+empty_bounded : (kind : Kind) → IsBounded (frame kind None (at_line outside) [])
+unfolding work_in weight at_line outside
+empty_bounded kind = record { short = tt; skips = omega arith }
+
+pub empty_set : (a : Inside) → a.text.items ≡ [] → a.line ≡ span 0 0 → a.place ≡ line_end → a.lines ≡ span 0 0 → a.region ≡ None → a.spot ≡ at_line outside
+    → AreArgumentsIn a.arguments [] → room_for a.arguments ≤ vec_capacity a.text
+    → IsHeld a × (frame_of a ≡ frame (kind_in a.arguments []) None (at_line outside) [])
+unfolding arguments_in
+empty_set a t l p n r s h q =
+    let new = new_of a [] [] t l p n (rw t h) q in
+    let kind = kind_in a.arguments [] in
+    let view : frame_of a ≡ frame kind None (at_line outside) [] = new_view a [] new ∙ rw (t, r, s) refl in
+    (new_held a [] new (rw view (empty_bounded kind)), view)
+
+-- ---- the memory of a source
+
+pub page_none : (arguments : Option ℕ) (text : List ℕ) → kind_in arguments text ≡ page → arguments ≡ None
+page_none None text e = refl
+page_none (Some start) text e = cc
+
+pub room_enough : (arguments : Option ℕ) → BODY + ARGS ≤ room_for arguments
+room_enough None = omega arith
+room_enough (Some start) = omega arith

@@ -1,0 +1,242 @@
+-- A source as its parts and lines are passed: helpers of proofs.
+use Rattle.std.proofs.Common.{◌≡◌, ℕ, suc, ◌+◌, ◌-◌, ◌*◌, ◌<◌, ◌≤◌, ◌^◌, Bool, true, List, [], ◌∷◌, ◌++◌, length, take, drop, Option, Some, None, refl, sym, ap, ◌∙◌, arith, length-drop, length-append}
+use Rattle.std.specs.Borrow.{Bor}
+use Rattle.std.specs.Vec.{vec_capacity}
+use Rattle.std.proofs.lemmas.List.{take_all}
+use Rattle.std.proofs.Math.Seq.{take-append_seam, drop-append_seam}
+use Rattle.page_core_base.specs.Texts.{IsLine}
+use Rattle.page_core_limits.specs.declared.TheConstants.{LINE, BODY}
+use Rattle.page_roff_blocks.specs.declared.atoms.Atom.{Atom}
+use Rattle.page_roff_blocks.specs.declared.line_places.LinePlace.{LinePlace}
+use Rattle.page_roff_blocks.specs.Atoms.{atoms, atom_seen, ReadsNext}
+use Rattle.page_roff_blocks.specs.Levels.{Opened, Spot, at_line}
+use Rattle.page_roff_blocks.specs.LinePlaces.{parts_at, line_start, line_end, IsPlaceIn}
+use Rattle.page_roff_blocks.proofs.RoomLemmas.{atoms_room}
+use Rattle.page_roff_run.specs.Languages.{Kind, page}
+use Rattle.page_roff_run.specs.Machine.{Frame, at_part, entered}
+use Rattle.page_roff_run.specs.Measures.{weight, work_in}
+use Rattle.page_roff_values.specs.declared.call_arguments.TheConstants.{ARGS}
+use Rattle.page_roff_stack.specs.declared.sources.Source.TheInside.{Inside}
+use Rattle.page_roff_stack.specs.declared.spans.Span.{Span}
+use Rattle.page_roff_stack.specs.Changes.{lines_in, past, first_branch, first_region, in_region, next_line, first_atoms, page_line, first_frame, is_page, AreShort, IsBounded}
+use Rattle.page_roff_stack.specs.Held.{span_text, kind_in, room_for, IsSpanIn, IsFirstLine}
+use Rattle.page_roff_stack.specs.Sources.{frame_of, IsHeld}
+use Rattle.page_roff_stack.specs.Views.{parts_seen, IsNextLine}
+use Rattle.page_roff_stack.proofs.LineLemmas.{lines_short, lines_weight, page_line_in, span_len}
+
+-- ---- a part is read
+
+pub reads_rest : (old : List (Atom (List ℕ))) (part : Option (Atom (Bor (List ℕ)))) (new : List (Atom (List ℕ))) → ReadsNext old part new → new ≡ drop 1 old
+reads_rest old None new h = h.1 ∙ sym (ap (drop 1) h.0)
+reads_rest old (Some part) new h = sym (ap (drop 1) h)
+
+pub reads_first : (old : List (Atom (List ℕ))) (part : Option (Atom (Bor (List ℕ)))) (new : List (Atom (List ℕ))) → ReadsNext old part new → parts_seen part ≡ take 1 old
+reads_first old None new h = sym (ap (take 1) h.0)
+reads_first old (Some part) new h = sym (ap (take 1) h)
+
+first_branch_of : (parts : List (Atom (List ℕ))) → first_branch (take 1 parts) ≡ first_branch parts
+first_branch_of [] = refl
+first_branch_of (part ∷ more) = refl
+
+first_region_of : (is_run : Bool) (parts : List (Atom (List ℕ))) → first_region is_run (take 1 parts) ≡ first_region is_run parts
+first_region_of is_run [] = refl
+first_region_of is_run (part ∷ more) = refl
+
+pub reads_branch : (old : List (Atom (List ℕ))) (part : Option (Atom (Bor (List ℕ)))) (new : List (Atom (List ℕ))) → ReadsNext old part new
+    → first_branch (parts_seen part) ≡ first_branch old
+reads_branch old part new h = ap first_branch (reads_first old part new h) ∙ first_branch_of old
+
+pub reads_region : (is_run : Bool) (old : List (Atom (List ℕ))) (part : Option (Atom (Bor (List ℕ)))) (new : List (Atom (List ℕ))) → ReadsNext old part new
+    → first_region is_run (parts_seen part) ≡ first_region is_run old
+reads_region is_run old part new h = ap (first_region is_run) (reads_first old part new h) ∙ first_region_of is_run old
+
+-- ---- a part is passed
+
+-- in the present line, which is this text, a part was read up to this place
+pub record IsRead (a : Inside) (text : List ℕ) (part : Option (Atom (Bor (List ℕ)))) (place : LinePlace) : Type 0 where
+  pub text_is : text ≡ span_text a.line a.text.items
+  pub next : ReadsNext (parts_at text a.place) part (parts_at text place)
+  pub within : IsPlaceIn text place
+
+abbrev pub passed : Inside → LinePlace → Spot → Inside
+passed a place spot = record a { place = place; spot = spot }
+
+pub past_view : (a : Inside) (text : List ℕ) (part : Option (Atom (Bor (List ℕ)))) (place : LinePlace) (spot : Spot) → IsRead a text part place
+    → frame_of (passed a place spot) ≡ past spot (frame_of a)
+unfolding at_part
+past_view a text part place spot h =
+    let e = rw h.text_is at (reads_rest (parts_at text a.place) part (parts_at text place) h.next) in
+    ap (λ parts. let f : Frame = record { kind = (frame_of a).kind; region = a.region; parts = parts; spot = spot; lines = (frame_of a).lines } in f) e
+
+past_bounded : (f : Frame) (spot : Spot) → spot.levels.skipped + length (drop 1 f.parts) ≤ f.spot.levels.skipped + length f.parts → IsBounded f → IsBounded (past spot f)
+unfolding at_part work_in
+past_bounded f spot p h = record { short = h.short; skips = omega (arith, p, h.skips) }
+
+past_held_by : (a : Inside) (text : List ℕ) (part : Option (Atom (Bor (List ℕ)))) (place : LinePlace) (spot : Spot) → IsHeld a → IsRead a text part place
+    → spot.levels.skipped + length (drop 1 (frame_of a).parts) ≤ a.spot.levels.skipped + length (frame_of a).parts
+    → IsHeld (passed a place spot)
+past_held_by a text part place spot h r p =
+    record {
+      line = h.line;
+      short = h.short;
+      place = rw r.text_is at r.within;
+      lines = h.lines;
+      arguments = h.arguments;
+      room = h.room;
+      bounds = rw (past_view a text part place spot r) (past_bounded (frame_of a) spot p h.bounds);
+    }
+
+-- no block more is skipped
+pub past_held : (a : Inside) (text : List ℕ) (part : Option (Atom (Bor (List ℕ)))) (place : LinePlace) (spot : Spot) → IsHeld a → IsRead a text part place
+    → spot.levels.skipped ≤ a.spot.levels.skipped → IsHeld (passed a place spot)
+past_held a text part place spot h r p =
+    past_held_by a text part place spot h r (omega (arith, p, length-drop 1 (frame_of a).parts))
+
+-- one block more is skipped
+pub deeper_held : (a : Inside) (text : List ℕ) (part : Option (Atom (Bor (List ℕ)))) (place : LinePlace) (spot : Spot) → IsHeld a → IsRead a text part place
+    → spot.levels.skipped ≤ a.spot.levels.skipped + 1 → 0 < length (frame_of a).parts → IsHeld (passed a place spot)
+deeper_held a text part place spot h r p q =
+    past_held_by a text part place spot h r (omega (arith, p, q, length-drop 1 (frame_of a).parts))
+
+pub read_branch : (a : Inside) (text : List ℕ) (part : Option (Atom (Bor (List ℕ)))) (place : LinePlace) → IsRead a text part place
+    → first_branch (parts_seen part) ≡ first_branch (frame_of a).parts
+read_branch a text part place h =
+    reads_branch (parts_at text a.place) part (parts_at text place) h.next ∙ ap (λ line. first_branch (parts_at line a.place)) h.text_is
+
+pub read_region : (is_run : Bool) (a : Inside) (text : List ℕ) (part : Option (Atom (Bor (List ℕ)))) (place : LinePlace) → IsRead a text part place
+    → first_region is_run (parts_seen part) ≡ first_region is_run (frame_of a).parts
+read_region is_run a text part place h =
+    reads_region is_run (parts_at text a.place) part (parts_at text place) h.next ∙ ap (λ line. first_region is_run (parts_at line a.place)) h.text_is
+
+-- ---- the rest of the present line is passed
+
+abbrev pub closed : Inside → LinePlace → Option Opened → Spot → Inside
+closed a place region spot = record a { place = place; region = region; spot = spot }
+
+pub closed_view : (a : Inside) (place : LinePlace) (region : Option Opened) (spot : Spot) → place ≡ line_end → spot ≡ at_line a.spot.levels
+    → frame_of (closed a place region spot) ≡ in_region region (frame_of a)
+closed_view a place region spot e g = rw (e, g) refl
+
+closed_bounded : (region : Option Opened) (f : Frame) → IsBounded f → IsBounded (in_region region f)
+unfolding work_in at_line
+closed_bounded region f h = record { short = h.short; skips = omega (arith, h.skips) }
+
+pub closed_held : (a : Inside) (place : LinePlace) (region : Option Opened) (spot : Spot) → place ≡ line_end → spot ≡ at_line a.spot.levels → IsHeld a
+    → IsHeld (closed a place region spot)
+closed_held a place region spot e g h =
+    record {
+      line = h.line;
+      short = h.short;
+      place = rw e tt;
+      lines = h.lines;
+      arguments = h.arguments;
+      room = h.room;
+      bounds = rw (closed_view a place region spot e g) (closed_bounded region (frame_of a) h.bounds);
+    }
+
+-- ---- a line is passed
+
+-- the first line stands here, and those after it there
+pub record IsPassed (a : Inside) (line lines : Span) : Type 0 where
+  pub first : IsFirstLine (frame_of a).lines (span_text line a.text.items)
+  pub rest : lines_in (span_text lines a.text.items) ≡ drop 1 (frame_of a).lines
+  pub line_within : IsSpanIn line a.text.items
+  pub lines_within : IsSpanIn lines a.text.items
+
+abbrev pub lined : Inside → Span → LinePlace → Span → Option Opened → Spot → Inside
+lined a line place lines region spot = record a { line = line; place = place; lines = lines; region = region; spot = spot }
+
+first_parts : (lines : List (List ℕ)) (text : List ℕ) → 0 < length lines → IsFirstLine lines text → parts_at text line_start ≡ first_atoms lines
+first_parts [] text p h = absurd (omega arith)
+first_parts (line ∷ lines) text p h = rw h refl
+
+first_short : (lines : List (List ℕ)) (text : List ℕ) → 0 < length lines → IsFirstLine lines text → AreShort lines → length text ≤ LINE
+first_short [] text p h s = absurd (omega arith)
+first_short (line ∷ lines) text p h s = rw h s.0
+
+first_weight : (lines : List (List ℕ)) → length (first_atoms lines) + weight (drop 1 lines) ≤ weight lines
+unfolding weight
+first_weight [] = omega arith
+first_weight (line ∷ lines) = omega (arith, atoms_room line)
+
+rest_weight : (lines : List (List ℕ)) → weight (drop 1 lines) ≤ weight lines
+unfolding weight
+rest_weight [] = omega arith
+rest_weight (line ∷ lines) = omega arith
+
+rest_short : (lines : List (List ℕ)) → AreShort lines → AreShort (drop 1 lines)
+rest_short [] h = tt
+rest_short (line ∷ lines) h = h.1
+
+next_bounded : (region : Option Opened) (parts : List (Atom (List ℕ))) (f : Frame) → length parts + weight (drop 1 f.lines) ≤ weight f.lines → IsBounded f
+    → IsBounded (next_line region parts f)
+unfolding work_in at_line
+next_bounded region parts f p h = record { short = rest_short f.lines h.short; skips = omega (arith, p, h.skips) }
+
+-- a line begins
+pub begun_view : (a : Inside) (line : Span) (place : LinePlace) (lines : Span) (spot : Spot) → IsPassed a line lines → 0 < length (frame_of a).lines
+    → place ≡ line_start → spot ≡ at_line a.spot.levels → frame_of (lined a line place lines None spot) ≡ next_line None (first_atoms (frame_of a).lines) (frame_of a)
+begun_view a line place lines spot h p e g =
+    rw (e, g, h.rest) (
+    ap (λ parts. let f : Frame = record { kind = (frame_of a).kind; region = None; parts = parts; spot = at_line a.spot.levels; lines = drop 1 (frame_of a).lines } in f)
+    (first_parts (frame_of a).lines (span_text line a.text.items) p h.first)
+    )
+
+pub begun_held : (a : Inside) (line : Span) (place : LinePlace) (lines : Span) (spot : Spot) → IsPassed a line lines → 0 < length (frame_of a).lines
+    → place ≡ line_start → spot ≡ at_line a.spot.levels → IsHeld a → IsHeld (lined a line place lines None spot)
+begun_held a line place lines spot h p e g held =
+    let text = a.text.items in
+    let f = frame_of a in
+    let l = span_len line text h.line_within in
+    let s = first_short f.lines (span_text line text) p h.first held.bounds.short in
+    record {
+      line = h.line_within;
+      short = omega (arith, l, s, h.line_within.0);
+      place = rw e (omega arith);
+      lines = h.lines_within;
+      arguments = held.arguments;
+      room = held.room;
+      bounds = rw (begun_view a line place lines spot h p e g) (next_bounded None (first_atoms f.lines) f (first_weight f.lines) held.bounds);
+    }
+
+-- a line in a region is passed
+abbrev pub skipped : Inside → LinePlace → Span → Spot → Inside
+skipped a place lines spot = record a { place = place; lines = lines; spot = spot }
+
+pub skipped_view : (a : Inside) (line : Span) (place : LinePlace) (lines : Span) (spot : Spot) → IsPassed a line lines → place ≡ line_end → spot ≡ at_line a.spot.levels
+    → frame_of (skipped a place lines spot) ≡ next_line a.region [] (frame_of a)
+skipped_view a line place lines spot h e g = rw (e, g, h.rest) refl
+
+pub skipped_held : (a : Inside) (line : Span) (place : LinePlace) (lines : Span) (spot : Spot) → IsPassed a line lines → place ≡ line_end → spot ≡ at_line a.spot.levels
+    → IsHeld a → IsHeld (skipped a place lines spot)
+skipped_held a line place lines spot h e g held =
+    let f = frame_of a in
+    record {
+      line = held.line;
+      short = held.short;
+      place = rw e tt;
+      lines = h.lines_within;
+      arguments = held.arguments;
+      room = held.room;
+      bounds = rw (skipped_view a line place lines spot h e g) (next_bounded a.region [] f (omega (arith, rest_weight f.lines)) held.bounds);
+    }
+
+-- a region ends
+pub ended_held : (a : Inside) → IsHeld a → IsHeld (record a { region = None })
+unfolding work_in
+ended_held a h =
+    record {
+      line = h.line;
+      short = h.short;
+      place = h.place;
+      lines = h.lines;
+      arguments = h.arguments;
+      room = h.room;
+      bounds = record { short = h.bounds.short; skips = h.bounds.skips };
+    }
+
+-- ---- the line that comes next
+
+pub next_line_is : (lines : List (List ℕ)) (text : List ℕ) → IsFirstLine lines text → AreShort lines → 0 < length lines → IsNextLine lines (Some text)
+next_line_is [] text h s p = absurd (omega arith)
+next_line_is (line ∷ lines) text h s p = (h, rw h s.0)

@@ -1,0 +1,20 @@
+use Rattle.std.proofs.Common.{true, [], ap, ◌∙◌, sym}
+use Rattle.std.specs.Prelude.{None}
+use Rattle.page_roff_blocks.specs.Levels.{after_part, guarded_by, enter, bit_after, skip, leave}
+use Rattle.page_roff_stack.specs.Changes.{past, first_branch, first_region, in_region, next_line, first_atoms}
+use Rattle.page_roff_stack.specs.InputStacks.{stack_of}
+use Rattle.page_roff_stack.specs.Stacks.{with_top, branch_in, region_in, next_of}
+use Rattle.page_roff_stack.proofs.InputStackLemmas.{past_kind, top_held}
+use Rattle.page_roff_stack.proofs.StackLemmas.{part_there}
+use Rattle.page_roff_stack.proofs.input_stacks.InputStack.open_region.Goals as goal
+
+pub invariant_of-self : goal.invariant_of-self
+invariant_of-self c = top_held c.self.inside c.open_region.new.self (ap (λ f. f.kind) c.open_region.ensures) c.self.invariant
+
+pub returns : goal.returns
+returns c =
+    let a = c.self.inside in
+    let s = stack_of a in
+    let there = part_there s.top.region s.top.parts s.top.lines s.under (rw (← c.self.view_is) at c.requires) in
+    ap (λ f. with_top f (stack_of a)) (c.open_region.ensures ∙ ap (λ region. in_region region a.top) (sym (there.2 c.args.is_run)))
+    ∙ ap (λ s. with_top (in_region (region_in c.args.is_run (next_of s)) s.top) s) c.self.view_is

@@ -1,0 +1,18 @@
+use Rattle.std.proofs.Common.{true, [], ap, ◌∙◌, sym}
+use Rattle.std.specs.Prelude.{None}
+use Rattle.page_roff_blocks.specs.Levels.{after_part, guarded_by, enter, bit_after, skip, leave}
+use Rattle.page_roff_stack.specs.Changes.{past, first_branch, first_region, in_region, next_line, first_atoms}
+use Rattle.page_roff_stack.specs.InputStacks.{stack_of}
+use Rattle.page_roff_stack.specs.Stacks.{with_top, branch_in, region_in, next_of}
+use Rattle.page_roff_stack.proofs.InputStackLemmas.{past_kind, top_held}
+use Rattle.page_roff_stack.proofs.StackLemmas.{part_there}
+use Rattle.page_roff_stack.proofs.input_stacks.InputStack.skip_block.Goals as goal
+
+pub invariant_of-self : goal.invariant_of-self
+invariant_of-self c = top_held c.self.inside c.skip_block.new.self (ap (λ f. f.kind) c.skip_block.ensures ∙ past_kind _ c.self.inside.top) c.self.invariant
+
+pub returns : goal.returns
+returns c =
+    let a = c.self.inside in
+    ap (λ f. with_top f (stack_of a)) (c.skip_block.ensures)
+    ∙ ap (λ s. with_top (past (after_part (skip s.top.spot.levels)) s.top) s) c.self.view_is

@@ -1,0 +1,5 @@
+use Rattle.page_roff_stack.proofs.StackLemmas.{next_steps}
+use Rattle.page_roff_stack.proofs.laws.stack_law.Goals as goal
+
+pub returns : goal.returns
+returns g c = λ l s state. next_steps l s state

@@ -1,0 +1,33 @@
+use Rattle.std.proofs.Common.{◌<◌, length, ap, ◌∙◌}
+use Rattle.std.specs.Prelude.{None}
+use Rattle.page_roff_stack.specs.Changes.{next_line, first_atoms}
+use Rattle.page_roff_stack.specs.Sources.{frame_of}
+use Rattle.page_roff_stack.proofs.SourceLemmas.{IsPassed, begun_view, begun_held}
+use Rattle.page_roff_stack.proofs.sources.Source.begin_line.Goals as goal
+
+pub invariant_of-self : goal.invariant_of-self
+invariant_of-self c =
+    let a = c.self.inside in
+    let passed : IsPassed a c.pass_line-self-inside.result c.pass_line-self-inside.new.lines = record {
+      first = rw c.deref.ensures.value at c.pass_line-self-inside.ensures.first;
+      rest = rw c.deref.ensures.value at c.pass_line-self-inside.ensures.rest;
+      line_within = rw c.deref.ensures.value at c.pass_line-self-inside.ensures.spans.0;
+      lines_within = rw c.deref.ensures.value at c.pass_line-self-inside.ensures.spans.1;
+    } in
+    let there : 0 < length (frame_of a).lines = rw (← c.self.view_is) at c.requires in
+    begun_held a c.pass_line-self-inside.result c.start-self-inside.result c.pass_line-self-inside.new.lines c.begin_line.new.self
+    passed there c.start-self-inside.ensures c.begin_line.ensures c.self.invariant
+
+pub returns : goal.returns
+returns c =
+    let a = c.self.inside in
+    let passed : IsPassed a c.pass_line-self-inside.result c.pass_line-self-inside.new.lines = record {
+      first = rw c.deref.ensures.value at c.pass_line-self-inside.ensures.first;
+      rest = rw c.deref.ensures.value at c.pass_line-self-inside.ensures.rest;
+      line_within = rw c.deref.ensures.value at c.pass_line-self-inside.ensures.spans.0;
+      lines_within = rw c.deref.ensures.value at c.pass_line-self-inside.ensures.spans.1;
+    } in
+    let there : 0 < length (frame_of a).lines = rw (← c.self.view_is) at c.requires in
+    begun_view a c.pass_line-self-inside.result c.start-self-inside.result c.pass_line-self-inside.new.lines c.begin_line.new.self
+    passed there c.start-self-inside.ensures c.begin_line.ensures
+    ∙ ap (λ f. next_line None (first_atoms f.lines) f) c.self.view_is

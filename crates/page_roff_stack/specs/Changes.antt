@@ -1,0 +1,87 @@
+-- What becomes of a source that is being run as its parts and lines are passed, as the steps of the machine have it. Source: roff(7), "Macros".
+use Rattle.std.specs.Prelude.{◌≡◌, ℕ, ◌+◌, ◌≤◌, ◌<◌, ◌^◌, Bool, true, false, List, [], ◌∷◌, length, drop, Option, Some, None}
+use Rattle.page_core_limits.specs.declared.TheConstants.{LINE}
+use Rattle.page_roff_blocks.specs.declared.atoms.Atom.{Atom}
+use Rattle.page_roff_blocks.specs.declared.atoms.Atom.TheVariants.{Leaf, Guard, Block, End, Region}
+use Rattle.page_roff_blocks.specs.declared.atoms.Branch.{Branch}
+use Rattle.page_roff_blocks.specs.declared.atoms.Branch.TheVariants.{Else}
+use Rattle.page_roff_blocks.specs.Atoms.{atoms}
+use Rattle.page_roff_blocks.specs.Levels.{Opened, opened, Spot, at_line, outside}
+use Rattle.page_roff_values.specs.Arguments.{arguments_in}
+use Rattle.page_roff_run.specs.Languages.{Kind, page, body}
+use Rattle.page_roff_run.specs.Machine.{Frame, at_part}
+use Rattle.page_roff_run.specs.Measures.{work_in}
+
+-- the lines of a body, each with a line feed at its end
+abbrev pub lines_in : List ℕ → List (List ℕ)
+lines_in bytes = arguments_in bytes
+
+-- the page before its first line
+abbrev pub first_frame : Frame
+first_frame = record { kind = page; region = None; parts = []; spot = at_line outside; lines = [] }
+
+-- a line of the page is to come
+abbrev pub page_line : List ℕ → Frame → Frame
+page_line line f = record { kind = page; region = f.region; parts = []; spot = at_line f.spot.levels; lines = line ∷ [] }
+
+-- the part that comes next is passed, and this is the spot after it
+abbrev pub past : Spot → Frame → Frame
+past spot f = at_part f (drop 1 f.parts) spot
+
+-- the branch of the head that comes first
+abbrev pub branch_of : Atom (List ℕ) → Branch (List ℕ)
+branch_of (Leaf text) = Else
+branch_of (Guard head) = head.branch
+branch_of (Block head) = head.branch
+branch_of End = Else
+branch_of (Region head) = Else
+
+abbrev pub first_branch : List (Atom (List ℕ)) → Branch (List ℕ)
+first_branch [] = Else
+first_branch (part ∷ more) = branch_of part
+
+-- the region of the head that comes first
+abbrev pub region_of : Bool → Atom (List ℕ) → Option Opened
+region_of is_run (Leaf text) = None
+region_of is_run (Guard head) = None
+region_of is_run (Block head) = None
+region_of is_run End = None
+region_of is_run (Region head) = Some (opened head is_run)
+
+abbrev pub first_region : Bool → List (Atom (List ℕ)) → Option Opened
+first_region is_run [] = None
+first_region is_run (part ∷ more) = region_of is_run part
+
+-- the head of a region is passed, and its line with it
+abbrev pub in_region : Option Opened → Frame → Frame
+in_region region f = record { kind = f.kind; region = region; parts = []; spot = at_line f.spot.levels; lines = f.lines }
+
+-- the line that comes next begins with these parts, in this region
+abbrev pub next_line : Option Opened → List (Atom (List ℕ)) → Frame → Frame
+next_line region parts f = record { kind = f.kind; region = region; parts = parts; spot = at_line f.spot.levels; lines = drop 1 f.lines }
+
+abbrev pub first_atoms : List (List ℕ) → List (Atom (List ℕ))
+first_atoms [] = []
+first_atoms (line ∷ more) = atoms line
+
+abbrev pub is_page : Kind → Bool
+is_page page = true
+is_page (body args) = false
+
+-- a part comes next, or a line
+abbrev pub HasPart : Frame → Type 0
+HasPart f = 0 < length f.parts
+
+abbrev pub HasLine : Frame → Type 0
+HasLine f = 0 < length f.lines
+
+-- ---- within bounds
+
+abbrev pub AreShort : List (List ℕ) → Type 0
+AreShort [] = Unit {0}
+AreShort (line ∷ lines) = (length line ≤ LINE) × AreShort lines
+
+-- lines are short enough; and so many blocks cannot be skipped that their count is too large
+pub record IsBounded (f : Frame) : Type 0 where
+  pub short : AreShort f.lines
+  pub skips : f.spot.levels.skipped + work_in f < 2 ^ 63

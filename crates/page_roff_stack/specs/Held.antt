@@ -1,0 +1,32 @@
+-- How the code holds a source: places in its text.
+use Rattle.std.specs.Prelude.{◌≡◌, ℕ, ◌+◌, ◌-◌, ◌≤◌, List, [], ◌∷◌, length, take, drop, Option, Some, None}
+use Rattle.page_core_limits.specs.declared.TheConstants.{LINE, BODY}
+use Rattle.page_roff_values.specs.declared.call_arguments.TheConstants.{ARGS}
+use Rattle.page_roff_values.specs.Arguments.{arguments_in}
+use Rattle.page_roff_run.specs.Languages.{Kind, page, body}
+use Rattle.page_roff_stack.specs.declared.spans.Span.{Span}
+
+abbrev pub span_text : Span → List ℕ → List ℕ
+span_text span text = take (span.end - span.start) (drop span.start text)
+
+abbrev pub IsSpanIn : Span → List ℕ → Type 0
+IsSpanIn span text = (span.start ≤ span.end) × (span.end ≤ length text)
+
+-- a macro's arguments stand at the end of its text, from here on
+abbrev pub kind_in : Option ℕ → List ℕ → Kind
+kind_in None text = page
+kind_in (Some start) text = body (arguments_in (drop start text))
+
+abbrev pub AreArgumentsIn : Option ℕ → List ℕ → Type 0
+AreArgumentsIn None text = Unit {0}
+AreArgumentsIn (Some start) text = (start ≤ length text) × (length text ≤ start + ARGS)
+
+-- the memory that is wanted: for a line of the page with its end, or for a body and its arguments
+abbrev pub room_for : Option ℕ → ℕ
+room_for None = LINE + 1
+room_for (Some start) = BODY + ARGS
+
+-- a text is the first of these lines, if there is one
+abbrev pub IsFirstLine : List (List ℕ) → List ℕ → Type 0
+IsFirstLine [] text = Unit {0}
+IsFirstLine (line ∷ lines) text = text ≡ line

@@ -1,0 +1,46 @@
+-- What is lent of a source: of the program, with what its texts hold.
+use Rattle.std.specs.Prelude.{◌≡◌, ◌≤◌, ℕ, List, [], ◌∷◌, length, Option, Some, None}
+use Rattle.std.specs.Borrow.{Bor}
+use Rattle.page_core_limits.specs.declared.TheConstants.{LINE}
+use Rattle.page_roff_blocks.specs.declared.atoms.Atom.{Atom}
+use Rattle.page_roff_blocks.specs.Atoms.{atom_seen, FitsAtom}
+use Rattle.page_roff_blocks.specs.Levels.{Opened}
+use Rattle.page_roff_run.specs.Languages.{Kind, page, body}
+use Rattle.page_roff_values.specs.Arguments.{arguments_in}
+use Rattle.page_roff_stack.specs.declared.next.Next.{Next}
+use Rattle.page_roff_stack.specs.declared.next.Next.TheVariants.{Part, Line, RegionLine, SourceEnd, Nothing}
+
+abbrev pub opened_seen : Option (Bor Opened) → Option Opened
+opened_seen None = None
+opened_seen (Some region) = Some region.now
+
+-- the arguments of a macro; the page has none
+abbrev pub kind_of : Option (List ℕ) → Kind
+kind_of None = page
+kind_of (Some packed) = body (arguments_in packed)
+
+-- a part as a list of one
+abbrev pub parts_seen : Option (Atom (Bor (List ℕ))) → List (Atom (List ℕ))
+parts_seen None = []
+parts_seen (Some part) = atom_seen part ∷ []
+
+-- the first of these lines, if there is one, which is short enough
+abbrev pub IsNextLine : List (List ℕ) → Option (List ℕ) → Type 0
+IsNextLine lines None = lines ≡ []
+IsNextLine [] (Some text) = [] ≡ text ∷ []
+IsNextLine (line ∷ lines) (Some text) = (text ≡ line) × (length text ≤ LINE)
+
+abbrev pub next_seen : Next (Bor (List ℕ)) (Bor Opened) → Next (List ℕ) Opened
+next_seen (Part part) = Part (atom_seen part)
+next_seen (Line line) = Line line.now
+next_seen (RegionLine region line is_end) = RegionLine region.now line.now is_end
+next_seen (SourceEnd region) = SourceEnd (opened_seen region)
+next_seen Nothing = Nothing
+
+-- texts lie within a line
+abbrev pub FitsNext : Next (List ℕ) Opened → Type 0
+FitsNext (Part part) = FitsAtom part
+FitsNext (Line line) = length line ≤ LINE
+FitsNext (RegionLine region line is_end) = length line ≤ LINE
+FitsNext (SourceEnd region) = Unit {0}
+FitsNext Nothing = Unit {0}

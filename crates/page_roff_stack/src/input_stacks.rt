@@ -1,0 +1,282 @@
+//! The input stack (mandoc(1), "input stack limit exceeded, infinite loop?").
+
+ghost use Rattle.std.specs.Prelude.{◌≡◌, [], ◌∷◌, ◌≤◌, ◌<◌, ◌^◌, true, length, IfOk, IfSome, None, Some};
+ghost use Rattle.page_core_base.specs.Texts.{IsLine};
+ghost use Rattle.page_core_limits.specs.declared.TheConstants.{BODY};
+ghost use Rattle.page_roff_blocks.specs.Levels.{after_part, guarded_by, way_of, enter, bit_after, skip, leave, has_block, reached};
+ghost use Rattle.page_roff_blocks.specs.Regions.{text_seen};
+ghost use Rattle.page_roff_run.specs.Machine.{depth, is_some};
+ghost use Rattle.page_roff_values.specs.Arguments.{arguments_in};
+ghost use Rattle.page_roff_values.specs.declared.call_arguments.TheConstants.{ARGS};
+ghost use Rattle.page_roff_stack.specs.Changes.{lines_in, page_line, past, in_region, next_line, first_atoms, is_page};
+ghost use Rattle.page_roff_stack.specs.Stacks.{first_stack, with_top, call_of, next_around, next_of, is_part, is_line, is_source_end, is_nothing, branch_in, region_in};
+ghost use Rattle.page_roff_stack.specs.Views.{opened_seen, kind_of, next_seen, FitsNext};
+
+use crate::next::Next;
+use crate::sources::Source;
+use page_roff_blocks::{OpenRegion, Reached, Way};
+use page_roff_run::CALLS;
+use std::alloc::{AllocError, Global};
+use std::marker::Model;
+use std::mem;
+
+/// The sources that run, one inside another: the page, and the macros that it calls. Contracts see them without their state.
+///
+/// [`InputStack::peek`] lends what comes next, and one of the changes then goes past it.
+#[derive(Drop)]
+pub struct InputStack {
+    top: Source,
+    // The sources around it, from the page on.
+    under: Vec<Source>,
+    // What macros can be run in that are still to be called.
+    spare: Vec<Source>,
+}
+
+impl Model for InputStack {
+    ghost use Rattle.page_roff_stack.specs.Stacks.{Stack};
+
+    ghost Value = { Stack };
+
+    ghost use Rattle.page_roff_stack.specs.InputStacks.{stack_of, IsStack};
+
+    ghost view = { stack_of };
+
+    ghost invariant = { IsStack };
+}
+
+impl InputStack {
+    /// The page, before its first line. All memory is reserved here.
+    pub fn new(alloc: Global) -> Result<InputStack, AllocError>
+        ensures { IfOk result (λ stack. stack ≡ first_stack) }
+    {
+        let top = Source::page(alloc)?;
+        let under = Vec::with_capacity(alloc, CALLS)?;
+        let mut spare = Vec::with_capacity(alloc, CALLS)?;
+        for _ in 0..CALLS {
+            spare.push_reserved(Source::body(alloc)?);
+        }
+        Ok(InputStack { top, under, spare })
+    }
+
+    /// Whether the page's line is done, or none came.
+    pub fn is_idle(&self) -> bool
+        ensures { result ≡ is_nothing (next_of self.now) }
+    {
+        matches!(self.peek(), Next::Nothing)
+    }
+
+    // What comes next where nothing is left of the innermost source.
+    fn next_around<'a>(&self, region: Option<&'a OpenRegion>) -> Next<&'a [u8], &'a OpenRegion>
+        ensures { next_seen result ≡ next_around (opened_seen region.entry) self.now.under }
+    {
+        if self.under.is_empty() {
+            Next::Nothing
+        } else {
+            Next::SourceEnd(region)
+        }
+    }
+
+    /// What comes next.
+    pub fn peek(&self) -> Next<&[u8], &OpenRegion>
+        ensures value { next_seen result ≡ next_of self.now }
+        ensures fits { FitsNext (next_seen result) }
+    {
+        match self.top.region() {
+            Some(region) => self.peek_in_region(region),
+            None => self.peek_outside(),
+        }
+    }
+
+    // What comes next in an open region.
+    fn peek_in_region<'a>(&'a self, region: &'a OpenRegion) -> Next<&'a [u8], &'a OpenRegion>
+        requires { self.now.top.region ≡ Some region.now }
+        ensures value { next_seen result ≡ next_of self.now }
+        ensures fits { FitsNext (next_seen result) }
+    {
+        match self.top.line() {
+            Some(line) => Next::RegionLine {
+                region,
+                line,
+                is_end: region.is_ended_by(line),
+            },
+            None => self.next_around(Some(region)),
+        }
+    }
+
+    // What comes next outside of regions.
+    fn peek_outside(&self) -> Next<&[u8], &OpenRegion>
+        requires { self.now.top.region ≡ None }
+        ensures value { next_seen result ≡ next_of self.now }
+        ensures fits { FitsNext (next_seen result) }
+    {
+        if let Some(part) = self.top.part() {
+            return Next::Part(part);
+        }
+        match self.top.line() {
+            Some(line) => Next::Line(line),
+            None => self.next_around(None),
+        }
+    }
+
+    /// How the part that comes next is reached.
+    pub fn reached(&self) -> Reached
+        ensures { result ≡ reached self.now.top.spot }
+    {
+        self.top.reached()
+    }
+
+    /// The bit that `ie` leaves to `el`.
+    pub fn bit(&self) -> bool
+        ensures { result ≡ self.now.top.spot.levels.bit }
+    {
+        self.top.bit()
+    }
+
+    /// The number of skipped blocks that are open here.
+    pub fn skipped(&self) -> u64
+        ensures { result ≡ self.now.top.spot.levels.skipped }
+    {
+        self.top.skipped()
+    }
+
+    /// Whether one more macro may run inside the innermost source.
+    pub fn may_call(&self) -> bool
+        ensures { result ≡ is_some (depth self.now.under) }
+    {
+        self.under.len() < CALLS
+    }
+
+    /// Whether the innermost source is the page.
+    pub fn is_page(&self) -> bool
+        ensures { result ≡ is_page self.now.top.kind }
+    {
+        self.top.is_page()
+    }
+
+    /// The arguments of the innermost macro, each with a line feed at its end; none on the page.
+    pub fn arguments(&self) -> Option<&[u8]>
+        ensures value { kind_of (text_seen result) ≡ self.now.top.kind }
+        ensures short { IfSome result (λ packed. length packed.now ≤ ARGS) }
+    {
+        self.top.arguments()
+    }
+
+    /// The open region of the innermost source.
+    pub fn region(&self) -> Option<&OpenRegion>
+        ensures { opened_seen result ≡ self.now.top.region }
+    {
+        self.top.region()
+    }
+
+    /// A line of the page is to come, after the last one is done.
+    pub fn set_line(&mut self, line: &[u8])
+        requires idle { is_nothing (next_of self.old) ≡ true }
+        requires line { IsLine line.now }
+        requires skips { self.old.top.spot.levels.skipped < 2 ^ 62 }
+        ensures { self.new ≡ record { top = page_line line.now self.old.top; under = [] } }
+    {
+        self.top.set_line(line);
+    }
+
+    /// Goes past a leaf.
+    pub fn pass(&mut self)
+        ensures { self.new ≡ with_top (past (after_part self.old.top.spot.levels) self.old.top) self.old }
+    {
+        self.top.pass();
+    }
+
+    /// Goes past a head without a block that is not run.
+    pub fn pass_guard(&mut self)
+        ensures { self.new ≡ with_top (past (record self.old.top.spot { begun = true }) self.old.top) self.old }
+    {
+        self.top.pass_guard();
+    }
+
+    /// Goes past a head without a block that is run, and has this value.
+    pub fn guard(&mut self, value: bool)
+        requires { is_part (next_of self.old) ≡ true }
+        ensures { self.new ≡ with_top
+            (past (guarded_by (branch_in (next_of self.old)) value self.old.top.spot.levels) self.old.top) self.old }
+    {
+        self.top.guard(value);
+    }
+
+    /// Enters a block whose head is run, and has this value.
+    pub fn enter_block(&mut self, value: bool) -> Way
+        requires { is_part (next_of self.old) ≡ true }
+        ensures way { result ≡ way_of value (length self.old.top.spot.levels.outer) }
+        ensures spot { self.new ≡ with_top (past (after_part (enter result
+            (bit_after (branch_in (next_of self.old)) value self.old.top.spot.levels.bit) self.old.top.spot.levels)) self.old.top) self.old }
+    {
+        self.top.enter_block(value)
+    }
+
+    /// Enters a block that is passed over.
+    pub fn skip_block(&mut self)
+        requires { is_part (next_of self.old) ≡ true }
+        ensures { self.new ≡ with_top (past (after_part (skip self.old.top.spot.levels)) self.old.top) self.old }
+    {
+        self.top.skip_block();
+    }
+
+    /// The innermost block ends: whether there was one.
+    pub fn leave_block(&mut self) -> bool
+        ensures spot { self.new ≡ with_top (past (after_part (leave self.old.top.spot.levels)) self.old.top) self.old }
+        ensures block { result ≡ has_block self.old.top.spot.levels }
+    {
+        self.top.leave_block()
+    }
+
+    /// Goes past the head of a region, which opens, and is run or not.
+    pub fn open_region(&mut self, is_run: bool)
+        requires { is_part (next_of self.old) ≡ true }
+        ensures { self.new ≡ with_top (in_region (region_in is_run (next_of self.old)) self.old.top) self.old }
+    {
+        self.top.open_region(is_run);
+    }
+
+    /// A line begins.
+    pub fn begin_line(&mut self)
+        requires { is_line (next_of self.old) ≡ true }
+        ensures { self.new ≡ with_top (next_line None (first_atoms self.old.top.lines) self.old.top) self.old }
+    {
+        self.top.begin_line();
+    }
+
+    /// Goes past a line in the open region.
+    pub fn pass_region_line(&mut self)
+        ensures { self.new ≡ with_top (next_line self.old.top.region [] self.old.top) self.old }
+    {
+        self.top.pass_region_line();
+    }
+
+    /// Goes past the end of the open region.
+    pub fn end_region(&mut self)
+        ensures { self.new ≡ with_top (next_line None [] self.old.top) self.old }
+    {
+        self.top.end_region();
+    }
+
+    /// Calls a macro: a copy of its body runs, with arguments that have a line feed at the end of each.
+    pub fn call(&mut self, body: &[u8], arguments: &[u8])
+        requires room { is_some (depth self.old.under) ≡ true }
+        requires body { length body.now ≤ BODY }
+        requires arguments { length arguments.now ≤ ARGS }
+        ensures { self.new ≡ call_of (lines_in body.now) (arguments_in arguments.now) self.old }
+    {
+        let mut source = self.spare.take_last();
+        source.enter(body, arguments);
+        let caller = mem::replace(&mut self.top, source);
+        self.under.push_reserved(caller);
+    }
+
+    /// The innermost macro ends.
+    pub fn end_source(&mut self)
+        requires { is_source_end (next_of self.old) ≡ true }
+        ensures { self.old.under ≡ self.new.top ∷ self.new.under }
+    {
+        let caller = self.under.take_last();
+        let source = mem::replace(&mut self.top, caller);
+        self.spare.push_reserved(source);
+    }
+}
