@@ -1,0 +1,5 @@
+pub mod Commands
+pub mod Effects
+pub mod Leaves
+pub mod RegionLines
+pub mod States

@@ -1,0 +1,7 @@
+//! What the parts of a source do (roff(7)): lines are expanded and taken, conditions are tested, requests define names, macros are
+//! called, and regions define macros.
+#![tactic(auto)]
+
+mod commands;
+
+pub use commands::Command;
