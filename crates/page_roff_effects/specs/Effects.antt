@@ -1,5 +1,6 @@
 -- What the parts of a source do to what is remembered and given. Source: roff(7), "LANGUAGE SYNTAX"; mandoc(1), "DIAGNOSTICS".
-use Rattle.std.specs.Prelude.{ℕ, Bool, List, [], ◌∷◌, ◌++◌, codes, Option, Some, None}
+use Rattle.std.specs.Prelude.{ℕ, ◌+◌, ◌*◌, Bool, List, [], ◌∷◌, ◌++◌, codes, Option, Some, None}
+use Rattle.page_core_limits.specs.declared.TheConstants.{BODY}
 use Rattle.page_core_base.specs.declared.note_kinds.NoteKind.TheVariants as kinds
 use Rattle.page_core_base.specs.declared.page_settings.Output.{Output}
 use Rattle.page_roff_heads.specs.declared.conditions.Condition.{Condition}
@@ -7,7 +8,7 @@ use Rattle.page_roff_blocks.specs.declared.atoms.Head.{Head}
 use Rattle.page_roff_values.specs.Arguments.{arguments_in}
 use Rattle.page_roff_conditions.specs.Answers.{Answer, condition_answer}
 use Rattle.page_roff_run.specs.Languages.{Kind, page, body, Done, gives, calls}
-use Rattle.page_roff_run.specs.Budgets.{Effects}
+use Rattle.page_roff_run.specs.Budgets.{Budgeted, Effects}
 use Rattle.page_roff_effects.specs.States.{Memory, State, Given, Outcome, Product, no_product, line_product, call_product, after, reports, reports_at, counted, Setting, surroundings}
 use Rattle.page_roff_effects.specs.Leaves.{leaf_outcome}
 use Rattle.page_roff_effects.specs.RegionLines.{head_outcome, line_outcome, end_outcome, finish_outcome}
@@ -68,6 +69,17 @@ effects output =
 
 -- ---- laws
 
+-- how many interpolations were made
+abbrev pub expansions_of : State → ℕ
+expansions_of s = s.memory.expansions
+
 -- what was given before stands in front
-unfoldable pub in_front : List Given → State → State
-in_front given s = record { memory = s.memory; out = given ++ s.out }
+abbrev pub given_before : List Given → State → State
+given_before given s = record { memory = s.memory; out = given ++ s.out }
+
+abbrev pub in_front : List Given → Budgeted State → Budgeted State
+in_front given s = record { left = s.left; gave_up = s.gave_up; taken = s.taken; rest = given_before given s.rest }
+
+-- the work of a body is less than this
+unfoldable pub WORK : ℕ
+WORK = 3 * BODY + 4

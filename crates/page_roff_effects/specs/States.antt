@@ -1,20 +1,13 @@
 -- What the parts of a source change, and what they give. Source: roff(7), "LANGUAGE SYNTAX", "ds", "de".
 use Rattle.std.specs.Prelude.{ℕ, ◌+◌, ◌-◌, ◌^◌, min, Bool, List, [], ◌∷◌, ◌++◌, map, Option, Some, None}
 use Rattle.page_core_base.specs.Messages.{Message, message_about}
+use Rattle.page_core_base.specs.LinesTaken.{Line}
 use Rattle.page_core_base.specs.declared.lines_taken.Form.{Form}
 use Rattle.page_core_base.specs.declared.note_kinds.NoteKind.{NoteKind}
 use Rattle.page_core_base.specs.declared.page_settings.Output.{Output}
 use Rattle.page_core_base.specs.declared.places.Place.{Place}
 use Rattle.page_roff_names.specs.Names.{Definitions}
 use Rattle.page_roff_values.specs.Environments.{Surroundings}
-
--- A finished line for a set of macros: its form, its text, the number of its source line, and how many bytes of it go up to the end of
--- the name that it had as it was written (0 where it is no control line).
-pub record Line : Type 0 where
-  pub form : Form
-  pub text : List ℕ
-  pub number : ℕ
-  pub name_end : ℕ
 
 -- a macro that is called: the lines of its body, and its arguments, each with a line feed after it
 pub record Call : Type 0 where

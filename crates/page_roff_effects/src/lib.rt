@@ -3,5 +3,7 @@
 #![tactic(auto)]
 
 mod commands;
+mod laws;
 
 pub use commands::Command;
+pub use laws::{bodies_law, expansions_law, given_law};
