@@ -1,6 +1,5 @@
 -- What the parts of a source do to what is remembered and given. Source: roff(7), "LANGUAGE SYNTAX"; mandoc(1), "DIAGNOSTICS".
-use Rattle.std.specs.Prelude.{ℕ, ◌+◌, ◌*◌, Bool, List, [], ◌∷◌, ◌++◌, codes, Option, Some, None}
-use Rattle.page_core_limits.specs.declared.TheConstants.{BODY}
+use Rattle.std.specs.Prelude.{ℕ, ◌+◌, Bool, false, List, [], ◌∷◌, ◌++◌, codes, Option, Some, None}
 use Rattle.page_core_base.specs.declared.note_kinds.NoteKind.TheVariants as kinds
 use Rattle.page_core_base.specs.declared.page_settings.Output.{Output}
 use Rattle.page_roff_heads.specs.declared.conditions.Condition.{Condition}
@@ -79,7 +78,3 @@ given_before given s = record { memory = s.memory; out = given ++ s.out }
 
 abbrev pub in_front : List Given → Budgeted State → Budgeted State
 in_front given s = record { left = s.left; gave_up = s.gave_up; taken = s.taken; rest = given_before given s.rest }
-
--- the work of a body is less than this
-unfoldable pub WORK : ℕ
-WORK = 3 * BODY + 4

@@ -6,4 +6,4 @@ mod commands;
 mod laws;
 
 pub use commands::Command;
-pub use laws::{bodies_law, expansions_law, given_law};
+pub use laws::{expansions_law, given_law};
