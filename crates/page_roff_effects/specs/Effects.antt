@@ -3,7 +3,6 @@ use Rattle.std.specs.Prelude.{ℕ, ◌+◌, Bool, false, List, [], ◌∷◌, �
 use Rattle.page_core_base.specs.declared.note_kinds.NoteKind.TheVariants as kinds
 use Rattle.page_core_base.specs.declared.page_settings.Output.{Output}
 use Rattle.page_roff_heads.specs.declared.conditions.Condition.{Condition}
-use Rattle.page_roff_blocks.specs.declared.atoms.Head.{Head}
 use Rattle.page_roff_values.specs.Arguments.{arguments_in}
 use Rattle.page_roff_conditions.specs.Answers.{Answer, condition_answer}
 use Rattle.page_roff_run.specs.Languages.{Kind, page, body, Done, gives, calls}
@@ -28,9 +27,9 @@ test_outcome answer m = reports answer.notes (counted answer.edge.count m)
 unfoldable pub budget_outcome : Memory → Outcome
 budget_outcome m = reports_at kinds.Loop 1 (codes "REREAD") m
 
--- a true block beyond the limit of open ones
-unfoldable pub block_outcome : Head (List ℕ) → Memory → Outcome
-block_outcome head m = reports_at kinds.Limit head.column (codes "CONDS") m
+-- a true block beyond the limit of open ones, whose head's name stands in a column
+unfoldable pub block_outcome : ℕ → Memory → Outcome
+block_outcome column m = reports_at kinds.Limit column (codes "CONDS") m
 
 -- the end of a block where none is open
 unfoldable pub end_of_block_outcome : Memory → Outcome
@@ -58,7 +57,7 @@ effects output =
       exhausts = λ s. after s (budget_outcome s.memory);
       tests = λ kind condition s. tested_after s (answer_of (setting_of output kind) condition s.memory);
       leaf = λ may_call kind text s. done_after s (leaf_outcome (setting_of output kind) may_call text s.memory);
-      refuses = λ head s. after s (block_outcome head s.memory);
+      refuses = λ head s. after s (block_outcome head.column s.memory);
       unopened = λ s. after s (end_of_block_outcome s.memory);
       opens_region = λ kind head is_run s. after s (head_outcome head is_run s.memory);
       reads = λ kind o is_run line s. after s (line_outcome (setting_of output kind) o is_run line s.memory);

@@ -2,7 +2,8 @@
 use Rattle.std.specs.Prelude.{ℕ, ◌+◌, ◌-◌, ◌==◌, ◌&&◌, Bool, true, false, nat_le, List, [], ◌∷◌, ◌++◌, length, drop, codes, if◌then◌else◌, Option, Some, None, unwrap_or}
 use Rattle.std.specs.List.{flat_map}
 use Rattle.page_core_limits.specs.Limits.{name_of}
-use Rattle.page_core_base.specs.Messages.{Message}
+use Rattle.page_core_base.specs.Messages.{Message, message_about}
+use Rattle.page_core_base.specs.declared.places.Place.{Place}
 use Rattle.page_core_base.specs.declared.lines_taken.Form.TheVariants as forms
 use Rattle.page_core_base.specs.declared.note_kinds.NoteKind.TheVariants as kinds
 use Rattle.page_roff_forms.specs.Arguments.{arguments, is_quoted}
@@ -18,7 +19,7 @@ use Rattle.page_roff_definitions.specs.Definitions as defining
 use Rattle.page_roff_effects.specs.declared.commands.Command.{Command}
 use Rattle.page_roff_effects.specs.declared.commands.Command.TheVariants.{Call, Define, Ignore, Refuse, Pass}
 use Rattle.page_roff_effects.specs.Commands.{called_body, command_of, copies}
-use Rattle.page_roff_effects.specs.States.{Memory, call_product, no_product, nothing, reports, reports_at, note_at, gives_line, after_notes, at, with_definitions, counted, Setting, surroundings}
+use Rattle.page_roff_effects.specs.States.{Memory, call_product, no_product, nothing, reports, reports_at, gives_line, after_notes, at, with_definitions, counted, Setting, surroundings}
 use Rattle.page_roff_effects.specs.States as states
 
 -- ---- the arguments of a call
@@ -38,14 +39,14 @@ abbrev pub packed : List (Argument (List ℕ)) → List ℕ
 packed arguments = flat_map (λ argument. argument_value argument ++ (10 ∷ [])) arguments
 
 -- the call that would be one running macro too many
-abbrev pub depth_notes : Bool → ℕ → Memory → List Message
-depth_notes true column m = []
-depth_notes false column m = note_at kinds.Loop column (codes "CALLS") m
+abbrev pub depth_notes : Bool → Place → List Message
+depth_notes true place = []
+depth_notes false place = message_about kinds.Loop place (codes "CALLS") ∷ []
 
 -- the call with too many bytes of arguments
-abbrev pub size_notes : Bool → ℕ → Memory → List Message
-size_notes true column m = []
-size_notes false column m = note_at kinds.Limit column (codes "ARGS") m
+abbrev pub size_notes : Bool → Place → List Message
+size_notes true place = []
+size_notes false place = message_about kinds.Limit place (codes "ARGS") ∷ []
 
 abbrev pub call_if : Bool → List ℕ → List ℕ → Memory → states.Outcome
 call_if true body bytes m = record { notes = []; product = call_product (record { body = body; packed = bytes }); memory = m }
@@ -55,7 +56,7 @@ call_if false body bytes m = nothing m
 abbrev pub calls_with : Bool → ℕ → List ℕ → List ℕ → Memory → states.Outcome
 calls_with may_call column body bytes m =
     let fits = nat_le (length bytes) ARGS in
-    after_notes (depth_notes may_call column m ++ size_notes fits column m) (call_if (may_call && fits) body bytes m)
+    after_notes (depth_notes may_call (at m column) ++ size_notes fits (at m column)) (call_if (may_call && fits) body bytes m)
 
 -- arguments without their last quote are reported first
 abbrev pub calls : Bool → ℕ → List ℕ → List (Argument (List ℕ)) → Memory → states.Outcome

@@ -1,3 +1,4 @@
+pub mod Acting
 pub mod Commands
 pub mod Effects
 pub mod Leaves

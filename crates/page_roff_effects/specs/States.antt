@@ -96,7 +96,7 @@ with_body body m = record { definitions = m.definitions; body = body; number = m
 
 -- a count stays at the greatest number of 64 bits, which no page reaches
 abbrev pub sum_of_counts : ℕ → ℕ → ℕ
-sum_of_counts a b = min (a + b) (2 ^ 64 - 1)
+sum_of_counts a b = a + min b (2 ^ 64 - 1 - a)
 
 -- so many interpolations more were made
 abbrev pub counted : ℕ → Memory → Memory

@@ -2,8 +2,14 @@
 //! called, and regions define macros.
 #![tactic(auto)]
 
+mod actions;
+mod buffers;
+mod calls;
 mod commands;
 mod laws;
+mod leaves;
+mod regions;
 
-pub use commands::Command;
+pub use actions::Actions;
+pub use commands::ProductKind;
 pub use laws::{expansions_law, given_law};
