@@ -20,8 +20,14 @@ fn after_byte(byte: u8, after: &[u8]) -> &[u8]
     ensures within { length result.now ≤ length after.now }
 {
     match after {
-        [b'"', rest @ ..] if byte == b'"' => rest,
-        _ => after,
+        [] => after,
+        [next, rest @ ..] => {
+            if byte == b'"' && *next == b'"' {
+                rest
+            } else {
+                after
+            }
+        }
     }
 }
 
@@ -29,6 +35,7 @@ fn after_byte(byte: u8, after: &[u8]) -> &[u8]
 fn append_unpaired(text: &mut Vec<u8>, quoted: &[u8])
     requires { vec_len text.old + length quoted.now ≤ vec_capacity text.old }
     ensures items { text.new.items ≡ text.old.items ++ unpaired quoted.now }
+    ensures short { vec_len text.new ≤ vec_len text.old + length quoted.now }
     ensures capacity { vec_capacity text.new ≡ vec_capacity text.old }
 {
     let mut rest = quoted;

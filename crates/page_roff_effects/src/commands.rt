@@ -3,6 +3,7 @@
 ghost use Rattle.std.specs.Prelude.{◌≡◌, ◌≤◌, [], length, IfSome, unwrap_or};
 ghost use Rattle.page_core_limits.specs.declared.TheConstants.{BODY};
 ghost use Rattle.page_roff_blocks.specs.Regions.{text_seen};
+ghost use Rattle.page_roff_definitions.specs.Definitions.{request_of};
 ghost use Rattle.page_roff_effects.specs.Commands as named;
 
 use page_core_limits::BODY;
@@ -58,15 +59,26 @@ pub(crate) fn body_or_nothing<'a>(name: &[u8], names: &'a Names) -> &'a [u8]
     }
 }
 
+// What a name stands for that neither calls a macro nor defines.
+fn other_command(name: &[u8]) -> Command
+    ensures { result ≡ named.other_command name.now }
+{
+    if is_ignored(name) {
+        Command::Ignore
+    } else if is_unsupported(name) {
+        Command::Refuse
+    } else {
+        Command::Pass
+    }
+}
+
 // What a request does, or a name that is left to the set of macros.
 fn request_command(name: &[u8]) -> Command
-    ensures { result ≡ named.request_command name.now (named.request_of name.now) }
+    ensures { result ≡ named.request_command name.now (request_of name.now) }
 {
     match DefinitionRequest::of(name) {
         Some(request) => Command::Define(request),
-        None if is_ignored(name) => Command::Ignore,
-        None if is_unsupported(name) => Command::Refuse,
-        None => Command::Pass,
+        None => other_command(name),
     }
 }
 

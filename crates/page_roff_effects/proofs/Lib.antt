@@ -1,0 +1,3 @@
+pub mod ControlLemmas
+pub mod CountLemmas
+pub mod GivenLemmas
