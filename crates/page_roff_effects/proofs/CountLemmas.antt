@@ -32,6 +32,9 @@ use Rattle.page_roff_effects.specs.Effects.{effects, setting_of, answer_of, test
 abbrev IsFew : ℕ → ℕ → Type 0
 IsFew old new = new ≤ old + EXPAND
 
+few_as : (a b c : ℕ) → a ≡ b → b ≤ c → a ≤ c
+few_as a b c e h = omega arith
+
 few_counts : (a b : ℕ) → b ≤ EXPAND → IsFew a (sum_of_counts a b)
 few_counts a b h = omega arith
 
@@ -166,7 +169,8 @@ module _ (output : Output) where
       → expansions_of (after_leaf ((effects output).leaf may_call kind text s)) ≤ expansions_of s + EXPAND
   unfolding effects done_after
   leaf_spends may_call kind text s =
-      rw (done_memory (leaf_outcome (setting_of output kind) may_call text s.memory).product _)
+      let o = leaf_outcome (setting_of output kind) may_call text s.memory in
+      few_as _ _ _ (ap (λ (m : Memory). m.expansions) (done_memory o.product (states.after s o)))
       (leaf_few (setting_of output kind) may_call text s.memory)
 
   tests_spends : (kind : Kind) (condition : Condition (List ℕ)) (s : State)

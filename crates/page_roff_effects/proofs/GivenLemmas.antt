@@ -31,17 +31,17 @@ done_after_front : (g : List Given) (s : State) (o : Outcome) → done_after (gi
 unfolding done_after
 done_after_front g s o = ap (done_by o.product) (after_front g s o) ∙ done_front g o.product (after s o)
 
-done_with_front : (g : List Given) (s : Budgeted State) (d : Done State)
-    → done_with (in_front g s) (over_done (given_before g) d) ≡ over_done (in_front g) (done_with s d)
-unfolding done_with with_rest
-done_with_front g s (gives t) = refl
-done_with_front g s (calls lines args t) = refl
-
-with_rest_front : (g : List Given) (s : Budgeted State) (t u : State) → t ≡ given_before g u → with_rest (in_front g s) t ≡ in_front g (with_rest s u)
-unfolding with_rest
-with_rest_front g s t u e = ap (λ (r : State). record { left = s.left; gave_up = s.gave_up; taken = s.taken; rest = r }) e
-
 module _ (output : Output) (g : List Given) where
+  done_with_front : (s : Budgeted State) (d : Done State)
+      → done_with (effects output) (in_front g s) (over_done (given_before g) d) ≡ over_done (in_front g) (done_with (effects output) s d)
+  unfolding done_with with_rest
+  done_with_front s (gives t) = refl
+  done_with_front s (calls lines args t) = refl
+
+  with_rest_front : (s : Budgeted State) (t u : State) → t ≡ given_before g u → with_rest (effects output) (in_front g s) t ≡ in_front g (with_rest (effects output) s u)
+  unfolding with_rest
+  with_rest_front s t u e = ap (λ (r : State). record { left = s.left; gave_up = s.gave_up; taken = s.taken; rest = r }) e
+
   charge_front_by : (gave_up : Bool) (left : ℕ) (s : Budgeted State)
       → charge_by (effects output) gave_up left (in_front g s) ≡ in_front g (charge_by (effects output) gave_up left s)
   unfolding charge_by effects
@@ -74,9 +74,9 @@ module _ (output : Output) (g : List Given) where
   unopened_front : (kind : Kind) (gave_up : Bool) (s : Budgeted State)
       → unopened_by (effects output) kind gave_up (in_front g s) ≡ in_front g (unopened_by (effects output) kind gave_up s)
   unfolding unopened_by effects
-  unopened_front page gave_up s = with_rest_front g s _ _ (after_front g s.rest (end_of_block_outcome s.rest.memory))
+  unopened_front page gave_up s = with_rest_front s _ _ (after_front g s.rest (end_of_block_outcome s.rest.memory))
   unopened_front (body args) true s = refl
-  unopened_front (body args) false s = with_rest_front g s _ _ (after_front g s.rest (end_of_block_outcome s.rest.memory))
+  unopened_front (body args) false s = with_rest_front s _ _ (after_front g s.rest (end_of_block_outcome s.rest.memory))
 
   read_front : (kind : Kind) (o : Opened) (line : List ℕ) (s : Budgeted State)
       → read_line (effects output) kind o line (in_front g s) ≡ in_front g (read_line (effects output) kind o line s)
@@ -84,9 +84,9 @@ module _ (output : Output) (g : List Given) where
   read_front kind o line s =
       let t = begin_line (effects output) kind s in
       let f : Budgeted State → Budgeted State =
-      λ t. with_rest t (after t.rest (line_outcome (setting_of output kind) o (o.is_run && not t.gave_up) line t.rest.memory)) in
+      λ t. with_rest (effects output) t (after t.rest (line_outcome (setting_of output kind) o (o.is_run && not t.gave_up) line t.rest.memory)) in
       ap f (begin_front kind s)
-      ∙ with_rest_front g t _ _ (after_front g t.rest (line_outcome (setting_of output kind) o (o.is_run && not t.gave_up) line t.rest.memory))
+      ∙ with_rest_front t _ _ (after_front g t.rest (line_outcome (setting_of output kind) o (o.is_run && not t.gave_up) line t.rest.memory))
 
   end_front : (kind : Kind) (o : Opened) (line : List ℕ) (s : Budgeted State)
       → end_line (effects output) kind o line (in_front g s) ≡ in_front g (end_line (effects output) kind o line s)
@@ -94,16 +94,16 @@ module _ (output : Output) (g : List Given) where
   end_front kind o line s =
       let t = begin_line (effects output) kind s in
       let f : Budgeted State → Budgeted State =
-      λ t. with_rest t (after t.rest (end_outcome o (o.is_run && not t.gave_up) t.rest.memory)) in
+      λ t. with_rest (effects output) t (after t.rest (end_outcome o (o.is_run && not t.gave_up) t.rest.memory)) in
       ap f (begin_front kind s)
-      ∙ with_rest_front g t _ _ (after_front g t.rest (end_outcome o (o.is_run && not t.gave_up) t.rest.memory))
+      ∙ with_rest_front t _ _ (after_front g t.rest (end_outcome o (o.is_run && not t.gave_up) t.rest.memory))
 
   leaf_front : (may_call : Bool) (kind : Kind) (text : List ℕ) (s : Budgeted State)
       → (language (effects output)).leaf may_call kind text (in_front g s) ≡ over_done (in_front g) ((language (effects output)).leaf may_call kind text s)
   unfolding language effects
   leaf_front may_call kind text s =
       let o = leaf_outcome (setting_of output kind) may_call text s.rest.memory in
-      ap (done_with (in_front g s)) (done_after_front g s.rest o) ∙ done_with_front g s (done_after s.rest o)
+      ap (done_with (effects output) (in_front g s)) (done_after_front g s.rest o) ∙ done_with_front s (done_after s.rest o)
 
   parts_front : (kind : Kind) → IsFrontOfParts (in_front g) (meaning (effects output) kind)
   unfolding meaning effects
@@ -111,9 +111,9 @@ module _ (output : Output) (g : List Given) where
     begins = λ line s. begin_front kind s;
     meets = λ is_remainder s. meet_front is_remainder s;
     tests = λ condition s. test_front kind condition s;
-    refuses = λ h s. with_rest_front g s _ _ (after_front g s.rest (block_outcome h.column s.rest.memory));
+    refuses = λ h s. with_rest_front s _ _ (after_front g s.rest (block_outcome h.column s.rest.memory));
     unopened = λ s. unopened_front kind s.gave_up s;
-    opens_region = λ head is_run s. with_rest_front g s _ _ (after_front g s.rest (head_outcome head is_run s.rest.memory));
+    opens_region = λ head is_run s. with_rest_front s _ _ (after_front g s.rest (head_outcome head is_run s.rest.memory));
     reads = λ o line s. read_front kind o line s;
     ends_region = λ o line s. end_front kind o line s;
   }
@@ -123,5 +123,5 @@ module _ (output : Output) (g : List Given) where
   is_front = record {
     parts = parts_front;
     leaf = leaf_front;
-    finish = λ region s. with_rest_front g s _ _ (after_front g s.rest (finish_outcome region s.gave_up s.rest.memory));
+    finish = λ region s. with_rest_front s _ _ (after_front g s.rest (finish_outcome region s.gave_up s.rest.memory));
   }

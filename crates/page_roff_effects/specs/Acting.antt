@@ -56,7 +56,7 @@ pub record Does {P S : Type 0} (left : P → S → List Message → Type 0) (old
 -- and it answered what comes of the part, which is lent from then on
 pub record Gives {P S : Type 0} (left : P → S → List Message → Type 0) (old : Acting) (out : S) (o : Outcome) (result : ProductKind) (new : Acting) (out_new : S) : Type 0 where
   pub does : Does left old out o new out_new
-  pub result : result ≡ kind_of o.product
+  pub kind : result ≡ kind_of o.product
   pub lends : Lends o.product new
 
 -- a condition was tested
@@ -118,7 +118,7 @@ Packs wanted result bytes = (result ≡ nat_le (length wanted) ARGS) × PacksIf 
 pub record Takes (old : Acting) (o : Outcome) (result : ProductKind) (new : Acting) : Type 0 where
   pub setting : new.setting ≡ old.setting
   pub memory : new.memory ≡ o.memory
-  pub result : result ≡ kind_of o.product
+  pub kind : result ≡ kind_of o.product
   pub lends : Lends o.product new
 
 -- a new object remembers nothing

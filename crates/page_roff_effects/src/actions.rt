@@ -158,6 +158,7 @@ impl Actions {
     }
 
     /// Whether a condition holds.
+    #[tactic(auto, unfolding(crate::specs::Effects::answer_of))]
     pub fn test<O: NoteOut>(&mut self, condition: &Condition<&[u8]>, out: &mut O) -> bool
         requires { FitsTest (test_seen condition.now.test) }
         ensures { Tests O.left self.old out.old
@@ -176,6 +177,7 @@ impl Actions {
     }
 
     /// A re-read line comes beyond the budget.
+    #[tactic(auto, unfolding(crate::specs::Effects::budget_outcome))]
     pub fn exhaust<O: NoteOut>(&mut self, out: &mut O)
         ensures { Does O.left self.old out.old (budget_outcome self.old.memory) self.new out.new }
     {
@@ -183,6 +185,7 @@ impl Actions {
     }
 
     /// A true block comes beyond the limit of open ones; the name of its head stands in a column.
+    #[tactic(auto, unfolding(crate::specs::Effects::block_outcome))]
     pub fn refuse<O: NoteOut>(&mut self, column: u32, out: &mut O)
         ensures { Does O.left self.old out.old (block_outcome column self.old.memory) self.new out.new }
     {
@@ -190,6 +193,7 @@ impl Actions {
     }
 
     /// The end of a block comes where none is open.
+    #[tactic(auto, unfolding(crate::specs::Effects::end_of_block_outcome))]
     pub fn report_unopened<O: NoteOut>(&mut self, out: &mut O)
         ensures { Does O.left self.old out.old (end_of_block_outcome self.old.memory) self.new out.new }
     {
