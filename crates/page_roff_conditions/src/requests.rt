@@ -117,8 +117,5 @@ pub fn is_unsupported(name: &[u8]) -> bool
 pub fn is_request(name: &[u8]) -> bool
     ensures { result ≡ requests.is_request name.now }
 {
-    is_definition(name)
-        || is_layout(name)
-        || is_ignored(name)
-        || is_unsupported(name)
+    is_definition(name) || is_layout(name) || is_ignored(name) || is_unsupported(name)
 }

@@ -44,11 +44,11 @@ impl Model for Actions {
     ghost Value = { Acting };
 
     ghost view = { λ a. record {
-        setting = record { output = a.output; arguments = a.arguments };
-        memory = record { definitions = a.names; body = a.body; number = a.number; expansions = a.expansions };
-        finished = a.expansion;
-        line = a.line;
-        call = a.call;
+      setting = record { output = a.output; arguments = a.arguments };
+      memory = record { definitions = a.names; body = a.body; number = a.number; expansions = a.expansions };
+      finished = a.expansion;
+      line = a.line;
+      call = a.call;
     } };
 }
 
@@ -67,7 +67,13 @@ pub(crate) fn expand_line<O: NoteOut>(
 }
 
 /// Reports a message about a column of a source line.
-pub(crate) fn report_at<O: NoteOut>(kind: NoteKind, line: u32, column: u32, detail: &[u8], out: &mut O)
+pub(crate) fn report_at<O: NoteOut>(
+    kind: NoteKind,
+    line: u32,
+    column: u32,
+    detail: &[u8],
+    out: &mut O,
+)
     ensures { Came O.left out.old (message_about kind (record { line = line; column = column }) detail.now ∷ []) out.new }
 {
     out.report(&Note::about(kind, Place { line, column }, detail));

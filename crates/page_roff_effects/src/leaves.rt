@@ -94,7 +94,12 @@ impl Actions {
     }
 
     // Calls a macro with the arguments of the finished line.
-    fn call<O: NoteOut>(&mut self, may_call: bool, line: ControlLine<'_>, out: &mut O) -> ProductKind
+    fn call<O: NoteOut>(
+        &mut self,
+        may_call: bool,
+        line: ControlLine<'_>,
+        out: &mut O,
+    ) -> ProductKind
         requires { line.name_end ≤ LINE }
         ensures { Gives O.left self.old out.old
             (leaves.does may_call Command.Call (control_seen line.entry) self.old.finished.text self.old.memory)
@@ -217,7 +222,11 @@ impl Actions {
                 column,
                 rest,
                 rest_column,
-            } => self.control(may_call, control_line(text, name, column, rest, rest_column), out),
+            } => self.control(
+                may_call,
+                control_line(text, name, column, rest, rest_column),
+                out,
+            ),
         }
     }
 }

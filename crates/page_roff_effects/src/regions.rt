@@ -49,7 +49,13 @@ fn report_name<O: NoteOut>(head: &RegionHead<&[u8]>, line: u32, out: &mut O)
     ensures { Came O.left out.old (regions.name_notes (region_seen head.now) line) out.new }
 {
     if is_too_long(head.name) || head.has_long_ending {
-        report_at(NoteKind::Limit, line, head.column, Limit::Name.name().as_bytes(), out);
+        report_at(
+            NoteKind::Limit,
+            line,
+            head.column,
+            Limit::Name.name().as_bytes(),
+            out,
+        );
     }
 }
 
@@ -139,7 +145,13 @@ impl Actions {
             (regions.longer self.old.memory.body self.old.finished.text self.old.memory) self.new out.new }
     {
         if self.body.text().is_some() && !self.body.add_line(self.expansion.text()) {
-            report_at(NoteKind::Limit, self.number, 1, Limit::Body.name().as_bytes(), out);
+            report_at(
+                NoteKind::Limit,
+                self.number,
+                1,
+                Limit::Body.name().as_bytes(),
+                out,
+            );
         }
     }
 
@@ -206,7 +218,13 @@ impl Actions {
     {
         if let Some(region) = region {
             if !gave_up {
-                report_at(NoteKind::MissingEnd, self.number, 1, word_of(region.kind()), out);
+                report_at(
+                    NoteKind::MissingEnd,
+                    self.number,
+                    1,
+                    word_of(region.kind()),
+                    out,
+                );
             }
             self.body.clear();
         }

@@ -56,10 +56,20 @@ pub fn check_notes(rt: &impl Abort, fixture: &Fixture, wanted: &[Message], text:
     }
 }
 
-fn check_line(rt: &impl Abort, actions: &Actions, form: Form, want: &str, name_end: u32, text: &str) {
+fn check_line(
+    rt: &impl Abort,
+    actions: &Actions,
+    form: Form,
+    want: &str,
+    name_end: u32,
+    text: &str,
+) {
     let line = actions.line();
     assert!(rt; line.form == form && line.line == 7, "{text}");
-    assert!(rt; line.text == want.as_bytes() && line.name_end == name_end, "{text}");
+    assert!(rt;
+        line.text == want.as_bytes() && line.name_end == name_end,
+        "{text}"
+    );
 }
 
 fn check_product(rt: &impl Abort, actions: &Actions, got: ProductKind, want: Product, text: &str) {

@@ -1,6 +1,8 @@
 //! Lines that head nothing.
 
-use crate::fixtures::{Fixture, Message, Product, check_inner, check_leaf, check_notes, close, open};
+use crate::fixtures::{
+    Fixture, Message, Product, check_inner, check_leaf, check_notes, close, open,
+};
 use page_core_base::{Form, NoteKind};
 use std::process::Abort;
 use std::test::Fail;
@@ -10,7 +12,12 @@ type Case = (&'static str, Product, &'static [Message]);
 
 const NOTHING: Product = Product::Nothing;
 
-fn check_all(rt: &(impl Abort + AllocGlobal), fixture: &mut Fixture, may_call: bool, cases: &[Case]) {
+fn check_all(
+    rt: &(impl Abort + AllocGlobal),
+    fixture: &mut Fixture,
+    may_call: bool,
+    cases: &[Case],
+) {
     for (line, want, messages) in cases {
         check_leaf(rt, fixture, may_call, line, *want);
         check_notes(rt, fixture, messages, line);
@@ -41,21 +48,35 @@ fn texts_and_requests(rt: HostRuntime) -> Result<(), Fail> {
         ),
         (".", NOTHING, &[]),
         (". \\*(zz", NOTHING, &[]),
-        (". br\\*s", Product::Line(Form::Control, ". bra", 4), &[(NoteKind::UndefString, 6, "zz")]),
+        (
+            ". br\\*s",
+            Product::Line(Form::Control, ". bra", 4),
+            &[(NoteKind::UndefString, 6, "zz")],
+        ),
         (".sp \"1", Product::Line(Form::Control, ".sp \"1", 3), &[]),
         (".SH x\\\" c", Product::Line(Form::Control, ".SH x", 3), &[]),
         (".ad \"l", NOTHING, &[]),
         ("'so x", NOTHING, &[(NoteKind::UnsuppRequest, 2, "so")]),
-        (".return", NOTHING, &[(NoteKind::UnsuppRequest, 2, "return")]),
+        (
+            ".return",
+            NOTHING,
+            &[(NoteKind::UnsuppRequest, 2, "return")],
+        ),
         (
             ".nr \"a",
             NOTHING,
-            &[(NoteKind::Unterminated, 5, ""), (NoteKind::NotNumeric, 2, "")],
+            &[
+                (NoteKind::Unterminated, 5, ""),
+                (NoteKind::NotNumeric, 2, ""),
+            ],
         ),
         (
             ".so \\*(zy",
             NOTHING,
-            &[(NoteKind::UndefString, 5, "zy"), (NoteKind::UnsuppRequest, 2, "so")],
+            &[
+                (NoteKind::UndefString, 5, "zy"),
+                (NoteKind::UnsuppRequest, 2, "so"),
+            ],
         ),
     ];
     check_all(&rt, &mut fixture, true, cases);
@@ -70,10 +91,22 @@ fn calls(rt: HostRuntime) -> Result<(), Fail> {
     define_macro(&rt, &mut fixture, ".de ds");
     let cases: &[Case] = &[
         (".m", Product::Call("x \\$1\n", ""), &[]),
-        (".m a \"b c\" d", Product::Call("x \\$1\n", "a\nb c\nd\n"), &[]),
-        (".m \"a\"\"b\" c\"\"", Product::Call("x \\$1\n", "a\"b\nc\"\"\n"), &[]),
+        (
+            ".m a \"b c\" d",
+            Product::Call("x \\$1\n", "a\nb c\nd\n"),
+            &[],
+        ),
+        (
+            ".m \"a\"\"b\" c\"\"",
+            Product::Call("x \\$1\n", "a\"b\nc\"\"\n"),
+            &[],
+        ),
         (".m \"\" x", Product::Call("x \\$1\n", "\nx\n"), &[]),
-        (".m a \"b", Product::Call("x \\$1\n", "a\nb\n"), &[(NoteKind::Unterminated, 6, "")]),
+        (
+            ".m a \"b",
+            Product::Call("x \\$1\n", "a\nb\n"),
+            &[(NoteKind::Unterminated, 6, "")],
+        ),
         (".ds s x", Product::Call("x \\$1\n", "s\nx\n"), &[]),
         (".m \\n(zz", Product::Call("x \\$1\n", "0\n"), &[]),
     ];

@@ -10,7 +10,14 @@ use std::test::Fail;
 const NOTHING: Product = Product::Nothing;
 
 // The head of a region, whether it is run, a line in it, what comes of that line, and the messages of both.
-type Case = (&'static str, bool, &'static str, Product, &'static [Message], &'static [Message]);
+type Case = (
+    &'static str,
+    bool,
+    &'static str,
+    Product,
+    &'static [Message],
+    &'static [Message],
+);
 
 fn check_case(rt: &(impl Abort + AllocGlobal), fixture: &mut Fixture, case: &Case) {
     let (head, is_run, line, want, first, second) = *case;
@@ -28,7 +35,14 @@ fn check_case(rt: &(impl Abort + AllocGlobal), fixture: &mut Fixture, case: &Cas
 fn lines(rt: HostRuntime) -> Result<(), Fail> {
     let mut fixture = Fixture::new(&rt)?;
     let cases: &[Case] = &[
-        (".de a", true, "x\\*(zz", NOTHING, &[], &[(NoteKind::UndefString, 2, "zz")]),
+        (
+            ".de a",
+            true,
+            "x\\*(zz",
+            NOTHING,
+            &[],
+            &[(NoteKind::UndefString, 2, "zz")],
+        ),
         (".de", true, "x\\*(zz", NOTHING, &[], &[]),
         (".de b", false, "x\\*(zz", NOTHING, &[], &[]),
         (".ig", true, "x\\*(zz", NOTHING, &[], &[]),
@@ -54,7 +68,13 @@ fn lines(rt: HostRuntime) -> Result<(), Fail> {
         check_case(&rt, &mut fixture, case);
     }
     check_leaf(&rt, &mut fixture, true, ".a", Product::Call("x\n", ""));
-    check_leaf(&rt, &mut fixture, true, ".b", Product::Line(Form::Control, ".b", 2));
+    check_leaf(
+        &rt,
+        &mut fixture,
+        true,
+        ".b",
+        Product::Line(Form::Control, ".b", 2),
+    );
     Ok(())
 }
 
