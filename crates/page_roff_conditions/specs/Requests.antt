@@ -39,8 +39,11 @@ unsupported_layout =
 abbrev pub is_one_of : List (List ℕ) → List ℕ → Bool
 is_one_of names name = list_any (λ one. bytes_eq name one) names
 
+abbrev pub is_unsupported : List ℕ → Bool
+is_unsupported name =
+    is_one_of unsupported_control name || bytes_eq name (codes "return")
+    || is_one_of unsupported_language name || is_one_of unsupported_layout name
+
 abbrev pub is_request : List ℕ → Bool
 is_request name =
-    is_one_of definitions name || is_one_of layout name || is_one_of ignored name
-    || is_one_of unsupported_control name || bytes_eq name (codes "return")
-    || is_one_of unsupported_language name || is_one_of unsupported_layout name
+    is_one_of definitions name || is_one_of layout name || is_one_of ignored name || is_unsupported name

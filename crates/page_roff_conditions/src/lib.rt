@@ -5,4 +5,4 @@ mod answers;
 mod requests;
 
 pub use answers::holds;
-pub use requests::is_request;
+pub use requests::{is_ignored, is_request, is_unsupported};

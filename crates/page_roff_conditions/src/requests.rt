@@ -35,8 +35,8 @@ fn is_layout(name: &[u8]) -> bool
     matches!(name, b"br" | b"sp" | b"ft" | b"in" | b"nf" | b"fi")
 }
 
-// Whether a name is that of a request that has no effect.
-fn is_ignored(name: &[u8]) -> bool
+/// Whether a name is that of a request that has no effect.
+pub fn is_ignored(name: &[u8]) -> bool
     ensures { result ≡ requests.is_one_of requests.ignored name.now }
 {
     matches!(
@@ -103,15 +103,19 @@ fn is_unsupported_layout(name: &[u8]) -> bool
     )
 }
 
+/// Whether a name is that of a request that is not supported.
+pub fn is_unsupported(name: &[u8]) -> bool
+    ensures { result ≡ requests.is_unsupported name.now }
+{
+    is_unsupported_control(name)
+        || is_return(name)
+        || is_unsupported_language(name)
+        || is_unsupported_layout(name)
+}
+
 /// Whether a name is that of a request, also of one without effect or support.
 pub fn is_request(name: &[u8]) -> bool
     ensures { result ≡ requests.is_request name.now }
 {
-    is_definition(name)
-        || is_layout(name)
-        || is_ignored(name)
-        || is_unsupported_control(name)
-        || is_return(name)
-        || is_unsupported_language(name)
-        || is_unsupported_layout(name)
+    is_definition(name) || is_layout(name) || is_ignored(name) || is_unsupported(name)
 }

@@ -27,7 +27,7 @@ fn report_closing<O: NoteOut>(out: &mut O, line: u32, argument: Argument<&[u8]>)
 }
 
 /// Reports the arguments without their last quote. The first byte of `rest` stands at the place.
-pub(crate) fn report_closings<O: NoteOut>(out: &mut O, place: Place, rest: &[u8])
+pub fn report_closings<O: NoteOut>(out: &mut O, place: Place, rest: &[u8])
     requires short { length rest.now ≤ LINE }
     requires room { place.column + length rest.now ≤ LINE + 1 }
     ensures { Came O.left out.old (closings_notes place.line (arguments place.column rest.now)) out.new }

@@ -5,4 +5,5 @@
 mod arguments;
 mod definitions;
 
+pub use arguments::report_closings;
 pub use definitions::{DefinitionRequest, RequestLine, define};

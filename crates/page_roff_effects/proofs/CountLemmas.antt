@@ -1,0 +1,201 @@
+-- How many interpolations a part makes: helpers of proofs.
+use Rattle.std.proofs.Common.{◌≡◌, ℕ, ◌+◌, ◌-◌, ◌≤◌, ◌^◌, ◌==◌, min, Bool, true, false, ◌&&◌, nat_le, is_some, List, [], ◌∷◌, ◌++◌, length, Option, Some, None, refl, ap, arith, if◌then◌else◌}
+use Rattle.page_core_base.specs.declared.page_settings.Output.{Output}
+use Rattle.page_core_base.specs.declared.places.Place.{Place}
+use Rattle.page_roff_blocks.specs.Levels.{Opened}
+use Rattle.page_roff_blocks.specs.declared.regions.RegionHead.{RegionHead}
+use Rattle.page_roff_blocks.specs.declared.regions.RegionKind.{RegionKind}
+use Rattle.page_roff_blocks.specs.declared.regions.RegionKind.TheVariants.{Define, Append, Ignore, Table, Equation, Picture}
+use Rattle.page_roff_forms.specs.LineForms.{form_of}
+use Rattle.page_roff_forms.specs.declared.line_forms.LineForm.{LineForm}
+use Rattle.page_roff_forms.specs.declared.line_forms.LineForm.TheVariants.{Comment, BlankLine, Text, Control}
+use Rattle.page_roff_heads.specs.declared.conditions.Condition.{Condition}
+use Rattle.page_roff_heads.specs.declared.conditions.Test.{Test}
+use Rattle.page_roff_heads.specs.declared.conditions.Test.TheVariants.{Always, Unknown, IsDefined, IsRegister, Expression, Texts, Missing}
+use Rattle.page_roff_values.specs.declared.expansions.TheConstants.{EXPAND}
+use Rattle.page_roff_values.specs.Environments.{Surroundings}
+use Rattle.page_roff_values.specs.Values.{Spot, Laid, IsWithin, start, expanded, NEST, value}
+use Rattle.page_roff_values.proofs.LineLemmas.{value_within}
+use Rattle.page_roff_conditions.specs.Answers.{Answer, condition_answer, test_answer, unless_cut, after, expands, texts_answer, second_answer, bytes_between}
+use Rattle.page_roff_run.specs.Languages.{Kind}
+use Rattle.page_roff_run.specs.Spending.{after_leaf, Spends}
+use Rattle.page_roff_effects.specs.declared.commands.Command.{Command}
+use Rattle.page_roff_effects.specs.declared.commands.Command.TheVariants as commands
+use Rattle.page_roff_effects.specs.Commands.{command_of, copies}
+use Rattle.page_roff_effects.specs.States.{Memory, State, Outcome, Product, no_product, line_product, call_product, sum_of_counts, Setting, surroundings, nothing}
+use Rattle.page_roff_effects.specs.States as states
+use Rattle.page_roff_effects.specs.Leaves.{call_if, ControlLine, does, command_outcome, control_outcome, text_outcome, form_outcome, leaf_outcome}
+use Rattle.page_roff_effects.specs.RegionLines.{head_outcome, longer, longer_if, with_line, body_outcome, kind_outcome, line_outcome, end_outcome, finish_outcome}
+use Rattle.page_roff_effects.specs.Effects.{effects, setting_of, answer_of, test_outcome, tested_after, done_by, done_after, budget_outcome, block_outcome, end_of_block_outcome, expansions_of}
+
+-- so many more than before, at most
+abbrev IsFew : ℕ → ℕ → Type 0
+IsFew old new = new ≤ old + EXPAND
+
+few_as : (a b c : ℕ) → a ≡ b → b ≤ c → a ≤ c
+few_as a b c e h = omega arith
+
+few_counts : (a b : ℕ) → b ≤ EXPAND → IsFew a (sum_of_counts a b)
+few_counts a b h = omega arith
+
+start_within : (line : ℕ) → IsWithin (start line)
+start_within line = record { text = omega arith; count = omega arith }
+
+expanded_few : (env : Surroundings) (line : ℕ) (text : List ℕ) → (expanded env line text).edge.count ≤ EXPAND
+expanded_few env line text = (value_within env NEST text (start line) (start_within line)).count
+
+-- ---- conditions
+
+cut_within : (cut : Bool) (laid : Laid) (answer : Answer) → IsWithin laid.edge → IsWithin answer.edge → IsWithin (unless_cut cut laid answer).edge
+cut_within true laid answer h k = h
+cut_within false laid answer h k = k
+
+expands_within : (env : Surroundings) (base : ℕ) (text : List ℕ) (s : Spot) → IsWithin s → IsWithin (expands env base text s).edge
+expands_within env base text s h = value_within env NEST text _ (record { text = h.text; count = h.count })
+
+test_within : (env : Surroundings) (place : Place) (is_turned : Bool) (test : Test (List ℕ)) (s : Spot) → IsWithin s
+    → IsWithin (test_answer env place is_turned test s).edge
+test_within env place is_turned (Always holds) s h = h
+test_within env place is_turned (Unknown letter) s h = h
+test_within env place is_turned (IsDefined name) s h = h
+test_within env place is_turned (IsRegister name) s h = h
+test_within env place is_turned (Expression text) s h =
+    let laid = expands env (text.column - 1) text.text s in
+    let k = expands_within env (text.column - 1) text.text s h in
+    cut_within laid.edge.ended laid _ k k
+test_within env place is_turned (Texts first second) s h =
+    let laid = expands env (first.column - 1) first.text s in
+    let k = expands_within env (first.column - 1) first.text s h in
+    let more = expands env (bytes_between first second) second.text laid.edge in
+    let m = expands_within env (bytes_between first second) second.text laid.edge k in
+    cut_within laid.edge.ended laid _ k (cut_within more.edge.ended more _ m m)
+test_within env place is_turned Missing s h = h
+
+condition_few : (setting : Setting) (condition : Condition (List ℕ)) (m : Memory) → (answer_of setting condition m).edge.count ≤ EXPAND
+unfolding answer_of condition_answer
+condition_few setting condition m = (test_within _ _ condition.is_turned condition.test (start m.number) (start_within m.number)).count
+
+-- ---- leaves
+
+call_keeps : (b : Bool) (text bytes : List ℕ) (m : Memory) → (call_if b text bytes m).memory ≡ m
+call_keeps true text bytes m = refl
+call_keeps false text bytes m = refl
+
+does_keeps : (may_call : Bool) (command : Command) (line : ControlLine) (text : List ℕ) (m : Memory)
+    → (does may_call command line text m).memory.expansions ≡ m.expansions
+does_keeps may_call commands.Call line text m = ap (λ (m : Memory). m.expansions) (call_keeps _ _ _ m)
+does_keeps may_call (commands.Define request) line text m = refl
+does_keeps may_call commands.Ignore line text m = refl
+does_keeps may_call commands.Refuse line text m = refl
+does_keeps may_call commands.Pass line text m = refl
+
+command_few : (setting : Setting) (may_call : Bool) (command : Command) (line : ControlLine) (m : Memory)
+    → IsFew m.expansions (command_outcome setting may_call command line m).memory.expansions
+unfolding command_outcome
+command_few setting may_call command line m =
+    let laid = expanded (surroundings (copies command) setting m) m.number line.text in
+    rw (does_keeps may_call command line laid.edge.text _)
+    (few_counts m.expansions laid.edge.count (expanded_few (surroundings (copies command) setting m) m.number line.text))
+
+control_few_if : (b : Bool) (o : Outcome) (m : Memory) → IsFew m.expansions o.memory.expansions → IsFew m.expansions (if b then nothing m else o).memory.expansions
+control_few_if true o m h = omega arith
+control_few_if false o m h = h
+
+form_few : (setting : Setting) (may_call : Bool) (raw : List ℕ) (form : LineForm (List ℕ)) (m : Memory)
+    → IsFew m.expansions (form_outcome setting may_call raw form m).memory.expansions
+unfolding control_outcome
+form_few setting may_call raw Comment m = omega arith
+form_few setting may_call raw BlankLine m = omega arith
+form_few setting may_call raw (Text text) m =
+    few_counts m.expansions _ (expanded_few (surroundings false setting m) m.number text)
+form_few setting may_call raw (Control name column rest rest_column) m =
+    control_few_if (length name == 0) _ m (command_few setting may_call (command_of name m.definitions) _ m)
+
+leaf_few : (setting : Setting) (may_call : Bool) (raw : List ℕ) (m : Memory) → IsFew m.expansions (leaf_outcome setting may_call raw m).memory.expansions
+unfolding leaf_outcome
+leaf_few setting may_call raw m = form_few setting may_call raw (form_of raw) m
+
+done_memory : (p : Product) (s : State) → (after_leaf (done_by p s)).memory ≡ s.memory
+unfolding done_by
+done_memory no_product s = refl
+done_memory (line_product line) s = refl
+done_memory (call_product call) s = refl
+
+-- ---- regions
+
+longer_if_keeps : (b : Bool) (text : List ℕ) (m : Memory) → (longer_if b text m).memory.expansions ≡ m.expansions
+longer_if_keeps true text m = refl
+longer_if_keeps false text m = refl
+
+longer_keeps : (text : Option (List ℕ)) (line : List ℕ) (m : Memory) → (longer text line m).memory.expansions ≡ m.expansions
+longer_keeps None line m = refl
+longer_keeps (Some text) line m = longer_if_keeps _ _ m
+
+body_few_if : (b : Bool) (o : Outcome) (m : Memory) → IsFew m.expansions o.memory.expansions → IsFew m.expansions (if b then o else nothing m).memory.expansions
+body_few_if true o m h = h
+body_few_if false o m h = omega arith
+
+body_few : (setting : Setting) (line : List ℕ) (m : Memory) → IsFew m.expansions (body_outcome setting line m).memory.expansions
+body_few setting line m =
+    let laid = expanded (surroundings true setting m) m.number line in
+    body_few_if (is_some m.body) _ m (rw (longer_keeps m.body laid.edge.text _)
+    (few_counts m.expansions laid.edge.count (expanded_few (surroundings true setting m) m.number line)))
+
+kind_few : (setting : Setting) (kind : RegionKind) (line : List ℕ) (m : Memory) → IsFew m.expansions (kind_outcome setting kind line m).memory.expansions
+kind_few setting Define line m = body_few setting line m
+kind_few setting Append line m = body_few setting line m
+kind_few setting Ignore line m = omega arith
+kind_few setting Table line m = omega arith
+kind_few setting Equation line m = omega arith
+kind_few setting Picture line m = omega arith
+
+head_keeps : (head : RegionHead (List ℕ)) (is_run : Bool) (m : Memory) → (head_outcome head is_run m).memory.expansions ≡ m.expansions
+unfolding head_outcome
+head_keeps head true m = refl
+head_keeps head false m = refl
+
+end_keeps : (o : Opened) (is_run : Bool) (m : Memory) → (end_outcome o is_run m).memory.expansions ≡ m.expansions
+unfolding end_outcome
+end_keeps o true m = refl
+end_keeps o false m = refl
+
+finish_keeps : (region : Option Opened) (gave_up : Bool) (m : Memory) → (finish_outcome region gave_up m).memory.expansions ≡ m.expansions
+unfolding finish_outcome
+finish_keeps None gave_up m = refl
+finish_keeps (Some o) gave_up m = refl
+
+module _ (output : Output) where
+  leaf_spends : (may_call : Bool) (kind : Kind) (text : List ℕ) (s : State)
+      → expansions_of (after_leaf ((effects output).leaf may_call kind text s)) ≤ expansions_of s + EXPAND
+  unfolding effects done_after
+  leaf_spends may_call kind text s =
+      let o = leaf_outcome (setting_of output kind) may_call text s.memory in
+      few_as _ _ _ (ap (λ (m : Memory). m.expansions) (done_memory o.product (states.after s o)))
+      (leaf_few (setting_of output kind) may_call text s.memory)
+
+  tests_spends : (kind : Kind) (condition : Condition (List ℕ)) (s : State)
+      → expansions_of ((effects output).tests kind condition s).1 ≤ expansions_of s + EXPAND
+  unfolding effects tested_after
+  tests_spends kind condition s =
+      few_counts s.memory.expansions (answer_of (setting_of output kind) condition s.memory).edge.count
+      (condition_few (setting_of output kind) condition s.memory)
+
+  reads_spends : (kind : Kind) (o : Opened) (line : List ℕ) (s : State)
+      → expansions_of ((effects output).reads kind o true line s) ≤ expansions_of s + EXPAND
+  unfolding effects line_outcome
+  reads_spends kind o line s = kind_few (setting_of output kind) o.kind line s.memory
+
+  pub spends : Spends expansions_of EXPAND (effects output)
+  unfolding effects budget_outcome block_outcome end_of_block_outcome line_outcome
+  spends = record {
+    exhausts = λ s. refl;
+    tests = tests_spends;
+    leaf = leaf_spends;
+    refuses = λ h s. refl;
+    unopened = λ s. refl;
+    opens_region = λ kind head is_run s. head_keeps head is_run s.memory;
+    reads = reads_spends;
+    passes = λ kind o line s. refl;
+    ends_region = λ kind o is_run line s. end_keeps o is_run s.memory;
+    finish = λ region gave_up s. finish_keeps region gave_up s.memory;
+  }

@@ -1,0 +1,127 @@
+-- What was given before stays in front: helpers of proofs.
+use Rattle.std.proofs.Common.{◌≡◌, ℕ, zero, suc, Bool, true, false, not, ◌&&◌, List, ◌++◌, Option, refl, ap, ◌∙◌, append_assoc}
+use Rattle.page_core_base.specs.declared.page_settings.Output.{Output}
+use Rattle.page_roff_heads.specs.declared.conditions.Condition.{Condition}
+use Rattle.page_roff_blocks.specs.declared.atoms.Head.{Head}
+use Rattle.page_roff_blocks.specs.declared.regions.RegionHead.{RegionHead}
+use Rattle.page_roff_blocks.specs.Levels.{Opened}
+use Rattle.page_roff_conditions.specs.Answers.{Answer}
+use Rattle.page_roff_run.specs.Languages.{Kind, page, body, Done, gives, calls}
+use Rattle.page_roff_run.specs.Budgets.{Budgeted, Effects, with_rest, charge_by, charge, begin_line, whether_run, meet, test, unopened_by, read_line, end_line, meaning, done_with, language}
+use Rattle.page_roff_run.specs.Fronts.{over_pair, over_done, IsFrontOfParts, IsFront}
+use Rattle.page_roff_effects.specs.States.{State, Outcome, Product, no_product, line_product, call_product, Given, after}
+use Rattle.page_roff_effects.specs.Leaves.{leaf_outcome}
+use Rattle.page_roff_effects.specs.RegionLines.{head_outcome, line_outcome, end_outcome, finish_outcome}
+use Rattle.page_roff_effects.specs.Effects.{effects, setting_of, answer_of, test_outcome, tested_after, done_by, done_after, budget_outcome, block_outcome, end_of_block_outcome, given_before, in_front}
+
+after_front : (g : List Given) (s : State) (o : Outcome) → after (given_before g s) o ≡ given_before g (after s o)
+after_front g s o = rw append_assoc
+
+tested_front : (g : List Given) (s : State) (a : Answer) → tested_after (given_before g s) a ≡ over_pair (given_before g) (tested_after s a)
+unfolding tested_after
+tested_front g s a = ap (λ (t : State). (a.holds, t)) (after_front g s (test_outcome a s.memory))
+
+done_front : (g : List Given) (p : Product) (t : State) → done_by p (given_before g t) ≡ over_done (given_before g) (done_by p t)
+unfolding done_by
+done_front g no_product t = refl
+done_front g (line_product line) t = refl
+done_front g (call_product call) t = refl
+
+done_after_front : (g : List Given) (s : State) (o : Outcome) → done_after (given_before g s) o ≡ over_done (given_before g) (done_after s o)
+unfolding done_after
+done_after_front g s o = ap (done_by o.product) (after_front g s o) ∙ done_front g o.product (after s o)
+
+module _ (output : Output) (g : List Given) where
+  done_with_front : (s : Budgeted State) (d : Done State)
+      → done_with (effects output) (in_front g s) (over_done (given_before g) d) ≡ over_done (in_front g) (done_with (effects output) s d)
+  unfolding done_with with_rest
+  done_with_front s (gives t) = refl
+  done_with_front s (calls lines args t) = refl
+
+  with_rest_front : (s : Budgeted State) (t u : State) → t ≡ given_before g u → with_rest (effects output) (in_front g s) t ≡ in_front g (with_rest (effects output) s u)
+  unfolding with_rest
+  with_rest_front s t u e = ap (λ (r : State). record { left = s.left; gave_up = s.gave_up; taken = s.taken; rest = r }) e
+
+  charge_front_by : (gave_up : Bool) (left : ℕ) (s : Budgeted State)
+      → charge_by (effects output) gave_up left (in_front g s) ≡ in_front g (charge_by (effects output) gave_up left s)
+  unfolding charge_by effects
+  charge_front_by true left s = refl
+  charge_front_by false zero s =
+      ap (λ (r : State). record { left = 0; gave_up = true; taken = s.taken; rest = r }) (after_front g s.rest (budget_outcome s.rest.memory))
+  charge_front_by false (suc left) s = refl
+
+  charge_front : (s : Budgeted State) → charge (effects output) (in_front g s) ≡ in_front g (charge (effects output) s)
+  unfolding charge
+  charge_front s = charge_front_by s.gave_up s.left s
+
+  begin_front : (kind : Kind) (s : Budgeted State) → begin_line (effects output) kind (in_front g s) ≡ in_front g (begin_line (effects output) kind s)
+  unfolding begin_line
+  begin_front page s = refl
+  begin_front (body args) s = charge_front s
+
+  meet_front : (is_remainder : Bool) (s : Budgeted State) → meet (effects output) is_remainder (in_front g s) ≡ over_pair (in_front g) (meet (effects output) is_remainder s)
+  unfolding meet whether_run
+  meet_front false s = refl
+  meet_front true s = ap (λ (t : Budgeted State). (not t.gave_up, t)) (charge_front s)
+
+  test_front : (kind : Kind) (condition : Condition (List ℕ)) (s : Budgeted State)
+      → test (effects output) kind condition (in_front g s) ≡ over_pair (in_front g) (test (effects output) kind condition s)
+  unfolding test effects with_rest
+  test_front kind condition s =
+      ap (λ (v : Bool × State). (v.0, record { left = s.left; gave_up = s.gave_up; taken = s.taken; rest = v.1 }))
+      (tested_front g s.rest (answer_of (setting_of output kind) condition s.rest.memory))
+
+  unopened_front : (kind : Kind) (gave_up : Bool) (s : Budgeted State)
+      → unopened_by (effects output) kind gave_up (in_front g s) ≡ in_front g (unopened_by (effects output) kind gave_up s)
+  unfolding unopened_by effects
+  unopened_front page gave_up s = with_rest_front s _ _ (after_front g s.rest (end_of_block_outcome s.rest.memory))
+  unopened_front (body args) true s = refl
+  unopened_front (body args) false s = with_rest_front s _ _ (after_front g s.rest (end_of_block_outcome s.rest.memory))
+
+  read_front : (kind : Kind) (o : Opened) (line : List ℕ) (s : Budgeted State)
+      → read_line (effects output) kind o line (in_front g s) ≡ in_front g (read_line (effects output) kind o line s)
+  unfolding read_line effects
+  read_front kind o line s =
+      let t = begin_line (effects output) kind s in
+      let f : Budgeted State → Budgeted State =
+      λ t. with_rest (effects output) t (after t.rest (line_outcome (setting_of output kind) o (o.is_run && not t.gave_up) line t.rest.memory)) in
+      ap f (begin_front kind s)
+      ∙ with_rest_front t _ _ (after_front g t.rest (line_outcome (setting_of output kind) o (o.is_run && not t.gave_up) line t.rest.memory))
+
+  end_front : (kind : Kind) (o : Opened) (line : List ℕ) (s : Budgeted State)
+      → end_line (effects output) kind o line (in_front g s) ≡ in_front g (end_line (effects output) kind o line s)
+  unfolding end_line effects
+  end_front kind o line s =
+      let t = begin_line (effects output) kind s in
+      let f : Budgeted State → Budgeted State =
+      λ t. with_rest (effects output) t (after t.rest (end_outcome o (o.is_run && not t.gave_up) t.rest.memory)) in
+      ap f (begin_front kind s)
+      ∙ with_rest_front t _ _ (after_front g t.rest (end_outcome o (o.is_run && not t.gave_up) t.rest.memory))
+
+  leaf_front : (may_call : Bool) (kind : Kind) (text : List ℕ) (s : Budgeted State)
+      → (language (effects output)).leaf may_call kind text (in_front g s) ≡ over_done (in_front g) ((language (effects output)).leaf may_call kind text s)
+  unfolding language effects
+  leaf_front may_call kind text s =
+      let o = leaf_outcome (setting_of output kind) may_call text s.rest.memory in
+      ap (done_with (effects output) (in_front g s)) (done_after_front g s.rest o) ∙ done_with_front s (done_after s.rest o)
+
+  parts_front : (kind : Kind) → IsFrontOfParts (in_front g) (meaning (effects output) kind)
+  unfolding meaning effects
+  parts_front kind = record {
+    begins = λ line s. begin_front kind s;
+    meets = λ is_remainder s. meet_front is_remainder s;
+    tests = λ condition s. test_front kind condition s;
+    refuses = λ h s. with_rest_front s _ _ (after_front g s.rest (block_outcome h.column s.rest.memory));
+    unopened = λ s. unopened_front kind s.gave_up s;
+    opens_region = λ head is_run s. with_rest_front s _ _ (after_front g s.rest (head_outcome head is_run s.rest.memory));
+    reads = λ o line s. read_front kind o line s;
+    ends_region = λ o line s. end_front kind o line s;
+  }
+
+  pub is_front : IsFront (in_front g) (language (effects output))
+  unfolding language effects
+  is_front = record {
+    parts = parts_front;
+    leaf = leaf_front;
+    finish = λ region s. with_rest_front s _ _ (after_front g s.rest (finish_outcome region s.gave_up s.rest.memory));
+  }

@@ -1,0 +1,4 @@
+pub mod ControlLemmas
+pub mod CountLemmas
+pub mod GivenLemmas
+pub mod PackLemmas

@@ -1,0 +1,16 @@
+use Rattle.std.proofs.Common.{◌≡◌, ◌+◌, ◌≤◌, ◌++◌, length}
+use Rattle.std.specs.Vec.{vec_len, vec_capacity}
+use Rattle.page_core_limits.specs.declared.TheConstants.{LINE}
+use Rattle.page_roff_values.specs.declared.call_arguments.TheConstants.{ARGS}
+use Rattle.page_roff_effects.specs.Leaves.{packed}
+use Rattle.page_roff_effects.proofs.calls.append_arguments.Given as goal
+
+abbrev pub invariant-loop-argument : goal.invariant-loop-argument
+invariant-loop-argument l = record {
+  items : l.text.items ++ packed l.arguments ≡ packed l.fn.arguments;
+  short : length l.text.items ≤ ARGS;
+  room : ARGS + LINE + 1 ≤ vec_capacity l.text;
+}
+
+abbrev pub decreases-loop-argument : goal.decreases-loop-argument
+decreases-loop-argument l = length l.arguments

@@ -1,0 +1,5 @@
+use Rattle.page_roff_effects.proofs.GivenLemmas.{is_front}
+use Rattle.page_roff_effects.proofs.laws.given_law.Goals as goal
+
+pub returns : goal.returns
+returns c = λ output given. is_front output given

@@ -1,0 +1,137 @@
+-- What the code's object holds, and what its calls do, in terms of the effects of parts. Source: roff(7), "LANGUAGE SYNTAX".
+use Rattle.std.specs.Prelude.{◌≡◌, ℕ, Bool, true, false, nat_le, List, [], ◌∷◌, ◌++◌, length, if◌then◌else◌, Option, Some, None}
+use Rattle.page_core_limits.specs.declared.TheConstants.{BODY}
+use Rattle.page_core_base.specs.Messages.{Message}
+use Rattle.page_core_base.specs.LinesTaken.{Line}
+use Rattle.page_core_base.specs.declared.lines_taken.Form.TheVariants.{Text}
+use Rattle.page_core_base.specs.declared.page_settings.Output.{Output}
+use Rattle.page_roff_blocks.specs.Levels.{Opened}
+use Rattle.page_roff_names.specs.Names.{Definitions, definitions}
+use Rattle.page_roff_values.specs.declared.call_arguments.TheConstants.{ARGS}
+use Rattle.page_roff_values.specs.Latches.{Came}
+use Rattle.page_roff_values.specs.Values.{Spot, Laid, start, expanded}
+use Rattle.page_roff_conditions.specs.Answers.{Answer}
+use Rattle.page_roff_effects.specs.declared.commands.ProductKind.{ProductKind}
+use Rattle.page_roff_effects.specs.declared.commands.ProductKind.TheVariants as kinds
+use Rattle.page_roff_effects.specs.States.{Memory, Call, Product, no_product, line_product, call_product, Outcome, Setting, surroundings, counted}
+use Rattle.page_roff_effects.specs.Effects.{test_outcome}
+use Rattle.page_roff_effects.specs.RegionLines.{with_line}
+use Rattle.page_roff_effects.specs.Leaves as leaves
+use Rattle.page_roff_effects.specs.declared.leaves.ControlLine.{ControlLine}
+use Rattle.std.specs.Borrow.{Bor}
+
+-- What decides, what is remembered, the line as far as it is expanded, and what was taken last: a line, and a call.
+pub record Acting : Type 0 where
+  pub setting : Setting
+  pub memory : Memory
+  pub finished : Spot
+  pub line : Line
+  pub call : Call
+
+-- before the first line of a page
+abbrev pub first_memory : Memory
+first_memory = record { definitions = definitions [] []; body = None; number = 0; expansions = 0 }
+
+abbrev pub first_setting : Output → Setting
+first_setting output = record { output = output; arguments = None }
+
+-- what comes of a part, as the code says it
+abbrev pub kind_of : Product → ProductKind
+kind_of no_product = kinds.Nothing
+kind_of (line_product line) = kinds.Line
+kind_of (call_product call) = kinds.Call
+
+-- what came of a part is what is lent
+abbrev pub Lends : Product → Acting → Type 0
+Lends no_product a = Unit {0}
+Lends (line_product line) a = a.line ≡ line
+Lends (call_product call) a = a.call ≡ call
+
+-- a call did what an outcome says: its messages came, and this is remembered
+pub record Does {P S : Type 0} (left : P → S → List Message → Type 0) (old : Acting) (out : S) (o : Outcome) (new : Acting) (out_new : S) : Type 0 where
+  pub setting : new.setting ≡ old.setting
+  pub memory : new.memory ≡ o.memory
+  pub came : Came left out o.notes out_new
+
+-- and it answered what comes of the part, which is lent from then on
+pub record Gives {P S : Type 0} (left : P → S → List Message → Type 0) (old : Acting) (out : S) (o : Outcome) (result : ProductKind) (new : Acting) (out_new : S) : Type 0 where
+  pub does : Does left old out o new out_new
+  pub kind : result ≡ kind_of o.product
+  pub lends : Lends o.product new
+
+-- a condition was tested
+pub record Tests {P S : Type 0} (left : P → S → List Message → Type 0) (old : Acting) (out : S) (answer : Answer) (result : Bool) (new : Acting) (out_new : S) : Type 0 where
+  pub does : Does left old out (test_outcome answer old.memory) new out_new
+  pub holds : result ≡ answer.holds
+
+-- a line was expanded
+abbrev pub with_finished : Laid → Acting → Acting
+with_finished laid a =
+    record {
+      setting = a.setting;
+      memory = counted laid.edge.count a.memory;
+      finished = laid.edge;
+      line = a.line;
+      call = a.call;
+    }
+
+abbrev pub Expands : {P S : Type 0} → (P → S → List Message → Type 0) → S → S → Spot → Laid → Type 0
+Expands left old new edge laid = (edge ≡ laid.edge) × Came left old laid.notes new
+
+abbrev pub line_laid : Bool → List ℕ → Acting → Laid
+line_laid copy text a = expanded (surroundings copy a.setting a.memory) a.memory.number text
+
+abbrev pub with_arguments : Option (List (List ℕ)) → Acting → Acting
+with_arguments arguments a = record a { setting = record { output = a.setting.output; arguments = arguments } }
+
+abbrev pub with_number : ℕ → Acting → Acting
+with_number number a = record a {
+  memory = record { definitions = a.memory.definitions; body = a.memory.body; number = number; expansions = a.memory.expansions };
+}
+
+-- before a line and a call were taken
+abbrev pub no_line : Line
+no_line = record { form = Text; text = []; number = 0; name_end = 0 }
+
+abbrev pub no_call : Call
+no_call = record { body = []; packed = [] }
+
+-- a line is added to a body with its end, unless that passes the limit: then there is no body
+abbrev pub body_if : Bool → List ℕ → Option (List ℕ)
+body_if true body = Some body
+body_if false body = None
+
+abbrev pub AddsLine : Option (List ℕ) → List ℕ → Bool → Option (List ℕ) → Type 0
+AddsLine None line result new = Unit {0}
+AddsLine (Some body) line result new =
+    (result ≡ nat_le (length (with_line body line)) BODY) × (new ≡ body_if result (with_line body line))
+
+-- the arguments of a call are packed, if they are within their limit
+abbrev pub PacksIf : Bool → List ℕ → List ℕ → Type 0
+PacksIf true wanted bytes = bytes ≡ wanted
+PacksIf false wanted bytes = Unit {0}
+
+abbrev pub Packs : List ℕ → Bool → List ℕ → Type 0
+Packs wanted result bytes = (result ≡ nat_le (length wanted) ARGS) × PacksIf result wanted bytes
+
+-- something came of a part, without a message
+pub record Takes (old : Acting) (o : Outcome) (result : ProductKind) (new : Acting) : Type 0 where
+  pub setting : new.setting ≡ old.setting
+  pub memory : new.memory ≡ o.memory
+  pub kind : result ≡ kind_of o.product
+  pub lends : Lends o.product new
+
+-- a new object remembers nothing
+pub record IsNew (output : Output) (a : Acting) : Type 0 where
+  pub setting : a.setting ≡ first_setting output
+  pub memory : a.memory ≡ first_memory
+
+-- ---- of the program, with what its texts hold
+
+abbrev pub control_seen : ControlLine → leaves.ControlLine
+control_seen line =
+    record { name = line.name.now; column = line.column; name_end = line.name_end; text = line.text.now }
+
+abbrev pub opened_seen : Option (Bor Opened) → Option Opened
+opened_seen None = None
+opened_seen (Some region) = Some region.now

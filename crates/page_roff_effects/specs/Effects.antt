@@ -1,0 +1,79 @@
+-- What the parts of a source do to what is remembered and given. Source: roff(7), "LANGUAGE SYNTAX"; mandoc(1), "DIAGNOSTICS".
+use Rattle.std.specs.Prelude.{ℕ, ◌+◌, Bool, false, List, [], ◌∷◌, ◌++◌, codes, Option, Some, None}
+use Rattle.page_core_base.specs.declared.note_kinds.NoteKind.TheVariants as kinds
+use Rattle.page_core_base.specs.declared.page_settings.Output.{Output}
+use Rattle.page_roff_heads.specs.declared.conditions.Condition.{Condition}
+use Rattle.page_roff_values.specs.Arguments.{arguments_in}
+use Rattle.page_roff_conditions.specs.Answers.{Answer, condition_answer}
+use Rattle.page_roff_run.specs.Languages.{Kind, page, body, Done, gives, calls}
+use Rattle.page_roff_run.specs.Budgets.{Budgeted, Effects}
+use Rattle.page_roff_effects.specs.States.{Memory, State, Given, Outcome, Product, no_product, line_product, call_product, after, reports, reports_at, counted, Setting, surroundings}
+use Rattle.page_roff_effects.specs.Leaves.{leaf_outcome}
+use Rattle.page_roff_effects.specs.RegionLines.{head_outcome, line_outcome, end_outcome, finish_outcome}
+
+-- the page has no arguments
+abbrev pub setting_of : Output → Kind → Setting
+setting_of output page = record { output = output; arguments = None }
+setting_of output (body arguments) = record { output = output; arguments = Some arguments }
+
+-- a condition: its messages, and the interpolations that it made
+unfoldable pub answer_of : Setting → Condition (List ℕ) → Memory → Answer
+answer_of setting condition m = condition_answer (surroundings false setting m) m.number condition
+
+abbrev pub test_outcome : Answer → Memory → Outcome
+test_outcome answer m = reports answer.notes (counted answer.edge.count m)
+
+-- a re-read line beyond the budget
+unfoldable pub budget_outcome : Memory → Outcome
+budget_outcome m = reports_at kinds.Loop 1 (codes "REREAD") m
+
+-- a true block beyond the limit of open ones, whose head's name stands in a column
+unfoldable pub block_outcome : ℕ → Memory → Outcome
+block_outcome column m = reports_at kinds.Limit column (codes "CONDS") m
+
+-- the end of a block where none is open
+unfoldable pub end_of_block_outcome : Memory → Outcome
+end_of_block_outcome m = reports_at kinds.NotOpen 1 (codes "\\}") m
+
+-- the lines of a body
+abbrev pub lines_in : List ℕ → List (List ℕ)
+lines_in bytes = arguments_in bytes
+
+-- a call of a macro is told to the source, all else is done
+unfoldable pub done_by : Product → State → Done State
+done_by no_product s = gives s
+done_by (line_product line) s = gives s
+done_by (call_product call) s = calls (lines_in call.body) (arguments_in call.packed) s
+
+unfoldable pub done_after : State → Outcome → Done State
+done_after s o = done_by o.product (after s o)
+
+unfoldable pub tested_after : State → Answer → Bool × State
+tested_after s answer = (answer.holds, after s (test_outcome answer s.memory))
+
+unfoldable pub effects : Output → Effects State
+effects output =
+    record {
+      exhausts = λ s. after s (budget_outcome s.memory);
+      tests = λ kind condition s. tested_after s (answer_of (setting_of output kind) condition s.memory);
+      leaf = λ may_call kind text s. done_after s (leaf_outcome (setting_of output kind) may_call text s.memory);
+      refuses = λ head s. after s (block_outcome head.column s.memory);
+      unopened = λ s. after s (end_of_block_outcome s.memory);
+      opens_region = λ kind head is_run s. after s (head_outcome head is_run s.memory);
+      reads = λ kind o is_run line s. after s (line_outcome (setting_of output kind) o is_run line s.memory);
+      ends_region = λ kind o is_run line s. after s (end_outcome o is_run s.memory);
+      finish = λ region gave_up s. after s (finish_outcome region gave_up s.memory);
+    }
+
+-- ---- laws
+
+-- how many interpolations were made
+abbrev pub expansions_of : State → ℕ
+expansions_of s = s.memory.expansions
+
+-- what was given before stands in front
+abbrev pub given_before : List Given → State → State
+given_before given s = record { memory = s.memory; out = given ++ s.out }
+
+abbrev pub in_front : List Given → Budgeted State → Budgeted State
+in_front given s = record { left = s.left; gave_up = s.gave_up; taken = s.taken; rest = given_before given s.rest }

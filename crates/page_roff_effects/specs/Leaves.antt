@@ -1,0 +1,130 @@
+-- What lines do that head nothing: text, requests, calls of macros. Source: roff(7), "LANGUAGE SYNTAX" and "MACRO SYNTAX".
+use Rattle.std.specs.Prelude.{ℕ, ◌+◌, ◌-◌, ◌==◌, ◌&&◌, Bool, true, false, nat_le, List, [], ◌∷◌, ◌++◌, length, drop, codes, if◌then◌else◌, Option, Some, None, unwrap_or}
+use Rattle.std.specs.List.{flat_map}
+use Rattle.page_core_limits.specs.Limits.{name_of}
+use Rattle.page_core_base.specs.Messages.{Message, message_about}
+use Rattle.page_core_base.specs.declared.places.Place.{Place}
+use Rattle.page_core_base.specs.declared.lines_taken.Form.TheVariants as forms
+use Rattle.page_core_base.specs.declared.note_kinds.NoteKind.TheVariants as kinds
+use Rattle.page_roff_forms.specs.Arguments.{arguments, is_quoted}
+use Rattle.page_roff_forms.specs.LineForms.{form_of, without_comment}
+use Rattle.page_roff_forms.specs.declared.line_forms.LineForm.{LineForm}
+use Rattle.page_roff_forms.specs.declared.line_forms.LineForm.TheVariants.{Comment, BlankLine, Text, Control}
+use Rattle.page_roff_forms.specs.declared.quotes.Argument.{Argument}
+use Rattle.page_roff_values.specs.declared.call_arguments.TheConstants.{ARGS}
+use Rattle.page_roff_values.specs.Values.{Laid, expanded}
+use Rattle.page_roff_definitions.specs.Arguments.{closings_notes}
+use Rattle.page_roff_definitions.specs.Definitions.{Outcome, outcome_of}
+use Rattle.page_roff_definitions.specs.Definitions as defining
+use Rattle.page_roff_effects.specs.declared.commands.Command.{Command}
+use Rattle.page_roff_effects.specs.declared.commands.Command.TheVariants.{Call, Define, Ignore, Refuse, Pass}
+use Rattle.page_roff_effects.specs.Commands.{called_body, command_of, copies}
+use Rattle.page_roff_effects.specs.States.{Memory, call_product, no_product, nothing, reports, reports_at, gives_line, after_notes, at, with_definitions, counted, Setting, surroundings}
+use Rattle.page_roff_effects.specs.States as states
+
+-- ---- the arguments of a call
+
+-- in a quoted argument a pair of quotes (34) is one quote
+abbrev pub unpaired : List ℕ → List ℕ
+unpaired [] = []
+unpaired (byte ∷ []) = byte ∷ []
+unpaired (byte ∷ next ∷ bytes) =
+    if byte == 34 && next == 34 then 34 ∷ unpaired bytes else byte ∷ unpaired (next ∷ bytes)
+
+abbrev pub argument_value : Argument (List ℕ) → List ℕ
+argument_value argument = if is_quoted argument.quoting then unpaired argument.text else argument.text
+
+-- each argument with a line feed (10) after it, which no line holds
+abbrev pub packed : List (Argument (List ℕ)) → List ℕ
+packed arguments = flat_map (λ argument. argument_value argument ++ (10 ∷ [])) arguments
+
+-- the call that would be one running macro too many
+abbrev pub depth_notes : Bool → Place → List Message
+depth_notes true place = []
+depth_notes false place = message_about kinds.Loop place (codes "CALLS") ∷ []
+
+-- the call with too many bytes of arguments
+abbrev pub size_notes : Bool → Place → List Message
+size_notes true place = []
+size_notes false place = message_about kinds.Limit place (codes "ARGS") ∷ []
+
+abbrev pub call_if : Bool → List ℕ → List ℕ → Memory → states.Outcome
+call_if true body bytes m = record { notes = []; product = call_product (record { body = body; packed = bytes }); memory = m }
+call_if false body bytes m = nothing m
+
+-- The call of a macro, whose name stands in a column. One beyond a limit is skipped, with a message for each limit.
+abbrev pub calls_with : Bool → ℕ → List ℕ → List ℕ → Memory → states.Outcome
+calls_with may_call column body bytes m =
+    let fits = nat_le (length bytes) ARGS in
+    after_notes (depth_notes may_call (at m column) ++ size_notes fits (at m column)) (call_if (may_call && fits) body bytes m)
+
+-- arguments without their last quote are reported first
+abbrev pub calls : Bool → ℕ → List ℕ → List (Argument (List ℕ)) → Memory → states.Outcome
+calls may_call column body args m =
+    after_notes (closings_notes m.number args) (calls_with may_call column body (packed args) m)
+
+-- ---- control lines
+
+-- A control line with a name: the name and its column, how many bytes go up to its end, and the line without its comment.
+pub record ControlLine : Type 0 where
+  pub name : List ℕ
+  pub column : ℕ
+  pub name_end : ℕ
+  pub text : List ℕ
+
+-- what follows the name in the finished line, and the column where that begins
+abbrev pub rest_of : ControlLine → List ℕ → List ℕ
+rest_of line text = drop line.name_end text
+
+abbrev pub rest_column : ControlLine → ℕ
+rest_column line = line.name_end + 1
+
+-- a request for definitions
+abbrev pub defines : Outcome → Memory → states.Outcome
+defines o m = reports o.notes (with_definitions o.definitions m)
+
+-- what a command does with the finished line
+abbrev pub does : Bool → Command → ControlLine → List ℕ → Memory → states.Outcome
+does may_call Call line text m =
+    calls may_call line.column (unwrap_or (called_body line.name m.definitions) [])
+    (arguments (rest_column line) (rest_of line text)) m
+does may_call (Define request) line text m =
+    defines (outcome_of request (at m line.column) (rest_column line) (rest_of line text) m.definitions) m
+does may_call Ignore line text m = nothing m
+does may_call Refuse line text m = reports_at kinds.UnsuppRequest line.column line.name m
+does may_call Pass line text m = gives_line forms.Control text line.name_end m
+
+-- first the line is expanded
+abbrev pub after_expansion : Laid → (List ℕ → Memory → states.Outcome) → Memory → states.Outcome
+after_expansion laid f m = after_notes laid.notes (f laid.edge.text (counted laid.edge.count m))
+
+unfoldable pub command_outcome : Setting → Bool → Command → ControlLine → Memory → states.Outcome
+command_outcome setting may_call command line m =
+    after_expansion (expanded (surroundings (copies command) setting m) m.number line.text) (does may_call command line) m
+
+-- a control line without a name does nothing, and is not expanded
+unfoldable pub control_outcome : Setting → Bool → ControlLine → Memory → states.Outcome
+control_outcome setting may_call line m =
+    if length line.name == 0 then nothing m
+    else command_outcome setting may_call (command_of line.name m.definitions) line m
+
+-- ---- all lines that head nothing
+
+abbrev pub text_outcome : Setting → List ℕ → Memory → states.Outcome
+text_outcome setting text m =
+    after_expansion (expanded (surroundings false setting m) m.number text) (λ finished m. gives_line forms.Text finished 0 m) m
+
+abbrev pub control_line : List ℕ → List ℕ → ℕ → ℕ → ControlLine
+control_line text name column rest_column =
+    record { name = name; column = column; name_end = rest_column - 1; text = without_comment text }
+
+abbrev pub form_outcome : Setting → Bool → List ℕ → LineForm (List ℕ) → Memory → states.Outcome
+form_outcome setting may_call raw Comment m = nothing m
+form_outcome setting may_call raw BlankLine m = gives_line forms.Blank raw 0 m
+form_outcome setting may_call raw (Text text) m = text_outcome setting text m
+form_outcome setting may_call raw (Control name column rest rest_column) m =
+    control_outcome setting may_call (control_line raw name column rest_column) m
+
+-- A raw line, where one more macro may run or not. A line that is cut, since it passes a limit of expansion, is the line all the same.
+unfoldable pub leaf_outcome : Setting → Bool → List ℕ → Memory → states.Outcome
+leaf_outcome setting may_call raw m = form_outcome setting may_call raw (form_of raw) m

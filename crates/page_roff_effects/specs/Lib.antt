@@ -1,0 +1,6 @@
+pub mod Acting
+pub mod Commands
+pub mod Effects
+pub mod Leaves
+pub mod RegionLines
+pub mod States

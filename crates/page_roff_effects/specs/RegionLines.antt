@@ -1,0 +1,133 @@
+-- What the heads and the lines of regions do. Source: roff(7), "de", "am", "ig"; mandoc(1), "unsupported".
+use Rattle.std.specs.Prelude.{ℕ, ◌+◌, ◌||◌, ◌&&◌, not, Bool, true, false, nat_le, is_some, List, [], ◌∷◌, ◌++◌, length, codes, if◌then◌else◌, Option, Some, None, unwrap_or}
+use Rattle.page_core_limits.specs.declared.TheConstants.{BODY}
+use Rattle.page_core_limits.specs.declared.Limit.TheVariants as limits
+use Rattle.page_core_limits.specs.Limits.{name_of}
+use Rattle.page_core_base.specs.Messages.{Message, message_about}
+use Rattle.page_core_base.specs.declared.lines_taken.Form.TheVariants as forms
+use Rattle.page_core_base.specs.declared.note_kinds.NoteKind.TheVariants as kinds
+use Rattle.page_core_base.specs.declared.places.Place.{Place}
+use Rattle.page_roff_blocks.specs.Levels.{Opened, within_limit}
+use Rattle.page_roff_blocks.specs.declared.regions.RegionHead.{RegionHead}
+use Rattle.page_roff_blocks.specs.declared.regions.RegionKind.{RegionKind}
+use Rattle.page_roff_blocks.specs.declared.regions.RegionKind.TheVariants.{Define, Append, Ignore, Table, Equation, Picture}
+use Rattle.page_roff_names.specs.declared.rows.Meaning.TheVariants.{Macro}
+use Rattle.page_roff_names.specs.Entries.{definition}
+use Rattle.page_roff_names.specs.Names.{Definitions, with_text}
+use Rattle.page_roff_values.specs.Values.{Laid, expanded}
+use Rattle.page_roff_definitions.specs.Definitions.{settles}
+use Rattle.page_roff_definitions.specs.Definitions as defining
+use Rattle.page_roff_effects.specs.Commands.{called_body}
+use Rattle.page_roff_effects.specs.Leaves.{defines, after_expansion}
+use Rattle.page_roff_effects.specs.States.{Memory, Outcome, nothing, reports, reports_at, note_at, gives_line, after_notes, at, with_body, counted, Setting, surroundings}
+
+-- the control word of a region
+abbrev pub word_of : RegionKind → List ℕ
+word_of Define = codes "de"
+word_of Append = codes "am"
+word_of Ignore = codes "ig"
+word_of Table = codes "TS"
+word_of Equation = codes "EQ"
+word_of Picture = codes "PS"
+
+-- ---- the head
+
+-- what a macro's body begins with: `am` goes on with the one that there is, and a string has none
+abbrev pub first_body : RegionKind → List ℕ → Definitions → Option (List ℕ)
+first_body Define name d = Some []
+first_body Append name d = Some (unwrap_or (called_body name d) [])
+first_body Ignore name d = None
+first_body Table name d = None
+first_body Equation name d = None
+first_body Picture name d = None
+
+-- without a name there is no body
+abbrev pub body_begun : RegionKind → Option (List ℕ) → Definitions → Option (List ℕ)
+body_begun kind None d = None
+body_begun kind (Some name) d = first_body kind name d
+
+abbrev pub is_too_long : Option (List ℕ) → Bool
+is_too_long name = is_some name && not (is_some (within_limit name))
+
+-- a name or an end name that is longer than a name may be
+abbrev pub name_notes : RegionHead (List ℕ) → ℕ → List Message
+name_notes head number =
+    if is_too_long head.name || head.has_long_ending then
+    message_about kinds.Limit (record { line = number; column = head.column }) (name_of limits.Name) ∷ []
+    else []
+
+abbrev pub table_notes : RegionKind → ℕ → ℕ → List Message
+table_notes Define column number = []
+table_notes Append column number = []
+table_notes Ignore column number = []
+table_notes Table column number = message_about kinds.Table (record { line = number; column = column }) [] ∷ []
+table_notes Equation column number = message_about kinds.Table (record { line = number; column = column }) [] ∷ []
+table_notes Picture column number = message_about kinds.Table (record { line = number; column = column }) [] ∷ []
+
+-- a head that is run, or passed over
+unfoldable pub head_outcome : RegionHead (List ℕ) → Bool → Memory → Outcome
+head_outcome head true m =
+    reports (name_notes head m.number ++ table_notes head.kind head.column m.number)
+    (with_body (body_begun head.kind (within_limit head.name) m.definitions) m)
+head_outcome head false m = nothing (with_body None m)
+
+-- ---- lines
+
+-- a body with one line more, which ends in a line feed (10)
+abbrev pub with_line : List ℕ → List ℕ → List ℕ
+with_line body line = body ++ (line ++ (10 ∷ []))
+
+-- the line that passes the limit is reported, and from then on there is no body
+abbrev pub longer_if : Bool → List ℕ → Memory → Outcome
+longer_if true body m = nothing (with_body (Some body) m)
+longer_if false body m = reports_at kinds.Limit 1 (name_of limits.Body) (with_body None m)
+
+abbrev pub longer : Option (List ℕ) → List ℕ → Memory → Outcome
+longer None line m = nothing m
+longer (Some body) line m = longer_if (nat_le (length (with_line body line)) BODY) (with_line body line) m
+
+-- a line of a body is expanded in copy mode; where there is no body it is not expanded
+abbrev pub body_outcome : Setting → List ℕ → Memory → Outcome
+body_outcome setting line m =
+    if is_some m.body then
+    after_expansion (expanded (surroundings true setting m) m.number line) (λ finished m. longer m.body finished m) m
+    else nothing m
+
+-- the lines of tables, equations and pictures are given as they are written
+abbrev pub kind_outcome : Setting → RegionKind → List ℕ → Memory → Outcome
+kind_outcome setting Define line m = body_outcome setting line m
+kind_outcome setting Append line m = body_outcome setting line m
+kind_outcome setting Ignore line m = nothing m
+kind_outcome setting Table line m = gives_line forms.Raw line 0 m
+kind_outcome setting Equation line m = gives_line forms.Raw line 0 m
+kind_outcome setting Picture line m = gives_line forms.Raw line 0 m
+
+-- a line of a region that is run, or passed over
+unfoldable pub line_outcome : Setting → Opened → Bool → List ℕ → Memory → Outcome
+line_outcome setting o true line m = kind_outcome setting o.kind line m
+line_outcome setting o false line m = nothing m
+
+-- ---- the end
+
+abbrev pub defines_macro : List ℕ → List ℕ → Place → Definitions → defining.Outcome
+defines_macro name body place d = settles name body (with_text name (definition Macro body) d) place d
+
+-- a macro is defined, unless that passes a limit; without a name or a body nothing is
+abbrev pub macro_definition : Option (List ℕ) → Option (List ℕ) → Place → Definitions → defining.Outcome
+macro_definition None body place d = defining.outcome d []
+macro_definition (Some name) None place d = defining.outcome d []
+macro_definition (Some name) (Some body) place d = defines_macro name body place d
+
+-- the end line of a region that is run, or passed over
+unfoldable pub end_outcome : Opened → Bool → Memory → Outcome
+end_outcome o true m = defines (macro_definition o.name m.body (at m 1) m.definitions) (with_body None m)
+end_outcome o false m = nothing (with_body None m)
+
+-- A source ends. A region that is open is dropped with a message, unless all was given up.
+abbrev pub missing_notes : RegionKind → Bool → Memory → List Message
+missing_notes kind true m = []
+missing_notes kind false m = note_at kinds.MissingEnd 1 (word_of kind) m
+
+unfoldable pub finish_outcome : Option Opened → Bool → Memory → Outcome
+finish_outcome None gave_up m = nothing m
+finish_outcome (Some o) gave_up m = reports (missing_notes o.kind gave_up m) (with_body None m)

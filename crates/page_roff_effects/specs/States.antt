@@ -1,0 +1,120 @@
+-- What the parts of a source change, and what they give. Source: roff(7), "LANGUAGE SYNTAX", "ds", "de".
+use Rattle.std.specs.Prelude.{ℕ, ◌+◌, ◌-◌, ◌^◌, min, Bool, List, [], ◌∷◌, ◌++◌, map, Option, Some, None}
+use Rattle.page_core_base.specs.Messages.{Message, message_about}
+use Rattle.page_core_base.specs.LinesTaken.{Line}
+use Rattle.page_core_base.specs.declared.lines_taken.Form.{Form}
+use Rattle.page_core_base.specs.declared.note_kinds.NoteKind.{NoteKind}
+use Rattle.page_core_base.specs.declared.page_settings.Output.{Output}
+use Rattle.page_core_base.specs.declared.places.Place.{Place}
+use Rattle.page_roff_names.specs.Names.{Definitions}
+use Rattle.page_roff_values.specs.Environments.{Surroundings}
+
+-- a macro that is called: the lines of its body, and its arguments, each with a line feed after it
+pub record Call : Type 0 where
+  pub body : List ℕ
+  pub packed : List ℕ
+
+-- What is remembered from part to part: what names stand for; the body that the open region has so far, where it defines a macro and
+-- no limit was passed; the number of the source line; how many interpolations were made.
+pub record Memory : Type 0 where
+  pub definitions : Definitions
+  pub body : Option (List ℕ)
+  pub number : ℕ
+  pub expansions : ℕ
+
+-- what comes of a part besides messages
+pub data Product : Type 0 where
+  no_product : Product
+  line_product : Line → Product
+  call_product : Call → Product
+
+-- what a part of a source does: its messages, then what comes of it, and what is remembered after it
+pub record Outcome : Type 0 where
+  pub notes : List Message
+  pub product : Product
+  pub memory : Memory
+
+-- ---- what was given
+
+-- a message, or a line for the set of macros
+pub data Given : Type 0 where
+  says : Message → Given
+  takes : Line → Given
+
+-- what is remembered, and what was given so far, in order
+pub record State : Type 0 where
+  pub memory : Memory
+  pub out : List Given
+
+abbrev pub lines_of : Product → List Given
+lines_of no_product = []
+lines_of (line_product line) = takes line ∷ []
+lines_of (call_product call) = []
+
+-- after a part: its messages come before its line
+abbrev pub after : State → Outcome → State
+after s o = record { memory = o.memory; out = s.out ++ (map says o.notes ++ lines_of o.product) }
+
+-- ---- outcomes
+
+-- nothing happens
+abbrev pub nothing : Memory → Outcome
+nothing m = record { notes = []; product = no_product; memory = m }
+
+abbrev pub reports : List Message → Memory → Outcome
+reports notes m = record { notes = notes; product = no_product; memory = m }
+
+abbrev pub gives_line : Form → List ℕ → ℕ → Memory → Outcome
+gives_line form text name_end m =
+    record {
+      notes = [];
+      product = line_product (record { form = form; text = text; number = m.number; name_end = name_end });
+      memory = m;
+    }
+
+-- these messages come first
+abbrev pub after_notes : List Message → Outcome → Outcome
+after_notes notes o = record { notes = notes ++ o.notes; product = o.product; memory = o.memory }
+
+-- a column of the source line
+abbrev pub at : Memory → ℕ → Place
+at m column = record { line = m.number; column = column }
+
+-- one message about a column
+abbrev pub note_at : NoteKind → ℕ → List ℕ → Memory → List Message
+note_at kind column detail m = message_about kind (at m column) detail ∷ []
+
+abbrev pub reports_at : NoteKind → ℕ → List ℕ → Memory → Outcome
+reports_at kind column detail m = reports (note_at kind column detail m) m
+
+abbrev pub with_definitions : Definitions → Memory → Memory
+with_definitions definitions m =
+    record { definitions = definitions; body = m.body; number = m.number; expansions = m.expansions }
+
+abbrev pub with_body : Option (List ℕ) → Memory → Memory
+with_body body m = record { definitions = m.definitions; body = body; number = m.number; expansions = m.expansions }
+
+-- a count stays at the greatest number of 64 bits, which no page reaches
+abbrev pub sum_of_counts : ℕ → ℕ → ℕ
+sum_of_counts a b = a + min b (2 ^ 64 - 1 - a)
+
+-- so many interpolations more were made
+abbrev pub counted : ℕ → Memory → Memory
+counted count m =
+    record {
+      definitions = m.definitions;
+      body = m.body;
+      number = m.number;
+      expansions = sum_of_counts m.expansions count;
+    }
+
+-- ---- what interpolations read
+
+-- the output, and the arguments of the macro that runs, if one does
+pub record Setting : Type 0 where
+  pub output : Output
+  pub arguments : Option (List (List ℕ))
+
+abbrev pub surroundings : Bool → Setting → Memory → Surroundings
+surroundings copy setting m =
+    record { copy = copy; definitions = m.definitions; arguments = setting.arguments; output = setting.output }

@@ -1,0 +1,208 @@
+//! What the parts of a source do, with what is remembered from part to part (roff(7), "LANGUAGE SYNTAX").
+
+ghost use Rattle.std.specs.Prelude.{◌≡◌, ◌≤◌, [], ◌∷◌, length, IfOk, None, Some};
+ghost use Rattle.page_core_base.specs.LinesTaken.{line_seen};
+ghost use Rattle.page_roff_heads.specs.Conditions.{condition_seen, test_seen, FitsTest};
+ghost use Rattle.page_roff_values.specs.declared.call_arguments.TheConstants.{ARGS};
+ghost use Rattle.page_roff_values.specs.Arguments.{arguments_in};
+ghost use Rattle.page_roff_values.specs.Environments.{surroundings_of};
+ghost use Rattle.page_roff_values.specs.Values as laying;
+ghost use Rattle.page_roff_effects.specs.Acting as acting;
+ghost use Rattle.page_roff_effects.specs.Acting.{Does, Tests, Expands};
+ghost use Rattle.page_roff_effects.specs.Effects.{answer_of, budget_outcome, block_outcome, end_of_block_outcome};
+ghost use Rattle.page_core_base.specs.Messages.{message_about};
+ghost use Rattle.page_roff_values.specs.Latches.{Came};
+
+use crate::buffers::{BodyBuffer, LineBuffer};
+use crate::calls::CallBuffer;
+use page_core_base::{Note, NoteKind, Output, Place, Taken};
+use page_roff_conditions::holds;
+use page_roff_heads::Condition;
+use page_roff_names::Names;
+use page_roff_values::{ARGS, CallArguments, Environment, Expansion, NoteOut};
+use std::alloc::{AllocError, Global};
+use std::marker::Model;
+
+/// What the parts of a source do: definitions, the body of the open region, and the line and the call that were taken last. All memory is
+/// reserved by [`Actions::new`].
+#[derive(Drop)]
+pub struct Actions {
+    pub(crate) names: Names,
+    pub(crate) arguments: CallArguments,
+    pub(crate) output: Output,
+    pub(crate) expansion: Expansion,
+    pub(crate) body: BodyBuffer,
+    pub(crate) line: LineBuffer,
+    pub(crate) call: CallBuffer,
+    pub(crate) number: u32,
+    pub(crate) expansions: u64,
+}
+
+impl Model for Actions {
+    ghost use Rattle.page_roff_effects.specs.Acting.{Acting};
+
+    ghost Value = { Acting };
+
+    ghost view = { λ a. record {
+      setting = record { output = a.output; arguments = a.arguments };
+      memory = record { definitions = a.names; body = a.body; number = a.number; expansions = a.expansions };
+      finished = a.expansion;
+      line = a.line;
+      call = a.call;
+    } };
+}
+
+/// Expands a line from its beginning.
+pub(crate) fn expand_line<O: NoteOut>(
+    text: &[u8],
+    number: u32,
+    env: &Environment<'_>,
+    line: &mut Expansion,
+    out: &mut O,
+)
+    ensures { Expands O.left out.old out.new line.new (laying.expanded (surroundings_of env.now) number text.now) }
+{
+    line.begin(number);
+    line.expand_more(env, text, 0, out);
+}
+
+/// Reports a message about a column of a source line.
+pub(crate) fn report_at<O: NoteOut>(
+    kind: NoteKind,
+    line: u32,
+    column: u32,
+    detail: &[u8],
+    out: &mut O,
+)
+    ensures { Came O.left out.old (message_about kind (record { line = line; column = column }) detail.now ∷ []) out.new }
+{
+    out.report(&Note::about(kind, Place { line, column }, detail));
+}
+
+impl Actions {
+    /// Before the first line of a page.
+    pub fn new(alloc: Global, output: Output) -> Result<Actions, AllocError>
+        ensures { IfOk result (acting.IsNew output) }
+    {
+        Ok(Actions {
+            names: Names::new(alloc)?,
+            arguments: CallArguments::new(alloc)?,
+            output,
+            expansion: Expansion::new(alloc)?,
+            body: BodyBuffer::new(alloc)?,
+            line: LineBuffer::new(alloc)?,
+            call: CallBuffer::new(alloc)?,
+            number: 0,
+            expansions: 0,
+        })
+    }
+
+    /// A source line of this number begins.
+    pub fn begin_line(&mut self, number: u32)
+        ensures { self.new ≡ acting.with_number number self.old }
+    {
+        self.number = number;
+    }
+
+    /// A macro with these arguments, each followed by a line feed, is the innermost one that runs.
+    pub fn enter(&mut self, packed: &[u8])
+        requires { length packed.now ≤ ARGS }
+        ensures { self.new ≡ acting.with_arguments (Some (arguments_in packed.now)) self.old }
+    {
+        self.arguments.set(packed);
+    }
+
+    /// No macro runs.
+    pub fn leave(&mut self)
+        ensures { self.new ≡ acting.with_arguments None self.old }
+    {
+        self.arguments.leave();
+    }
+
+    /// How many interpolations were made.
+    pub fn expansions(&self) -> u64
+        ensures { result ≡ self.now.memory.expansions }
+    {
+        self.expansions
+    }
+
+    /// Lends the line that was taken last.
+    pub fn line(&self) -> Taken<'_>
+        ensures { line_seen result ≡ self.now.line }
+    {
+        self.line.taken()
+    }
+
+    /// Lends the body of the macro that was called last, at most `BODY` bytes after [`ProductKind::Call`].
+    pub fn called_body(&self) -> &[u8]
+        ensures { result.now ≡ self.now.call.body }
+    {
+        self.call.body()
+    }
+
+    /// Lends the arguments of the macro that was called last, each with a line feed after it.
+    pub fn called_arguments(&self) -> &[u8]
+        ensures { result.now ≡ self.now.call.packed }
+    {
+        self.call.packed()
+    }
+
+    /// Expands a line, in copy mode or not.
+    pub(crate) fn expand<O: NoteOut>(&mut self, copy: bool, text: &[u8], out: &mut O)
+        ensures after { self.new ≡ acting.with_finished (acting.line_laid copy text.now self.old) self.old }
+        ensures came { Came O.left out.old (acting.line_laid copy text.now self.old).notes out.new }
+    {
+        let env = Environment {
+            copy,
+            names: &self.names,
+            arguments: &self.arguments,
+            output: self.output,
+        };
+        expand_line(text, self.number, &env, &mut self.expansion, out);
+        let count = self.expansion.count();
+        self.expansions = self.expansions.saturating_add(count as u64);
+    }
+
+    /// Whether a condition holds.
+    #[tactic(auto, unfolding(crate::specs::Effects::answer_of))]
+    pub fn test<O: NoteOut>(&mut self, condition: &Condition<&[u8]>, out: &mut O) -> bool
+        requires { FitsTest (test_seen condition.now.test) }
+        ensures { Tests O.left self.old out.old
+            (answer_of self.old.setting (condition_seen condition.now) self.old.memory) result self.new out.new }
+    {
+        let env = Environment {
+            copy: false,
+            names: &self.names,
+            arguments: &self.arguments,
+            output: self.output,
+        };
+        let answer = holds(condition, self.number, &env, &mut self.expansion, out);
+        let count = self.expansion.count();
+        self.expansions = self.expansions.saturating_add(count as u64);
+        answer
+    }
+
+    /// A re-read line comes beyond the budget.
+    #[tactic(auto, unfolding(crate::specs::Effects::budget_outcome))]
+    pub fn exhaust<O: NoteOut>(&mut self, out: &mut O)
+        ensures { Does O.left self.old out.old (budget_outcome self.old.memory) self.new out.new }
+    {
+        report_at(NoteKind::Loop, self.number, 1, b"REREAD", out);
+    }
+
+    /// A true block comes beyond the limit of open ones; the name of its head stands in a column.
+    #[tactic(auto, unfolding(crate::specs::Effects::block_outcome))]
+    pub fn refuse<O: NoteOut>(&mut self, column: u32, out: &mut O)
+        ensures { Does O.left self.old out.old (block_outcome column self.old.memory) self.new out.new }
+    {
+        report_at(NoteKind::Limit, self.number, column, b"CONDS", out);
+    }
+
+    /// The end of a block comes where none is open.
+    #[tactic(auto, unfolding(crate::specs::Effects::end_of_block_outcome))]
+    pub fn report_unopened<O: NoteOut>(&mut self, out: &mut O)
+        ensures { Does O.left self.old out.old (end_of_block_outcome self.old.memory) self.new out.new }
+    {
+        report_at(NoteKind::NotOpen, self.number, 1, b"\\}", out);
+    }
+}

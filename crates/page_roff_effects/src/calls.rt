@@ -1,0 +1,142 @@
+//! A call of a macro (roff(7), "MACRO SYNTAX"): its arguments, packed, and the body that it runs.
+
+ghost use Rattle.std.specs.Prelude.{◌≡◌, ◌≤◌, ◌+◌, [], ◌∷◌, ◌++◌, length, nat_le, IfOk};
+ghost use Rattle.std.specs.Vec.{vec_len, vec_capacity};
+ghost use Rattle.page_core_limits.specs.declared.TheConstants.{LINE, BODY};
+ghost use Rattle.page_roff_forms.specs.Arguments.{argument_seen, arguments};
+ghost use Rattle.page_roff_effects.specs.Acting.{no_call, Packs};
+ghost use Rattle.page_roff_effects.specs.Leaves.{unpaired, argument_value, packed};
+
+use crate::buffers::{append, replace};
+use page_core_limits::{BODY, LINE};
+use page_roff_forms::{Argument, Arguments};
+use page_roff_values::ARGS;
+use std::alloc::{AllocError, Global};
+use std::marker::Model;
+
+// What follows a byte in a quoted argument: of a pair of quotes the second is passed over.
+fn after_byte(byte: u8, after: &[u8]) -> &[u8]
+    ensures value { unpaired (byte ∷ after.now) ≡ byte ∷ unpaired result.now }
+    ensures within { length result.now ≤ length after.now }
+{
+    match after {
+        [] => after,
+        [next, rest @ ..] => {
+            if byte == b'"' && *next == b'"' {
+                rest
+            } else {
+                after
+            }
+        }
+    }
+}
+
+// Puts the text of a quoted argument at the end, within what is reserved.
+fn append_unpaired(text: &mut Vec<u8>, quoted: &[u8])
+    requires { vec_len text.old + length quoted.now ≤ vec_capacity text.old }
+    ensures items { text.new.items ≡ text.old.items ++ unpaired quoted.now }
+    ensures short { vec_len text.new ≤ vec_len text.old + length quoted.now }
+    ensures capacity { vec_capacity text.new ≡ vec_capacity text.old }
+{
+    let mut rest = quoted;
+    while !rest.is_empty() {
+        let byte = rest[0];
+        text.push_reserved(byte);
+        rest = after_byte(byte, &rest[1..]);
+    }
+}
+
+// Puts an argument at the end, with a line feed after it.
+fn append_argument(text: &mut Vec<u8>, argument: Argument<&[u8]>)
+    requires { vec_len text.old + length argument.text.now + 1 ≤ vec_capacity text.old }
+    ensures items { text.new.items ≡ text.old.items ++ (argument_value (argument_seen argument.entry) ++ (10 ∷ [])) }
+    ensures capacity { vec_capacity text.old ≤ vec_capacity text.new }
+{
+    if argument.is_quoted() {
+        append_unpaired(text, argument.text);
+    } else {
+        append(text, argument.text);
+    }
+    append(text, b"\n");
+}
+
+// Puts arguments at the end, each with a line feed after it, as long as they are within the limit. Answers whether all are.
+fn append_arguments(text: &mut Vec<u8>, arguments: &mut Arguments<'_>) -> bool
+    requires { (text.old.items ≡ []) × (ARGS + LINE + 1 ≤ vec_capacity text.old) }
+    ensures packed { Packs (packed arguments.old) result text.new.items }
+    ensures capacity { ARGS + LINE + 1 ≤ vec_capacity text.new }
+{
+    while let Some(argument) = arguments.next_argument() {
+        append_argument(text, argument);
+        if ARGS < text.len() {
+            return false;
+        }
+    }
+    true
+}
+
+/// The call that was taken last.
+#[derive(Drop)]
+pub(crate) struct CallBuffer {
+    body: Vec<u8>,
+    packed: Vec<u8>,
+}
+
+impl Model for CallBuffer {
+    ghost use Rattle.std.specs.Prelude.{◌≤◌, ◌+◌};
+    ghost use Rattle.std.specs.Vec.{vec_capacity};
+    ghost use Rattle.page_core_limits.specs.declared.TheConstants.{BODY, LINE};
+    ghost use Rattle.page_roff_values.specs.declared.call_arguments.TheConstants.{ARGS};
+    ghost use Rattle.page_roff_effects.specs.States.{Call};
+
+    ghost Value = { Call };
+
+    ghost view = { λ c. record { body = c.body.items; packed = c.packed.items } };
+
+    ghost invariant = { λ c. (BODY ≤ vec_capacity c.body) × (ARGS + LINE + 1 ≤ vec_capacity c.packed) };
+}
+
+impl CallBuffer {
+    /// No call yet. All memory is reserved here.
+    pub(crate) fn new(alloc: Global) -> Result<CallBuffer, AllocError>
+        ensures { IfOk result (λ r. r ≡ no_call) }
+    {
+        Ok(CallBuffer {
+            body: Vec::with_capacity(alloc, BODY)?,
+            packed: Vec::with_capacity(alloc, ARGS + LINE + 1)?,
+        })
+    }
+
+    /// Takes the arguments of a call from the rest of its line, of which the first byte stands at a column. Answers whether they are
+    /// within the limit.
+    pub(crate) fn pack(&mut self, rest: &[u8], column: u32) -> bool
+        requires short { length rest.now ≤ LINE }
+        requires room { column + length rest.now ≤ LINE + 1 }
+        ensures { Packs (packed (arguments column rest.now)) result self.new.packed }
+    {
+        self.packed.clear();
+        append_arguments(&mut self.packed, &mut Arguments::new(rest, column))
+    }
+
+    /// Takes the body of a call.
+    pub(crate) fn set_body(&mut self, body: &[u8])
+        requires { length body.now ≤ BODY }
+        ensures { self.new ≡ record { body = body.now; packed = self.old.packed } }
+    {
+        replace(&mut self.body, body);
+    }
+
+    /// Lends the body.
+    pub(crate) fn body(&self) -> &[u8]
+        ensures { result.now ≡ self.now.body }
+    {
+        self.body.as_slice()
+    }
+
+    /// Lends the arguments, each with a line feed after it.
+    pub(crate) fn packed(&self) -> &[u8]
+        ensures { result.now ≡ self.now.packed }
+    {
+        self.packed.as_slice()
+    }
+}

@@ -1,0 +1,106 @@
+//! What the name of a control line stands for (roff(7), "MACRO SYNTAX" and "REQUEST REFERENCE").
+
+ghost use Rattle.std.specs.Prelude.{◌≡◌, ◌≤◌, [], length, IfSome, unwrap_or};
+ghost use Rattle.page_core_limits.specs.declared.TheConstants.{BODY};
+ghost use Rattle.page_roff_blocks.specs.Regions.{text_seen};
+ghost use Rattle.page_roff_definitions.specs.Definitions.{request_of};
+ghost use Rattle.page_roff_effects.specs.Commands as named;
+
+use page_core_limits::BODY;
+use page_roff_conditions::{is_ignored, is_unsupported};
+use page_roff_definitions::DefinitionRequest;
+use page_roff_names::Names;
+
+/// What a control line with a name does.
+#[derive(Clone, Copy)]
+pub(crate) enum Command {
+    /// It calls a macro of the page.
+    Call,
+    /// It defines a string or number register, or takes definitions away.
+    Define(DefinitionRequest),
+    /// It is a request without effect.
+    Ignore,
+    /// It is a request that is not supported.
+    Refuse,
+    /// It is left to the set of macros: a request that changes rows, a macro of the language, or an unknown one.
+    Pass,
+}
+
+/// What comes of a part of a source besides messages.
+#[derive(Clone, Copy)]
+pub enum ProductKind {
+    /// Nothing.
+    Nothing,
+    /// A finished line for the set of macros.
+    Line,
+    /// The call of a macro.
+    Call,
+}
+
+// The body of a macro of the page.
+fn called_body<'a>(name: &[u8], names: &'a Names) -> Option<&'a [u8]>
+    ensures value { text_seen result ≡ named.called_body name.now names.now }
+    ensures short { IfSome result (λ body. length body.now ≤ BODY) }
+{
+    match names.body(name) {
+        Some(body) if body.len() <= BODY => Some(body),
+        _ => None,
+    }
+}
+
+/// The body of a macro of the page, or nothing where there is no such macro.
+pub(crate) fn body_or_nothing<'a>(name: &[u8], names: &'a Names) -> &'a [u8]
+    ensures value { result.now ≡ unwrap_or (named.called_body name.now names.now) [] }
+    ensures short { length result.now ≤ BODY }
+{
+    match called_body(name, names) {
+        Some(body) => body,
+        None => &[],
+    }
+}
+
+// What a name stands for that neither calls a macro nor defines.
+fn other_command(name: &[u8]) -> Command
+    ensures { result ≡ named.other_command name.now }
+{
+    if is_ignored(name) {
+        Command::Ignore
+    } else if is_unsupported(name) {
+        Command::Refuse
+    } else {
+        Command::Pass
+    }
+}
+
+// What a request does, or a name that is left to the set of macros.
+fn request_command(name: &[u8]) -> Command
+    ensures { result ≡ named.request_command name.now (request_of name.now) }
+{
+    match DefinitionRequest::of(name) {
+        Some(request) => Command::Define(request),
+        None => other_command(name),
+    }
+}
+
+impl Command {
+    /// What a name stands for.
+    #[tactic(auto, unfolding(crate::specs::Commands::command_of))]
+    pub(crate) fn of(name: &[u8], names: &Names) -> Command
+        ensures { result ≡ named.command_of name.now names.now }
+    {
+        match called_body(name, names) {
+            Some(_) => Command::Call,
+            None => request_command(name),
+        }
+    }
+
+    /// Whether the rest of its line is expanded in copy mode.
+    pub(crate) fn copies(self) -> bool
+        ensures { result ≡ named.copies self }
+    {
+        match self {
+            Command::Define(request) => request.is_in_copy_mode(),
+            Command::Call | Command::Ignore | Command::Refuse | Command::Pass => false,
+        }
+    }
+}

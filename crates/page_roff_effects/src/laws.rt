@@ -1,0 +1,20 @@
+//! Laws of what the parts of a source do.
+
+ghost use Rattle.std.specs.Prelude.{◌≡◌, List};
+ghost use Rattle.page_core_base.specs.declared.page_settings.Output.{Output};
+ghost use Rattle.page_roff_values.specs.declared.expansions.TheConstants.{EXPAND};
+ghost use Rattle.page_roff_run.specs.Budgets.{language};
+ghost use Rattle.page_roff_run.specs.Fronts.{IsFront};
+ghost use Rattle.page_roff_run.specs.Spending.{Spends};
+ghost use Rattle.page_roff_effects.specs.Effects.{effects, expansions_of, in_front};
+ghost use Rattle.page_roff_effects.specs.States.{Given};
+
+/// A line that is taken makes no more than `EXPAND` interpolations.
+pub fn expansions_law()
+    ensures { (output : Output) → Spends expansions_of EXPAND (effects output) }
+{}
+
+/// What was given before decides nothing.
+pub fn given_law()
+    ensures { (output : Output) (given : List Given) → IsFront (in_front given) (language (effects output)) }
+{}

@@ -1,0 +1,232 @@
+//! Lines that head nothing: text, requests, calls of macros (roff(7), "LANGUAGE SYNTAX" and "MACRO SYNTAX").
+
+ghost use Rattle.std.specs.Prelude.{◌≡◌, ◌≤◌, ◌+◌, ◌++◌, length, drop, true};
+ghost use Rattle.page_core_limits.specs.declared.TheConstants.{LINE};
+ghost use Rattle.page_roff_forms.specs.LineForms.{form_of};
+ghost use Rattle.page_roff_forms.specs.declared.line_forms.LineForm.TheVariants.{Control};
+ghost use Rattle.page_roff_values.specs.Latches.{Came};
+ghost use Rattle.page_roff_effects.specs.Acting.{control_seen, Does, Gives, Takes};
+ghost use Rattle.page_roff_effects.specs.Leaves as leaves;
+ghost use Rattle.page_roff_effects.specs.Leaves.{leaf_outcome};
+ghost use Rattle.page_roff_effects.specs.States.{gives_line};
+
+use crate::actions::{Actions, report_at};
+use crate::commands::{Command, ProductKind, body_or_nothing};
+use page_core_base::{Form, NoteKind, Place};
+use page_core_limits::LINE;
+use page_roff_definitions::{DefinitionRequest, RequestLine, define, report_closings};
+use page_roff_forms::{LineForm, form_of};
+use page_roff_values::NoteOut;
+
+/// A control line with a name.
+#[derive(Clone, Copy)]
+pub(crate) struct ControlLine<'a> {
+    name: &'a [u8],
+    column: u32,
+    // How many bytes go up to the end of the name.
+    name_end: u32,
+    // The line without its comment.
+    text: &'a [u8],
+}
+
+// A control line with its parts as they were read.
+fn control_line<'a>(
+    text: &'a [u8],
+    name: &'a [u8],
+    column: u32,
+    rest: &'a [u8],
+    rest_column: u32,
+) -> ControlLine<'a>
+    requires form { form_of text.now ≡ Control name.now column rest.now rest_column }
+    requires short { length text.now ≤ LINE }
+    ensures value { control_seen result ≡ leaves.control_line text.now name.now column rest_column }
+    ensures fits { result.name_end ≤ LINE }
+{
+    let name_end = rest_column - 1;
+    ControlLine {
+        name,
+        column,
+        name_end,
+        text: &text[..name_end as usize + rest.len()],
+    }
+}
+
+// What follows the name in a finished line.
+fn rest_of(text: &[u8], name_end: u32) -> &[u8]
+    requires name { name_end ≤ LINE }
+    requires short { length text.now ≤ LINE }
+    ensures value { result.now ≡ drop name_end text.now }
+    ensures short { length result.now ≤ LINE }
+    ensures room { name_end + length result.now ≤ LINE }
+{
+    &text[(name_end as usize).min(text.len())..]
+}
+
+// Reports a call beyond the limits.
+fn report_refusals<O: NoteOut>(may_call: bool, fits: bool, place: Place, out: &mut O)
+    ensures { Came O.left out.old (leaves.depth_notes may_call place ++ leaves.size_notes fits place) out.new }
+{
+    if !may_call {
+        report_at(NoteKind::Loop, place.line, place.column, b"CALLS", out);
+    }
+    if !fits {
+        report_at(NoteKind::Limit, place.line, place.column, b"ARGS", out);
+    }
+}
+
+impl Actions {
+    // Takes the line that is finished.
+    fn take_finished(&mut self, form: Form, name_end: u32) -> ProductKind
+        ensures { Takes self.old (gives_line form self.old.finished.text name_end self.old.memory) result self.new }
+    {
+        self.line
+            .set(form, self.expansion.text(), self.number, name_end);
+        ProductKind::Line
+    }
+
+    /// Takes a line as it is written.
+    pub(crate) fn take_raw(&mut self, form: Form, text: &[u8]) -> ProductKind
+        requires { length text.now ≤ LINE }
+        ensures { Takes self.old (gives_line form text.now 0 self.old.memory) result self.new }
+    {
+        self.line.set(form, text, self.number, 0);
+        ProductKind::Line
+    }
+
+    // Calls a macro with the arguments of the finished line.
+    fn call<O: NoteOut>(
+        &mut self,
+        may_call: bool,
+        line: ControlLine<'_>,
+        out: &mut O,
+    ) -> ProductKind
+        requires { line.name_end ≤ LINE }
+        ensures { Gives O.left self.old out.old
+            (leaves.does may_call Command.Call (control_seen line.entry) self.old.finished.text self.old.memory)
+            result self.new out.new }
+    {
+        let rest = rest_of(self.expansion.text(), line.name_end);
+        let place = Place {
+            line: self.number,
+            column: line.column,
+        };
+        let rest_place = Place {
+            line: self.number,
+            column: line.name_end + 1,
+        };
+        report_closings(out, rest_place, rest);
+        let fits = self.call.pack(rest, line.name_end + 1);
+        report_refusals(may_call, fits, place, out);
+        if !(may_call && fits) {
+            return ProductKind::Nothing;
+        }
+        self.call.set_body(body_or_nothing(line.name, &self.names));
+        ProductKind::Call
+    }
+
+    // Does what a request for definitions says.
+    fn define<O: NoteOut>(&mut self, request: DefinitionRequest, line: ControlLine<'_>, out: &mut O)
+        requires { line.name_end ≤ LINE }
+        ensures { Does O.left self.old out.old
+            (leaves.does true (Command.Define request) (control_seen line.entry) self.old.finished.text self.old.memory)
+            self.new out.new }
+    {
+        let request_line = RequestLine {
+            place: Place {
+                line: self.number,
+                column: line.column,
+            },
+            rest: rest_of(self.expansion.text(), line.name_end),
+            rest_column: line.name_end + 1,
+        };
+        define(request, request_line, &mut self.names, out);
+    }
+
+    // Does what a control line says, once it is finished.
+    fn run<O: NoteOut>(
+        &mut self,
+        may_call: bool,
+        command: Command,
+        line: ControlLine<'_>,
+        out: &mut O,
+    ) -> ProductKind
+        requires { line.name_end ≤ LINE }
+        ensures { Gives O.left self.old out.old
+            (leaves.does may_call command (control_seen line.entry) self.old.finished.text self.old.memory)
+            result self.new out.new }
+    {
+        match command {
+            Command::Call => self.call(may_call, line, out),
+            Command::Define(request) => {
+                self.define(request, line, out);
+                ProductKind::Nothing
+            }
+            Command::Ignore => ProductKind::Nothing,
+            Command::Refuse => {
+                report_at(
+                    NoteKind::UnsuppRequest,
+                    self.number,
+                    line.column,
+                    line.name,
+                    out,
+                );
+                ProductKind::Nothing
+            }
+            Command::Pass => self.take_finished(Form::Control, line.name_end),
+        }
+    }
+
+    // Expands a control line, and does what it says.
+    #[tactic(auto, unfolding(crate::specs::Leaves::control_outcome, crate::specs::Leaves::command_outcome))]
+    fn control<O: NoteOut>(
+        &mut self,
+        may_call: bool,
+        line: ControlLine<'_>,
+        out: &mut O,
+    ) -> ProductKind
+        requires { line.name_end ≤ LINE }
+        ensures { Gives O.left self.old out.old
+            (leaves.control_outcome self.old.setting may_call (control_seen line.entry) self.old.memory)
+            result self.new out.new }
+    {
+        if line.name.is_empty() {
+            return ProductKind::Nothing;
+        }
+        let command = Command::of(line.name, &self.names);
+        self.expand(command.copies(), line.text, out);
+        self.run(may_call, command, line, out)
+    }
+
+    // Expands a text line, and takes it.
+    fn text<O: NoteOut>(&mut self, text: &[u8], out: &mut O) -> ProductKind
+        ensures { Gives O.left self.old out.old (leaves.text_outcome self.old.setting text.now self.old.memory)
+            result self.new out.new }
+    {
+        self.expand(false, text, out);
+        self.take_finished(Form::Text, 0)
+    }
+
+    /// Does what a raw line says that heads nothing, where one more macro may run or not. What comes of it is lent from then on.
+    #[tactic(auto, unfolding(crate::specs::Leaves::leaf_outcome))]
+    pub fn leaf<O: NoteOut>(&mut self, may_call: bool, text: &[u8], out: &mut O) -> ProductKind
+        requires { length text.now ≤ LINE }
+        ensures { Gives O.left self.old out.old (leaf_outcome self.old.setting may_call text.now self.old.memory)
+            result self.new out.new }
+    {
+        match form_of(text) {
+            LineForm::Comment => ProductKind::Nothing,
+            LineForm::BlankLine => self.take_raw(Form::Blank, text),
+            LineForm::Text(line) => self.text(line, out),
+            LineForm::Control {
+                name,
+                column,
+                rest,
+                rest_column,
+            } => self.control(
+                may_call,
+                control_line(text, name, column, rest, rest_column),
+                out,
+            ),
+        }
+    }
+}

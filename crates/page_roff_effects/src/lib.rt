@@ -1,0 +1,15 @@
+//! What the parts of a source do (roff(7)): lines are expanded and taken, conditions are tested, requests define names, macros are
+//! called, and regions define macros.
+#![tactic(auto)]
+
+mod actions;
+mod buffers;
+mod calls;
+mod commands;
+mod laws;
+mod leaves;
+mod regions;
+
+pub use actions::Actions;
+pub use commands::ProductKind;
+pub use laws::{expansions_law, given_law};

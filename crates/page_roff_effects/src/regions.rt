@@ -1,0 +1,232 @@
+//! Heads and lines of regions (roff(7), "de", "am", "ig").
+
+ghost use Rattle.std.specs.Prelude.{◌≡◌, ◌≤◌, ◌∷◌, [], length};
+ghost use Rattle.page_core_limits.specs.declared.TheConstants.{LINE, BODY};
+ghost use Rattle.page_roff_blocks.specs.Levels.{within_limit};
+ghost use Rattle.page_roff_blocks.specs.Regions.{region_seen, text_seen};
+ghost use Rattle.page_roff_definitions.specs.Definitions as defining;
+ghost use Rattle.page_roff_values.specs.Latches.{Came};
+ghost use Rattle.page_roff_effects.specs.Acting.{opened_seen, Does, Gives};
+ghost use Rattle.page_roff_effects.specs.RegionLines as regions;
+ghost use Rattle.page_roff_effects.specs.States.{Memory};
+
+use crate::actions::{Actions, report_at};
+use crate::buffers::BodyBuffer;
+use crate::commands::{ProductKind, body_or_nothing};
+use page_core_base::{Form, Note, NoteKind, Place};
+use page_core_limits::{LINE, Limit, NAME};
+use page_roff_blocks::{OpenRegion, RegionHead, RegionKind};
+use page_roff_names::Names;
+use page_roff_values::NoteOut;
+
+// The control word of a region.
+fn word_of(kind: RegionKind) -> &'static [u8]
+    ensures { result.now ≡ regions.word_of kind }
+{
+    match kind {
+        RegionKind::Define => b"de",
+        RegionKind::Append => b"am",
+        RegionKind::Ignore => b"ig",
+        RegionKind::Table => b"TS",
+        RegionKind::Equation => b"EQ",
+        RegionKind::Picture => b"PS",
+    }
+}
+
+// Whether a name is longer than names may be.
+#[tactic(auto, unfolding(page_roff_blocks::specs::Levels::within_limit))]
+fn is_too_long(name: Option<&[u8]>) -> bool
+    ensures { result ≡ regions.is_too_long (text_seen name.entry) }
+{
+    match name {
+        Some(name) => name.len() > NAME,
+        None => false,
+    }
+}
+
+// Reports a name or an end name that is longer than names may be.
+fn report_name<O: NoteOut>(head: &RegionHead<&[u8]>, line: u32, out: &mut O)
+    ensures { Came O.left out.old (regions.name_notes (region_seen head.now) line) out.new }
+{
+    if is_too_long(head.name) || head.has_long_ending {
+        report_at(
+            NoteKind::Limit,
+            line,
+            head.column,
+            Limit::Name.name().as_bytes(),
+            out,
+        );
+    }
+}
+
+// Reports a table, an equation or a picture.
+fn report_table<O: NoteOut>(kind: RegionKind, column: u32, line: u32, out: &mut O)
+    ensures { Came O.left out.old (regions.table_notes kind column line) out.new }
+{
+    match kind {
+        RegionKind::Define | RegionKind::Append | RegionKind::Ignore => {}
+        RegionKind::Table | RegionKind::Equation | RegionKind::Picture => {
+            report_at(NoteKind::Table, line, column, b"", out)
+        }
+    }
+}
+
+// Begins the body of a macro.
+fn begin_named(kind: RegionKind, name: &[u8], names: &Names, body: &mut BodyBuffer)
+    ensures { body.new ≡ regions.first_body kind name.now names.now }
+{
+    match kind {
+        RegionKind::Define => body.begin(b""),
+        RegionKind::Append => body.begin(body_or_nothing(name, names)),
+        RegionKind::Ignore | RegionKind::Table | RegionKind::Equation | RegionKind::Picture => {
+            body.clear()
+        }
+    }
+}
+
+// Begins the body that a region defines, where it defines one.
+#[tactic(auto, unfolding(page_roff_blocks::specs::Levels::within_limit))]
+fn begin_body(kind: RegionKind, name: Option<&[u8]>, names: &Names, body: &mut BodyBuffer)
+    ensures { body.new ≡ regions.body_begun kind (within_limit (text_seen name.entry)) names.now }
+{
+    match name {
+        Some(name) if name.len() <= NAME => begin_named(kind, name, names, body),
+        _ => body.clear(),
+    }
+}
+
+// Defines a macro.
+fn define_macro<O: NoteOut>(name: &[u8], body: &[u8], place: Place, names: &mut Names, out: &mut O)
+    ensures { defining.Does O.left out.old out.new names.new
+        (regions.defines_macro name.now body.now place names.old) }
+{
+    if let Err(limit) = names.define_macro(name, body) {
+        out.report(&Note::about(NoteKind::Limit, place, limit.name().as_bytes()));
+    }
+}
+
+// Defines the macro of a region, if it has a name and a body.
+fn define_body<O: NoteOut>(
+    name: Option<&[u8]>,
+    body: Option<&[u8]>,
+    place: Place,
+    names: &mut Names,
+    out: &mut O,
+)
+    ensures { defining.Does O.left out.old out.new names.new
+        (regions.macro_definition (text_seen name.entry) (text_seen body.entry) place names.old) }
+{
+    if let Some(name) = name {
+        if let Some(body) = body {
+            define_macro(name, body, place, names, out);
+        }
+    }
+}
+
+impl Actions {
+    /// A region begins, which is run or passed over.
+    #[tactic(auto, unfolding(crate::specs::RegionLines::head_outcome))]
+    pub fn open_region<O: NoteOut>(&mut self, head: &RegionHead<&[u8]>, is_run: bool, out: &mut O)
+        ensures { Does O.left self.old out.old
+            (regions.head_outcome (region_seen head.now) is_run self.old.memory) self.new out.new }
+    {
+        if !is_run {
+            self.body.clear();
+            return;
+        }
+        report_name(head, self.number, out);
+        report_table(head.kind, head.column, self.number, out);
+        begin_body(head.kind, head.name, &self.names, &mut self.body);
+    }
+
+    // Adds the line that is finished to the body.
+    fn lengthen<O: NoteOut>(&mut self, out: &mut O)
+        ensures { Does O.left self.old out.old
+            (regions.longer self.old.memory.body self.old.finished.text self.old.memory) self.new out.new }
+    {
+        if self.body.text().is_some() && !self.body.add_line(self.expansion.text()) {
+            report_at(
+                NoteKind::Limit,
+                self.number,
+                1,
+                Limit::Body.name().as_bytes(),
+                out,
+            );
+        }
+    }
+
+    // Expands a line of a body in copy mode, and adds it.
+    fn collect<O: NoteOut>(&mut self, line: &[u8], out: &mut O)
+        ensures { Does O.left self.old out.old
+            (regions.body_outcome self.old.setting line.now self.old.memory) self.new out.new }
+    {
+        if self.body.text().is_none() {
+            return;
+        }
+        self.expand(true, line, out);
+        self.lengthen(out);
+    }
+
+    /// A line of a region comes, which is run or passed over. What comes of it is lent from then on.
+    #[tactic(auto, unfolding(crate::specs::RegionLines::line_outcome))]
+    pub fn read_line<O: NoteOut>(
+        &mut self,
+        region: &OpenRegion,
+        is_run: bool,
+        line: &[u8],
+        out: &mut O,
+    ) -> ProductKind
+        requires { length line.now ≤ LINE }
+        ensures { Gives O.left self.old out.old
+            (regions.line_outcome self.old.setting region.now is_run line.now self.old.memory) result self.new out.new }
+    {
+        if !is_run {
+            return ProductKind::Nothing;
+        }
+        match region.kind() {
+            RegionKind::Define | RegionKind::Append => {
+                self.collect(line, out);
+                ProductKind::Nothing
+            }
+            RegionKind::Ignore => ProductKind::Nothing,
+            RegionKind::Table | RegionKind::Equation | RegionKind::Picture => {
+                self.take_raw(Form::Raw, line)
+            }
+        }
+    }
+
+    /// The end line of a region comes, which is run or passed over.
+    #[tactic(auto, unfolding(crate::specs::RegionLines::end_outcome))]
+    pub fn end_region<O: NoteOut>(&mut self, region: &OpenRegion, is_run: bool, out: &mut O)
+        ensures { Does O.left self.old out.old (regions.end_outcome region.now is_run self.old.memory) self.new out.new }
+    {
+        if is_run {
+            let place = Place {
+                line: self.number,
+                column: 1,
+            };
+            define_body(region.name(), self.body.text(), place, &mut self.names, out);
+        }
+        self.body.clear();
+    }
+
+    /// A source ends, in an open region or not, with whether all was given up.
+    #[tactic(auto, unfolding(crate::specs::RegionLines::finish_outcome))]
+    pub fn finish<O: NoteOut>(&mut self, region: Option<&OpenRegion>, gave_up: bool, out: &mut O)
+        ensures { Does O.left self.old out.old
+            (regions.finish_outcome (opened_seen region.entry) gave_up self.old.memory) self.new out.new }
+    {
+        if let Some(region) = region {
+            if !gave_up {
+                report_at(
+                    NoteKind::MissingEnd,
+                    self.number,
+                    1,
+                    word_of(region.kind()),
+                    out,
+                );
+            }
+            self.body.clear();
+        }
+    }
+}

@@ -1,0 +1,9 @@
+//! Tests of what the parts of a source do, on public calls.
+#![tactic(auto)]
+
+#[cfg(test)]
+mod fixtures;
+#[cfg(test)]
+mod leaves;
+#[cfg(test)]
+mod regions;
