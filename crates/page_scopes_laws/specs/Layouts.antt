@@ -20,20 +20,20 @@ abbrev pub scope_of : {L A F S B I : Type 0} → Layout L A F S B I → L → A 
 scope_of lays l a s = record { label = l; before = lays.keep l a s }
 
 -- what the end of a node gives, and the state after it; a node that goes on has no end yet
-abbrev pub left_items : {L A F S B I : Type 0} → Layout L A F S B I → Scope L B → Ender A → S → List I
-left_items lays scope (by_act a) s = lays.end_items scope.label scope.before a s
-left_items lays scope still_open s = []
+abbrev pub closing_items : {L A F S B I : Type 0} → Layout L A F S B I → Scope L B → Ender A → S → List I
+closing_items lays scope (by_act a) s = lays.end_items scope.label scope.before a s
+closing_items lays scope still_open s = []
 
-abbrev pub left_state : {L A F S B I : Type 0} → Layout L A F S B I → Scope L B → Ender A → S → S
-left_state lays scope (by_act a) s = lays.end_state scope.label scope.before a s
-left_state lays scope still_open s = s
+abbrev pub closing_state : {L A F S B I : Type 0} → Layout L A F S B I → Scope L B → Ender A → S → S
+closing_state lays scope (by_act a) s = lays.end_state scope.label scope.before a s
+closing_state lays scope still_open s = s
 
 -- the state after a forest, sibling after sibling
 abbrev pub after : {L A F S B I : Type 0} → Layout L A F S B I → Forest L A F → S → S
 after lays none s = s
 after lays (leaf f next) s = after lays next (lays.leaf_state f s)
 after lays (node l a inner x next) s =
-    after lays next (left_state lays (scope_of lays l a s) x (after lays inner (lays.begin_state l a s)))
+    after lays next (closing_state lays (scope_of lays l a s) x (after lays inner (lays.begin_state l a s)))
 
 -- what a forest gives, sibling after sibling
 abbrev pub lay : {L A F S B I : Type 0} → Layout L A F S B I → Forest L A F → S → List I
@@ -41,16 +41,16 @@ lay lays none s = []
 lay lays (leaf f next) s = lays.leaf_items f s ++ lay lays next (lays.leaf_state f s)
 lay lays (node l a inner x next) s =
     lays.begin_items l a s ++ lay lays inner (lays.begin_state l a s)
-    ++ left_items lays (scope_of lays l a s) x (after lays inner (lays.begin_state l a s))
-    ++ lay lays next (left_state lays (scope_of lays l a s) x (after lays inner (lays.begin_state l a s)))
+    ++ closing_items lays (scope_of lays l a s) x (after lays inner (lays.begin_state l a s))
+    ++ lay lays next (closing_state lays (scope_of lays l a s) x (after lays inner (lays.begin_state l a s)))
 
 -- what ends the open nodes and follows them gives, the innermost first
 abbrev pub lay_outer : {L A F S B I : Type 0} → Layout L A F S B I → List (Scope L B) → S → List (After L A F) → List I
 lay_outer lays scopes s [] = []
 lay_outer lays [] s (next ∷ outer) = []
 lay_outer lays (scope ∷ scopes) s (next ∷ outer) =
-    left_items lays scope next.ender s ++ lay lays next.siblings (left_state lays scope next.ender s)
-    ++ lay_outer lays scopes (after lays next.siblings (left_state lays scope next.ender s)) outer
+    closing_items lays scope next.ender s ++ lay lays next.siblings (closing_state lays scope next.ender s)
+    ++ lay_outer lays scopes (after lays next.siblings (closing_state lays scope next.ender s)) outer
 
 abbrev pub lay_rest : {L A F S B I : Type 0} → Layout L A F S B I → List (Scope L B) → S → Rest L A F → List I
 lay_rest lays scopes s r = lay lays r.here s ++ lay_outer lays scopes (after lays r.here s) r.outer
@@ -66,7 +66,7 @@ open_in lays none s = []
 open_in lays (leaf f next) s = open_in lays next (lays.leaf_state f s)
 open_in lays (node l a inner x next) s =
     if_open x (open_in lays inner (lays.begin_state l a s) ++ scope_of lays l a s ∷ [])
-    (open_in lays next (left_state lays (scope_of lays l a s) x (after lays inner (lays.begin_state l a s))))
+    (open_in lays next (closing_state lays (scope_of lays l a s) x (after lays inner (lays.begin_state l a s))))
 
 -- the open nodes and those in what follows them
 abbrev pub open_outer : {L A F S B I : Type 0} → Layout L A F S B I → List (Scope L B) → List (Scope L B) → S → List (After L A F) → List (Scope L B)
@@ -74,8 +74,8 @@ open_outer lays found scopes s [] = found ++ scopes
 open_outer lays found [] s (next ∷ outer) = found
 open_outer lays found (scope ∷ scopes) s (next ∷ outer) =
     if_open next.ender (found ++ scope ∷ scopes)
-    (open_outer lays (open_in lays next.siblings (left_state lays scope next.ender s)) scopes
-    (after lays next.siblings (left_state lays scope next.ender s)) outer)
+    (open_outer lays (open_in lays next.siblings (closing_state lays scope next.ender s)) scopes
+    (after lays next.siblings (closing_state lays scope next.ender s)) outer)
 
 abbrev pub open_rest : {L A F S B I : Type 0} → Layout L A F S B I → List (Scope L B) → S → Rest L A F → List (Scope L B)
 open_rest lays scopes s r = open_outer lays (open_in lays r.here s) scopes (after lays r.here s) r.outer
@@ -85,7 +85,7 @@ abbrev pub after_outer : {L A F S B I : Type 0} → Layout L A F S B I → List 
 after_outer lays scopes s [] = s
 after_outer lays [] s (next ∷ outer) = s
 after_outer lays (scope ∷ scopes) s (next ∷ outer) =
-    after_outer lays scopes (after lays next.siblings (left_state lays scope next.ender s)) outer
+    after_outer lays scopes (after lays next.siblings (closing_state lays scope next.ender s)) outer
 
 abbrev pub after_rest : {L A F S B I : Type 0} → Layout L A F S B I → List (Scope L B) → S → Rest L A F → S
 after_rest lays scopes s r = after_outer lays scopes (after lays r.here s) r.outer

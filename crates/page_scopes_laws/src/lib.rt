@@ -6,7 +6,7 @@ ghost use Rattle.page_scopes_laws.specs.Forests.{tree};
 ghost use Rattle.page_scopes_laws.specs.Layouts.{Edge, Layout, edge, settled};
 ghost use Rattle.page_scopes_laws.specs.Machines.{run, run_items};
 ghost use Rattle.page_scopes_laws.specs.Nestings.{IsSound, Nesting};
-ghost use Rattle.page_scopes_laws.specs.Parts.{on, part};
+ghost use Rattle.page_scopes_laws.specs.Parts.{on, rest_by};
 
 /// An open node, with what it keeps of the state before it.
 #[derive(Drop)]
@@ -40,9 +40,9 @@ pub fn stack_law<M, L, A, F, S, B, I>()
         → length d.scopes ≤ most → length (edge nests lays d acts).scopes ≤ most }
 {}
 
-/// The tree is what is found node by node, where an inner forest hands on what it leaves of the acts to the enclosing one.
+/// The whole tree is what is found node by node, where what lies ahead of an inner forest goes to the enclosing one.
 pub fn part_law<M, L, A, F>()
     ensures { (nests : Nesting M L A F) (most : ℕ) → IsSound nests most
         → (m : M) (nodes : List L) (acts : List A)
-        → (tree nests m nodes acts).here ≡ (part nests (2 * length acts + 1) nodes (on m acts)).forest }
+        → tree nests m nodes acts ≡ rest_by nests (2 * length acts + 1) nodes (on m acts) }
 {}

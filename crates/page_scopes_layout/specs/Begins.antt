@@ -5,9 +5,9 @@ use Rattle.page_core_base.specs.declared.cells.Font.TheVariants.{R, B}
 use Rattle.page_scopes_words.specs.Fonts.{roman_fonts, with_font}
 use Rattle.page_scopes_layout.specs.Margins.{hold}
 use Rattle.page_scopes_layout.specs.Settings.{entered, set_to}
-use Rattle.page_scopes_layout.specs.declared.TheConstants.{INDENT}
+use Rattle.page_scopes_layout.specs.declared.TheConstants.{PREVAILING}
 use Rattle.page_scopes_layout.specs.declared.contexts.Context.{Context}
-use Rattle.page_scopes_layout.specs.declared.contexts.Part.TheVariants as parts
+use Rattle.page_scopes_layout.specs.declared.contexts.PagePart.TheVariants as parts
 
 -- at the front of a scope nothing is set in it yet
 abbrev pub entered_context : Context → Context
@@ -24,14 +24,14 @@ reset c = record c { fonts = set_to roman_fonts; shift = set_to (pos 0) }
 
 -- no paragraph stands further in
 abbrev pub flat : Context → Context
-flat c = record c { indent = pos 0; first = None }
+flat c = record c { hang = pos 0; first = None }
 
 -- a section stands at the page's indent, filled
 abbrev pub section_begun : ℕ → Context → Context
-section_begun indent c = record (flat (reset c)) {
-  margin = indent;
+section_begun page_indent c = record (flat (reset c)) {
+  margin = page_indent;
   part = parts.Text;
-  prevailing = INDENT;
+  prevailing = PREVAILING;
   is_literal = set_to false;
 }
 
@@ -43,7 +43,7 @@ heading_begun column c = record c {
 }
 
 abbrev pub paragraph_begun : Context → Context
-paragraph_begun c = record (flat (reset c)) { prevailing = INDENT }
+paragraph_begun c = record (flat (reset c)) { prevailing = PREVAILING }
 
 -- an indent that is given prevails from here on
 abbrev pub prevailing_from : Option ℤ → Context → Context
@@ -51,7 +51,7 @@ prevailing_from columns c = record c { prevailing = unwrap_or columns c.prevaili
 
 -- the text stands the prevailing indent further in
 abbrev pub indented_begun : Option ℤ → Context → Context
-indented_begun columns c = record (flat (reset (prevailing_from columns c))) { indent = unwrap_or columns c.prevailing }
+indented_begun columns c = record (flat (reset (prevailing_from columns c))) { hang = unwrap_or columns c.prevailing }
 
 -- the first row stands at the margin
 abbrev pub first_at_margin : Context → Context
@@ -70,5 +70,5 @@ font_begun font c = record c { fonts = record { value = with_font font c.fonts.v
 abbrev pub margin_begun : Option ℤ → Context → Context
 margin_begun columns c = record (flat c) {
   margin = hold (pos c.margin +ℤ unwrap_or columns c.prevailing);
-  prevailing = INDENT;
+  prevailing = PREVAILING;
 }

@@ -2,17 +2,17 @@
 use Rattle.std.specs.Prelude.{ℕ, Bool, true, false, if◌then◌else◌, Option, None, Some, ℤ, pos, ◌+ℤ◌, int_lt, nat_abs}
 use Rattle.page_scopes_layout.specs.declared.TheConstants.{MARGIN}
 use Rattle.page_scopes_layout.specs.declared.contexts.Context.{Context}
-use Rattle.page_scopes_layout.specs.declared.contexts.Part.{Part}
-use Rattle.page_scopes_layout.specs.declared.contexts.Part.TheVariants as parts
+use Rattle.page_scopes_layout.specs.declared.contexts.PagePart.{PagePart}
+use Rattle.page_scopes_layout.specs.declared.contexts.PagePart.TheVariants as parts
 use Rattle.page_scopes_layout.specs.declared.margins.Margins.{Margins}
 
 -- a margin is held to 0 to 1000 columns
 abbrev pub hold : ℤ → ℕ
 hold columns = if int_lt columns (pos 0) then 0 else if int_lt (pos MARGIN) columns then MARGIN else nat_abs columns
 
--- the text of a paragraph stands its indent further in, and the shift of `in`
+-- the text of a paragraph stands its hang further in, and the shift of `in`
 abbrev pub rest_margin : Context → ℕ
-rest_margin c = hold (pos c.margin +ℤ c.indent +ℤ c.shift.value)
+rest_margin c = hold (pos c.margin +ℤ c.hang +ℤ c.shift.value)
 
 abbrev pub first_margin : Context → ℕ → ℕ
 first_margin c first = hold (pos first +ℤ c.shift.value)
@@ -26,7 +26,7 @@ text_margins None has_row c = same_margins (rest_margin c)
 text_margins (Some first) true c = same_margins (rest_margin c)
 text_margins (Some first) false c = record { first = first_margin c first; rest = rest_margin c }
 
-abbrev pub part_margins : Part → Context → Margins
+abbrev pub part_margins : PagePart → Context → Margins
 part_margins (parts.Heading column) c = same_margins column
 part_margins _ c = text_margins c.first c.has_row c
 

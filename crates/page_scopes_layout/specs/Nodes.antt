@@ -19,7 +19,7 @@ margin_items c = shown (pieces.Indent (margins c).first (margins c).rest) ∷ []
 abbrev pub line_begin_items : LineOpener → Context → List Item
 line_begin_items (lines.Heading name) c = margin_items c
 line_begin_items (lines.Tag name) c =
-    shown (pieces.Indent (margins c).first (margins c).rest) ∷ shown (pieces.Tag (hold c.indent) Row) ∷ []
+    shown (pieces.Indent (margins c).first (margins c).rest) ∷ shown (pieces.Tag (hold c.hang) Row) ∷ []
 line_begin_items (lines.FontWords name) c = []
 
 abbrev pub explicit_begin_items : Explicit → Context → List Item
@@ -42,7 +42,7 @@ line_end_items (lines.FontWords name) c = []
 
 abbrev pub explicit_end_items : Explicit → Context → List Item
 explicit_end_items RelativeMargin c = shown pieces.Break ∷ margin_items c
-explicit_end_items (Target link) c = []
+explicit_end_items (Target link) c = margin_items c
 explicit_end_items Syntax c = shown pieces.Break ∷ margin_items c
 
 -- in the context after a scope: its margins hold again

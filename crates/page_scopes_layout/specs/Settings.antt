@@ -14,5 +14,5 @@ abbrev pub entered : {T : Type 0} → Setting T → Setting T
 entered now = record { value = now.value; is_set = false }
 
 -- after a scope the value is that before it, unless another one was set inside
-abbrev pub left : {T : Type 0} → Setting T → Setting T → Setting T
-left before now = if now.is_set then now else before
+abbrev pub after_scope : {T : Type 0} → Setting T → Setting T → Setting T
+after_scope before now = if now.is_set then now else before

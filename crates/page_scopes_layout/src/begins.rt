@@ -3,7 +3,7 @@
 ghost use Rattle.std.specs.Prelude.{◌≡◌};
 ghost use Rattle.page_scopes_layout.specs.Begins as begins;
 
-use crate::{Context, INDENT, Part, Setting, hold};
+use crate::{Context, PREVAILING, PagePart, Setting, hold};
 use page_core_base::Font;
 use page_scopes_words::{Fonts, ROMAN};
 
@@ -37,20 +37,20 @@ impl Context {
         ensures { result ≡ begins.flat self }
     {
         Context {
-            indent: 0,
+            hang: 0,
             first: None,
             ..self
         }
     }
 
-    /// A section or subsection begins, where the page has this indent in columns.
-    pub fn section_begun(self, indent: u32) -> Context
-        ensures { result ≡ begins.section_begun indent self }
+    /// A section or subsection begins, at the page's indent in columns.
+    pub fn section_begun(self, page_indent: u32) -> Context
+        ensures { result ≡ begins.section_begun page_indent self }
     {
         Context {
-            margin: indent,
-            part: Part::Text,
-            prevailing: INDENT,
+            margin: page_indent,
+            part: PagePart::Text,
+            prevailing: PREVAILING,
             is_literal: Setting::set_to(false),
             ..self.reset().flat()
         }
@@ -61,7 +61,7 @@ impl Context {
         ensures { result ≡ begins.heading_begun column self }
     {
         Context {
-            part: Part::Heading(column),
+            part: PagePart::Heading(column),
             fonts: Setting {
                 value: Fonts {
                     font: Font::B,
@@ -78,7 +78,7 @@ impl Context {
         ensures { result ≡ begins.paragraph_begun self }
     {
         Context {
-            prevailing: INDENT,
+            prevailing: PREVAILING,
             ..self.reset().flat()
         }
     }
@@ -99,7 +99,7 @@ impl Context {
     {
         let context = self.prevailing_from(columns).reset().flat();
         Context {
-            indent: context.prevailing,
+            hang: context.prevailing,
             ..context
         }
     }
@@ -127,7 +127,7 @@ impl Context {
         ensures { result ≡ begins.tag_begun self }
     {
         Context {
-            part: Part::Tag,
+            part: PagePart::Tag,
             ..self.first_at_margin()
         }
     }
@@ -155,7 +155,7 @@ impl Context {
         let further = columns.unwrap_or(self.prevailing);
         Context {
             margin: hold(i64::from(self.margin) + i64::from(further)),
-            prevailing: INDENT,
+            prevailing: PREVAILING,
             ..self.flat()
         }
     }

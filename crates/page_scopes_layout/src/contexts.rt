@@ -3,14 +3,14 @@
 ghost use Rattle.std.specs.Prelude.{◌≡◌};
 ghost use Rattle.page_scopes_layout.specs.Contexts as contexts;
 
-use crate::{INDENT, Setting};
+use crate::{PREVAILING, Setting};
 use page_scopes_tree::{Explicit, Label};
 use page_scopes_words::{Fonts, ROMAN};
 use page_sets_lines::LineOpener;
 
 /// What part of a page a text is.
 #[derive(Clone, Copy, PartialEq, Eq)]
-pub enum Part {
+pub enum PagePart {
     /// The text of a section or a paragraph.
     Text,
     /// A tag.
@@ -24,13 +24,13 @@ pub enum Part {
 pub struct Context {
     /// The margin of the section or the relative margin, up to [`MARGIN`](crate::MARGIN).
     pub margin: u32,
-    /// How much further in the open paragraph's text stands.
-    pub indent: i32,
+    /// The columns that the open paragraph's text stands further in.
+    pub hang: i32,
     /// The margin of the paragraph's first row, where it has one of its own.
     pub first: Option<u32>,
     /// A row has begun since that was set.
     pub has_row: bool,
-    pub part: Part,
+    pub part: PagePart,
     /// The indent of paragraphs that give none.
     pub prevailing: i32,
     pub fonts: Setting<Fonts>,
@@ -42,17 +42,17 @@ pub struct Context {
 }
 
 impl Context {
-    /// The context of a page before its first line, where the page has this indent in columns.
-    pub fn start(indent: u32) -> Context
-        ensures { result ≡ contexts.start indent }
+    /// The context of a page before its first line, at the page's indent in columns.
+    pub fn start(page_indent: u32) -> Context
+        ensures { result ≡ contexts.start page_indent }
     {
         Context {
-            margin: indent,
-            indent: 0,
+            margin: page_indent,
+            hang: 0,
             first: None,
             has_row: true,
-            part: Part::Text,
-            prevailing: INDENT,
+            part: PagePart::Text,
+            prevailing: PREVAILING,
             fonts: Setting::at_first(ROMAN),
             is_literal: Setting::at_first(false),
             shift: Setting::at_first(0),
@@ -62,8 +62,8 @@ impl Context {
 }
 
 // Whether the prevailing indent ends with a scope.
-fn owns_indent(label: Label) -> bool
-    ensures { result ≡ contexts.owns_indent label }
+fn owns_prevailing(label: Label) -> bool
+    ensures { result ≡ contexts.owns_prevailing label }
 {
     match label {
         Label::Section | Label::Subsection | Label::Explicit(Explicit::RelativeMargin) => true,
@@ -87,11 +87,11 @@ pub fn restored(label: Label, before: Context, now: Context) -> Context
 {
     Context {
         margin: before.margin,
-        indent: before.indent,
+        hang: before.hang,
         first: before.first,
         has_row: before.has_row || now.has_row,
         part: before.part,
-        prevailing: if owns_indent(label) {
+        prevailing: if owns_prevailing(label) {
             before.prevailing
         } else {
             now.prevailing
@@ -99,10 +99,10 @@ pub fn restored(label: Label, before: Context, now: Context) -> Context
         fonts: if guards_fonts(label) {
             before.fonts
         } else {
-            now.fonts.left(before.fonts)
+            now.fonts.after_scope(before.fonts)
         },
-        is_literal: now.is_literal.left(before.is_literal),
-        shift: now.shift.left(before.shift),
-        distance: now.distance.left(before.distance),
+        is_literal: now.is_literal.after_scope(before.is_literal),
+        shift: now.shift.after_scope(before.shift),
+        distance: now.distance.after_scope(before.distance),
     }
 }

@@ -7,7 +7,7 @@ mod margins;
 mod nodes;
 mod settings;
 
-pub use contexts::{Context, Part, restored};
+pub use contexts::{Context, PagePart, restored};
 pub use margins::{Margins, hold, margins_of};
 pub use nodes::{give_begin, give_end};
 pub use settings::Setting;
@@ -16,4 +16,4 @@ pub use settings::Setting;
 pub const MARGIN: u32 = 1_000;
 
 /// The prevailing indent, in columns, of a section, a relative margin and a plain paragraph.
-pub const INDENT: i32 = 7;
+pub const PREVAILING: i32 = 7;

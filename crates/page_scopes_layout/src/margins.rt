@@ -3,7 +3,7 @@
 ghost use Rattle.std.specs.Prelude.{◌≡◌};
 ghost use Rattle.page_scopes_layout.specs.Margins as margins;
 
-use crate::{Context, MARGIN, Part};
+use crate::{Context, MARGIN, PagePart};
 
 /// The margins of the row that begins next, and of the rows after it.
 #[derive(Clone, Copy)]
@@ -29,7 +29,7 @@ pub fn hold(columns: i64) -> u32
 fn rest_margin(context: &Context) -> u32
     ensures { result ≡ margins.rest_margin context.now }
 {
-    hold(i64::from(context.margin) + i64::from(context.indent) + i64::from(context.shift.value))
+    hold(i64::from(context.margin) + i64::from(context.hang) + i64::from(context.shift.value))
 }
 
 // The margin of a first row that has one of its own.
@@ -43,7 +43,7 @@ fn first_margin(context: &Context, first: u32) -> u32
 pub fn margins_of(context: &Context) -> Margins
     ensures { result ≡ margins.margins context.now }
 {
-    if let Part::Heading(column) = context.part {
+    if let PagePart::Heading(column) = context.part {
         return Margins {
             first: column,
             rest: column,

@@ -29,7 +29,7 @@ fn give_line_begin<O: PieceOut>(out: &mut O, opener: LineOpener, context: &Conte
         LineOpener::Tag(_) => {
             give_margins(out, context);
             out.give(Piece::Tag {
-                hang: hold(i64::from(context.indent)),
+                hang: hold(i64::from(context.hang)),
                 form: TagForm::Row,
             });
         }
@@ -81,12 +81,14 @@ pub fn give_end<O: PieceOut>(out: &mut O, label: Label, context: &Context)
     ensures { Came O.left out.old (nodes.end_items label context.now) out.new }
 {
     match label {
-        Label::Section | Label::Subsection | Label::Paragraph => give_margins(out, context),
+        Label::Section
+        | Label::Subsection
+        | Label::Paragraph
+        | Label::Explicit(Explicit::Target(_)) => give_margins(out, context),
         Label::Explicit(Explicit::RelativeMargin | Explicit::Syntax) => {
             out.give(Piece::Break);
             give_margins(out, context);
         }
-        Label::Explicit(Explicit::Target(_)) => {}
         Label::Line(opener) => give_line_end(out, opener, context),
     }
 }

@@ -55,8 +55,8 @@ impl<T: Copy> Setting<T> {
     }
 
     /// The value after a scope: that before it, unless another one was set inside.
-    pub fn left(self, before: Setting<T>) -> Setting<T>
-        ensures { result ≡ settings.left before self }
+    pub fn after_scope(self, before: Setting<T>) -> Setting<T>
+        ensures { result ≡ settings.after_scope before self }
     {
         if self.is_set { self } else { before }
     }

@@ -1,9 +1,10 @@
 //! Margins of scopes that begin and end.
 
-use page_core_base::Font;
-use page_scopes_layout::{Context, Setting, margins_of, restored};
+use page_core_base::{Font, Note, Piece, PieceOut};
+use page_scopes_layout::{Context, Setting, give_begin, give_end, margins_of, restored};
 use page_scopes_tree::{Explicit, Label};
-use page_sets_lines::{FontMacro, LineOpener, TagName};
+use page_sets_lines::{FontMacro, HeadingName, LineOpener, Link, TagName};
+use std::alloc::Global;
 use std::process::Abort;
 use std::test::Fail;
 
@@ -66,5 +67,86 @@ fn contexts_after_scopes(rt: HostRuntime) -> Result<(), Fail> {
         &restored(Label::Line(LineOpener::Tag(TagName::TP)), page, tag),
         Font::B,
     );
+    Ok(())
+}
+
+// Keeps a letter for each piece, and a margin's first column in two digits.
+#[derive(Drop)]
+struct Letters {
+    text: Vec<u8>,
+}
+
+impl Letters {
+    fn add(&mut self, bytes: &[u8]) {
+        let _ = self.text.extend_from_slice(bytes);
+    }
+}
+
+fn piece_letter(piece: &Piece<&[u8]>) -> &'static str {
+    match piece {
+        Piece::Para(_) => "P",
+        Piece::Break => "B",
+        Piece::Literal(_) => "L",
+        Piece::Indent { .. } => "I",
+        Piece::Tag { .. } => "T",
+        Piece::TagEnd => "t",
+        Piece::Heading => "H",
+        _ => "?",
+    }
+}
+
+impl PieceOut for Letters {
+    ghost Plan = { Unit {0} };
+
+    ghost left = { λ plan s rest. Unit {0} };
+
+    fn give(&mut self, piece: Piece<&[u8]>) {
+        self.add(piece_letter(&piece).as_bytes());
+        if let Piece::Indent { first, .. } = piece {
+            self.add(&[b'0' + (first / 10 % 10) as u8, b'0' + (first % 10) as u8]);
+        }
+    }
+
+    fn report(&mut self, _note: &Note) {
+        self.add(b"!");
+    }
+
+    fn has_failed(&self) -> bool {
+        false
+    }
+}
+
+fn check_given(rt: &impl Abort, alloc: Global, label: Label, wanted: &str) {
+    let context = Context::start(7);
+    let mut out = Letters {
+        text: Vec::new(alloc),
+    };
+    give_begin(&mut out, label, &context);
+    out.add(b" ");
+    give_end(&mut out, label, &context);
+    assert_eq!(rt; out.text.as_slice(), wanted.as_bytes());
+}
+
+// What a scope begins with, and what it ends with.
+const GIVEN: [(Label, &str); 9] = [
+    (Label::Section, "PL I07"),
+    (Label::Subsection, "PL I07"),
+    (Label::Paragraph, "PI07 I07"),
+    (RELATIVE_MARGIN, "BI07 BI07"),
+    (Label::Explicit(Explicit::Target(Link::UR)), " I07"),
+    (Label::Explicit(Explicit::Syntax), " BI07"),
+    (
+        Label::Line(LineOpener::Heading(HeadingName::SH)),
+        "I07 HI07",
+    ),
+    (Label::Line(LineOpener::Tag(TagName::TP)), "I07T tI07"),
+    (Label::Line(LineOpener::FontWords(FontMacro::B)), " "),
+];
+
+#[test]
+fn what_scopes_give(rt: HostRuntime) -> Result<(), Fail> {
+    for (label, wanted) in GIVEN {
+        check_given(&rt, rt.alloc(), label, wanted);
+    }
     Ok(())
 }

@@ -4,11 +4,12 @@ use Rattle.page_scopes_laws.proofs.CutLemmas.{settled-append, edge-append, edge-
 use Rattle.page_scopes_laws.specs.Layouts.{settled, edge}
 use Rattle.page_sets_lines.specs.declared.events.Event.{Event}
 use Rattle.page_scopes_tree.proofs.FitLemmas.{scopes-sound}
-use Rattle.page_scopes_tree.specs.Acts.{steps_of}
-use Rattle.page_scopes_tree.specs.Edges.{ScopesEdge, steps_of_all, events_items, events_edge}
+use Rattle.page_scopes_tree.specs.Acts.{does, steps_of}
+use Rattle.page_scopes_tree.specs.Edges.{ScopesEdge, steps_of_all, events_items, events_edge, page_items, page_end_items}
 use Rattle.page_scopes_tree.specs.Frames.{Tables, framed}
 use Rattle.page_scopes_tree.specs.Nests.{scopes_nesting}
 use Rattle.page_scopes_tree.specs.declared.TheConstants.{SCOPES}
+use Rattle.page_scopes_tree.specs.declared.acts.Act.TheVariants as acts
 
 pub steps_of_all-append : (events more : List (Event (List ℕ))) → steps_of_all (events ++ more) ≡ steps_of_all events ++ steps_of_all more
 steps_of_all-append [] more = refl
@@ -33,3 +34,9 @@ events_edge-append tables d events more =
 pub events_edge-fits : {S B : Type 0} (tables : Tables S B) (d : ScopesEdge S B) (events : List (Event (List ℕ)))
     → length d.scopes ≤ SCOPES → length (events_edge tables d events).scopes ≤ SCOPES
 events_edge-fits tables d events h = edge-fits scopes_nesting scopes-sound (framed tables) d (steps_of_all events) h
+
+-- the page's end comes after all events
+pub page_items-append : {S B : Type 0} (tables : Tables S B) (d : ScopesEdge S B) (events : List (Event (List ℕ))) (line : ℕ)
+    → page_items tables d events line ≡ events_items tables d events ++ page_end_items tables (events_edge tables d events) line
+page_items-append tables d events line =
+    settled-append scopes_nesting scopes-sound (framed tables) d (steps_of_all events) (does (acts.PageEnd line) ∷ [])

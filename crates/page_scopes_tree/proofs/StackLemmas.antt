@@ -69,10 +69,10 @@ pub edge_by_one : {M L A F S B I : Type 0} (nests : Nesting M L A F) {most : ℕ
 edge_by_one nests sound lays d d0 a same = sym (ap (λ t. edge nests lays t (a ∷ [])) same) ∙ edge-one nests sound lays d0 a
 
 -- no more scopes than there may be
-pub scopes_fit : {S B : Type 0} (lays : Layout Label Step Fact S B Item) (skips next : Bool) (scopes left : Vec (Scope Label B)) (s t : S) (a : Step)
-    → vec_len scopes ≤ SCOPES → stack_edge next left t ≡ step scopes_nesting lays (stack_edge skips scopes s) a → vec_len left ≤ SCOPES
-scopes_fit lays skips next scopes left s t a h e =
+pub scopes_fit : {S B : Type 0} (lays : Layout Label Step Fact S B Item) (skips next : Bool) (scopes next_scopes : Vec (Scope Label B)) (s t : S) (a : Step)
+    → vec_len scopes ≤ SCOPES → stack_edge next next_scopes t ≡ step scopes_nesting lays (stack_edge skips scopes s) a → vec_len next_scopes ≤ SCOPES
+scopes_fit lays skips next scopes next_scopes s t a h e =
     let before : length (reverse scopes.items) ≤ SCOPES = rw length-reverse (omega (arith, scopes.ok.0)) in
     let fits = step_fits scopes_nesting scopes-sound lays (stack_edge skips scopes s) a before in
-    let same : length (reverse left.items) ≡ length (step scopes_nesting lays (stack_edge skips scopes s) a).scopes = ap (λ d. length d.scopes) e in
-    omega (arith, left.ok.0, same, fits, length-reverse left.items)
+    let same : length (reverse next_scopes.items) ≡ length (step scopes_nesting lays (stack_edge skips scopes s) a).scopes = ap (λ d. length d.scopes) e in
+    omega (arith, next_scopes.ok.0, same, fits, length-reverse next_scopes.items)

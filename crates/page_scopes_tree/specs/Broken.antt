@@ -1,5 +1,5 @@
 -- The message of a scope that ends otherwise than by its own closer, and of an event that is refused. Source: mandoc(1), "DIAGNOSTICS".
-use Rattle.std.specs.Prelude.{ℕ, Bool, true, false, List, [], ◌∷◌, Option, None, Some, if◌then◌else◌, codes}
+use Rattle.std.specs.Prelude.{ℕ, Bool, false, List, [], ◌∷◌, Option, None, Some, if◌then◌else◌, codes}
 use Rattle.page_core_base.specs.Messages.{message_about}
 use Rattle.page_core_base.specs.Pieces.{Item, noted}
 use Rattle.page_core_base.specs.declared.note_kinds.NoteKind.{NoteKind}
@@ -15,22 +15,22 @@ use Rattle.page_sets_lines.specs.declared.openers.Opener.TheVariants as openers
 use Rattle.page_sets_lines.specs.declared.openers.Closer.{Closer}
 use Rattle.page_sets_lines.specs.declared.openers.Closer.TheVariants as closers
 use Rattle.page_scopes_tree.specs.Acts.{act_place}
-use Rattle.page_scopes_tree.specs.Labels.{same_link, explicit_name}
+use Rattle.page_scopes_tree.specs.Labels.{same_explicit, explicit_name}
 use Rattle.page_scopes_tree.specs.declared.acts.Act.{Act}
 use Rattle.page_scopes_tree.specs.declared.acts.Act.TheVariants as acts
 use Rattle.page_scopes_tree.specs.declared.labels.Explicit.{Explicit}
 use Rattle.page_scopes_tree.specs.declared.labels.Explicit.TheVariants.{RelativeMargin, Target, Syntax}
 use Rattle.page_scopes_tree.specs.declared.labels.Label.{Label}
 use Rattle.page_scopes_tree.specs.declared.labels.Label.TheVariants as labels
-use Rattle.page_scopes_tree.specs.declared.standings.Refusal.{Refusal}
-use Rattle.page_scopes_tree.specs.declared.standings.Refusal.TheVariants.{Scopes, NotOpen, FewerMargins}
+use Rattle.page_scopes_tree.specs.declared.standings.Obstacle.{Obstacle}
+use Rattle.page_scopes_tree.specs.declared.standings.Obstacle.TheVariants.{Scopes, NotOpen, FewerMargins}
 
 -- whether a closer is the own one of a scope; that of a relative margin is any `RE`
 abbrev pub is_own : Closer (List ℕ) → Explicit → Bool
-is_own (closers.RelativeMargin number) RelativeMargin = true
-is_own (closers.Target link suffix) (Target other) = same_link link other
-is_own closers.Syntax Syntax = true
-is_own _ _ = false
+is_own closers.Line explicit = false
+is_own (closers.RelativeMargin number) explicit = same_explicit RelativeMargin explicit
+is_own (closers.Target link suffix) explicit = same_explicit (Target link) explicit
+is_own closers.Syntax explicit = same_explicit Syntax explicit
 
 -- the next synopsis ends one as its closer does; any other opener leaves a scope without its end
 abbrev pub broken_by_opener : Opener (List ℕ) → Explicit → Option NoteKind
@@ -106,7 +106,7 @@ abbrev pub act_closer_name : Act (List ℕ) → List ℕ
 act_closer_name (acts.Event event) = deed_closer_name event.deed
 act_closer_name (acts.PageEnd line) = []
 
-abbrev pub refusal_notes : Refusal → Act (List ℕ) → List Item
-refusal_notes Scopes act = says kinds.Limit (act_place act) (codes "SCOPES") ∷ []
-refusal_notes NotOpen act = says kinds.NotOpen (act_place act) (act_closer_name act) ∷ []
-refusal_notes FewerMargins act = says kinds.FewerRs (act_place act) [] ∷ []
+abbrev pub obstacle_notes : Obstacle → Act (List ℕ) → List Item
+obstacle_notes Scopes act = says kinds.Limit (act_place act) (codes "SCOPES") ∷ []
+obstacle_notes NotOpen act = says kinds.NotOpen (act_place act) (act_closer_name act) ∷ []
+obstacle_notes FewerMargins act = says kinds.FewerRs (act_place act) [] ∷ []

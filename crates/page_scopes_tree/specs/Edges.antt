@@ -30,3 +30,7 @@ page_end_items tables d line = settled scopes_nesting (framed tables) d (does (a
 
 abbrev pub page_end_edge : {S B : Type 0} → Tables S B → ScopesEdge S B → ℕ → ScopesEdge S B
 page_end_edge tables d line = edge scopes_nesting (framed tables) d (does (acts.PageEnd line) ∷ [])
+
+-- what the rest of a page gives: its events, and its end on a line
+abbrev pub page_items : {S B : Type 0} → Tables S B → ScopesEdge S B → List (Event (List ℕ)) → ℕ → List Item
+page_items tables d events line = settled scopes_nesting (framed tables) d (steps_of_all events ++ does (acts.PageEnd line) ∷ [])

@@ -1,7 +1,7 @@
 -- How many of the open scopes, the innermost first, an event ends. Source: man(7), "MACRO OVERVIEW".
-use Rattle.std.specs.Prelude.{ℕ, suc, ◌+◌, ◌-◌, ◌==◌, not, List, [], ◌∷◌, length, reverse, Option, None, Some, if◌then◌else◌, position, ℤ, pos, int_lt, nat_abs}
+use Rattle.std.specs.Prelude.{ℕ, suc, ◌+◌, ◌-◌, ◌==◌, nat_lt, Bool, not, List, [], ◌∷◌, length, reverse, Option, None, Some, if◌then◌else◌, ℤ, pos, int_lt, nat_abs}
 use Rattle.std.specs.Option.{option_map}
-use Rattle.std.specs.List.{take_while}
+use Rattle.std.specs.List.{prefix_len}
 use Rattle.page_core_numbers.specs.Expressions.{expression_of}
 use Rattle.page_core_numbers.specs.declared.scales.Scale.TheVariants.{Basic}
 use Rattle.page_sets_lines.specs.declared.events.Deed.{Deed}
@@ -12,27 +12,36 @@ use Rattle.page_sets_lines.specs.declared.openers.Opener.{Opener}
 use Rattle.page_sets_lines.specs.declared.openers.Opener.TheVariants as openers
 use Rattle.page_sets_lines.specs.declared.openers.Closer.{Closer}
 use Rattle.page_sets_lines.specs.declared.openers.Closer.TheVariants as closers
-use Rattle.page_scopes_tree.specs.Labels.{is_line, is_section, is_paragraph, is_margin, is_syntax, is_target, is_level}
+use Rattle.page_scopes_tree.specs.Labels.{is_line, is_section, is_paragraph, is_explicit, is_margin, is_level}
 use Rattle.page_scopes_tree.specs.declared.acts.Act.{Act}
 use Rattle.page_scopes_tree.specs.declared.acts.Act.TheVariants as acts
+use Rattle.page_scopes_tree.specs.declared.labels.Explicit.{Explicit}
+use Rattle.page_scopes_tree.specs.declared.labels.Explicit.TheVariants.{RelativeMargin, Target, Syntax}
 use Rattle.page_scopes_tree.specs.declared.labels.Label.{Label}
 
--- all scopes up to the one that was found and with it, and none where none was
-abbrev pub up_to : Option ℕ → ℕ
-up_to None = 0
-up_to (Some i) = i + 1
+-- the scopes inside the innermost one of which something holds; all where it holds of none
+abbrev pub inside : (Label → Bool) → List Label → ℕ
+inside is nodes = prefix_len (λ label. not (is label)) nodes
+
+-- all scopes up to one that was found and with it, and none where it does not come before an end
+abbrev pub up_to : (found end : ℕ) → ℕ
+up_to found end = if nat_lt found end then found + 1 else 0
 
 -- the line scopes that are innermost
 abbrev pub line_scopes : List Label → ℕ
-line_scopes nodes = length (take_while is_line nodes)
+line_scopes nodes = prefix_len is_line nodes
 
 -- all inside the section
 abbrev pub inside_section : List Label → ℕ
-inside_section nodes = length (take_while (λ label. not (is_section label)) nodes)
+inside_section nodes = inside is_section nodes
+
+-- up to the innermost scope of a closer
+abbrev pub up_to_explicit : Explicit → List Label → ℕ
+up_to_explicit explicit nodes = up_to (inside (is_explicit explicit) nodes) (length nodes)
 
 -- up to the open paragraph of the same relative margin or section
 abbrev pub up_to_paragraph : List Label → ℕ
-up_to_paragraph nodes = up_to (position is_paragraph (take_while (λ label. not (is_level label)) nodes))
+up_to_paragraph nodes = up_to (inside is_paragraph nodes) (inside is_level nodes)
 
 -- where the relative margin of a number stands, counted from the outermost scope on
 abbrev pub place_of_margin : ℕ → List Label → Option ℕ
@@ -52,7 +61,7 @@ up_to_margin number nodes =
     if int_lt number (pos 1) then 0 else but_outside (place_of_margin (nat_abs number) (reverse nodes)) (length nodes)
 
 abbrev pub margin_ends : Option (List ℕ) → List Label → ℕ
-margin_ends None nodes = up_to (position is_margin nodes)
+margin_ends None nodes = up_to_explicit RelativeMargin nodes
 margin_ends (Some number) nodes = up_to_margin (expression_of Basic number).value nodes
 
 abbrev pub opener_ends : Opener (List ℕ) → List Label → ℕ
@@ -64,13 +73,13 @@ opener_ends (openers.Indented tag hang) nodes = up_to_paragraph nodes
 opener_ends (openers.Hanging hang) nodes = up_to_paragraph nodes
 opener_ends (openers.RelativeMargin columns) nodes = 0
 opener_ends (openers.Target link target) nodes = 0
-opener_ends (openers.Syntax name) nodes = up_to (position is_syntax nodes)
+opener_ends (openers.Syntax name) nodes = up_to_explicit Syntax nodes
 
 abbrev pub closer_ends : Closer (List ℕ) → List Label → ℕ
 closer_ends closers.Line nodes = line_scopes nodes
 closer_ends (closers.RelativeMargin number) nodes = margin_ends number nodes
-closer_ends (closers.Target link suffix) nodes = up_to (position (is_target link) nodes)
-closer_ends closers.Syntax nodes = up_to (position is_syntax nodes)
+closer_ends (closers.Target link suffix) nodes = up_to_explicit (Target link) nodes
+closer_ends closers.Syntax nodes = up_to_explicit Syntax nodes
 
 abbrev pub leaf_ends : Leaf (List ℕ) → List Label → ℕ
 leaf_ends leaves.BlankLine nodes = line_scopes nodes

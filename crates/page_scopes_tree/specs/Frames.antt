@@ -7,7 +7,7 @@ use Rattle.page_scopes_laws.specs.Layouts.{Layout}
 use Rattle.page_sets_lines.specs.declared.events.Event.{Event}
 use Rattle.page_sets_lines.specs.declared.events.Deed.TheVariants.{End}
 use Rattle.page_scopes_tree.specs.Acts.{Step, comes, does, act_place}
-use Rattle.page_scopes_tree.specs.Broken.{broken_notes, refusal_notes}
+use Rattle.page_scopes_tree.specs.Broken.{broken_notes, obstacle_notes}
 use Rattle.page_scopes_tree.specs.Nests.{Fact, coming, standing, refused}
 use Rattle.page_scopes_tree.specs.declared.acts.Act.{Act}
 use Rattle.page_scopes_tree.specs.declared.acts.Act.TheVariants as acts
@@ -38,12 +38,12 @@ event_of (acts.PageEnd line) = record { place = record { line = line; column = 1
 abbrev pub fact_items : {S B : Type 0} → Tables S B → Fact → S → List Item
 fact_items tables (coming event) s = tables.coming_items event s
 fact_items tables (standing act) s = tables.leaf_items act s
-fact_items tables (refused refusal act) s = refusal_notes refusal act
+fact_items tables (refused obstacle act) s = obstacle_notes obstacle act
 
 abbrev pub fact_state : {S B : Type 0} → Tables S B → Fact → S → S
 fact_state tables (coming event) s = tables.coming_state event s
 fact_state tables (standing act) s = tables.leaf_state act s
-fact_state tables (refused refusal act) s = s
+fact_state tables (refused obstacle act) s = s
 
 -- what the end of a scope gives: its message, and then what the layout gives
 abbrev pub ending_items : {S B : Type 0} → Tables S B → Label → B → Act (List ℕ) → S → List Item

@@ -25,23 +25,25 @@ abbrev pub is_paragraph : Label → Bool
 is_paragraph labels.Paragraph = true
 is_paragraph _ = false
 
-abbrev pub is_margin : Label → Bool
-is_margin (labels.Explicit RelativeMargin) = true
-is_margin _ = false
-
-abbrev pub is_syntax : Label → Bool
-is_syntax (labels.Explicit Syntax) = true
-is_syntax _ = false
-
 abbrev pub same_link : Link → Link → Bool
 same_link UR UR = true
 same_link MT MT = true
 same_link UR MT = false
 same_link MT UR = false
 
-abbrev pub is_target : Link → Label → Bool
-is_target link (labels.Explicit (Target other)) = same_link link other
-is_target link _ = false
+-- whether two scopes have one closer
+abbrev pub same_explicit : Explicit → Explicit → Bool
+same_explicit RelativeMargin RelativeMargin = true
+same_explicit (Target link) (Target other) = same_link link other
+same_explicit Syntax Syntax = true
+same_explicit _ _ = false
+
+abbrev pub is_explicit : Explicit → Label → Bool
+is_explicit explicit (labels.Explicit other) = same_explicit explicit other
+is_explicit explicit _ = false
+
+abbrev pub is_margin : Label → Bool
+is_margin label = is_explicit RelativeMargin label
 
 -- paragraphs inside it are apart from those around it
 abbrev pub is_level : Label → Bool

@@ -7,3 +7,4 @@ pub mod Nests
 pub mod Frames
 pub mod Edges
 pub mod Stacks
+pub mod Runs

@@ -3,37 +3,37 @@ use Rattle.std.specs.Prelude.{ℕ, Bool, List, if◌then◌else◌}
 use Rattle.page_scopes_laws.specs.Nestings.{Nesting, Standing, as_node, as_leaf, as_nothing}
 use Rattle.page_scopes_tree.specs.Acts.{Step, comes, does}
 use Rattle.page_scopes_tree.specs.Ends.{act_ends}
-use Rattle.page_scopes_tree.specs.Standings.{act_outcome, act_skips, is_passed_over}
+use Rattle.page_scopes_tree.specs.Standings.{act_fate, act_skips, is_passed_over}
 use Rattle.page_sets_lines.specs.declared.events.Event.{Event}
 use Rattle.page_scopes_tree.specs.declared.acts.Act.{Act}
 use Rattle.page_scopes_tree.specs.declared.labels.Label.{Label}
-use Rattle.page_scopes_tree.specs.declared.standings.Outcome.{Outcome}
-use Rattle.page_scopes_tree.specs.declared.standings.Outcome.TheVariants as outcomes
-use Rattle.page_scopes_tree.specs.declared.standings.Refusal.{Refusal}
+use Rattle.page_scopes_tree.specs.declared.standings.Fate.{Fate}
+use Rattle.page_scopes_tree.specs.declared.standings.Fate.TheVariants as fates
+use Rattle.page_scopes_tree.specs.declared.standings.Obstacle.{Obstacle}
 
 -- what a leaf is: an event that comes, an act that opens and closes nothing, or one that is refused
 pub data Fact : Type 0 where
   coming : Event (List ℕ) → Fact
   standing : Act (List ℕ) → Fact
-  refused : Refusal → Act (List ℕ) → Fact
+  refused : Obstacle → Act (List ℕ) → Fact
 
-abbrev pub standing_by : Act (List ℕ) → Outcome → Standing Label Fact
-standing_by act (outcomes.Node label) = as_node label
-standing_by act outcomes.Leaf = as_leaf (standing act)
-standing_by act (outcomes.Refused refusal) = as_leaf (refused refusal act)
-standing_by act outcomes.Nothing = as_nothing
+abbrev pub standing_by : Act (List ℕ) → Fate → Standing Label Fact
+standing_by act (fates.Node label) = as_node label
+standing_by act fates.Leaf = as_leaf (standing act)
+standing_by act (fates.Refused obstacle) = as_leaf (refused obstacle act)
+standing_by act fates.Nothing = as_nothing
 
 abbrev pub step_ends : Bool → Step → List Label → ℕ
 step_ends skips (comes event) nodes = 0
 step_ends skips (does act) nodes = if is_passed_over skips act then 0 else act_ends act nodes
 
 abbrev pub step_standing : Bool → Step → ℕ → List Label → Standing Label Fact
-step_standing skips (comes event) n left = if skips then as_nothing else as_leaf (coming event)
-step_standing skips (does act) n left = if is_passed_over skips act then as_nothing else standing_by act (act_outcome act n left)
+step_standing skips (comes event) n remaining = if skips then as_nothing else as_leaf (coming event)
+step_standing skips (does act) n remaining = if is_passed_over skips act then as_nothing else standing_by act (act_fate act n remaining)
 
 abbrev pub step_skips : Bool → Step → ℕ → List Label → Bool
-step_skips skips (comes event) n left = skips
-step_skips skips (does act) n left = act_skips skips act left
+step_skips skips (comes event) n remaining = skips
+step_skips skips (does act) n remaining = act_skips skips act remaining
 
 -- the tables of events as a nesting of scopes
 abbrev pub scopes_nesting : Nesting Bool Label Step Fact

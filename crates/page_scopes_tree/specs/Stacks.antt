@@ -5,7 +5,7 @@ use Rattle.page_scopes_laws.specs.Layouts.{Edge, labels}
 use Rattle.page_scopes_laws.specs.Nestings.{Standing}
 use Rattle.page_scopes_laws.specs.declared.Scope.{Scope}
 use Rattle.page_scopes_tree.specs.Nests.{Fact, standing_by}
-use Rattle.page_scopes_tree.specs.Standings.{act_outcome}
+use Rattle.page_scopes_tree.specs.Standings.{act_fate}
 use Rattle.page_scopes_tree.specs.declared.acts.Act.{Act}
 use Rattle.page_scopes_tree.specs.declared.labels.Label.{Label}
 
@@ -19,4 +19,4 @@ stack_edge skips scopes state = record { mode = skips; scopes = reverse scopes.i
 
 -- what becomes of an act that ended this many scopes and leaves these
 abbrev pub stack_standing : {B : Type 0} → Act (List ℕ) → ℕ → Vec (Scope Label B) → Standing Label Fact
-stack_standing act count scopes = standing_by act (act_outcome act count (labels (reverse scopes.items)))
+stack_standing act count scopes = standing_by act (act_fate act count (labels (reverse scopes.items)))

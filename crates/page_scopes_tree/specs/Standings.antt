@@ -17,10 +17,10 @@ use Rattle.page_scopes_tree.specs.declared.acts.Act.TheVariants as acts
 use Rattle.page_scopes_tree.specs.declared.labels.Explicit.TheVariants.{RelativeMargin, Target, Syntax}
 use Rattle.page_scopes_tree.specs.declared.labels.Label.{Label}
 use Rattle.page_scopes_tree.specs.declared.labels.Label.TheVariants as labels
-use Rattle.page_scopes_tree.specs.declared.standings.Outcome.{Outcome}
-use Rattle.page_scopes_tree.specs.declared.standings.Outcome.TheVariants as outcomes
-use Rattle.page_scopes_tree.specs.declared.standings.Refusal.{Refusal}
-use Rattle.page_scopes_tree.specs.declared.standings.Refusal.TheVariants.{Scopes, NotOpen, FewerMargins}
+use Rattle.page_scopes_tree.specs.declared.standings.Fate.{Fate}
+use Rattle.page_scopes_tree.specs.declared.standings.Fate.TheVariants as fates
+use Rattle.page_scopes_tree.specs.declared.standings.Obstacle.{Obstacle}
+use Rattle.page_scopes_tree.specs.declared.standings.Obstacle.TheVariants.{Scopes, NotOpen, FewerMargins}
 
 -- the scope that an opener opens
 abbrev pub opener_label : Opener (List ℕ) → Label
@@ -35,27 +35,27 @@ opener_label (openers.Target link target) = labels.Explicit (Target link)
 opener_label (openers.Syntax name) = labels.Explicit Syntax
 
 abbrev pub has_room : List Label → Bool
-has_room left = nat_lt (length left) SCOPES
+has_room remaining = nat_lt (length remaining) SCOPES
 
--- a scope opens where fewer than `SCOPES` are left
-abbrev pub opened : List Label → Label → Outcome
-opened left label = if has_room left then outcomes.Node label else outcomes.Refused Scopes
+-- a scope opens where fewer than `SCOPES` are remaining
+abbrev pub opened : List Label → Label → Fate
+opened remaining label = if has_room remaining then fates.Node label else fates.Refused Scopes
 
 -- a closer that ended a scope is a leaf, as its suffix is; one that ended none is refused
-abbrev pub closed : Refusal → ℕ → Outcome
-closed refusal zero = outcomes.Refused refusal
-closed refusal (suc n) = outcomes.Leaf
+abbrev pub closed : Obstacle → ℕ → Fate
+closed obstacle zero = fates.Refused obstacle
+closed obstacle (suc n) = fates.Leaf
 
 -- with a number `RE` speaks of how many there are
-abbrev pub margin_refusal : Option (List ℕ) → Refusal
-margin_refusal None = NotOpen
-margin_refusal (Some number) = FewerMargins
+abbrev pub margin_obstacle : Option (List ℕ) → Obstacle
+margin_obstacle None = NotOpen
+margin_obstacle (Some number) = FewerMargins
 
-abbrev pub closer_outcome : Closer (List ℕ) → ℕ → Outcome
-closer_outcome closers.Line n = outcomes.Nothing
-closer_outcome (closers.RelativeMargin number) n = closed (margin_refusal number) n
-closer_outcome (closers.Target link suffix) n = closed NotOpen n
-closer_outcome closers.Syntax n = closed NotOpen n
+abbrev pub closer_fate : Closer (List ℕ) → ℕ → Fate
+closer_fate closers.Line n = fates.Nothing
+closer_fate (closers.RelativeMargin number) n = closed (margin_obstacle number) n
+closer_fate (closers.Target link suffix) n = closed NotOpen n
+closer_fate closers.Syntax n = closed NotOpen n
 
 -- whether the innermost scope is a line scope
 abbrev pub in_line_scope : List Label → Bool
@@ -68,28 +68,28 @@ is_dropped requests.Break = true
 is_dropped (requests.Space rows) = true
 is_dropped _ = false
 
-abbrev pub request_outcome : Bool → Request (List ℕ) → Outcome
-request_outcome false request = outcomes.Leaf
-request_outcome true request = if is_dropped request then outcomes.Nothing else outcomes.Leaf
+abbrev pub request_fate : Bool → Request (List ℕ) → Fate
+request_fate false request = fates.Leaf
+request_fate true request = if is_dropped request then fates.Nothing else fates.Leaf
 
-abbrev pub leaf_outcome : Leaf (List ℕ) → List Label → Outcome
-leaf_outcome (leaves.Request request) left = request_outcome (in_line_scope left) request
-leaf_outcome _ left = outcomes.Leaf
+abbrev pub leaf_fate : Leaf (List ℕ) → List Label → Fate
+leaf_fate (leaves.Request request) remaining = request_fate (in_line_scope remaining) request
+leaf_fate _ remaining = fates.Leaf
 
--- of a deed that ended this many scopes, where these are left
-abbrev pub deed_outcome : Deed (List ℕ) → ℕ → List Label → Outcome
-deed_outcome (deeds.Word word) n left = outcomes.Leaf
-deed_outcome (deeds.Open opener) n left = opened left (opener_label opener)
-deed_outcome (deeds.Close closer) n left = closer_outcome closer n
-deed_outcome (deeds.LineScope opener) n left = opened left (labels.Line opener)
-deed_outcome (deeds.Leaf leaf) n left = leaf_outcome leaf left
-deed_outcome (deeds.Raw text) n left = outcomes.Leaf
-deed_outcome (deeds.End fills) n left = outcomes.Leaf
-deed_outcome (deeds.Note kind detail begins_body) n left = outcomes.Leaf
+-- of a deed that ended this many scopes, where these are remaining
+abbrev pub deed_fate : Deed (List ℕ) → ℕ → List Label → Fate
+deed_fate (deeds.Word word) n remaining = fates.Leaf
+deed_fate (deeds.Open opener) n remaining = opened remaining (opener_label opener)
+deed_fate (deeds.Close closer) n remaining = closer_fate closer n
+deed_fate (deeds.LineScope opener) n remaining = opened remaining (labels.Line opener)
+deed_fate (deeds.Leaf leaf) n remaining = leaf_fate leaf remaining
+deed_fate (deeds.Raw text) n remaining = fates.Leaf
+deed_fate (deeds.End fills) n remaining = fates.Leaf
+deed_fate (deeds.Note kind detail begins_body) n remaining = fates.Leaf
 
-abbrev pub act_outcome : Act (List ℕ) → ℕ → List Label → Outcome
-act_outcome (acts.Event event) n left = deed_outcome event.deed n left
-act_outcome (acts.PageEnd line) n left = outcomes.Leaf
+abbrev pub act_fate : Act (List ℕ) → ℕ → List Label → Fate
+act_fate (acts.Event event) n remaining = deed_fate event.deed n remaining
+act_fate (acts.PageEnd line) n remaining = fates.Leaf
 
 -- ---- what is passed over
 
@@ -103,13 +103,13 @@ opens_paragraph _ = false
 
 -- whether the rest of the line is passed over after a deed
 abbrev pub deed_skips : Bool → Deed (List ℕ) → List Label → Bool
-deed_skips skips (deeds.End fills) left = false
-deed_skips skips (deeds.Open opener) left = skips || (opens_paragraph opener && not (has_room left))
-deed_skips skips _ left = skips
+deed_skips skips (deeds.End fills) remaining = false
+deed_skips skips (deeds.Open opener) remaining = skips || (opens_paragraph opener && not (has_room remaining))
+deed_skips skips _ remaining = skips
 
 abbrev pub act_skips : Bool → Act (List ℕ) → List Label → Bool
-act_skips skips (acts.Event event) left = deed_skips skips event.deed left
-act_skips skips (acts.PageEnd line) left = skips
+act_skips skips (acts.Event event) remaining = deed_skips skips event.deed remaining
+act_skips skips (acts.PageEnd line) remaining = skips
 
 -- what ends a line is never passed over, nor is the page's end
 abbrev pub ends_line : Deed (List ℕ) → Bool

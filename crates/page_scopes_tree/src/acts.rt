@@ -31,7 +31,7 @@ impl<W: Copy> Clone for Act<W> {
 
 impl<'a> Act<&'a [u8]> {
     /// Its event; the end of the page is seen as the end of a line that fills nothing.
-    pub fn event(&self) -> Event<&'a [u8]>
+    pub(crate) fn event(&self) -> Event<&'a [u8]>
         ensures { event_seen result ≡ event_of (act_seen self.now) }
     {
         match *self {

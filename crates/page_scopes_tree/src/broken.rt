@@ -6,8 +6,8 @@ ghost use Rattle.page_scopes_tree.specs.Acts.{act_seen};
 ghost use Rattle.page_scopes_tree.specs.Broken as broken;
 ghost use Rattle.page_sets_lines.specs.Events.{closer_seen, deed_seen, opener_seen};
 
-use crate::labels::same_link;
-use crate::{Act, Explicit, Label, Refusal};
+use crate::standings::Obstacle;
+use crate::{Act, Explicit, Label};
 use page_core_base::{Note, NoteKind, PieceOut, Place};
 use page_sets_lines::{Closer, Deed, Leaf, Opener};
 
@@ -22,11 +22,11 @@ fn report<O: PieceOut>(out: &mut O, kind: NoteKind, place: Place, detail: &[u8])
 fn is_own(closer: &Closer<&[u8]>, explicit: Explicit) -> bool
     ensures { result ≡ broken.is_own (closer_seen closer.now) explicit }
 {
-    match (*closer, explicit) {
-        (Closer::RelativeMargin(_), Explicit::RelativeMargin) => true,
-        (Closer::Target(link, _), Explicit::Target(other)) => same_link(link, other),
-        (Closer::Syntax, Explicit::Syntax) => true,
-        _ => false,
+    match *closer {
+        Closer::Line => false,
+        Closer::RelativeMargin(_) => Explicit::RelativeMargin.is_same(explicit),
+        Closer::Target(link, _) => Explicit::Target(link).is_same(explicit),
+        Closer::Syntax => Explicit::Syntax.is_same(explicit),
     }
 }
 
@@ -121,18 +121,18 @@ fn act_closer_name(act: &Act<&[u8]>) -> &'static str
 }
 
 /// Gives the message of an act that is refused.
-pub(crate) fn report_refusal<O: PieceOut>(out: &mut O, refusal: Refusal, act: &Act<&[u8]>)
-    ensures { Came O.left out.old (broken.refusal_notes refusal (act_seen act.now)) out.new }
+pub(crate) fn report_obstacle<O: PieceOut>(out: &mut O, obstacle: Obstacle, act: &Act<&[u8]>)
+    ensures { Came O.left out.old (broken.obstacle_notes obstacle (act_seen act.now)) out.new }
 {
     let place = act.place();
-    match refusal {
-        Refusal::Scopes => report(out, NoteKind::Limit, place, b"SCOPES"),
-        Refusal::NotOpen => report(
+    match obstacle {
+        Obstacle::Scopes => report(out, NoteKind::Limit, place, b"SCOPES"),
+        Obstacle::NotOpen => report(
             out,
             NoteKind::NotOpen,
             place,
             act_closer_name(act).as_bytes(),
         ),
-        Refusal::FewerMargins => report(out, NoteKind::FewerRs, place, b""),
+        Obstacle::FewerMargins => report(out, NoteKind::FewerRs, place, b""),
     }
 }

@@ -1,105 +1,44 @@
 //! How many of the open scopes an event ends (man(7)). Open scopes stand in a list with the outermost first.
 
-ghost use Rattle.std.specs.Prelude.{◌≡◌, ◌≤◌, ◌<◌, ◌+◌, ◌-◌, length, reverse, position, not, IfSome};
-ghost use Rattle.std.specs.List.{take_while};
+ghost use Rattle.std.specs.Prelude.{◌≡◌, ◌≤◌, ◌<◌, length, reverse};
 ghost use Rattle.page_core_numbers.specs.Expressions.{expression_of};
 ghost use Rattle.page_core_numbers.specs.declared.scales.Scale.TheVariants.{Basic};
 ghost use Rattle.page_scopes_laws.specs.Layouts.{labels};
 ghost use Rattle.page_scopes_tree.specs.Acts.{act_seen};
 ghost use Rattle.page_scopes_tree.specs.Ends as ends;
-ghost use Rattle.page_scopes_tree.specs.Labels as label;
 ghost use Rattle.page_sets_lines.specs.Events.{closer_seen, deed_seen, opener_seen, text_seen};
 
 use crate::numbers::basic_number;
-use crate::{Act, Label, SCOPES};
+use crate::runs::{Run, run_len};
+use crate::{Act, Explicit, Label, SCOPES};
 use page_scopes_laws::Scope;
-use page_sets_lines::{Closer, Deed, Leaf, Link, Opener};
+use page_sets_lines::{Closer, Deed, Leaf, Opener};
 
-// All scopes up to the one that was found and with it.
-fn up_to(found: Option<usize>) -> usize
-    requires { IfSome found (λ i. i < SCOPES) }
-    ensures { result ≡ ends.up_to found }
+// All scopes up to one that was found and with it, and none where it does not come before an end.
+fn up_to(found: usize, end: usize) -> usize
+    requires { end ≤ SCOPES }
+    ensures { result ≡ ends.up_to found end }
 {
-    match found {
-        Some(inside) => inside + 1,
-        None => 0,
-    }
+    if found < end { found + 1 } else { 0 }
 }
 
-// The line scopes that are innermost.
-fn line_scopes<B>(scopes: &[Scope<Label, B>]) -> usize
+// Up to the open paragraph of the same relative margin or section.
+fn up_to_paragraph<B>(scopes: &[Scope<Label, B>]) -> usize
     requires { length scopes.now ≤ SCOPES }
-    ensures { result ≡ ends.line_scopes (labels (reverse scopes.now)) }
+    ensures { result ≡ ends.up_to_paragraph (labels (reverse scopes.now)) }
 {
-    scopes
-        .iter()
-        .rev()
-        .map(|scope| scope.label)
-        .take_while(|label| label.is_line())
-        .count()
+    up_to(
+        run_len(Run::InsideParagraph, scopes),
+        run_len(Run::InsideLevel, scopes),
+    )
 }
 
-// All scopes inside the section.
-fn inside_section<B>(scopes: &[Scope<Label, B>]) -> usize
+// Up to the innermost scope of a closer.
+fn up_to_explicit<B>(explicit: Explicit, scopes: &[Scope<Label, B>]) -> usize
     requires { length scopes.now ≤ SCOPES }
-    ensures { result ≡ ends.inside_section (labels (reverse scopes.now)) }
+    ensures { result ≡ ends.up_to_explicit explicit (labels (reverse scopes.now)) }
 {
-    scopes
-        .iter()
-        .rev()
-        .map(|scope| scope.label)
-        .take_while(|label| !label.is_section())
-        .count()
-}
-
-// Where the open paragraph of the same relative margin or section stands, from the inside.
-fn find_paragraph<B>(scopes: &[Scope<Label, B>]) -> Option<usize>
-    requires { length scopes.now ≤ SCOPES }
-    ensures { result ≡ position label.is_paragraph
-        (take_while (λ outer. not (label.is_level outer)) (labels (reverse scopes.now))) }
-{
-    scopes
-        .iter()
-        .rev()
-        .map(|scope| scope.label)
-        .take_while(|label| !label.is_level())
-        .position(|label| label.is_paragraph())
-}
-
-// Where the innermost relative margin stands, from the inside.
-fn find_margin<B>(scopes: &[Scope<Label, B>]) -> Option<usize>
-    requires { length scopes.now ≤ SCOPES }
-    ensures { result ≡ position label.is_margin (labels (reverse scopes.now)) }
-{
-    scopes
-        .iter()
-        .rev()
-        .map(|scope| scope.label)
-        .position(|label| label.is_margin())
-}
-
-// Where the innermost synopsis stands, from the inside.
-fn find_syntax<B>(scopes: &[Scope<Label, B>]) -> Option<usize>
-    requires { length scopes.now ≤ SCOPES }
-    ensures { result ≡ position label.is_syntax (labels (reverse scopes.now)) }
-{
-    scopes
-        .iter()
-        .rev()
-        .map(|scope| scope.label)
-        .position(|label| label.is_syntax())
-}
-
-// Where the innermost such link stands, from the inside.
-fn find_target<B>(link: Link, scopes: &[Scope<Label, B>]) -> Option<usize>
-    requires { length scopes.now ≤ SCOPES }
-    ensures { result ≡ position (label.is_target link) (labels (reverse scopes.now)) }
-{
-    scopes
-        .iter()
-        .rev()
-        .map(|scope| scope.label)
-        .position(|label| label.is_target(link))
+    up_to(run_len(Run::InsideExplicit(explicit), scopes), scopes.len())
 }
 
 // Where the relative margin of a number stands, from the outside.
@@ -108,13 +47,13 @@ fn find_margin_of<B>(number: usize, scopes: &[Scope<Label, B>]) -> Option<usize>
     requires few { length scopes.now ≤ SCOPES }
     ensures { result ≡ ends.place_of_margin number (labels scopes.now) }
 {
-    let mut left = number;
+    let mut more = number;
     for (outside, scope) in scopes.iter().enumerate() {
         if scope.label.is_margin() {
-            if left == 1 {
+            if more == 1 {
                 return Some(outside);
             }
-            left -= 1;
+            more -= 1;
         }
     }
     None
@@ -140,7 +79,7 @@ fn margin_ends<B>(number: Option<&[u8]>, scopes: &[Scope<Label, B>]) -> usize
     ensures { result ≡ ends.margin_ends (text_seen number.entry) (labels (reverse scopes.now)) }
 {
     match number {
-        None => up_to(find_margin(scopes)),
+        None => up_to_explicit(Explicit::RelativeMargin, scopes),
         Some(number) => up_to_margin(basic_number(number), scopes),
     }
 }
@@ -152,12 +91,12 @@ fn opener_ends<B>(opener: &Opener<&[u8]>, scopes: &[Scope<Label, B>]) -> usize
 {
     match opener {
         Opener::Section => scopes.len(),
-        Opener::Subsection => inside_section(scopes),
+        Opener::Subsection => run_len(Run::InsideSection, scopes),
         Opener::Paragraph(_) | Opener::Tagged(_) | Opener::Indented { .. } | Opener::Hanging(_) => {
-            up_to(find_paragraph(scopes))
+            up_to_paragraph(scopes)
         }
         Opener::RelativeMargin(_) | Opener::Target(_, _) => 0,
-        Opener::Syntax(_) => up_to(find_syntax(scopes)),
+        Opener::Syntax(_) => up_to_explicit(Explicit::Syntax, scopes),
     }
 }
 
@@ -167,10 +106,10 @@ fn closer_ends<B>(closer: &Closer<&[u8]>, scopes: &[Scope<Label, B>]) -> usize
     ensures { result ≡ ends.closer_ends (closer_seen closer.now) (labels (reverse scopes.now)) }
 {
     match closer {
-        Closer::Line => line_scopes(scopes),
+        Closer::Line => run_len(Run::Lines, scopes),
         Closer::RelativeMargin(number) => margin_ends(*number, scopes),
-        Closer::Target(link, _) => up_to(find_target(*link, scopes)),
-        Closer::Syntax => up_to(find_syntax(scopes)),
+        Closer::Target(link, _) => up_to_explicit(Explicit::Target(*link), scopes),
+        Closer::Syntax => up_to_explicit(Explicit::Syntax, scopes),
     }
 }
 
@@ -183,14 +122,14 @@ fn deed_ends<B>(deed: &Deed<&[u8]>, scopes: &[Scope<Label, B>]) -> usize
         Deed::Open(opener) => opener_ends(opener, scopes),
         Deed::Close(closer) => closer_ends(closer, scopes),
         Deed::Leaf(Leaf::BlankLine) | Deed::Raw(_) | Deed::End { fills: true } => {
-            line_scopes(scopes)
+            run_len(Run::Lines, scopes)
         }
         _ => 0,
     }
 }
 
 /// How many of the innermost scopes an act ends.
-pub fn count_ended<B>(act: &Act<&[u8]>, scopes: &[Scope<Label, B>]) -> usize
+pub(crate) fn count_ended<B>(act: &Act<&[u8]>, scopes: &[Scope<Label, B>]) -> usize
     requires { length scopes.now ≤ SCOPES }
     ensures { result ≡ ends.act_ends (act_seen act.now) (labels (reverse scopes.now)) }
 {

@@ -32,16 +32,28 @@ pub enum Label {
     Line(LineOpener),
 }
 
-/// Whether two links are of one kind.
-pub(crate) fn same_link(link: Link, other: Link) -> bool
+// Whether two links are of one kind.
+fn same_link(link: Link, other: Link) -> bool
     ensures { result ≡ labels.same_link link other }
 {
     matches!((link, other), (Link::UR, Link::UR) | (Link::MT, Link::MT))
 }
 
 impl Explicit {
-    /// The name of the macro that opens the scope.
-    pub fn name(self) -> &'static str
+    /// Whether two scopes have one closer.
+    pub(crate) fn is_same(self, other: Explicit) -> bool
+        ensures { result ≡ labels.same_explicit self other }
+    {
+        match (self, other) {
+            (Explicit::RelativeMargin, Explicit::RelativeMargin) => true,
+            (Explicit::Target(link), Explicit::Target(other)) => same_link(link, other),
+            (Explicit::Syntax, Explicit::Syntax) => true,
+            _ => false,
+        }
+    }
+
+    // The name of the macro that opens the scope.
+    fn name(self) -> &'static str
         ensures { result.now ≡ labels.explicit_name self }
     {
         match self {
@@ -67,52 +79,45 @@ impl Label {
     }
 
     /// Whether the scope ends with a line.
-    pub fn is_line(self) -> bool
+    pub(crate) fn is_line(self) -> bool
         ensures { result ≡ labels.is_line self }
     {
         matches!(self, Label::Line(_))
     }
 
     /// Whether the scope is a section.
-    pub fn is_section(self) -> bool
+    pub(crate) fn is_section(self) -> bool
         ensures { result ≡ labels.is_section self }
     {
         matches!(self, Label::Section)
     }
 
     /// Whether the scope is a paragraph.
-    pub fn is_paragraph(self) -> bool
+    pub(crate) fn is_paragraph(self) -> bool
         ensures { result ≡ labels.is_paragraph self }
     {
         matches!(self, Label::Paragraph)
     }
 
-    /// Whether the scope is a relative margin.
-    pub fn is_margin(self) -> bool
-        ensures { result ≡ labels.is_margin self }
-    {
-        matches!(self, Label::Explicit(Explicit::RelativeMargin))
-    }
-
-    /// Whether the scope is the synopsis of a command.
-    pub fn is_syntax(self) -> bool
-        ensures { result ≡ labels.is_syntax self }
-    {
-        matches!(self, Label::Explicit(Explicit::Syntax))
-    }
-
-    /// Whether the scope is such a link.
-    pub fn is_target(self, link: Link) -> bool
-        ensures { result ≡ labels.is_target link self }
+    /// Whether the scope is that with a closer of its own.
+    pub(crate) fn is_explicit(self, explicit: Explicit) -> bool
+        ensures { result ≡ labels.is_explicit explicit self }
     {
         match self {
-            Label::Explicit(Explicit::Target(other)) => same_link(link, other),
+            Label::Explicit(other) => explicit.is_same(other),
             _ => false,
         }
     }
 
+    /// Whether the scope is a relative margin.
+    pub(crate) fn is_margin(self) -> bool
+        ensures { result ≡ labels.is_margin self }
+    {
+        self.is_explicit(Explicit::RelativeMargin)
+    }
+
     /// Whether paragraphs inside the scope are apart from those around it.
-    pub fn is_level(self) -> bool
+    pub(crate) fn is_level(self) -> bool
         ensures { result ≡ labels.is_level self }
     {
         match self {

@@ -2,17 +2,17 @@
 
 ghost use Rattle.std.specs.Prelude.{◌≡◌, ℕ, ◌+◌, ◌*◌, ◌≤◌, Bool, List, ◌++◌, length};
 ghost use Rattle.page_scopes_laws.specs.Forests.{tree};
-ghost use Rattle.page_scopes_laws.specs.Parts.{on, part};
+ghost use Rattle.page_scopes_laws.specs.Parts.{on, rest_by};
 ghost use Rattle.page_sets_lines.specs.declared.events.Event.{Event};
 ghost use Rattle.page_scopes_tree.specs.Acts.{Step};
-ghost use Rattle.page_scopes_tree.specs.Edges.{ScopesEdge, events_edge, events_items};
+ghost use Rattle.page_scopes_tree.specs.Edges.{ScopesEdge, events_edge, events_items, page_end_items, page_items};
 ghost use Rattle.page_scopes_tree.specs.Nests.{scopes_nesting};
 ghost use Rattle.page_scopes_tree.specs.declared.labels.Label.{Label};
 
 use crate::{Laying, SCOPES};
 
-/// Events cut anywhere between two of them give what those before the cut give, and then what those after it give from the edge at the cut; and they
-/// leave the same.
+/// Events cut anywhere between two of them give what those before the cut give, and then what those after it give from the edge at the cut, the page's
+/// end too; and they leave the same.
 pub fn events_law<Y: Laying>()
     ensures given { (d : ScopesEdge Y Y.Kept) (events more : List (Event (List ℕ)))
         → events_items Y.tables d (events ++ more)
@@ -20,13 +20,16 @@ pub fn events_law<Y: Laying>()
     ensures edge { (d : ScopesEdge Y Y.Kept) (events more : List (Event (List ℕ)))
         → events_edge Y.tables d (events ++ more)
         ≡ events_edge Y.tables (events_edge Y.tables d events) more }
+    ensures page { (d : ScopesEdge Y Y.Kept) (events : List (Event (List ℕ))) (line : ℕ)
+        → page_items Y.tables d events line
+        ≡ events_items Y.tables d events ++ page_end_items Y.tables (events_edge Y.tables d events) line }
     ensures depth { (d : ScopesEdge Y Y.Kept) (events : List (Event (List ℕ)))
         → length d.scopes ≤ SCOPES → length (events_edge Y.tables d events).scopes ≤ SCOPES }
 {}
 
-/// The tree of scopes is what is found scope by scope: a scope opens a forest one deeper, and what the inner forest leaves goes to the enclosing one.
+/// The whole tree of scopes is what is found scope by scope: a scope opens a forest one deeper, and what lies ahead of that goes to the enclosing one.
 pub fn tree_law()
     ensures { (skips : Bool) (nodes : List Label) (steps : List Step)
-        → (tree scopes_nesting skips nodes steps).here
-        ≡ (part scopes_nesting (2 * length steps + 1) nodes (on skips steps)).forest }
+        → tree scopes_nesting skips nodes steps
+        ≡ rest_by scopes_nesting (2 * length steps + 1) nodes (on skips steps) }
 {}

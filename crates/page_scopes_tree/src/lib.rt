@@ -8,17 +8,16 @@ mod labels;
 mod laws;
 mod layings;
 mod numbers;
+mod runs;
 mod scope_stacks;
 mod stacks;
 mod standings;
 
 pub use acts::Act;
-pub use ends::count_ended;
 pub use labels::{Explicit, Label};
 pub use laws::{events_law, tree_law};
 pub use layings::Laying;
 pub use scope_stacks::ScopeStack;
-pub use standings::{Outcome, Refusal, is_passed_over, outcome_of, skips_after};
 
 /// The scopes that may be open at once.
 pub const SCOPES: usize = 64;

@@ -54,6 +54,20 @@ impl<Y: Laying> ScopeStack<Y> {
         self.scopes.len()
     }
 
+    /// The state of the layout.
+    pub fn state(&self) -> &Y
+        ensures { result.now ≡ self.now.state }
+    {
+        &self.state
+    }
+
+    /// Whether the rest of the line is passed over.
+    pub fn skips(&self) -> bool
+        ensures { result ≡ self.now.mode }
+    {
+        self.skips
+    }
+
     /// Takes an event, and gives what it settles.
     pub fn apply<O: PieceOut>(&mut self, event: Event<&[u8]>, out: &mut O)
         ensures came { Came O.left out.old

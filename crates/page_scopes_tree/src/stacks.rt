@@ -10,10 +10,10 @@ ghost use Rattle.page_scopes_tree.specs.Nests.{scopes_nesting};
 ghost use Rattle.page_scopes_tree.specs.Stacks.{Keeps, stack_edge, stack_standing};
 ghost use Rattle.page_sets_lines.specs.Events.{event_seen};
 
-use crate::broken::{report_broken, report_refusal};
+use crate::broken::{report_broken, report_obstacle};
 use crate::ends::count_ended;
-use crate::standings::{is_passed_over, outcome_of, skips_after};
-use crate::{Act, Label, Laying, Outcome, SCOPES};
+use crate::standings::{Fate, fate_of, is_passed_over, skips_after};
+use crate::{Act, Label, Laying, SCOPES};
 use page_core_base::PieceOut;
 use page_scopes_laws::Scope;
 use page_sets_lines::Event;
@@ -100,11 +100,11 @@ fn place_act<Y: Laying, O: PieceOut>(
         in Keeps scopes.old scopes.new
         (placed_scopes (framed Y.tables) st (does (act_seen act.now)) (reverse scopes.old.items) state.old) }
 {
-    match outcome_of(act, count, scopes.as_slice()) {
-        Outcome::Node(label) => open_scope(scopes, state, label, &act.event(), out),
-        Outcome::Leaf => state.leaf(act, out),
-        Outcome::Refused(refusal) => report_refusal(out, refusal, act),
-        Outcome::Nothing => {}
+    match fate_of(act, count, scopes.as_slice()) {
+        Fate::Node(label) => open_scope(scopes, state, label, &act.event(), out),
+        Fate::Leaf => state.leaf(act, out),
+        Fate::Refused(obstacle) => report_obstacle(out, obstacle, act),
+        Fate::Nothing => {}
     }
 }
 

@@ -12,7 +12,7 @@ use page_sets_lines::{Closer, Deed, Leaf, Opener, Request};
 
 /// Why an event is refused.
 #[derive(Clone, Copy, PartialEq, Eq)]
-pub enum Refusal {
+pub(crate) enum Obstacle {
     /// [`SCOPES`] scopes are open.
     Scopes,
     /// No scope of the closer is open.
@@ -23,13 +23,13 @@ pub enum Refusal {
 
 /// What becomes of an event.
 #[derive(Clone, Copy, PartialEq, Eq)]
-pub enum Outcome {
+pub(crate) enum Fate {
     /// A scope opens.
     Node(Label),
     /// It opens none.
     Leaf,
     /// It is reported, and does nothing.
-    Refused(Refusal),
+    Refused(Obstacle),
     /// It does nothing.
     Nothing,
 }
@@ -51,63 +51,63 @@ fn opener_label(opener: &Opener<&[u8]>) -> Label
 }
 
 // Whether a scope more may open.
-fn has_room<B>(left: &[Scope<Label, B>]) -> bool
-    requires { length left.now ≤ SCOPES }
-    ensures { result ≡ standings.has_room (labels (reverse left.now)) }
+fn has_room<B>(remaining: &[Scope<Label, B>]) -> bool
+    requires { length remaining.now ≤ SCOPES }
+    ensures { result ≡ standings.has_room (labels (reverse remaining.now)) }
 {
-    left.len() < SCOPES
+    remaining.len() < SCOPES
 }
 
 // A scope opens where there is room.
-fn opened<B>(left: &[Scope<Label, B>], label: Label) -> Outcome
-    requires { length left.now ≤ SCOPES }
-    ensures { result ≡ standings.opened (labels (reverse left.now)) label }
+fn opened<B>(remaining: &[Scope<Label, B>], label: Label) -> Fate
+    requires { length remaining.now ≤ SCOPES }
+    ensures { result ≡ standings.opened (labels (reverse remaining.now)) label }
 {
-    if has_room(left) {
-        Outcome::Node(label)
+    if has_room(remaining) {
+        Fate::Node(label)
     } else {
-        Outcome::Refused(Refusal::Scopes)
+        Fate::Refused(Obstacle::Scopes)
     }
 }
 
 // A closer that ended no scope is refused.
-fn closed(refusal: Refusal, count: usize) -> Outcome
-    ensures { result ≡ standings.closed refusal count }
+fn closed(obstacle: Obstacle, count: usize) -> Fate
+    ensures { result ≡ standings.closed obstacle count }
 {
     if count == 0 {
-        Outcome::Refused(refusal)
+        Fate::Refused(obstacle)
     } else {
-        Outcome::Leaf
+        Fate::Leaf
     }
 }
 
 // Why `RE` is refused.
-fn margin_refusal(number: Option<&[u8]>) -> Refusal
-    ensures { result ≡ standings.margin_refusal (text_seen number.entry) }
+fn margin_obstacle(number: Option<&[u8]>) -> Obstacle
+    ensures { result ≡ standings.margin_obstacle (text_seen number.entry) }
 {
     match number {
-        None => Refusal::NotOpen,
-        Some(_) => Refusal::FewerMargins,
+        None => Obstacle::NotOpen,
+        Some(_) => Obstacle::FewerMargins,
     }
 }
 
 // What becomes of a closer.
-fn closer_outcome(closer: &Closer<&[u8]>, count: usize) -> Outcome
-    ensures { result ≡ standings.closer_outcome (closer_seen closer.now) count }
+fn closer_fate(closer: &Closer<&[u8]>, count: usize) -> Fate
+    ensures { result ≡ standings.closer_fate (closer_seen closer.now) count }
 {
     match *closer {
-        Closer::Line => Outcome::Nothing,
-        Closer::RelativeMargin(number) => closed(margin_refusal(number), count),
-        Closer::Target(_, _) | Closer::Syntax => closed(Refusal::NotOpen, count),
+        Closer::Line => Fate::Nothing,
+        Closer::RelativeMargin(number) => closed(margin_obstacle(number), count),
+        Closer::Target(_, _) | Closer::Syntax => closed(Obstacle::NotOpen, count),
     }
 }
 
 // Whether the innermost scope is a line scope.
-fn in_line_scope<B>(left: &[Scope<Label, B>]) -> bool
-    requires { length left.now ≤ SCOPES }
-    ensures { result ≡ standings.in_line_scope (labels (reverse left.now)) }
+fn in_line_scope<B>(remaining: &[Scope<Label, B>]) -> bool
+    requires { length remaining.now ≤ SCOPES }
+    ensures { result ≡ standings.in_line_scope (labels (reverse remaining.now)) }
 {
-    match left.last() {
+    match remaining.last() {
         Some(scope) => scope.label.is_line(),
         None => false,
     }
@@ -121,44 +121,44 @@ fn is_dropped(request: &Request<&[u8]>) -> bool
 }
 
 // What becomes of a leaf.
-fn leaf_outcome<B>(leaf: &Leaf<&[u8]>, left: &[Scope<Label, B>]) -> Outcome
-    requires { length left.now ≤ SCOPES }
-    ensures { result ≡ standings.leaf_outcome (leaf_seen leaf.now) (labels (reverse left.now)) }
+fn leaf_fate<B>(leaf: &Leaf<&[u8]>, remaining: &[Scope<Label, B>]) -> Fate
+    requires { length remaining.now ≤ SCOPES }
+    ensures { result ≡ standings.leaf_fate (leaf_seen leaf.now) (labels (reverse remaining.now)) }
 {
     match leaf {
         Leaf::Request(request) => {
-            if in_line_scope(left) && is_dropped(request) {
-                Outcome::Nothing
+            if in_line_scope(remaining) && is_dropped(request) {
+                Fate::Nothing
             } else {
-                Outcome::Leaf
+                Fate::Leaf
             }
         }
-        _ => Outcome::Leaf,
+        _ => Fate::Leaf,
     }
 }
 
 // What becomes of a deed that ended this many scopes and leaves these.
-fn deed_outcome<B>(deed: &Deed<&[u8]>, count: usize, left: &[Scope<Label, B>]) -> Outcome
-    requires { length left.now ≤ SCOPES }
-    ensures { result ≡ standings.deed_outcome (deed_seen deed.now) count (labels (reverse left.now)) }
+fn deed_fate<B>(deed: &Deed<&[u8]>, count: usize, remaining: &[Scope<Label, B>]) -> Fate
+    requires { length remaining.now ≤ SCOPES }
+    ensures { result ≡ standings.deed_fate (deed_seen deed.now) count (labels (reverse remaining.now)) }
 {
     match deed {
-        Deed::Open(opener) => opened(left, opener_label(opener)),
-        Deed::Close(closer) => closer_outcome(closer, count),
-        Deed::LineScope(opener) => opened(left, Label::Line(*opener)),
-        Deed::Leaf(leaf) => leaf_outcome(leaf, left),
-        _ => Outcome::Leaf,
+        Deed::Open(opener) => opened(remaining, opener_label(opener)),
+        Deed::Close(closer) => closer_fate(closer, count),
+        Deed::LineScope(opener) => opened(remaining, Label::Line(*opener)),
+        Deed::Leaf(leaf) => leaf_fate(leaf, remaining),
+        _ => Fate::Leaf,
     }
 }
 
 /// What becomes of an act that ended this many scopes and leaves these.
-pub fn outcome_of<B>(act: &Act<&[u8]>, count: usize, left: &[Scope<Label, B>]) -> Outcome
-    requires { length left.now ≤ SCOPES }
-    ensures { result ≡ standings.act_outcome (act_seen act.now) count (labels (reverse left.now)) }
+pub(crate) fn fate_of<B>(act: &Act<&[u8]>, count: usize, remaining: &[Scope<Label, B>]) -> Fate
+    requires { length remaining.now ≤ SCOPES }
+    ensures { result ≡ standings.act_fate (act_seen act.now) count (labels (reverse remaining.now)) }
 {
     match act {
-        Act::Event(event) => deed_outcome(&event.deed, count, left),
-        Act::PageEnd(_) => Outcome::Leaf,
+        Act::Event(event) => deed_fate(&event.deed, count, remaining),
+        Act::PageEnd(_) => Fate::Leaf,
     }
 }
 
@@ -173,30 +173,30 @@ fn opens_paragraph(opener: &Opener<&[u8]>) -> bool
 }
 
 // Whether the rest of the line is passed over after a deed.
-fn deed_skips<B>(skips: bool, deed: &Deed<&[u8]>, left: &[Scope<Label, B>]) -> bool
-    requires { length left.now ≤ SCOPES }
-    ensures { result ≡ standings.deed_skips skips (deed_seen deed.now) (labels (reverse left.now)) }
+fn deed_skips<B>(skips: bool, deed: &Deed<&[u8]>, remaining: &[Scope<Label, B>]) -> bool
+    requires { length remaining.now ≤ SCOPES }
+    ensures { result ≡ standings.deed_skips skips (deed_seen deed.now) (labels (reverse remaining.now)) }
 {
     match deed {
         Deed::End { .. } => false,
-        Deed::Open(opener) => skips || (opens_paragraph(opener) && !has_room(left)),
+        Deed::Open(opener) => skips || (opens_paragraph(opener) && !has_room(remaining)),
         _ => skips,
     }
 }
 
 /// Whether the rest of the line is passed over after an act that leaves these scopes.
-pub fn skips_after<B>(skips: bool, act: &Act<&[u8]>, left: &[Scope<Label, B>]) -> bool
-    requires { length left.now ≤ SCOPES }
-    ensures { result ≡ standings.act_skips skips (act_seen act.now) (labels (reverse left.now)) }
+pub(crate) fn skips_after<B>(skips: bool, act: &Act<&[u8]>, remaining: &[Scope<Label, B>]) -> bool
+    requires { length remaining.now ≤ SCOPES }
+    ensures { result ≡ standings.act_skips skips (act_seen act.now) (labels (reverse remaining.now)) }
 {
     match act {
-        Act::Event(event) => deed_skips(skips, &event.deed, left),
+        Act::Event(event) => deed_skips(skips, &event.deed, remaining),
         Act::PageEnd(_) => skips,
     }
 }
 
 /// Whether an act is passed over.
-pub fn is_passed_over(skips: bool, act: &Act<&[u8]>) -> bool
+pub(crate) fn is_passed_over(skips: bool, act: &Act<&[u8]>) -> bool
     ensures { result ≡ standings.is_passed_over skips (act_seen act.now) }
 {
     match act {

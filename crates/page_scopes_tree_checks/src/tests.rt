@@ -99,6 +99,7 @@ fn closer(letter: u8) -> Option<Closer<&'static [u8]>> {
         b'L' => Some(Closer::Line),
         b'r' => Some(Closer::RelativeMargin(None)),
         b'0' => Some(Closer::RelativeMargin(Some(b"0"))),
+        b'1' => Some(Closer::RelativeMargin(Some(b"1"))),
         b'2' => Some(Closer::RelativeMargin(Some(b"1+1"))),
         b'3' => Some(Closer::RelativeMargin(Some(b"3"))),
         b'u' => Some(Closer::Target(Link::UR, None)),
@@ -166,13 +167,15 @@ fn given_by(alloc: Global, script: &str) -> Result<Vec<u8>, Fail> {
 }
 
 // Letters as above; then what they give, and what the page's end gives.
-const CASES: [(&str, &str); 20] = [
+const CASES: [(&str, &str); 23] = [
     ("RUr", "RSUR!BadNest UR;)1)0 "),
     ("R3", "RS!FewerRs; !MissingEnd RS;)0"),
     ("R0", "RS!FewerRs; !MissingEnd RS;)0"),
     ("3", "!FewerRs; "),
     ("RRR2", "RSRSRS)2)1 !MissingEnd RS;)0"),
     ("RUR2", "RSURRS)2 !MissingEnd UR;)1!MissingEnd RS;)0"),
+    ("RUR1", "RSURRS)2!BadNest UR;)1)0 "),
+    ("RSR1", "RSSYRS)2!BadNest SY;)1)0 "),
     ("HRUH", "SHRSUR!MissingEnd UR;)2!MissingEnd RS;)1)0SH )0"),
     ("HhPh", "SHSSPP)2)1SS )1)0"),
     ("PRPP", "PPRSPP)2PP )2!MissingEnd RS;)1)0"),
@@ -181,6 +184,7 @@ const CASES: [(&str, &str); 20] = [
     ("Hde", "SHSH )1)0"),
     ("HdewE", "SHSHw)1 )0"),
     ("TteL", "PPTP!LineScope TP;)1 )0"),
+    ("TtbL", "PPTPB!LineScope B;)2!LineScope TP;)1 )0"),
     ("TtbwE", "PPTPBw)2)1 )0"),
     ("bXbB", "B!LineScope B;)0B!LineScope B;)0 "),
     ("b.E.", "B)0. "),

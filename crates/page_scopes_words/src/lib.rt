@@ -9,6 +9,6 @@ mod words;
 
 pub use fonts::{Fonts, ROMAN};
 pub use sentences::ends_sentence;
-pub use tokens::{report, report_font, token_piece};
+pub use tokens::{report, report_font, report_token, token_piece};
 pub use walks::{Style, Walk};
-pub use words::{give_leading, give_words};
+pub use words::{give_leading, give_white_cells, give_words, has_tab};

@@ -50,7 +50,7 @@ fn report_escape<O: PieceOut>(out: &mut O, place: Place, bytes: &[u8], meaning: 
 
 /// Gives the message of a token.
 #[inline(always)]
-pub(crate) fn report_token<O: PieceOut>(out: &mut O, place: Place, token: &Token<'_>)
+pub fn report_token<O: PieceOut>(out: &mut O, place: Place, token: &Token<'_>)
     ensures { Came O.left out.old (words.token_notes place (token_seen token.now)) out.new }
 {
     if let Token::Escaped { bytes, meaning } = *token {

@@ -42,8 +42,8 @@ fn white_piece(place: Place, byte: u8) -> Piece<&'static [u8]>
     }
 }
 
-// Gives blanks and tabs as cells.
-fn give_white_cells<O: PieceOut>(out: &mut O, place: Place, white: &[u8])
+/// Gives blanks and tabs as cells.
+pub fn give_white_cells<O: PieceOut>(out: &mut O, place: Place, white: &[u8])
     ensures { Came O.left out.old (words.white_cells place white.now) out.new }
 {
     for byte in white {
@@ -51,8 +51,8 @@ fn give_white_cells<O: PieceOut>(out: &mut O, place: Place, white: &[u8])
     }
 }
 
-// Whether there is a tab.
-fn has_tab(white: &[u8]) -> bool
+/// Whether there is a tab.
+pub fn has_tab(white: &[u8]) -> bool
     ensures { result ≡ words.has_tab white.now }
 {
     white.iter().any(|byte| *byte == b'\t')

@@ -2,7 +2,7 @@ use Rattle.std.proofs.Common.{◌≡◌, ◌==◌, true, false, sym, ◌∙◌, 
 use Rattle.page_scopes_tree.specs.Labels.{is_margin}
 use Rattle.page_scopes_tree.proofs.MarginLemmas.{from_start, margin_goes_on, margin_counts, margin_found, margin_missing}
 use Rattle.page_scopes_tree.proofs.ends.find_margin_of.Goals as goal
-use Rattle.page_scopes_tree.proofs.ends.find_margin_of.Goals.{then-is_margin+else-left-eq1, else-is_margin}
+use Rattle.page_scopes_tree.proofs.ends.find_margin_of.Goals.{then-is_margin+else-more-eq1, else-is_margin}
 
 pub loop-outside-init : goal.loop-outside-init
 loop-outside-init g c = record { found = from_start _; some = c.requires.some }
@@ -13,17 +13,17 @@ loop-outside-preserved g c =
     let scope = c.index-scopes-outside.result in
     let here = c.index-scopes-outside.is in
     elim c.if-is_margin.branch [
-      | then-is_margin+else-left-eq1 w ↦
+      | then-is_margin+else-more-eq1 w ↦
           let margin : is_margin scope.label ≡ true = search rules in
-          let other : (l.left == 1) ≡ false = search rules in
-          rw w.left-is (record {
-            found = l.invariant.found ∙ margin_counts c.args.scopes.now l.outside l.left scope c.loop-outside-test.true here margin other;
+          let other : (l.more == 1) ≡ false = search rules in
+          rw w.more-is (record {
+            found = l.invariant.found ∙ margin_counts c.args.scopes.now l.outside l.more scope c.loop-outside-test.true here margin other;
             some = search rules;
           })
       | else-is_margin w ↦
           let none : is_margin scope.label ≡ false = search rules in
-          rw w.left-is (record {
-            found = l.invariant.found ∙ margin_goes_on c.args.scopes.now l.outside l.left scope c.loop-outside-test.true here none;
+          rw w.more-is (record {
+            found = l.invariant.found ∙ margin_goes_on c.args.scopes.now l.outside l.more scope c.loop-outside-test.true here none;
             some = l.invariant.some;
           })
     ]
@@ -31,12 +31,12 @@ loop-outside-preserved g c =
 pub returns : goal.returns
 returns g c =
     let l = c.loop-outside in
-    sym (l.invariant.found ∙ margin_missing c.args.scopes.now l.outside l.left c.loop-outside-test.false)
+    sym (l.invariant.found ∙ margin_missing c.args.scopes.now l.outside l.more c.loop-outside-test.false)
 
-pub returns-then-left-eq1 : goal.returns-then-left-eq1
-returns-then-left-eq1 g c =
+pub returns-then-more-eq1 : goal.returns-then-more-eq1
+returns-then-more-eq1 g c =
     let l = c.loop-outside in
     let scope = c.index-scopes-outside.result in
     let margin : is_margin scope.label ≡ true = search rules in
-    let one : (l.left == 1) ≡ true = search rules in
-    sym (l.invariant.found ∙ margin_found c.args.scopes.now l.outside l.left scope c.loop-outside-test.true c.index-scopes-outside.is margin one)
+    let one : (l.more == 1) ≡ true = search rules in
+    sym (l.invariant.found ∙ margin_found c.args.scopes.now l.outside l.more scope c.loop-outside-test.true c.index-scopes-outside.is margin one)

@@ -1,0 +1,3 @@
+pub mod Runnings
+pub mod Phrases
+pub mod LineWords

@@ -1,0 +1,60 @@
+-- Words of a line, and words that a macro prints itself. Source: man(7); roff(7), "Macro syntax".
+use Rattle.std.specs.Prelude.{ℕ, ◌-◌, Bool, true, false, List, [], ◌∷◌, ◌++◌}
+use Rattle.page_core_base.specs.Pieces.{Item}
+use Rattle.page_core_base.specs.declared.note_kinds.NoteKind.TheVariants.{Unterminated}
+use Rattle.page_roff_forms.specs.Arguments.{is_quoted}
+use Rattle.page_roff_forms.specs.declared.quotes.Quoting.{Quoting}
+use Rattle.page_roff_forms.specs.declared.quotes.Quoting.TheVariants.{Unclosed}
+use Rattle.page_scopes_layout.specs.declared.contexts.Context.{Context}
+use Rattle.page_scopes_leaves.specs.Phrases.{phrase_items, phrase_running}
+use Rattle.page_scopes_leaves.specs.declared.phrases.Phrase.{Phrase}
+use Rattle.page_scopes_leaves.specs.declared.runnings.Running.{Running}
+use Rattle.page_scopes_words.specs.Sentences.{ends_sentence}
+use Rattle.page_scopes_words.specs.Words.{at, says}
+use Rattle.page_sets_lines.specs.MacroNames.{own_text}
+use Rattle.page_sets_lines.specs.declared.events.Role.{Role}
+use Rattle.page_sets_lines.specs.declared.events.Role.TheVariants as roles
+use Rattle.page_sets_lines.specs.declared.events.Word.{Word}
+use Rattle.page_sets_lines.specs.declared.leaves.OwnWord.{OwnWord}
+
+abbrev pub is_line : Role → Bool
+is_line roles.Line = true
+is_line roles.Argument = false
+
+-- a quote without its end is reported at the quote
+abbrev pub quote_items : ℕ → Quoting → ℕ → List Item
+quote_items line Unclosed column = says Unterminated (at line (column - 1)) [] ∷ []
+quote_items line _ column = []
+
+abbrev pub word_phrase : Word (List ℕ) → Phrase (List ℕ)
+word_phrase word = record {
+  text = word.arg.text;
+  column = word.arg.column;
+  is_quoted = is_quoted word.arg.quoting;
+  is_line = is_line word.role;
+  font = word.font;
+  before = word.before;
+  after = word.after;
+}
+
+abbrev pub line_word_items : ℕ → Word (List ℕ) → Context → Running → List Item
+line_word_items line word c r = quote_items line word.arg.quoting word.arg.column ++ phrase_items line (word_phrase word) c r
+
+-- a sentence ends as its last word is written
+abbrev pub with_sentence : Bool → Running → Running
+with_sentence ends r = record r { line = record r.line { is_sentence = ends } }
+
+abbrev pub line_word_running : Word (List ℕ) → Context → Running → Running
+line_word_running word c r = with_sentence (ends_sentence word.arg.text) (phrase_running (word_phrase word) c r)
+
+-- a mark of a macro ends no sentence, and leaves one that has ended
+abbrev pub own_phrase : ℕ → OwnWord → Phrase (List ℕ)
+own_phrase column word = record {
+  text = own_text word.own;
+  column = column;
+  is_quoted = false;
+  is_line = false;
+  font = word.font;
+  before = word.before;
+  after = word.after;
+}

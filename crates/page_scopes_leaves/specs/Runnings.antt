@@ -1,0 +1,30 @@
+-- What no scope restores: what is known along a page, and of its line so far. Source: man(7); roff(7), "Sentences", `\c`.
+use Rattle.std.specs.Prelude.{ℕ, false, ◌==◌, ◌||◌, None, if◌then◌else◌}
+use Rattle.page_scopes_leaves.specs.declared.runnings.LineSoFar.{LineSoFar}
+use Rattle.page_scopes_leaves.specs.declared.runnings.Running.{Running}
+
+-- at the front of a line
+abbrev pub no_line : LineSoFar
+no_line = record {
+  has_words = false;
+  has_row_words = false;
+  is_after_word = false;
+  is_cut = false;
+  ends_blank = false;
+  is_sentence = false;
+  fonts_before = None;
+}
+
+-- before a page's first line
+abbrev pub start : Running
+start = record { has_begun = false; has_content = false; gap = 1; line = no_line }
+
+-- after a line with words one blank stands, two after a sentence, none where it ends in `\c`; what is glued stays glued
+abbrev pub words_gap : LineSoFar → ℕ → ℕ
+words_gap line gap = if line.is_cut || gap == 0 then 0 else if line.is_sentence then 2 else 1
+
+abbrev pub line_gap : LineSoFar → ℕ → ℕ
+line_gap line gap = if line.has_words then words_gap line gap else gap
+
+abbrev pub line_ended : Running → Running
+line_ended r = record r { gap = line_gap r.line r.gap; line = no_line }

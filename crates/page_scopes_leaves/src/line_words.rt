@@ -1,0 +1,111 @@
+//! Words of a line, and words that a macro prints itself (man(7); roff(7), "Macro syntax").
+
+ghost use Rattle.std.specs.Prelude.{◌≡◌};
+ghost use Rattle.page_core_base.specs.Latches.{Came};
+ghost use Rattle.page_scopes_leaves.specs.LineWords as lines;
+ghost use Rattle.page_scopes_leaves.specs.Phrases.{FitsAt, phrase_context, phrase_items, phrase_running, phrase_seen};
+ghost use Rattle.page_sets_lines.specs.Events.{word_seen};
+ghost use Rattle.page_sets_lines.specs.MacroNames.{own_text};
+
+use crate::{Phrase, Running, give_phrase};
+use page_core_base::{NoteKind, PieceOut, Place};
+use page_roff_forms::Quoting;
+use page_scopes_layout::Context;
+use page_scopes_words::{ends_sentence, report};
+use page_sets_lines::{OwnWord, Role, Word};
+
+// Reports a quote without its end.
+fn report_quote<O: PieceOut>(out: &mut O, line: u32, quoting: Quoting, column: u32)
+    ensures { Came O.left out.old (lines.quote_items line quoting column) out.new }
+{
+    if let Quoting::Unclosed = quoting {
+        let place = Place {
+            line,
+            column: column.saturating_sub(1),
+        };
+        report(out, NoteKind::Unterminated, place, b"");
+    }
+}
+
+// Whether a word is a whole line.
+fn is_line(role: Role) -> bool
+    ensures { result ≡ lines.is_line role }
+{
+    match role {
+        Role::Line => true,
+        Role::Argument => false,
+    }
+}
+
+// A word of a line as a phrase.
+fn word_phrase<'a>(word: &Word<&'a [u8]>) -> Phrase<&'a [u8]>
+    ensures { phrase_seen result ≡ lines.word_phrase (word_seen word.now) }
+{
+    Phrase {
+        text: word.arg.text,
+        column: word.arg.column,
+        is_quoted: word.arg.is_quoted(),
+        is_line: is_line(word.role),
+        font: word.font,
+        before: word.before,
+        after: word.after,
+    }
+}
+
+/// Gives a word of a line.
+pub fn give_line_word<O: PieceOut>(
+    out: &mut O,
+    line: u32,
+    word: &Word<&[u8]>,
+    context: &mut Context,
+    running: &mut Running,
+)
+    requires { FitsAt word.now.arg.column word.now.arg.text.now }
+    ensures came { Came O.left out.old
+        (lines.line_word_items line (word_seen word.now) context.old running.old) out.new }
+    ensures context { context.new
+        ≡ phrase_context (lines.word_phrase (word_seen word.now)) context.old running.old }
+    ensures running { running.new ≡ lines.line_word_running (word_seen word.now) context.old running.old }
+{
+    report_quote(out, line, word.arg.quoting, word.arg.column);
+    give_phrase(out, line, &word_phrase(word), context, running);
+    running.line.is_sentence = ends_sentence(word.arg.text);
+}
+
+// A word of a macro's own as a phrase.
+fn own_phrase(column: u32, word: OwnWord) -> Phrase<&'static [u8]>
+    ensures { phrase_seen result ≡ lines.own_phrase column word }
+{
+    Phrase {
+        text: word.own.text().as_bytes(),
+        column,
+        is_quoted: false,
+        is_line: false,
+        font: word.font,
+        before: word.before,
+        after: word.after,
+    }
+}
+
+/// Gives a word of a macro's own, at the macro's place.
+pub fn give_own_word<O: PieceOut>(
+    out: &mut O,
+    place: Place,
+    word: OwnWord,
+    context: &mut Context,
+    running: &mut Running,
+)
+    requires { FitsAt place.column (own_text word.own) }
+    ensures came { Came O.left out.old
+        (phrase_items place.line (lines.own_phrase place.column word) context.old running.old) out.new }
+    ensures context { context.new ≡ phrase_context (lines.own_phrase place.column word) context.old running.old }
+    ensures running { running.new ≡ phrase_running (lines.own_phrase place.column word) context.old running.old }
+{
+    give_phrase(
+        out,
+        place.line,
+        &own_phrase(place.column, word),
+        context,
+        running,
+    );
+}

@@ -1,0 +1,2 @@
+pub mod PartedLemmas
+pub mod TextLemmas

@@ -1,0 +1,132 @@
+-- The words of a text, token by token.
+use Rattle.std.proofs.Common.{◌≡◌, ℕ, zero, ◌+◌, ◌<◌, ◌≤◌, ◌==◌, ◌&&◌, Bool, true, false, List, [], ◌∷◌, ◌++◌, length, take, drop, refl, ap, ◌∙◌, arith, sym, suc, Option, None, Some, inl, inr}
+use Rattle.std.specs.List.{prefix_len}
+use Rattle.std.proofs.lemmas.List.Folds.{length-prefix_len}
+use Rattle.std.proofs.lemmas.Bool.{cases_Bool}
+use Rattle.page_core_base.specs.declared.places.Place.{Place}
+use Rattle.page_core_escapes.specs.Tokens.{TextToken, white, plain, quotes, escaped, begins_word, begins_white, is_space, is_white, prints_itself, token_at, token_len}
+use Rattle.page_core_escapes.specs.Escapes.{escape_of, read_escape}
+use Rattle.page_core_escapes.specs.Lengths.{escape_len}
+use Rattle.page_core_escapes.proofs.Contents.{escape_len-some}
+use Rattle.page_core_escapes.proofs.TokenLemmas.{tokens_more as text_tokens, tokens_none, word_token, not_white, white_first}
+use Rattle.page_scopes_text.specs.Words.{pen_after, pen_through, token_items, tokens_items}
+use Rattle.page_scopes_text.specs.declared.pens.Pen.{Pen}
+use Rattle.page_scopes_text.specs.Parted.{Parted, after_token, parted, words_of, spaced_front}
+
+token_before : (token : TextToken) (text : Parted) → is_space token ≡ false → after_token token text ≡ record { word = token ∷ text.word; others = text.others }
+token_before (white bytes) text h = let no : ⊥ = cc in absurd no
+token_before (plain bytes) text h = refl
+token_before (quotes bytes) text h = refl
+token_before (escaped bytes meaning) text h = refl
+
+-- a word goes on with its first token
+pub words_more : (quoted : Bool) (text : List ℕ) (n : ℕ) → begins_word text ≡ true → 0 < n → n ≡ token_len quoted text
+    → words_of quoted text
+    ≡ record { word = token_at quoted text ∷ (words_of quoted (drop n text)).word; others = (words_of quoted (drop n text)).others }
+words_more quoted [] n h k e = absurd (never h)
+  where
+    never : false ≡ true → ⊥
+    never e = grind (arith, e)
+words_more quoted (b ∷ bs) n h k e =
+    ap parted (text_tokens quoted (b ∷ bs) n k e)
+    ∙ token_before (token_at quoted (b ∷ bs)) (words_of quoted (drop n (b ∷ bs))) (word_token quoted b bs (not_white b bs h))
+
+white_token : (quoted : Bool) (b : ℕ) (bs : List ℕ) → is_white b ≡ true → token_at quoted (b ∷ bs) ≡ white (take (prefix_len is_white (b ∷ bs)) (b ∷ bs))
+unfolding token_at
+white_token quoted b bs h = rw h refl
+
+white_bytes : (quoted : Bool) (b : ℕ) (bs : List ℕ) → is_white b ≡ true → token_at quoted (b ∷ bs) ≡ white (take (token_len quoted (b ∷ bs)) (b ∷ bs))
+white_bytes quoted b bs h =
+    let t = white_token quoted b bs h in
+    let len : token_len quoted (b ∷ bs) ≡ prefix_len is_white (b ∷ bs) = rw t (length-prefix_len is_white (b ∷ bs)) in
+    t ∙ ap (λ n. white (take n (b ∷ bs))) (sym len)
+
+white_fst : (b : ℕ) (bs : List ℕ) → begins_white (b ∷ bs) ≡ true → is_white b ≡ true
+white_fst b bs h = h
+
+-- white space parts what follows it from what is before it
+pub spaced_more : (quoted : Bool) (text : List ℕ) (n : ℕ) → begins_white text ≡ true → 0 < n → n ≡ token_len quoted text
+    → words_of quoted text ≡ record { word = []; others = spaced_front quoted text ∷ (words_of quoted (drop n text)).others }
+spaced_more quoted [] n h k e = absurd (never h)
+  where
+    never : false ≡ true → ⊥
+    never e = grind (arith, e)
+spaced_more quoted (b ∷ bs) n h k e =
+    ap parted (text_tokens quoted (b ∷ bs) n k e)
+    ∙ ap (λ t. after_token t (words_of quoted (drop n (b ∷ bs)))) (white_bytes quoted b bs (white_fst b bs h))
+    ∙ rw e refl
+
+pub white_some : (quoted : Bool) (text : List ℕ) → begins_white text ≡ true → 0 < token_len quoted text
+white_some quoted [] h = absurd (never h)
+  where
+    never : false ≡ true → ⊥
+    never e = grind (arith, e)
+white_some quoted (b ∷ bs) t = rw (white_token quoted b bs t, length-prefix_len is_white (b ∷ bs), t) (omega arith)
+
+pub words_none : (quoted : Bool) (text : List ℕ) → length text ≤ 0 → words_of quoted text ≡ record { word = []; others = [] }
+words_none quoted text h = ap parted (tokens_none quoted text h)
+
+-- where white space or nothing stands at the front, no word does
+pub no_word : (quoted : Bool) (text : List ℕ) → begins_word text ≡ false → (words_of quoted text).word ≡ []
+no_word quoted [] h = ap (λ (t : Parted). t.word) (words_none quoted [] (omega arith))
+no_word quoted (b ∷ bs) h =
+    let t = white_first b bs h in
+    ap (λ (p : Parted). p.word) (spaced_more quoted (b ∷ bs) (token_len quoted (b ∷ bs)) t (white_some quoted (b ∷ bs) t) refl)
+
+-- where a text goes on and no word stands at its front, white space does
+pub white_front : (text : List ℕ) → 0 < length text → begins_word text ≡ false → begins_white text ≡ true
+white_front [] h w = absurd (omega arith)
+white_front (b ∷ bs) h w = white_first b bs w
+
+-- ---- the token at a text's front has a byte
+
+take_some : (n b : ℕ) (bs : List ℕ) → 0 < n → 0 < length (take n (b ∷ bs))
+take_some zero b bs h = absurd (omega arith)
+take_some (suc n) b bs h = omega arith
+
+read_some : (text : List ℕ) (len : Option ℕ) → 0 < length text → ((n : ℕ) → len ≡ Some n → 0 < n) → 0 < (read_escape text len).1
+read_some text None h k = h
+read_some text (Some n) h k = k n refl
+
+escape_some : (b : ℕ) (bs : List ℕ) → 0 < (escape_of (b ∷ bs)).1
+unfolding escape_of
+escape_some b bs = read_some (b ∷ bs) (escape_len (b ∷ bs)) (omega arith) (λ n h. escape_len-some (b ∷ bs) n h)
+
+token_some : (quoted : Bool) (b : ℕ) (bs : List ℕ) → is_white b ≡ false → 0 < token_len quoted (b ∷ bs)
+unfolding token_at
+token_some quoted b bs t =
+    elim (cases_Bool (b == 92)) [
+      | inl e ↦ rw (t, e) (take_some (escape_of (b ∷ bs)).1 b bs (escape_some b bs))
+      | inr e ↦ elim (cases_Bool (quoted && b == 34)) [
+        | inl q ↦ rw (t, e, q) (take_some 2 b bs (omega arith))
+        | inr q ↦ rw (t, e, q) (take_some (1 + prefix_len (prints_itself quoted) bs) b bs (omega arith))
+      ]
+    ]
+
+pub word_some : (quoted : Bool) (text : List ℕ) → begins_word text ≡ true → 0 < token_len quoted text
+word_some quoted [] h = absurd (never h)
+  where
+    never : false ≡ true → ⊥
+    never e = grind (arith, e)
+word_some quoted (b ∷ bs) h = token_some quoted b bs (not_white b bs h)
+
+-- what a word's first token gives, and what its other tokens give
+pub tokens_more : (quoted : Bool) (place : Place) (pen : Pen) (text : List ℕ) (n : ℕ) → begins_word text ≡ true → 0 < n → n ≡ token_len quoted text
+    → tokens_items place pen (words_of quoted text).word
+    ≡ token_items pen.fonts.value.font place (token_at quoted text) ++ tokens_items place (pen_after pen (token_at quoted text)) (words_of quoted (drop n text)).word
+tokens_more quoted place pen text n h k e = ap (λ (t : Parted). tokens_items place pen t.word) (words_more quoted text n h k e)
+
+pub pen_more : (quoted : Bool) (pen : Pen) (text : List ℕ) (n : ℕ) → begins_word text ≡ true → 0 < n → n ≡ token_len quoted text
+    → pen_through pen (words_of quoted text).word ≡ pen_through (pen_after pen (token_at quoted text)) (words_of quoted (drop n text)).word
+pen_more quoted pen text n h k e = ap (λ (t : Parted). pen_through pen t.word) (words_more quoted text n h k e)
+
+pub others_same : (quoted : Bool) (text : List ℕ) (n : ℕ) → begins_word text ≡ true → 0 < n → n ≡ token_len quoted text
+    → (words_of quoted (drop n text)).others ≡ (words_of quoted text).others
+others_same quoted text n h k e = sym (ap (λ (t : Parted). t.others) (words_more quoted text n h k e))
+
+pub front_not_space : (quoted : Bool) (text : List ℕ) → begins_word text ≡ true → is_space (token_at quoted text) ≡ false
+front_not_space quoted [] h = absurd (never h)
+  where
+    never : false ≡ true → ⊥
+    never e = grind (arith, e)
+front_not_space quoted (b ∷ bs) h = word_token quoted b bs (not_white b bs h)

@@ -1,0 +1,103 @@
+-- A text, part by part.
+use Rattle.std.proofs.Common.{◌≡◌, ℕ, ◌≤◌, Bool, true, false, List, [], ◌++◌, length, take, drop, refl, ap, append-nil}
+use Rattle.page_core_escapes.specs.Tokens.{begins_white, begins_word, token_len}
+use Rattle.page_scopes_words.specs.Words.{has_tab}
+use Rattle.page_scopes_text.proofs.PartedLemmas.{no_word, spaced_more, white_some, word_some, words_more, words_none}
+use Rattle.page_scopes_text.specs.Parted.{Parted, spaced_front, words_of}
+use Rattle.page_scopes_text.specs.Texts.{leading_after, leading_items, next_word_after, next_word_items, others_after, others_items, place_after, spaced_after, spaced_items, text_after, text_items, white_after, white_items}
+use Rattle.page_scopes_text.specs.Words.{word_after, word_items}
+use Rattle.page_scopes_text.specs.declared.pens.Pen.{Pen}
+use Rattle.page_scopes_text.specs.declared.pens.TextStyle.{TextStyle}
+
+-- ---- a word after white space
+
+next_word : (style : TextStyle) (line : ℕ) (tab : Bool) (pen : Pen) (text : List ℕ) → begins_word text ≡ true
+    → next_word_items style line tab pen (words_of style.is_quoted text).word ≡ word_items style line tab pen (words_of style.is_quoted text).word
+next_word style line tab pen text h =
+    rw (words_more style.is_quoted text (token_len style.is_quoted text) h (word_some style.is_quoted text h) refl) refl
+
+after_next_word : (style : TextStyle) (pen : Pen) (text : List ℕ) → begins_word text ≡ true
+    → next_word_after style pen (words_of style.is_quoted text).word ≡ word_after style pen (words_of style.is_quoted text).word
+after_next_word style pen text h =
+    rw (words_more style.is_quoted text (token_len style.is_quoted text) h (word_some style.is_quoted text h) refl) refl
+
+pub spaced_word : (style : TextStyle) (line : ℕ) (pen : Pen) (text white rest : List ℕ) (n : ℕ) → n ≡ token_len style.is_quoted text
+    → white ≡ take n text → rest ≡ drop n text → begins_word rest ≡ true
+    → spaced_items style line pen (spaced_front style.is_quoted text)
+    ≡ white_items style (place_after line pen white) white
+    ++ word_items style line (has_tab white) (white_after style pen white) (words_of style.is_quoted rest).word
+spaced_word style line pen text white rest n e w r h =
+    rw (← e, ← w, ← r) (ap (λ t. white_items style (place_after line pen white) white ++ t)
+    (next_word style line (has_tab white) (white_after style pen white) rest h))
+
+pub after_spaced_word : (style : TextStyle) (pen : Pen) (text white rest : List ℕ) (n : ℕ) → n ≡ token_len style.is_quoted text
+    → white ≡ take n text → rest ≡ drop n text → begins_word rest ≡ true
+    → spaced_after style pen (spaced_front style.is_quoted text) ≡ word_after style (white_after style pen white) (words_of style.is_quoted rest).word
+after_spaced_word style pen text white rest n e w r h = rw (← e, ← w, ← r) (after_next_word style (white_after style pen white) rest h)
+
+pub spaced_end : (style : TextStyle) (line : ℕ) (pen : Pen) (text white rest : List ℕ) (n : ℕ) → n ≡ token_len style.is_quoted text
+    → white ≡ take n text → rest ≡ drop n text → begins_word rest ≡ false
+    → spaced_items style line pen (spaced_front style.is_quoted text) ≡ white_items style (place_after line pen white) white
+spaced_end style line pen text white rest n e w r h =
+    rw (← e, ← w, ← r, no_word style.is_quoted rest h) (append-nil (white_items style (place_after line pen white) white))
+
+pub after_spaced_end : (style : TextStyle) (pen : Pen) (text white rest : List ℕ) (n : ℕ) → n ≡ token_len style.is_quoted text
+    → white ≡ take n text → rest ≡ drop n text → begins_word rest ≡ false
+    → spaced_after style pen (spaced_front style.is_quoted text) ≡ white_after style pen white
+after_spaced_end style pen text white rest n e w r h = rw (← e, ← w, ← r, no_word style.is_quoted rest h) refl
+
+-- ---- one part after another
+
+pub others_more : (style : TextStyle) (line : ℕ) (pen : Pen) (text : List ℕ) → begins_white text ≡ true
+    → others_items style line pen (words_of style.is_quoted text).others
+    ≡ spaced_items style line pen (spaced_front style.is_quoted text)
+    ++ others_items style line (spaced_after style pen (spaced_front style.is_quoted text)) (words_of style.is_quoted (drop (token_len style.is_quoted text) text)).others
+others_more style line pen text h =
+    ap (λ (t : Parted). others_items style line pen t.others)
+    (spaced_more style.is_quoted text (token_len style.is_quoted text) h (white_some style.is_quoted text h) refl)
+
+pub after_others_more : (style : TextStyle) (pen : Pen) (text : List ℕ) → begins_white text ≡ true
+    → others_after style pen (words_of style.is_quoted text).others
+    ≡ others_after style (spaced_after style pen (spaced_front style.is_quoted text)) (words_of style.is_quoted (drop (token_len style.is_quoted text) text)).others
+after_others_more style pen text h =
+    ap (λ (t : Parted). others_after style pen t.others)
+    (spaced_more style.is_quoted text (token_len style.is_quoted text) h (white_some style.is_quoted text h) refl)
+
+pub no_others : (quoted : Bool) (text : List ℕ) → length text ≤ 0 → (words_of quoted text).others ≡ []
+no_others quoted text h = ap (λ (t : Parted). t.others) (words_none quoted text h)
+
+-- ---- a whole text
+
+pub text_word : (style : TextStyle) (line : ℕ) (pen : Pen) (text : List ℕ) → begins_word text ≡ true
+    → text_items style line pen (words_of style.is_quoted text)
+    ≡ word_items style line false pen (words_of style.is_quoted text).word
+    ++ others_items style line (word_after style pen (words_of style.is_quoted text).word) (words_of style.is_quoted text).others
+text_word style line pen text h =
+    rw (words_more style.is_quoted text (token_len style.is_quoted text) h (word_some style.is_quoted text h) refl) refl
+
+pub after_text_word : (style : TextStyle) (pen : Pen) (text : List ℕ) → begins_word text ≡ true
+    → text_after style pen (words_of style.is_quoted text)
+    ≡ others_after style (word_after style pen (words_of style.is_quoted text).word) (words_of style.is_quoted text).others
+after_text_word style pen text h =
+    rw (words_more style.is_quoted text (token_len style.is_quoted text) h (word_some style.is_quoted text h) refl) refl
+
+pub text_none : (style : TextStyle) (line : ℕ) (pen : Pen) (text : List ℕ) → length text ≤ 0
+    → text_items style line pen (words_of style.is_quoted text) ≡ word_items style line false pen (words_of style.is_quoted text).word
+text_none style line pen text h = rw (words_none style.is_quoted text h) refl
+
+pub after_text_none : (style : TextStyle) (pen : Pen) (text : List ℕ) → length text ≤ 0
+    → text_after style pen (words_of style.is_quoted text) ≡ word_after style pen (words_of style.is_quoted text).word
+after_text_none style pen text h = rw (words_none style.is_quoted text h) refl
+
+pub text_leading : (style : TextStyle) (line : ℕ) (pen : Pen) (text : List ℕ) → begins_white text ≡ true
+    → text_items style line pen (words_of style.is_quoted text)
+    ≡ leading_items style line pen (spaced_front style.is_quoted text)
+    ++ others_items style line (leading_after style pen (spaced_front style.is_quoted text)) (words_of style.is_quoted (drop (token_len style.is_quoted text) text)).others
+text_leading style line pen text h =
+    ap (text_items style line pen) (spaced_more style.is_quoted text (token_len style.is_quoted text) h (white_some style.is_quoted text h) refl)
+
+pub after_text_leading : (style : TextStyle) (pen : Pen) (text : List ℕ) → begins_white text ≡ true
+    → text_after style pen (words_of style.is_quoted text)
+    ≡ others_after style (leading_after style pen (spaced_front style.is_quoted text)) (words_of style.is_quoted (drop (token_len style.is_quoted text) text)).others
+after_text_leading style pen text h =
+    ap (text_after style pen) (spaced_more style.is_quoted text (token_len style.is_quoted text) h (white_some style.is_quoted text h) refl)

@@ -1,0 +1,43 @@
+use Rattle.std.proofs.Common.{◌<◌, ◌≤◌, length, sym, ◌∙◌, append_assoc, arith}
+use Rattle.std.proofs.lemmas.Bool.Decides.{nat_tests}
+use Rattle.page_scopes_text.proofs.PartedLemmas.{white_front}
+use Rattle.page_scopes_text.proofs.TextLemmas.{after_text_leading, after_text_none, after_text_word, text_leading, text_none, text_word}
+use Rattle.page_scopes_text.proofs.texts.give_text.Goals as goal
+
+pub returns-then-begins_word-clause-came : goal.returns-then-begins_word-clause-came
+returns-then-begins_word-clause-came g c = λ plan rest h.
+    let w = c.give_word-rest.ensures in
+    let parts = text_word c.args.style c.args.line c.args.pen.now c.args.text.now (sym c.begins_word.ensures ∙ c.if-begins_word.true) in
+    (rw (w.pen, w.rest.others) at c.give_others.ensures.came) plan rest (w.came plan _ (rw (parts, append_assoc) at h))
+
+pub returns-then-begins_word-clause-pen : goal.returns-then-begins_word-clause-pen
+returns-then-begins_word-clause-pen g c =
+    let w = c.give_word-rest.ensures in
+    (rw (w.pen, w.rest.others) at c.give_others.ensures.pen)
+    ∙ sym (after_text_word c.args.style c.args.pen.now c.args.text.now (sym c.begins_word.ensures ∙ c.if-begins_word.true))
+
+pub returns-then-is_empty-clause-came : goal.returns-then-is_empty-clause-came
+returns-then-is_empty-clause-came g c = λ plan rest h.
+    let none : length c.args.text.now ≤ 0 = grind (arith, nat_tests) in
+    c.give_word.ensures.came plan rest (rw (text_none c.args.style c.args.line c.args.pen.now c.args.text.now none) at h)
+
+pub returns-then-is_empty-clause-pen : goal.returns-then-is_empty-clause-pen
+returns-then-is_empty-clause-pen g c =
+    let none : length c.args.text.now ≤ 0 = grind (arith, nat_tests) in
+    c.give_word.ensures.pen ∙ sym (after_text_none c.args.style c.args.pen.now c.args.text.now none)
+
+pub returns-else-is_empty-clause-came : goal.returns-else-is_empty-clause-came
+returns-else-is_empty-clause-came g c = λ plan rest h.
+    let some : 0 < length c.args.text.now = grind (arith, nat_tests) in
+    let white = white_front c.args.text.now some (sym c.begins_word.ensures ∙ c.if-begins_word.false) in
+    let w = c.give_leading-rest.ensures in
+    let parts = text_leading c.args.style c.args.line c.args.pen.now c.args.text.now white in
+    (rw (w.pen, w.rest.others) at c.give_others-else-is_empty.ensures.came) plan rest (w.came plan _ (rw (parts, append_assoc) at h))
+
+pub returns-else-is_empty-clause-pen : goal.returns-else-is_empty-clause-pen
+returns-else-is_empty-clause-pen g c =
+    let some : 0 < length c.args.text.now = grind (arith, nat_tests) in
+    let white = white_front c.args.text.now some (sym c.begins_word.ensures ∙ c.if-begins_word.false) in
+    let w = c.give_leading-rest.ensures in
+    (rw (w.pen, w.rest.others) at c.give_others-else-is_empty.ensures.pen)
+    ∙ sym (after_text_leading c.args.style c.args.pen.now c.args.text.now white)

@@ -1,0 +1,5 @@
+pub mod Numbers
+pub mod Parted
+pub mod Words
+pub mod Texts
+pub mod Reads

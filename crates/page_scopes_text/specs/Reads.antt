@@ -1,0 +1,29 @@
+-- How the code's own reading of a text goes on from its front. Source: roff(7).
+use Rattle.std.specs.Prelude.{◌≡◌, ℕ, ◌≤◌, ◌<◌, ◌+◌, ◌^◌, Bool, false, List, length, drop}
+use Rattle.page_core_escapes.specs.Tokens.{begins_word, token_len}
+use Rattle.page_core_limits.specs.declared.TheConstants.{LINE}
+use Rattle.page_scopes_text.specs.Parted.{words_of}
+use Rattle.page_scopes_text.specs.declared.pens.Pen.{Pen}
+
+-- a text of a line, up to whose end columns have room
+pub record Fits (pen : Pen) (text : List ℕ) : Type 0 where
+  pub short : length text ≤ LINE
+  pub room : pen.column + length text < 2 ^ 32
+
+-- of a text this much is left, where the pen stands
+pub record Within (pen : Pen) (text : List ℕ) (next : Pen) (rest : List ℕ) : Type 0 where
+  pub less : length rest ≤ length text
+  pub column : next.column + length rest ≡ pen.column + length text
+
+-- the word at a text's front was read
+pub record ReadsWord (quoted : Bool) (pen : Pen) (text : List ℕ) (next : Pen) (rest : List ℕ) : Type 0 where
+  pub within : Within pen text next rest
+  pub ends : begins_word rest ≡ false
+  pub others : (words_of quoted rest).others ≡ (words_of quoted text).others
+
+-- the white space at a text's front was read, and the word after it
+pub record ReadsSpaced (quoted : Bool) (pen : Pen) (text : List ℕ) (next : Pen) (rest : List ℕ) : Type 0 where
+  pub within : Within pen text next rest
+  pub some : length rest < length text
+  pub ends : begins_word rest ≡ false
+  pub others : (words_of quoted rest).others ≡ (words_of quoted (drop (token_len quoted text) text)).others

@@ -1,0 +1,103 @@
+-- A text as pieces and messages: its words, and the white space between them. Source: roff(7), "LANGUAGE SYNTAX"; mandoc(1), "DIAGNOSTICS".
+use Rattle.std.specs.Prelude.{ℕ, ◌+◌, max, Bool, true, false, not, ◌||◌, ◌&&◌, List, [], ◌∷◌, ◌++◌, length, if◌then◌else◌}
+use Rattle.page_core_base.specs.Pieces.{Item, shown}
+use Rattle.page_core_base.specs.declared.cells.Font.TheVariants.{R}
+use Rattle.page_core_base.specs.declared.pieces.Piece.TheVariants.{Break}
+use Rattle.page_core_base.specs.declared.places.Place.{Place}
+use Rattle.page_core_escapes.specs.Tokens.{TextToken}
+use Rattle.page_scopes_words.specs.Words.{at, has_tab, white_cells}
+use Rattle.page_scopes_text.specs.Parted.{Spaced, Parted}
+use Rattle.page_scopes_text.specs.Words.{blank_cells, body_after, body_items, has_gap_cells, word_after, word_items, word_notes}
+use Rattle.page_scopes_text.specs.declared.pens.Pen.{Pen}
+use Rattle.page_scopes_text.specs.declared.pens.TextStyle.{TextStyle}
+
+-- ---- a word after white space, which parts it, or is kept
+
+-- the place of what stands after white space
+abbrev pub place_after : ℕ → Pen → List ℕ → Place
+place_after line pen white = at line (pen.column + length white)
+
+abbrev pub white_items : TextStyle → Place → List ℕ → List Item
+white_items style place white = if style.is_literal then white_cells place white else []
+
+abbrev pub white_after : TextStyle → Pen → List ℕ → Pen
+white_after style pen white = record pen {
+  column = pen.column + length white;
+  gap = if style.is_literal then 0 else max pen.gap 1;
+  has_cell = pen.has_cell || style.is_literal;
+  is_cut = false;
+  ends_blank = true;
+}
+
+-- at the text's end there is no word
+abbrev pub next_word_items : TextStyle → ℕ → Bool → Pen → List TextToken → List Item
+next_word_items style line tab pen [] = []
+next_word_items style line tab pen (token ∷ tokens) = word_items style line tab pen (token ∷ tokens)
+
+abbrev pub next_word_after : TextStyle → Pen → List TextToken → Pen
+next_word_after style pen [] = pen
+next_word_after style pen (token ∷ tokens) = word_after style pen (token ∷ tokens)
+
+abbrev pub spaced_items : TextStyle → ℕ → Pen → Spaced → List Item
+spaced_items style line pen part =
+    white_items style (place_after line pen part.white) part.white
+    ++ next_word_items style line (has_tab part.white) (white_after style pen part.white) part.word
+
+abbrev pub spaced_after : TextStyle → Pen → Spaced → Pen
+spaced_after style pen part = next_word_after style (white_after style pen part.white) part.word
+
+abbrev pub others_items : TextStyle → ℕ → Pen → List Spaced → List Item
+others_items style line pen [] = []
+others_items style line pen (part ∷ parts) = spaced_items style line pen part ++ others_items style line (spaced_after style pen part) parts
+
+abbrev pub others_after : TextStyle → Pen → List Spaced → Pen
+others_after style pen [] = pen
+others_after style pen (part ∷ parts) = others_after style (spaced_after style pen part) parts
+
+-- ---- white space at a text's front
+
+-- in a text line that is filled it ends the row, and is kept as cells of the first word, whose messages come first
+abbrev pub is_indented : TextStyle → Bool
+is_indented style = style.is_line && not style.is_literal
+
+abbrev pub indented_pen : Pen → List ℕ → Pen
+indented_pen pen white = record pen { column = pen.column + length white; has_cell = true }
+
+abbrev pub indented_items : ℕ → Pen → Spaced → List Item
+indented_items line pen part =
+    shown Break
+    ∷ (word_notes (place_after line pen part.white) part.word
+    ++ (white_cells (place_after line pen part.white) part.white
+    ++ body_items (place_after line pen part.white) (indented_pen pen part.white) part.word))
+
+-- in a row that is kept a blank parts it from the word before it
+abbrev pub front_items : TextStyle → Place → Pen → List Item
+front_items style place pen = if has_gap_cells style pen then blank_cells 1 R place else []
+
+abbrev pub leading_items : TextStyle → ℕ → Pen → Spaced → List Item
+leading_items style line pen part =
+    if is_indented style then indented_items line pen part
+    else front_items style (at line pen.column) pen ++ spaced_items style line pen part
+
+abbrev pub leading_after : TextStyle → Pen → Spaced → Pen
+leading_after style pen part =
+    if is_indented style then body_after (indented_pen pen part.white) part.word else spaced_after style pen part
+
+-- ---- a text; one without bytes is a word that prints nothing
+
+abbrev pub parted_items : TextStyle → ℕ → Pen → List TextToken → List Spaced → List Item
+parted_items style line pen [] [] = word_items style line false pen []
+parted_items style line pen [] (part ∷ parts) = leading_items style line pen part ++ others_items style line (leading_after style pen part) parts
+parted_items style line pen (token ∷ tokens) parts =
+    word_items style line false pen (token ∷ tokens) ++ others_items style line (word_after style pen (token ∷ tokens)) parts
+
+abbrev pub parted_after : TextStyle → Pen → List TextToken → List Spaced → Pen
+parted_after style pen [] [] = word_after style pen []
+parted_after style pen [] (part ∷ parts) = others_after style (leading_after style pen part) parts
+parted_after style pen (token ∷ tokens) parts = others_after style (word_after style pen (token ∷ tokens)) parts
+
+abbrev pub text_items : TextStyle → ℕ → Pen → Parted → List Item
+text_items style line pen text = parted_items style line pen text.word text.others
+
+abbrev pub text_after : TextStyle → Pen → Parted → Pen
+text_after style pen text = parted_after style pen text.word text.others

@@ -1,0 +1,147 @@
+-- A word as pieces and messages, with its fonts. Source: roff(7), "ESCAPE SEQUENCES"; mandoc(1), "DIAGNOSTICS".
+use Rattle.std.specs.Prelude.{ℕ, ◌+◌, nat_lt, ◌==◌, Bool, true, false, ◌||◌, ◌&&◌, List, [], ◌∷◌, ◌++◌, length, replicate, if◌then◌else◌, is_some}
+use Rattle.page_core_base.specs.Pieces.{Item, shown}
+use Rattle.page_core_base.specs.declared.cells.Font.{Font}
+use Rattle.page_core_base.specs.declared.cells.Font.TheVariants.{R}
+use Rattle.page_core_base.specs.declared.page_settings.Output.TheVariants.{Ascii}
+use Rattle.page_core_base.specs.declared.pieces.Piece.TheVariants.{Text, Blank}
+use Rattle.page_core_base.specs.declared.places.Place.{Place}
+use Rattle.page_core_escapes.specs.Meanings as meanings
+use Rattle.page_core_escapes.specs.Meanings.{Face, Meaning}
+use Rattle.page_core_escapes.specs.Tokens.{TextToken, escaped, token_bytes}
+use Rattle.page_core_numbers.specs.Columns.{characters_columns, printed_escape}
+use Rattle.page_core_numbers.specs.declared.scales.Scale.TheVariants.{Em}
+use Rattle.page_scopes_layout.specs.declared.settings.Setting.{Setting}
+use Rattle.page_scopes_words.specs.Fonts.{token_fonts}
+use Rattle.page_scopes_words.specs.Words.{at, is_glue, meaning_notes, meaning_piece, piece_items, token_piece}
+use Rattle.page_scopes_words.specs.declared.fonts.Fonts.{Fonts}
+use Rattle.page_scopes_text.specs.Numbers.{number_notes}
+use Rattle.page_scopes_text.specs.declared.pens.Pen.{Pen}
+use Rattle.page_scopes_text.specs.declared.pens.TextStyle.{TextStyle}
+
+-- ---- messages
+
+-- the number in `\h` is in `m` where it has no unit
+abbrev pub escape_notes : Place → List ℕ → Meaning → List Item
+escape_notes place bytes (meanings.blanks expression) = number_notes Em place expression
+escape_notes place bytes meaning = meaning_notes place bytes meaning
+
+abbrev pub token_notes : Place → TextToken → List Item
+token_notes place (escaped bytes meaning) = escape_notes place bytes meaning
+token_notes place _ = []
+
+abbrev pub word_notes : Place → List TextToken → List Item
+word_notes place [] = []
+word_notes place (token ∷ tokens) = token_notes place token ++ word_notes place tokens
+
+-- ---- what a token prints
+
+-- blanks that are cells
+abbrev pub blank_cells : ℕ → Font → Place → List Item
+blank_cells count font place = replicate count (shown (Text (32 ∷ []) font place))
+
+-- `\h` is as many blanks as it has columns
+abbrev pub blank_count : List ℕ → ℕ
+blank_count expression = characters_columns (printed_escape Ascii (meanings.blanks expression))
+
+abbrev pub escape_items : Font → Place → Meaning → List Item
+escape_items font place (meanings.blanks expression) = blank_cells (blank_count expression) font place
+escape_items font place meaning = piece_items (meaning_piece font place meaning)
+
+abbrev pub token_items : Font → Place → TextToken → List Item
+token_items font place (escaped bytes meaning) = escape_items font place meaning
+token_items font place token = piece_items (token_piece font place token)
+
+abbrev pub escape_prints : Meaning → Bool
+escape_prints (meanings.blanks expression) = nat_lt 0 (blank_count expression)
+escape_prints meaning = is_some (meaning_piece R (at 0 0) meaning)
+
+abbrev pub token_prints : TextToken → Bool
+token_prints (escaped bytes meaning) = escape_prints meaning
+token_prints token = true
+
+-- ---- fonts
+
+-- whether an escape asks for a font that there is
+abbrev pub is_known : Face → Bool
+is_known (meanings.unknown name) = false
+is_known _ = true
+
+abbrev pub escape_sets : Meaning → Bool
+escape_sets (meanings.face face) = is_known face
+escape_sets _ = false
+
+abbrev pub token_sets : TextToken → Bool
+token_sets (escaped bytes meaning) = escape_sets meaning
+token_sets _ = false
+
+abbrev pub fonts_after : TextToken → Setting Fonts → Setting Fonts
+fonts_after token fonts = record { value = token_fonts token fonts.value; is_set = fonts.is_set || token_sets token }
+
+-- ---- tokens of a word
+
+abbrev pub pen_after : Pen → TextToken → Pen
+pen_after pen token = record pen {
+  fonts = fonts_after token pen.fonts;
+  column = pen.column + length (token_bytes token);
+  has_cell = pen.has_cell || token_prints token;
+  is_cut = is_glue token;
+}
+
+abbrev pub pen_through : Pen → List TextToken → Pen
+pen_through pen [] = pen
+pen_through pen (token ∷ tokens) = pen_through (pen_after pen token) tokens
+
+-- each token prints in the font that those before it leave
+abbrev pub tokens_items : Place → Pen → List TextToken → List Item
+tokens_items place pen [] = []
+tokens_items place pen (token ∷ tokens) = token_items pen.fonts.value.font place token ++ tokens_items place (pen_after pen token) tokens
+
+-- ---- a word
+
+-- a word begins without a cell
+abbrev pub word_begun : Pen → Pen
+word_begun pen = record pen { has_cell = false; is_cut = false }
+
+-- a word that prints nothing is a text without characters
+abbrev pub empty_items : Bool → Place → List Item
+empty_items has_cell place = if has_cell then [] else shown (Text [] R place) ∷ []
+
+abbrev pub body_items : Place → Pen → List TextToken → List Item
+body_items place pen word =
+    tokens_items place (word_begun pen) word ++ empty_items (pen_through (word_begun pen) word).has_cell place
+
+-- after a word one blank stands
+abbrev pub word_ended : Pen → Pen → Pen
+word_ended before pen = record pen {
+  gap = 1;
+  is_after_word = true;
+  has_cell = before.has_cell || pen.has_cell;
+  ends_blank = false;
+}
+
+abbrev pub body_after : Pen → List TextToken → Pen
+body_after pen word = word_ended pen (pen_through (word_begun pen) word)
+
+-- the blanks before a word part it, or are kept where a word stands before it
+abbrev pub has_gap_cells : TextStyle → Pen → Bool
+has_gap_cells style pen = style.is_literal && (pen.is_after_word && nat_lt 0 pen.gap)
+
+abbrev pub fill_gap_items : Bool → Pen → List Item
+fill_gap_items has_tab pen = if pen.gap == 0 then [] else shown (Blank pen.gap has_tab) ∷ []
+
+abbrev pub gap_items : TextStyle → Bool → Place → Pen → List Item
+gap_items style has_tab place pen =
+    if style.is_literal then (if pen.is_after_word then blank_cells pen.gap R place else []) else fill_gap_items has_tab pen
+
+abbrev pub gap_after : TextStyle → Pen → Pen
+gap_after style pen = record pen { has_cell = pen.has_cell || has_gap_cells style pen }
+
+-- a word's messages come first; then the blanks before it, and what it prints
+abbrev pub word_items : TextStyle → ℕ → Bool → Pen → List TextToken → List Item
+word_items style line has_tab pen word =
+    word_notes (at line pen.column) word
+    ++ (gap_items style has_tab (at line pen.column) pen ++ body_items (at line pen.column) (gap_after style pen) word)
+
+abbrev pub word_after : TextStyle → Pen → List TextToken → Pen
+word_after style pen word = body_after (gap_after style pen) word

@@ -1,0 +1,146 @@
+//! Texts: words, and the white space between them (roff(7), "LANGUAGE SYNTAX").
+
+ghost use Rattle.std.specs.Prelude.{◌≡◌, ◌<◌, ◌+◌, ◌^◌, true, false, length};
+ghost use Rattle.page_core_base.specs.Latches.{Came};
+ghost use Rattle.page_core_escapes.specs.Tokens.{begins_white, begins_word};
+ghost use Rattle.page_scopes_text.specs.Parted.{spaced_front, words_of};
+ghost use Rattle.page_scopes_text.specs.Reads.{Fits, ReadsSpaced};
+ghost use Rattle.page_scopes_text.specs.Texts as texts;
+ghost use Rattle.page_scopes_text.specs.Words.{body_after};
+
+use crate::tokens::give_blank_cells;
+use crate::words::{give_body, give_word, report_word};
+use crate::{Pen, TextStyle};
+use page_core_base::{Font, Piece, PieceOut, Place};
+use page_core_escapes::{begins_word, read_token};
+use page_scopes_words::{give_white_cells, has_tab};
+
+// Gives white space, and goes on after it.
+fn give_white<O: PieceOut>(out: &mut O, style: TextStyle, line: u32, pen: &mut Pen, white: &[u8])
+    requires { pen.old.column + length white.now < 2 ^ 32 }
+    ensures came { Came O.left out.old
+        (texts.white_items style (texts.place_after line pen.old white.now) white.now) out.new }
+    ensures pen { pen.new ≡ texts.white_after style pen.old white.now }
+{
+    pen.pass_white(style, white);
+    if style.is_literal {
+        let place = Place {
+            line,
+            column: pen.column,
+        };
+        give_white_cells(out, place, white);
+    }
+}
+
+// Gives the white space at a text's front, and the word after it; what is left of the text.
+fn give_spaced<'a, O: PieceOut>(
+    out: &mut O,
+    style: TextStyle,
+    line: u32,
+    pen: &mut Pen,
+    text: &'a [u8],
+) -> &'a [u8]
+    requires fits { Fits pen.old text.now }
+    requires white { begins_white text.now ≡ true }
+    ensures came { Came O.left out.old
+        (texts.spaced_items style line pen.old (spaced_front style.is_quoted text.now)) out.new }
+    ensures pen { pen.new ≡ texts.spaced_after style pen.old (spaced_front style.is_quoted text.now) }
+    ensures rest { ReadsSpaced style.is_quoted pen.old text.now pen.new result.now }
+{
+    let (white, rest) = text.split_at(read_token(style.is_quoted, text).len());
+    give_white(out, style, line, pen, white);
+    if begins_word(rest) {
+        give_word(out, style, line, has_tab(white), pen, rest)
+    } else {
+        rest
+    }
+}
+
+// Gives what follows the word at a text's front.
+fn give_others<O: PieceOut>(out: &mut O, style: TextStyle, line: u32, pen: &mut Pen, text: &[u8])
+    requires fits { Fits pen.old text.now }
+    requires word { begins_word text.now ≡ false }
+    ensures came { Came O.left out.old
+        (texts.others_items style line pen.old (words_of style.is_quoted text.now).others) out.new }
+    ensures pen { pen.new ≡ texts.others_after style pen.old (words_of style.is_quoted text.now).others }
+{
+    let mut rest = text;
+    while !rest.is_empty() {
+        rest = give_spaced(out, style, line, pen, rest);
+    }
+}
+
+// Gives the white space at a text line's front, which ends the row, as cells of the word after it; what is left of the text.
+fn give_indented<'a, O: PieceOut>(
+    out: &mut O,
+    quoted: bool,
+    line: u32,
+    pen: &mut Pen,
+    text: &'a [u8],
+) -> &'a [u8]
+    requires fits { Fits pen.old text.now }
+    requires white { begins_white text.now ≡ true }
+    ensures came { Came O.left out.old
+        (texts.indented_items line pen.old (spaced_front quoted text.now)) out.new }
+    ensures pen { pen.new
+        ≡ body_after (texts.indented_pen pen.old (spaced_front quoted text.now).white)
+        (spaced_front quoted text.now).word }
+    ensures rest { ReadsSpaced quoted pen.old text.now pen.new result.now }
+{
+    let (white, rest) = text.split_at(read_token(quoted, text).len());
+    pen.indent(white);
+    let place = Place {
+        line,
+        column: pen.column,
+    };
+    out.give(Piece::Break);
+    report_word(out, quoted, place, rest);
+    give_white_cells(out, place, white);
+    give_body(out, quoted, place, pen, rest)
+}
+
+// Gives the white space at a text's front, and the word after it; what is left of the text.
+fn give_leading<'a, O: PieceOut>(
+    out: &mut O,
+    style: TextStyle,
+    line: u32,
+    pen: &mut Pen,
+    text: &'a [u8],
+) -> &'a [u8]
+    requires fits { Fits pen.old text.now }
+    requires white { begins_white text.now ≡ true }
+    ensures came { Came O.left out.old
+        (texts.leading_items style line pen.old (spaced_front style.is_quoted text.now)) out.new }
+    ensures pen { pen.new ≡ texts.leading_after style pen.old (spaced_front style.is_quoted text.now) }
+    ensures rest { ReadsSpaced style.is_quoted pen.old text.now pen.new result.now }
+{
+    if style.is_line && !style.is_literal {
+        return give_indented(out, style.is_quoted, line, pen, text);
+    }
+    if pen.has_gap_cells(style) {
+        let place = Place {
+            line,
+            column: pen.column,
+        };
+        give_blank_cells(out, 1, Font::R, place);
+    }
+    give_spaced(out, style, line, pen, text)
+}
+
+/// Gives the words of a text of a line at the pen, and moves the pen to its end.
+pub fn give_text<O: PieceOut>(out: &mut O, style: TextStyle, line: u32, pen: &mut Pen, text: &[u8])
+    requires { Fits pen.old text.now }
+    ensures came { Came O.left out.old
+        (texts.text_items style line pen.old (words_of style.is_quoted text.now)) out.new }
+    ensures pen { pen.new ≡ texts.text_after style pen.old (words_of style.is_quoted text.now) }
+{
+    if begins_word(text) {
+        let rest = give_word(out, style, line, false, pen, text);
+        give_others(out, style, line, pen, rest);
+    } else if text.is_empty() {
+        give_word(out, style, line, false, pen, text);
+    } else {
+        let rest = give_leading(out, style, line, pen, text);
+        give_others(out, style, line, pen, rest);
+    }
+}

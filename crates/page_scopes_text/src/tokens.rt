@@ -1,0 +1,128 @@
+//! Tokens of words: their messages, what they print, and the fonts after them (roff(7), "ESCAPE SEQUENCES").
+
+ghost use Rattle.std.specs.Prelude.{◌≡◌, false};
+ghost use Rattle.page_core_base.specs.Latches.{Came};
+ghost use Rattle.page_core_escapes.specs.Escapes.{face_seen, meaning_seen};
+ghost use Rattle.page_core_escapes.specs.Tokens.{is_space, token_seen};
+ghost use Rattle.page_scopes_text.specs.Words as words;
+ghost use Rattle.page_scopes_words.specs.Words.{is_glue};
+
+use crate::give_number;
+use page_core_base::{Font, Output, Piece, PieceOut, Place};
+use page_core_escapes::{Escape, FontName, Token};
+use page_core_numbers::{Scale, escape_columns};
+use page_scopes_layout::Setting;
+use page_scopes_words::{Fonts, token_piece};
+
+/// Gives the messages of a token.
+pub(crate) fn report_token<O: PieceOut>(out: &mut O, place: Place, token: &Token<'_>)
+    ensures { Came O.left out.old (words.token_notes place (token_seen token.now)) out.new }
+{
+    if let Token::Escaped {
+        meaning: Escape::Blanks(expression),
+        ..
+    } = *token
+    {
+        let _ = give_number(out, Scale::Em, place, expression);
+    } else {
+        page_scopes_words::report_token(out, place, token);
+    }
+}
+
+/// Gives a count of blanks that are cells.
+pub(crate) fn give_blank_cells<O: PieceOut>(out: &mut O, count: u32, font: Font, place: Place)
+    ensures { Came O.left out.old (words.blank_cells count font place) out.new }
+{
+    for _i in 0..count {
+        out.give(Piece::Text {
+            text: b" ",
+            font,
+            place,
+        });
+    }
+}
+
+// The blanks of `\h`.
+fn blank_count(expression: &[u8]) -> u32
+    ensures { result ≡ words.blank_count expression.now }
+{
+    escape_columns(Escape::Blanks(expression), Output::Ascii)
+}
+
+/// Gives what a token prints.
+pub(crate) fn give_token<O: PieceOut>(out: &mut O, font: Font, place: Place, token: &Token<'_>)
+    requires { is_space (token_seen token.now) ≡ false }
+    ensures { Came O.left out.old (words.token_items font place (token_seen token.now)) out.new }
+{
+    if let Token::Escaped {
+        meaning: Escape::Blanks(expression),
+        ..
+    } = *token
+    {
+        give_blank_cells(out, blank_count(expression), font, place);
+    } else if let Some(piece) = token_piece(font, place, token) {
+        out.give(piece);
+    }
+}
+
+// Whether an escape prints a cell.
+fn escape_prints(meaning: Escape<'_>) -> bool
+    ensures { result ≡ words.escape_prints (meaning_seen meaning.entry) }
+{
+    match meaning {
+        Escape::Glyph(_) | Escape::Char(_) | Escape::Tab | Escape::Blank | Escape::Undefined(_) =>
+            true,
+        Escape::Blanks(expression) => blank_count(expression) > 0,
+        _ => false,
+    }
+}
+
+/// Whether a token prints a cell.
+pub(crate) fn token_prints(token: &Token<'_>) -> bool
+    ensures { result ≡ words.token_prints (token_seen token.now) }
+{
+    match *token {
+        Token::White(_) | Token::Plain(_) | Token::Quotes(_) => true,
+        Token::Escaped { meaning, .. } => escape_prints(meaning),
+    }
+}
+
+/// Whether an escape glues the next line's text.
+pub(crate) fn is_glue(token: &Token<'_>) -> bool
+    ensures { result ≡ is_glue (token_seen token.now) }
+{
+    match *token {
+        Token::Escaped { meaning, .. } => matches!(meaning, Escape::Glue),
+        _ => false,
+    }
+}
+
+// Whether a font is asked for that there is.
+fn is_known(name: FontName<'_>) -> bool
+    ensures { result ≡ words.is_known (face_seen name.entry) }
+{
+    !matches!(name, FontName::Unknown(_))
+}
+
+// Whether a token asks for a font that there is.
+fn token_sets(token: &Token<'_>) -> bool
+    ensures { result ≡ words.token_sets (token_seen token.now) }
+{
+    match *token {
+        Token::Escaped {
+            meaning: Escape::Font(name),
+            ..
+        } => is_known(name),
+        _ => false,
+    }
+}
+
+/// The fonts after a token, and whether they were set.
+pub(crate) fn fonts_after(token: &Token<'_>, fonts: Setting<Fonts>) -> Setting<Fonts>
+    ensures { result ≡ words.fonts_after (token_seen token.now) fonts }
+{
+    Setting {
+        value: fonts.value.after(token),
+        is_set: fonts.is_set || token_sets(token),
+    }
+}

@@ -1,0 +1,119 @@
+//! Words: their messages, the blanks before them, and what they print (roff(7); mandoc(1), "DIAGNOSTICS").
+
+ghost use Rattle.std.specs.Prelude.{◌≡◌, ◌≤◌, ◌<◌, ◌+◌, ◌^◌, length};
+ghost use Rattle.page_core_base.specs.Latches.{Came};
+ghost use Rattle.page_scopes_text.specs.Parted.{words_of};
+ghost use Rattle.page_scopes_text.specs.Reads.{Fits, ReadsWord};
+ghost use Rattle.page_scopes_text.specs.Words as words;
+
+use crate::tokens::{give_blank_cells, give_token, report_token};
+use crate::{Pen, TextStyle};
+use page_core_base::{Font, Piece, PieceOut, Place};
+use page_core_escapes::{begins_word, read_token};
+use page_core_limits::LINE;
+
+/// Gives the messages of the word at a text's front.
+pub(crate) fn report_word<O: PieceOut>(out: &mut O, quoted: bool, place: Place, text: &[u8])
+    requires { length text.now ≤ LINE }
+    ensures { Came O.left out.old (words.word_notes place (words_of quoted text.now).word) out.new }
+{
+    let mut rest = text;
+    while begins_word(rest) {
+        let token = read_token(quoted, rest);
+        report_token(out, place, &token);
+        rest = &rest[token.len()..];
+    }
+}
+
+// Gives what the tokens of the word at a text's front print; what is left of the text.
+fn give_tokens<'a, O: PieceOut>(
+    out: &mut O,
+    quoted: bool,
+    place: Place,
+    pen: &mut Pen,
+    text: &'a [u8],
+) -> &'a [u8]
+    requires { Fits pen.old text.now }
+    ensures came { Came O.left out.old
+        (words.tokens_items place pen.old (words_of quoted text.now).word) out.new }
+    ensures pen { pen.new ≡ words.pen_through pen.old (words_of quoted text.now).word }
+    ensures rest { ReadsWord quoted pen.old text.now pen.new result.now }
+{
+    let mut rest = text;
+    while begins_word(rest) {
+        let token = read_token(quoted, rest);
+        give_token(out, pen.fonts.value.font, place, &token);
+        pen.pass(&token);
+        rest = &rest[token.len()..];
+    }
+    rest
+}
+
+/// Gives what the word at a text's front prints; what is left of the text.
+pub(crate) fn give_body<'a, O: PieceOut>(
+    out: &mut O,
+    quoted: bool,
+    place: Place,
+    pen: &mut Pen,
+    text: &'a [u8],
+) -> &'a [u8]
+    requires { Fits pen.old text.now }
+    ensures came { Came O.left out.old
+        (words.body_items place pen.old (words_of quoted text.now).word) out.new }
+    ensures pen { pen.new ≡ words.body_after pen.old (words_of quoted text.now).word }
+    ensures rest { ReadsWord quoted pen.old text.now pen.new result.now }
+{
+    let before = *pen;
+    pen.begin_word();
+    let rest = give_tokens(out, quoted, place, pen, text);
+    if !pen.has_cell {
+        out.give(Piece::Text {
+            text: b"",
+            font: Font::R,
+            place,
+        });
+    }
+    pen.end_word(&before);
+    rest
+}
+
+// Gives the blanks before a word.
+fn give_gap<O: PieceOut>(out: &mut O, style: TextStyle, has_tab: bool, place: Place, pen: &Pen)
+    ensures { Came O.left out.old (words.gap_items style has_tab place pen.now) out.new }
+{
+    if style.is_literal {
+        if pen.is_after_word {
+            give_blank_cells(out, pen.gap, Font::R, place);
+        }
+    } else if pen.gap != 0 {
+        out.give(Piece::Blank {
+            count: pen.gap,
+            has_tab,
+        });
+    }
+}
+
+/// Gives the word at a text's front, which is empty where white space stands there; what is left of the text.
+pub(crate) fn give_word<'a, O: PieceOut>(
+    out: &mut O,
+    style: TextStyle,
+    line: u32,
+    has_tab: bool,
+    pen: &mut Pen,
+    text: &'a [u8],
+) -> &'a [u8]
+    requires { Fits pen.old text.now }
+    ensures came { Came O.left out.old
+        (words.word_items style line has_tab pen.old (words_of style.is_quoted text.now).word) out.new }
+    ensures pen { pen.new ≡ words.word_after style pen.old (words_of style.is_quoted text.now).word }
+    ensures rest { ReadsWord style.is_quoted pen.old text.now pen.new result.now }
+{
+    let place = Place {
+        line,
+        column: pen.column,
+    };
+    report_word(out, style.is_quoted, place, text);
+    give_gap(out, style, has_tab, place, pen);
+    pen.pass_gap(style);
+    give_body(out, style.is_quoted, place, pen, text)
+}

@@ -1,0 +1,5 @@
+//! Tests of texts, on public calls.
+#![tactic(auto)]
+
+#[cfg(test)]
+mod tests;

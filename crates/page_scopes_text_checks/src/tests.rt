@@ -1,0 +1,250 @@
+//! What texts give, in rows that are filled and in rows that are kept.
+
+use page_core_base::{Font, Note, NoteKind, Piece, PieceOut};
+use page_roff_forms::{Argument, Quoting};
+use page_scopes_layout::{Context, Setting};
+use page_scopes_leaves::{Running, give_line_word};
+use page_scopes_text::{Pen, TextStyle, give_text};
+use page_sets_lines::{Join, Role, Word};
+use std::alloc::Global;
+use std::process::Abort;
+use std::test::Fail;
+
+// The bytes at most of a text here.
+const MOST: usize = 64;
+
+fn check_bytes(rt: &impl Abort, got: &[u8], wanted: &[u8]) {
+    assert_eq!(rt; got, wanted);
+}
+
+// Keeps a text of what it is given: texts between brackets, their font before them; blanks as their count, with "t" for a tab; messages between "!" and ";".
+#[derive(Drop)]
+struct Shown {
+    text: Vec<u8>,
+}
+
+impl Shown {
+    fn add(&mut self, bytes: &[u8]) {
+        let _ = self.text.extend_from_slice(bytes);
+    }
+}
+
+fn font_name(font: Font) -> &'static str {
+    match font {
+        Font::R => "[",
+        Font::B => "B[",
+        Font::I => "I[",
+        Font::BI => "BI[",
+    }
+}
+
+fn kind_name(kind: NoteKind) -> &'static str {
+    match kind {
+        NoteKind::UndefEscape => "UndefEscape ",
+        NoteKind::BadEscape => "BadEscape ",
+        NoteKind::UnknownFont => "UnknownFont ",
+        NoteKind::NotNumeric => "NotNumeric",
+        NoteKind::Unterminated => "Unterminated",
+        _ => "?",
+    }
+}
+
+impl PieceOut for Shown {
+    ghost Plan = { Unit {0} };
+
+    ghost left = { λ plan s rest. Unit {0} };
+
+    fn give(&mut self, piece: Piece<&[u8]>) {
+        match piece {
+            Piece::Text { text, font, .. } => {
+                self.add(font_name(font).as_bytes());
+                self.add(text);
+                self.add(b"]");
+            }
+            Piece::Glyph { name, .. } => self.add(name),
+            Piece::Char { .. } => self.add(b"c"),
+            Piece::Tab { .. } => self.add(b"T"),
+            Piece::Blank { count, has_tab } => {
+                self.add(&[b'0' + (count % 10) as u8]);
+                self.add(if has_tab { b"t" } else { b"" });
+            }
+            Piece::Break => self.add(b"/"),
+            _ => self.add(b"?"),
+        }
+    }
+
+    fn report(&mut self, note: &Note) {
+        self.add(b"!");
+        self.add(kind_name(note.kind).as_bytes());
+        self.add(note.detail.as_str().as_bytes());
+        self.add(b";");
+    }
+
+    fn has_failed(&self) -> bool {
+        false
+    }
+}
+
+// What a text gives after so many blanks, and then the blanks that are to follow it, with "c" where it ends in `\c` and "e" where it ends in a blank.
+fn given_by(alloc: Global, style: TextStyle, gap: u32, is_after_word: bool, text: &str) -> Vec<u8> {
+    let mut out = Shown {
+        text: Vec::new(alloc),
+    };
+    let mut pen = Pen {
+        fonts: Context::start(7).fonts,
+        column: 1,
+        gap,
+        is_after_word,
+        has_cell: false,
+        is_cut: false,
+        ends_blank: false,
+    };
+    if text.len() <= MOST {
+        give_text(&mut out, style, 1, &mut pen, text.as_bytes());
+    }
+    out.add(b" ");
+    out.add(&[b'0' + (pen.gap % 10) as u8]);
+    out.add(if pen.is_cut { b"c" } else { b"" });
+    out.add(if pen.ends_blank { b"e" } else { b"" });
+    out.text
+}
+
+const LINE: TextStyle = TextStyle {
+    is_quoted: false,
+    is_literal: false,
+    is_line: true,
+};
+
+const KEPT_LINE: TextStyle = TextStyle {
+    is_quoted: false,
+    is_literal: true,
+    is_line: true,
+};
+
+const QUOTED: TextStyle = TextStyle {
+    is_quoted: true,
+    is_literal: false,
+    is_line: false,
+};
+
+const KEPT: TextStyle = TextStyle {
+    is_quoted: true,
+    is_literal: true,
+    is_line: false,
+};
+
+// Texts after a sentence, and what they give.
+const TEXTS: [(TextStyle, &str, &str); 18] = [
+    (LINE, "a  b", "2[a]1[b] 1"),
+    (LINE, "a\t b", "2[a]1t[b] 1"),
+    (LINE, "a \\fBb\\fP c", "2[a]1B[b]1[c] 1"),
+    (LINE, " a", "/[ ][a] 1"),
+    (LINE, "\tx\\qy", "/!UndefEscape \\q;T[x]c[y] 1"),
+    (LINE, "a\\c", "2[a] 1c"),
+    (LINE, "a\\c ", "2[a] 1e"),
+    (LINE, "\\&", "2[] 1"),
+    (LINE, "a\\h'2n'b", "2[a][ ][ ][b] 1"),
+    (LINE, "a\\h'x'b", "!NotNumeric;2[a][b] 1"),
+    (LINE, "a\\fQ b", "!UnknownFont Q;2[a]1[b] 1"),
+    (QUOTED, "", "2[] 1"),
+    (QUOTED, "  ", " 2e"),
+    (QUOTED, "a\"\"b ", "2[a]c[b] 1e"),
+    (KEPT_LINE, " a  b", "[ ][ ][a][ ][ ][b] 1"),
+    (KEPT, "a b", "[ ][ ][a][ ][b] 1"),
+    (KEPT, " ", "[ ][ ] 0e"),
+    (KEPT, "", "[ ][ ][] 1"),
+];
+
+#[test]
+fn texts(rt: HostRuntime) -> Result<(), Fail> {
+    for (style, text, wanted) in TEXTS {
+        check_bytes(
+            &rt,
+            given_by(rt.alloc(), style, 2, true, text).as_slice(),
+            wanted.as_bytes(),
+        );
+    }
+    Ok(())
+}
+
+// At the front of a line that is kept no blank stands before the first word.
+#[test]
+fn a_kept_line(rt: HostRuntime) -> Result<(), Fail> {
+    check_bytes(
+        &rt,
+        given_by(rt.alloc(), KEPT_LINE, 2, false, " a").as_slice(),
+        b"[ ][a] 1",
+    );
+    check_bytes(
+        &rt,
+        given_by(rt.alloc(), KEPT, 2, false, "a").as_slice(),
+        b"[a] 1",
+    );
+    Ok(())
+}
+
+// Gives an argument of a macro, with a font of its own.
+fn give_argument(
+    out: &mut Shown,
+    text: &str,
+    style: (Quoting, Font, Join),
+    context: &mut Context,
+    running: &mut Running,
+) {
+    if text.len() > MOST {
+        return;
+    }
+    let word = Word {
+        arg: Argument {
+            text: text.as_bytes(),
+            column: 5,
+            quoting: style.0,
+        },
+        role: Role::Argument,
+        font: Some(style.1),
+        before: style.2,
+        after: Join::Apart,
+    };
+    give_line_word(out, 1, &word, context, running);
+}
+
+const BOLD: (Quoting, Font, Join) = (Quoting::Closed, Font::B, Join::Apart);
+
+const ITALIC: (Quoting, Font, Join) = (Quoting::Unclosed, Font::I, Join::Glued);
+
+// What two arguments give that are glued, and then the blanks after their line.
+fn glued_by(alloc: Global, is_literal: bool, first: &str, second: &str) -> Vec<u8> {
+    let mut out = Shown {
+        text: Vec::new(alloc),
+    };
+    let mut context = Context::start(7);
+    context.is_literal = Setting::set_to(is_literal);
+    let mut running = Running::start();
+    give_argument(&mut out, first, BOLD, &mut context, &mut running);
+    give_argument(&mut out, second, ITALIC, &mut context, &mut running);
+    running.end_line();
+    out.add(font_name(context.fonts.value.font).as_bytes());
+    out.add(&[b' ', b'0' + (running.gap % 10) as u8]);
+    out.text
+}
+
+// Two arguments, in rows that are filled and in rows that are kept.
+const GLUED: [(bool, &str, &str, &str); 5] = [
+    (false, "a", "b", "1B[a]!Unterminated;I[b][ 1"),
+    (false, "int ", "b.", "1B[int]!Unterminated;1I[b.][ 2"),
+    (true, "int ", "b", "B[int][ ]!Unterminated;I[b][ 1"),
+    (false, "\\fRa", "b\\fB", "1[a]!Unterminated;I[b][ 1"),
+    (false, "a", "b\\c", "1B[a]!Unterminated;I[b][ 0"),
+];
+
+#[test]
+fn arguments_side_by_side(rt: HostRuntime) -> Result<(), Fail> {
+    for (is_literal, first, second, wanted) in GLUED {
+        check_bytes(
+            &rt,
+            glued_by(rt.alloc(), is_literal, first, second).as_slice(),
+            wanted.as_bytes(),
+        );
+    }
+    Ok(())
+}
