@@ -9,3 +9,4 @@ pub mod Pieces
 pub mod Latches
 pub mod PiecePlans
 pub mod RowPlans
+pub mod LinesTaken

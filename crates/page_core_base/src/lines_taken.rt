@@ -7,7 +7,8 @@ pub enum Form {
     Text,
     /// A line of blanks and tabs, or of nothing.
     Blank,
-    /// A control line: a macro, or a request that changes rows.
+    /// A control line with a macro, or with a request that changes rows. Its name is not empty: it stands after the
+    /// control character and white space, up to where [`Taken::name_end`] says.
     Control,
     /// A line inside a table, an equation or a picture, as it is written.
     Raw,
@@ -19,4 +20,7 @@ pub struct Taken<'a> {
     pub form: Form,
     pub text: &'a [u8],
     pub line: u32,
+    /// The bytes up to the end of the name of a control line; 0 in any other line. What is interpolated right after a
+    /// name is no part of it: `.B\*(ab` has the name `B`.
+    pub name_end: u32,
 }

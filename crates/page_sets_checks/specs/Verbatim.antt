@@ -3,7 +3,7 @@ use Rattle.std.specs.Prelude.{ℕ, ◌+◌, ◌*◌, ◌≤◌, false, List, [],
 use Rattle.std.proofs.Common.{arith}
 use Rattle.page_sets_lines.specs.declared.events.Deed.TheVariants.{Raw}
 use Rattle.page_sets_lines.specs.declared.events.Event.{Event}
-use Rattle.page_sets_lines.specs.TakenLines.{Line}
+use Rattle.page_core_base.specs.LinesTaken.{Line}
 use Rattle.page_sets_lines.specs.Laws.{AreSlices, AreInOrder}
 use Rattle.page_sets_lines.specs.PlainLines.{event_at, line_end}
 use Rattle.page_sets_lines.proofs.LawLemmas.{whole_part}

@@ -1,7 +1,7 @@
 //! The events of a line as a list.
 
 ghost use Rattle.std.specs.Prelude.{◌≡◌, ◌≤◌, length, map, IfOk};
-ghost use Rattle.page_sets_lines.specs.TakenLines.{line_seen};
+ghost use Rattle.page_core_base.specs.LinesTaken.{line_seen};
 ghost use Rattle.page_sets_lines.specs.Events.{event_seen};
 
 use page_core_base::Taken;

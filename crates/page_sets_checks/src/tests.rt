@@ -3,11 +3,13 @@
 use crate::spelling::spelled;
 use crate::{Verbatim, events_of};
 use page_core_base::{Form, Taken};
+use page_roff_forms::{LineForm, form_of};
 use page_sets::{MacroSet, Man};
 use std::process::Abort;
 use std::test::Fail;
 
-fn check<S: MacroSet>(rt: &impl Abort, set: &S, form: Form, text: &str, want: &str)
+// Checks a line of source line 7.
+fn check<S: MacroSet>(rt: &impl Abort, set: &S, form: Form, name_end: u32, text: &str, want: &str)
 where
     S::Place: Drop,
 {
@@ -16,30 +18,80 @@ where
         form,
         text: text.as_bytes(),
         line: 7,
+        name_end,
     };
     assert_eq!(rt; spelled(set, line).as_slice(), want.as_bytes(), "of {text}");
 }
 
-// Checks control lines: each with its events.
+// Checks lines that are no control lines: each with its form and its events.
+fn check_plain<S: MacroSet>(rt: &impl Abort, set: &S, rows: &[(Form, &str, &str)])
+where
+    S::Place: Drop,
+{
+    for (form, text, want) in rows {
+        check(rt, set, *form, 0, text, want);
+    }
+}
+
+// The bytes up to the end of the name of a raw control line.
+fn raw_name_end(rt: &impl Abort, text: &str) -> u32 {
+    assert!(rt; text.len() < 100);
+    match form_of(text.as_bytes()) {
+        LineForm::Control { rest_column, .. } => rest_column.saturating_sub(1),
+        LineForm::Comment | LineForm::BlankLine | LineForm::Text(_) => 0,
+    }
+}
+
+// Checks control lines whose raw text is their finished text: each with its events.
 fn check_macros(rt: &impl Abort, rows: &[(&str, &str)]) {
     for (text, want) in rows {
-        check(rt, &Man, Form::Control, text, want);
+        check(rt, &Man, Form::Control, raw_name_end(rt, text), text, want);
     }
 }
 
 #[test]
 fn lines_without_macros(rt: HostRuntime) {
-    for (form, text, want) in [
-        (Form::Text, "a b", "1 line a b; 1 filled"),
-        (Form::Text, " \"a", "1 line  \"a; 1 filled"),
-        (Form::Text, "", "1 wordless ; 1 end"),
-        (Form::Text, " \t", "1 wordless  \t; 1 end"),
-        (Form::Blank, "", "1 blank; 1 end"),
-        (Form::Blank, "  ", "1 blank; 1 end"),
-        (Form::Raw, "", "1 raw ; 1 end"),
-        (Form::Raw, ".TP 4", "1 raw .TP 4; 1 end"),
+    check_plain(
+        &rt,
+        &Man,
+        &[
+            (Form::Text, "a b", "1 line a b; 1 filled"),
+            (Form::Text, " \"a", "1 line  \"a; 1 filled"),
+            (Form::Text, "", "1 wordless ; 1 end"),
+            (Form::Text, " \t", "1 wordless  \t; 1 end"),
+            (Form::Blank, "", "1 blank; 1 end"),
+            (Form::Blank, "  ", "1 blank; 1 end"),
+            (Form::Raw, "", "1 raw ; 1 end"),
+            (Form::Raw, ".TP 4", "1 raw .TP 4; 1 end"),
+        ],
+    );
+}
+
+#[test]
+fn names_that_end_before_what_is_interpolated(rt: HostRuntime) {
+    for (name_end, text, want) in [
+        (2, ".Bab", "2 fonts B; 3 word ab; 2 fonts; 1 filled"),
+        (
+            2,
+            ".Ba b",
+            "2 fonts B; 3 word a; 5 word b; 2 fonts; 1 filled",
+        ),
+        (2, ".B", "2 scope B; 1 end"),
+        (3, ".ZZB x", "2 note unknown ZZ; 1 end"),
+        (4, "'  Bx", "4 fonts B; 5 word x; 4 fonts; 1 filled"),
+        (
+            2,
+            ".B\"a b\" c",
+            "2 fonts B; 4 word \"a b\"; 9 word c; 2 fonts; 1 filled",
+        ),
+        (9, ".B", "2 scope B; 1 end"),
+        (1, ".B x", "1 end"),
+        (0, ".B x", "1 end"),
+        (3, ".  B x", "1 end"),
+        (0, "", "1 end"),
+        (4, "", "1 end"),
     ] {
-        check(&rt, &Man, form, text, want);
+        check(&rt, &Man, Form::Control, name_end, text, want);
     }
 }
 
@@ -80,8 +132,8 @@ fn names_of_no_macro(rt: HostRuntime) {
             (".B\\fIx", "2 fonts B; 3 word \\fIx; 2 fonts; 1 filled"),
             (". B x", "3 fonts B; 5 word x; 3 fonts; 1 filled"),
             (".B\tx", "2 fonts B; 3 word \tx; 2 fonts; 1 filled"),
-            (".", "2 note unknown; 1 end"),
-            ("", "1 note unknown; 1 end"),
+            (".", "1 end"),
+            (".\\fIx", "1 end"),
         ],
     );
 }
@@ -322,9 +374,14 @@ fn references(rt: HostRuntime) {
 
 #[test]
 fn another_set(rt: HostRuntime) {
-    for (text, want) in [("", "1 raw ; 1 end"), (".TP 4", "1 raw .TP 4; 1 end")] {
-        check(&rt, &Verbatim, Form::Text, text, want);
-    }
+    check_plain(
+        &rt,
+        &Verbatim,
+        &[
+            (Form::Text, "", "1 raw ; 1 end"),
+            (Form::Text, ".TP 4", "1 raw .TP 4; 1 end"),
+        ],
+    );
     assert!(rt; Man.indent() == 7 && Verbatim.indent() == 3);
 }
 
@@ -334,6 +391,7 @@ fn lists_of_events(rt: HostRuntime) -> Result<(), Fail> {
         form: Form::Control,
         text: b".MR n 1 ,",
         line: 7,
+        name_end: 3,
     };
     let events = events_of(rt.alloc(), &Man, line)?;
     assert_eq!(rt; events.len(), 6);

@@ -5,8 +5,9 @@ use Rattle.std.proofs.lemmas.Bool.{cases_Bool}
 use Rattle.std.proofs.Math.Seq.{take-length}
 use Rattle.page_core_base.specs.declared.lines_taken.Form.{Form}
 use Rattle.page_core_base.specs.declared.lines_taken.Form.TheVariants as forms
+use Rattle.page_core_base.specs.LinesTaken.{Line}
 use Rattle.page_roff_forms.specs.declared.quotes.Argument.{Argument}
-use Rattle.page_roff_forms.specs.LineForms.{is_white, is_name, has_word}
+use Rattle.page_roff_forms.specs.LineForms.{is_white, has_word}
 use Rattle.page_sets_lines.specs.declared.events.Deed.{Deed}
 use Rattle.page_sets_lines.specs.declared.events.Deed.TheVariants as deeds
 use Rattle.page_sets_lines.specs.declared.events.Event.{Event}
@@ -35,15 +36,14 @@ start_within : (text : List ℕ) → name_start text ≤ length text
 start_within [] = omega arith
 start_within (control ∷ bytes) = omega (arith, prefix_len-le-length is_white bytes)
 
-pub end_within : (text : List ℕ) → name_end text ≤ length text
-end_within text =
-    let rest = drop (name_start text) text in
-    omega (arith, start_within text, prefix_len-le-length is_name rest, length-drop (name_start text) text)
+pub end_within : (line : Line) → name_end line ≤ length line.text
+end_within line = omega (arith, start_within line.text)
 
-pub name_part : (text : List ℕ) → IsPart text (name_of text)
-name_part text =
-    let rest = drop (name_start text) text in
-    (name_start text, cut_at text (name_start text) (name_end text - name_start text) (start_within text) (omega (arith, prefix_len-le-length is_name rest)))
+pub name_part : (line : Line) → IsPart line.text (name_of line)
+name_part line =
+    let text = line.text in
+    let start = name_start text in
+    (start, cut_at text start (name_end line - start) (start_within text) (omega (arith, end_within line, length-drop start text)))
 
 pub argument_part : (line : List ℕ) (argument : Argument (List ℕ)) → IsArgument line argument → IsPart line argument.text
 argument_part line argument h = (argument.column - 1, h.slice)

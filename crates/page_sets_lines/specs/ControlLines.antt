@@ -1,22 +1,31 @@
 -- The name and the arguments of a finished control line. Source: roff(7), "LANGUAGE SYNTAX".
-use Rattle.std.specs.Prelude.{◌≡◌, ◌≤◌, MatchOption, ℕ, zero, suc, ◌+◌, ◌-◌, min, Bool, true, false, if◌then◌else◌, List, [], ◌∷◌, length, take, drop, Option, None, Some}
+use Rattle.std.specs.Prelude.{◌≡◌, ◌≤◌, MatchOption, ℕ, zero, suc, ◌+◌, ◌-◌, min, max, ◌==◌, Bool, true, false, if◌then◌else◌, List, [], ◌∷◌, length, take, drop, Option, None, Some}
 use Rattle.std.specs.List.{prefix_len}
 use Rattle.page_roff_forms.specs.declared.quotes.Argument.{Argument}
 use Rattle.page_roff_forms.specs.declared.quotes.Quoting.{Quoting}
 use Rattle.page_roff_forms.specs.declared.quotes.Quoting.TheVariants.{Bare, Closed, Unclosed}
-use Rattle.page_roff_forms.specs.LineForms.{is_white, is_name}
+use Rattle.page_core_base.specs.LinesTaken.{Line}
+use Rattle.page_roff_forms.specs.LineForms.{is_white}
 use Rattle.page_roff_forms.specs.Arguments.{arguments, argument_seen}
 use Rattle.std.specs.Borrow.{Bor}
 
--- after the control character come white space and the name, up to a blank, a tab or a backslash; this many bytes stand before them
+-- after the control character come white space and the name; this many bytes stand before it
 abbrev pub name_start : List ℕ → ℕ
 name_start text = min 1 (length text) + prefix_len is_white (drop 1 text)
 
-abbrev pub name_end : List ℕ → ℕ
-name_end text = name_start text + prefix_len is_name (drop (name_start text) text)
+-- the name goes as far as the line says, but not past the text's end; a name that would end before it begins is empty
+abbrev pub name_end : Line → ℕ
+name_end line = max (name_start line.text) (min line.name_end (length line.text))
 
-abbrev pub name_of : List ℕ → List ℕ
-name_of text = take (name_end text - name_start text) (drop (name_start text) text)
+abbrev pub name_of : Line → List ℕ
+name_of line = take (name_end line - name_start line.text) (drop (name_start line.text) line.text)
+
+abbrev pub is_nameless : Line → Bool
+is_nameless line = name_start line.text == name_end line
+
+-- what comes after the name: the arguments, with what stands between them
+abbrev pub rest_of : Line → List ℕ
+rest_of line = drop (name_end line) line.text
 
 -- the arguments that begin after this many bytes
 abbrev pub arguments_after : ℕ → List ℕ → List (Argument (List ℕ))

@@ -1,6 +1,5 @@
 pub mod MacroNames
 pub mod Events
-pub mod TakenLines
 pub mod Laws
 pub mod ControlLines
 pub mod PlainLines

@@ -16,7 +16,7 @@ use Rattle.page_sets_lines.specs.declared.events.Deed.TheVariants as deeds
 use Rattle.page_sets_lines.specs.declared.events.Event.{Event}
 use Rattle.page_sets_lines.specs.declared.requests.RequestName.{RequestName}
 use Rattle.page_sets_lines.specs.declared.requests.RequestName.TheVariants as names
-use Rattle.page_sets_lines.specs.TakenLines.{Line}
+use Rattle.page_core_base.specs.LinesTaken.{Line}
 
 -- an event in a column of a line
 abbrev pub event_at : ℕ → ℕ → Deed (List ℕ) → Event (List ℕ)

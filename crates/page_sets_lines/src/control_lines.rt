@@ -1,30 +1,20 @@
 //! The name and the arguments of a finished control line (roff(7), "LANGUAGE SYNTAX").
 
-ghost use Rattle.std.specs.Prelude.{◌≡◌, ◌≤◌, ◌+◌, ◌-◌, ◌<◌, ◌^◌, ℕ, List, length, drop, IfSome};
-ghost use Rattle.std.specs.List.{prefix_len};
-ghost use Rattle.page_roff_forms.specs.LineForms.{is_name};
+ghost use Rattle.std.specs.Prelude.{◌≡◌, ◌≤◌, ◌+◌, ◌-◌, ◌<◌, ◌^◌, ℕ, List, length, drop, ◌==◌, IfSome};
+ghost use Rattle.page_core_base.specs.LinesTaken.{line_seen};
 ghost use Rattle.page_roff_forms.specs.Arguments.{arguments, argument_seen};
 ghost use Rattle.page_sets_lines.specs.Events.{given_seen};
 ghost use Rattle.page_sets_lines.specs.ControlLines.{name_start, name_end, arguments_after, first_of, second_of, open_quote, has_any, closing_len, argument_end, ReadsFrom};
 
+use page_core_base::Taken;
 use page_core_limits::LINE;
-use page_roff_forms::{Argument, Arguments, Quoting, is_white, white_len};
+use page_roff_forms::{Argument, Arguments, Quoting, white_len};
 
 /// Where the name of a control line begins and ends, in bytes.
 #[derive(Clone, Copy)]
 pub struct NameSpan {
     pub start: usize,
     pub end: usize,
-}
-
-// The number of bytes of a name at a text's front.
-fn name_len(text: &[u8]) -> usize
-    ensures value { result ≡ prefix_len is_name text.now }
-    ensures within { result ≤ length text.now }
-{
-    text.iter()
-        .take_while(|byte| !(is_white(**byte) || **byte == b'\\'))
-        .count()
 }
 
 // Where the name of a control line begins.
@@ -38,16 +28,26 @@ fn name_start(text: &[u8]) -> usize
     }
 }
 
+impl NameSpan {
+    /// Whether it has no byte.
+    pub fn is_empty(self) -> bool
+        ensures { result ≡ (self.start == self.end) }
+    {
+        self.start == self.end
+    }
+}
+
 /// Finds the name of a control line.
-pub fn find_name(text: &[u8]) -> NameSpan
-    ensures start { result.start ≡ name_start text.now }
-    ensures end { result.end ≡ name_end text.now }
-    ensures within { (result.start ≤ result.end) × (result.end ≤ length text.now) }
+pub fn find_name(line: Taken<'_>) -> NameSpan
+    ensures start { result.start ≡ name_start line.entry.text.now }
+    ensures end { result.end ≡ name_end (line_seen line.entry) }
+    ensures within { (result.start ≤ result.end) × (result.end ≤ length line.entry.text.now) }
 {
-    let start = name_start(text);
+    let start = name_start(line.text);
+    let end = line.text.len().min(line.name_end as usize);
     NameSpan {
         start,
-        end: start + name_len(&text[start..]),
+        end: end.max(start),
     }
 }
 

@@ -2,7 +2,7 @@
 
 ghost use Rattle.std.specs.Prelude.{◌≡◌, ◌≤◌, ◌+◌, ◌*◌, List, [], ◌∷◌, ℕ, length, MatchOption};
 ghost use Rattle.page_sets_lines.specs.declared.events.Event.{Event};
-ghost use Rattle.page_sets_lines.specs.TakenLines.{Line, line_seen};
+ghost use Rattle.page_core_base.specs.LinesTaken.{Line, line_seen};
 ghost use Rattle.page_sets_lines.specs.Events.{event_seen};
 ghost use Rattle.page_sets_lines.specs.Laws.{AreSlices, AreInOrder};
 

@@ -1,5 +1,5 @@
 -- The events of a line. Source: man(7).
-use Rattle.std.specs.Prelude.{ℕ, ◌+◌, Bool, true, false, ◌&&◌, List, [], ◌∷◌, ◌++◌, drop, Option, None, Some, option_map, if◌then◌else◌}
+use Rattle.std.specs.Prelude.{ℕ, ◌+◌, Bool, true, false, ◌&&◌, List, [], ◌∷◌, ◌++◌, Option, None, Some, option_map, if◌then◌else◌}
 use Rattle.page_core_base.specs.declared.cells.Font.{Font}
 use Rattle.page_core_base.specs.declared.cells.Font.TheVariants as fonts
 use Rattle.page_core_base.specs.declared.lines_taken.Form.{Form}
@@ -26,8 +26,8 @@ use Rattle.page_sets_lines.specs.declared.events.Role.TheVariants as roles
 use Rattle.page_sets_lines.specs.declared.events.Deed.{Deed}
 use Rattle.page_sets_lines.specs.declared.events.Deed.TheVariants as deeds
 use Rattle.page_sets_lines.specs.declared.events.Event.{Event}
-use Rattle.page_sets_lines.specs.TakenLines.{Line}
-use Rattle.page_sets_lines.specs.ControlLines.{name_start, name_end, name_of, arguments_after, first_of, second_of, text_of, has_any, open_quote}
+use Rattle.page_core_base.specs.LinesTaken.{Line}
+use Rattle.page_sets_lines.specs.ControlLines.{name_start, name_end, name_of, is_nameless, rest_of, arguments_after, first_of, second_of, text_of, has_any, open_quote}
 use Rattle.page_sets_lines.specs.PlainLines.{event_at, line_end, plain_events, request}
 use Rattle.page_sets_man.specs.declared.rows.Opens.{Opens}
 use Rattle.page_sets_man.specs.declared.rows.Opens.TheVariants as opens
@@ -251,17 +251,22 @@ row_events number column name rest arguments row =
     if has_any arguments then macro_events number column row rest arguments
     else lone_events row.alone number column name (macro_events number column row rest arguments)
 
+-- a macro by its row, if its name has one
 abbrev pub named_events : Line → Option Row → List (Event (List ℕ))
-named_events line None = refused_events UnknownMacro line.number (name_start line.text + 1) (name_of line.text)
+named_events line None = refused_events UnknownMacro line.number (name_start line.text + 1) (name_of line)
 named_events line (Some row) =
-    row_events line.number (name_start line.text + 1) (name_of line.text) (drop (name_end line.text) line.text)
-    (arguments_after (name_end line.text) line.text) row
+    row_events line.number (name_start line.text + 1) (name_of line) (rest_of line) (arguments_after (name_end line) line.text) row
+
+-- a line without a name does nothing
+abbrev pub control_events : Line → List (Event (List ℕ))
+control_events line =
+    if is_nameless line then line_end line.number false ∷ [] else named_events line (row_of (name_of line))
 
 abbrev pub form_events : Form → Line → List (Event (List ℕ))
 form_events forms.Text line = plain_events line
 form_events forms.Blank line = plain_events line
 form_events forms.Raw line = plain_events line
-form_events forms.Control line = named_events line (row_of (name_of line.text))
+form_events forms.Control line = control_events line
 
 -- the events of a line
 unfoldable pub man_events : Line → List (Event (List ℕ))

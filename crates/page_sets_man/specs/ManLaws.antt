@@ -1,5 +1,5 @@
 -- The macros of man(7) keep the laws of macro sets: proofs, which the set's laws cite. Source: man(7).
-use Rattle.std.proofs.Common.{◌≡◌, ℕ, ◌+◌, ◌-◌, ◌*◌, ◌≤◌, Bool, true, false, ◌&&◌, nat_le, List, [], ◌∷◌, ◌++◌, length, drop, refl, arith, inl, inr, length-append, length-take, Option, None, Some, option_map, find}
+use Rattle.std.proofs.Common.{◌≡◌, ℕ, ◌+◌, ◌-◌, ◌*◌, ◌≤◌, ◌<◌, ◌==◌, Bool, true, false, ◌&&◌, nat_le, List, [], ◌∷◌, ◌++◌, length, drop, refl, arith, inl, inr, length-append, Option, None, Some, option_map, find}
 use Rattle.std.specs.List.{list_all}
 use Rattle.std.specs.Str.{bytes_eq}
 use Rattle.std.proofs.lemmas.Bool.{cases_Bool}
@@ -17,9 +17,9 @@ use Rattle.page_sets_lines.specs.declared.events.Deed.{Deed}
 use Rattle.page_sets_lines.specs.declared.events.Deed.TheVariants as deeds
 use Rattle.page_sets_lines.specs.declared.events.Event.{Event}
 use Rattle.page_sets_lines.specs.declared.requests.RequestName.{RequestName}
-use Rattle.page_sets_lines.specs.TakenLines.{Line}
-use Rattle.page_sets_lines.specs.Laws.{IsArgument, IsArgumentIfGiven, OpensSlices, ClosesSlices, LeavesSlices, HasSlices, AreSlices, AreInOrder}
-use Rattle.page_sets_lines.specs.ControlLines.{name_start, name_end, name_of, arguments_after, first_of, has_any}
+use Rattle.page_core_base.specs.LinesTaken.{Line}
+use Rattle.page_sets_lines.specs.Laws.{IsPart, IsArgument, IsArgumentIfGiven, OpensSlices, ClosesSlices, LeavesSlices, HasSlices, AreSlices, AreInOrder}
+use Rattle.page_sets_lines.specs.ControlLines.{name_start, name_end, name_of, is_nameless, arguments_after, first_of, has_any}
 use Rattle.page_sets_lines.specs.PlainLines.{line_end, plain_events, request_of}
 use Rattle.page_sets_lines.proofs.ArgumentLaws.{ArgumentsFrom, all_after, earlier, few_after}
 use Rattle.page_sets_lines.proofs.LawLemmas.{nothing_part, rest_part, end_within, name_part, first_slice_after, first_text_after, second_text_after, request_slices, line_slices, AreSlices-append, HasNoWord, order_after, order_before, line_order}
@@ -45,7 +45,7 @@ use Rattle.page_sets_man.specs.declared.plans.Front.{Front}
 use Rattle.page_sets_man.specs.declared.plans.Front.TheVariants as fronts
 use Rattle.page_sets_man.specs.declared.plans.Plan.{Plan}
 use Rattle.page_sets_man.specs.Rows.{quiet, structure_rows, words_rows, structure_row, words_row, request_row, either_row, row_of}
-use Rattle.page_sets_man.specs.Man.{opener, closer, leaf, effect_deed, line_scope, one_word, plain_words, alternating_words, section_text, section_words, words_events, has_words, break_events, quote_at, missing_quote, quote_events, deed_events, scope_events, last_events, macro_events, lone_events, row_events, named_events, form_events, man_events}
+use Rattle.page_sets_man.specs.Man.{opener, closer, leaf, effect_deed, line_scope, one_word, plain_words, alternating_words, section_text, section_words, words_events, has_words, break_events, quote_at, missing_quote, quote_events, deed_events, scope_events, last_events, macro_events, lone_events, row_events, named_events, control_events, form_events, man_events}
 use Rattle.page_sets_man.specs.Plans.{front_deed, end_events, plan_events, FitsPlan}
 
 -- ---- slices
@@ -127,7 +127,7 @@ front_slices : (line : Line) (front : Front) (start : ℕ) → start ≤ length 
 unfolding HasSlicesIfGiven
 front_slices line fronts.Nothing start h = tt
 front_slices line fronts.Plain start h = line_slices line.form line.text
-front_slices line (fronts.Refused kind) start h = name_part line.text
+front_slices line (fronts.Refused kind) start h = name_part line
 front_slices line (fronts.Effect effect) start h = effect_slices line.text effect start h
 
 one_slices : (line : List ℕ) (number : ℕ) (font : Option Font) (before : Join) (from : ℕ) (arguments : List (Argument (List ℕ)))
@@ -191,31 +191,38 @@ macro_slices line number column start row within =
     (AreSlices-append line _ _ (words_slices line number column row.words (start + 1) arguments (all_after line start))
     (AreSlices-append line _ _ (last_slices line number column row.last) (tt, tt))))))
 
-lone_slices : (line : List ℕ) (alone : Alone) (number column : ℕ) (events : List (Event (List ℕ))) → AreSlices line events
-    → AreSlices line (lone_events alone number column (name_of line) events)
-lone_slices line Same number column events h = h
-lone_slices line Empty number column events h = (name_part line, (tt, tt))
-lone_slices line (Scope opener) number column events h = (tt, (tt, tt))
+lone_slices : (line : List ℕ) (alone : Alone) (number column : ℕ) (name : List ℕ) (events : List (Event (List ℕ))) → IsPart line name
+    → AreSlices line events → AreSlices line (lone_events alone number column name events)
+lone_slices line Same number column name events n h = h
+lone_slices line Empty number column name events n h = (n, (tt, tt))
+lone_slices line (Scope opener) number column name events n h = (tt, (tt, tt))
 
-row_slices : (line : List ℕ) (number column start : ℕ) (row : Row) → start ≤ length line
-    → AreSlices line (row_events number column (name_of line) (drop start line) (arguments_after start line) row)
-row_slices line number column start row within =
+row_slices : (line : List ℕ) (number column start : ℕ) (name : List ℕ) (row : Row) → start ≤ length line → IsPart line name
+    → AreSlices line (row_events number column name (drop start line) (arguments_after start line) row)
+row_slices line number column start name row within n =
     let m = macro_slices line number column start row within in
     elim (cases_Bool (has_any (arguments_after start line))) [
       | inl t ↦ rw t (rw t at m)
-      | inr t ↦ rw t (lone_slices line row.alone number column _ (rw t at m))
+      | inr t ↦ rw t (lone_slices line row.alone number column name _ n (rw t at m))
     ]
 
 named_slices : (line : Line) (row : Option Row) → AreSlices line.text (named_events line row)
-named_slices line None = (name_part line.text, (tt, tt))
+named_slices line None = (name_part line, (tt, tt))
 named_slices line (Some row) =
-    row_slices line.text line.number (name_start line.text + 1) (name_end line.text) row (end_within line.text)
+    row_slices line.text line.number (name_start line.text + 1) (name_end line) (name_of line) row (end_within line) (name_part line)
+
+control_slices : (line : Line) → AreSlices line.text (control_events line)
+control_slices line =
+    elim (cases_Bool (is_nameless line)) [
+      | inl t ↦ rw t (tt, tt)
+      | inr t ↦ rw t (named_slices line (row_of (name_of line)))
+    ]
 
 form_slices : (form : Form) (line : Line) → AreSlices line.text (form_events form line)
 form_slices forms.Text line = (line_slices line.form line.text, (tt, tt))
 form_slices forms.Blank line = (line_slices line.form line.text, (tt, tt))
 form_slices forms.Raw line = (line_slices line.form line.text, (tt, tt))
-form_slices forms.Control line = named_slices line (row_of (name_of line.text))
+form_slices forms.Control line = control_slices line
 
 pub man_slices : (line : Line) → AreSlices line.text (man_events line)
 unfolding man_events
@@ -316,7 +323,14 @@ row_order line number column start name row =
 
 named_order : (line : Line) (row : Option Row) → AreInOrder 0 (named_events line row)
 named_order line None = (tt, (tt, tt))
-named_order line (Some row) = row_order line.text line.number (name_start line.text + 1) (name_end line.text) (name_of line.text) row
+named_order line (Some row) = row_order line.text line.number (name_start line.text + 1) (name_end line) (name_of line) row
+
+control_order : (line : Line) → AreInOrder 0 (control_events line)
+control_order line =
+    elim (cases_Bool (is_nameless line)) [
+      | inl t ↦ rw t (tt, tt)
+      | inr t ↦ rw t (named_order line (row_of (name_of line)))
+    ]
 
 plain_line_order : (line : Line) → AreInOrder 0 (plain_events line)
 plain_line_order line = (line_order line.form line.text, (tt, tt))
@@ -325,7 +339,7 @@ form_order : (form : Form) (line : Line) → AreInOrder 0 (form_events form line
 form_order forms.Text line = plain_line_order line
 form_order forms.Blank line = plain_line_order line
 form_order forms.Raw line = plain_line_order line
-form_order forms.Control line = named_order line (row_of (name_of line.text))
+form_order forms.Control line = control_order line
 
 pub man_in_order : (line : Line) → AreInOrder 0 (man_events line)
 unfolding man_events
@@ -507,22 +521,17 @@ light_weight : (row : Row) → is_light row ≡ true → weight row ≤ 4
 unfolding is_light
 light_weight row h = grind (arith, nat_tests)
 
--- no macro has the empty name
-no_empty_name : row_of [] ≡ None
-unfolding structure_row words_row request_of
-no_empty_name = refl
+start_bytes : (text : List ℕ) → 1 ≤ length text → 1 ≤ name_start text
+start_bytes [] h = absurd (omega arith)
+start_bytes (control ∷ bytes) h = omega arith
 
-some_name : (name : List ℕ) (row : Row) → row_of name ≡ Some row → 1 ≤ length name
-some_name [] row e = let n = no_empty_name in cc
-some_name (byte ∷ bytes) row e = omega arith
-
-named_bytes : (text : List ℕ) → 1 ≤ length (name_of text) → (2 ≤ name_end text) × (name_end text ≤ length text)
-named_bytes [] h = absurd (omega arith)
-named_bytes (control ∷ bytes) h =
-    let text = control ∷ bytes in
-    let w = end_within text in
-    let l = length-take (name_end text - name_start text) (drop (name_start text) text) in
-    (omega (arith, l, h), w)
+named_bytes : (line : Line) → is_nameless line ≡ false → (2 ≤ name_end line) × (name_end line ≤ length line.text)
+named_bytes line h =
+    let n : (name_start line.text == name_end line) ≡ false = h in
+    let w = end_within line in
+    let some : name_start line.text < name_end line = grind (arith, nat_tests) in
+    let s = start_bytes line.text (omega (arith, w, some)) in
+    (omega (arith, s, some), w)
 
 few_lone : (alone : Alone) (number column : ℕ) (name : List ℕ) (events : List (Event (List ℕ))) (n : ℕ) → 2 ≤ n → length events ≤ n
     → length (lone_events alone number column name events) ≤ n
@@ -538,22 +547,31 @@ few_row number column name rest arguments row n t h =
       | inr s ↦ rw s (few_lone row.alone number column name _ n t (rw s at h))
     ]
 
-few_named : (line : Line) (row : Option Row) → row_of (name_of line.text) ≡ row → length (named_events line row) ≤ 2 * length line.text + 2
-few_named line None e = omega arith
-few_named line (Some row) e =
+few_named : (line : Line) (row : Option Row) → is_nameless line ≡ false → row_of (name_of line) ≡ row
+    → length (named_events line row) ≤ 2 * length line.text + 2
+few_named line None h e = omega arith
+few_named line (Some row) h e =
     let text = line.text in
-    let b = named_bytes text (some_name (name_of text) row e) in
-    let w = light_weight row (light_row (name_of text) row e) in
-    let f = few_after text (name_end text) in
-    let m = few_macro line.number (name_start text + 1) row (drop (name_end text) text) (arguments_after (name_end text) text) in
-    few_row line.number (name_start text + 1) (name_of text) (drop (name_end text) text) (arguments_after (name_end text) text) row
+    let start = name_end line in
+    let b = named_bytes line h in
+    let w = light_weight row (light_row (name_of line) row e) in
+    let f = few_after text start in
+    let m = few_macro line.number (name_start text + 1) row (drop start text) (arguments_after start text) in
+    few_row line.number (name_start text + 1) (name_of line) (drop start text) (arguments_after start text) row
     (2 * length text + 2) (omega arith) (omega (arith, b.0, b.1, w, f, m))
+
+few_control : (line : Line) → length (control_events line) ≤ 2 * length line.text + 2
+few_control line =
+    elim (cases_Bool (is_nameless line)) [
+      | inl t ↦ rw t (omega arith)
+      | inr t ↦ rw t (few_named line (row_of (name_of line)) t refl)
+    ]
 
 few_form : (form : Form) (line : Line) → length (form_events form line) ≤ 2 * length line.text + 2
 few_form forms.Text line = omega arith
 few_form forms.Blank line = omega arith
 few_form forms.Raw line = omega arith
-few_form forms.Control line = few_named line (row_of (name_of line.text)) refl
+few_form forms.Control line = few_control line
 
 pub man_few : (line : Line) → length (man_events line) ≤ 2 * length line.text + 2
 unfolding man_events

@@ -12,8 +12,8 @@ use Rattle.page_sets_lines.specs.declared.events.Deed.{Deed}
 use Rattle.page_sets_lines.specs.declared.events.Deed.TheVariants as deeds
 use Rattle.page_sets_lines.specs.declared.events.Event.{Event}
 use Rattle.page_sets_lines.specs.Events.{event_seen}
-use Rattle.page_sets_lines.specs.TakenLines.{Line}
-use Rattle.page_sets_lines.specs.ControlLines.{name_start, name_end, name_of, arguments_after, has_any}
+use Rattle.page_core_base.specs.LinesTaken.{Line}
+use Rattle.page_sets_lines.specs.ControlLines.{name_start, name_end, name_of, is_nameless, arguments_after, has_any}
 use Rattle.page_sets_lines.specs.PlainLines.{line_deed, line_end}
 use Rattle.page_sets_man.specs.declared.rows.Words.{Words}
 use Rattle.page_sets_man.specs.declared.rows.Words.TheVariants as words
@@ -34,7 +34,7 @@ use Rattle.page_sets_man.specs.Man.{effect_deed, missing_quote, line_scope, has_
 abbrev pub front_deed : Front → Line → ℕ → Option (Deed (List ℕ))
 front_deed fronts.Nothing line rest = None
 front_deed fronts.Plain line rest = Some (line_deed line.form line.text)
-front_deed (fronts.Refused kind) line rest = Some (deeds.Note kind (name_of line.text) false)
+front_deed (fronts.Refused kind) line rest = Some (deeds.Note kind (name_of line) false)
 front_deed (fronts.Effect effect) line rest = effect_deed effect (drop rest line.text) (arguments_after rest line.text)
 
 abbrev pub before_events : Line → ℕ → Before → List (Event (List ℕ))
@@ -116,8 +116,10 @@ row_plan column start arguments (Some row) =
     if has_any arguments then macro_plan row true column start arguments
     else lone_plan row column start arguments row.alone
 
-abbrev pub control_plan : List ℕ → Plan
-control_plan text = row_plan (name_start text + 1) (name_end text) (arguments_after (name_end text) text) (row_of (name_of text))
+abbrev pub control_plan : Line → Plan
+control_plan line =
+    if is_nameless line then front_plan fronts.Nothing false (name_start line.text + 1) (name_end line)
+    else row_plan (name_start line.text + 1) (name_end line) (arguments_after (name_end line) line.text) (row_of (name_of line))
 
 -- ---- words, one after another
 

@@ -1,7 +1,7 @@
 //! What is still to come of a line's events.
 
 ghost use Rattle.std.specs.Prelude.{◌≡◌, ◌≤◌, ◌+◌, [], ◌∷◌, length, option_map, MatchOption, true, false};
-ghost use Rattle.page_sets_lines.specs.TakenLines.{line_seen};
+ghost use Rattle.page_core_base.specs.LinesTaken.{line_seen};
 ghost use Rattle.page_sets_lines.specs.Events.{event_seen, deed_seen};
 ghost use Rattle.page_sets_lines.specs.ControlLines.{arguments_after, name_start, name_end, name_of};
 ghost use Rattle.page_sets_lines.specs.PlainLines.{event_at};
@@ -106,7 +106,7 @@ fn front_deed<'a>(front: Front, line: Taken<'a>, rest: usize) -> Option<Deed<&'a
         Front::Nothing => None,
         Front::Plain => Some(line_deed(line)),
         Front::Refused(kind) => {
-            let name = find_name(line.text);
+            let name = find_name(line);
             Some(Deed::Note {
                 kind,
                 detail: &line.text[name.start..name.end],
@@ -244,14 +244,18 @@ fn row_plan(row: Option<Row>, text: &[u8], column: u32, start: usize) -> Plan
     }
 }
 
-// The plan of a control line.
-fn control_plan(text: &[u8]) -> Plan
-    requires { length text.now ≤ LINE }
-    ensures { result ≡ plans.control_plan text.now }
+// The plan of a control line: an empty name does nothing.
+fn control_plan(line: Taken<'_>) -> Plan
+    requires { length line.text.now ≤ LINE }
+    ensures { result ≡ plans.control_plan (line_seen line.entry) }
 {
-    let name = find_name(text);
-    let row = row_of(&text[name.start..name.end]);
-    row_plan(row, text, name.start as u32 + 1, name.end)
+    let name = find_name(line);
+    let column = name.start as u32 + 1;
+    if name.is_empty() {
+        return front_plan(Front::Nothing, false, column, name.end);
+    }
+    let row = row_of(&line.text[name.start..name.end]);
+    row_plan(row, line.text, column, name.end)
 }
 
 /// The plan of a line.
@@ -263,7 +267,7 @@ pub(crate) fn plan_of(line: Taken<'_>) -> Plan
 {
     match line.form {
         Form::Text | Form::Blank | Form::Raw => front_plan(Front::Plain, is_filling(line), 1, 0),
-        Form::Control => control_plan(line.text),
+        Form::Control => control_plan(line),
     }
 }
 

@@ -1,5 +1,5 @@
 use Rattle.std.proofs.Common.{◌≡◌, ◌++◌, length, map}
-use Rattle.page_sets_lines.specs.TakenLines.{line_seen}
+use Rattle.page_core_base.specs.LinesTaken.{line_seen}
 use Rattle.page_sets_lines.specs.Events.{event_seen}
 use Rattle.page_sets_checks.proofs.collected.events_of.Given as goal
 

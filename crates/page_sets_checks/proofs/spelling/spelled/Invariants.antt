@@ -1,5 +1,5 @@
 use Rattle.std.proofs.Common.{length}
-use Rattle.page_sets_lines.specs.TakenLines.{line_seen}
+use Rattle.page_core_base.specs.LinesTaken.{line_seen}
 use Rattle.page_sets_checks.proofs.spelling.spelled.Given as goal
 
 abbrev pub invariant-loop-event : goal.invariant-loop-event

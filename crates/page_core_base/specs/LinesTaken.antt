@@ -3,12 +3,13 @@ use Rattle.std.specs.Prelude.{ℕ, List}
 use Rattle.page_core_base.specs.declared.lines_taken.Form.{Form}
 use Rattle.page_core_base.specs.declared.lines_taken.Taken.{Taken}
 
--- its form, its text, and the number of its source line
+-- its form, its text, the number of its source line, and the bytes up to the end of its raw name
 pub record Line : Type 0 where
   pub form : Form
   pub text : List ℕ
   pub number : ℕ
+  pub name_end : ℕ
 
 -- a line of the program, with what its text holds
 abbrev pub line_seen : Taken → Line
-line_seen taken = record { form = taken.form; text = taken.text.now; number = taken.line }
+line_seen taken = record { form = taken.form; text = taken.text.now; number = taken.line; name_end = taken.name_end }
