@@ -1,7 +1,7 @@
 use Rattle.std.proofs.Common.{rules}
 use Rattle.page_core_base.proofs.PieceLatchLemmas.{latched}
 use Rattle.page_prose.specs.SourceLines.{source_items}
-use Rattle.page_prose.proofs.source_lines.Prose.source_line.Goals as goal
+use Rattle.page_prose.proofs.prose.Prose.source_line.Goals as goal
 
 pub returns : goal.returns
 returns g c =
