@@ -7,7 +7,8 @@ use Rattle.page_core_base.specs.Laid.{Laid, nothing, seq}
 use Rattle.page_fill.specs.declared.words.Edge.{Edge as FillEdge}
 use Rattle.page_fill.specs.Fill as fill
 use Rattle.page_prose.specs.declared.prose.Prose.{Prose}
-use Rattle.page_prose.specs.Prose.{line_items, line_after, end_items, footer_items, start_of}
+use Rattle.page_prose.specs.Prose.{end_items, footer_items, start_of}
+use Rattle.page_prose.specs.SourceLines.{source_items, source_after}
 use Rattle.page_roff_lines.specs.Decoding.{Line}
 use Rattle.page_engine.specs.declared.pages.Page.{Page}
 use Rattle.page_engine.specs.Levels.{given, worst_of}
@@ -35,11 +36,11 @@ abbrev pub laid_notes : Edge → List Message → Laid Edge
 laid_notes e messages = of_page e e (record { rows = []; notes = messages; edge = e.fill })
 
 abbrev pub passed : Edge → List ℕ → ℕ → Edge
-passed e text number = record e { prose = line_after e.prose text; last = number }
+passed e text number = record e { prose = source_after e.prose number text; last = number }
 
 unfoldable pub laid_text : Edge → List ℕ → ℕ → Laid Edge
 laid_text e text number =
-    of_page e (passed e text number) (laid_items e.fill (line_items e.prose number text))
+    of_page e (passed e text number) (laid_items e.fill (source_items e.prose number text))
 
 abbrev pub laid_line : Edge → Line → Laid Edge
 laid_line e line = seq (laid_notes e line.notes) (λ f. laid_text f line.text line.number)

@@ -98,7 +98,7 @@ impl Page {
             rows,
             notes,
         };
-        let result = self.prose.line(&mut below, number, text);
+        let result = self.prose.source_line(&mut below, number, text);
         self.worst = below.notes.worst;
         self.last = number;
         result

@@ -1,3 +1,4 @@
 pub mod Macros
 pub mod Arguments
 pub mod Prose
+pub mod SourceLines

@@ -1,9 +1,12 @@
--- The lines of a page as pieces and messages: text, TH, SH, paragraphs and requests. Source: man(7); roff(7); mandoc(1), "DIAGNOSTICS".
+-- The finished lines of a page as pieces and messages: text, TH, SH, paragraphs and requests. Source: man(7); roff(7); mandoc(1), "DIAGNOSTICS".
 use Rattle.std.specs.Prelude.{ℕ, ◌+◌, ◌≤◌, Bool, true, false, not, ◌==◌, ◌||◌, ◌&&◌, nat_lt, List, [], ◌∷◌, ◌++◌, length, take, drop, if◌then◌else◌, unwrap_or}
 use Rattle.std.specs.List.{flat_map, prefix_len}
+use Rattle.page_core_base.specs.LinesTaken.{Line}
 use Rattle.page_core_base.specs.Pieces.{Item, shown}
+use Rattle.page_core_base.specs.declared.lines_taken.Form.{Form}
+use Rattle.page_core_base.specs.declared.lines_taken.Form.TheVariants as forms
 use Rattle.page_core_base.specs.declared.note_kinds.NoteKind.{NoteKind}
-use Rattle.page_core_base.specs.declared.note_kinds.NoteKind.TheVariants.{TrailingBlank, LateMacro, NoBody, BeforeSection, SkipPara, EmptyMacro, BlankFill, UnknownMacro}
+use Rattle.page_core_base.specs.declared.note_kinds.NoteKind.TheVariants.{LateMacro, NoBody, BeforeSection, SkipPara, EmptyMacro, BlankFill, UnknownMacro}
 use Rattle.page_core_base.specs.declared.cells.Font.TheVariants.{R, B}
 use Rattle.page_core_base.specs.declared.page_settings.Settings.{Settings}
 use Rattle.page_core_base.specs.declared.pieces.Piece.TheVariants as pieces
@@ -13,10 +16,7 @@ use Rattle.page_engine_header.specs.Fields.{FIELDS, cut_items, fields_of, no_fie
 use Rattle.page_engine_header.specs.Header.{header_items, footer_row}
 use Rattle.page_engine_header.specs.declared.headers.Measure.{Measure}
 use Rattle.page_roff_forms.specs.Arguments.{has_arguments}
-use Rattle.page_roff_forms.specs.Ends.{kept_len}
-use Rattle.page_roff_forms.specs.LineForms.{form_of, has_word, is_white}
-use Rattle.page_roff_forms.specs.declared.line_forms.LineForm.{LineForm}
-use Rattle.page_roff_forms.specs.declared.line_forms.LineForm.TheVariants as forms
+use Rattle.page_roff_forms.specs.LineForms.{has_word, is_white}
 use Rattle.page_scopes_words.specs.Fonts.{face_fonts, roman_fonts}
 use Rattle.page_scopes_words.specs.Sentences.{ends_sentence}
 use Rattle.page_scopes_words.specs.Words.{at, says, face_notes, leading_items, walk_after_leading, walk_from, walk_through, words_items}
@@ -24,10 +24,10 @@ use Rattle.page_scopes_words.specs.declared.fonts.Fonts.{Fonts}
 use Rattle.page_scopes_words.specs.declared.walks.Style.{Style}
 use Rattle.page_scopes_words.specs.declared.walks.Walk.{Walk}
 use Rattle.page_prose.specs.Arguments.{arguments_items, closings_notes, first_text}
-use Rattle.page_prose.specs.Macros.{call_arguments, macro_of}
+use Rattle.page_prose.specs.Macros.{call_arguments, call_of, macro_of}
 use Rattle.page_prose.specs.declared.macros.Call.{Call}
 use Rattle.page_prose.specs.declared.macros.Macro.{Macro}
-use Rattle.page_prose.specs.declared.macros.Macro.TheVariants.{Empty, Title, Section, Paragraph, Break, NoFill, SetFont, Unknown}
+use Rattle.page_prose.specs.declared.macros.Macro.TheVariants.{Title, Section, Paragraph, Break, NoFill, SetFont, Unknown}
 use Rattle.page_prose.specs.declared.prose.Prose.{Prose}
 
 -- the body begins: with a section header, or with a message
@@ -81,14 +81,15 @@ line_end p text walk =
     else if p.is_literal then row_end (p.has_cells || walk.prints)
     else shown (pieces.Blank (sentence_blanks text) false) ∷ []
 
--- a line without a word breaks the row, where rows are filled
+-- a line without a word has no row where rows are filled; its white space breaks the row
 abbrev pub has_row : Prose → List ℕ → Bool
 has_row p text = has_word text || p.is_literal
 
 abbrev pub text_line : Prose → ℕ → List ℕ → List Item
 text_line p line text =
     if has_row p text then (begin_with BeforeSection p line ++ (text_words p line text ++ line_end p text (text_walk p text)))
-    else shown pieces.Break ∷ []
+    else if nat_lt 0 (length text) then shown pieces.Break ∷ []
+    else []
 
 -- it leaves its fonts; a row that is kept as it is stays open where the line's end glues the next one
 abbrev pub text_after : Prose → List ℕ → Walk → Prose
@@ -111,6 +112,29 @@ blank_line p line = if p.has_begun then blank_row p line else []
 
 abbrev pub blank_line_after : Prose → Prose
 blank_line_after p = if p.has_begun then record p { has_content = true; has_cells = false } else p
+
+-- ---- a line of a table, an equation or a picture: a row of its own, of the characters as they are
+
+-- characters up to a tab
+abbrev pub part_items : Prose → ℕ → List ℕ → List Item
+part_items p line [] = []
+part_items p line (byte ∷ bytes) = shown (pieces.Text (byte ∷ bytes) p.fonts.font (at line 1)) ∷ []
+
+-- the characters that are left, after those of a part that is open
+abbrev pub cells_after : Prose → ℕ → List ℕ → List ℕ → List Item
+cells_after p line part [] = part_items p line part
+cells_after p line part (byte ∷ bytes) =
+    if byte == 9 then (part_items p line part ++ (shown (pieces.Tab p.fonts.font (at line 1)) ∷ cells_after p line [] bytes))
+    else cells_after p line (part ++ byte ∷ []) bytes
+
+abbrev pub raw_line : Prose → ℕ → List ℕ → List Item
+raw_line p line text =
+    begin_with BeforeSection p line
+    ++ (shown pieces.Break ∷ (shown (pieces.Literal true)
+    ∷ (cells_after p line [] text ++ (row_end (nat_lt 0 (length text)) ++ shown (pieces.Literal p.is_literal) ∷ []))))
+
+abbrev pub raw_line_after : Prose → Prose
+raw_line_after p = record p { has_begun = true; has_content = true; has_cells = false }
 
 -- ---- SH: a heading in bold at the left edge, after a blank row
 
@@ -192,7 +216,6 @@ font_after p call = if p.has_begun then record p { fonts = face_fonts (font_name
 -- ---- lines
 
 abbrev pub macro_items : Macro → Prose → Call (List ℕ) → List Item
-macro_items Empty p call = []
 macro_items Title p call = title_items p call
 macro_items Section p call = section_items p call
 macro_items Paragraph p call = paragraph_line p call
@@ -202,7 +225,6 @@ macro_items SetFont p call = font_items p call
 macro_items Unknown p call = says UnknownMacro call.place call.name ∷ []
 
 abbrev pub macro_after : Macro → Prose → Call (List ℕ) → Prose
-macro_after Empty p call = p
 macro_after Title p call = title_after p call
 macro_after Section p call = section_after p call
 macro_after Paragraph p call = paragraph_after p
@@ -217,32 +239,25 @@ call_items p call = macro_items (macro_of call.name) p call
 abbrev pub call_after : Prose → Call (List ℕ) → Prose
 call_after p call = macro_after (macro_of call.name) p call
 
-abbrev pub call_of : ℕ → List ℕ → ℕ → List ℕ → ℕ → Call (List ℕ)
-call_of line name column rest rest_column = record { name = name; place = at line column; rest = rest; rest_column = rest_column }
+-- what a line gives
+abbrev pub form_items : Form → Prose → Line → List Item
+form_items forms.Text p line = text_line p line.number line.text
+form_items forms.Blank p line = blank_line p line.number
+form_items forms.Raw p line = raw_line p line.number line.text
+form_items forms.Control p line = call_items p (call_of line)
 
-unfoldable pub form_items : Prose → ℕ → LineForm (List ℕ) → List Item
-form_items p line forms.Comment = []
-form_items p line forms.BlankLine = blank_line p line
-form_items p line (forms.Text text) = text_line p line text
-form_items p line (forms.Control name column rest rest_column) = call_items p (call_of line name column rest rest_column)
+unfoldable pub line_items : Prose → Line → List Item
+line_items p line = form_items line.form p line
 
-unfoldable pub form_after : Prose → LineForm (List ℕ) → Prose
-form_after p forms.Comment = p
-form_after p forms.BlankLine = blank_line_after p
-form_after p (forms.Text text) = text_line_after p text
-form_after p (forms.Control name column rest rest_column) = call_after p (call_of 0 name column rest rest_column)
+-- what it leaves
+abbrev pub form_after : Form → Prose → Line → Prose
+form_after forms.Text p line = text_line_after p line.text
+form_after forms.Blank p line = blank_line_after p
+form_after forms.Raw p line = raw_line_after p
+form_after forms.Control p line = call_after p (call_of line)
 
--- white space at a line's end
-abbrev pub trailing_notes : ℕ → List ℕ → List Item
-trailing_notes line text =
-    if nat_lt (kept_len is_white text) (length text) then says TrailingBlank (at line (kept_len is_white text + 1)) [] ∷ [] else []
-
-unfoldable pub line_items : Prose → ℕ → List ℕ → List Item
-line_items p line text = trailing_notes line text ++ form_items p line (form_of text)
-
--- what a line leaves
-abbrev pub line_after : Prose → List ℕ → Prose
-line_after p text = form_after p (form_of text)
+unfoldable pub line_after : Prose → Line → Prose
+line_after p line = form_after line.form p line
 
 -- ---- the end of a page, after the line of a number
 

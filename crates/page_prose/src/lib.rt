@@ -1,11 +1,13 @@
-//! The lines of a page as pieces to be filled and messages: text, titles, section headers, paragraphs and requests.
+//! The finished lines of a page as pieces to be filled and messages: text, titles, section headers, paragraphs and requests.
 #![tactic(auto)]
 
 mod arguments;
 mod macros;
 mod prose;
+mod raw_lines;
 mod requests;
 mod sections;
+mod source_lines;
 mod text_lines;
 
 pub use macros::{Call, Macro};

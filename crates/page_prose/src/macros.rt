@@ -1,16 +1,17 @@
 //! The macros and requests that a page may call (man(7), roff(7)).
 
-ghost use Rattle.std.specs.Prelude.{◌≡◌};
-ghost use Rattle.page_prose.specs.Macros.{macro_of};
+ghost use Rattle.std.specs.Prelude.{◌≡◌, ◌≤◌, length};
+ghost use Rattle.page_core_base.specs.LinesTaken.{line_seen};
+ghost use Rattle.page_prose.specs.Macros.{macro_of, call_seen, call_of, FitsCall};
 
-use page_core_base::Place;
+use page_core_base::{Place, Taken};
+use page_core_limits::LINE;
+use page_sets_lines::find_name;
 use std::alloc::AllocError;
 
 /// What a control line calls.
 #[derive(Clone, Copy)]
 pub enum Macro {
-    /// No name: nothing.
-    Empty,
     /// `TH`: the fields of the header and footer.
     Title,
     /// `SH`: a section header.
@@ -54,7 +55,6 @@ pub(crate) fn macro_of(name: &[u8]) -> Macro
     ensures { result ≡ macro_of name.now }
 {
     match name {
-        b"" => Macro::Empty,
         b"TH" => Macro::Title,
         b"SH" => Macro::Section,
         b"PP" | b"LP" | b"P" => Macro::Paragraph,
@@ -63,5 +63,23 @@ pub(crate) fn macro_of(name: &[u8]) -> Macro
         b"fi" => Macro::NoFill(false),
         b"ft" => Macro::SetFont,
         _ => Macro::Unknown,
+    }
+}
+
+/// What a finished control line calls.
+pub(crate) fn call_of(taken: Taken<'_>) -> Call<&[u8]>
+    requires { length taken.text.now ≤ LINE }
+    ensures value { call_seen result ≡ call_of (line_seen taken.entry) }
+    ensures fits { FitsCall (call_seen result) }
+{
+    let name = find_name(taken);
+    Call {
+        name: &taken.text[name.start..name.end],
+        place: Place {
+            line: taken.line,
+            column: name.start as u32 + 1,
+        },
+        rest: &taken.text[name.end..],
+        rest_column: name.end as u32 + 1,
     }
 }

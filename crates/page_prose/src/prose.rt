@@ -1,18 +1,19 @@
-//! The body of a page: text, titles, section headers, paragraphs and requests become pieces and messages (man(7), roff(7)).
+//! The body of a page: finished lines, as text, titles, section headers, paragraphs and requests, become pieces and messages (man(7), roff(7)).
 
 ghost use Rattle.std.specs.Prelude.{◌≡◌, ◌≤◌, length, OnOk};
 ghost use Rattle.page_core_base.specs.Latches.{Came, Emits};
 ghost use Rattle.page_core_base.specs.declared.note_kinds.NoteKind.{NoteKind};
-ghost use Rattle.page_roff_forms.specs.LineForms.{form_seen, FitsLine};
+ghost use Rattle.page_core_base.specs.LinesTaken.{line_seen};
 ghost use Rattle.page_prose.specs.Macros.{FitsCall, call_seen};
 ghost use Rattle.page_prose.specs.Prose as prose;
 
-use crate::macros::{Call, Macro, macro_of};
+use crate::macros::{Call, Macro, call_of, macro_of};
 use arrayvec::ArrayString;
-use page_core_base::{Fault, NoteKind, Piece, PieceLatch, PieceOut, PieceSink, Place, Settings};
+use page_core_base::{
+    Fault, Form, NoteKind, Piece, PieceLatch, PieceOut, PieceSink, Place, Settings, Taken,
+};
 use page_core_limits::LINE;
 use page_engine_header::{Fields, Measure, give_footer_row, give_header};
-use page_roff_forms::{LineForm, form_of, is_white, kept_len};
 use page_scopes_words::{Fonts, ROMAN, report};
 
 /// What decides the pieces of the lines to come.
@@ -80,7 +81,6 @@ impl Prose {
         ensures after { self.new ≡ prose.call_after self.old (call_seen call.entry) }
     {
         match macro_of(call.name) {
-            Macro::Empty => {}
             Macro::Title => self.give_title(out, call),
             Macro::Section => self.give_section(out, call),
             Macro::Paragraph => self.give_paragraph(out, call),
@@ -91,46 +91,19 @@ impl Prose {
         }
     }
 
-    // Gives a line of a form, and keeps what it leaves.
-    #[tactic(auto, unfolding(crate::specs::Prose::form_items, crate::specs::Prose::form_after))]
-    fn give_form<O: PieceOut>(&mut self, out: &mut O, line: u32, form: LineForm<&[u8]>)
-        requires { FitsLine (form_seen form) }
-        ensures came { Came O.left out.old (prose.form_items self.old line (form_seen form.entry)) out.new }
-        ensures after { self.new ≡ prose.form_after self.old (form_seen form.entry) }
+    /// Gives a finished line, and keeps what it leaves.
+    #[tactic(auto, unfolding(crate::specs::Prose::line_items, crate::specs::Prose::line_after))]
+    pub(crate) fn give_line<O: PieceOut>(&mut self, out: &mut O, taken: Taken<'_>)
+        requires { length taken.text.now ≤ LINE }
+        ensures came { Came O.left out.old (prose.line_items self.old (line_seen taken.entry)) out.new }
+        ensures after { self.new ≡ prose.line_after self.old (line_seen taken.entry) }
     {
-        match form {
-            LineForm::Comment => {}
-            LineForm::BlankLine => self.give_blank_line(out, line),
-            LineForm::Text(text) => self.give_text(out, line, text),
-            LineForm::Control {
-                name,
-                column,
-                rest,
-                rest_column,
-            } => {
-                let place = Place { line, column };
-                self.give_call(
-                    out,
-                    Call {
-                        name,
-                        place,
-                        rest,
-                        rest_column,
-                    },
-                );
-            }
+        match taken.form {
+            Form::Text => self.give_text(out, taken.line, taken.text),
+            Form::Blank => self.give_blank_line(out, taken.line),
+            Form::Raw => self.give_raw_line(out, taken.line, taken.text),
+            Form::Control => self.give_call(out, call_of(taken)),
         }
-    }
-
-    // Gives a line, and keeps what it leaves.
-    #[tactic(auto, unfolding(crate::specs::Prose::line_items))]
-    fn give_line<O: PieceOut>(&mut self, out: &mut O, line: u32, text: &[u8])
-        requires { length text.now ≤ LINE }
-        ensures came { Came O.left out.old (prose.line_items self.old line text.now) out.new }
-        ensures after { self.new ≡ prose.line_after self.old text.now }
-    {
-        report_trailing(out, line, text);
-        self.give_form(out, line, form_of(text));
     }
 
     // Gives the end of the body.
@@ -154,28 +127,16 @@ impl Prose {
     }
 }
 
-// Reports white space at a line's end.
-fn report_trailing<O: PieceOut>(out: &mut O, line: u32, text: &[u8])
-    requires { length text.now ≤ LINE }
-    ensures { Came O.left out.old (prose.trailing_notes line text.now) out.new }
-{
-    let len = kept_len(text, |byte| is_white(byte));
-    if len < text.len() {
-        let column = len as u32 + 1;
-        report(out, NoteKind::TrailingBlank, Place { line, column }, b"");
-    }
-}
-
 impl Prose {
-    /// Takes a line of at most [`LINE`] bytes, and gives its pieces and messages. After a fault it is not to be used again.
-    pub fn line<O: PieceSink>(&mut self, out: &mut O, line: u32, text: &[u8]) -> Result<(), Fault>
-        requires { length text.now ≤ LINE }
-        ensures gives { Emits result O.gave O.broke out.old (prose.line_items self.old line text.now) out.new }
-        ensures after { OnOk result (self.new ≡ prose.line_after self.old text.now) }
+    /// Takes a finished line of at most [`LINE`] bytes, and gives its pieces and messages. After a fault it is not to be used again.
+    pub fn line<O: PieceSink>(&mut self, out: &mut O, taken: Taken<'_>) -> Result<(), Fault>
+        requires { length taken.text.now ≤ LINE }
+        ensures gives { Emits result O.gave O.broke out.old (prose.line_items self.old (line_seen taken.entry)) out.new }
+        ensures after { OnOk result (self.new ≡ prose.line_after self.old (line_seen taken.entry)) }
         ensures same { O.loans out.new ≡ O.loans out.old }
     {
         let mut latch = PieceLatch::new(out);
-        self.give_line(&mut latch, line, text);
+        self.give_line(&mut latch, taken);
         latch.done()
     }
 

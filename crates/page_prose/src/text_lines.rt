@@ -11,7 +11,7 @@ use page_roff_forms::{has_word, white_len};
 use page_scopes_words::{Style, Walk, ends_sentence, give_leading, give_words, report};
 
 // Ends a row that is kept as it is, also one without a cell.
-fn give_row_end<O: PieceOut>(out: &mut O, has_cells: bool)
+pub(crate) fn give_row_end<O: PieceOut>(out: &mut O, has_cells: bool)
     ensures { Came O.left out.old (prose.row_end has_cells) out.new }
 {
     if has_cells {
@@ -92,7 +92,9 @@ impl Prose {
         ensures after { self.new ≡ prose.text_line_after self.old text.now }
     {
         if !has_word(text) && !self.is_literal {
-            out.give(Piece::Break);
+            if !text.is_empty() {
+                out.give(Piece::Break);
+            }
             return;
         }
         self.begin_with(out, line, NoteKind::BeforeSection);

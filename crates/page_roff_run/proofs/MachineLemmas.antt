@@ -10,7 +10,7 @@ use Rattle.page_roff_blocks.specs.Steps.{met, step_leaf, step_region, step_parts
 use Rattle.page_roff_blocks.proofs.FoldLemmas.{run_is_steps, run_lines-append}
 use Rattle.page_roff_run.specs.declared.TheConstants.{CALLS}
 use Rattle.page_roff_run.specs.Languages.{Kind, page, body, Done, gives, calls, Language, finish_at, call_with, gives_at, meaning_at, run_page}
-use Rattle.page_roff_run.specs.Machine.{Frame, Running, entered, at_part, depth, is_some, stands_at, line_in, line_rest, after_line, rest, rest_of, leaf_next, leaf_if, part_next, region_next, line_next, source_next, next_in, next}
+use Rattle.page_roff_run.specs.Machine.{Frame, Running, entered, at_part, at_page, depth, is_some, stands_at, line_in, line_rest, after_line, rest, rest_of, leaf_next, leaf_if, part_next, region_next, line_next, source_next, next_in, next}
 
 module _ {S : Type 0} (l : Language S) where
   frame : Kind → Option Opened → List (Atom (List ℕ)) → Spot → List (List ℕ) → Frame
@@ -163,3 +163,16 @@ module _ {S : Type 0} (l : Language S) where
   pub run_page-append : (above below : List (List ℕ)) (a : At S) → run_page l (above ++ below) a ≡ run_page l below (run_page l above a)
   unfolding run_page
   run_page-append above below a = run_lines-append (meaning_at l CALLS page) above below a
+
+  first_law : (region : Option Opened) (m : Meaning S) (f : Frame) (s : S)
+      → f.parts ≡ [] → line_in l m region f s ≡ record { place = record { region = region; levels = f.spot.levels }; state = s }
+  unfolding line_in step_parts
+  first_law None m f s e = rw e refl
+  first_law (Some o) m f s e = refl
+
+  pub page_law : (line : List ℕ) (a : At S) → rest_of l (at_page line a) ≡ run_page l (line ∷ []) a
+  unfolding rest_of rest line_rest after_line at_page at_line run_page depth
+  page_law line a =
+      let m = meaning_at l CALLS page in
+      let f = (at_page line a).top in
+      ap (step_lines m (line ∷ [])) (first_law a.place.region m f a.state refl) ∙ sym (run_is_steps m (line ∷ []) a)

@@ -18,7 +18,7 @@ use Rattle.page_roff_blocks.proofs.RoomLemmas.{atoms_room}
 use Rattle.page_roff_run.specs.Languages.{Kind, page, body, Done, gives, calls, meaning_at}
 use Rattle.page_roff_run.specs.Machine.{Frame, Running, entered, at_part, depth, is_some, leaf_next, leaf_if, part_next, region_next, line_next, source_next, next_in, next}
 use Rattle.page_roff_run.specs.Budgets.{Budgeted, Effects, with_rest, charge_by, charge, begin_line, whether_run, meet, test, unopened_by, read_line, end_line, meaning, done_with, language}
-use Rattle.page_roff_run.specs.Measures.{weight, work_in, works, fresh_if, fresh_at, fresh_in, freshes, credit_if, credit, measure, IsOnLine, AreOnLine, HasMeasure, HasBodiesWithin}
+use Rattle.page_roff_run.specs.Measures.{weight, work_in, works, fresh_if, fresh_at, fresh_in, freshes, credit_if, credit, measure, IsOnLine, AreOnLine, HasMeasure, HasBodyWithin, IsFirst}
 
 credit_more : (gave_up : Bool) (left f g : ℕ) → f ≤ g → credit_if gave_up left f ≤ credit_if gave_up left g
 unfolding credit_if
@@ -215,10 +215,9 @@ module _ {R : Type 0} (e : Effects R) where
   leaf_done_falls : (huge : ℕ) (may_call : Bool) (kind : Kind) (spot : Spot) (s : Budgeted R) (part : Atom (List ℕ)) (more : List (Atom (List ℕ))) (lines : List (List ℕ)) (under : List Frame) (done : Done R)
       → let d = depth under in
       let q = met (how d kind) spot s in
-      q.0 ≡ true → ((ls args : List (List ℕ)) (r : R) → done ≡ calls ls args r → suc (weight ls) ≤ huge)
-      → suc (measure huge (leaf_next (language e) may_call (frame kind None more (after_part spot.levels) lines) under (done_with e q.1 done)))
-      ≤ measure huge (run_at (frame kind None (part ∷ more) spot lines) under s)
-  unfolding leaf_next done_with run_at
+      let p = leaf_next (language e) may_call (frame kind None more (after_part spot.levels) lines) under (done_with e q.1 done) in
+      q.0 ≡ true → HasBodyWithin huge under p → suc (measure huge p) ≤ measure huge (run_at (frame kind None (part ∷ more) spot lines) under s)
+  unfolding leaf_next done_with run_at HasBodyWithin entered
   leaf_done_falls huge may_call kind spot s part more lines under (gives r) run within =
       let q = met (how (depth under) kind) spot s in
       past_falls huge (depth under) kind spot s (with_rest e q.1 r) (after_part spot.levels) part more lines under (λ g. same_rest q.1 r g) (part_begun spot.levels)
@@ -227,20 +226,18 @@ module _ {R : Type 0} (e : Effects R) where
       past_falls huge (depth under) kind spot s (with_rest e q.1 r) (after_part spot.levels) part more lines under (λ g. same_rest q.1 r g) (part_begun spot.levels)
   leaf_done_falls huge true kind spot s part more lines under (calls ls args r) run within =
       let q = met (how (depth under) kind) spot s in
-      call_falls huge (depth under) kind spot s part more lines under ls args r run (within ls args r refl)
+      call_falls huge (depth under) kind spot s part more lines under ls args r run (within refl)
 
-  leaf_falls : (huge : ℕ) → HasBodiesWithin huge e → (is_met : Bool) (kind : Kind) (spot : Spot) (s : Budgeted R) (text : List ℕ) (part : Atom (List ℕ)) (more : List (Atom (List ℕ))) (lines : List (List ℕ)) (under : List Frame)
+  leaf_falls : (huge : ℕ) (is_met : Bool) (kind : Kind) (spot : Spot) (s : Budgeted R) (text : List ℕ) (part : Atom (List ℕ)) (more : List (Atom (List ℕ))) (lines : List (List ℕ)) (under : List Frame)
       → let q = met (how (depth under) kind) spot s in
-      q.0 ≡ is_met
-      → suc (measure huge (leaf_if (language e) is_met text (frame kind None more (after_part spot.levels) lines) under q.1))
-      ≤ measure huge (run_at (frame kind None (part ∷ more) spot lines) under s)
-  unfolding leaf_if language HasBodiesWithin run_at frame
-  leaf_falls huge within true kind spot s text part more lines under run =
+      let p = leaf_if (language e) is_met text (frame kind None more (after_part spot.levels) lines) under q.1 in
+      q.0 ≡ is_met → HasBodyWithin huge under p → suc (measure huge p) ≤ measure huge (run_at (frame kind None (part ∷ more) spot lines) under s)
+  unfolding leaf_if language run_at frame
+  leaf_falls huge true kind spot s text part more lines under run within =
       let q = met (how (depth under) kind) spot s in
       let may_call = is_some (depth under) in
-      leaf_done_falls huge may_call kind spot s part more lines under (e.leaf may_call kind text q.1.rest) run
-      (λ ls args r h. within may_call kind text q.1.rest r ls args h)
-  leaf_falls huge within false kind spot s text part more lines under run =
+      leaf_done_falls huge may_call kind spot s part more lines under (e.leaf may_call kind text q.1.rest) run within
+  leaf_falls huge false kind spot s text part more lines under run within =
       let q = met (how (depth under) kind) spot s in
       past_falls huge (depth under) kind spot s q.1 (after_part spot.levels) part more lines under (λ g. refl) (part_begun spot.levels)
 
@@ -293,17 +290,18 @@ module _ {R : Type 0} (e : Effects R) where
       falls huge (credit ((how d kind).opens_region head q.0 q.1) (0 + f)) (credit s (fresh_if spot.begun + f))
       (0 + weight lines + works under) (suc (length more) + weight lines + works under) (omega (arith, a, b, c)) (omega arith)
 
-  part_falls : (huge : ℕ) → HasBodiesWithin huge e → (part : Atom (List ℕ)) (more : List (Atom (List ℕ))) (kind : Kind) (spot : Spot) (lines : List (List ℕ)) (under : List Frame) (s : Budgeted R)
+  part_falls : (huge : ℕ) (part : Atom (List ℕ)) (more : List (Atom (List ℕ))) (kind : Kind) (spot : Spot) (lines : List (List ℕ)) (under : List Frame) (s : Budgeted R)
       → let f = frame kind None (part ∷ more) spot lines in
-      suc (measure huge (part_next (language e) (how (depth under) kind) part more f under s)) ≤ measure huge (run_at f under s)
+      let p = part_next (language e) (how (depth under) kind) part more f under s in
+      HasBodyWithin huge under p → suc (measure huge p) ≤ measure huge (run_at f under s)
   unfolding part_next at_part frame run_at
-  part_falls huge within (Leaf text) more kind spot lines under s =
+  part_falls huge (Leaf text) more kind spot lines under s within =
       let q = met (how (depth under) kind) spot s in
-      leaf_falls huge within q.0 kind spot s text (Leaf text) more lines under refl
-  part_falls huge within (Guard h) more kind spot lines under s = guard_falls huge h more kind spot lines under s
-  part_falls huge within (Block h) more kind spot lines under s = block_falls huge h more kind spot lines under s
-  part_falls huge within End more kind spot lines under s = end_falls huge more kind spot lines under s
-  part_falls huge within (Region head) more kind spot lines under s = region_head_falls huge head more kind spot lines under s
+      leaf_falls huge q.0 kind spot s text (Leaf text) more lines under refl within
+  part_falls huge (Guard h) more kind spot lines under s within = guard_falls huge h more kind spot lines under s
+  part_falls huge (Block h) more kind spot lines under s within = block_falls huge h more kind spot lines under s
+  part_falls huge End more kind spot lines under s within = end_falls huge more kind spot lines under s
+  part_falls huge (Region head) more kind spot lines under s within = region_head_falls huge head more kind spot lines under s
 
   line_falls : (huge d : ℕ) (line : List ℕ) (more : List (List ℕ)) (kind : Kind) (spot : Spot) (under : List Frame) (s : Budgeted R)
       → let f = frame kind None [] spot (line ∷ more) in
@@ -402,32 +400,68 @@ module _ {R : Type 0} (e : Effects R) where
       let r = e.finish region s.gave_up s.rest in
       same_falls huge (run_at f (g ∷ gs) s) (run_at g gs (with_rest e s r)) q (falls_to huge (run_at f (g ∷ gs) s) g gs (with_rest e s r) (source_falls huge f g gs s r) k) x
 
-  step_falls : (huge : ℕ) → HasBodiesWithin huge e → (region : Option Opened) (parts : List (Atom (List ℕ))) (lines : List (List ℕ)) (kind : Kind) (spot : Spot) (under : List Frame) (s : Budgeted R) (q : Running (Budgeted R))
+  within_of : (huge : ℕ) (under : List Frame) (p q : Running (Budgeted R)) → Some p ≡ Some q → HasBodyWithin huge under q → HasBodyWithin huge under p
+  within_of huge under p q x h = let k : q ≡ p = cc in subst (HasBodyWithin huge under) k h
+
+  step_falls : (huge : ℕ) (region : Option Opened) (parts : List (Atom (List ℕ))) (lines : List (List ℕ)) (kind : Kind) (spot : Spot) (under : List Frame) (s : Budgeted R) (q : Running (Budgeted R))
       → let f = frame kind region parts spot lines in
-      IsOnLine f → AreOnLine under
+      IsOnLine f → AreOnLine under → HasBodyWithin huge under q
       → next_in (language e) (how (depth under) kind) region parts lines f under s ≡ Some q → Falls huge (run_at f under s) q
   unfolding next_in Falls
-  step_falls huge within None (part ∷ more) lines kind spot under s q h k x =
+  step_falls huge None (part ∷ more) lines kind spot under s q h k w x =
       let f = frame kind None (part ∷ more) spot lines in
       let m = how (depth under) kind in
-      same_falls huge (run_at f under s) (part_next (language e) m part more f under s) q
-      (part_falls huge within part more kind spot lines under s, part_on m part more f under s h k) x
-  step_falls huge within None [] (line ∷ more) kind spot under s q h k x =
+      let p = part_next (language e) m part more f under s in
+      same_falls huge (run_at f under s) p q
+      (part_falls huge part more kind spot lines under s (within_of huge under p q x w), part_on m part more f under s h k) x
+  step_falls huge None [] (line ∷ more) kind spot under s q h k w x =
       let f = frame kind None [] spot (line ∷ more) in
       let m = how (depth under) kind in
       same_falls huge (run_at f under s) (line_next (language e) m line more f under s) q
       (line_falls huge (depth under) line more kind spot under s h, line_on m line more kind spot under s h k) x
-  step_falls huge within None [] [] kind spot under s q h k x = source_step huge None (frame kind None [] spot []) under s q k x
-  step_falls huge within (Some o) parts (line ∷ more) kind spot under s q h k x =
+  step_falls huge None [] [] kind spot under s q h k w x = source_step huge None (frame kind None [] spot []) under s q k x
+  step_falls huge (Some o) parts (line ∷ more) kind spot under s q h k w x =
       let f = frame kind (Some o) parts spot (line ∷ more) in
       let m = how (depth under) kind in
       let is_end = is_ending o.ending line in
       same_falls huge (run_at f under s) (region_next (language e) m is_end o line more f under s) q
       (region_falls huge (depth under) is_end o line more kind parts spot under s h, region_on m is_end o line more kind parts spot under s h k) x
-  step_falls huge within (Some o) parts [] kind spot under s q h k x = source_step huge (Some o) (frame kind (Some o) parts spot []) under s q k x
+  step_falls huge (Some o) parts [] kind spot under s q h k w x = source_step huge (Some o) (frame kind (Some o) parts spot []) under s q k x
 
-  pub next_falls : (huge : ℕ) → HasBodiesWithin huge e → (r q : Running (Budgeted R)) → HasMeasure r → next (language e) r ≡ Some q
+  pub next_falls : (huge : ℕ) (r q : Running (Budgeted R)) → HasMeasure r → HasBodyWithin huge r.under q → next (language e) r ≡ Some q
       → (suc (measure huge q) ≤ measure huge r) × HasMeasure q
   unfolding next how HasMeasure frame run_at Falls
-  next_falls huge within r q h x =
-      step_falls huge within r.top.region r.top.parts r.top.lines r.top.kind r.top.spot r.under r.state q h.0 h.1 x
+  next_falls huge r q h w x =
+      step_falls huge r.top.region r.top.parts r.top.lines r.top.kind r.top.spot r.under r.state q h.0 h.1 w x
+
+  -- ---- after the first step of a line
+
+  first_line : (m : Meaning (Budgeted R)) (line : List ℕ) (f : Frame) (s : Budgeted R) → HasMeasure (line_next (language e) m line [] f [] s)
+  unfolding line_next HasMeasure IsOnLine AreOnLine
+  first_line m line f s = (λ x. refl, tt)
+
+  first_region : (m : Meaning (Budgeted R)) (is_end : Bool) (o : Opened) (line : List ℕ) (f : Frame) (s : Budgeted R)
+      → HasMeasure (region_next (language e) m is_end o line [] f [] s)
+  unfolding region_next HasMeasure IsOnLine AreOnLine
+  first_region m true o line f s = (λ x. refl, tt)
+  first_region m false o line f s = (λ x. refl, tt)
+
+  same_measure : (p q : Running (Budgeted R)) → HasMeasure p → Some p ≡ Some q → HasMeasure q
+  same_measure p q h x = let k : p ≡ q = cc in subst HasMeasure k h
+
+  first_in : (m : Meaning (Budgeted R)) (region : Option Opened) (line : List ℕ) (f : Frame) (s : Budgeted R) (q : Running (Budgeted R))
+      → next_in (language e) m region [] (line ∷ []) f [] s ≡ Some q → HasMeasure q
+  unfolding next_in
+  first_in m None line f s q x = same_measure (line_next (language e) m line [] f [] s) q (first_line m line f s) x
+  first_in m (Some o) line f s q x =
+      same_measure (region_next (language e) m (is_ending o.ending line) o line [] f [] s) q (first_region m (is_ending o.ending line) o line f s) x
+
+  first_at : (m : Meaning (Budgeted R)) (region : Option Opened) (parts : List (Atom (List ℕ))) (lines : List (List ℕ)) (f : Frame) (under : List Frame) (s : Budgeted R)
+      (line : List ℕ) (q : Running (Budgeted R)) → lines ≡ line ∷ [] → parts ≡ [] → under ≡ []
+      → next_in (language e) m region parts lines f under s ≡ Some q → HasMeasure q
+  first_at m region parts lines f under s line q a b c x = first_in m region line f s q (rw (a, b, c) at x)
+
+  pub first_falls : (r q : Running (Budgeted R)) → IsFirst r → next (language e) r ≡ Some q → HasMeasure q
+  unfolding next IsFirst
+  first_falls r q h x =
+      first_at (meaning_at (language e) (depth r.under) r.top.kind) r.top.region r.top.parts r.top.lines r.top r.under r.state h.0 q h.1 h.2 h.3 x

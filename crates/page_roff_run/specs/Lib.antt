@@ -1,4 +1,5 @@
 pub mod Budgets
+pub mod Counting
 pub mod Fronts
 pub mod Languages
 pub mod Machine

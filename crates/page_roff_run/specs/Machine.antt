@@ -8,7 +8,7 @@ use Rattle.page_roff_blocks.specs.Levels.{Opened, Spot, at_line, after_part, out
 use Rattle.page_roff_blocks.specs.Run.{Meaning, At}
 use Rattle.page_roff_blocks.specs.Steps.{met, step_guard, step_block, step_end, step_region, step_parts, step_lines}
 use Rattle.page_roff_run.specs.declared.TheConstants.{CALLS}
-use Rattle.page_roff_run.specs.Languages.{Kind, body, Done, gives, calls, Language, finish_at, meaning_at}
+use Rattle.page_roff_run.specs.Languages.{Kind, page, body, Done, gives, calls, Language, finish_at, meaning_at}
 
 -- A source that is being run: its open region, what is left of its present line, the spot there, and the lines after it.
 pub record Frame : Type 0 where
@@ -30,6 +30,15 @@ entered lines args = record { kind = body args; region = None; parts = []; spot 
 
 unfoldable pub at_part : Frame → List (Atom (List ℕ)) → Spot → Frame
 at_part f parts spot = record { kind = f.kind; region = f.region; parts = parts; spot = spot; lines = f.lines }
+
+-- a line of the page, from where the lines before it left it
+unfoldable pub at_page : {S : Type 0} → List ℕ → At S → Running S
+at_page line a =
+    record {
+      top = record { kind = page; region = a.place.region; parts = []; spot = at_line a.place.levels; lines = line ∷ [] };
+      under = [];
+      state = a.state;
+    }
 
 -- how many more macros may run inside the innermost source
 unfoldable pub depth : List Frame → ℕ

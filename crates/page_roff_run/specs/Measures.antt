@@ -2,9 +2,9 @@
 use Rattle.std.specs.Prelude.{◌≡◌, ℕ, suc, ◌+◌, ◌*◌, ◌≤◌, Bool, true, false, List, [], ◌∷◌, length}
 use Rattle.page_roff_blocks.specs.declared.atoms.Atom.{Atom}
 use Rattle.page_roff_blocks.specs.Levels.{Spot}
-use Rattle.page_roff_run.specs.Languages.{Kind, page, calls}
+use Rattle.page_roff_run.specs.Languages.{Kind, page}
 use Rattle.page_roff_run.specs.Machine.{Frame, Running}
-use Rattle.page_roff_run.specs.Budgets.{Budgeted, Effects}
+use Rattle.page_roff_run.specs.Budgets.{Budgeted}
 
 -- a line has at most two parts a byte, and two
 unfoldable pub weight : List (List ℕ) → ℕ
@@ -57,8 +57,10 @@ AreOnLine (f ∷ fs) = IsOnLine f × AreOnLine fs
 unfoldable pub HasMeasure : {R : Type 0} → Running (Budgeted R) → Type 0
 HasMeasure r = IsOnLine r.top × AreOnLine r.under
 
--- the bodies that leaves call have less than this weight
-unfoldable pub HasBodiesWithin : {R : Type 0} → ℕ → Effects R → Type 0
-HasBodiesWithin {R} huge e =
-    (may_call : Bool) (kind : Kind) (text : List ℕ) (r q : R) (lines args : List (List ℕ))
-    → e.leaf may_call kind text r ≡ calls lines args q → suc (weight lines) ≤ huge
+-- after a step: where a macro was called, its body has less than this weight
+unfoldable pub HasBodyWithin : {R : Type 0} → ℕ → List Frame → Running (Budgeted R) → Type 0
+HasBodyWithin huge under q = length q.under ≡ suc (length under) → suc (weight q.top.lines) ≤ huge
+
+-- before the first step of a line of the page
+unfoldable pub IsFirst : {S : Type 0} → Running S → Type 0
+IsFirst r = (line : List ℕ) × (r.top.lines ≡ line ∷ []) × (r.top.parts ≡ []) × (r.under ≡ [])

@@ -6,12 +6,13 @@ ghost use Rattle.page_roff_run.specs.declared.TheConstants.{CALLS, REREAD};
 ghost use Rattle.page_roff_run.specs.Budgets.{Budgeted, Effects, language};
 ghost use Rattle.page_roff_run.specs.Fronts.{over, over_running, IsFront};
 ghost use Rattle.page_roff_run.specs.Languages.{Language, run_page};
-ghost use Rattle.page_roff_run.specs.Measures.{measure, HasMeasure, HasBodiesWithin};
+ghost use Rattle.page_roff_run.specs.Measures.{measure, HasMeasure, HasBodyWithin, IsFirst};
 ghost use Rattle.page_roff_run.specs.Spending.{Spends};
-ghost use Rattle.page_roff_run.specs.Machine.{Running, rest_of, next, stands_at};
+ghost use Rattle.page_roff_run.specs.Machine.{Running, at_page, rest_of, next, stands_at};
 
-/// What is still to come of running sources is what comes of them after one step more, down to the end of the page's line.
+/// What is still to come of running sources is what comes of them after one step more, from a line of the page down to its end.
 pub fn machine_law<S>()
+    ensures start { (l : Language S) (line : List ℕ) (at : At S) → rest_of l (at_page line at) ≡ run_page l (line ∷ []) at }
     ensures step { (l : Language S) (r q : Running S) → next l r ≡ Some q → rest_of l r ≡ rest_of l q }
     ensures end { (l : Language S) (r : Running S) → next l r ≡ None → rest_of l r ≡ stands_at r }
 {}
@@ -34,10 +35,12 @@ pub fn front_law<S>()
         → rest_of l (over_running front r) ≡ over front (rest_of l r) }
 {}
 
-/// Sources that are run end: each step leaves less work, where bodies of macros are bounded.
+/// Sources that are run end: each step leaves less work, where the bodies that it calls are bounded. It holds from the first step of
+/// a line on.
 pub fn measure_law<R>()
-    ensures { (e : Effects R) (huge : ℕ) → HasBodiesWithin huge e → (r q : Running (Budgeted R)) → HasMeasure r
+    ensures falls { (e : Effects R) (huge : ℕ) (r q : Running (Budgeted R)) → HasMeasure r → HasBodyWithin huge r.under q
         → next (language e) r ≡ Some q → (suc (measure huge q) ≤ measure huge r) × HasMeasure q }
+    ensures first { (e : Effects R) (r q : Running (Budgeted R)) → IsFirst r → next (language e) r ≡ Some q → HasMeasure q }
 {}
 
 /// What lines spend, as interpolations, lies within so much for each line that they take.

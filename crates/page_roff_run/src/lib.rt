@@ -1,8 +1,10 @@
 //! What a page's lines do: macros, budgets and the input stack (roff(7)).
 #![tactic(auto)]
 
+mod budgets;
 mod laws;
 
+pub use budgets::Budget;
 pub use laws::{
     budget_law, calls_law, front_law, machine_law, measure_law, page_cut_law, spending_law,
 };

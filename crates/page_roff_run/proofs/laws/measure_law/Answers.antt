@@ -1,5 +1,8 @@
-use Rattle.page_roff_run.proofs.MeasureLemmas.{next_falls}
+use Rattle.page_roff_run.proofs.MeasureLemmas.{next_falls, first_falls}
 use Rattle.page_roff_run.proofs.laws.measure_law.Goals as goal
 
-pub returns : goal.returns
-returns g c = λ e huge within r q h x. next_falls e huge within r q h x
+pub returns-clause-falls : goal.returns-clause-falls
+returns-clause-falls g c = λ e huge r q h w x. next_falls e huge r q h w x
+
+pub returns-clause-first : goal.returns-clause-first
+returns-clause-first g c = λ e r q h x. first_falls e r q h x
