@@ -1,5 +1,5 @@
 -- The input stack as its innermost source changes: helpers of proofs.
-use Rattle.std.proofs.Common.{◌≡◌, ℕ, zero, suc, ◌+◌, ◌-◌, ◌<◌, ◌≤◌, nat_lt, true, inl, inr, List, [], ◌∷◌, length, reverse, refl, sym, ap, ◌∙◌, arith}
+use Rattle.std.proofs.Common.{◌≡◌, ℕ, zero, suc, ◌+◌, ◌-◌, ◌<◌, ◌≤◌, nat_lt, true, inl, inr, List, length, refl, arith}
 use Rattle.std.proofs.lemmas.Bool.{cases_Bool}
 use Rattle.std.proofs.lemmas.Bool.Decides.{nat_tests}
 use Rattle.page_roff_blocks.specs.Levels.{Spot}
@@ -7,8 +7,7 @@ use Rattle.page_roff_run.specs.declared.TheConstants.{CALLS}
 use Rattle.page_roff_run.specs.Machine.{Frame, at_part, depth, is_some}
 use Rattle.page_roff_stack.specs.declared.input_stacks.InputStack.TheInside.{Inside}
 use Rattle.page_roff_stack.specs.Changes.{past}
-use Rattle.page_roff_stack.specs.InputStacks.{stack_of, IsStack}
-use Rattle.page_roff_stack.specs.Stacks.{AreStacked}
+use Rattle.page_roff_stack.specs.InputStacks.{IsStack}
 
 pub past_kind : (spot : Spot) (f : Frame) → (past spot f).kind ≡ f.kind
 unfolding at_part

@@ -1,12 +1,11 @@
 -- A source that begins: helpers of proofs.
-use Rattle.std.proofs.Common.{◌≡◌, ℕ, ◌+◌, ◌-◌, ◌*◌, ◌<◌, ◌≤◌, ◌^◌, List, [], ◌∷◌, ◌++◌, length, take, drop, Option, Some, None, refl, sym, ap, ◌∙◌, arith, length-append}
+use Rattle.std.proofs.Common.{◌≡◌, ℕ, ◌+◌, ◌-◌, ◌<◌, ◌≤◌, ◌^◌, List, [], ◌∷◌, ◌++◌, length, take, drop, Option, Some, None, refl, ap, ◌∙◌, arith, length-append}
 use Rattle.std.specs.Vec.{vec_capacity}
-use Rattle.std.proofs.Math.Seq.{take-append_seam, drop-append_seam}
-use Rattle.std.proofs.lemmas.List.{take_all}
+use Rattle.std.proofs.Math.Seq.{take-append_seam}
 use Rattle.page_core_base.specs.Texts.{IsLine}
 use Rattle.page_core_limits.specs.declared.TheConstants.{LINE, BODY}
-use Rattle.page_roff_blocks.specs.Levels.{Levels, Opened, Spot, at_line, outside}
-use Rattle.page_roff_blocks.specs.LinePlaces.{parts_at, line_end}
+use Rattle.page_roff_blocks.specs.Levels.{Opened, Spot, at_line, outside}
+use Rattle.page_roff_blocks.specs.LinePlaces.{line_end}
 use Rattle.page_roff_run.specs.Languages.{Kind, page, body}
 use Rattle.page_roff_run.specs.Machine.{Frame, entered}
 use Rattle.page_roff_run.specs.Measures.{weight, work_in}
@@ -15,7 +14,7 @@ use Rattle.page_roff_values.specs.Arguments.{arguments_in}
 use Rattle.page_roff_stack.specs.declared.sources.Source.TheInside.{Inside}
 use Rattle.page_roff_stack.specs.declared.spans.Span.{Span}
 use Rattle.page_roff_stack.specs.Changes.{lines_in, IsBounded}
-use Rattle.page_roff_stack.specs.Held.{span_text, kind_in, room_for, AreArgumentsIn}
+use Rattle.page_roff_stack.specs.Held.{kind_in, room_for, AreArgumentsIn}
 use Rattle.page_roff_stack.specs.Sources.{frame_of, IsHeld}
 use Rattle.page_roff_stack.proofs.LineLemmas.{lines_short, lines_weight, page_line_in}
 

@@ -1,28 +1,22 @@
 -- A source as its parts and lines are passed: helpers of proofs.
-use Rattle.std.proofs.Common.{◌≡◌, ℕ, suc, ◌+◌, ◌-◌, ◌*◌, ◌<◌, ◌≤◌, ◌^◌, Bool, true, List, [], ◌∷◌, ◌++◌, length, take, drop, Option, Some, None, refl, sym, ap, ◌∙◌, arith, length-drop, length-append}
+use Rattle.std.proofs.Common.{◌≡◌, ℕ, ◌+◌, ◌-◌, ◌<◌, ◌≤◌, Bool, List, [], ◌∷◌, length, take, drop, Option, Some, None, refl, sym, ap, ◌∙◌, arith, length-drop}
 use Rattle.std.specs.Borrow.{Bor}
-use Rattle.std.specs.Vec.{vec_capacity}
-use Rattle.std.proofs.lemmas.List.{take_all}
-use Rattle.std.proofs.Math.Seq.{take-append_seam, drop-append_seam}
-use Rattle.page_core_base.specs.Texts.{IsLine}
-use Rattle.page_core_limits.specs.declared.TheConstants.{LINE, BODY}
+use Rattle.page_core_limits.specs.declared.TheConstants.{LINE}
 use Rattle.page_roff_blocks.specs.declared.atoms.Atom.{Atom}
 use Rattle.page_roff_blocks.specs.declared.line_places.LinePlace.{LinePlace}
-use Rattle.page_roff_blocks.specs.Atoms.{atoms, atom_seen, ReadsNext}
+use Rattle.page_roff_blocks.specs.Atoms.{ReadsNext}
 use Rattle.page_roff_blocks.specs.Levels.{Opened, Spot, at_line}
 use Rattle.page_roff_blocks.specs.LinePlaces.{parts_at, line_start, line_end, IsPlaceIn}
 use Rattle.page_roff_blocks.proofs.RoomLemmas.{atoms_room}
-use Rattle.page_roff_run.specs.Languages.{Kind, page}
-use Rattle.page_roff_run.specs.Machine.{Frame, at_part, entered}
+use Rattle.page_roff_run.specs.Machine.{Frame, at_part}
 use Rattle.page_roff_run.specs.Measures.{weight, work_in}
-use Rattle.page_roff_values.specs.declared.call_arguments.TheConstants.{ARGS}
 use Rattle.page_roff_stack.specs.declared.sources.Source.TheInside.{Inside}
 use Rattle.page_roff_stack.specs.declared.spans.Span.{Span}
-use Rattle.page_roff_stack.specs.Changes.{lines_in, past, first_branch, first_region, in_region, next_line, first_atoms, page_line, first_frame, is_page, AreShort, IsBounded}
-use Rattle.page_roff_stack.specs.Held.{span_text, kind_in, room_for, IsSpanIn, IsFirstLine}
+use Rattle.page_roff_stack.specs.Changes.{lines_in, past, first_branch, first_region, in_region, next_line, first_atoms, AreShort, IsBounded}
+use Rattle.page_roff_stack.specs.Held.{span_text, IsSpanIn, IsFirstLine}
 use Rattle.page_roff_stack.specs.Sources.{frame_of, IsHeld}
 use Rattle.page_roff_stack.specs.Views.{parts_seen, IsNextLine}
-use Rattle.page_roff_stack.proofs.LineLemmas.{lines_short, lines_weight, page_line_in, span_len}
+use Rattle.page_roff_stack.proofs.LineLemmas.{span_len}
 
 -- ---- a part is read
 

@@ -1,11 +1,11 @@
 -- What comes next in the sources that run: helpers of proofs.
-use Rattle.std.proofs.Common.{◌≡◌, ℕ, ◌<◌, Bool, true, false, List, [], ◌∷◌, length, Option, Some, None, refl, arith}
+use Rattle.std.proofs.Common.{◌≡◌, ℕ, ◌<◌, Bool, true, List, [], ◌∷◌, length, Option, Some, None, refl, arith}
 use Rattle.page_roff_blocks.specs.declared.atoms.Atom.{Atom}
 use Rattle.page_roff_blocks.specs.Levels.{Opened}
 use Rattle.page_roff_blocks.specs.Run.{Meaning}
 use Rattle.page_roff_run.specs.Languages.{Kind, Language, meaning_at}
 use Rattle.page_roff_run.specs.Machine as machine
-use Rattle.page_roff_run.specs.Machine.{Frame, Running, depth}
+use Rattle.page_roff_run.specs.Machine.{Frame, depth}
 use Rattle.page_roff_stack.specs.Changes.{first_branch, first_region, is_page}
 use Rattle.page_roff_stack.specs.Stacks.{Stack, running, next_around, next_in, next_of, is_part, is_line, is_source_end, is_nothing, branch_in, region_in, AreStacked, step_in, step_of}
 

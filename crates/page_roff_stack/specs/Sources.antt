@@ -1,5 +1,5 @@
 -- A source that is being run, as the code holds it: the code's own form of it.
-use Rattle.std.specs.Prelude.{ℕ, ◌+◌, ◌≤◌}
+use Rattle.std.specs.Prelude.{◌+◌, ◌≤◌}
 use Rattle.std.specs.Vec.{vec_capacity}
 use Rattle.page_core_limits.specs.declared.TheConstants.{LINE}
 use Rattle.page_roff_blocks.specs.LinePlaces.{parts_at, IsPlaceIn}

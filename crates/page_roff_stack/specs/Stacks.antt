@@ -1,12 +1,12 @@
 -- The input stack: the sources that run, one inside another, and what comes next in them. Source: mandoc(1), "input stack limit"; roff(7), "Macros".
-use Rattle.std.specs.Prelude.{◌≡◌, ℕ, ◌+◌, Bool, true, false, List, [], ◌∷◌, length, drop, Option, Some, None}
+use Rattle.std.specs.Prelude.{◌≡◌, ℕ, Bool, true, false, List, [], ◌∷◌, drop, Option, Some, None}
 use Rattle.page_roff_blocks.specs.declared.atoms.Atom.{Atom}
 use Rattle.page_roff_blocks.specs.declared.atoms.Branch.{Branch}
 use Rattle.page_roff_blocks.specs.declared.atoms.Branch.TheVariants.{Else}
 use Rattle.page_roff_blocks.specs.Levels.{Opened}
 use Rattle.page_roff_blocks.specs.Regions.{is_ending}
 use Rattle.page_roff_blocks.specs.Run.{Meaning}
-use Rattle.page_roff_run.specs.Languages.{Kind, page, Language, meaning_at}
+use Rattle.page_roff_run.specs.Languages.{Kind, Language, meaning_at}
 use Rattle.page_roff_run.specs.Machine.{Frame, Running, depth, entered, part_next, line_next, region_next, source_next}
 use Rattle.page_roff_stack.specs.declared.next.Next.{Next}
 use Rattle.page_roff_stack.specs.declared.next.Next.TheVariants.{Part, Line, RegionLine, SourceEnd, Nothing}

@@ -113,10 +113,11 @@ fn part(stack: &mut InputStack, macros: &[Macro], shown: &mut Shown) {
 // A line in a region.
 fn region_line(stack: &mut InputStack, shown: &mut Shown) {
     if let Next::RegionLine { line, is_end, .. } = stack.peek() {
-        show(shown, if is_end { b"]" } else { line });
         if is_end {
+            show(shown, b"]");
             stack.end_region();
         } else {
+            show(shown, line);
             stack.pass_region_line();
         }
     }
@@ -129,7 +130,9 @@ fn step(stack: &mut InputStack, macros: &[Macro], shown: &mut Shown) -> bool {
         Next::Line(_) => stack.begin_line(),
         Next::RegionLine { .. } => region_line(stack, shown),
         Next::SourceEnd(_) => {
-            show(shown, stack.arguments().unwrap_or(b""));
+            if let Some(packed) = stack.arguments() {
+                show(shown, packed);
+            }
             show(shown, b")");
             stack.end_source();
         }

@@ -1,7 +1,5 @@
-use Rattle.std.proofs.Common.{◌==◌, ◌∷◌, get_or, take, drop, arith, ap, sym, ◌∙◌, refl}
+use Rattle.std.proofs.Common.{◌==◌, get_or, arith, refl}
 use Rattle.page_roff_values.proofs.ArgumentLemmas.{first_of, not_true}
-use Rattle.page_roff_stack.specs.Changes.{lines_in}
-use Rattle.page_roff_stack.specs.Held.{IsFirstLine}
 use Rattle.page_roff_stack.proofs.LineLemmas.{one_line}
 use Rattle.page_roff_stack.proofs.sources.line_len.Goals as goal
 

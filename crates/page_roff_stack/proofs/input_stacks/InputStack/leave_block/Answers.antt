@@ -1,11 +1,9 @@
-use Rattle.std.proofs.Common.{true, [], ap, ◌∙◌, sym}
-use Rattle.std.specs.Prelude.{None}
-use Rattle.page_roff_blocks.specs.Levels.{after_part, guarded_by, enter, bit_after, skip, leave}
-use Rattle.page_roff_stack.specs.Changes.{past, first_branch, first_region, in_region, next_line, first_atoms}
+use Rattle.std.proofs.Common.{ap, ◌∙◌}
+use Rattle.page_roff_blocks.specs.Levels.{after_part, leave}
+use Rattle.page_roff_stack.specs.Changes.{past}
 use Rattle.page_roff_stack.specs.InputStacks.{stack_of}
-use Rattle.page_roff_stack.specs.Stacks.{with_top, branch_in, region_in, next_of}
+use Rattle.page_roff_stack.specs.Stacks.{with_top}
 use Rattle.page_roff_stack.proofs.InputStackLemmas.{past_kind, top_held}
-use Rattle.page_roff_stack.proofs.StackLemmas.{part_there}
 use Rattle.page_roff_stack.proofs.input_stacks.InputStack.leave_block.Goals as goal
 
 pub invariant_of-self : goal.invariant_of-self

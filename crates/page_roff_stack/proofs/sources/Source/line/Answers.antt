@@ -1,7 +1,6 @@
-use Rattle.std.proofs.Common.{◌≡◌, ◌<◌, ◌==◌, true, false, length, ap, sym, ◌∙◌}
+use Rattle.std.proofs.Common.{◌≡◌, ◌==◌, true, false, length, ap, sym, ◌∙◌}
 use Rattle.page_roff_stack.specs.Changes.{lines_in, AreShort}
-use Rattle.page_roff_stack.specs.Held.{span_text, IsFirstLine}
-use Rattle.page_roff_stack.specs.Sources.{frame_of}
+use Rattle.page_roff_stack.specs.Held.{span_text}
 use Rattle.page_roff_stack.proofs.LineLemmas.{no_lines, some_line}
 use Rattle.page_roff_stack.proofs.SourceLemmas.{next_line_is}
 use Rattle.page_roff_stack.proofs.sources.Source.line.Goals as goal

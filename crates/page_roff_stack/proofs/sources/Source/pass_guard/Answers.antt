@@ -1,14 +1,11 @@
-use Rattle.std.proofs.Common.{◌≤◌, ◌<◌, ◌+◌, length, true, ap, sym, ◌∙◌, arith}
-use Rattle.page_roff_blocks.specs.Levels.{after_part, guarded_by, enter, bit_after, skip, leave}
-use Rattle.page_roff_blocks.proofs.RoomLemmas.{enter_room, leave_room}
-use Rattle.page_roff_stack.specs.Changes.{past, first_branch}
+use Rattle.std.proofs.Common.{true, ap, ◌∙◌, arith}
+use Rattle.page_roff_stack.specs.Changes.{past}
 use Rattle.page_roff_stack.specs.Held.{span_text}
 use Rattle.page_roff_stack.specs.Sources.{frame_of}
-use Rattle.page_roff_stack.proofs.SourceLemmas.{IsRead, past_view, past_held, deeper_held, read_branch}
+use Rattle.page_roff_stack.proofs.SourceLemmas.{IsRead, past_view, past_held}
 use Rattle.page_roff_stack.proofs.sources.Source.pass_guard.Goals as goal
 
 pub invariant_of-self : goal.invariant_of-self
-unfolding after_part guarded_by skip
 invariant_of-self c =
     let a = c.self.inside in
     let read : IsRead a c.of.result.now c.next_atom-part.result c.next_atom-part.new.self = record {
