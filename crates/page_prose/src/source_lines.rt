@@ -81,7 +81,12 @@ impl Prose {
     }
 
     /// Takes a raw line of at most [`LINE`] bytes as a finished line of the same form. After a fault it is not to be used again.
-    pub fn source_line<O: PieceSink>(&mut self, out: &mut O, line: u32, text: &[u8]) -> Result<(), Fault>
+    pub fn source_line<O: PieceSink>(
+        &mut self,
+        out: &mut O,
+        line: u32,
+        text: &[u8],
+    ) -> Result<(), Fault>
         requires { length text.now ≤ LINE }
         ensures gives { Emits result O.gave O.broke out.old (sources.source_items self.old line text.now) out.new }
         ensures after { OnOk result (self.new ≡ sources.source_after self.old line text.now) }

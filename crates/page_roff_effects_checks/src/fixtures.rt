@@ -2,7 +2,7 @@
 
 use page_core_base::{Form, Note, NoteKind, Output};
 use page_core_writers::KeptNotes;
-use page_roff_blocks::{Atom, Atoms, OpenRegion};
+use page_roff_blocks::{Atom, LinePlace, OpenRegion};
 use page_roff_effects::{Actions, ProductKind};
 use page_roff_values::NoteLatch;
 use std::process::Abort;
@@ -111,7 +111,7 @@ pub fn open(
     is_run: bool,
 ) -> Option<OpenRegion> {
     assert!(rt; line.len() <= 65_000);
-    let Some(Atom::Region(head)) = Atoms::new(line.as_bytes()).next_atom() else {
+    let Some(Atom::Region(head)) = LinePlace::start().next_atom(line.as_bytes()) else {
         return None;
     };
     let mut notes = KeptNotes::new(rt.alloc());

@@ -18,7 +18,7 @@ loop-index-preserved g c =
     let start = c.loop-index.start in
     let part = take (i - start) (drop start text) in
     elim c.if-byte-eq9.branch [
-      then-byte-eq9 w ↦ record {
+      | then-byte-eq9 w ↦ record {
         within = omega (arith, w.start-is);
         came = λ plan rest x.
             let after = cells_after p n (take (i + 1 - (i + 1)) (drop (i + 1) text)) (drop (i + 1) text) ++ rest in
@@ -26,7 +26,7 @@ loop-index-preserved g c =
             let a = rw (tab_step p n part text i c.loop-index-test.true (eq-eqb _ _ w.if-byte-eq9.true), append_assoc) at (c.loop-index.invariant.came plan rest x) in
             rw (w.out-is, w.start-is) (w.give.ensures plan after (w.give_part.ensures plan (tab ∷ after) a));
       }
-    | else-byte-eq9 w ↦ record {
+      | else-byte-eq9 w ↦ record {
         within = omega (arith, w.start-is, c.loop-index.invariant.within);
         came = λ plan rest x.
             let a = rw (plain_step p n text start i c.loop-index.invariant.within c.loop-index-test.true (ne_eqb _ _ w.if-byte-eq9.false)) at (c.loop-index.invariant.came plan rest x) in

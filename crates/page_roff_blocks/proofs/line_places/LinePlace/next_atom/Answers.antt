@@ -17,8 +17,8 @@ returns-in-Some-clause-next c =
     let within : start ≤ length line = rw c.in-Some.is at c.requires.within in
     let part = c.part_of-part.ensures.value in
     rw (c.if-self.false, c.in-Some.is, c.place_after-self.ensures) (
-      slice_parts start line within
-      ∙ ap (λ part. part.atom ∷ parts_at line (record { is_end = part.is_end; rest = place_after line part.rest })) (sym part)
+    slice_parts start line within
+    ∙ ap (λ part. part.atom ∷ parts_at line (record { is_end = part.is_end; rest = place_after line part.rest })) (sym part)
     )
 
 pub returns-in-Some-clause-within : goal.returns-in-Some-clause-within
