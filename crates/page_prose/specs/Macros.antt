@@ -6,7 +6,7 @@ use Rattle.page_core_limits.specs.declared.TheConstants.{LINE}
 use Rattle.page_roff_forms.specs.Arguments.{arguments}
 use Rattle.page_roff_forms.specs.declared.quotes.Argument.{Argument}
 use Rattle.page_core_base.specs.LinesTaken.{Line}
-use Rattle.page_sets_lines.specs.ControlLines.{name_start, name_end, name_of}
+use Rattle.page_sets_lines.specs.ControlLines.{before_name, name_end, name_of}
 use Rattle.page_prose.specs.declared.macros.Call.{Call}
 use Rattle.page_prose.specs.declared.macros.Macro.{Macro}
 use Rattle.page_prose.specs.declared.macros.Macro.TheVariants.{Title, Section, Paragraph, Break, NoFill, SetFont, Unknown}
@@ -33,7 +33,7 @@ call_arguments call = arguments call.rest_column call.rest
 abbrev pub call_of : Line → Call (List ℕ)
 call_of line = record {
   name = name_of line;
-  place = record { line = line.number; column = name_start line.text + 1 };
+  place = record { line = line.number; column = before_name line.text + 1 };
   rest = drop (name_end line) line.text;
   rest_column = name_end line + 1;
 }
