@@ -1,8 +1,9 @@
 # Proves and builds the program, installs it, and checks the whole repository.
 PREFIX ?= /usr/local
 
-# How many layers are in work at a time: one a processor, as far as memory goes (2 GB for each).
-JOBS ?= $(shell awk -v most=$$(nproc) '/MemAvailable/ { n = int($$2 / 2000000) } \
+# How many crates are in work at a time. Some of them wait for others, so these are two more than there are processors, as far as memory goes
+# (2 GB for each).
+JOBS ?= $(shell awk -v most=$$(($$(nproc) + 2)) '/MemAvailable/ { n = int($$2 / 2000000) } \
     END { if (n < 1) n = 1; print n < most ? n : most }' /proc/meminfo)
 
 # All that the program is made of; a folder changes with the names of its files.
@@ -10,14 +11,10 @@ SOURCES := crates.txt $(shell find crates/*/src crates/*/specs crates/*/proofs 2
 
 PROGRAM := crates/mandoc_cli
 
-# Its crates that stand beside each other; those above them stand one above another.
-LAYERS := crates/page_layers
-
 # Of what rt prints: each crate that is proved, with the seconds since the start, and what went wrong.
 PROGRESS := start=$$(date +%s); while IFS= read -r line; do \
 	    case $$line in \
 	    "== "*) crate=$${line\#== } ;; \
-	    "crate "*) crate=$${line\#crate }; crate=$${crate%%:*} ;; \
 	    logic=proved*) printf '%5d s  %s: proved\n' $$(($$(date +%s) - start)) "$$crate" ;; \
 	    *"error["*|*": error:"*|*": no proof"*|*": not proved"*) printf '%s\n' "$${crate:+$$crate: }$$line" ;; \
 	    "status "*) status=$${line\#status } ;; \
@@ -27,14 +24,12 @@ PROGRESS := start=$$(date +%s); while IFS= read -r line; do \
 
 all: mandoc
 
-# Proves the program and the crates that it stands on, no others, and leaves the executable at the top: first its layers, several crates at
-# a time, and then what stands above them, a crate at a time with several processes (rt chooses how many). All that the checks print is in
+# Proves the program and the crates that it stands on, no others, and leaves the executable at the top. All that the checks print is in
 # $(PROGRAM)/out/build.log.
 mandoc: $(SOURCES)
 	@mkdir -p $(PROGRAM)/out
-	@echo "Proving the crates of the program with $(JOBS) processes. The README says how long this takes from nothing."
-	@{ (cd $(LAYERS) && rt all check --jobs $(JOBS)) 2>&1 && (cd $(PROGRAM) && rt check) 2>&1; echo "status $$?"; } | \
-	    tee $(PROGRAM)/out/build.log | { $(PROGRESS); exit $$status; }
+	@echo "Proving the crates of the program, $(JOBS) at a time. The README says how long this takes from nothing."
+	@cd $(PROGRAM) && { rt all check --jobs $(JOBS) 2>&1; echo "status $$?"; } | tee out/build.log | { $(PROGRESS); exit $$status; }
 	@echo "Building the program."
 	@cd $(PROGRAM) && rt run < stdin > out/build.txt 2>> out/build.log || { tail -20 out/build.log; exit 1; }
 	@cp $(PROGRAM)/out/mandoc_cli $@
