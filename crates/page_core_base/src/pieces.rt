@@ -36,6 +36,8 @@ pub enum Piece<W> {
     Glue,
     /// The row ends.
     Break,
+    /// The row of a line that is kept as it is ends; a blank row where it has no cell.
+    RowEnd,
     /// A paragraph: the row ends, and blank rows are written until this count of them stands there; none after a heading's row.
     Para(u32),
     /// The row ends, and this count of blank rows is written.

@@ -6,7 +6,7 @@ use Rattle.page_core_base.specs.declared.cells.Font.{Font}
 use Rattle.page_core_base.specs.declared.note_kinds.NoteKind.TheVariants as notes
 use Rattle.page_core_base.specs.declared.page_settings.Settings.{Settings}
 use Rattle.page_core_base.specs.declared.pieces.Piece.{Piece}
-use Rattle.page_core_base.specs.declared.pieces.Piece.TheVariants.{Text, Glyph, Char, Tab, Blank, Glue, Break, Para, Space, Indent, Literal, Tag, TagEnd, Heading, Column}
+use Rattle.page_core_base.specs.declared.pieces.Piece.TheVariants.{Text, Glyph, Char, Tab, Blank, Glue, Break, RowEnd, Para, Space, Indent, Literal, Tag, TagEnd, Heading, Column}
 use Rattle.page_core_base.specs.declared.places.Place.{Place}
 use Rattle.page_core_base.specs.declared.pieces.TagForm.{TagForm}
 use Rattle.page_core_base.specs.declared.pieces.TagForm.TheVariants as forms
@@ -122,6 +122,10 @@ paragraph e n = seq (ended e) (λ f. over (empty_rows f.sheet (missing_rows f.sh
 unfoldable pub spaced : Edge → ℕ → Laid Edge
 spaced e n = seq (ended e) (λ f. over (empty_rows f.sheet n) (on_sheet f))
 
+-- the row of a line that is kept as it is ends: a blank row where it has no cell
+unfoldable pub row_ended : Edge → Laid Edge
+row_ended e = if length e.sheet.cells == 0 then spaced e 1 else ended e
+
 -- the row ends as a heading's, if there is one
 abbrev pub headed : Sheet → Sheet
 headed s = record s { heading = true }
@@ -171,6 +175,7 @@ laid_piece e (Tab font place) = tab e font place
 laid_piece e (Blank count has_tab) = nothing (record e { word = blanks_wait e.word count has_tab })
 laid_piece e Glue = nothing (record e { word = glued_word e.word })
 laid_piece e Break = ended e
+laid_piece e RowEnd = row_ended e
 laid_piece e (Para n) = paragraph e n
 laid_piece e (Space n) = spaced e n
 laid_piece e (Indent first rest) = nothing (on_sheet e (record e.sheet { first = first; rest = rest }))

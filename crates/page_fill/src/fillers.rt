@@ -25,6 +25,7 @@ fn take_piece<O: RowOut>(edge: &mut Edge, piece: Piece<&[u8]>, out: &mut O)
         Piece::Char { c, font, place } => edge.character(c, font, place, out),
         Piece::Tab { font, place } => edge.tab(font, place, out),
         Piece::Break => edge.end_row(out),
+        Piece::RowEnd => edge.end_line(out),
         Piece::Para(count) => edge.paragraph(count, out),
         Piece::Space(count) => edge.space(count, out),
         Piece::TagEnd => edge.end_tag(out),

@@ -286,6 +286,18 @@ impl Edge {
         self.sheet.give_empty_rows(count, out);
     }
 
+    /// Ends the row of a line that is kept as it is, and gives a blank row where it has no cell.
+    #[tactic(auto, unfolding(crate::specs::Fill::row_ended))]
+    pub(crate) fn end_line<O: RowOut>(&mut self, out: &mut O)
+        ensures { LaysOut O.left out.old (fill.row_ended self.old) out.new self.new }
+    {
+        if self.sheet.cells().is_empty() {
+            self.space(1, out);
+        } else {
+            self.end_row(out);
+        }
+    }
+
     /// The row ends as a heading's row, if it has a cell.
     #[tactic(auto, unfolding(crate::specs::Fill::heading))]
     pub(crate) fn heading<O: RowOut>(&mut self, out: &mut O)

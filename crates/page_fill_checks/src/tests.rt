@@ -65,6 +65,7 @@ fn scripted(script: &[u8], at: usize) -> Piece<&[u8]>
         },
         b'+' => Piece::Glue,
         b'/' => Piece::Break,
+        b'|' => Piece::RowEnd,
         b'O' => Piece::Para(0),
         b'P' => Piece::Para(1),
         b'Q' => Piece::Para(2),
@@ -116,7 +117,7 @@ fn filled(alloc: Global, script: &str) -> Result<(Vec<u8>, Vec<u8>), Fail> {
 }
 
 // Scripts, each with the rows that it gives, without a message.
-const SCRIPTS: [(&str, &str); 51] = [
+const SCRIPTS: [(&str, &str); 55] = [
     // Words fill rows.
     ("ab_cde", "ab cde\n"),
     ("ab_cdef", "ab\ncdef\n"),
@@ -144,6 +145,11 @@ const SCRIPTS: [(&str, &str); 51] = [
     ("hHSQb", "h\n\n\nb\n"),
     ("a/ Pb", "a\n\nb\n"),
     ("aOb", "a\nb\n"),
+    // Rows of lines that are kept as they are end, also without a cell.
+    ("La|b", "a\nb\n"),
+    ("L|a||b", "\na\n\nb\n"),
+    ("LRa|E|b", "a\n\nb\n"),
+    ("MLa|_|b", " a\n\n  b\n"),
     // Margins hold for rows.
     ("Mabcd_ef_g", " abcd\n  ef g\n"),
     ("abM_cd_e", "ab cd\n e\n"),

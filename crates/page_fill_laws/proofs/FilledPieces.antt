@@ -7,7 +7,7 @@ use Rattle.page_core_base.specs.declared.cells.Cell.{Cell}
 use Rattle.page_core_base.specs.declared.cells.Font.{Font}
 use Rattle.page_core_base.specs.declared.page_settings.Output.{Output}
 use Rattle.page_core_base.specs.declared.pieces.Piece.{Piece}
-use Rattle.page_core_base.specs.declared.pieces.Piece.TheVariants.{Text, Glyph, Char, Tab, Blank, Glue, Break, Para, Space, Indent, Literal, Tag, TagEnd, Heading, Column}
+use Rattle.page_core_base.specs.declared.pieces.Piece.TheVariants.{Text, Glyph, Char, Tab, Blank, Glue, Break, RowEnd, Para, Space, Indent, Literal, Tag, TagEnd, Heading, Column}
 use Rattle.page_core_base.specs.declared.places.Place.{Place}
 use Rattle.page_core_base.specs.Messages.{Message}
 use Rattle.page_core_base.specs.Laid.{Laid, join, seq}
@@ -109,6 +109,7 @@ piece-words output literal empty w (Tab font place) rest =
 piece-words output literal empty w (Blank count has_tab) rest = refl
 piece-words output literal empty w Glue rest = refl
 piece-words output literal empty w Break rest = refl
+piece-words output literal empty w RowEnd rest = refl
 piece-words output literal empty w (Para n) rest = refl
 piece-words output literal empty w (Space n) rest = refl
 piece-words output literal empty w (Indent first others) rest = refl

@@ -7,7 +7,7 @@ use Rattle.page_core_base.specs.declared.cells.Cell.{Cell}
 use Rattle.page_core_base.specs.declared.cells.Font.{Font}
 use Rattle.page_core_base.specs.declared.page_settings.Output.{Output}
 use Rattle.page_core_base.specs.declared.pieces.Piece.{Piece}
-use Rattle.page_core_base.specs.declared.pieces.Piece.TheVariants.{Text, Glyph, Char, Tab, Blank, Glue, Break, Para, Space, Indent, Literal, Tag, TagEnd, Heading, Column}
+use Rattle.page_core_base.specs.declared.pieces.Piece.TheVariants.{Text, Glyph, Char, Tab, Blank, Glue, Break, RowEnd, Para, Space, Indent, Literal, Tag, TagEnd, Heading, Column}
 use Rattle.page_core_base.specs.declared.pieces.TagForm.{TagForm}
 use Rattle.page_core_base.specs.declared.pieces.TagForm.TheVariants as forms
 use Rattle.page_core_base.specs.declared.places.Place.{Place}
@@ -18,7 +18,7 @@ use Rattle.page_fill.specs.declared.words.OpenTag.{OpenTag}
 use Rattle.page_fill.specs.declared.words.Edge.{Edge}
 use Rattle.page_fill.specs.Sheets.{Sheet, blank, passes, letter, letters, space, spaces, new_word, opens, broken, empty_rows, fresh}
 use Rattle.page_fill.specs.Characters.{cells_of, cell_of, characters_of, character, characters, glyph}
-use Rattle.page_fill.specs.Fill.{laid_piece, text, one_character, one_glyph, tab, opening, ended, paragraph, spaced, heading, tag_ended, after_tag, fits_hang, without_tag, stands, to_stop, missing_rows}
+use Rattle.page_fill.specs.Fill.{laid_piece, text, one_character, one_glyph, tab, opening, ended, paragraph, spaced, row_ended, heading, tag_ended, after_tag, fits_hang, without_tag, stands, to_stop, missing_rows}
 use Rattle.page_fill_laws.specs.PieceWords.{IsHeld}
 
 letter-held : (s : Sheet) (cell : Cell) (place : Place) → IsHeld s → IsHeld (letter s cell place).edge
@@ -144,6 +144,13 @@ empty-held : (s : Sheet) (n : ℕ) → IsHeld s → IsHeld (empty_rows s n).edge
 unfolding empty_rows
 empty-held s n h = record { gap_within = h.gap_within; word_within = h.word_within; bounded = h.bounded }
 
+row_ended-held : (e : Edge) → IsHeld e.sheet → IsHeld (row_ended e).edge.sheet
+unfolding row_ended spaced
+row_ended-held e h = elim (cases_Bool (length e.sheet.cells == 0)) [
+  | inl z ↦ rw z (empty-held (ended e).edge.sheet 1 (ended-held e h))
+  | inr z ↦ rw z (ended-held e h)
+]
+
 pub piece-held : (e : Edge) (p : Piece (List ℕ)) → IsHeld e.sheet → IsHeld (laid_piece e p).edge.sheet
 unfolding laid_piece one_character one_glyph paragraph spaced
 piece-held e (Text bytes font place) h = text-held e (characters_of bytes) font place h
@@ -153,6 +160,7 @@ piece-held e (Tab font place) h = tab-held e font place h
 piece-held e (Blank count has_tab) h = h
 piece-held e Glue h = h
 piece-held e Break h = ended-held e h
+piece-held e RowEnd h = row_ended-held e h
 piece-held e (Para n) h = empty-held (ended e).edge.sheet (missing_rows (ended e).edge.sheet n) (ended-held e h)
 piece-held e (Space n) h = empty-held (ended e).edge.sheet n (ended-held e h)
 piece-held e (Indent first rest) h = record { gap_within = h.gap_within; word_within = h.word_within; bounded = h.bounded }

@@ -6,7 +6,7 @@ use Rattle.page_core_base.specs.declared.cells.Cell.{Cell}
 use Rattle.page_core_base.specs.declared.cells.Font.{Font}
 use Rattle.page_core_base.specs.declared.page_settings.Output.{Output}
 use Rattle.page_core_base.specs.declared.pieces.Piece.{Piece}
-use Rattle.page_core_base.specs.declared.pieces.Piece.TheVariants.{Text, Glyph, Char, Tab, Blank, Glue, Break, Para, Space, Indent, Literal, Tag, TagEnd, Heading, Column}
+use Rattle.page_core_base.specs.declared.pieces.Piece.TheVariants.{Text, Glyph, Char, Tab, Blank, Glue, Break, RowEnd, Para, Space, Indent, Literal, Tag, TagEnd, Heading, Column}
 use Rattle.page_core_base.specs.declared.places.Place.{Place}
 use Rattle.page_core_base.specs.Laid.{Laid, nothing, join, seq}
 use Rattle.page_core_tables.specs.Printed.{Printing, char_printed, glyph_printed}
@@ -207,6 +207,7 @@ piece-run e empty (Tab font place) h k = tab-run e empty font place h (elim (cas
 piece-run e empty (Blank count has_tab) h k = refl
 piece-run e empty Glue h k = refl
 piece-run e empty Break h k = cc
+piece-run e empty RowEnd h k = cc
 piece-run e empty (Para n) h k = cc
 piece-run e empty (Space n) h k = cc
 piece-run e empty (Indent first rest) h k = cc
@@ -235,6 +236,7 @@ sound-after literal w (Tab font place) h = sound-unplaced (record (after_cell li
 sound-after literal w (Blank count has_tab) h = elim (cases_Bool w.is_placed) [ inl p ↦ rw p (rw p at h) | inr p ↦ rw p refl ]
 sound-after literal w Glue h = elim (cases_Bool w.is_open) [ inl o ↦ rw o h | inr o ↦ rw o refl ]
 sound-after literal w Break h = h
+sound-after literal w RowEnd h = h
 sound-after literal w (Para n) h = h
 sound-after literal w (Space n) h = h
 sound-after literal w (Indent first rest) h = h
@@ -270,6 +272,7 @@ stands-after e empty (Tab font place) h same = unplaced-stands e empty (record (
 stands-after e empty (Blank count has_tab) h same = same-stands e empty (blanks_wait e.word count has_tab) (λ u. rw u refl) same
 stands-after e empty Glue h same = same-stands e empty (glued_word e.word) (λ u. elim (cases_Bool e.word.is_open) [ inl o ↦ rw o u | inr o ↦ rw o refl ]) same
 stands-after e empty Break h same = same-stands e empty e.word (λ u. u) same
+stands-after e empty RowEnd h same = same-stands e empty e.word (λ u. u) same
 stands-after e empty (Para n) h same = same-stands e empty e.word (λ u. u) same
 stands-after e empty (Space n) h same = same-stands e empty e.word (λ u. u) same
 stands-after e empty (Indent first rest) h same = same-stands e empty e.word (λ u. u) same

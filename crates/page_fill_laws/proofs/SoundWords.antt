@@ -4,7 +4,7 @@ use Rattle.std.specs.Prelude.{if◌then◌else◌}
 use Rattle.std.proofs.lemmas.Bool.{cases_Bool}
 use Rattle.page_core_base.specs.declared.cells.Font.{Font}
 use Rattle.page_core_base.specs.declared.pieces.Piece.{Piece}
-use Rattle.page_core_base.specs.declared.pieces.Piece.TheVariants.{Text, Glyph, Char, Tab, Blank, Glue, Break, Para, Space, Indent, Literal, Tag, TagEnd, Heading, Column}
+use Rattle.page_core_base.specs.declared.pieces.Piece.TheVariants.{Text, Glyph, Char, Tab, Blank, Glue, Break, RowEnd, Para, Space, Indent, Literal, Tag, TagEnd, Heading, Column}
 use Rattle.page_core_base.specs.declared.places.Place.{Place}
 use Rattle.page_core_base.specs.declared.pieces.TagForm.{TagForm}
 use Rattle.page_core_base.specs.declared.pieces.TagForm.TheVariants as forms
@@ -12,7 +12,7 @@ use Rattle.page_core_base.specs.Laid.{nothing}
 use Rattle.page_fill.specs.declared.words.OpenTag.{OpenTag}
 use Rattle.page_fill.specs.Characters.{characters_of}
 use Rattle.page_fill.specs.declared.words.Edge.{Edge}
-use Rattle.page_fill.specs.Fill.{laid_piece, text, one_character, one_glyph, tab, opening, ended, paragraph, spaced, heading, tag_ended, after_tag, fits_hang, without_tag}
+use Rattle.page_fill.specs.Fill.{laid_piece, text, one_character, one_glyph, tab, opening, ended, paragraph, spaced, row_ended, heading, tag_ended, after_tag, fits_hang, without_tag}
 use Rattle.page_fill_laws.specs.InWords.{is_sound}
 use Rattle.page_fill_laws.proofs.InWordsPieces.{sound-after}
 
@@ -35,6 +35,10 @@ glyph-sound e name font place h = opening-sound e place h
 tab-sound : (e : Edge) (font : Font) (place : Place) → is_sound e.word ≡ true → is_sound (tab e font place).edge.word ≡ true
 unfolding tab
 tab-sound e font place h = elim (cases_Bool (opening e place).edge.sheet.literal) [ inl l ↦ rw l (opening-sound e place h) | inr l ↦ rw l (opening-sound e place h) ]
+
+row_ended-sound : (e : Edge) → is_sound (row_ended e).edge.word ≡ true
+unfolding row_ended ended spaced
+row_ended-sound e = elim (cases_Bool (length e.sheet.cells == 0)) [ inl z ↦ rw z refl | inr z ↦ rw z refl ]
 
 heading-sound : (e : Edge) → is_sound (heading e).edge.word ≡ true
 unfolding heading ended
@@ -60,6 +64,7 @@ piece-sound e (Tab font place) h = tab-sound e font place h
 piece-sound e (Blank count has_tab) h = sound-after false e.word (Blank count has_tab) h
 piece-sound e Glue h = sound-after false e.word Glue h
 piece-sound e Break h = refl
+piece-sound e RowEnd h = row_ended-sound e
 piece-sound e (Para n) h = refl
 piece-sound e (Space n) h = refl
 piece-sound e (Indent first rest) h = h
