@@ -1,9 +1,10 @@
 //! What texts give, in rows that are filled and in rows that are kept.
 
-use page_core_base::{Font, Note, NoteKind, Piece, PieceOut};
+use page_core_base::Font;
 use page_roff_forms::{Argument, Quoting};
 use page_scopes_layout::{Context, Setting};
 use page_scopes_leaves::{Running, give_line_word};
+use page_scopes_shown::Shown;
 use page_scopes_text::{Pen, TextStyle, give_text};
 use page_sets_lines::{Join, Role, Word};
 use std::alloc::Global;
@@ -17,79 +18,9 @@ fn check_bytes(rt: &impl Abort, got: &[u8], wanted: &[u8]) {
     assert_eq!(rt; got, wanted);
 }
 
-// Keeps a text of what it is given: texts between brackets, their font before them; blanks as their count, with "t" for a tab; messages between "!" and ";".
-#[derive(Drop)]
-struct Shown {
-    text: Vec<u8>,
-}
-
-impl Shown {
-    fn add(&mut self, bytes: &[u8]) {
-        let _ = self.text.extend_from_slice(bytes);
-    }
-}
-
-fn font_name(font: Font) -> &'static str {
-    match font {
-        Font::R => "[",
-        Font::B => "B[",
-        Font::I => "I[",
-        Font::BI => "BI[",
-    }
-}
-
-fn kind_name(kind: NoteKind) -> &'static str {
-    match kind {
-        NoteKind::UndefEscape => "UndefEscape ",
-        NoteKind::BadEscape => "BadEscape ",
-        NoteKind::UnknownFont => "UnknownFont ",
-        NoteKind::NotNumeric => "NotNumeric",
-        NoteKind::Unterminated => "Unterminated",
-        _ => "?",
-    }
-}
-
-impl PieceOut for Shown {
-    ghost Plan = { Unit {0} };
-
-    ghost left = { λ plan s rest. Unit {0} };
-
-    fn give(&mut self, piece: Piece<&[u8]>) {
-        match piece {
-            Piece::Text { text, font, .. } => {
-                self.add(font_name(font).as_bytes());
-                self.add(text);
-                self.add(b"]");
-            }
-            Piece::Glyph { name, .. } => self.add(name),
-            Piece::Char { .. } => self.add(b"c"),
-            Piece::Tab { .. } => self.add(b"T"),
-            Piece::Blank { count, has_tab } => {
-                self.add(&[b'0' + (count % 10) as u8]);
-                self.add(if has_tab { b"t" } else { b"" });
-            }
-            Piece::Break => self.add(b"/"),
-            _ => self.add(b"?"),
-        }
-    }
-
-    fn report(&mut self, note: &Note) {
-        self.add(b"!");
-        self.add(kind_name(note.kind).as_bytes());
-        self.add(note.detail.as_str().as_bytes());
-        self.add(b";");
-    }
-
-    fn has_failed(&self) -> bool {
-        false
-    }
-}
-
 // What a text gives after so many blanks, and then the blanks that are to follow it, with "c" where it ends in `\c` and "e" where it ends in a blank.
-fn given_by(alloc: Global, style: TextStyle, gap: u32, is_after_word: bool, text: &str) -> Vec<u8> {
-    let mut out = Shown {
-        text: Vec::new(alloc),
-    };
+fn given_by(alloc: Global, style: TextStyle, gap: u32, is_after_word: bool, text: &str) -> Shown {
+    let mut out = Shown::new(alloc, false);
     let mut pen = Pen {
         fonts: Context::start(7).fonts,
         column: 1,
@@ -103,10 +34,10 @@ fn given_by(alloc: Global, style: TextStyle, gap: u32, is_after_word: bool, text
         give_text(&mut out, style, 1, &mut pen, text.as_bytes());
     }
     out.add(b" ");
-    out.add(&[b'0' + (pen.gap % 10) as u8]);
+    out.add_number(pen.gap);
     out.add(if pen.is_cut { b"c" } else { b"" });
     out.add(if pen.ends_blank { b"e" } else { b"" });
-    out.text
+    out
 }
 
 const LINE: TextStyle = TextStyle {
@@ -160,7 +91,7 @@ fn texts(rt: HostRuntime) -> Result<(), Fail> {
     for (style, text, wanted) in TEXTS {
         check_bytes(
             &rt,
-            given_by(rt.alloc(), style, 2, true, text).as_slice(),
+            given_by(rt.alloc(), style, 2, true, text).text(),
             wanted.as_bytes(),
         );
     }
@@ -172,12 +103,12 @@ fn texts(rt: HostRuntime) -> Result<(), Fail> {
 fn a_kept_line(rt: HostRuntime) -> Result<(), Fail> {
     check_bytes(
         &rt,
-        given_by(rt.alloc(), KEPT_LINE, 2, false, " a").as_slice(),
+        given_by(rt.alloc(), KEPT_LINE, 2, false, " a").text(),
         b"[ ][a] 1",
     );
     check_bytes(
         &rt,
-        given_by(rt.alloc(), KEPT, 2, false, "a").as_slice(),
+        given_by(rt.alloc(), KEPT, 2, false, "a").text(),
         b"[a] 1",
     );
     Ok(())
@@ -213,28 +144,30 @@ const BOLD: (Quoting, Font, Join) = (Quoting::Closed, Font::B, Join::Apart);
 const ITALIC: (Quoting, Font, Join) = (Quoting::Unclosed, Font::I, Join::Glued);
 
 // What two arguments give that are glued, and then the blanks after their line.
-fn glued_by(alloc: Global, is_literal: bool, first: &str, second: &str) -> Vec<u8> {
-    let mut out = Shown {
-        text: Vec::new(alloc),
-    };
+fn glued_by(alloc: Global, is_literal: bool, first: &str, second: &str) -> Shown {
+    let mut out = Shown::new(alloc, false);
     let mut context = Context::start(7);
     context.is_literal = Setting::set_to(is_literal);
     let mut running = Running::start();
     give_argument(&mut out, first, BOLD, &mut context, &mut running);
     give_argument(&mut out, second, ITALIC, &mut context, &mut running);
     running.end_line();
-    out.add(font_name(context.fonts.value.font).as_bytes());
-    out.add(&[b' ', b'0' + (running.gap % 10) as u8]);
-    out.text
+    out.add(if context.fonts.value.font == Font::R {
+        b" "
+    } else {
+        b"?"
+    });
+    out.add_number(running.gap);
+    out
 }
 
 // Two arguments, in rows that are filled and in rows that are kept.
 const GLUED: [(bool, &str, &str, &str); 5] = [
-    (false, "a", "b", "1B[a]!Unterminated;I[b][ 1"),
-    (false, "int ", "b.", "1B[int]!Unterminated;1I[b.][ 2"),
-    (true, "int ", "b", "B[int][ ]!Unterminated;I[b][ 1"),
-    (false, "\\fRa", "b\\fB", "1[a]!Unterminated;I[b][ 1"),
-    (false, "a", "b\\c", "1B[a]!Unterminated;I[b][ 0"),
+    (false, "a", "b", "1B[a]!Unterminated;I[b] 1"),
+    (false, "int ", "b.", "1B[int]!Unterminated;1I[b.] 2"),
+    (true, "int ", "b", "B[int][ ]!Unterminated;I[b] 1"),
+    (false, "\\fRa", "b\\fB", "1[a]!Unterminated;I[b] 1"),
+    (false, "a", "b\\c", "1B[a]!Unterminated;I[b] 0"),
 ];
 
 #[test]
@@ -242,7 +175,7 @@ fn arguments_side_by_side(rt: HostRuntime) -> Result<(), Fail> {
     for (is_literal, first, second, wanted) in GLUED {
         check_bytes(
             &rt,
-            glued_by(rt.alloc(), is_literal, first, second).as_slice(),
+            glued_by(rt.alloc(), is_literal, first, second).text(),
             wanted.as_bytes(),
         );
     }

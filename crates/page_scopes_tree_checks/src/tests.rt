@@ -1,8 +1,9 @@
 //! What events open and end, and what is reported.
 
 use crate::nested::Nested;
-use page_core_base::{Font, Note, NoteKind, Piece, PieceOut, Place};
+use page_core_base::{Note, Piece, PieceOut, Place};
 use page_roff_forms::{Argument, Quoting};
+use page_scopes_shown::Shown;
 use page_scopes_tree::{SCOPES, ScopeStack};
 use page_sets_lines::{
     Closer, Deed, Event, FontMacro, HeadingName, Join, Leaf, LineOpener, Link, Opener,
@@ -20,51 +21,38 @@ fn check_count(rt: &impl Abort, got: usize, wanted: usize) {
     assert_eq!(rt; got, wanted);
 }
 
-// Keeps a text of what it is given: a scope's name, ")" and the level where one ends, and messages between "!" and ";".
+// Keeps a text of what it is given: a scope's name, ")" and the level where one ends, and messages.
 #[derive(Drop)]
-struct Shown {
-    text: Vec<u8>,
+struct Levels {
+    shown: Shown,
 }
 
-impl Shown {
-    fn add(&mut self, bytes: &[u8]) {
-        let _ = self.text.extend_from_slice(bytes);
+impl Levels {
+    fn new(alloc: Global) -> Levels {
+        Levels {
+            shown: Shown::new(alloc, false),
+        }
     }
 }
 
-fn kind_name(kind: NoteKind) -> &'static str {
-    match kind {
-        NoteKind::BadNest => "BadNest ",
-        NoteKind::MissingEnd => "MissingEnd ",
-        NoteKind::LineScope => "LineScope ",
-        NoteKind::NotOpen => "NotOpen ",
-        NoteKind::FewerRs => "FewerRs",
-        NoteKind::Limit => "Limit ",
-        _ => "?",
-    }
-}
-
-impl PieceOut for Shown {
+impl PieceOut for Levels {
     ghost Plan = { Unit {0} };
 
     ghost left = { λ plan s rest. Unit {0} };
 
     fn give(&mut self, piece: Piece<&[u8]>) {
         match piece {
-            Piece::Text { text, .. } => self.add(text),
+            Piece::Text { text, .. } => self.shown.add(text),
             Piece::Indent { first, .. } => {
-                self.add(b")");
-                self.add(&[b'0' + (first / 4 % 10) as u8]);
+                self.shown.add(b")");
+                self.shown.add_number(first / 4 % 10);
             }
-            _ => self.add(b"."),
+            _ => self.shown.add(b"."),
         }
     }
 
     fn report(&mut self, note: &Note) {
-        self.add(b"!");
-        self.add(kind_name(note.kind).as_bytes());
-        self.add(note.detail.as_str().as_bytes());
-        self.add(b";");
+        self.shown.report(note);
     }
 
     fn has_failed(&self) -> bool {
@@ -140,7 +128,7 @@ fn deed(letter: u8) -> Deed<&'static [u8]> {
     other(letter)
 }
 
-fn apply_letter(scopes: &mut ScopeStack<Nested>, out: &mut Shown, letter: u8) {
+fn apply_letter(scopes: &mut ScopeStack<Nested>, out: &mut Levels, letter: u8) {
     let event = Event {
         place: Place { line: 1, column: 2 },
         deed: deed(letter),
@@ -148,22 +136,20 @@ fn apply_letter(scopes: &mut ScopeStack<Nested>, out: &mut Shown, letter: u8) {
     scopes.apply(event, out);
 }
 
-fn apply_letters(scopes: &mut ScopeStack<Nested>, out: &mut Shown, script: &str) {
+fn apply_letters(scopes: &mut ScopeStack<Nested>, out: &mut Levels, script: &str) {
     for letter in script.as_bytes() {
         apply_letter(scopes, out, *letter);
     }
 }
 
 // What the events of a script give, up to the page's end.
-fn given_by(alloc: Global, script: &str) -> Result<Vec<u8>, Fail> {
-    let mut out = Shown {
-        text: Vec::new(alloc),
-    };
+fn given_by(alloc: Global, script: &str) -> Result<Levels, Fail> {
+    let mut out = Levels::new(alloc);
     let mut scopes = ScopeStack::new(alloc, Nested { margin: 0 })?;
     apply_letters(&mut scopes, &mut out, script);
-    out.add(b" ");
+    out.shown.add(b" ");
     scopes.finish(1, &mut out);
-    Ok(out.text)
+    Ok(out)
 }
 
 // Letters as above; then what they give, and what the page's end gives.
@@ -198,7 +184,7 @@ fn scopes_of_events(rt: HostRuntime) -> Result<(), Fail> {
     for (script, wanted) in CASES {
         check_bytes(
             &rt,
-            given_by(rt.alloc(), script)?.as_slice(),
+            given_by(rt.alloc(), script)?.shown.text(),
             wanted.as_bytes(),
         );
     }
@@ -208,21 +194,15 @@ fn scopes_of_events(rt: HostRuntime) -> Result<(), Fail> {
 // The 65th scope is refused; so is a paragraph, which passes over the rest of its line.
 #[test]
 fn a_scope_too_many(rt: HostRuntime) -> Result<(), Fail> {
-    let mut out = Shown {
-        text: Vec::new(rt.alloc()),
-    };
+    let mut out = Levels::new(rt.alloc());
     let mut scopes = ScopeStack::new(rt.alloc(), Nested { margin: 0 })?;
     for _i in 0..SCOPES {
         apply_letter(&mut scopes, &mut out, b'R');
     }
     check_count(&rt, scopes.depth(), SCOPES);
-    out.text.clear();
+    let mut out = Levels::new(rt.alloc());
     apply_letters(&mut scopes, &mut out, "RewETtwEwEr");
-    check_bytes(
-        &rt,
-        out.text.as_slice(),
-        b"!Limit SCOPES;w!Limit SCOPES;w)3",
-    );
+    check_bytes(&rt, out.shown.text(), b"!Limit SCOPES;w!Limit SCOPES;w)3");
     check_count(&rt, scopes.depth(), SCOPES - 1);
     Ok(())
 }

@@ -1,0 +1,106 @@
+//! The lines of a script, of which what opens and closes scopes is passed over.
+
+use page_core_base::{Form, Taken};
+use page_roff_forms::{LineForm, form_of};
+use page_scopes_layout::Context;
+use page_scopes_leaves::{Running, give_deed};
+use page_scopes_shown::Shown;
+use page_sets::{Deed, Event, Man};
+use page_sets_checks::events_of;
+use std::alloc::Global;
+use std::process::Abort;
+
+/// The bytes at most of a line here.
+pub const MOST: usize = 100;
+
+/// The context, and what is known along the page.
+#[derive(Clone, Copy)]
+pub struct Page {
+    pub context: Context,
+    pub running: Running,
+}
+
+impl Page {
+    /// The text of a page whose indent is 7 columns begins.
+    pub fn new() -> Page {
+        Page {
+            context: Context::start(7),
+            running: Running::start(),
+        }
+    }
+
+    /// Gives what an event gives.
+    pub fn give_event(&mut self, out: &mut Shown, event: &Event<&[u8]>) {
+        match event.deed {
+            Deed::Word(word) => {
+                if word.arg.text.len() <= MOST && word.arg.column <= MOST as u32 {
+                    give_deed(
+                        out,
+                        event.place,
+                        &Deed::Word(word),
+                        &mut self.context,
+                        &mut self.running,
+                    );
+                }
+            }
+            Deed::Open(_) | Deed::Close(_) => {}
+            _ => give_deed(
+                out,
+                event.place,
+                &event.deed,
+                &mut self.context,
+                &mut self.running,
+            ),
+        }
+    }
+}
+
+// The bytes up to the end of the name of a control line.
+fn name_end(text: &str) -> u32 {
+    if text.len() > MOST {
+        return 0;
+    }
+    match form_of(text.as_bytes()) {
+        LineForm::Control { rest_column, .. } => rest_column.saturating_sub(1),
+        LineForm::Comment | LineForm::BlankLine | LineForm::Text(_) => 0,
+    }
+}
+
+// A line of a script: "=" begins a raw line, and "~" is a text that was expanded to nothing.
+fn read_line(text: &str, line: u32) -> Taken<'_> {
+    let (form, text) = match text.as_bytes().first() {
+        None => (Form::Blank, text),
+        Some(b'=') => (Form::Raw, text.get(1..).unwrap_or("")),
+        Some(b'~') => (Form::Text, ""),
+        Some(b'.') => (Form::Control, text),
+        Some(_) => (Form::Text, text),
+    };
+    Taken {
+        form,
+        text: text.as_bytes(),
+        line,
+        name_end: if let Form::Control = form {
+            name_end(text)
+        } else {
+            0
+        },
+    }
+}
+
+/// Gives the lines of a script, with "|" after each.
+pub fn give_script(rt: &impl Abort, alloc: Global, out: &mut Shown, page: &mut Page, script: &str) {
+    let mut number = 0u32;
+    for text in script.split('\n') {
+        assert!(rt; number < 1_000);
+        number += 1;
+        let line = read_line(text, number);
+        assert!(rt; line.text.len() <= MOST);
+        let Ok(events) = events_of(alloc, &Man, line) else {
+            return;
+        };
+        for event in &events {
+            page.give_event(out, event);
+        }
+        out.add(b"|");
+    }
+}

@@ -1,0 +1,116 @@
+//! Tags of arguments, which stand in front of the text of their paragraph.
+
+ghost use Rattle.std.specs.Prelude.{◌≤◌, length};
+ghost use Rattle.page_scopes_leaves.specs.Fits.{ArgumentFits};
+ghost use Rattle.page_sets_lines.specs.Events.{word_seen};
+
+use crate::pages::{MOST, Page};
+use page_core_base::{Font, Place};
+use page_roff_forms::{Argument, Quoting};
+use page_scopes_leaves::{
+    TagPlace, end_line, give_leaf, give_line_word, give_own_word, give_raw_line, give_tag,
+};
+use page_scopes_shown::Shown;
+use page_sets::{Join, Leaf, Own, OwnWord, Role, Word};
+use std::alloc::Global;
+use std::process::Abort;
+use std::test::Fail;
+
+// An argument in column 5.
+fn argument(text: &str, font: Option<Font>) -> Word<&[u8]>
+    requires { length text.now ≤ MOST }
+    ensures { ArgumentFits (word_seen result).arg }
+{
+    Word {
+        arg: Argument {
+            text: text.as_bytes(),
+            column: 5,
+            quoting: Quoting::Closed,
+        },
+        role: Role::Argument,
+        font,
+        before: Join::Apart,
+        after: Join::Apart,
+    }
+}
+
+// What a tag at column 7 gives whose text hangs by 4 columns, and a word after it.
+fn tagged(
+    rt: &impl Abort,
+    alloc: Global,
+    is_literal: bool,
+    tag: &str,
+    font: Option<Font>,
+) -> Shown {
+    let mut out = Shown::new(alloc, false);
+    let mut page = Page::new();
+    assert!(rt; tag.len() < MOST);
+    page.context.hang = 4;
+    page.context.is_literal.value = is_literal;
+    let place = TagPlace { margin: 7, hang: 4 };
+    give_tag(
+        &mut out,
+        place,
+        1,
+        &argument(tag, font),
+        &mut page.context,
+        &mut page.running,
+    );
+    end_line(&mut out, &page.context, &mut page.running);
+    give_line_word(
+        &mut out,
+        2,
+        &argument("text", None),
+        &mut page.context,
+        &mut page.running,
+    );
+    end_line(&mut out, &page.context, &mut page.running);
+    out
+}
+
+#[test]
+fn tags(rt: HostRuntime) -> Result<(), Fail> {
+    let rows = [
+        (false, "ab", None, "{7 11}<4;1[ab]>{11 11}[text]"),
+        (
+            false,
+            "a b.",
+            Some(Font::B),
+            "{7 11}<4;1B[a]1B[b.]>{11 11}[text]",
+        ),
+        (false, "a\\c", None, "{7 11}<4;1[a]>{11 11}[text]"),
+        (true, "ab", None, "{7 11}<4;[ab]>{11 11}[text]="),
+        (false, "", None, "{7 11}<4;1[]>{11 11}[text]"),
+    ];
+    for (is_literal, tag, font, wanted) in rows {
+        let out = tagged(&rt, rt.alloc(), is_literal, tag, font);
+        assert_eq!(rt; out.text(), wanted.as_bytes(), "of {tag}");
+    }
+    Ok(())
+}
+
+// A mark keeps the sentence that ended before it, and stands in the page's font.
+#[test]
+fn marks(rt: HostRuntime) -> Result<(), Fail> {
+    let mut out = Shown::new(rt.alloc(), false);
+    let mut page = Page::new();
+    let (context, running) = (&mut page.context, &mut page.running);
+    let place = Place {
+        line: 1,
+        column: u32::MAX,
+    };
+    let mark = OwnWord {
+        own: Own::Unsquare,
+        font: None,
+        before: Join::Glued,
+        after: Join::Apart,
+    };
+    give_line_word(&mut out, 1, &argument("a.", None), context, running);
+    give_own_word(&mut out, place, mark, context, running);
+    end_line(&mut out, context, running);
+    give_leaf(&mut out, place, &Leaf::Own(mark), context, running);
+    give_raw_line(&mut out, place, b"b", context, running);
+    out.add_number(running.gap);
+    assert_eq!(rt; out.text(), b"1[a.][]][]]/L[b]=F1".as_slice());
+    Ok(())
+}
