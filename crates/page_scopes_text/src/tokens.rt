@@ -15,7 +15,7 @@ use page_scopes_layout::Setting;
 use page_scopes_words::{Fonts, token_piece};
 
 /// Gives the messages of a token.
-pub(crate) fn report_token<O: PieceOut>(out: &mut O, place: Place, token: &Token<'_>)
+pub fn report_token<O: PieceOut>(out: &mut O, place: Place, token: &Token<'_>)
     ensures { Came O.left out.old (words.token_notes place (token_seen token.now)) out.new }
 {
     if let Token::Escaped {
@@ -30,7 +30,7 @@ pub(crate) fn report_token<O: PieceOut>(out: &mut O, place: Place, token: &Token
 }
 
 /// Gives a count of blanks that are cells.
-pub(crate) fn give_blank_cells<O: PieceOut>(out: &mut O, count: u32, font: Font, place: Place)
+pub fn give_blank_cells<O: PieceOut>(out: &mut O, count: u32, font: Font, place: Place)
     ensures { Came O.left out.old (words.blank_cells count font place) out.new }
 {
     for _i in 0..count {
@@ -50,7 +50,7 @@ fn blank_count(expression: &[u8]) -> u32
 }
 
 /// Gives what a token prints.
-pub(crate) fn give_token<O: PieceOut>(out: &mut O, font: Font, place: Place, token: &Token<'_>)
+pub fn give_token<O: PieceOut>(out: &mut O, font: Font, place: Place, token: &Token<'_>)
     requires { is_space (token_seen token.now) ≡ false }
     ensures { Came O.left out.old (words.token_items font place (token_seen token.now)) out.new }
 {
@@ -118,7 +118,7 @@ fn token_sets(token: &Token<'_>) -> bool
 }
 
 /// The fonts after a token, and whether they were set.
-pub(crate) fn fonts_after(token: &Token<'_>, fonts: Setting<Fonts>) -> Setting<Fonts>
+pub fn fonts_after(token: &Token<'_>, fonts: Setting<Fonts>) -> Setting<Fonts>
     ensures { result ≡ words.fonts_after (token_seen token.now) fonts }
 {
     Setting {
