@@ -1,3 +1,11 @@
 pub mod Runnings
+pub mod Fits
+pub mod Outcomes
 pub mod Phrases
 pub mod LineWords
+pub mod Tags
+pub mod Requests
+pub mod RawLines
+pub mod Leaves
+pub mod LineEnds
+pub mod Deeds

@@ -1,12 +1,15 @@
 -- Words of a line, and words that a macro prints itself. Source: man(7); roff(7), "Macro syntax".
-use Rattle.std.specs.Prelude.{ℕ, ◌-◌, Bool, true, false, List, [], ◌∷◌, ◌++◌}
+use Rattle.std.specs.Prelude.{ℕ, ◌-◌, min, Bool, true, false, List, [], ◌∷◌, ◌++◌}
 use Rattle.page_core_base.specs.Pieces.{Item}
 use Rattle.page_core_base.specs.declared.note_kinds.NoteKind.TheVariants.{Unterminated}
+use Rattle.page_core_base.specs.declared.places.Place.{Place}
+use Rattle.page_core_limits.specs.declared.TheConstants.{LINE}
 use Rattle.page_roff_forms.specs.Arguments.{is_quoted}
 use Rattle.page_roff_forms.specs.declared.quotes.Quoting.{Quoting}
 use Rattle.page_roff_forms.specs.declared.quotes.Quoting.TheVariants.{Unclosed}
 use Rattle.page_scopes_layout.specs.declared.contexts.Context.{Context}
-use Rattle.page_scopes_leaves.specs.Phrases.{phrase_items, phrase_running}
+use Rattle.page_scopes_leaves.specs.Outcomes.{Outcome}
+use Rattle.page_scopes_leaves.specs.Phrases.{phrase_context, phrase_items, phrase_running}
 use Rattle.page_scopes_leaves.specs.declared.phrases.Phrase.{Phrase}
 use Rattle.page_scopes_leaves.specs.declared.runnings.Running.{Running}
 use Rattle.page_scopes_words.specs.Sentences.{ends_sentence}
@@ -37,24 +40,36 @@ word_phrase word = record {
   after = word.after;
 }
 
-abbrev pub line_word_items : ℕ → Word (List ℕ) → Context → Running → List Item
-line_word_items line word c r = quote_items line word.arg.quoting word.arg.column ++ phrase_items line (word_phrase word) c r
-
 -- a sentence ends as its last word is written
 abbrev pub with_sentence : Bool → Running → Running
 with_sentence ends r = record r { line = record r.line { is_sentence = ends } }
 
-abbrev pub line_word_running : Word (List ℕ) → Context → Running → Running
-line_word_running word c r = with_sentence (ends_sentence word.arg.text) (phrase_running (word_phrase word) c r)
+-- a word of a line
+unfoldable pub line_word : ℕ → Word (List ℕ) → Context → Running → Outcome
+line_word line word c r = record {
+  items = quote_items line word.arg.quoting word.arg.column ++ phrase_items line (word_phrase word) c r;
+  context = phrase_context (word_phrase word) c r;
+  running = with_sentence (ends_sentence word.arg.text) (phrase_running (word_phrase word) c r);
+}
 
--- a mark of a macro ends no sentence, and leaves one that has ended
-abbrev pub own_phrase : ℕ → OwnWord → Phrase (List ℕ)
-own_phrase column word = record {
+-- ---- words of a macro's own
+
+-- it stands at its macro, which stands in a line
+abbrev pub own_phrase : Place → OwnWord → Phrase (List ℕ)
+own_phrase place word = record {
   text = own_text word.own;
-  column = column;
+  column = min place.column LINE;
   is_quoted = false;
   is_line = false;
   font = word.font;
   before = word.before;
   after = word.after;
+}
+
+-- a mark of a macro ends no sentence, and leaves one that has ended
+unfoldable pub own_word : Place → OwnWord → Context → Running → Outcome
+own_word place word c r = record {
+  items = phrase_items place.line (own_phrase place word) c r;
+  context = phrase_context (own_phrase place word) c r;
+  running = phrase_running (own_phrase place word) c r;
 }

@@ -1,9 +1,8 @@
 -- A text that an event prints: its fonts, and how it stands beside the words around it. Source: man(7), `B`, `BR`; roff(7), `\f`, `\c`.
-use Rattle.std.specs.Prelude.{ℕ, ◌≤◌, ◌<◌, ◌+◌, ◌^◌, max, Bool, true, false, not, ◌||◌, ◌&&◌, List, length, Option, None, Some, is_some, if◌then◌else◌}
+use Rattle.std.specs.Prelude.{ℕ, max, Bool, true, false, not, ◌||◌, ◌&&◌, List, Option, None, Some, is_some, if◌then◌else◌}
 use Rattle.std.specs.Borrow.{Bor}
 use Rattle.page_core_base.specs.Pieces.{Item}
 use Rattle.page_core_base.specs.declared.cells.Font.{Font}
-use Rattle.page_core_limits.specs.declared.TheConstants.{LINE}
 use Rattle.page_scopes_layout.specs.declared.contexts.Context.{Context}
 use Rattle.page_scopes_layout.specs.declared.contexts.PagePart.{PagePart}
 use Rattle.page_scopes_layout.specs.declared.contexts.PagePart.TheVariants as parts
@@ -30,11 +29,6 @@ phrase_seen p = record {
   before = p.before;
   after = p.after;
 }
-
--- a text of a line, up to whose end columns have room
-pub record FitsAt (column : ℕ) (text : List ℕ) : Type 0 where
-  pub short : length text ≤ LINE
-  pub room : column + length text < 2 ^ 32
 
 -- ---- before its words
 

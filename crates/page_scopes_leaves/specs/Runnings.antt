@@ -1,5 +1,5 @@
 -- What no scope restores: what is known along a page, and of its line so far. Source: man(7); roff(7), "Sentences", `\c`.
-use Rattle.std.specs.Prelude.{ℕ, false, ◌==◌, ◌||◌, None, if◌then◌else◌}
+use Rattle.std.specs.Prelude.{ℕ, true, false, ◌==◌, ◌||◌, None, if◌then◌else◌}
 use Rattle.page_scopes_leaves.specs.declared.runnings.LineSoFar.{LineSoFar}
 use Rattle.page_scopes_leaves.specs.declared.runnings.Running.{Running}
 
@@ -28,3 +28,11 @@ line_gap line gap = if line.has_words then words_gap line gap else gap
 
 abbrev pub line_ended : Running → Running
 line_ended r = record r { gap = line_gap r.line r.gap; line = no_line }
+
+-- the row ends: no word stands in it yet
+abbrev pub row_ended : Running → Running
+row_ended r = record r { line = record r.line { has_row_words = false; is_after_word = false } }
+
+-- something came since the last heading
+abbrev pub with_content : Running → Running
+with_content r = record r { has_content = true }

@@ -1,10 +1,22 @@
-//! What is known along a page whatever its scopes are, and words of events as pieces and messages (man(7)).
+//! What is known along a page whatever its scopes are, and the words and leaves of events as pieces and messages (man(7)).
 #![tactic(auto)]
 
+mod deeds;
+mod leaves;
+mod line_ends;
 mod line_words;
+mod margins;
 mod phrases;
+mod raw_lines;
+mod requests;
 mod runnings;
+mod tags;
 
+pub use deeds::give_deed;
+pub use leaves::give_leaf;
+pub use line_ends::end_line;
 pub use line_words::{give_line_word, give_own_word};
 pub use phrases::{Phrase, give_phrase};
+pub use raw_lines::give_raw_line;
 pub use runnings::{LineSoFar, Running};
+pub use tags::{TagPlace, give_tag};

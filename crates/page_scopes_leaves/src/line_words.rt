@@ -2,13 +2,14 @@
 
 ghost use Rattle.std.specs.Prelude.{◌≡◌};
 ghost use Rattle.page_core_base.specs.Latches.{Came};
+ghost use Rattle.page_scopes_leaves.specs.Fits.{FitsAt};
 ghost use Rattle.page_scopes_leaves.specs.LineWords as lines;
-ghost use Rattle.page_scopes_leaves.specs.Phrases.{FitsAt, phrase_context, phrase_items, phrase_running, phrase_seen};
+ghost use Rattle.page_scopes_leaves.specs.Phrases.{phrase_seen};
 ghost use Rattle.page_sets_lines.specs.Events.{word_seen};
-ghost use Rattle.page_sets_lines.specs.MacroNames.{own_text};
 
 use crate::{Phrase, Running, give_phrase};
 use page_core_base::{NoteKind, PieceOut, Place};
+use page_core_limits::LINE;
 use page_roff_forms::Quoting;
 use page_scopes_layout::Context;
 use page_scopes_words::{ends_sentence, report};
@@ -53,6 +54,7 @@ fn word_phrase<'a>(word: &Word<&'a [u8]>) -> Phrase<&'a [u8]>
 }
 
 /// Gives a word of a line.
+#[tactic(auto, unfolding(crate::specs::LineWords::line_word))]
 pub fn give_line_word<O: PieceOut>(
     out: &mut O,
     line: u32,
@@ -62,10 +64,9 @@ pub fn give_line_word<O: PieceOut>(
 )
     requires { FitsAt word.now.arg.column word.now.arg.text.now }
     ensures came { Came O.left out.old
-        (lines.line_word_items line (word_seen word.now) context.old running.old) out.new }
-    ensures context { context.new
-        ≡ phrase_context (lines.word_phrase (word_seen word.now)) context.old running.old }
-    ensures running { running.new ≡ lines.line_word_running (word_seen word.now) context.old running.old }
+        (lines.line_word line (word_seen word.now) context.old running.old).items out.new }
+    ensures context { context.new ≡ (lines.line_word line (word_seen word.now) context.old running.old).context }
+    ensures running { running.new ≡ (lines.line_word line (word_seen word.now) context.old running.old).running }
 {
     report_quote(out, line, word.arg.quoting, word.arg.column);
     give_phrase(out, line, &word_phrase(word), context, running);
@@ -73,12 +74,13 @@ pub fn give_line_word<O: PieceOut>(
 }
 
 // A word of a macro's own as a phrase.
-fn own_phrase(column: u32, word: OwnWord) -> Phrase<&'static [u8]>
-    ensures { phrase_seen result ≡ lines.own_phrase column word }
+fn own_phrase(place: Place, word: OwnWord) -> Phrase<&'static [u8]>
+    ensures seen { phrase_seen result ≡ lines.own_phrase place word }
+    ensures fits { FitsAt result.column result.text.now }
 {
     Phrase {
         text: word.own.text().as_bytes(),
-        column,
+        column: place.column.min(LINE as u32),
         is_quoted: false,
         is_line: false,
         font: word.font,
@@ -88,6 +90,7 @@ fn own_phrase(column: u32, word: OwnWord) -> Phrase<&'static [u8]>
 }
 
 /// Gives a word of a macro's own, at the macro's place.
+#[tactic(auto, unfolding(crate::specs::LineWords::own_word))]
 pub fn give_own_word<O: PieceOut>(
     out: &mut O,
     place: Place,
@@ -95,17 +98,9 @@ pub fn give_own_word<O: PieceOut>(
     context: &mut Context,
     running: &mut Running,
 )
-    requires { FitsAt place.column (own_text word.own) }
-    ensures came { Came O.left out.old
-        (phrase_items place.line (lines.own_phrase place.column word) context.old running.old) out.new }
-    ensures context { context.new ≡ phrase_context (lines.own_phrase place.column word) context.old running.old }
-    ensures running { running.new ≡ phrase_running (lines.own_phrase place.column word) context.old running.old }
+    ensures came { Came O.left out.old (lines.own_word place word context.old running.old).items out.new }
+    ensures context { context.new ≡ (lines.own_word place word context.old running.old).context }
+    ensures running { running.new ≡ (lines.own_word place word context.old running.old).running }
 {
-    give_phrase(
-        out,
-        place.line,
-        &own_phrase(place.column, word),
-        context,
-        running,
-    );
+    give_phrase(out, place.line, &own_phrase(place, word), context, running);
 }

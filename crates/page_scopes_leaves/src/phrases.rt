@@ -2,8 +2,9 @@
 
 ghost use Rattle.std.specs.Prelude.{◌≡◌};
 ghost use Rattle.page_core_base.specs.Latches.{Came};
+ghost use Rattle.page_scopes_leaves.specs.Fits.{FitsAt};
 ghost use Rattle.page_scopes_leaves.specs.Phrases as phrases;
-ghost use Rattle.page_scopes_leaves.specs.Phrases.{FitsAt, phrase_seen};
+ghost use Rattle.page_scopes_leaves.specs.Phrases.{phrase_seen};
 
 use crate::Running;
 use page_core_base::{Font, PieceOut};

@@ -78,6 +78,14 @@ impl Running {
         }
     }
 
+    /// The row ends: no word stands in it yet.
+    pub fn end_row(&mut self)
+        ensures { self.new ≡ runnings.row_ended self.old }
+    {
+        self.line.has_row_words = false;
+        self.line.is_after_word = false;
+    }
+
     /// The line ends.
     pub fn end_line(&mut self)
         ensures { self.new ≡ runnings.line_ended self.old }

@@ -1,0 +1,101 @@
+-- What opens and closes nothing: what each leaf gives, and what it leaves. Source: man(7); roff(7).
+use Rattle.std.specs.Prelude.{ℕ, nat_lt, Bool, true, false, ◌||◌, List, [], ◌∷◌, length, Option, None, Some, unwrap_or}
+use Rattle.page_core_base.specs.Pieces.{Item, shown}
+use Rattle.page_core_base.specs.declared.cells.Font.{Font}
+use Rattle.page_core_base.specs.declared.note_kinds.NoteKind.TheVariants.{BlankFill}
+use Rattle.page_core_base.specs.declared.pieces.Piece.TheVariants as pieces
+use Rattle.page_core_base.specs.declared.places.Place.{Place}
+use Rattle.page_scopes_layout.specs.Begins.{font_begun}
+use Rattle.page_scopes_layout.specs.Settings.{set_to}
+use Rattle.page_scopes_layout.specs.declared.contexts.Context.{Context}
+use Rattle.page_scopes_leaves.specs.LineWords.{own_word}
+use Rattle.page_scopes_leaves.specs.Outcomes.{Outcome, nothing, row_margin_items}
+use Rattle.page_scopes_leaves.specs.Requests.{given_rows, given_rows_notes, literal, request}
+use Rattle.page_scopes_leaves.specs.Runnings.{row_ended, with_content}
+use Rattle.page_scopes_leaves.specs.declared.runnings.Running.{Running}
+use Rattle.page_scopes_words.specs.Words.{says, white_cells}
+use Rattle.page_sets_lines.specs.declared.leaves.Leaf.{Leaf}
+use Rattle.page_sets_lines.specs.declared.leaves.Leaf.TheVariants as leaves
+
+-- ---- lines without words
+
+-- a blank line is a row, where rows are kept; else a blank row, which is reported
+abbrev pub blank_items : Bool → Place → List Item
+blank_items true place = shown pieces.RowEnd ∷ []
+blank_items false place = says BlankFill place [] ∷ shown (pieces.Space 1) ∷ []
+
+abbrev pub blank_line : Place → Context → Running → Outcome
+blank_line place c r = record {
+  items = blank_items c.is_literal.value place;
+  context = c;
+  running = row_ended (with_content r);
+}
+
+-- blanks and tabs are a row, where rows are kept
+abbrev pub with_row_words : Running → Running
+with_row_words r = record r { line = record r.line { has_row_words = true } }
+
+abbrev pub kept_line : Place → List ℕ → Context → Running → Outcome
+kept_line place text c r = record {
+  items = white_cells place text;
+  context = record c { has_row = c.has_row || nat_lt 0 (length text) };
+  running = with_row_words r;
+}
+
+-- else they end the row; a line of nothing does nothing
+abbrev pub filled_line : List ℕ → Context → Running → Outcome
+filled_line [] c r = nothing c r
+filled_line (byte ∷ bytes) c r = record { items = shown pieces.Break ∷ []; context = c; running = row_ended r }
+
+abbrev pub wordless_line : Bool → Place → List ℕ → Context → Running → Outcome
+wordless_line true place text c r = kept_line place text c r
+wordless_line false place text c r = filled_line text c r
+
+-- ---- macros
+
+-- the blank rows before a paragraph
+abbrev pub distance_notes : Place → Option (List ℕ) → List Item
+distance_notes place rows = given_rows_notes place rows
+
+abbrev pub with_distance : Option (List ℕ) → Context → Context
+with_distance rows c = record c { distance = set_to (given_rows rows) }
+
+abbrev pub distance : Place → Option (List ℕ) → Context → Running → Outcome
+distance place rows c r = record { items = distance_notes place rows; context = with_distance rows c; running = r }
+
+-- the words of a font macro are in its font; after them the fonts are those before them
+abbrev pub fonts : Option Font → Context → Running → Outcome
+fonts (Some font) c r = record {
+  items = [];
+  context = font_begun font c;
+  running = record r { line = record r.line { fonts_before = Some c.fonts } };
+}
+fonts None c r = record {
+  items = [];
+  context = record c { fonts = unwrap_or r.line.fonts_before c.fonts };
+  running = record r { line = record r.line { fonts_before = None } };
+}
+
+-- a further tag stands in front of text that hangs by the prevailing indent
+abbrev pub hung : Context → Context
+hung c = record c { hang = c.prevailing; first = None }
+
+abbrev pub further_tag : Context → Running → Outcome
+further_tag c r = record {
+  items = row_margin_items (hung c);
+  context = hung c;
+  running = row_ended r;
+}
+
+-- ---- one row for each leaf
+
+unfoldable pub leaf_outcome : Place → Leaf (List ℕ) → Context → Running → Outcome
+leaf_outcome place leaves.BlankLine c r = blank_line place c r
+leaf_outcome place (leaves.Wordless text) c r = wordless_line c.is_literal.value place text c r
+leaf_outcome place (leaves.Request row_request) c r = request place row_request c r
+leaf_outcome place (leaves.Prologue name rest) c r = nothing c r
+leaf_outcome place (leaves.Own word) c r = own_word place word c r
+leaf_outcome place (leaves.Example begins) c r = literal begins c r
+leaf_outcome place (leaves.Distance rows) c r = distance place rows c r
+leaf_outcome place (leaves.Fonts font) c r = fonts font c r
+leaf_outcome place leaves.FurtherTag c r = further_tag c r

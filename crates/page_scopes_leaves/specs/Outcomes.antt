@@ -1,0 +1,21 @@
+-- What an event gives, and what it leaves. Source: man(7).
+use Rattle.std.specs.Prelude.{List, [], ◌∷◌}
+use Rattle.page_core_base.specs.Pieces.{Item, shown}
+use Rattle.page_core_base.specs.declared.pieces.Piece.TheVariants.{Break}
+use Rattle.page_scopes_layout.specs.Nodes.{margin_items}
+use Rattle.page_scopes_layout.specs.declared.contexts.Context.{Context}
+use Rattle.page_scopes_leaves.specs.declared.runnings.Running.{Running}
+
+-- pieces and messages; the context of what follows; and what is then known along the page
+pub record Outcome : Type 0 where
+  pub items : List Item
+  pub context : Context
+  pub running : Running
+
+-- nothing comes of it
+abbrev pub nothing : Context → Running → Outcome
+nothing c r = record { items = []; context = c; running = r }
+
+-- the row ends, and other margins hold
+abbrev pub row_margin_items : Context → List Item
+row_margin_items c = shown Break ∷ margin_items c

@@ -1,0 +1,102 @@
+-- Requests that change rows: what they give, and what they leave. Source: roff(7), "REQUEST REFERENCE".
+use Rattle.std.specs.Prelude.{ℕ, Bool, false, ◌==◌, ◌||◌, List, [], ◌∷◌, ◌++◌, Option, None, Some, if◌then◌else◌, ℤ, pos, ◌+ℤ◌}
+use Rattle.page_core_base.specs.Pieces.{Item, shown}
+use Rattle.page_core_base.specs.declared.pieces.Piece.TheVariants as pieces
+use Rattle.page_core_base.specs.declared.places.Place.{Place}
+use Rattle.page_core_escapes.specs.Meanings as meanings
+use Rattle.page_core_escapes.specs.Meanings.{Face, face_of}
+use Rattle.page_core_numbers.specs.Numbers.{in_range}
+use Rattle.page_scopes_layout.specs.Settings.{set_to}
+use Rattle.page_scopes_layout.specs.declared.contexts.Context.{Context}
+use Rattle.page_scopes_layout.specs.declared.settings.Setting.{Setting}
+use Rattle.page_scopes_leaves.specs.Outcomes.{Outcome, row_margin_items}
+use Rattle.page_scopes_leaves.specs.Runnings.{row_ended, with_content}
+use Rattle.page_scopes_leaves.specs.declared.runnings.Running.{Running}
+use Rattle.page_scopes_text.specs.Numbers.{columns_notes, columns_value, rows_notes, rows_value}
+use Rattle.page_scopes_text.specs.Words.{is_known}
+use Rattle.page_scopes_words.specs.Fonts.{face_fonts}
+use Rattle.page_scopes_words.specs.Words.{face_notes}
+use Rattle.page_scopes_words.specs.declared.fonts.Fonts.{Fonts}
+use Rattle.page_sets_lines.specs.declared.leaves.Request.{Request}
+use Rattle.page_sets_lines.specs.declared.leaves.Request.TheVariants as requests
+
+-- ---- rows: one where no number is given
+
+abbrev pub given_rows : Option (List ℕ) → ℕ
+given_rows None = 1
+given_rows (Some text) = rows_value text
+
+abbrev pub given_rows_notes : Place → Option (List ℕ) → List Item
+given_rows_notes place None = []
+given_rows_notes place (Some text) = rows_notes place text
+
+abbrev pub space_items : Place → Option (List ℕ) → List Item
+space_items place rows = given_rows_notes place rows ++ shown (pieces.Space (given_rows rows)) ∷ []
+
+-- ---- the shift of margins: a number with a sign changes it, one without sets it; none sets it to 0
+
+abbrev pub has_sign : List ℕ → Bool
+has_sign [] = false
+has_sign (byte ∷ bytes) = byte == 43 || byte == 45
+
+abbrev pub shift_by : List ℕ → ℤ → ℤ
+shift_by text shift = if has_sign text then in_range (shift +ℤ columns_value text) else columns_value text
+
+abbrev pub given_shift : Option (List ℕ) → ℤ → ℤ
+given_shift None shift = pos 0
+given_shift (Some text) shift = shift_by text shift
+
+abbrev pub given_shift_notes : Place → Option (List ℕ) → List Item
+given_shift_notes place None = []
+given_shift_notes place (Some text) = columns_notes place text
+
+abbrev pub shifted : Option (List ℕ) → Context → Context
+shifted columns c = record c { shift = set_to (given_shift columns c.shift.value) }
+
+abbrev pub shift_items : Place → Option (List ℕ) → Context → List Item
+shift_items place columns c = given_shift_notes place columns ++ row_margin_items (shifted columns c)
+
+-- ---- fonts: without a name the former one; a name that no font has changes nothing
+
+abbrev pub fonts_named : Face → Setting Fonts → Setting Fonts
+fonts_named face fonts = record { value = face_fonts face fonts.value; is_set = fonts.is_set || is_known face }
+
+abbrev pub given_face : Option (List ℕ) → Face
+given_face None = meanings.former
+given_face (Some name) = face_of name
+
+abbrev pub font_notes : Place → Option (List ℕ) → List Item
+font_notes place name = face_notes place (given_face name)
+
+abbrev pub with_font_named : Option (List ℕ) → Context → Context
+with_font_named name c = record c { fonts = fonts_named (given_face name) c.fonts }
+
+-- ---- rows that are kept, or filled
+
+abbrev pub literal : Bool → Context → Running → Outcome
+literal on c r = record {
+  items = shown pieces.Break ∷ shown (pieces.Literal on) ∷ [];
+  context = record c { is_literal = set_to on };
+  running = row_ended r;
+}
+
+-- ---- br, sp, ft, in, nf and fi
+
+abbrev pub request : Place → Request (List ℕ) → Context → Running → Outcome
+request place requests.Break c r = record { items = shown pieces.Break ∷ []; context = c; running = row_ended r }
+request place (requests.Space rows) c r = record {
+  items = space_items place rows;
+  context = c;
+  running = row_ended (with_content r);
+}
+request place (requests.Font name) c r = record {
+  items = font_notes place name;
+  context = with_font_named name c;
+  running = r;
+}
+request place (requests.Shift columns) c r = record {
+  items = shift_items place columns c;
+  context = shifted columns c;
+  running = row_ended r;
+}
+request place (requests.Literal on) c r = literal on c r

@@ -1,0 +1,37 @@
+-- Tags: words in front of a text that hangs. Source: man(7), `IP`, `SY`.
+use Rattle.std.specs.Prelude.{ℕ, false, List, [], ◌∷◌, ◌++◌, None, Some}
+use Rattle.page_core_base.specs.Pieces.{shown}
+use Rattle.page_core_base.specs.declared.pieces.Piece.TheVariants as pieces
+use Rattle.page_core_base.specs.declared.pieces.TagForm.TheVariants.{Row}
+use Rattle.page_scopes_layout.specs.Nodes.{margin_items}
+use Rattle.page_scopes_layout.specs.declared.contexts.Context.{Context}
+use Rattle.page_scopes_layout.specs.declared.contexts.PagePart.TheVariants as parts
+use Rattle.page_scopes_leaves.specs.LineWords.{line_word}
+use Rattle.page_scopes_leaves.specs.Outcomes.{Outcome}
+use Rattle.page_scopes_leaves.specs.declared.runnings.Running.{Running}
+use Rattle.page_scopes_leaves.specs.declared.tags.TagPlace.{TagPlace}
+use Rattle.page_sets_lines.specs.declared.events.Word.{Word}
+
+-- its row begins at its margin
+abbrev pub tag_context : TagPlace → Context → Context
+tag_context tag c = record c { first = Some tag.margin; has_row = false; part = parts.Tag }
+
+-- after it rows begin where they did
+abbrev pub after_tag : Context → Context → Context
+after_tag before c = record c { first = None; part = before.part }
+
+-- what pads it stands in place of a blank
+abbrev pub padded : Running → Running
+padded r = record r { gap = 0 }
+
+abbrev pub tag_after : TagPlace → Context → Outcome → Outcome
+tag_after tag before words = record {
+  items = margin_items (tag_context tag before) ++ (shown (pieces.Tag tag.hang Row)
+      ∷ (words.items ++ shown pieces.TagEnd ∷ margin_items (after_tag before words.context)));
+  context = after_tag before words.context;
+  running = padded words.running;
+}
+
+-- a tag of the words of an argument
+unfoldable pub tag : TagPlace → ℕ → Word (List ℕ) → Context → Running → Outcome
+tag place line word c r = tag_after place c (line_word line word (tag_context place c) r)

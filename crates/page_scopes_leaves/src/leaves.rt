@@ -1,0 +1,122 @@
+//! What opens and closes nothing (man(7); roff(7)).
+
+ghost use Rattle.std.specs.Prelude.{◌≡◌};
+ghost use Rattle.page_core_base.specs.Latches.{Came};
+ghost use Rattle.page_scopes_leaves.specs.Leaves as leaves;
+ghost use Rattle.page_sets_lines.specs.Events.{leaf_seen, text_seen};
+
+use crate::margins::give_row_margins;
+use crate::requests::{give_given_rows, give_literal, give_request};
+use crate::{Running, give_own_word};
+use page_core_base::{Font, NoteKind, Piece, PieceOut, Place};
+use page_scopes_layout::{Context, Setting};
+use page_scopes_words::{give_white_cells, report};
+use page_sets_lines::Leaf;
+
+// Gives a blank line.
+fn give_blank_line<O: PieceOut>(out: &mut O, place: Place, context: &Context, running: &mut Running)
+    ensures came { Came O.left out.old (leaves.blank_line place context.now running.old).items out.new }
+    ensures running { running.new ≡ (leaves.blank_line place context.now running.old).running }
+{
+    if context.is_literal.value {
+        out.give(Piece::RowEnd);
+    } else {
+        report(out, NoteKind::BlankFill, place, b"");
+        out.give(Piece::Space(1));
+    }
+    running.has_content = true;
+    running.end_row();
+}
+
+// Gives a line of blanks and tabs, or of nothing.
+fn give_wordless_line<O: PieceOut>(
+    out: &mut O,
+    place: Place,
+    text: &[u8],
+    context: &mut Context,
+    running: &mut Running,
+)
+    ensures came { let literal = context.old.is_literal.value
+        in Came O.left out.old
+        (leaves.wordless_line literal place text.now context.old running.old).items out.new }
+    ensures context { let literal = context.old.is_literal.value
+        in context.new ≡ (leaves.wordless_line literal place text.now context.old running.old).context }
+    ensures running { let literal = context.old.is_literal.value
+        in running.new ≡ (leaves.wordless_line literal place text.now context.old running.old).running }
+{
+    if context.is_literal.value {
+        give_white_cells(out, place, text);
+        context.has_row = context.has_row || !text.is_empty();
+        running.line.has_row_words = true;
+    } else if !text.is_empty() {
+        out.give(Piece::Break);
+        running.end_row();
+    }
+}
+
+// Sets the distance of paragraphs.
+fn give_distance<O: PieceOut>(out: &mut O, place: Place, rows: Option<&[u8]>, context: &mut Context)
+    ensures came { Came O.left out.old (leaves.distance_notes place (text_seen rows.entry)) out.new }
+    ensures context { context.new ≡ leaves.with_distance (text_seen rows.entry) context.old }
+{
+    let rows = give_given_rows(out, place, rows);
+    context.distance = Setting::set_to(rows);
+}
+
+// The words of a font macro begin, or end.
+fn set_fonts(font: Option<Font>, context: &mut Context, running: &mut Running)
+    ensures context { context.new ≡ (leaves.fonts font context.old running.old).context }
+    ensures running { running.new ≡ (leaves.fonts font context.old running.old).running }
+{
+    match font {
+        Some(font) => {
+            running.line.fonts_before = Some(context.fonts);
+            *context = context.font_begun(font);
+        }
+        None => {
+            context.fonts = running.line.fonts_before.unwrap_or(context.fonts);
+            running.line.fonts_before = None;
+        }
+    }
+}
+
+// A further tag comes.
+fn give_further_tag<O: PieceOut>(out: &mut O, context: &mut Context, running: &mut Running)
+    ensures came { Came O.left out.old (leaves.further_tag context.old running.old).items out.new }
+    ensures context { context.new ≡ (leaves.further_tag context.old running.old).context }
+    ensures running { running.new ≡ (leaves.further_tag context.old running.old).running }
+{
+    context.hang = context.prevailing;
+    context.first = None;
+    give_row_margins(out, context);
+    running.end_row();
+}
+
+/// Gives what a leaf gives, in the context of a page's body.
+#[tactic(auto, unfolding(crate::specs::Leaves::leaf_outcome))]
+pub fn give_leaf<O: PieceOut>(
+    out: &mut O,
+    place: Place,
+    leaf: &Leaf<&[u8]>,
+    context: &mut Context,
+    running: &mut Running,
+)
+    ensures came { Came O.left out.old
+        (leaves.leaf_outcome place (leaf_seen leaf.now) context.old running.old).items out.new }
+    ensures context { context.new
+        ≡ (leaves.leaf_outcome place (leaf_seen leaf.now) context.old running.old).context }
+    ensures running { running.new
+        ≡ (leaves.leaf_outcome place (leaf_seen leaf.now) context.old running.old).running }
+{
+    match *leaf {
+        Leaf::BlankLine => give_blank_line(out, place, context, running),
+        Leaf::Wordless(text) => give_wordless_line(out, place, text, context, running),
+        Leaf::Request(request) => give_request(out, place, &request, context, running),
+        Leaf::Prologue(..) => {}
+        Leaf::Own(word) => give_own_word(out, place, word, context, running),
+        Leaf::Example(begins) => give_literal(out, begins, context, running),
+        Leaf::Distance(rows) => give_distance(out, place, rows, context),
+        Leaf::Fonts(font) => set_fonts(font, context, running),
+        Leaf::FurtherTag => give_further_tag(out, context, running),
+    }
+}

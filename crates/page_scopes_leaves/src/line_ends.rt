@@ -1,0 +1,27 @@
+//! The end of a line (roff(7), `nf`, `\c`).
+
+ghost use Rattle.std.specs.Prelude.{◌≡◌};
+ghost use Rattle.page_core_base.specs.Latches.{Came};
+ghost use Rattle.page_scopes_leaves.specs.LineEnds as ends;
+
+use crate::Running;
+use page_core_base::{Piece, PieceOut};
+use page_scopes_layout::Context;
+
+// Whether a line is a row that ends with it.
+fn ends_row(context: &Context, running: &Running) -> bool
+    ensures { result ≡ ends.ends_row context.now running.now }
+{
+    context.is_literal.value && (!running.line.is_cut && running.line.has_row_words)
+}
+
+/// Ends a line: its row ends with it, where rows are kept.
+pub fn end_line<O: PieceOut>(out: &mut O, context: &Context, running: &mut Running)
+    ensures came { Came O.left out.old (ends.line_end context.now running.old).items out.new }
+    ensures running { running.new ≡ (ends.line_end context.now running.old).running }
+{
+    if ends_row(context, running) {
+        out.give(Piece::RowEnd);
+    }
+    running.end_line();
+}

@@ -1,0 +1,56 @@
+//! Lines of tables, equations and pictures: rows of their characters as they are (roff(7), `TS`, `EQ` and `PS`).
+
+ghost use Rattle.std.specs.Prelude.{◌≡◌, []};
+ghost use Rattle.page_core_base.specs.Latches.{Came};
+ghost use Rattle.page_scopes_leaves.specs.RawLines as raw;
+
+use crate::Running;
+use page_core_base::{Font, Piece, PieceOut, Place};
+use page_scopes_layout::Context;
+
+// Gives characters up to a tab.
+fn give_part<O: PieceOut>(out: &mut O, place: Place, font: Font, text: &[u8])
+    ensures { Came O.left out.old (raw.part_items place font text.now) out.new }
+{
+    if !text.is_empty() {
+        out.give(Piece::Text { text, font, place });
+    }
+}
+
+// Gives characters as they are.
+fn give_cells<O: PieceOut>(out: &mut O, place: Place, font: Font, text: &[u8])
+    ensures { Came O.left out.old (raw.cells place font text.now) out.new }
+{
+    let mut start = 0;
+    for (index, byte) in text.iter().enumerate() {
+        if *byte == b'\t' {
+            give_part(out, place, font, &text[start..index]);
+            out.give(Piece::Tab { font, place });
+            start = index + 1;
+        }
+    }
+    give_part(out, place, font, &text[start..]);
+}
+
+/// Gives a line as it is, as a row of its own.
+#[tactic(auto, unfolding(crate::specs::RawLines::raw_line))]
+pub fn give_raw_line<O: PieceOut>(
+    out: &mut O,
+    place: Place,
+    text: &[u8],
+    context: &mut Context,
+    running: &mut Running,
+)
+    ensures came { Came O.left out.old (raw.raw_line place text.now context.old running.old).items out.new }
+    ensures context { context.new ≡ (raw.raw_line place text.now context.old running.old).context }
+    ensures running { running.new ≡ (raw.raw_line place text.now context.old running.old).running }
+{
+    out.give(Piece::Break);
+    out.give(Piece::Literal(true));
+    give_cells(out, place, context.fonts.value.font, text);
+    out.give(Piece::RowEnd);
+    out.give(Piece::Literal(context.is_literal.value));
+    context.has_row = context.has_row || !text.is_empty();
+    running.has_content = true;
+    running.end_row();
+}

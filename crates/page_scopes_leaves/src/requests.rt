@@ -1,0 +1,181 @@
+//! Requests that change rows (roff(7), "REQUEST REFERENCE").
+
+ghost use Rattle.std.specs.Prelude.{◌≡◌};
+ghost use Rattle.page_core_base.specs.Latches.{Came};
+ghost use Rattle.page_core_escapes.specs.Escapes.{face_seen};
+ghost use Rattle.page_scopes_leaves.specs.Requests as requests;
+ghost use Rattle.page_scopes_leaves.specs.Runnings.{row_ended, with_content};
+ghost use Rattle.page_scopes_text.specs.Numbers.{columns_notes};
+ghost use Rattle.page_scopes_text.specs.Words.{is_known};
+ghost use Rattle.page_sets_lines.specs.Events.{request_seen, text_seen};
+
+use crate::Running;
+use crate::margins::give_row_margins;
+use page_core_base::{Piece, PieceOut, Place};
+use page_core_escapes::{FontName, read_font};
+use page_scopes_layout::{Context, Setting};
+use page_scopes_text::{give_columns, give_rows};
+use page_scopes_words::{Fonts, report_font};
+use page_sets_lines::Request;
+
+/// The rows that are given, one where they are not, with the messages of their number.
+pub(crate) fn give_given_rows<O: PieceOut>(out: &mut O, place: Place, rows: Option<&[u8]>) -> u32
+    ensures value { result ≡ requests.given_rows (text_seen rows.entry) }
+    ensures came { Came O.left out.old (requests.given_rows_notes place (text_seen rows.entry)) out.new }
+{
+    match rows {
+        None => 1,
+        Some(text) => give_rows(out, place, text),
+    }
+}
+
+// Gives blank rows.
+fn give_space<O: PieceOut>(out: &mut O, place: Place, rows: Option<&[u8]>, running: &mut Running)
+    ensures came { Came O.left out.old (requests.space_items place (text_seen rows.entry)) out.new }
+    ensures running { running.new ≡ row_ended (with_content running.old) }
+{
+    let rows = give_given_rows(out, place, rows);
+    out.give(Piece::Space(rows));
+    running.has_content = true;
+    running.end_row();
+}
+
+// Whether a number begins with a sign.
+fn has_sign(text: &[u8]) -> bool
+    ensures { result ≡ requests.has_sign text.now }
+{
+    match text.first() {
+        Some(first) => *first == b'+' || *first == b'-',
+        None => false,
+    }
+}
+
+// The shift after `in` with a number of columns.
+fn shift_by<O: PieceOut>(out: &mut O, place: Place, text: &[u8], shift: i32) -> i32
+    ensures value { result ≡ requests.shift_by text.now shift }
+    ensures came { Came O.left out.old (columns_notes place text.now) out.new }
+{
+    let columns = give_columns(out, place, text);
+    if has_sign(text) {
+        shift.saturating_add(columns)
+    } else {
+        columns
+    }
+}
+
+// The shift after `in`, with the messages of its number.
+fn give_given_shift<O: PieceOut>(
+    out: &mut O,
+    place: Place,
+    columns: Option<&[u8]>,
+    shift: i32,
+) -> i32
+    ensures value { result ≡ requests.given_shift (text_seen columns.entry) shift }
+    ensures came { Came O.left out.old (requests.given_shift_notes place (text_seen columns.entry)) out.new }
+{
+    match columns {
+        None => 0,
+        Some(text) => shift_by(out, place, text, shift),
+    }
+}
+
+// Sets the shift of margins, with the messages of its number.
+fn set_shift<O: PieceOut>(out: &mut O, place: Place, columns: Option<&[u8]>, context: &mut Context)
+    ensures came { Came O.left out.old (requests.given_shift_notes place (text_seen columns.entry)) out.new }
+    ensures context { context.new ≡ requests.shifted (text_seen columns.entry) context.old }
+{
+    let shift = give_given_shift(out, place, columns, context.shift.value);
+    context.shift = Setting::set_to(shift);
+}
+
+// Shifts the margins.
+fn give_shift<O: PieceOut>(
+    out: &mut O,
+    place: Place,
+    columns: Option<&[u8]>,
+    context: &mut Context,
+    running: &mut Running,
+)
+    ensures came { Came O.left out.old
+        (requests.shift_items place (text_seen columns.entry) context.old) out.new }
+    ensures context { context.new ≡ requests.shifted (text_seen columns.entry) context.old }
+    ensures running { running.new ≡ row_ended running.old }
+{
+    set_shift(out, place, columns, context);
+    give_row_margins(out, context);
+    running.end_row();
+}
+
+// Whether there is a font of a name.
+fn is_known(name: FontName<'_>) -> bool
+    ensures { result ≡ is_known (face_seen name.entry) }
+{
+    !matches!(name, FontName::Unknown(_))
+}
+
+// The fonts after one is asked for by its name.
+fn fonts_named(name: FontName<'_>, fonts: Setting<Fonts>) -> Setting<Fonts>
+    ensures { result ≡ requests.fonts_named (face_seen name.entry) fonts }
+{
+    Setting {
+        value: fonts.value.named(name),
+        is_set: fonts.is_set || is_known(name),
+    }
+}
+
+// Asks for a font by its name, or for the former one.
+fn give_font<O: PieceOut>(out: &mut O, place: Place, name: Option<&[u8]>, context: &mut Context)
+    ensures came { Came O.left out.old (requests.font_notes place (text_seen name.entry)) out.new }
+    ensures context { context.new ≡ requests.with_font_named (text_seen name.entry) context.old }
+{
+    let font = match name {
+        None => FontName::Former,
+        Some(name) => read_font(name),
+    };
+    report_font(out, place, font);
+    context.fonts = fonts_named(font, context.fonts);
+}
+
+/// Keeps rows as they are from here on, or fills them.
+pub(crate) fn give_literal<O: PieceOut>(
+    out: &mut O,
+    on: bool,
+    context: &mut Context,
+    running: &mut Running,
+)
+    ensures came { Came O.left out.old (requests.literal on context.old running.old).items out.new }
+    ensures context { context.new ≡ (requests.literal on context.old running.old).context }
+    ensures running { running.new ≡ (requests.literal on context.old running.old).running }
+{
+    context.is_literal = Setting::set_to(on);
+    out.give(Piece::Break);
+    out.give(Piece::Literal(on));
+    running.end_row();
+}
+
+/// Gives what a request gives.
+pub(crate) fn give_request<O: PieceOut>(
+    out: &mut O,
+    place: Place,
+    request: &Request<&[u8]>,
+    context: &mut Context,
+    running: &mut Running,
+)
+    ensures came { Came O.left out.old
+        (requests.request place (request_seen request.now) context.old running.old).items out.new }
+    ensures context { context.new
+        ≡ (requests.request place (request_seen request.now) context.old running.old).context }
+    ensures running { running.new
+        ≡ (requests.request place (request_seen request.now) context.old running.old).running }
+{
+    match *request {
+        Request::Break => {
+            out.give(Piece::Break);
+            running.end_row();
+        }
+        Request::Space(rows) => give_space(out, place, rows, running),
+        Request::Font(name) => give_font(out, place, name, context),
+        Request::Shift(columns) => give_shift(out, place, columns, context, running),
+        Request::Literal(on) => give_literal(out, on, context, running),
+    }
+}

@@ -1,0 +1,74 @@
+//! Tags: words in front of a text that hangs (man(7), `IP`, `SY`).
+
+ghost use Rattle.std.specs.Prelude.{◌≡◌};
+ghost use Rattle.page_core_base.specs.Latches.{Came};
+ghost use Rattle.page_scopes_leaves.specs.Fits.{ArgumentFits};
+ghost use Rattle.page_scopes_leaves.specs.Tags as tags;
+ghost use Rattle.page_sets_lines.specs.Events.{word_seen};
+
+use crate::margins::give_margins;
+use crate::{Running, give_line_word};
+use page_core_base::{Piece, PieceOut, TagForm};
+use page_scopes_layout::{Context, PagePart};
+use page_sets_lines::Word;
+
+/// Where a tag stands, in columns.
+#[derive(Clone, Copy)]
+pub struct TagPlace {
+    /// Its margin.
+    pub margin: u32,
+    /// How much further its text stands.
+    pub hang: u32,
+}
+
+// The context of a tag's words.
+fn tag_context(tag: TagPlace, context: Context) -> Context
+    ensures { result ≡ tags.tag_context tag context }
+{
+    Context {
+        first: Some(tag.margin),
+        has_row: false,
+        part: PagePart::Tag,
+        ..context
+    }
+}
+
+// The context after a tag.
+fn after_tag(before: Context, context: Context) -> Context
+    ensures { result ≡ tags.after_tag before context }
+{
+    Context {
+        first: None,
+        part: before.part,
+        ..context
+    }
+}
+
+/// Gives a tag of the words of an argument.
+#[tactic(auto, unfolding(crate::specs::Tags::tag))]
+pub fn give_tag<O: PieceOut>(
+    out: &mut O,
+    tag: TagPlace,
+    line: u32,
+    word: &Word<&[u8]>,
+    context: &mut Context,
+    running: &mut Running,
+)
+    requires { ArgumentFits (word_seen word.now).arg }
+    ensures came { Came O.left out.old (tags.tag tag line (word_seen word.now) context.old running.old).items out.new }
+    ensures context { context.new ≡ (tags.tag tag line (word_seen word.now) context.old running.old).context }
+    ensures running { running.new ≡ (tags.tag tag line (word_seen word.now) context.old running.old).running }
+{
+    let before = *context;
+    *context = tag_context(tag, before);
+    give_margins(out, context);
+    out.give(Piece::Tag {
+        hang: tag.hang,
+        form: TagForm::Row,
+    });
+    give_line_word(out, line, word, context, running);
+    out.give(Piece::TagEnd);
+    *context = after_tag(before, *context);
+    give_margins(out, context);
+    running.gap = 0;
+}
