@@ -25,9 +25,9 @@ line_begin_items (lines.FontWords name) c = []
 abbrev pub explicit_begin_items : Explicit → Context → List Item
 explicit_begin_items RelativeMargin c = shown pieces.Break ∷ margin_items c
 explicit_begin_items (Target link) c = []
-explicit_begin_items Syntax c = []
+explicit_begin_items Syntax c = shown pieces.Break ∷ []
 
--- in the context of a scope's front: a section is a paragraph, and filled; a relative margin breaks the row
+-- in the context of a scope's front: a section is a paragraph, and filled; a relative margin and a synopsis break the row
 abbrev pub begin_items : Label → Context → List Item
 begin_items labels.Section c = shown (pieces.Para c.distance.value) ∷ shown (pieces.Literal false) ∷ []
 begin_items labels.Subsection c = shown (pieces.Para c.distance.value) ∷ shown (pieces.Literal false) ∷ []

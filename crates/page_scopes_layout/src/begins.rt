@@ -159,4 +159,21 @@ impl Context {
             ..self.flat()
         }
     }
+
+    /// The margin, in columns, of the text of the open paragraph, without the shift of `in`.
+    pub fn text_margin(&self) -> u32
+        ensures { result ≡ begins.text_margin self.now }
+    {
+        hold(i64::from(self.margin) + i64::from(self.hang))
+    }
+
+    /// A synopsis begins whose command's name stands at a margin, with a hang, in columns.
+    pub fn syntax_begun(self, at: u32, hang: u32) -> Context
+        ensures { result ≡ begins.syntax_begun at hang self }
+    {
+        Context {
+            margin: hold(i64::from(at) + i64::from(hang)),
+            ..self.flat()
+        }
+    }
 }

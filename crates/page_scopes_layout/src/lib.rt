@@ -9,7 +9,7 @@ mod settings;
 
 pub use contexts::{Context, PagePart, restored};
 pub use margins::{Margins, hold, margins_of};
-pub use nodes::{give_begin, give_end};
+pub use nodes::{give_begin, give_end, give_margins};
 pub use settings::Setting;
 
 /// The columns at most of a margin.

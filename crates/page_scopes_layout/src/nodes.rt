@@ -9,8 +9,8 @@ use page_core_base::{Piece, PieceOut, TagForm};
 use page_scopes_tree::{Explicit, Label};
 use page_sets_lines::LineOpener;
 
-// Gives the margins of a context.
-fn give_margins<O: PieceOut>(out: &mut O, context: &Context)
+/// Gives the margins of a context.
+pub fn give_margins<O: PieceOut>(out: &mut O, context: &Context)
     ensures { Came O.left out.old (nodes.margin_items context.now) out.new }
 {
     let margins = margins_of(context);
@@ -54,7 +54,8 @@ pub fn give_begin<O: PieceOut>(out: &mut O, label: Label, context: &Context)
             out.give(Piece::Break);
             give_margins(out, context);
         }
-        Label::Explicit(_) => {}
+        Label::Explicit(Explicit::Syntax) => out.give(Piece::Break),
+        Label::Explicit(Explicit::Target(_)) => {}
         Label::Line(opener) => give_line_begin(out, opener, context),
     }
 }

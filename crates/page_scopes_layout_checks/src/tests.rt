@@ -134,7 +134,7 @@ const GIVEN: [(Label, &str); 9] = [
     (Label::Paragraph, "PI07 I07"),
     (RELATIVE_MARGIN, "BI07 BI07"),
     (Label::Explicit(Explicit::Target(Link::UR)), " I07"),
-    (Label::Explicit(Explicit::Syntax), " BI07"),
+    (Label::Explicit(Explicit::Syntax), "B BI07"),
     (
         Label::Line(LineOpener::Heading(HeadingName::SH)),
         "I07 HI07",

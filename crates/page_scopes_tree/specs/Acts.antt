@@ -17,6 +17,11 @@ abbrev pub act_place : Act (List ℕ) → Place
 act_place (acts.Event event) = event.place
 act_place (acts.PageEnd line) = record { line = line; column = 1 }
 
+-- whether an act is taken where events are taken of which something holds
+abbrev pub TakesAct : (Event (List ℕ) → Type 0) → Act (List ℕ) → Type 0
+TakesAct takes (acts.Event event) = takes event
+TakesAct takes (acts.PageEnd line) = Unit {0}
+
 -- An event comes first: it may begin the body, and its closer's number is read. Then it does what it does.
 pub data Step : Type 0 where
   comes : Event (List ℕ) → Step

@@ -1,10 +1,11 @@
 //! A layout: what scopes and leaves give, over a state (man(7)).
 
-ghost use Rattle.std.specs.Prelude.{◌≡◌};
+ghost use Rattle.std.specs.Prelude.{◌≡◌, List, ℕ};
 ghost use Rattle.page_core_base.specs.Latches.{Came};
-ghost use Rattle.page_scopes_tree.specs.Acts.{act_seen};
+ghost use Rattle.page_scopes_tree.specs.Acts.{TakesAct, act_seen};
 ghost use Rattle.page_scopes_tree.specs.Frames.{Tables};
 ghost use Rattle.page_sets_lines.specs.Events.{event_seen};
+ghost use Rattle.page_sets_lines.specs.declared.events.Event.{Event};
 
 use crate::{Act, Label};
 use page_core_base::{PieceOut, Place};
@@ -18,12 +19,16 @@ pub trait Laying: Drop {
     // The tables of the layout.
     ghost tables: { Tables Self Self.Kept };
 
+    // the events that the layout takes
+    ghost Takes: { Event (List ℕ) → Type 0 };
+
     /// What a scope that an event opens keeps of the state.
     fn keep(&self, label: Label, event: &Event<&[u8]>) -> Self::Kept
         ensures { result ≡ tables.keep label (event_seen event.now) self.now };
 
     /// A scope begins.
     fn begin<O: PieceOut>(&mut self, label: Label, event: &Event<&[u8]>, out: &mut O)
+        requires { Takes (event_seen event.now) }
         ensures came { Came O.left out.old
             (tables.begin_items label (event_seen event.now) self.old) out.new }
         ensures state { self.new ≡ tables.begin_state label (event_seen event.now) self.old };
@@ -35,6 +40,7 @@ pub trait Laying: Drop {
 
     /// An act stands that opens and closes nothing itself.
     fn leaf<O: PieceOut>(&mut self, act: &Act<&[u8]>, out: &mut O)
+        requires { TakesAct Takes (act_seen act.now) }
         ensures came { Came O.left out.old (tables.leaf_items (act_seen act.now) self.old) out.new }
         ensures state { self.new ≡ tables.leaf_state (act_seen act.now) self.old };
 

@@ -70,6 +70,7 @@ impl<Y: Laying> ScopeStack<Y> {
 
     /// Takes an event, and gives what it settles.
     pub fn apply<O: PieceOut>(&mut self, event: Event<&[u8]>, out: &mut O)
+        requires { Y.Takes (event_seen event) }
         ensures came { Came O.left out.old
             (events_items Y.tables self.old (event_seen event.entry ∷ [])) out.new }
         ensures edge { self.new ≡ events_edge Y.tables self.old (event_seen event.entry ∷ []) }

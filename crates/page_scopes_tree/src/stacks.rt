@@ -4,7 +4,7 @@ ghost use Rattle.std.specs.Prelude.{◌≡◌, ◌≤◌, ◌<◌, ◌+◌, Bool
 ghost use Rattle.page_core_base.specs.Latches.{Came};
 ghost use Rattle.page_scopes_laws.specs.Layouts.{Edge};
 ghost use Rattle.page_scopes_laws.specs.Machines.{ended_items, ended_state, placed_items, placed_scopes, placed_state, step, step_items};
-ghost use Rattle.page_scopes_tree.specs.Acts.{act_seen, comes, does};
+ghost use Rattle.page_scopes_tree.specs.Acts.{TakesAct, act_seen, comes, does};
 ghost use Rattle.page_scopes_tree.specs.Frames.{framed};
 ghost use Rattle.page_scopes_tree.specs.Nests.{scopes_nesting};
 ghost use Rattle.page_scopes_tree.specs.Stacks.{Keeps, stack_edge, stack_standing};
@@ -69,7 +69,8 @@ fn open_scope<Y: Laying, O: PieceOut>(
     event: &Event<&[u8]>,
     out: &mut O,
 )
-    requires { vec_len scopes.old < vec_capacity scopes.old }
+    requires room { vec_len scopes.old < vec_capacity scopes.old }
+    requires takes { Y.Takes (event_seen event.now) }
     ensures came { Came O.left out.old (Y.tables.begin_items label (event_seen event.now) state.old) out.new }
     ensures state { state.new ≡ Y.tables.begin_state label (event_seen event.now) state.old }
     ensures scopes { Keeps scopes.old scopes.new
@@ -91,6 +92,7 @@ fn place_act<Y: Laying, O: PieceOut>(
 )
     requires depth { vec_len scopes.old ≤ SCOPES }
     requires reserved { SCOPES ≤ vec_capacity scopes.old }
+    requires takes { TakesAct Y.Takes (act_seen act.now) }
     ensures came { let st = stack_standing (act_seen act.now) count scopes.old
         in Came O.left out.old (placed_items (framed Y.tables) st (does (act_seen act.now)) state.old)
         out.new }
@@ -118,6 +120,7 @@ pub(crate) fn take_act<Y: Laying, O: PieceOut>(
 )
     requires depth { vec_len scopes.old ≤ SCOPES }
     requires reserved { SCOPES ≤ vec_capacity scopes.old }
+    requires takes { TakesAct Y.Takes (act_seen act.now) }
     ensures came { Came O.left out.old
         (step_items scopes_nesting (framed Y.tables) (stack_edge skips.old scopes.old state.old)
         (does (act_seen act.now))) out.new }

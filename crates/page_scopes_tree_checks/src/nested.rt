@@ -17,6 +17,8 @@ impl Laying for Nested {
 
     ghost tables = { nested_tables };
 
+    ghost Takes = { λ event. Unit {0} };
+
     fn keep(&self, _label: Label, _event: &Event<&[u8]>) -> u32 {
         self.margin
     }

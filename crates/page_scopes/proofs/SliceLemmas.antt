@@ -1,0 +1,59 @@
+-- What is a slice of a line stands in a line.
+use Rattle.std.proofs.Common.{◌≡◌, ℕ, ◌≤◌, List, [], ◌∷◌, length, Option, None, Some, arith}
+use Rattle.page_core_limits.specs.declared.TheConstants.{LINE}
+use Rattle.page_roff_forms.specs.declared.quotes.Argument.{Argument}
+use Rattle.page_scopes_leaves.specs.Fits.{ArgumentFits, CloserFits, DeedFits, GivenFits, OpenerFits}
+use Rattle.page_sets_lines.specs.Laws.{AreSlices, ClosesSlices, HasSlices, IsArgument, IsArgumentIfGiven, OpensSlices}
+use Rattle.page_sets_lines.specs.declared.events.Deed.{Deed}
+use Rattle.page_sets_lines.specs.declared.events.Deed.TheVariants as deeds
+use Rattle.page_sets_lines.specs.declared.events.Event.{Event}
+use Rattle.page_sets_lines.specs.declared.openers.Closer.{Closer}
+use Rattle.page_sets_lines.specs.declared.openers.Closer.TheVariants as closers
+use Rattle.page_sets_lines.specs.declared.openers.Opener.{Opener}
+use Rattle.page_sets_lines.specs.declared.openers.Opener.TheVariants as openers
+
+pub argument_fits : (line : List ℕ) (argument : Argument (List ℕ)) → length line ≤ LINE → IsArgument line argument → ArgumentFits argument
+argument_fits line argument short slice =
+    let within = slice.slice.within in
+    let column = slice.column in
+    record { short = omega (arith, within, column); room = omega (arith, within, column) }
+
+given_fits : (line : List ℕ) (argument : Option (Argument (List ℕ))) → length line ≤ LINE → IsArgumentIfGiven line argument → GivenFits argument
+given_fits line None short slice = tt
+given_fits line (Some argument) short slice = argument_fits line argument short slice
+
+opener_fits : (line : List ℕ) (opener : Opener (List ℕ)) → length line ≤ LINE → OpensSlices line opener → OpenerFits opener
+opener_fits line openers.Section short slices = tt
+opener_fits line openers.Subsection short slices = tt
+opener_fits line (openers.Paragraph name) short slices = tt
+opener_fits line (openers.Tagged hang) short slices = tt
+opener_fits line (openers.Indented tag hang) short slices = given_fits line tag short slices.0
+opener_fits line (openers.Hanging hang) short slices = tt
+opener_fits line (openers.RelativeMargin columns) short slices = tt
+opener_fits line (openers.Target link target) short slices = argument_fits line target short slices
+opener_fits line (openers.Syntax name) short slices = argument_fits line name short slices
+
+closer_fits : (line : List ℕ) (closer : Closer (List ℕ)) → length line ≤ LINE → ClosesSlices line closer → CloserFits closer
+closer_fits line closers.Line short slices = tt
+closer_fits line (closers.RelativeMargin number) short slices = tt
+closer_fits line (closers.Target link suffix) short slices = given_fits line suffix short slices
+closer_fits line closers.Syntax short slices = tt
+
+-- the texts of an event of a line, which are slices of it, stand in a line
+pub deed_fits : (line : List ℕ) (deed : Deed (List ℕ)) → length line ≤ LINE → HasSlices line deed → DeedFits deed
+deed_fits line (deeds.Word word) short slices = argument_fits line word.arg short slices
+deed_fits line (deeds.Open opener) short slices = opener_fits line opener short slices
+deed_fits line (deeds.Close closer) short slices = closer_fits line closer short slices
+deed_fits line (deeds.LineScope opener) short slices = tt
+deed_fits line (deeds.Leaf leaf) short slices = tt
+deed_fits line (deeds.Raw text) short slices = tt
+deed_fits line (deeds.End fills) short slices = tt
+deed_fits line (deeds.Note kind detail begins_body) short slices = tt
+
+-- the first of them
+pub first_fits : (line : List ℕ) (events : List (Event (List ℕ))) (event : Event (List ℕ)) (others : List (Event (List ℕ)))
+    → length line ≤ LINE → AreSlices line events → events ≡ event ∷ others → DeedFits event.deed
+first_fits line [] event others short slices is = let no : ⊥ = cc in absurd no
+first_fits line (e ∷ es) event others short slices is =
+    let same : e ≡ event = cc in
+    rw same at (deed_fits line e.deed short slices.0)

@@ -1,0 +1,4 @@
+pub mod Bodies
+pub mod Tables
+pub mod Edges
+pub mod Sinks

@@ -1,0 +1,171 @@
+//! The front of a page's body, and what events give that open no scope (man(7)).
+
+ghost use Rattle.std.specs.Prelude.{◌≡◌};
+ghost use Rattle.page_core_base.specs.Latches.{Came};
+ghost use Rattle.page_scopes.specs.Bodies as bodies;
+ghost use Rattle.page_scopes_leaves.specs.Fits.{CloserFits, DeedFits};
+ghost use Rattle.page_scopes_tree.specs.Acts.{TakesAct, act_seen};
+ghost use Rattle.page_sets_lines.specs.Events.{closer_seen, deed_seen, leaf_seen};
+
+use page_core_base::{NoteKind, Piece, PieceOut, Place};
+use page_core_numbers::Scale;
+use page_scopes_layout::{Context, give_margins};
+use page_scopes_leaves::{Running, give_deed, give_line_word};
+use page_scopes_nodes::argument_word;
+use page_scopes_text::give_number;
+use page_scopes_tree::Act;
+use page_scopes_words::report;
+use page_sets_lines::{Closer, Deed, Join, Leaf, Opener};
+
+// Whether a deed may begin the body.
+fn deed_begins(deed: &Deed<&[u8]>) -> bool
+    ensures { result ≡ bodies.deed_begins (deed_seen deed.now) }
+{
+    match deed {
+        Deed::Word(_) | Deed::Open(_) | Deed::LineScope(_) | Deed::Raw(_) => true,
+        Deed::Leaf(leaf) => matches!(leaf, Leaf::Own(_) | Leaf::FurtherTag),
+        Deed::Note { begins_body, .. } => *begins_body,
+        Deed::Close(_) | Deed::End { .. } => false,
+    }
+}
+
+/// Whether a deed begins the body.
+pub(crate) fn begins(deed: &Deed<&[u8]>, running: &Running) -> bool
+    ensures { result ≡ bodies.begins (deed_seen deed.now) running.now }
+{
+    !running.has_begun && deed_begins(deed)
+}
+
+// Whether a deed opens a section.
+fn is_section(deed: &Deed<&[u8]>) -> bool
+    ensures { result ≡ bodies.is_section (deed_seen deed.now) }
+{
+    matches!(deed, Deed::Open(Opener::Section))
+}
+
+// Gives the front of the body, which a deed begins.
+fn give_front<O: PieceOut>(out: &mut O, place: Place, deed: &Deed<&[u8]>, context: &Context)
+    ensures { Came O.left out.old
+        (bodies.front_items place (deed_seen deed.now) context.now) out.new }
+{
+    if !is_section(deed) {
+        let front = Place {
+            line: place.line,
+            column: 1,
+        };
+        report(out, NoteKind::BeforeSection, front, b"");
+    }
+    out.give(Piece::Literal(context.is_literal.value));
+    give_margins(out, context);
+}
+
+// Gives the messages of a closer's number.
+fn report_number<O: PieceOut>(out: &mut O, place: Place, deed: &Deed<&[u8]>)
+    ensures { Came O.left out.old (bodies.deed_notes place (deed_seen deed.now)) out.new }
+{
+    if let Deed::Close(Closer::RelativeMargin(Some(number))) = deed {
+        let _ = give_number(out, Scale::Basic, place, number);
+    }
+}
+
+/// Gives what comes before what an event ends: the front of the body, and the messages of a closer's number.
+#[tactic(auto, unfolding(crate::specs::Bodies::coming))]
+pub(crate) fn give_coming<O: PieceOut>(
+    out: &mut O,
+    place: Place,
+    deed: &Deed<&[u8]>,
+    context: &Context,
+    running: &mut Running,
+)
+    ensures came { Came O.left out.old
+        (bodies.coming place (deed_seen deed.now) context.now running.old).items out.new }
+    ensures context { context.now
+        ≡ (bodies.coming place (deed_seen deed.now) context.now running.old).context }
+    ensures running { running.new
+        ≡ (bodies.coming place (deed_seen deed.now) context.now running.old).running }
+{
+    if begins(deed, running) {
+        give_front(out, place, deed, context);
+        running.has_begun = true;
+    }
+    report_number(out, place, deed);
+}
+
+// Gives the suffix of a closer.
+fn give_suffix<O: PieceOut>(
+    out: &mut O,
+    line: u32,
+    closer: &Closer<&[u8]>,
+    context: &mut Context,
+    running: &mut Running,
+)
+    requires { CloserFits (closer_seen closer.now) }
+    ensures came { Came O.left out.old
+        (bodies.suffix line (closer_seen closer.now) context.old running.old).items out.new }
+    ensures context { context.new
+        ≡ (bodies.suffix line (closer_seen closer.now) context.old running.old).context }
+    ensures running { running.new
+        ≡ (bodies.suffix line (closer_seen closer.now) context.old running.old).running }
+{
+    if let Closer::Target(_, Some(suffix)) = *closer {
+        let word = argument_word(None, Join::Glued, suffix);
+        give_line_word(out, line, &word, context, running);
+    }
+}
+
+// Whether a leaf comes before the body and gives nothing there.
+fn is_early(leaf: &Leaf<&[u8]>, running: &Running) -> bool
+    ensures { result ≡ bodies.is_early (leaf_seen leaf.now) running.now }
+{
+    !running.has_begun && matches!(leaf, Leaf::BlankLine | Leaf::Wordless(_) | Leaf::Request(_))
+}
+
+// Gives a deed that opens nothing.
+fn give_deed_standing<O: PieceOut>(
+    out: &mut O,
+    place: Place,
+    deed: &Deed<&[u8]>,
+    context: &mut Context,
+    running: &mut Running,
+)
+    requires { DeedFits (deed_seen deed.now) }
+    ensures came { Came O.left out.old
+        (bodies.deed_stands place (deed_seen deed.now) context.old running.old).items out.new }
+    ensures context { context.new
+        ≡ (bodies.deed_stands place (deed_seen deed.now) context.old running.old).context }
+    ensures running { running.new
+        ≡ (bodies.deed_stands place (deed_seen deed.now) context.old running.old).running }
+{
+    match deed {
+        Deed::Close(closer) => give_suffix(out, place.line, closer, context, running),
+        Deed::Leaf(leaf) => {
+            if !is_early(leaf, running) {
+                give_deed(out, place, deed, context, running);
+            }
+        }
+        _ => give_deed(out, place, deed, context, running),
+    }
+}
+
+/// Gives an act that opens nothing.
+#[tactic(auto, unfolding(crate::specs::Bodies::stands))]
+pub(crate) fn give_standing<O: PieceOut>(
+    out: &mut O,
+    act: &Act<&[u8]>,
+    context: &mut Context,
+    running: &mut Running,
+)
+    requires { TakesAct (λ event. DeedFits event.deed) (act_seen act.now) }
+    ensures came { Came O.left out.old
+        (bodies.stands (act_seen act.now) context.old running.old).items out.new }
+    ensures context { context.new ≡ (bodies.stands (act_seen act.now) context.old running.old).context }
+    ensures running { running.new ≡ (bodies.stands (act_seen act.now) context.old running.old).running }
+{
+    match act {
+        Act::Event(event) => give_deed_standing(out, event.place, &event.deed, context, running),
+        Act::PageEnd(_) => {
+            out.give(Piece::Break);
+            running.end_row();
+        }
+    }
+}

@@ -1,0 +1,88 @@
+//! The layout of man(7).
+
+ghost use Rattle.std.specs.Prelude.{◌≡◌};
+ghost use Rattle.page_scopes.specs.Tables.{start};
+
+use crate::bodies::{give_coming, give_standing};
+use page_core_base::{PieceOut, Place};
+use page_scopes_layout::Context;
+use page_scopes_leaves::Running;
+use page_scopes_nodes::{PageLayout, Target, give_begun, give_ended, kept_target};
+use page_scopes_tree::{Act, Label, Laying};
+use page_sets_lines::Event;
+
+/// What scopes and other events are laid out by.
+#[derive(Drop)]
+pub struct LayoutState {
+    pub page: PageLayout,
+    pub context: Context,
+    pub running: Running,
+}
+
+/// What a scope keeps: the context before it, and the target of a link.
+#[derive(Drop)]
+pub struct Kept {
+    pub context: Context,
+    pub target: Option<Target>,
+}
+
+impl LayoutState {
+    /// The state before a page's first line.
+    pub fn start(page: PageLayout) -> LayoutState
+        ensures { result ≡ start page }
+    {
+        LayoutState {
+            page,
+            context: Context::start(page.indent),
+            running: Running::start(),
+        }
+    }
+}
+
+impl Laying for LayoutState {
+    ghost use Rattle.page_scopes.specs.Tables.{layout_tables};
+    ghost use Rattle.page_scopes_leaves.specs.Fits.{DeedFits};
+
+    type Kept = Kept;
+
+    ghost tables = { layout_tables };
+
+    ghost Takes = { λ event. DeedFits event.deed };
+
+    fn keep(&self, _label: Label, event: &Event<&[u8]>) -> Kept {
+        Kept {
+            context: self.context,
+            target: kept_target(&event.deed),
+        }
+    }
+
+    fn begin<O: PieceOut>(&mut self, _label: Label, event: &Event<&[u8]>, out: &mut O) {
+        give_begun(out, &self.page, event, &mut self.context, &mut self.running);
+    }
+
+    fn come<O: PieceOut>(&mut self, event: &Event<&[u8]>, out: &mut O) {
+        give_coming(
+            out,
+            event.place,
+            &event.deed,
+            &self.context,
+            &mut self.running,
+        );
+    }
+
+    fn leaf<O: PieceOut>(&mut self, act: &Act<&[u8]>, out: &mut O) {
+        give_standing(out, act, &mut self.context, &mut self.running);
+    }
+
+    fn end<O: PieceOut>(&mut self, label: Label, before: Kept, place: Place, out: &mut O) {
+        give_ended(
+            out,
+            label,
+            before.context,
+            &before.target,
+            place,
+            &mut self.context,
+            &mut self.running,
+        );
+    }
+}

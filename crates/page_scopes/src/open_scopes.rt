@@ -1,0 +1,80 @@
+//! The open scopes of a page, laid out into a latch (man(7), mdoc(7)).
+
+ghost use Rattle.std.specs.Prelude.{◌≡◌, ◌≤◌, IfOk, length};
+ghost use Rattle.page_core_base.specs.Latches.{Came};
+ghost use Rattle.page_scopes.specs.Edges.{begins_body, end_after, end_items, event_after, event_items, start_edge};
+ghost use Rattle.page_scopes_leaves.specs.Fits.{DeedFits};
+ghost use Rattle.page_sets_lines.specs.Events.{deed_seen, event_seen};
+
+use crate::LayoutState;
+use crate::bodies::begins;
+use page_core_base::PieceOut;
+use page_scopes_nodes::PageLayout;
+use page_scopes_tree::{SCOPES, ScopeStack};
+use page_sets_lines::Event;
+use std::alloc::{AllocError, Global};
+use std::marker::Model;
+
+/// The open scopes of a page, laid out. What they are given to never fails.
+#[derive(Drop)]
+pub struct OpenScopes {
+    stack: ScopeStack<LayoutState>,
+}
+
+impl Model for OpenScopes {
+    ghost use Rattle.page_scopes.specs.Edges.{PageEdge};
+
+    ghost Value = { PageEdge };
+
+    ghost view = { λ s. s.stack };
+}
+
+impl OpenScopes {
+    /// The scopes of a page before its first line: none is open.
+    pub fn new(alloc: Global, page: PageLayout) -> Result<OpenScopes, AllocError>
+        ensures { IfOk result (λ scopes. scopes ≡ start_edge page) }
+    {
+        Ok(OpenScopes {
+            stack: ScopeStack::new(alloc, LayoutState::start(page))?,
+        })
+    }
+
+    /// The number of open scopes.
+    pub fn depth(&self) -> usize
+        ensures is { result ≡ length self.now.scopes }
+        ensures within { result ≤ SCOPES }
+    {
+        self.stack.depth()
+    }
+
+    /// Whether the body of the page has begun.
+    pub fn has_begun(&self) -> bool
+        ensures { result ≡ self.now.state.running.has_begun }
+    {
+        self.stack.state().running.has_begun
+    }
+
+    /// Whether an event begins the body of the page.
+    pub fn begins_body(&self, event: &Event<&[u8]>) -> bool
+        ensures { result ≡ begins_body self.now (event_seen event.now) }
+    {
+        !self.stack.skips() && begins(&event.deed, &self.stack.state().running)
+    }
+
+    /// Takes an event of a line, and gives what it settles.
+    pub fn give_event<O: PieceOut>(&mut self, event: &Event<&[u8]>, out: &mut O)
+        requires { DeedFits (deed_seen event.now.deed) }
+        ensures came { Came O.left out.old (event_items self.old (event_seen event.now)) out.new }
+        ensures edge { self.new ≡ event_after self.old (event_seen event.now) }
+    {
+        self.stack.apply(*event, out);
+    }
+
+    /// Ends the page on the line of a number: all scopes end, and the row.
+    pub fn give_end<O: PieceOut>(&mut self, line: u32, out: &mut O)
+        ensures came { Came O.left out.old (end_items self.old line) out.new }
+        ensures edge { self.new ≡ end_after self.old line }
+    {
+        self.stack.finish(line, out);
+    }
+}

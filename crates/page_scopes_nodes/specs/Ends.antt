@@ -1,0 +1,50 @@
+-- What a scope ends with: the target of a link, its own pieces, and what is known after it. Source: man(7), "MACRO OVERVIEW".
+use Rattle.std.specs.Prelude.{false, Option, None, Some}
+use Rattle.page_core_base.specs.declared.places.Place.{Place}
+use Rattle.page_scopes_layout.specs.Contexts.{restored}
+use Rattle.page_scopes_layout.specs.Nodes.{end_items}
+use Rattle.page_scopes_layout.specs.declared.contexts.Context.{Context}
+use Rattle.page_scopes_leaves.specs.Outcomes.{Outcome, nothing}
+use Rattle.page_scopes_leaves.specs.Runnings.{row_ended}
+use Rattle.page_scopes_leaves.specs.declared.runnings.Running.{Running}
+use Rattle.page_scopes_tree.specs.declared.labels.Explicit.{Explicit}
+use Rattle.page_scopes_tree.specs.declared.labels.Explicit.TheVariants as explicits
+use Rattle.page_scopes_tree.specs.declared.labels.Label.{Label}
+use Rattle.page_scopes_tree.specs.declared.labels.Label.TheVariants as labels
+use Rattle.page_sets_lines.specs.declared.openers.LineOpener.{LineOpener}
+use Rattle.page_sets_lines.specs.declared.openers.LineOpener.TheVariants as lines
+use Rattle.page_scopes_nodes.specs.Openers.{followed_by}
+use Rattle.page_scopes_nodes.specs.Targets.{target_word}
+use Rattle.page_scopes_nodes.specs.declared.targets.Target.{Target}
+
+-- the target of a link is its last word
+abbrev pub last_word : Place → Option Target → Context → Running → Outcome
+last_word place None c r = nothing c r
+last_word place (Some target) c r = target_word place target c r
+
+-- after a heading nothing stands yet; the padding of a tag stands in place of a blank
+abbrev pub line_running : LineOpener → Running → Running
+line_running (lines.Heading name) r = record (row_ended r) { has_content = false }
+line_running (lines.Tag name) r = record r { gap = 0 }
+line_running (lines.FontWords font_macro) r = r
+
+abbrev pub explicit_running : Explicit → Running → Running
+explicit_running explicits.RelativeMargin r = row_ended r
+explicit_running (explicits.Target link) r = r
+explicit_running explicits.Syntax r = row_ended r
+
+abbrev pub label_running : Label → Running → Running
+label_running (labels.Explicit explicit) r = explicit_running explicit r
+label_running (labels.Line opener) r = line_running opener r
+label_running _ r = r
+
+-- in the context after the scope its margins hold again
+abbrev pub left : Label → Context → Context → Running → Outcome
+left label before c r = record {
+  items = end_items label (restored label before c);
+  context = restored label before c;
+  running = label_running label r;
+}
+
+unfoldable pub ended : Label → Context → Option Target → Place → Context → Running → Outcome
+ended label before target place c r = followed_by (last_word place target c r) (left label before)

@@ -1,0 +1,5 @@
+pub mod Names
+pub mod Targets
+pub mod Openers
+pub mod Begins
+pub mod Ends

@@ -1,0 +1,124 @@
+-- What the scopes that go on after their line begin with, macro by macro. Source: man(7), "MACRO OVERVIEW".
+use Rattle.std.specs.Prelude.{ℕ, ◌+◌, List, [], ◌∷◌, ◌++◌, Option, None, Some, option_map, ℤ, pos, if◌then◌else◌}
+use Rattle.page_core_base.specs.Pieces.{Item}
+use Rattle.page_core_base.specs.declared.cells.Font.{Font}
+use Rattle.page_core_base.specs.declared.cells.Font.TheVariants.{B}
+use Rattle.page_core_base.specs.declared.note_kinds.NoteKind.TheVariants.{SkipPara}
+use Rattle.page_core_base.specs.declared.places.Place.{Place}
+use Rattle.page_roff_forms.specs.Arguments.{is_quoted}
+use Rattle.page_roff_forms.specs.declared.quotes.Argument.{Argument}
+use Rattle.page_scopes_layout.specs.Begins.{entered_context, hanging_begun, indented_begun, margin_begun, paragraph_begun, section_begun, syntax_begun, text_margin}
+use Rattle.page_scopes_layout.specs.Margins.{hold}
+use Rattle.page_scopes_layout.specs.Nodes.{begin_items}
+use Rattle.page_scopes_layout.specs.declared.contexts.Context.{Context}
+use Rattle.page_scopes_leaves.specs.Outcomes.{Outcome, nothing}
+use Rattle.page_scopes_leaves.specs.Runnings.{row_ended}
+use Rattle.page_scopes_leaves.specs.Tags.{tag}
+use Rattle.page_scopes_leaves.specs.declared.runnings.Running.{Running}
+use Rattle.page_scopes_leaves.specs.declared.tags.TagPlace.{TagPlace}
+use Rattle.page_scopes_text.specs.Numbers.{columns_notes, columns_value}
+use Rattle.page_scopes_tree.specs.declared.labels.Explicit.TheVariants.{RelativeMargin, Syntax}
+use Rattle.page_scopes_tree.specs.declared.labels.Label.{Label}
+use Rattle.page_scopes_tree.specs.declared.labels.Label.TheVariants as labels
+use Rattle.page_scopes_words.specs.Words.{says}
+use Rattle.page_sets_lines.specs.MacroNames.{paragraph_name}
+use Rattle.page_sets_lines.specs.declared.events.Join.{Join}
+use Rattle.page_sets_lines.specs.declared.events.Join.TheVariants.{Apart}
+use Rattle.page_sets_lines.specs.declared.events.Role.TheVariants as roles
+use Rattle.page_sets_lines.specs.declared.events.Word.{Word}
+use Rattle.page_sets_lines.specs.declared.macro_names.ParagraphName.{ParagraphName}
+use Rattle.page_sets_lines.specs.declared.openers.Opener.{Opener}
+use Rattle.page_sets_lines.specs.declared.openers.Opener.TheVariants as openers
+use Rattle.page_scopes_nodes.specs.Names.{name_columns}
+use Rattle.page_scopes_nodes.specs.Targets.{target_notes}
+use Rattle.page_scopes_nodes.specs.declared.page_layouts.PageLayout.{PageLayout}
+
+-- the columns of a number that may be given, and its messages
+abbrev pub given_columns : Option (List ℕ) → Option ℤ
+given_columns number = option_map columns_value number
+
+abbrev pub given_notes : Place → Option (List ℕ) → List Item
+given_notes place None = []
+given_notes place (Some text) = columns_notes place text
+
+-- a scope begins in the context of its front, and the row ends
+abbrev pub begun : Label → Context → Running → Outcome
+begun label front r = record { items = begin_items label front; context = front; running = row_ended r }
+
+abbrev pub after_notes : List Item → Outcome → Outcome
+after_notes notes o = record o { items = notes ++ o.items }
+
+abbrev pub followed_by : Outcome → (Context → Running → Outcome) → Outcome
+followed_by first next = record {
+  items = first.items ++ (next first.context first.running).items;
+  context = (next first.context first.running).context;
+  running = (next first.context first.running).running;
+}
+
+-- an argument as a word
+abbrev pub argument_word : Option Font → Join → Argument (List ℕ) → Word (List ℕ)
+argument_word font before argument = record { arg = argument; role = roles.Argument; font = font; before = before; after = Apart }
+
+-- `SH`, `SS`: at the page's indent
+abbrev pub section : PageLayout → Context → Running → Outcome
+section page c r = begun labels.Section (section_begun page.indent (entered_context c)) r
+
+-- `PP`, `LP`, `P`: skipped where nothing stands before them since the heading
+abbrev pub plain : Place → ParagraphName → Context → Running → Outcome
+plain place name c r =
+    if r.has_content then begun labels.Paragraph (paragraph_begun (entered_context c)) r
+    else record { items = says SkipPara place (paragraph_name name) ∷ []; context = entered_context c; running = r }
+
+-- `TP`, `IP`: the text stands a number of columns, or the prevailing indent, further in
+abbrev pub indented : Place → Option (List ℕ) → Context → Running → Outcome
+indented place hang c r = after_notes (given_notes place hang) (begun labels.Paragraph (indented_begun (given_columns hang) (entered_context c)) r)
+
+-- the tag of `IP` stands at the margin
+abbrev pub given_tag : ℕ → Option (Argument (List ℕ)) → Context → Running → Outcome
+given_tag line None c r = nothing c r
+given_tag line (Some argument) c r =
+    tag (record { margin = c.margin; hang = hold c.hang }) line (argument_word None Apart argument) c r
+
+-- `HP`: the rows after the first stand further in
+abbrev pub hanging : Place → Option (List ℕ) → Context → Running → Outcome
+hanging place hang c r = after_notes (given_notes place hang) (begun labels.Paragraph (hanging_begun (given_columns hang) (entered_context c)) r)
+
+-- `RS`: all stands further in
+abbrev pub margin : Place → Option (List ℕ) → Context → Running → Outcome
+margin place columns c r =
+    after_notes (given_notes place columns)
+    (begun (labels.Explicit RelativeMargin) (margin_begun (given_columns columns) (entered_context c)) r)
+
+-- `UR`, `MT`: the messages of the target
+abbrev pub link : Place → Argument (List ℕ) → Context → Running → Outcome
+link place target c r = record { items = target_notes place target; context = entered_context c; running = r }
+
+-- `SY`: the name in bold is a tag at the margin of the text, which hangs by the name's columns and a blank
+abbrev pub name_hang : PageLayout → Argument (List ℕ) → ℕ
+name_hang page name = name_columns page.output (is_quoted name.quoting) name.text + 1
+
+abbrev pub synopsis_begun : PageLayout → Argument (List ℕ) → Context → Running → Outcome
+synopsis_begun page name c r =
+    begun (labels.Explicit Syntax) (syntax_begun (text_margin c) (name_hang page name) (entered_context c)) r
+
+abbrev pub bold_tag : ℕ → TagPlace → Argument (List ℕ) → Context → Running → Outcome
+bold_tag line place name c r = tag place line (argument_word (Some B) Apart name) c r
+
+abbrev pub name_place : PageLayout → ℕ → Argument (List ℕ) → TagPlace
+name_place page at name = record { margin = at; hang = hold (pos (name_hang page name)) }
+
+abbrev pub synopsis : PageLayout → ℕ → Argument (List ℕ) → Context → Running → Outcome
+synopsis page line name c r = followed_by (synopsis_begun page name c r) (bold_tag line (name_place page (text_margin c) name) name)
+
+-- ---- all of them
+
+unfoldable pub opened : PageLayout → Place → Opener (List ℕ) → Context → Running → Outcome
+opened page place openers.Section c r = section page c r
+opened page place openers.Subsection c r = section page c r
+opened page place (openers.Paragraph name) c r = plain place name c r
+opened page place (openers.Tagged hang) c r = indented place hang c r
+opened page place (openers.Indented argument hang) c r = followed_by (indented place hang c r) (given_tag place.line argument)
+opened page place (openers.Hanging hang) c r = hanging place hang c r
+opened page place (openers.RelativeMargin columns) c r = margin place columns c r
+opened page place (openers.Target kind target) c r = link place target c r
+opened page place (openers.Syntax name) c r = synopsis page place.line name c r

@@ -1,0 +1,109 @@
+//! What a scope begins with, of any event that opens one, and what it keeps (man(7)).
+
+ghost use Rattle.std.specs.Prelude.{◌≡◌};
+ghost use Rattle.page_core_base.specs.Latches.{Came};
+ghost use Rattle.page_scopes_leaves.specs.Fits.{DeedFits};
+ghost use Rattle.page_scopes_nodes.specs.Begins as begins;
+ghost use Rattle.page_sets_lines.specs.Events.{deed_seen, event_seen, opener_seen};
+
+use crate::openers::give_opened;
+use crate::{PageLayout, Target};
+use page_core_base::{Font, PieceOut};
+use page_scopes_layout::{Context, give_begin};
+use page_scopes_leaves::Running;
+use page_scopes_tree::Label;
+use page_sets_lines::{Deed, Event, FontMacro, HeadingName, LineOpener, Opener};
+
+// The column of a heading.
+fn heading_column(name: HeadingName) -> u32
+    ensures { result ≡ begins.heading_column name }
+{
+    match name {
+        HeadingName::SH => 0,
+        HeadingName::SS => 3,
+    }
+}
+
+// The font of a font macro's words.
+fn font_of(font_macro: FontMacro) -> Font
+    ensures { result ≡ begins.font_of font_macro }
+{
+    match font_macro {
+        FontMacro::B | FontMacro::SB => Font::B,
+        FontMacro::I => Font::I,
+        FontMacro::SM => Font::R,
+    }
+}
+
+// The context of a line scope's front.
+fn line_context(opener: LineOpener, context: Context) -> Context
+    ensures { result ≡ begins.line_context opener context }
+{
+    match opener {
+        LineOpener::Heading(name) => context.heading_begun(heading_column(name)),
+        LineOpener::Tag(_) => context.tag_begun(),
+        LineOpener::FontWords(font_macro) => context.font_begun(font_of(font_macro)),
+    }
+}
+
+// Gives what a line scope begins with.
+fn give_line_opened<O: PieceOut>(
+    out: &mut O,
+    opener: LineOpener,
+    context: &mut Context,
+    running: &mut Running,
+)
+    ensures came { Came O.left out.old (begins.line_opened opener context.old running.old).items out.new }
+    ensures context { context.new ≡ (begins.line_opened opener context.old running.old).context }
+    ensures running { running.new ≡ (begins.line_opened opener context.old running.old).running }
+{
+    *context = line_context(opener, context.entered());
+    give_begin(out, Label::Line(opener), context);
+    if let LineOpener::Heading(_) = opener {
+        running.gap = 1;
+    }
+}
+
+/// Gives what the scope that an event opens begins with.
+#[tactic(auto, unfolding(crate::specs::Begins::begun_by))]
+pub fn give_begun<O: PieceOut>(
+    out: &mut O,
+    page: &PageLayout,
+    event: &Event<&[u8]>,
+    context: &mut Context,
+    running: &mut Running,
+)
+    requires { DeedFits (deed_seen event.now.deed) }
+    ensures came { Came O.left out.old
+        (begins.begun_by page.now (event_seen event.now) context.old running.old).items out.new }
+    ensures context { context.new
+        ≡ (begins.begun_by page.now (event_seen event.now) context.old running.old).context }
+    ensures running { running.new
+        ≡ (begins.begun_by page.now (event_seen event.now) context.old running.old).running }
+{
+    match &event.deed {
+        Deed::Open(opener) => give_opened(out, page, event.place, opener, context, running),
+        Deed::LineScope(opener) => give_line_opened(out, *opener, context, running),
+        _ => {}
+    }
+}
+
+// The target that the scope of an opener keeps.
+fn opener_target(opener: &Opener<&[u8]>) -> Option<Target>
+    ensures { result ≡ begins.opener_target (opener_seen opener.now) }
+{
+    match *opener {
+        Opener::Target(_, target) => Some(Target::of(target)),
+        _ => None,
+    }
+}
+
+/// The target that the scope of a deed keeps up to its end.
+pub fn kept_target(deed: &Deed<&[u8]>) -> Option<Target>
+    ensures { result ≡ begins.kept_target (deed_seen deed.now) }
+{
+    match deed {
+        Deed::Open(opener) => opener_target(opener),
+        _ => None,
+    }
+}

@@ -1,0 +1,85 @@
+//! What a scope ends with (man(7)).
+
+ghost use Rattle.std.specs.Prelude.{◌≡◌};
+ghost use Rattle.page_core_base.specs.Latches.{Came};
+ghost use Rattle.page_scopes_nodes.specs.Ends as ends;
+
+use crate::Target;
+use crate::targets::give_target;
+use page_core_base::{PieceOut, Place};
+use page_scopes_layout::{Context, give_end, restored};
+use page_scopes_leaves::Running;
+use page_scopes_tree::{Explicit, Label};
+use page_sets_lines::LineOpener;
+
+// Gives the last word of a scope.
+fn give_last_word<O: PieceOut>(
+    out: &mut O,
+    place: Place,
+    target: &Option<Target>,
+    context: &mut Context,
+    running: &mut Running,
+)
+    ensures came { Came O.left out.old
+        (ends.last_word place target.now context.old running.old).items out.new }
+    ensures context { context.new ≡ (ends.last_word place target.now context.old running.old).context }
+    ensures running { running.new ≡ (ends.last_word place target.now context.old running.old).running }
+{
+    if let Some(target) = target {
+        give_target(out, place, target, context, running);
+    }
+}
+
+// What is known along the page after a scope.
+fn pass_end(label: Label, running: &mut Running)
+    ensures { running.new ≡ ends.label_running label running.old }
+{
+    match label {
+        Label::Explicit(Explicit::RelativeMargin | Explicit::Syntax) => running.end_row(),
+        Label::Line(LineOpener::Heading(_)) => {
+            running.end_row();
+            running.has_content = false;
+        }
+        Label::Line(LineOpener::Tag(_)) => running.gap = 0,
+        _ => {}
+    }
+}
+
+// Gives what is left of a scope after its last word, with the context before it.
+fn give_left<O: PieceOut>(
+    out: &mut O,
+    label: Label,
+    before: Context,
+    context: &mut Context,
+    running: &mut Running,
+)
+    ensures came { Came O.left out.old (ends.left label before context.old running.old).items out.new }
+    ensures context { context.new ≡ (ends.left label before context.old running.old).context }
+    ensures running { running.new ≡ (ends.left label before context.old running.old).running }
+{
+    *context = restored(label, before, *context);
+    give_end(out, label, context);
+    pass_end(label, running);
+}
+
+/// Gives what ends a scope at a place, with the context before it and the target that it kept.
+#[tactic(auto, unfolding(crate::specs::Ends::ended))]
+pub fn give_ended<O: PieceOut>(
+    out: &mut O,
+    label: Label,
+    before: Context,
+    target: &Option<Target>,
+    place: Place,
+    context: &mut Context,
+    running: &mut Running,
+)
+    ensures came { Came O.left out.old
+        (ends.ended label before target.now place context.old running.old).items out.new }
+    ensures context { context.new
+        ≡ (ends.ended label before target.now place context.old running.old).context }
+    ensures running { running.new
+        ≡ (ends.ended label before target.now place context.old running.old).running }
+{
+    give_last_word(out, place, target, context, running);
+    give_left(out, label, before, context, running);
+}

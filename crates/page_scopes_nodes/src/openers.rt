@@ -1,0 +1,293 @@
+//! What the scopes that go on after their line begin with, macro by macro (man(7)).
+
+ghost use Rattle.std.specs.Prelude.{◌≡◌};
+ghost use Rattle.page_core_base.specs.Latches.{Came};
+ghost use Rattle.page_roff_forms.specs.Arguments.{argument_seen};
+ghost use Rattle.page_scopes_leaves.specs.Fits.{ArgumentFits, GivenFits, OpenerFits};
+ghost use Rattle.page_scopes_nodes.specs.Openers as openers;
+ghost use Rattle.page_sets_lines.specs.Events.{given_seen, opener_seen, text_seen, word_seen};
+
+use crate::PageLayout;
+use crate::names::name_columns;
+use crate::targets::report_target;
+use page_core_base::{Font, NoteKind, PieceOut, Place};
+use page_roff_forms::Argument;
+use page_scopes_layout::{Context, give_begin, hold};
+use page_scopes_leaves::{Running, TagPlace, give_tag};
+use page_scopes_text::give_columns;
+use page_scopes_tree::{Explicit, Label};
+use page_scopes_words::report;
+use page_sets_lines::{Join, Opener, ParagraphName, Role, Word};
+
+// The columns of a number that may be given, with its messages.
+fn give_given<O: PieceOut>(out: &mut O, place: Place, number: Option<&[u8]>) -> Option<i32>
+    ensures came { Came O.left out.old (openers.given_notes place (text_seen number.entry)) out.new }
+    ensures columns { result ≡ openers.given_columns (text_seen number.entry) }
+{
+    match number {
+        None => None,
+        Some(text) => Some(give_columns(out, place, text)),
+    }
+}
+
+// A scope begins in the context of its front, and the row ends.
+fn begin<O: PieceOut>(
+    out: &mut O,
+    label: Label,
+    front: Context,
+    context: &mut Context,
+    running: &mut Running,
+)
+    ensures came { Came O.left out.old (openers.begun label front running.old).items out.new }
+    ensures context { context.new ≡ (openers.begun label front running.old).context }
+    ensures running { running.new ≡ (openers.begun label front running.old).running }
+{
+    *context = front;
+    give_begin(out, label, context);
+    running.end_row();
+}
+
+/// An argument as a word, in a font of its own if it has one.
+pub fn argument_word<'a>(
+    font: Option<Font>,
+    before: Join,
+    argument: Argument<&'a [u8]>,
+) -> Word<&'a [u8]>
+    ensures { word_seen result ≡ openers.argument_word font before (argument_seen argument.entry) }
+{
+    Word {
+        arg: argument,
+        role: Role::Argument,
+        font,
+        before,
+        after: Join::Apart,
+    }
+}
+
+// `SH` and `SS`.
+fn begin_section<O: PieceOut>(
+    out: &mut O,
+    page: &PageLayout,
+    context: &mut Context,
+    running: &mut Running,
+)
+    ensures came { Came O.left out.old (openers.section page.now context.old running.old).items out.new }
+    ensures context { context.new ≡ (openers.section page.now context.old running.old).context }
+    ensures running { running.new ≡ (openers.section page.now context.old running.old).running }
+{
+    let front = context.entered().section_begun(page.indent);
+    begin(out, Label::Section, front, context, running);
+}
+
+// `PP`, `LP` and `P`.
+fn begin_plain<O: PieceOut>(
+    out: &mut O,
+    place: Place,
+    name: ParagraphName,
+    context: &mut Context,
+    running: &mut Running,
+)
+    ensures came { Came O.left out.old (openers.plain place name context.old running.old).items out.new }
+    ensures context { context.new ≡ (openers.plain place name context.old running.old).context }
+    ensures running { running.new ≡ (openers.plain place name context.old running.old).running }
+{
+    if running.has_content {
+        let front = context.entered().paragraph_begun();
+        begin(out, Label::Paragraph, front, context, running);
+    } else {
+        report(out, NoteKind::SkipPara, place, name.name().as_bytes());
+        *context = context.entered();
+    }
+}
+
+// `TP`, and `IP` without its tag.
+fn begin_indented<O: PieceOut>(
+    out: &mut O,
+    place: Place,
+    hang: Option<&[u8]>,
+    context: &mut Context,
+    running: &mut Running,
+)
+    ensures came { Came O.left out.old
+        (openers.indented place (text_seen hang.entry) context.old running.old).items out.new }
+    ensures context { context.new
+        ≡ (openers.indented place (text_seen hang.entry) context.old running.old).context }
+    ensures running { running.new
+        ≡ (openers.indented place (text_seen hang.entry) context.old running.old).running }
+{
+    let columns = give_given(out, place, hang);
+    let front = context.entered().indented_begun(columns);
+    begin(out, Label::Paragraph, front, context, running);
+}
+
+// The tag of `IP`.
+fn give_given_tag<O: PieceOut>(
+    out: &mut O,
+    line: u32,
+    tag: Option<Argument<&[u8]>>,
+    context: &mut Context,
+    running: &mut Running,
+)
+    requires { GivenFits (given_seen tag) }
+    ensures came { Came O.left out.old
+        (openers.given_tag line (given_seen tag.entry) context.old running.old).items out.new }
+    ensures context { context.new
+        ≡ (openers.given_tag line (given_seen tag.entry) context.old running.old).context }
+    ensures running { running.new
+        ≡ (openers.given_tag line (given_seen tag.entry) context.old running.old).running }
+{
+    if let Some(argument) = tag {
+        let tag_place = TagPlace {
+            margin: context.margin,
+            hang: hold(i64::from(context.hang)),
+        };
+        let word = argument_word(None, Join::Apart, argument);
+        give_tag(out, tag_place, line, &word, context, running);
+    }
+}
+
+// `HP`.
+fn begin_hanging<O: PieceOut>(
+    out: &mut O,
+    place: Place,
+    hang: Option<&[u8]>,
+    context: &mut Context,
+    running: &mut Running,
+)
+    ensures came { Came O.left out.old
+        (openers.hanging place (text_seen hang.entry) context.old running.old).items out.new }
+    ensures context { context.new
+        ≡ (openers.hanging place (text_seen hang.entry) context.old running.old).context }
+    ensures running { running.new
+        ≡ (openers.hanging place (text_seen hang.entry) context.old running.old).running }
+{
+    let columns = give_given(out, place, hang);
+    let front = context.entered().hanging_begun(columns);
+    begin(out, Label::Paragraph, front, context, running);
+}
+
+// `RS`.
+fn begin_margin<O: PieceOut>(
+    out: &mut O,
+    place: Place,
+    columns: Option<&[u8]>,
+    context: &mut Context,
+    running: &mut Running,
+)
+    ensures came { Came O.left out.old
+        (openers.margin place (text_seen columns.entry) context.old running.old).items out.new }
+    ensures context { context.new
+        ≡ (openers.margin place (text_seen columns.entry) context.old running.old).context }
+    ensures running { running.new
+        ≡ (openers.margin place (text_seen columns.entry) context.old running.old).running }
+{
+    let further = give_given(out, place, columns);
+    let front = context.entered().margin_begun(further);
+    begin(
+        out,
+        Label::Explicit(Explicit::RelativeMargin),
+        front,
+        context,
+        running,
+    );
+}
+
+// The columns of the name of `SY`, and of the blank after it.
+fn name_hang(page: &PageLayout, name: Argument<&[u8]>) -> u32
+    requires { ArgumentFits (argument_seen name) }
+    ensures { result ≡ openers.name_hang page.now (argument_seen name.entry) }
+{
+    name_columns(page.output, name.is_quoted(), name.text) + 1
+}
+
+// The name of `SY`, at a margin.
+fn give_name<O: PieceOut>(
+    out: &mut O,
+    line: u32,
+    tag: TagPlace,
+    name: Argument<&[u8]>,
+    context: &mut Context,
+    running: &mut Running,
+)
+    requires { ArgumentFits (argument_seen name) }
+    ensures came { Came O.left out.old
+        (openers.bold_tag line tag (argument_seen name.entry) context.old running.old).items out.new }
+    ensures context { context.new
+        ≡ (openers.bold_tag line tag (argument_seen name.entry) context.old running.old).context }
+    ensures running { running.new
+        ≡ (openers.bold_tag line tag (argument_seen name.entry) context.old running.old).running }
+{
+    let word = argument_word(Some(Font::B), Join::Apart, name);
+    give_tag(out, tag, line, &word, context, running);
+}
+
+// `SY`.
+fn begin_synopsis<O: PieceOut>(
+    out: &mut O,
+    page: &PageLayout,
+    line: u32,
+    name: Argument<&[u8]>,
+    context: &mut Context,
+    running: &mut Running,
+)
+    requires { ArgumentFits (argument_seen name) }
+    ensures came { Came O.left out.old
+        (openers.synopsis page.now line (argument_seen name.entry) context.old running.old).items
+        out.new }
+    ensures context { context.new
+        ≡ (openers.synopsis page.now line (argument_seen name.entry) context.old running.old).context }
+    ensures running { running.new
+        ≡ (openers.synopsis page.now line (argument_seen name.entry) context.old running.old).running }
+{
+    let hang = name_hang(page, name);
+    let margin = context.text_margin();
+    let front = context.entered().syntax_begun(margin, hang);
+    begin(
+        out,
+        Label::Explicit(Explicit::Syntax),
+        front,
+        context,
+        running,
+    );
+    let tag = TagPlace {
+        margin,
+        hang: hold(i64::from(hang)),
+    };
+    give_name(out, line, tag, name, context, running);
+}
+
+/// Gives what an opener at a place begins with.
+#[tactic(auto, unfolding(crate::specs::Openers::opened))]
+pub(crate) fn give_opened<O: PieceOut>(
+    out: &mut O,
+    page: &PageLayout,
+    place: Place,
+    opener: &Opener<&[u8]>,
+    context: &mut Context,
+    running: &mut Running,
+)
+    requires { OpenerFits (opener_seen opener.now) }
+    ensures came { Came O.left out.old
+        (openers.opened page.now place (opener_seen opener.now) context.old running.old).items out.new }
+    ensures context { context.new
+        ≡ (openers.opened page.now place (opener_seen opener.now) context.old running.old).context }
+    ensures running { running.new
+        ≡ (openers.opened page.now place (opener_seen opener.now) context.old running.old).running }
+{
+    match *opener {
+        Opener::Section | Opener::Subsection => begin_section(out, page, context, running),
+        Opener::Paragraph(name) => begin_plain(out, place, name, context, running),
+        Opener::Tagged(hang) => begin_indented(out, place, hang, context, running),
+        Opener::Indented { tag, hang } => {
+            begin_indented(out, place, hang, context, running);
+            give_given_tag(out, place.line, tag, context, running);
+        }
+        Opener::Hanging(hang) => begin_hanging(out, place, hang, context, running),
+        Opener::RelativeMargin(columns) => begin_margin(out, place, columns, context, running),
+        Opener::Target(_, target) => {
+            report_target(out, place, target);
+            *context = context.entered();
+        }
+        Opener::Syntax(name) => begin_synopsis(out, page, place.line, name, context, running),
+    }
+}
