@@ -1,0 +1,123 @@
+-- The body of a page between its header and its footer: the events of each line, and the header before the event that begins the body.
+-- Source: man(7); mandoc(1), "ASCII Output" and "DIAGNOSTICS".
+use Rattle.std.specs.Prelude.{ℕ, ◌==◌, ◌≤◌, Bool, List, [], ◌∷◌, ◌++◌, length, if◌then◌else◌, unwrap_or}
+use Rattle.page_core_limits.specs.declared.TheConstants.{LINE}
+use Rattle.page_core_base.specs.Pieces.{Item, shown}
+use Rattle.page_core_base.specs.declared.note_kinds.NoteKind.TheVariants.{NoBody}
+use Rattle.page_core_base.specs.declared.page_settings.Settings.{Settings}
+use Rattle.page_core_base.specs.declared.pieces.Piece.TheVariants as pieces
+use Rattle.page_core_base.specs.declared.places.Place.{Place}
+use Rattle.page_engine_header.specs.Fields.{no_fields}
+use Rattle.page_engine_header.specs.Header.{header_items, footer_row}
+use Rattle.page_engine_header.specs.declared.fields.Fields.{Fields}
+use Rattle.page_engine_header.specs.declared.headers.Measure.{Measure}
+use Rattle.page_scopes_leaves.specs.Fits.{DeedFits}
+use Rattle.page_scopes_words.specs.Words.{at, says}
+use Rattle.page_scopes.specs.Edges as scopes
+use Rattle.page_scopes.specs.Edges.{PageEdge}
+use Rattle.page_sets_lines.specs.declared.events.Deed.{Deed}
+use Rattle.page_sets_lines.specs.declared.events.Deed.TheVariants.{Leaf}
+use Rattle.page_sets_lines.specs.declared.events.Event.{Event}
+use Rattle.page_sets_lines.specs.declared.leaves.Leaf.TheVariants.{Prologue}
+use Rattle.page_engine_body.specs.Titles.{title_items, title_fields}
+
+-- What decides the pieces of the lines to come: the measure of rows, the system that is the source of a page without one, the fields of
+-- header and footer, and the open scopes.
+pub record BodyEdge : Type 0 where
+  pub measure : Measure
+  pub os : List ℕ
+  pub fields : Fields
+  pub scopes : PageEdge
+
+-- whether the body began
+abbrev pub has_begun : BodyEdge → Bool
+has_begun b = b.scopes.state.running.has_begun
+
+-- ---- the header
+
+-- the header stands before the event that begins the body
+abbrev pub header_of : BodyEdge → ℕ → List Item
+header_of b line = header_items b.measure (at line 1) b.fields
+
+abbrev pub begin_items : BodyEdge → Event (List ℕ) → List Item
+begin_items b event =
+    if scopes.begins_body b.scopes event then header_of b event.place.line else []
+
+-- what follows a macro of the prologue is no longer than a line
+abbrev pub RestIsShort : Deed (List ℕ) → Type 0
+RestIsShort (Leaf (Prologue name rest)) = length rest ≤ LINE
+RestIsShort _ = Unit {0}
+
+-- ---- events
+
+abbrev pub with_scopes : BodyEdge → PageEdge → BodyEdge
+with_scopes b edge = record { measure = b.measure; os = b.os; fields = b.fields; scopes = edge }
+
+abbrev pub scope_items : BodyEdge → Event (List ℕ) → List Item
+scope_items b event = begin_items b event ++ scopes.event_items b.scopes event
+
+-- a macro of the prologue tells the fields, and is nothing to the scopes
+abbrev pub deed_items : Deed (List ℕ) → BodyEdge → Event (List ℕ) → List Item
+deed_items (Leaf (Prologue name rest)) b event = title_items (has_begun b) event.place name rest
+deed_items _ b event = scope_items b event
+
+abbrev pub with_title : BodyEdge → List ℕ → BodyEdge
+with_title b rest =
+    record {
+      measure = b.measure;
+      os = b.os;
+      fields = title_fields (has_begun b) b.os rest b.fields;
+      scopes = b.scopes;
+    }
+
+abbrev pub deed_after : Deed (List ℕ) → BodyEdge → Event (List ℕ) → BodyEdge
+deed_after (Leaf (Prologue name rest)) b event = with_title b rest
+deed_after _ b event = with_scopes b (scopes.event_after b.scopes event)
+
+unfoldable pub event_items : BodyEdge → Event (List ℕ) → List Item
+event_items b event = deed_items event.deed b event
+
+unfoldable pub event_after : BodyEdge → Event (List ℕ) → BodyEdge
+event_after b event = deed_after event.deed b event
+
+unfoldable pub events_items : BodyEdge → List (Event (List ℕ)) → List Item
+events_items b [] = []
+events_items b (event ∷ events) = event_items b event ++ events_items (event_after b event) events
+
+unfoldable pub events_after : BodyEdge → List (Event (List ℕ)) → BodyEdge
+events_after b [] = b
+events_after b (event ∷ events) = events_after (event_after b event) events
+
+-- the texts of an event stand in a line
+abbrev pub IsShort : Event (List ℕ) → Type 0
+IsShort event = DeedFits event.deed × RestIsShort event.deed
+
+-- ---- the page's end, after the line of a number
+
+-- without a body the header comes at last, with a message
+abbrev pub late_header : BodyEdge → ℕ → List Item
+late_header b line =
+    if has_begun b then [] else (header_of b line ++ says NoBody (at line 1) [] ∷ [])
+
+unfoldable pub end_items : BodyEdge → ℕ → List Item
+end_items b line = late_header b line ++ scopes.end_items b.scopes line
+
+-- a blank row, unless one stands there, and the footer
+unfoldable pub footer_items : BodyEdge → ℕ → ℕ → List Item
+footer_items b line blank_rows =
+    (if blank_rows == 0 then shown (pieces.Space 1) ∷ [] else []) ++ footer_row b.measure (at line 1) b.fields
+
+-- ---- the start
+
+-- a page's indent is that of its settings, else that of its set of macros
+abbrev pub measure_of : Settings → ℕ → Measure
+measure_of s indent = record { width = s.width; indent = unwrap_or s.indent indent; output = s.output }
+
+-- before a page's first line
+abbrev pub start_of : Settings → ℕ → BodyEdge
+start_of s indent = record {
+  measure = measure_of s indent;
+  os = s.os.bytes;
+  fields = no_fields s.os.bytes;
+  scopes = scopes.start_edge (record { indent = unwrap_or s.indent indent; output = s.output });
+}

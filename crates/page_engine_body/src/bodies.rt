@@ -1,0 +1,134 @@
+//! The body of a page: the events of its lines, with the header before the event that begins it (man(7)).
+
+ghost use Rattle.std.specs.Prelude.{◌≡◌, ◌≤◌, length, OnOk, IfOk};
+ghost use Rattle.page_core_base.specs.Latches.{Came, Emits};
+ghost use Rattle.page_core_base.specs.LinesTaken.{line_seen};
+ghost use Rattle.page_engine_body.specs.Bodies as bodies;
+ghost use Rattle.page_engine_body.specs.Bodies.{IsShort};
+ghost use Rattle.page_sets_lines.specs.Events.{event_seen};
+ghost use Rattle.page_sets_lines.specs.Laws.{HasSlices};
+
+use crate::titles::give_title;
+use arrayvec::ArrayString;
+use page_core_base::{
+    Fault, NoteKind, Piece, PieceLatch, PieceOut, PieceSink, Place, Settings, Taken,
+};
+use page_core_limits::LINE;
+use page_engine_header::{Fields, Measure, give_footer_row, give_header};
+use page_scopes::OpenScopes;
+use page_scopes_nodes::PageLayout;
+use page_scopes_words::report;
+use page_sets::{Deed, Event, Leaf, MacroSet};
+use std::alloc::{AllocError, Global};
+use std::marker::Model;
+
+/// What decides the pieces of the lines to come: the fields of header and footer, and the open scopes.
+#[derive(Drop)]
+pub struct Body {
+    measure: Measure,
+    os: ArrayString<256>,
+    fields: Fields,
+    scopes: OpenScopes,
+}
+
+impl Model for Body {
+    ghost use Rattle.page_engine_body.specs.Bodies.{BodyEdge};
+
+    ghost Value = { BodyEdge };
+
+    ghost view = { λ b. record { measure = b.measure; os = b.os.bytes; fields = b.fields; scopes = b.scopes } };
+}
+
+impl Body {
+    /// The body of a page that begins, by settings that pass their check, at the indent of a set of macros.
+    pub fn new(alloc: Global, settings: &Settings, indent: u32) -> Result<Body, AllocError>
+        ensures { IfOk result (λ body. body ≡ bodies.start_of settings.now indent) }
+    {
+        let measure = Measure {
+            width: settings.width,
+            indent: settings.indent.unwrap_or(indent),
+            output: settings.output,
+        };
+        let page = PageLayout {
+            indent: measure.indent,
+            output: settings.output,
+        };
+        Ok(Body {
+            measure,
+            os: settings.os,
+            fields: Fields::new(settings.os.as_str().as_bytes()),
+            scopes: OpenScopes::new(alloc, page)?,
+        })
+    }
+
+    // Gives the header before an event that begins the body.
+    fn give_begin<O: PieceOut>(&self, out: &mut O, event: &Event<&[u8]>)
+        ensures { Came O.left out.old (bodies.begin_items self.now (event_seen event.now)) out.new }
+    {
+        if self.scopes.begins_body(event) {
+            let place = Place {
+                line: event.place.line,
+                column: 1,
+            };
+            give_header(out, self.measure, place, &self.fields);
+        }
+    }
+
+    // Gives an event, and keeps what it leaves.
+    #[tactic(auto, unfolding(crate::specs::Bodies::event_items, crate::specs::Bodies::event_after))]
+    fn give_event<O: PieceOut>(&mut self, out: &mut O, event: &Event<&[u8]>)
+        requires { IsShort (event_seen event.now) }
+        ensures came { Came O.left out.old (bodies.event_items self.old (event_seen event.now)) out.new }
+        ensures after { self.new ≡ bodies.event_after self.old (event_seen event.now) }
+    {
+        if let Deed::Leaf(Leaf::Prologue(name, rest)) = event.deed {
+            let os = self.os.as_str().as_bytes();
+            let has_begun = self.scopes.has_begun();
+            give_title(out, event.place, name, rest, has_begun, os, &mut self.fields);
+            return;
+        }
+        self.give_begin(out, event);
+        self.scopes.give_event(event, out);
+    }
+
+    /// Gives the pieces and messages of a finished line, and keeps what it leaves.
+    pub fn give_line<S: MacroSet, O: PieceOut>(&mut self, set: &S, taken: Taken<'_>, out: &mut O)
+    where
+        S::Place: Drop,
+        requires { length taken.text.now ≤ LINE }
+        ensures came { Came O.left out.old
+            (bodies.events_items self.old (S.table set.now (line_seen taken.entry))) out.new }
+        ensures after { self.new ≡ bodies.events_after self.old (S.table set.now (line_seen taken.entry)) }
+    {
+        let mut place = set.start(taken);
+        while let Some(event) = set.next(taken, &mut place) {
+            self.give_event(out, &event);
+        }
+    }
+
+    /// Ends the body after a line: the header and a message where no body began, and the end of all scopes.
+    #[tactic(auto, unfolding(crate::specs::Bodies::end_items))]
+    pub fn give_end<O: PieceOut>(&mut self, line: u32, out: &mut O)
+        ensures came { Came O.left out.old (bodies.end_items self.old line) out.new }
+        ensures fields { self.new.fields ≡ self.old.fields }
+        ensures measure { self.new.measure ≡ self.old.measure }
+    {
+        if !self.scopes.has_begun() {
+            let place = Place { line, column: 1 };
+            give_header(out, self.measure, place, &self.fields);
+            report(out, NoteKind::NoBody, place, b"");
+        }
+        self.scopes.give_end(line, out);
+    }
+
+    /// Gives the footer, and before it a blank row, unless one stands there.
+    #[tactic(auto, unfolding(crate::specs::Bodies::footer_items))]
+    pub fn give_footer<O: PieceOut>(&self, line: u32, blank_rows: u32, out: &mut O)
+        ensures { Came O.left out.old (bodies.footer_items self.now line blank_rows) out.new }
+    {
+        if blank_rows == 0 {
+            out.give(Piece::Space(1));
+        }
+        give_footer_row(out, self.measure, Place { line, column: 1 }, &self.fields);
+    }
+}
