@@ -1,6 +1,6 @@
 -- The end of a line: what it gives. Source: roff(7), `nf`, `\c`.
-use Rattle.std.specs.Prelude.{Bool, not, ◌&&◌, List, [], ◌∷◌, if◌then◌else◌}
-use Rattle.page_core_base.specs.Pieces.{Item, shown}
+use Rattle.std.specs.Prelude.{Bool, not, ◌&&◌, [], ◌∷◌, if◌then◌else◌}
+use Rattle.page_core_base.specs.Pieces.{shown}
 use Rattle.page_core_base.specs.declared.pieces.Piece.TheVariants as pieces
 use Rattle.page_scopes_layout.specs.declared.contexts.Context.{Context}
 use Rattle.page_scopes_leaves.specs.Outcomes.{Outcome}

@@ -1,5 +1,5 @@
 -- Tags: words in front of a text that hangs. Source: man(7), `IP`, `SY`.
-use Rattle.std.specs.Prelude.{ℕ, false, List, [], ◌∷◌, ◌++◌, None, Some}
+use Rattle.std.specs.Prelude.{ℕ, false, List, ◌∷◌, ◌++◌, None, Some}
 use Rattle.page_core_base.specs.Pieces.{shown}
 use Rattle.page_core_base.specs.declared.pieces.Piece.TheVariants as pieces
 use Rattle.page_core_base.specs.declared.pieces.TagForm.TheVariants.{Row}
