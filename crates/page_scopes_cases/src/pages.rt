@@ -1,0 +1,126 @@
+//! A page, whose lines come one by one.
+
+ghost use Rattle.std.specs.Prelude.{◌≡◌, ◌≤◌, length};
+
+use crate::shown::Shown;
+use page_core_base::{Form, Output, Taken};
+use page_core_limits::LINE;
+use page_roff_forms::{LineForm, form_of};
+use page_scopes::{OpenScopes, give_line};
+use page_scopes_nodes::PageLayout;
+use page_sets::Man;
+use page_sets_checks::Verbatim;
+use std::alloc::{AllocError, Global};
+
+/// The scopes of a page, and the number of its next line.
+#[derive(Drop)]
+pub(crate) struct Page {
+    scopes: OpenScopes,
+    line: u32,
+}
+
+// What a line is, and the bytes up to the end of its name.
+fn form_and_name(text: &[u8]) -> (Form, u32)
+    requires { length text.now ≤ LINE }
+{
+    match form_of(text) {
+        LineForm::Control { rest_column, .. } => (Form::Control, rest_column.saturating_sub(1)),
+        LineForm::Comment | LineForm::BlankLine => (Form::Blank, 0),
+        LineForm::Text(_) => (Form::Text, 0),
+    }
+}
+
+// A line of a table.
+fn raw_line(text: &[u8], line: u32) -> Taken<'_>
+    ensures { result.text.now ≡ text.now }
+{
+    Taken {
+        form: Form::Raw,
+        text,
+        line,
+        name_end: 0,
+    }
+}
+
+// A line as roff hands it to a macro set.
+fn taken(text: &[u8], line: u32) -> Taken<'_>
+    requires { length text.now ≤ LINE }
+    ensures { length result.text.now ≤ length text.now }
+{
+    if let [b'|', raw @ ..] = text {
+        return raw_line(raw, line);
+    }
+    let (form, name_end) = form_and_name(text);
+    Taken {
+        form,
+        text,
+        line,
+        name_end,
+    }
+}
+
+impl Page {
+    /// A page before its first line, at an indent of 7 columns.
+    pub(crate) fn new(alloc: Global) -> Result<Page, AllocError> {
+        let layout = PageLayout {
+            indent: 7,
+            output: Output::Ascii,
+        };
+        Ok(Page {
+            scopes: OpenScopes::new(alloc, layout)?,
+            line: 1,
+        })
+    }
+
+    /// A page after a heading and a word.
+    pub(crate) fn begun(alloc: Global) -> Result<Page, AllocError> {
+        let mut page = Page::new(alloc)?;
+        let mut out = Shown::new(alloc);
+        page.take(&mut out, ".SH A");
+        page.take(&mut out, "x");
+        Ok(page)
+    }
+
+    // Takes a line; one that begins with `^` by the second set, which shows it as it is.
+    fn take_line(&mut self, out: &mut Shown, text: &[u8])
+        requires { length text.now ≤ LINE }
+    {
+        if let [b'^', raw @ ..] = text {
+            let line = raw_line(raw, self.line);
+            give_line(&Verbatim, line, &mut self.scopes, out);
+        } else {
+            give_line(&Man, taken(text, self.line), &mut self.scopes, out);
+        }
+    }
+
+    // Takes a line; `end` ends the page.
+    fn take(&mut self, out: &mut Shown, text: &str) {
+        if text.len() > LINE / 2 {
+            return;
+        }
+        if text == "end" {
+            self.scopes.give_end(self.line, out);
+        } else {
+            self.take_line(out, text.as_bytes());
+        }
+        self.line = self.line.saturating_add(1);
+    }
+
+    /// Shows what a line gives.
+    pub(crate) fn show(&mut self, rt: &HostRuntime, text: &str) {
+        let mut out = Shown::new(rt.alloc());
+        self.take(&mut out, text);
+        let _ = println!(rt; "   {}", out.text());
+    }
+
+    /// Takes a line a number of times, which stands before it, and shows the last.
+    pub(crate) fn repeat(&mut self, rt: &HostRuntime, text: &str) {
+        let (count, line) = text.split_once(' ').unwrap_or(("0", text));
+        let count: u32 = count.parse().unwrap_or(0);
+        for _i in 0..count.saturating_sub(1) {
+            let mut out = Shown::new(rt.alloc());
+            self.take(&mut out, line);
+        }
+        self.show(rt, line);
+    }
+}
