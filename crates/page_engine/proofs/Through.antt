@@ -7,10 +7,10 @@ use Rattle.page_core_base.specs.declared.faults.Fault.{Fault}
 use Rattle.page_core_base.proofs.SinkLemmas.{within-join}
 use Rattle.page_roff_lines.specs.Cutting.{Point, point_after, lines_within, last_line}
 use Rattle.page_roff_lines.proofs.PointLemmas.{point_after-append}
-use Rattle.page_engine.specs.declared.pages.Page.{Page}
+use Rattle.page_engine_page.specs.declared.pages.Page.{Page}
 use Rattle.page_engine.specs.declared.runs.Run.{Run}
-use Rattle.page_engine.specs.Below.{cause_later}
-use Rattle.page_engine.specs.Page.{Edge, IsAt, page}
+use Rattle.page_engine_page.specs.Below.{cause_later}
+use Rattle.page_engine_page.specs.Page.{Edge, IsAt, page}
 use Rattle.page_engine.specs.Streams.{Streams, Sinks, AllCame, FrontCame}
 use Rattle.page_engine.specs.Runs.{page_from, settled_from, Broken, BrokeIn}
 use Rattle.page_engine.specs.Steps.{Front, CanTake, IsFresh, Moved, Settled, Through, ChunkBroke}

@@ -15,11 +15,11 @@ use Rattle.page_roff_lines.specs.Cutting.{Point, first_point, lines_from, last_l
 use Rattle.page_roff_lines.proofs.LineAgreement.{lines-one_by_one}
 use Rattle.page_engine.specs.declared.runs.Outcome.{Outcome}
 use Rattle.page_engine.specs.declared.runs.Run.{Run}
-use Rattle.page_engine.specs.Page.{Edge, IsAt, page, start, laid, ended}
+use Rattle.page_engine_page.specs.Page.{Edge, IsAt, page, start, laid, ended}
 use Rattle.page_engine.specs.Sources.{SourceState}
 use Rattle.page_engine.specs.Streams.{Streams, Sinks, AllCame}
 use Rattle.page_engine.specs.Runs.{RunsOver, Stopped, HasCause, Broken, whole_page, page_from, settled_from}
-use Rattle.page_engine.specs.Below.{cause_later}
+use Rattle.page_engine_page.specs.Below.{cause_later}
 use Rattle.page_engine.specs.Steps.{TookLast, Finished, Finishes, Through, EndedWell, StoppedFrom, ReadsAll}
 use Rattle.page_engine.proofs.BytesRead.{given_none, both_gave, both_within, page_last, lines_last}
 use Rattle.page_engine.proofs.Through.{broken_front, broken_end}

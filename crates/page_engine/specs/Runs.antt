@@ -10,7 +10,7 @@ use Rattle.page_roff_lines.specs.Decoding.{lines}
 use Rattle.page_roff_lines.specs.Cutting.{Point, first_point, point_after, lines_within, last_line, lines_from}
 use Rattle.page_core_base.specs.Checks.{IsGood, IsFirst}
 use Rattle.page_engine.specs.declared.runs.Outcome.{Outcome}
-use Rattle.page_engine.specs.Page.{Edge, laid, page, start}
+use Rattle.page_engine_page.specs.Page.{Edge, laid, page, start}
 use Rattle.page_engine.specs.Sources.{SourceState, HasGiven}
 use Rattle.page_engine.specs.Streams.{Streams, Sinks, AllCame, FrontCame}
 

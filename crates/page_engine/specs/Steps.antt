@@ -7,9 +7,9 @@ use Rattle.page_core_base.specs.declared.faults.Fault.TheVariants.{Memory, Read,
 use Rattle.page_core_base.specs.declared.page_settings.Settings.{Settings as PageSettings}
 use Rattle.page_core_base.specs.Laid.{Laid}
 use Rattle.page_roff_lines.specs.Cutting.{Point, first_point, point_after, lines_within, last_line, lines_from}
-use Rattle.page_engine.specs.declared.pages.Page.{Page}
+use Rattle.page_engine_page.specs.declared.pages.Page.{Page}
 use Rattle.page_engine.specs.declared.runs.Run.{Run}
-use Rattle.page_engine.specs.Page.{Edge, IsAt, laid, page, start}
+use Rattle.page_engine_page.specs.Page.{Edge, IsAt, laid, page, start}
 use Rattle.page_engine.specs.Sources.{SourceState, HasGiven}
 use Rattle.page_engine.specs.Streams.{Sinks, AllCame, FrontCame}
 use Rattle.page_engine.specs.Runs.{page_from, settled_from, Broken, IsTooLong}

@@ -1,10 +1,8 @@
 //! A page from its bytes to its rows and messages.
 #![tactic(auto)]
 
-mod belows;
-mod filters;
-mod pages;
 mod runs;
+mod shown;
 mod sources;
 
 pub use runs::{BYTES, Counts, Outcome, READS, run_page, run_sinks};

@@ -1,23 +1,20 @@
 //! A run: the bytes of a source become the rows and messages of a page.
 
-ghost use Rattle.std.specs.Prelude.{◌≡◌, ◌<◌, ◌≤◌, ◌^◌, ℕ, List, false, true, length, OnOk, IfOk, IfErr};
+ghost use Rattle.std.specs.Prelude.{◌≡◌, ◌<◌, ◌≤◌, ◌^◌, ℕ, List, false, length, IfOk, IfErr};
 ghost use Rattle.std.specs.Io.KnownBytes.{Consumes};
-ghost use Rattle.page_core_base.specs.Fails.{FailsBySink};
-ghost use Rattle.page_core_base.specs.Laid.{Gets};
 ghost use Rattle.page_core_base.specs.Checks.{IsGood};
-ghost use Rattle.page_roff_lines.specs.Cutting.{line_of};
-ghost use Rattle.page_engine.specs.Page.{Edge, IsAt, laid_line};
+ghost use Rattle.page_engine_page.specs.Page.{Edge, IsAt};
 ghost use Rattle.page_engine.specs.Shown.{is_silent};
 ghost use Rattle.page_engine.specs.Streams.{streams, sinks};
 ghost use Rattle.page_engine.specs.Written.{WritesRows, WritesRowsInto, WritesNotes, WritesNotesInto};
 ghost use Rattle.page_engine.specs.Runs.{Runs, RunsOver};
 ghost use Rattle.page_engine.specs.Steps.{CanTake, TakesPart, TakesChunk, TakesLast, Finishes, StartsAt, IsFresh, ReadsAll};
 
-use crate::filters::{Filter, Shown, is_silent};
-use crate::pages::Page;
+use crate::shown::{Shown, is_silent};
 use crate::sources::{Counted, Reading, Source};
 use page_core_base::{Fault, Level, NoteSink, RowSink, Settings};
 use page_core_writers::{TextNotes, TextRows};
+use page_engine_page::Page;
 use page_roff_lines::Cutter;
 use std::alloc::Global;
 use std::io::{Read, Write};
@@ -44,40 +41,6 @@ pub struct Counts {
 pub struct Outcome {
     pub worst: Option<Level>,
     pub counts: Counts,
-}
-
-impl Page {
-    /// Takes the line that a cutter has, and gives what it settles.
-    fn take_line<R: RowSink, N: NoteSink>(
-        &mut self,
-        cutter: &mut Cutter,
-        rows: &mut R,
-        notes: &mut N,
-    ) -> Result<(), Fault>
-        requires { cutter.old.ready ≡ true }
-        ensures gets { (e : Edge) → IsAt self.old e →
-            Gets result R.gave R.within N.gave N.within rows.old rows.new notes.old notes.new
-            (laid_line e (line_of cutter.old.point)) }
-        ensures edge { (e : Edge) → IsAt self.old e →
-            OnOk result (IsAt self.new (laid_line e (line_of cutter.old.point)).edge) }
-        ensures faults { (e : Edge) → IsAt self.old e →
-            FailsBySink result (R.failed rows.old) (R.failed rows.new)
-            (N.failed notes.old) (N.failed notes.new) }
-        ensures point { OnOk result (cutter.new.point ≡ cutter.old.point) }
-        ensures ready { OnOk result (cutter.new.ready ≡ false) }
-        ensures rows_same { R.loans rows.new ≡ R.loans rows.old }
-        ensures notes_same { N.loans notes.new ≡ N.loans notes.old }
-    {
-        let mut filter = Filter {
-            notes: &mut *notes,
-            least: self.least,
-            worst: self.worst,
-        };
-        let line = cutter.line(&mut filter);
-        self.worst = filter.worst;
-        let (text, number) = line?;
-        self.feed(text, number, rows, notes)
-    }
 }
 
 /// A page, the cutter of its bytes, and the count of its source lines.
@@ -268,7 +231,7 @@ pub fn run_sinks<S: Source, R: RowSink, N: NoteSink>(
     if let Err(fault) = run.read_all(source, rows, notes) {
         return Err(fault);
     }
-    Ok(ended_well(run.page.worst, run.lines))
+    Ok(ended_well(run.page.worst(), run.lines))
 }
 
 /// Formats a page as [`run_sinks`] does: reads a reader, and writes the rows to one writer and the messages,

@@ -2,8 +2,8 @@
 
 ghost use Rattle.std.specs.Prelude.{◌≡◌, ℕ, List, Option, Some};
 ghost use Rattle.std.specs.Borrow.{GName};
-ghost use Rattle.page_engine.specs.Levels.{filter-sink};
-ghost use Rattle.page_engine.specs.Below.{BelowGave, BelowBroke, below-sink};
+ghost use Rattle.page_engine_page.specs.Levels.{filter-sink};
+ghost use Rattle.page_engine_page.specs.Below.{BelowGave, BelowBroke, below-sink};
 
 use crate::filters::Filter;
 use page_core_base::{Fault, Note, NoteSink, Piece, PieceSink, RowSink};

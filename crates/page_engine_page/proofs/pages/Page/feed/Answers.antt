@@ -2,10 +2,10 @@ use Rattle.std.proofs.Common.{rules, refl}
 use Rattle.page_core_base.specs.Laid.{Gets}
 use Rattle.page_core_base.specs.Fails.{FailsBySink}
 use Rattle.page_prose.specs.SourceLines.{source_items}
-use Rattle.page_engine.specs.Items.{laid_items}
-use Rattle.page_engine.specs.Page.{laid_text, passed}
-use Rattle.page_engine.proofs.Feeds.{passes_gets, passes_edge, passes_faults}
-use Rattle.page_engine.proofs.pages.Page.feed.Goals as goal
+use Rattle.page_engine_page.specs.Items.{laid_items}
+use Rattle.page_engine_page.specs.Page.{laid_text, passed}
+use Rattle.page_engine_page.proofs.Feeds.{passes_gets, passes_edge, passes_faults}
+use Rattle.page_engine_page.proofs.pages.Page.feed.Goals as goal
 
 pub returns-clause-gets : goal.returns-clause-gets
 unfolding laid_text

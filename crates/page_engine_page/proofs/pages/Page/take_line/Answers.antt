@@ -3,9 +3,9 @@ use Rattle.std.proofs.lemmas.Result.{err_from_is_err_and}
 use Rattle.page_core_base.specs.Laid.{Gets, Gave}
 use Rattle.page_core_base.specs.Fails.{FailsBySink}
 use Rattle.page_roff_lines.specs.Cutting.{line_of}
-use Rattle.page_engine.specs.Page.{laid_notes, laid_text, laid_line}
-use Rattle.page_engine.proofs.Cuts.{cut_at, cut_gave, cut_within, gets_after, faults_after}
-use Rattle.page_engine.proofs.pages.Page.take_line.Goals as goal
+use Rattle.page_engine_page.specs.Page.{laid_notes, laid_text, laid_line}
+use Rattle.page_engine_page.proofs.Cuts.{cut_at, cut_gave, cut_within, gets_after, faults_after}
+use Rattle.page_engine_page.proofs.pages.Page.take_line.Goals as goal
 
 pub returns-in_err-text-clause-gets : goal.returns-in_err-text-clause-gets
 returns-in_err-text-clause-gets g c = λ e h.

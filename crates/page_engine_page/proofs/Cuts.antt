@@ -7,9 +7,9 @@ use Rattle.page_core_base.specs.declared.faults.Fault.{Fault}
 use Rattle.page_core_base.specs.declared.note_kinds.Level.{Level}
 use Rattle.page_core_base.specs.Laid.{Laid, Gave, Gets, join}
 use Rattle.page_core_base.specs.Fails.{FailsBySink}
-use Rattle.page_engine.specs.declared.pages.Page.{Page}
-use Rattle.page_engine.specs.Levels.{given, worst_of}
-use Rattle.page_engine.specs.Page.{Edge, IsAt, laid_notes}
+use Rattle.page_engine_page.specs.declared.pages.Page.{Page}
+use Rattle.page_engine_page.specs.Levels.{given, worst_of}
+use Rattle.page_engine_page.specs.Page.{Edge, IsAt, laid_notes}
 
 -- the messages of a cutting change the worst level alone
 pub cut_at : {here : Page} {e : Edge} (worst' : Option Level) (m : List Message)

@@ -10,8 +10,8 @@ use Rattle.page_core_base.specs.Fails.{FailsBySink}
 use Rattle.page_fill.specs.declared.words.Edge.{Edge as FillEdge}
 use Rattle.page_fill.specs.Fill as fill
 use Rattle.page_core_base.specs.Pieces.{Item, shown}
-use Rattle.page_engine.specs.Items.{laid_item, laid_items}
-use Rattle.page_engine.specs.Below.{Passed, Broken, Ends, cause_later}
+use Rattle.page_engine_page.specs.Items.{laid_item, laid_items}
+use Rattle.page_engine_page.specs.Below.{Passed, Broken, Ends, cause_later}
 
 pub laid_items_one : (row : FillEdge) (x : Item) → laid_items row (x ∷ []) ≡ laid_item row x
 unfolding laid_items

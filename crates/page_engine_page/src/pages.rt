@@ -1,12 +1,13 @@
 //! A page: lines become rows and messages.
 
-ghost use Rattle.std.specs.Prelude.{◌≡◌, ◌≤◌, ℕ, OnOk, IfOk, IfErr, length, Some, None};
+ghost use Rattle.std.specs.Prelude.{◌≡◌, ◌≤◌, ℕ, true, false, OnOk, IfOk, IfErr, length, Some, None};
 ghost use Rattle.page_core_base.specs.Fails.{FailsBySink};
 ghost use Rattle.page_core_base.specs.Laid.{Gets};
 ghost use Rattle.page_core_base.specs.Messages.{message_of};
+ghost use Rattle.page_roff_lines.specs.Cutting.{line_of};
 ghost use Rattle.page_fill.specs.declared.words.Edge.{Edge as FillEdge};
-ghost use Rattle.page_engine.specs.Page.{Edge, IsAt, laid_text, ended, end_laid, start};
-ghost use Rattle.page_engine.specs.Below.{Ends};
+ghost use Rattle.page_engine_page.specs.Page.{Edge, IsAt, laid_text, laid_line, ended, end_laid, start};
+ghost use Rattle.page_engine_page.specs.Below.{Ends};
 
 use crate::belows::Below;
 use crate::filters::Filter;
@@ -14,11 +15,12 @@ use page_core_base::{Fault, Level, NoteSink, RowSink, Settings};
 use page_core_limits::LINE;
 use page_fill::Filler;
 use page_prose::Prose;
+use page_roff_lines::Cutter;
 use std::alloc::Global;
 
 /// A page whose lines come one by one.
 #[derive(Drop)]
-pub(crate) struct Page {
+pub struct Page {
     pub(crate) filler: Filler,
     pub(crate) prose: Prose,
     pub(crate) least: Option<Level>,
@@ -53,7 +55,7 @@ impl<R: RowSink, N: NoteSink> Below<'_, '_, '_, R, N> {
 
 impl Page {
     /// The start of a page of settings that pass their check. Its fault is [`Fault::Memory`].
-    pub(crate) fn new(alloc: Global, settings: &Settings) -> Result<Page, Fault>
+    pub fn new(alloc: Global, settings: &Settings) -> Result<Page, Fault>
         ensures ok { IfOk result (λ p. IsAt p (start settings.now)) }
         ensures fault { IfErr result (λ fault. fault ≡ Fault.Memory) }
     {
@@ -69,7 +71,7 @@ impl Page {
 
     /// Takes a line, and gives what it settles. After a fault, which is one of a sink, the page is not to be
     /// used again.
-    pub(crate) fn feed<R: RowSink, N: NoteSink>(
+    pub fn feed<R: RowSink, N: NoteSink>(
         &mut self,
         text: &[u8],
         number: u32,
@@ -106,12 +108,43 @@ impl Page {
 }
 
 impl Page {
-    /// Ends the page. After that it is not to be used again.
-    pub(crate) fn end<R: RowSink, N: NoteSink>(
+    /// Takes the line that a cutter has, and gives what it settles. After a fault, which is one of a sink, the
+    /// page is not to be used again.
+    pub fn take_line<R: RowSink, N: NoteSink>(
         &mut self,
+        cutter: &mut Cutter,
         rows: &mut R,
         notes: &mut N,
     ) -> Result<(), Fault>
+        requires { cutter.old.ready ≡ true }
+        ensures gets { (e : Edge) → IsAt self.old e →
+            Gets result R.gave R.within N.gave N.within rows.old rows.new notes.old notes.new
+            (laid_line e (line_of cutter.old.point)) }
+        ensures edge { (e : Edge) → IsAt self.old e →
+            OnOk result (IsAt self.new (laid_line e (line_of cutter.old.point)).edge) }
+        ensures faults { (e : Edge) → IsAt self.old e →
+            FailsBySink result (R.failed rows.old) (R.failed rows.new)
+            (N.failed notes.old) (N.failed notes.new) }
+        ensures point { OnOk result (cutter.new.point ≡ cutter.old.point) }
+        ensures ready { OnOk result (cutter.new.ready ≡ false) }
+        ensures rows_same { R.loans rows.new ≡ R.loans rows.old }
+        ensures notes_same { N.loans notes.new ≡ N.loans notes.old }
+    {
+        let mut filter = Filter {
+            notes: &mut *notes,
+            least: self.least,
+            worst: self.worst,
+        };
+        let line = cutter.line(&mut filter);
+        self.worst = filter.worst;
+        let (text, number) = line?;
+        self.feed(text, number, rows, notes)
+    }
+}
+
+impl Page {
+    /// Ends the page. After that it is not to be used again.
+    pub fn end<R: RowSink, N: NoteSink>(&mut self, rows: &mut R, notes: &mut N) -> Result<(), Fault>
         ensures gets { (e : Edge) → IsAt self.old e →
             Gets result R.gave R.within N.gave N.within rows.old rows.new notes.old notes.new (ended e) }
         ensures worst { (e : Edge) → IsAt self.old e → OnOk result (self.new.worst ≡ (ended e).edge.worst) }
@@ -134,5 +167,12 @@ impl Page {
         let result = below.end(&self.prose, self.last);
         self.worst = below.notes.worst;
         result
+    }
+
+    /// The worst level of the messages that were given.
+    pub fn worst(&self) -> Option<Level>
+        ensures { result ≡ self.now.worst }
+    {
+        self.worst
     }
 }

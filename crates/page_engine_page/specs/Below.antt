@@ -9,7 +9,7 @@ use Rattle.page_core_base.specs.Fails.{IsSinkFault}
 use Rattle.page_core_base.specs.Laid.{Laid, Gave}
 use Rattle.page_core_base.specs.Pieces.{Item}
 use Rattle.page_fill.specs.declared.words.Edge.{Edge as FillEdge}
-use Rattle.page_engine.specs.Items.{laid_items, laid_items-append}
+use Rattle.page_engine_page.specs.Items.{laid_items, laid_items-append}
 
 -- the rows and messages of these items came, and the filler's row is the one after them
 pub record Passed {R N : Type 0} (rg : R → List LaidRow → R → Type 0) (rf : R → ℕ) (ng : N → List Message

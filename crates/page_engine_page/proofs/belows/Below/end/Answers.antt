@@ -1,10 +1,10 @@
 use Rattle.page_prose.specs.Prose.{end_items, footer_items}
 use Rattle.page_fill.specs.Fill as fill
-use Rattle.page_engine.specs.Items.{laid_items}
-use Rattle.page_engine.specs.Levels.{filter-sink}
-use Rattle.page_engine.specs.Page.{footer_laid}
-use Rattle.page_engine.proofs.Items.{ends_after, ends_join, broken_join, broken_after}
-use Rattle.page_engine.proofs.belows.Below.end.Goals as goal
+use Rattle.page_engine_page.specs.Items.{laid_items}
+use Rattle.page_engine_page.specs.Levels.{filter-sink}
+use Rattle.page_engine_page.specs.Page.{footer_laid}
+use Rattle.page_engine_page.proofs.Items.{ends_after, ends_join, broken_join, broken_after}
+use Rattle.page_engine_page.proofs.belows.Below.end.Goals as goal
 
 pub returns-in-Err-clause-ends : goal.returns-in-Err-clause-ends
 returns-in-Err-clause-ends g c = λ f e d p q r.

@@ -10,9 +10,9 @@ use Rattle.page_prose.specs.declared.prose.Prose.{Prose}
 use Rattle.page_prose.specs.Prose.{end_items, footer_items, start_of}
 use Rattle.page_prose.specs.SourceLines.{source_items, source_after}
 use Rattle.page_roff_lines.specs.Decoding.{Line}
-use Rattle.page_engine.specs.declared.pages.Page.{Page}
-use Rattle.page_engine.specs.Levels.{given, worst_of}
-use Rattle.page_engine.specs.Items.{laid_items}
+use Rattle.page_engine_page.specs.declared.pages.Page.{Page}
+use Rattle.page_engine_page.specs.Levels.{given, worst_of}
+use Rattle.page_engine_page.specs.Items.{laid_items}
 
 -- what decides the rest of a page
 pub record Edge : Type 0 where

@@ -1,5 +1,5 @@
-use Rattle.page_engine.proofs.Items.{piece_passes}
-use Rattle.page_engine.proofs.belows.BelowPieceSink.piece.Goals as goal
+use Rattle.page_engine_page.proofs.Items.{piece_passes}
+use Rattle.page_engine_page.proofs.belows.BelowPieceSink.piece.Goals as goal
 
 pub returns-clause-gives : goal.returns-clause-gives
 returns-clause-gives g c =
