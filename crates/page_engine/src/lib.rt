@@ -5,5 +5,6 @@ mod runs;
 mod shown;
 mod sources;
 
-pub use runs::{BYTES, Counts, Outcome, READS, run_page, run_sinks};
+pub use page_roff_source::Counts;
+pub use runs::{BYTES, Outcome, READS, run_page, run_sinks};
 pub use sources::{Counted, Reading, Source};

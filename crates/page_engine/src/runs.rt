@@ -16,6 +16,7 @@ use page_core_base::{Fault, Level, NoteSink, RowSink, Settings};
 use page_core_writers::{TextNotes, TextRows};
 use page_engine_page::Page;
 use page_roff_lines::Cutter;
+use page_roff_source::Counts;
 use std::alloc::Global;
 use std::io::{Read, Write};
 
@@ -28,14 +29,6 @@ pub const READS: u32 = 4_294_967_295;
 /// The bytes of a chunk at most: those that are read at a time.
 const CHUNK: usize = 16_384;
 
-/// What was counted of a page: its source lines, the lines that were taken of them, and the interpolations.
-#[derive(Clone, Copy, Debug, PartialEq, Eq)]
-pub struct Counts {
-    pub source: u64,
-    pub taken: u64,
-    pub expansions: u64,
-}
-
 /// How a run ended: the worst level of the messages that were given, and the counts.
 #[derive(Clone, Copy, Debug, PartialEq, Eq)]
 pub struct Outcome {
@@ -43,12 +36,12 @@ pub struct Outcome {
     pub counts: Counts,
 }
 
-/// A page, the cutter of its bytes, and the count of its source lines.
+/// A page, the cutter of its bytes, and what was counted of it once it has ended.
 #[derive(Drop)]
 struct Run {
     page: Page,
     cutter: Cutter,
-    lines: u64,
+    counts: Counts,
 }
 
 impl Run {
@@ -59,10 +52,11 @@ impl Run {
     {
         let page = Page::new(alloc, settings)?;
         let cutter = Cutter::new(alloc, settings.encoding)?;
+        let counts = page.counts();
         Ok(Run {
             page,
             cutter,
-            lines: 0,
+            counts,
         })
     }
 
@@ -86,7 +80,6 @@ impl Run {
             return Ok(count);
         }
         self.page.take_line(&mut self.cutter, rows, notes)?;
-        self.lines += 1;
         Ok(count)
     }
 
@@ -128,7 +121,6 @@ impl Run {
             return Ok(());
         }
         self.page.take_line(&mut self.cutter, rows, notes)?;
-        self.lines += 1;
         Ok(())
     }
 
@@ -141,6 +133,7 @@ impl Run {
         ensures notes_same { N.loans notes.new ≡ N.loans notes.old }
     {
         self.take_last(rows, notes)?;
+        self.counts = self.page.counts();
         self.page.end(rows, notes)
     }
 
@@ -185,23 +178,6 @@ impl Run {
     }
 }
 
-// The outcome of a run, by the count of its source lines.
-fn ended_well(worst: Option<Level>, source: u64) -> Outcome
-    ensures worst { result.worst ≡ worst }
-    ensures source { result.counts.source ≡ source }
-    ensures taken { result.counts.taken ≡ source }
-    ensures expansions { result.counts.expansions ≡ 0 }
-{
-    Outcome {
-        worst,
-        counts: Counts {
-            source,
-            taken: source,
-            expansions: 0,
-        },
-    }
-}
-
 /// Formats a page: reads all bytes of a source, in chunks of any size, gives the rows to one sink and the
 /// messages to another, and answers the worst level of the messages and the counts.
 ///
@@ -231,7 +207,10 @@ pub fn run_sinks<S: Source, R: RowSink, N: NoteSink>(
     if let Err(fault) = run.read_all(source, rows, notes) {
         return Err(fault);
     }
-    Ok(ended_well(run.page.worst(), run.lines))
+    Ok(Outcome {
+        worst: run.page.worst(),
+        counts: run.counts,
+    })
 }
 
 /// Formats a page as [`run_sinks`] does: reads a reader, and writes the rows to one writer and the messages,

@@ -7,7 +7,7 @@ use Rattle.page_core_base.specs.declared.note_kinds.Level.{Level}
 use Rattle.page_core_base.specs.Laid.{Laid, Gets}
 use Rattle.page_core_base.specs.Fails.{FailsBySink}
 use Rattle.page_fill.specs.declared.words.Edge.{Edge as FillEdge}
-use Rattle.page_prose.specs.declared.prose.Prose.{Prose}
+use Rattle.page_engine_lines.specs.Lines.{LinesEdge}
 use Rattle.page_engine_page.specs.Levels.{FilterGave, FilterWithin}
 use Rattle.page_engine_page.specs.Below.{Passed, Broken, Ends}
 use Rattle.page_engine_page.specs.Page.{Edge, IsAt, of_page}
@@ -31,13 +31,13 @@ passes_gets rg rw_ rf ng nw nf below least worst (Err x) f f' r r' s s' l e next
 
 pub passes_edge : {R S N : Type 0} (rg rw_ : R → List LaidRow → R → Type 0) (rf : R → ℕ) (ng nw : N → List Message → N → Type 0) (nf : S → ℕ)
     (below : S → N) (least worst : S → Option Level) (res : Result (Unit {0}) Fault) (f f' : Option FillEdge) (r r' : R) (s s' : S) (l : FillEdge → Laid FillEdge) (e next : Edge)
-    (prose : Prose) (kept : Option Level) (last : ℕ)
+    (lines : LinesEdge) (kept : Option Level) (last : ℕ)
     → f ≡ Some e.fill → least s ≡ e.least → worst s ≡ e.worst → Passes res rg rw_ rf ng nw nf below least worst f f' r r' s s' l
-    → OnOk res (prose ≡ next.prose) → kept ≡ next.least → last ≡ next.last
-    → OnOk res (IsAt (record { filler = f'; prose = prose; least = kept; worst = worst s'; last = last }) (of_page e next (l e.fill)).edge)
-passes_edge rg rw_ rf ng nw nf below least worst (Ok x) f f' r r' s s' l e next prose kept last q k w h a b c =
+    → lines ≡ next.lines → kept ≡ next.least → last ≡ next.last
+    → OnOk res (IsAt (record { filler = f'; lines = lines; least = kept; worst = worst s'; last = last }) (of_page e next (l e.fill)).edge)
+passes_edge rg rw_ rf ng nw nf below least worst (Ok x) f f' r r' s s' l e next lines kept last q k w h a b c =
     let p = h e.fill q in record { filled = p.filler; lines = a; levels = b; worst_level = rw (k, w) at p.notes.2; last_line = c }
-passes_edge rg rw_ rf ng nw nf below least worst (Err x) f f' r r' s s' l e next prose kept last q k w h a b c = tt
+passes_edge rg rw_ rf ng nw nf below least worst (Err x) f f' r r' s s' l e next lines kept last q k w h a b c = tt
 
 pub passes_faults : {R S N : Type 0} (rg rw_ : R → List LaidRow → R → Type 0) (rf : R → ℕ) (ng nw : N → List Message → N → Type 0) (nf : S → ℕ)
     (below : S → N) (least worst : S → Option Level) (res : Result (Unit {0}) Fault) (f f' : Option FillEdge) (r r' : R) (s s' : S) (l : FillEdge → Laid FillEdge) (x : FillEdge)
@@ -65,3 +65,7 @@ pub ends_faults : {R S N : Type 0} (rg rw_ : R → List LaidRow → R → Type 0
     → Ends res rg rw_ rf (FilterGave ng below least worst) (FilterWithin nw below least) nf r r' s s' l → FailsBySink res (rf r) (rf r') (nf s) (nf s')
 ends_faults rg rw_ rf ng nw nf below least worst (Ok x) r r' s s' l h = (h.1, h.2)
 ends_faults rg rw_ rf ng nw nf below least worst (Err x) r r' s s' l h = h.cause
+
+-- the end of the source leaves the prose as it was
+pub same_prose : (lines kept e : LinesEdge) → lines.prose ≡ kept.prose → kept ≡ e → lines.prose ≡ e.prose
+same_prose lines kept e h k = rw k at h

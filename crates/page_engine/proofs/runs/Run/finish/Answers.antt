@@ -22,4 +22,4 @@ returns-clause-ends g c =
     let r = g.R.RowSink in
     let n = g.N.NoteSink in
     finished (sinks r.gave r.within r.failed n.gave n.within n.failed) g.met.R.RowSink.laws g.met.N.NoteSink.laws _ _ _ _ _ _ _ _ _ c.end.result
-    c.in_ok-take_last.ensures.takes c.end.ensures.gets c.end.ensures.worst c.end.ensures.faults refl
+    c.in_ok-take_last.ensures.takes c.end.ensures.gets c.end.ensures.worst c.end.ensures.faults c.counts-self.ensures
