@@ -1,0 +1,5 @@
+pub mod CountLemmas
+pub mod CutLemmas
+pub mod GivenLemmas
+pub mod NoteLatchLemmas
+pub mod RoomLemmas

@@ -1,0 +1,6 @@
+//! What roff gives of a page's lines, one finished line at a time (roff(7), "LANGUAGE SYNTAX").
+#![tactic(auto)]
+
+mod laws;
+
+pub use laws::{count_law, cut_law, room_law};
