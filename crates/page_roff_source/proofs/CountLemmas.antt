@@ -12,7 +12,7 @@ use Rattle.page_roff_run.specs.declared.TheConstants.{REREAD}
 use Rattle.page_roff_run.specs.Budgets.{language}
 use Rattle.page_roff_run.proofs.BudgetLemmas.{page_line_bound}
 use Rattle.page_roff_run.proofs.SpendLemmas.{page_spends}
-use Rattle.page_roff_effects.specs.Effects.{effects, expansions_of, tested_after, done_by, done_after, budget_outcome, block_outcome, end_of_block_outcome, setting_of}
+use Rattle.page_roff_effects.specs.Effects.{effects, answer_of, test_outcome, expansions_of, tested_after, done_by, done_after, budget_outcome, block_outcome, end_of_block_outcome, setting_of}
 use Rattle.page_roff_effects.specs.Leaves.{leaf_outcome}
 use Rattle.page_roff_effects.specs.RegionLines.{head_outcome, line_outcome, kind_outcome, end_outcome, finish_outcome}
 use Rattle.page_roff_effects.specs.States.{Given, says, takes, State, Memory, Outcome, Product, no_product, line_product, call_product, lines_of, after}
@@ -93,7 +93,7 @@ module _ (output : Output) where
   tests_lines : (kind : Kind) (condition : Condition (List ℕ)) (s : State)
       → lines_out ((effects output).tests kind condition s).1 ≤ lines_out s + 1
   unfolding effects tested_after
-  tests_lines kind condition s = few s _
+  tests_lines kind condition s = few s (test_outcome (answer_of (setting_of output kind) condition s.memory) s.memory)
 
   reads_lines : (kind : Kind) (o : Opened) (line : List ℕ) (s : State)
       → lines_out ((effects output).reads kind o true line s) ≤ lines_out s + 1
@@ -122,11 +122,22 @@ taken_bound e line =
     let h = page_line_bound (effects e.output) line.text (before_line e line) in
     omega (arith, h)
 
+before_none : (e : Edge) (line : SourceLine) → lines_out (before_line e line).state.rest ≡ 0
+unfolding before_line lines_out line_count
+before_none e line = refl
+
+taken_before : (e : Edge) (line : SourceLine) → (before_line e line).state.taken ≡ e.taken
+unfolding before_line
+taken_before e line = refl
+
+given_by : (given taken before none : ℕ) {after : ℕ} → none ≡ 0 → before ≡ taken → given + 1 * before ≤ 1 * after + none → given + taken ≤ after
+given_by given taken before none e f h = omega arith
+
 pub given_bound : (e : Edge) (line : SourceLine) → line_count (line_given e line) + e.taken ≤ (line_done e line).taken
-unfolding run_line before_line lines_out
+unfolding run_line lines_out
 given_bound e line =
     let h = page_spends lines_out 1 (effects e.output) (lines_spend e.output) (line.text ∷ []) (before_line e line) in
-    omega (arith, h)
+    given_by (line_count (line_given e line)) e.taken _ _ (before_none e line) (taken_before e line) h
 
 pub expansions_bound : (e : Edge) (line : SourceLine)
     → (line_done e line).memory.expansions + EXPAND * e.taken ≤ EXPAND * (line_done e line).taken + e.memory.expansions

@@ -3,7 +3,7 @@ use Rattle.std.proofs.Common.{◌≡◌, List, [], ◌∷◌, ◌++◌, map, Opt
 use Rattle.page_core_base.specs.LinesTaken.{Line}
 use Rattle.page_core_base.specs.Messages.{Message}
 use Rattle.page_roff_effects.specs.States.{Given, says, takes}
-use Rattle.page_roff_source.specs.Giving.{notes_before, next_line, after_line}
+use Rattle.page_roff_machine.specs.Giving.{notes_before, next_line, after_line}
 
 -- what is given is messages alone, or messages, then a line, and then the rest
 abbrev IsParted : Option Line → List Given → Type 0

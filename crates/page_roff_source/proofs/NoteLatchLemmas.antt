@@ -1,23 +1,17 @@
 -- A whole call over a latch of messages: helpers of proofs.
 use Rattle.std.proofs.Common.{◌≡◌, ℕ, List, [], ◌++◌, Option, None, Some, refl, Result, Ok, Err, MatchResult, append-nil, sym}
 use Rattle.std.specs.Borrow.{GName}
-use Rattle.page_core_base.specs.Fails.{Rose}
 use Rattle.page_core_base.specs.Messages.{Message}
 use Rattle.page_core_base.specs.Sinks.{IsSink}
 use Rattle.page_core_base.specs.declared.faults.Fault.{Fault}
-use Rattle.page_core_base.specs.declared.faults.Fault.TheVariants.{WriteNotes}
 use Rattle.page_core_base.proofs.SinkLemmas.{UpTo-all}
 use Rattle.page_roff_values.specs.NotePlans.{Planned, Left}
-
--- what a call over a sink did: at Ok these messages came, and no other; else a front of them, and the sink failed
-pub record Told {N : Type 0} (gave within : N → List Message → N → Type 0) (failed : N → ℕ) (r : Result (Unit {0}) Fault) (s : N) (notes : List Message) (t : N) : Type 0 where
-  pub gives : MatchResult r (λ _. gave s notes t) (λ _. within s notes t)
-  pub fault : MatchResult r (λ _. failed t ≡ failed s) (λ f. (f ≡ WriteNotes) × Rose (failed s) (failed t))
+use Rattle.page_roff_source.specs.Fuses.{Tells}
 
 told : {N L : Type 0} {gave within : N → List Message → N → Type 0} {failed : N → ℕ} {loans : N → L}
     → {plan : Planned N L} {name : GName} {t : N} {fault : Option Fault} (r : Result (Unit {0}) Fault)
     → MatchResult r (λ _. fault ≡ None) (λ f. fault ≡ Some f) → Left gave within failed loans plan name t fault []
-    → Told gave within failed r plan.start plan.all t
+    → Tells gave within failed r plan.start plan.all t
 told (Ok x) e h = record { gives = UpTo-all (rw e at h.came).came; fault = (rw e at h.came).same }
 told (Err f) e h = record { gives = (rw e at h.came).came; fault = ((rw e at h.came).kind, (rw e at h.came).rose) }
 
@@ -27,7 +21,7 @@ pub latched : {N L : Type 0} {gave within : N → List Message → N → Type 0}
     (r : Result (Unit {0}) Fault) → none ≡ None
     → ((plan : Planned N L) (rest : List Message) → Left gave within failed loans plan name s none (notes ++ rest) → Left gave within failed loans plan last t fault rest)
     → MatchResult r (λ _. fault ≡ None) (λ f. fault ≡ Some f)
-    → (last ≡ name) × (loans t ≡ loans s) × Told gave within failed r s notes t
+    → (last ≡ name) × (loans t ≡ loans s) × Tells gave within failed r s notes t
 latched k {name} {s = s} notes r start came done =
     let h = came (record { name = name; start = s; loans = _; all = notes }) []
     (rw start (record { same_loan = refl; same_loans = refl; came = record { came = record { done = []; parts = sym (append-nil notes); given = k.none s }; same = refl } })) in

@@ -12,7 +12,9 @@ use Rattle.page_roff_effects.specs.Acting.{first_memory}
 use Rattle.page_roff_effects.specs.Effects.{effects}
 use Rattle.page_roff_effects.specs.RegionLines.{finish_outcome}
 use Rattle.page_roff_effects.specs.States.{Memory, State, Given, says, takes}
-use Rattle.page_roff_source.specs.Giving.{notes_before, next_line, after_line}
+use Rattle.page_roff_machine.specs.Giving.{next_line, after_line}
+use Rattle.page_roff_machine.specs.Machines.{numbered}
+use Rattle.page_roff_source.specs.declared.counts.Counts.{Counts}
 
 -- a line of the page, with its number
 pub record SourceLine : Type 0 where
@@ -41,11 +43,6 @@ first_edge output = record {
 }
 
 -- ---- one line
-
--- messages are about the line of this number from now on
-abbrev pub numbered : ℕ → Memory → Memory
-numbered number m =
-    record { definitions = m.definitions; body = m.body; number = number; expansions = m.expansions }
 
 -- the line begins where the page stands, with a budget of its own
 unfoldable pub before_line : Edge → SourceLine → At (Budgeted State)
@@ -127,6 +124,9 @@ abbrev pub end_notes : Edge → List Message
 end_notes e = (finish_outcome e.place.region false e.memory).notes
 
 -- ---- counts
+
+abbrev pub counts_of : Edge → Counts
+counts_of e = record { source = e.source; taken = e.taken; expansions = e.memory.expansions }
 
 -- how many lines for the set of macros there are among what was given
 unfoldable pub line_count : List Given → ℕ

@@ -1,2 +1,3 @@
 pub mod Edges
-pub mod Giving
+pub mod Fuses
+pub mod PageMachines

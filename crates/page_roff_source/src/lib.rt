@@ -1,6 +1,8 @@
 //! What roff gives of a page's lines, one finished line at a time (roff(7), "LANGUAGE SYNTAX").
 #![tactic(auto)]
 
+mod counts;
 mod laws;
 
+pub use counts::Counts;
 pub use laws::{count_law, cut_law, room_law};
