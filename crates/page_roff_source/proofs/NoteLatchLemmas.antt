@@ -8,17 +8,17 @@ use Rattle.page_core_base.proofs.SinkLemmas.{UpTo-all}
 use Rattle.page_roff_values.specs.NotePlans.{Planned, Left}
 use Rattle.page_roff_source.specs.Fuses.{Tells}
 
-told : {N L : Type 0} {gave within : N → List Message → N → Type 0} {failed : N → ℕ} {loans : N → L}
-    → {plan : Planned N L} {name : GName} {t : N} {fault : Option Fault} (r : Result (Unit {0}) Fault)
+told : {N L A : Type 0} {gave within : N → List Message → N → Type 0} {failed : N → ℕ} {loans : N → L}
+    → {plan : Planned N L} {name : GName} {t : N} {fault : Option Fault} (r : Result A Fault)
     → MatchResult r (λ _. fault ≡ None) (λ f. fault ≡ Some f) → Left gave within failed loans plan name t fault []
     → Tells gave within failed r plan.start plan.all t
 told (Ok x) e h = record { gives = UpTo-all (rw e at h.came).came; fault = (rw e at h.came).same }
 told (Err f) e h = record { gives = (rw e at h.came).came; fault = ((rw e at h.came).kind, (rw e at h.came).rose) }
 
 -- it begins with no fault, and ends with what the latch says
-pub latched : {N L : Type 0} {gave within : N → List Message → N → Type 0} {failed : N → ℕ} {loans : N → L}
+pub latched : {N L A : Type 0} {gave within : N → List Message → N → Type 0} {failed : N → ℕ} {loans : N → L}
     → IsSink gave within → {name last : GName} {s t : N} {none fault : Option Fault} (notes : List Message)
-    (r : Result (Unit {0}) Fault) → none ≡ None
+    (r : Result A Fault) → none ≡ None
     → ((plan : Planned N L) (rest : List Message) → Left gave within failed loans plan name s none (notes ++ rest) → Left gave within failed loans plan last t fault rest)
     → MatchResult r (λ _. fault ≡ None) (λ f. fault ≡ Some f)
     → (last ≡ name) × (loans t ≡ loans s) × Tells gave within failed r s notes t

@@ -1,5 +1,5 @@
 -- The machine that runs a page's lines is at the page's edge: helpers of proofs.
-use Rattle.std.proofs.Common.{◌≡◌, ℕ, ◌+◌, ◌*◌, ◌≤◌, ◌<◌, ◌^◌, Bool, true, false, not, if◌then◌else◌, List, [], ◌∷◌, length, Option, Some, None, refl, sym, ap, ◌∙◌, arith}
+use Rattle.std.proofs.Common.{◌≡◌, ℕ, ◌+◌, ◌*◌, ◌≤◌, ◌<◌, ◌^◌, Bool, true, false, not, if◌then◌else◌, List, [], ◌∷◌, length, Option, Some, None, refl, sym, ap, subst, ◌∙◌, arith}
 use Rattle.page_core_limits.specs.declared.TheConstants.{LINE}
 use Rattle.page_core_base.specs.LinesTaken.{Line}
 use Rattle.page_core_base.specs.Messages.{Message}
@@ -17,12 +17,14 @@ use Rattle.page_roff_run.proofs.MachineLemmas.{end_law}
 use Rattle.page_roff_stack.specs.Stacks.{is_nothing}
 use Rattle.page_roff_stack.specs.Stacks as stack
 use Rattle.page_roff_effects.specs.Acting.{first_memory}
+use Rattle.page_roff_effects.specs.RegionLines.{finish_outcome}
 use Rattle.page_roff_effects.specs.States.{Given, State, Memory, Setting}
 use Rattle.page_roff_machine.specs.Giving.{next_line, after_line}
-use Rattle.page_roff_machine.specs.Machines.{Machine, output_of, language_of, running_of, outcome_of, to_come, end_of, place_of, stands, numbered, begun_at, Begins, Advances, taken_if, IsNew}
+use Rattle.page_roff_machine.specs.Machines.{Machine, output_of, language_of, running_of, outcome_of, to_come, end_of, place_of, stands, numbered, begun_at, Begins, Advances, taken_if, IsIdleUnless, IsNew}
 use Rattle.page_roff_machine.specs.Machines as machine
-use Rattle.page_roff_source.specs.Edges.{Edge, SourceLine, first_edge, before_line, run_line, line_begun, line_taken, left_if}
-use Rattle.page_roff_source.specs.PageMachines.{edge_of, IsCounted, IsPageMachine}
+use Rattle.page_roff_source.specs.declared.counts.Counts.{Counts}
+use Rattle.page_roff_source.specs.Edges.{Edge, SourceLine, first_edge, before_line, run_line, line_begun, line_taken, left_if, counts_of, end_notes}
+use Rattle.page_roff_source.specs.PageMachines.{edge_of, Running, IsCounted, IsPageMachine}
 use Rattle.page_roff_source.proofs.CountLemmas.{taken_bound}
 use Rattle.page_roff_source.proofs.RoomLemmas.{done_room}
 
@@ -149,3 +151,95 @@ advanced left old new source s t result a =
     ∙ ap (λ (x : At (Budgeted State)). edge_with (output_of old) x source (if not result then None else Some (to_come new))) a.ends
     ∙ ap (λ (c : Option (List Given)). edge_with (output_of old) (end_of old) source c)
     (left_by result new.actions.line (next_line (to_come old)) (after_line (to_come old)) (to_come new) a.line a.rest)
+
+-- ---- the code's object
+
+abbrev counts : ℕ → ℕ → ℕ → Counts
+counts source taken expansions = record { source = source; taken = taken; expansions = expansions }
+
+pub none_in : (m : Machine) (source : ℕ) (is_idle : Bool) (line : Line) (r : Running) → record { edge = edge_of m source is_idle; line = line } ≡ r
+    → r.edge.to_come ≡ None → (edge_of m source is_idle).to_come ≡ None
+none_in m source is_idle line r e none = ap (λ (x : Running). x.edge.to_come) e ∙ none
+
+pub few_in : (m : Machine) (source : ℕ) (is_idle : Bool) (line : Line) (r : Running) → record { edge = edge_of m source is_idle; line = line } ≡ r
+    → r.edge.source < 2 ^ 31 → source < 2 ^ 31
+few_in m source is_idle line r e few =
+    let h : source ≡ r.edge.source = ap (λ (x : Running). x.edge.source) e in
+    omega (arith, h, few)
+
+idle_unless : (result : Bool) (m : Machine) → IsIdleUnless result m → not result ≡ true → machine.is_idle m ≡ true
+idle_unless true m h e = absurd (cc)
+idle_unless false m h e = h
+
+is_idle_of : (m : Machine) (source : ℕ) (is_idle : Bool) → (edge_of m source is_idle).to_come ≡ None → is_idle ≡ true
+is_idle_of m source true e = refl
+is_idle_of m source false e = absurd (cc)
+
+pub new_invariant : (output : Output) (m : Machine) → IsNew output m → IsPageMachine m 0 true
+new_invariant output m n = record {
+  idle = λ _. new_idle output m n;
+  counted = subst IsCounted (sym (new_at output m n)) (new_counted output);
+}
+
+pub begin_room : (m : Machine) (source : ℕ) (is_idle : Bool) → IsPageMachine m source is_idle → (edge_of m source is_idle).to_come ≡ None
+    → (m.budget.taken ≤ 2 ^ 62) × (m.stack.top.spot.levels.skipped < 2 ^ 62)
+begin_room m source true p none = room_to_begin m source p
+begin_room m source false p none = absurd (cc)
+
+pub begin_edge : (old new : Machine) (source : ℕ) (is_idle : Bool) (line : List ℕ) (number : ℕ) → IsPageMachine old source is_idle
+    → (edge_of old source is_idle).to_come ≡ None → Begins line number old new
+    → edge_of new (source + 1) false ≡ line_begun (edge_of old source is_idle) (record { text = line; number = number })
+begin_edge old new source true line number p none b = begun old new source (record { text = line; number = number }) (p.idle refl) b
+begin_edge old new source false line number p none b = absurd (cc)
+
+pub begin_invariant : (old new : Machine) (source : ℕ) (is_idle : Bool) (line : List ℕ) (number : ℕ) → IsPageMachine old source is_idle
+    → (edge_of old source is_idle).to_come ≡ None → Begins line number old new → source < 2 ^ 31 → length line ≤ LINE
+    → IsPageMachine new (source + 1) false
+begin_invariant old new source is_idle line number p none b few short =
+    let l : SourceLine = record { text = line; number = number } in
+    let e = edge_of old source is_idle in
+    record {
+      idle = λ h. absurd (cc);
+      counted = subst IsCounted (sym (begin_edge old new source is_idle line number p none b)) (begun_counted e l p.counted few short);
+    }
+
+-- after the next line, or at the end
+pub advance_invariant : {P S : Type 0} (left : P → S → List Message → Type 0) (old new : Machine) (source : ℕ) (s t : S) (result : Bool)
+    → IsPageMachine old source false → Advances left old s result new t → IsPageMachine new source (not result)
+advance_invariant left old new source s t result p a = record {
+  idle = idle_unless result new a.idle;
+  counted = subst IsCounted (sym (advanced left old new source s t result a))
+      (record { source = p.counted.source; taken = p.counted.taken; skipped = p.counted.skipped });
+}
+
+-- where all was given, the machine stands at the page's edge
+pub counts_at : (m : Machine) (source : ℕ) (is_idle : Bool) → IsPageMachine m source is_idle → (edge_of m source is_idle).to_come ≡ None
+    → counts source m.budget.taken m.actions.memory.expansions ≡ counts_of (edge_of m source is_idle)
+counts_at m source true p none =
+    ap (λ (a : At (Budgeted State)). counts source a.state.taken a.state.rest.memory.expansions) (sym (idle_stands m (p.idle refl)))
+counts_at m source false p none = absurd (cc)
+
+pub end_notes_at : (m : Machine) (source : ℕ) (is_idle : Bool) → IsPageMachine m source is_idle → (edge_of m source is_idle).to_come ≡ None
+    → end_notes (edge_of m source is_idle) ≡ machine.end_notes m
+end_notes_at m source true p none =
+    ap (λ (a : At (Budgeted State)). (finish_outcome a.place.region false a.state.rest.memory).notes) (idle_stands m (p.idle refl))
+end_notes_at m source false p none = absurd (cc)
+
+ended_counted : (old new : Machine) (source : ℕ) → machine.is_idle old ≡ true → machine.is_idle new ≡ true → new.stack ≡ old.stack → new.budget ≡ old.budget
+    → IsCounted (edge_of old source true) → IsCounted (edge_of new source true)
+ended_counted old new source i j s b c =
+    let o = idle_stands old i in
+    let n = idle_stands new j in
+    let t : (outcome_of new).state.taken ≡ (outcome_of old).state.taken =
+        ap (λ (a : At (Budgeted State)). a.state.taken) n ∙ ap (λ (x : Budget). x.taken) b ∙ sym (ap (λ (a : At (Budgeted State)). a.state.taken) o) in
+    let k : (outcome_of new).place.levels.skipped ≡ (outcome_of old).place.levels.skipped =
+        ap (λ (a : At (Budgeted State)). a.place.levels.skipped) n ∙ ap (λ (x : stack.Stack). x.top.spot.levels.skipped) s
+        ∙ sym (ap (λ (a : At (Budgeted State)). a.place.levels.skipped) o) in
+    record { source = c.source; taken = omega (arith, t, c.taken); skipped = omega (arith, k, c.skipped) }
+
+pub end_invariant : (old new : Machine) (source : ℕ) (is_idle : Bool) → IsPageMachine old source is_idle → (edge_of old source is_idle).to_come ≡ None
+    → new.stack ≡ old.stack → new.budget ≡ old.budget → IsPageMachine new source is_idle
+end_invariant old new source true p none s b =
+    let i = ap (λ (x : stack.Stack). is_nothing (stack.next_of x)) s ∙ p.idle refl in
+    record { idle = λ _. i; counted = ended_counted old new source (p.idle refl) i s b p.counted }
+end_invariant old new source false p none s b = absurd (cc)

@@ -3,6 +3,11 @@
 
 mod counts;
 mod laws;
+mod page_machines;
+mod processors;
+mod roffs;
 
 pub use counts::Counts;
 pub use laws::{count_law, cut_law, room_law};
+pub use processors::Processor;
+pub use roffs::Roff;
