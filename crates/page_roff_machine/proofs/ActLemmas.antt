@@ -1,5 +1,5 @@
 -- What comes next, done as far as the stack stays: helpers of proofs.
-use Rattle.std.proofs.Common.{◌≡◌, ℕ, suc, ◌<◌, Bool, true, false, List, [], ◌∷◌, ◌++◌, map, drop, length, Option, Some, None, refl, sym, ap, ◌∙◌, arith}
+use Rattle.std.proofs.Common.{◌≡◌, ℕ, ◌<◌, ◌≤◌, ◌^◌, inl, inr, Bool, true, false, List, [], ◌∷◌, ◌++◌, map, drop, length, Option, Some, None, refl, sym, ap, ◌∙◌, arith}
 use Rattle.page_core_base.specs.Messages.{Message}
 use Rattle.page_core_base.specs.declared.page_settings.Output.{Output}
 use Rattle.page_roff_blocks.specs.declared.atoms.Atom.{Atom}
@@ -16,27 +16,29 @@ use Rattle.page_roff_blocks.specs.Atoms.{atoms}
 use Rattle.page_roff_blocks.specs.Levels.{Opened, opened, Spot, after_part, way_of, reached, has_block, at_line, leave}
 use Rattle.page_roff_blocks.specs.Run.{Meaning, meet_as, value, refuse_if, unopened_if}
 use Rattle.page_roff_blocks.specs.Steps.{met, guard_with, guard_met, step_guard, block_with, block_met, step_block, step_end, step_region}
-use Rattle.page_roff_values.specs.Latches.{Came}
-use Rattle.page_roff_run.specs.Languages.{Kind, page, body, Done, gives, calls, Language, meaning_at}
+use Rattle.page_roff_run.specs.Languages.{Kind, page, body, Language, meaning_at}
 use Rattle.page_roff_run.specs.Machine as machine
 use Rattle.page_roff_run.specs.Machine.{Frame, Running, depth, is_some, at_part, leaf_next, part_next, line_next, region_next, source_next, next}
-use Rattle.page_roff_run.specs.Budgets.{Budgeted, Effects, meaning, language, with_rest, end_line}
+use Rattle.page_roff_run.specs.Counting.{Budget}
+use Rattle.page_roff_run.specs.Measures.{HasMeasure, IsOnLine}
+use Rattle.page_roff_run.specs.Budgets.{Budgeted, meaning, language, end_line}
 use Rattle.page_roff_effects.specs.declared.commands.ProductKind.{ProductKind}
 use Rattle.page_roff_effects.specs.Acting.{IfCalled, IsCallable}
 use Rattle.page_roff_effects.specs.Effects.{effects}
-use Rattle.page_roff_effects.specs.States.{State, Given, says}
+use Rattle.page_roff_effects.specs.States.{State, says}
 use Rattle.page_roff_stack.specs.declared.next.Next.{Next}
 use Rattle.page_roff_stack.specs.declared.next.Next.TheVariants.{Part, Line, RegionLine, SourceEnd, Nothing}
 use Rattle.page_roff_stack.specs.Changes.{is_page, first_atoms, past}
 use Rattle.page_roff_stack.specs.Stacks as stacks
 use Rattle.page_roff_stack.specs.Stacks.{Stack, running, with_top, next_around, next_in, next_of, is_part, is_line, is_source_end, is_nothing, step_in, step_of}
 use Rattle.page_roff_stack.proofs.StackLemmas.{next_steps}
+use Rattle.page_roff_stack.proofs.StackLemmas.{line_there as stack_line_there}
 use Rattle.page_roff_machine.specs.declared.budgeted_actions.BudgetedActions.{BudgetedActions}
-use Rattle.page_roff_machine.specs.declared.movements.Movement.{Movement}
 use Rattle.page_roff_machine.specs.declared.movements.Movement.TheVariants as moves
 use Rattle.page_roff_machine.specs.declared.runners.Runner.{Runner}
-use Rattle.page_roff_machine.specs.Doing.{output_of, state_in, IsIn, Runs, Makes, Does, Answers, parts_of, begun_in, met_in, answer_if, answer_after, answer_in, region_after, region_in, leaf_if, leaf_after, leaf_in, line_of, done_as, read_in, ended_in, finished_in}
-use Rattle.page_roff_machine.specs.Moving.{guard_spot, block_spot, refused, moved, ended, CanCall, Decides}
+use Rattle.page_roff_machine.specs.Doing.{HasRoom, output_of, state_in, state_after, line_after, IsIn, IsAt, Makes, Does, Answers, parts_of, begun_in, answer_if, answer_after, answer_in, region_after, region_in, leaf_if, leaf_after, leaf_in, line_of, done_as, read_in, ended_in, finished_in}
+use Rattle.page_roff_machine.specs.Moving.{guard_spot, block_spot, refused, moved, ended, Decides}
+use Rattle.page_roff_machine.specs.Stepping.{IsSound}
 use Rattle.page_roff_machine.proofs.DoingLemmas.{came_none}
 
 -- ---- the meaning of parts, however many macros may run
@@ -133,6 +135,9 @@ step_next output s x state e =
     next_steps l s state
     ∙ ap (λ x. step_in l (meaning_at l (depth s.under) s.top.kind) x s.top.parts s.top.lines s.top s.under state) (sym e)
 
+pub line_there : (s : Stack) (line : List ℕ) → Line line ≡ next_of s → 0 < length s.top.lines
+line_there s line e = stack_line_there s.top.region s.top.parts s.top.lines s.under (ap is_line (sym e))
+
 line_first : (region : Option Opened) (parts : List (Atom (List ℕ))) (lines : List (List ℕ)) (under : List Frame) (line : List ℕ)
     → Line line ≡ next_in region parts lines under → (first_atoms lines ≡ atoms line) × (region ≡ None)
 line_first None (part ∷ more) lines under line e = absurd (cc)
@@ -153,16 +158,38 @@ region_first (Some p) parts (first ∷ more) under o line is_end e = let k : p �
 region_first (Some p) parts [] [] o line is_end e = absurd (cc)
 region_first (Some p) parts [] (f ∷ fs) o line is_end e = absurd (cc)
 
+pub region_line_there : (s : Stack) (o : Opened) (line : List ℕ) (is_end : Bool) → RegionLine o line is_end ≡ next_of s → 0 < length s.top.lines
+region_line_there s o line is_end e = (region_first s.top.region s.top.parts s.top.lines s.under o line is_end e).1
+
+-- ---- room for the count of lines
+
+room_of : (is_page_now : Bool) (b : Budget) → b.taken ≤ 2 ^ 62 → HasRoom is_page_now b
+room_of true b h = h
+room_of false b h = tt
+
+no_room : (kind : Kind) (b : Budget) → (kind ≡ page → ⊥) → HasRoom (is_page kind) b
+no_room page b h = absurd (h refl)
+no_room (body args) b h = tt
+
+-- only the first line of the page begins there
+pub room : (r : Runner) → IsSound r → 0 < length r.stack.top.lines → HasRoom (is_page r.stack.top.kind) r.doing.budget
+unfolding HasMeasure IsOnLine
+room r sound h =
+    elim sound.way [
+      | inl first ↦ room_of (is_page r.stack.top.kind) r.doing.budget first.1
+      | inr measured ↦ no_room r.stack.top.kind r.doing.budget (λ e. let none = ap length (measured.0 e) in omega arith)
+    ]
+
 -- ---- deciding
 
 module _ {P S : Type 0} (left : P → S → List Message → Type 0) (old : Runner) (new : BudgetedActions) (out out_new : S) where
   pub decides_leaf : (text : List ℕ) (r : Reached) (may_call : Bool) (result : ProductKind)
       → Part (Leaf text) ≡ next_of old.stack → r ≡ reached old.stack.top.spot → may_call ≡ is_some (depth old.stack.under)
       → IsIn old.stack.top.kind old.doing
-      → Makes left old.doing out (λ kind. IsIn kind old.doing) (leaf_in old.doing may_call text r) new (done_as result new) out_new
+      → Makes left old.doing out (λ kind. IsIn kind old.doing) (leaf_in old.doing may_call text r) new (done_as result) out_new
       → IfCalled result (IsCallable may_call new.actions.call)
       → Decides left old out (moves.Leaf result) (record { stack = old.stack; doing = new }) out_new
-  unfolding moved step_in part_next met at_part
+  unfolding moved step_in part_next met at_part p meaning meet_as leaf_next language meaning_at m
   decides_leaf text r may_call result e er em k a callable =
       let output = output_of old.doing in
       let l = language (effects output) in
@@ -192,7 +219,7 @@ module _ {P S : Type 0} (left : P → S → List Message → Type 0) (old : Runn
       → IsIn old.stack.top.kind old.doing
       → Answers left old.doing out (answer_in old.doing h.branch bit r) result new out_new
       → Decides left old out (moves.Guard result) (record { stack = old.stack; doing = new }) out_new
-  unfolding moved step_in part_next
+  unfolding moved step_in part_next p meet_as at_part meaning_at m
   decides_guard h r bit result e er eb k a =
       let output = output_of old.doing in
       let s = old.stack in
@@ -221,7 +248,7 @@ module _ {P S : Type 0} (left : P → S → List Message → Type 0) (old : Runn
       → IsIn old.stack.top.kind old.doing
       → Answers left old.doing out (answer_in old.doing h.branch bit r) result new out_new
       → Decides left old out (moves.Block result h.column) (record { stack = old.stack; doing = new }) out_new
-  unfolding moved step_in part_next
+  unfolding moved step_in part_next p meet_as at_part meaning_at m
   decides_block h r bit result e er eb k a =
       let output = output_of old.doing in
       let s = old.stack in
@@ -250,7 +277,7 @@ module _ {P S : Type 0} (left : P → S → List Message → Type 0) (old : Runn
       → IsIn old.stack.top.kind old.doing
       → Answers left old.doing out (region_in old.doing head r) result new out_new
       → Decides left old out (moves.Region result) (record { stack = old.stack; doing = new }) out_new
-  unfolding moved step_in part_next step_region met meaning_at language
+  unfolding moved step_in part_next step_region met meaning_at language p meet_as reached at_line opened m
   decides_region head r result e er k a =
       let output = output_of old.doing in
       let s = old.stack in
@@ -276,7 +303,7 @@ module _ {P S : Type 0} (left : P → S → List Message → Type 0) (old : Runn
   pub decides_line : (line : List ℕ) (is_page_now : Bool)
       → Line line ≡ next_of old.stack → is_page_now ≡ is_page old.stack.top.kind
       → IsIn old.stack.top.kind old.doing
-      → Makes left old.doing out (Runs is_page_now old.doing) (begun_in old.doing) new (λ given. state_in given new) out_new
+      → Makes left old.doing out (IsAt is_page_now old.doing) (begun_in old.doing) new state_after out_new
       → Decides left old out moves.Line (record { stack = old.stack; doing = new }) out_new
   unfolding moved step_in line_next meaning_at language meaning
   decides_line line is_page_now e ep k a =
@@ -292,7 +319,7 @@ module _ {P S : Type 0} (left : P → S → List Message → Type 0) (old : Runn
         came = a.came;
         step =
             step_next output s (Line line) state e
-            ∙ ap (λ state. Some (running (with_top (frame (atoms line)) s) state)) (a.state s.top.kind (record { kind = sym ep; setting = k }) [])
+            ∙ ap (λ state. Some (running (with_top (frame (atoms line)) s) state)) (a.state s.top.kind (record { page = sym ep; setting = k }) [])
             ∙ ap (λ parts. Some (running (with_top (frame parts) s) (state_in (map says a.notes) new)))
             (sym (line_first s.top.region s.top.parts s.top.lines s.under line e).0);
         suits = ap is_line (sym e);
@@ -302,7 +329,7 @@ module _ {P S : Type 0} (left : P → S → List Message → Type 0) (old : Runn
   pub decides_region_line : (o : Opened) (line : List ℕ) (is_page_now : Bool) (result : ProductKind)
       → RegionLine o line false ≡ next_of old.stack → is_page_now ≡ is_page old.stack.top.kind
       → IsIn old.stack.top.kind old.doing
-      → Makes left old.doing out (Runs is_page_now old.doing) (read_in old.doing o line) new (λ given. state_in (given ++ line_of result new.actions) new) out_new
+      → Makes left old.doing out (IsAt is_page_now old.doing) (read_in old.doing o line) new (line_after result) out_new
       → Decides left old out (moves.RegionLine result) (record { stack = old.stack; doing = new }) out_new
   unfolding moved step_in region_next meaning_at language
   decides_region_line o line is_page_now result e ep k a =
@@ -318,7 +345,7 @@ module _ {P S : Type 0} (left : P → S → List Message → Type 0) (old : Runn
         came = a.came;
         step =
             step_next output s (RegionLine o line false) state e
-            ∙ ap (to (Some o)) (a.state s.top.kind (record { kind = sym ep; setting = k }) [])
+            ∙ ap (to (Some o)) (a.state s.top.kind (record { page = sym ep; setting = k }) [])
             ∙ ap (λ region. to region (state_in (map says a.notes ++ line_of result new.actions) new))
             (sym (region_first s.top.region s.top.parts s.top.lines s.under o line false e).0);
         suits = tt;
@@ -328,7 +355,7 @@ module _ {P S : Type 0} (left : P → S → List Message → Type 0) (old : Runn
   pub decides_region_end : (o : Opened) (line : List ℕ) (is_page_now : Bool)
       → RegionLine o line true ≡ next_of old.stack → is_page_now ≡ is_page old.stack.top.kind
       → IsIn old.stack.top.kind old.doing
-      → Makes left old.doing out (Runs is_page_now old.doing) (ended_in old.doing o) new (λ given. state_in given new) out_new
+      → Makes left old.doing out (IsAt is_page_now old.doing) (ended_in old.doing o) new state_after out_new
       → Decides left old out moves.RegionEnd (record { stack = old.stack; doing = new }) out_new
   unfolding moved step_in region_next meaning_at language meaning end_line effects
   decides_region_end o line is_page_now e ep k a =
@@ -344,7 +371,7 @@ module _ {P S : Type 0} (left : P → S → List Message → Type 0) (old : Runn
         came = a.came;
         step =
             step_next output s (RegionLine o line true) state e
-            ∙ ap to (a.state s.top.kind (record { kind = sym ep; setting = k }) []);
+            ∙ ap to (a.state s.top.kind (record { page = sym ep; setting = k }) []);
         suits = tt;
         nothing = tt;
       }
@@ -379,7 +406,7 @@ module _ {P S : Type 0} (left : P → S → List Message → Type 0) (old : Runn
 
 module _ {P S : Type 0} (left : P → S → List Message → Type 0) (old : Runner) (out : S) where
   pub decides_block_end : Part End ≡ next_of old.stack → Decides left old out moves.BlockEnd old out
-  unfolding moved step_in part_next step_end
+  unfolding moved step_in part_next step_end meaning_at m meaning p
   decides_block_end e =
       let output = output_of old.doing in
       let s = old.stack in

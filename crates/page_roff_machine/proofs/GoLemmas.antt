@@ -1,5 +1,5 @@
 -- The input stack moves on: helpers of proofs.
-use Rattle.std.proofs.Common.{◌≡◌, ℕ, suc, ◌+◌, ◌*◌, ◌≤◌, ◌==◌, Bool, true, false, List, [], ◌∷◌, ◌++◌, map, drop, length, Option, Some, None, refl, sym, ap, ◌∙◌, append_assoc, if◌then◌else◌, arith}
+use Rattle.std.proofs.Common.{◌≡◌, ℕ, suc, ◌+◌, ◌*◌, ◌≤◌, ◌==◌, Bool, true, false, List, [], ◌∷◌, ◌++◌, map, length, Some, None, refl, sym, ap, ◌∙◌, if◌then◌else◌, arith}
 use Rattle.std.proofs.lemmas.List.{append-nil}
 use Rattle.page_core_base.specs.Messages.{Message}
 use Rattle.page_core_base.specs.declared.page_settings.Output.{Output}
@@ -7,15 +7,13 @@ use Rattle.page_core_limits.specs.declared.TheConstants.{BODY}
 use Rattle.page_roff_blocks.specs.declared.levels.Way.{Way}
 use Rattle.page_roff_blocks.specs.declared.levels.Way.TheVariants.{Runs, Skips, Exceeds}
 use Rattle.page_roff_blocks.specs.declared.atoms.Branch.TheVariants.{Else}
-use Rattle.page_roff_blocks.specs.Levels.{Spot, after_part, guarded_by, bit_after, way_of, enter, skip, leave, has_block}
+use Rattle.page_roff_blocks.specs.Levels.{after_part, guarded_by, bit_after, way_of, enter, skip, leave, has_block}
 use Rattle.page_roff_blocks.specs.Run.{refuse_if, unopened_if}
 use Rattle.page_roff_values.specs.Arguments.{begin_first, arguments_in}
-use Rattle.page_roff_values.specs.Latches.{Came}
-use Rattle.page_roff_run.specs.Languages.{Kind, page, body, Done, gives, calls, Language}
-use Rattle.page_roff_run.specs.Machine.{Frame, Running, entered, at_part, depth, is_some, leaf_next}
+use Rattle.page_roff_run.specs.Languages.{Kind, page, body, gives, calls, Language}
+use Rattle.page_roff_run.specs.Machine.{Frame, entered, at_part, depth, is_some, leaf_next}
 use Rattle.page_roff_run.specs.Measures.{weight}
 use Rattle.page_roff_run.specs.Budgets.{Budgeted, meaning, language, with_rest}
-use Rattle.page_roff_run.specs.Counting.{Budget, budgeted}
 use Rattle.page_roff_effects.specs.declared.commands.ProductKind.{ProductKind}
 use Rattle.page_roff_effects.specs.declared.commands.ProductKind.TheVariants as kinds
 use Rattle.page_roff_effects.specs.Acting as acting
@@ -31,8 +29,8 @@ use Rattle.page_roff_machine.specs.declared.movements.Movement.TheVariants as mo
 use Rattle.page_roff_machine.specs.declared.movements.Progress.{Progress}
 use Rattle.page_roff_machine.specs.declared.movements.Progress.TheVariants.{More, Line, Done}
 use Rattle.page_roff_machine.specs.declared.runners.Runner.{Runner}
-use Rattle.page_roff_machine.specs.Doing.{output_of, state_in, IsIn, Runs, Makes, Does, unopened_in, line_of, done_as}
-use Rattle.page_roff_machine.specs.Moving.{guard_spot, block_spot, refused, moved, ended, reached_with, progress_as, arguments_of, with_arguments_of, with_call, called, CanCall, IsBodyWithin, IfDone, Shifts, Moves}
+use Rattle.page_roff_machine.specs.Doing.{output_of, state_in, state_after, IsIn, IsAt, Makes, unopened_in}
+use Rattle.page_roff_machine.specs.Moving.{moved, ended, reached_with, progress_as, arguments_of, with_arguments_of, called, IsBodyWithin, IfDone, Shifts, Moves}
 use Rattle.page_roff_machine.proofs.DoingLemmas.{came_none, acted}
 
 -- ---- the body of a macro
@@ -112,7 +110,7 @@ shifts_leaf_line old new e k =
     let s = with_top (past (after_part old.stack.top.spot.levels) old.stack.top) old.stack in
     shifts_to old new (moves.Leaf kinds.Line) Line s e refl refl k
     (λ given. ap (λ next. Some next)
-        (gives_next (language (effects (output_of old.doing))) (is_some (depth old.stack.under)) s.top s.under (state_in (given ++ (takes old.doing.actions.line ∷ [])) old.doing)))
+    (gives_next (language (effects (output_of old.doing))) (is_some (depth old.stack.under)) s.top s.under (state_in (given ++ (takes old.doing.actions.line ∷ [])) old.doing)))
 
 pub shifts_call : (old mid new : Runner) → mid ≡ record { stack = with_top (past (after_part old.stack.top.spot.levels) old.stack.top) old.stack; doing = old.doing }
     → new ≡ called mid → IsCallable (is_some (depth old.stack.under)) old.doing.actions.call
@@ -120,7 +118,7 @@ pub shifts_call : (old mid new : Runner) → mid ≡ record { stack = with_top (
 unfolding moved reached_with at_part entered
 shifts_call old mid new em e callable =
     let s = with_top (past (after_part old.stack.top.spot.levels) old.stack.top) old.stack in
-    let r = record { stack = s; doing = old.doing } in
+    let r : Runner = record { stack = s; doing = old.doing } in
     let k : new ≡ called r = e ∙ ap called em in
     let call = old.doing.actions.call in
     record {
@@ -132,6 +130,18 @@ shifts_call old mid new em e callable =
           ∙ ap (reached_with More given) (sym k);
       body = λ h. rw k (within_huge call.body callable.body);
     }
+
+-- the macro that was taken last is called
+pub calls_it : (r new : Runner) (stack : Stack) (bytes packed : List ℕ)
+    → bytes ≡ r.doing.actions.call.body → packed ≡ r.doing.actions.call.packed
+    → stack ≡ call_of (lines_in bytes) (arguments_in packed) r.stack
+    → new ≡ with_arguments_of stack.top.kind (record { stack = stack; doing = r.doing }) → new ≡ called r
+unfolding entered
+calls_it r new stack bytes packed eb ep es e =
+    let to : Stack → Runner = λ stack. with_arguments_of stack.top.kind (record { stack = stack; doing = r.doing }) in
+    e ∙ ap to es
+    ∙ ap (λ bytes. to (call_of (lines_in bytes) (arguments_in packed) r.stack)) eb
+    ∙ ap (λ packed. to (call_of (lines_in r.doing.actions.call.body) (arguments_in packed) r.stack)) ep
 
 -- ---- past heads and lines
 
@@ -198,7 +208,7 @@ pub shifts_source_end : (old mid new : Runner) → mid.doing ≡ old.doing → o
     → new ≡ with_arguments_of mid.stack.top.kind mid → Shifts old moves.SourceEnd More new
 unfolding moved reached_with
 shifts_source_end old mid new ed eu e =
-    let r = record { stack = mid.stack; doing = old.doing } in
+    let r : Runner = record { stack = mid.stack; doing = old.doing } in
     let k : new ≡ with_arguments_of mid.stack.top.kind r = e ∙ ap (λ (b : BudgetedActions). with_arguments_of mid.stack.top.kind (record { stack = mid.stack; doing = b })) ed in
     record {
       output = ap (λ (r : Runner). output_of r.doing) k;
@@ -212,10 +222,13 @@ shifts_source_end old mid new ed eu e =
 
 -- ---- with a message
 
+abbrev no_notes : List Message
+no_notes = []
+
 module _ {P S : Type 0} (left : P → S → List Message → Type 0) where
   -- the stack moved on without one
   pub quiet : (old new : Runner) (out : S) (movement : Movement) (progress : Progress) → Shifts old movement progress new
-      → IfDone progress ((new ≡ old) × ([] {A = Message} ≡ []) × (movement ≡ moves.Nothing))
+      → IfDone progress ((new ≡ old) × (no_notes ≡ []) × (movement ≡ moves.Nothing))
       → Moves left old out movement progress new out
   quiet old new out movement progress h done = record {
     output = h.output;
@@ -308,7 +321,7 @@ module _ {P S : Type 0} (left : P → S → List Message → Type 0) where
       }) out_new
   unfolding refuse_if entered_block meaning effects with_rest at_part block_outcome
   moves_exceeds old actions out out_new value column ew d k =
-      let b = record { actions = actions; budget = old.doing.budget } in
+      let b : BudgetedActions = record { actions = actions; budget = old.doing.budget } in
       let outcome = block_outcome column old.doing.actions.memory in
       record {
         output = ap (λ setting. setting.output) d.setting;
@@ -334,7 +347,7 @@ module _ {P S : Type 0} (left : P → S → List Message → Type 0) where
 
   pub leaves_none : (old : Runner) (doing : BudgetedActions) (out out_new : S) (is_page_now : Bool)
       → has_block old.stack.top.spot.levels ≡ false → is_page_now ≡ is_page old.stack.top.kind
-      → Makes left old.doing out (Runs is_page_now old.doing) (unopened_in old.doing) doing (λ given. state_in given doing) out_new
+      → Makes left old.doing out (IsAt is_page_now old.doing) (unopened_in old.doing) doing state_after out_new
       → IsIn old.stack.top.kind old.doing
       → Moves left old out moves.BlockEnd More
       (record { stack = with_top (past (after_part (leave old.stack.top.spot.levels)) old.stack.top) old.stack; doing = doing }) out_new
@@ -346,7 +359,7 @@ module _ {P S : Type 0} (left : P → S → List Message → Type 0) where
     came = a.came;
     step = λ given.
         rw has (ap (λ state. Some (running (with_top (past (after_part (leave old.stack.top.spot.levels)) old.stack.top) old.stack) state))
-        (a.state old.stack.top.kind (record { kind = sym ep; setting = k }) given));
+        (a.state old.stack.top.kind (record { page = sym ep; setting = k }) given));
     body = same_depth old.stack.under (with_top (past (after_part (leave old.stack.top.spot.levels)) old.stack.top) old.stack) refl;
     done = tt;
   }

@@ -10,7 +10,7 @@ use Rattle.page_roff_blocks.specs.Run.{Meaning, meet_as, value}
 use Rattle.page_roff_values.specs.Arguments.{arguments_in}
 use Rattle.page_roff_values.specs.Latches.{Came}
 use Rattle.page_roff_run.specs.Languages.{Kind, Done, gives, calls, Language}
-use Rattle.page_roff_run.specs.Budgets.{Budgeted, Effects, charge, begin_line, meaning, language}
+use Rattle.page_roff_run.specs.Budgets.{Budgeted, charge, begin_line, meaning, language}
 use Rattle.page_roff_run.specs.Counting.{Budget, budgeted}
 use Rattle.page_roff_effects.specs.declared.commands.ProductKind.{ProductKind}
 use Rattle.page_roff_effects.specs.declared.commands.ProductKind.TheVariants as kinds
@@ -32,8 +32,8 @@ abbrev pub IsIn : Kind → BudgetedActions → Type 0
 IsIn kind b = b.actions.setting ≡ setting_of (output_of b) kind
 
 -- it is the page that runs, or not; and a page has so many lines at most that no count is too large
-pub record Runs (is_page_now : Bool) (b : BudgetedActions) (kind : Kind) : Type 0 where
-  pub kind : is_page kind ≡ is_page_now
+pub record IsAt (is_page_now : Bool) (b : BudgetedActions) (kind : Kind) : Type 0 where
+  pub page : is_page kind ≡ is_page_now
   pub setting : IsIn kind b
 
 abbrev pub HasRoom : Bool → Budget → Type 0
@@ -41,21 +41,28 @@ HasRoom true b = b.taken ≤ 2 ^ 62
 HasRoom false b = Unit {0}
 
 -- A call did what the definitions do to the state, whatever was given before: its messages came after it.
-pub record Makes {P S A : Type 0} (left : P → S → List Message → Type 0) (old : BudgetedActions) (out : S) (suits : Kind → Type 0) (does : Kind → Budgeted State → A) (new : BudgetedActions) (to : List Given → A) (out_new : S) : Type 0 where
+pub record Makes {P S A : Type 0} (left : P → S → List Message → Type 0) (old : BudgetedActions) (out : S) (suits : Kind → Type 0) (does : Kind → Budgeted State → A) (new : BudgetedActions) (to : BudgetedActions → List Given → A) (out_new : S) : Type 0 where
   pub setting : new.actions.setting ≡ old.actions.setting
   pub notes : List Message
   pub came : Came left out notes out_new
-  pub state : (kind : Kind) → suits kind → (given : List Given) → does kind (state_in given old) ≡ to (given ++ map says notes)
+  pub state : (kind : Kind) → suits kind → (given : List Given) → does kind (state_in given old) ≡ to new (given ++ map says notes)
+
+-- this is the state then, with an answer or not
+abbrev pub state_after : BudgetedActions → List Given → Budgeted State
+state_after b given = state_in given b
+
+abbrev pub answer_with : {A : Type 0} → A → BudgetedActions → List Given → A × Budgeted State
+answer_with result b given = (result, state_in given b)
 
 -- where the arguments are those of the source that runs
 abbrev pub Does : {P S : Type 0} → (P → S → List Message → Type 0) → BudgetedActions → S → (Kind → Budgeted State → Budgeted State) → BudgetedActions → S → Type 0
 Does left old out does new out_new =
-    Makes left old out (λ kind. IsIn kind old) does new (λ given. state_in given new) out_new
+    Makes left old out (λ kind. IsIn kind old) does new state_after out_new
 
 -- the same with an answer
 abbrev pub Answers : {P S A : Type 0} → (P → S → List Message → Type 0) → BudgetedActions → S → (Kind → Budgeted State → A × Budgeted State) → A → BudgetedActions → S → Type 0
 Answers left old out does result new out_new =
-    Makes left old out (λ kind. IsIn kind old) does new (λ given. (result, state_in given new)) out_new
+    Makes left old out (λ kind. IsIn kind old) does new (answer_with result) out_new
 
 -- ---- what is done
 
@@ -109,6 +116,9 @@ abbrev pub line_of : ProductKind → Acting → List Given
 line_of kinds.Nothing a = []
 line_of kinds.Line a = takes a.line ∷ []
 line_of kinds.Call a = []
+
+abbrev pub line_after : ProductKind → BudgetedActions → List Given → Budgeted State
+line_after product b given = state_in (given ++ line_of product b.actions) b
 
 abbrev pub done_as : ProductKind → BudgetedActions → List Given → Done (Budgeted State)
 done_as kinds.Nothing b given = gives (state_in given b)

@@ -1,13 +1,11 @@
 -- How the input stack moves on, once the part that comes next was done: the code's own form of a step.
-use Rattle.std.specs.Prelude.{◌≡◌, ℕ, ◌≤◌, suc, Bool, true, false, List, [], ◌∷◌, ◌++◌, length, drop, map, Option, Some, None}
-use Rattle.page_core_limits.specs.declared.TheConstants.{BODY}
+use Rattle.std.specs.Prelude.{◌≡◌, ℕ, ◌≤◌, suc, Bool, true, List, [], ◌∷◌, ◌++◌, length, map, Option, Some, None}
 use Rattle.page_core_base.specs.Messages.{Message}
 use Rattle.page_core_base.specs.declared.page_settings.Output.{Output}
 use Rattle.page_roff_blocks.specs.declared.atoms.Branch.{Branch}
 use Rattle.page_roff_blocks.specs.declared.atoms.Branch.TheVariants.{Else}
 use Rattle.page_roff_blocks.specs.Levels.{Spot, after_part, guarded_by, bit_after, way_of, enter, skip, leave, has_block}
 use Rattle.page_roff_blocks.specs.Run.{refuse_if, unopened_if}
-use Rattle.page_roff_values.specs.declared.call_arguments.TheConstants.{ARGS}
 use Rattle.page_roff_values.specs.Arguments.{arguments_in}
 use Rattle.page_roff_values.specs.Latches.{Came}
 use Rattle.page_roff_run.specs.Languages.{Kind, page, body}

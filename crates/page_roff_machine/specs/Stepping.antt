@@ -1,12 +1,12 @@
 -- Steps of the machine, one after another: the code's own form of them.
-use Rattle.std.specs.Prelude.{◌≡◌, ℕ, ◌≤◌, ◌^◌, ◌⊎◌, Bool, true, false, List, [], ◌∷◌, ◌++◌, map}
+use Rattle.std.specs.Prelude.{◌≡◌, ◌≤◌, ◌^◌, ◌⊎◌, true, List, [], ◌++◌, map}
 use Rattle.page_core_base.specs.Messages.{Message}
 use Rattle.page_roff_values.specs.Latches.{Came}
 use Rattle.page_roff_run.specs.Machine.{next}
 use Rattle.page_roff_run.specs.Measures.{HasMeasure, IsFirst}
 use Rattle.page_roff_run.specs.Budgets.{language}
 use Rattle.page_roff_effects.specs.Effects.{effects}
-use Rattle.page_roff_effects.specs.States.{Given, says}
+use Rattle.page_roff_effects.specs.States.{says}
 use Rattle.page_roff_stack.specs.Stacks.{running, next_of, is_nothing}
 use Rattle.page_roff_machine.specs.declared.movements.Progress.{Progress}
 use Rattle.page_roff_machine.specs.declared.runners.Runner.{Runner}

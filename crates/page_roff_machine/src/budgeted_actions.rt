@@ -1,12 +1,12 @@
 //! What the parts of sources do, under the budget of re-read lines (mandoc(1), "input stack limit exceeded, infinite loop?").
 
-ghost use Rattle.std.specs.Prelude.{◌≡◌, ◌≤◌, ◌++◌, length};
+ghost use Rattle.std.specs.Prelude.{◌≡◌, ◌≤◌, ◌&&◌, not, length};
 ghost use Rattle.page_core_limits.specs.declared.TheConstants.{LINE};
 ghost use Rattle.page_roff_heads.specs.Conditions.{FitsTest};
 ghost use Rattle.page_roff_blocks.specs.Atoms.{branch_seen, FitsBranch};
 ghost use Rattle.page_roff_blocks.specs.Regions.{region_seen};
 ghost use Rattle.page_roff_stack.specs.Views.{opened_seen};
-ghost use Rattle.page_roff_machine.specs.Doing.{Does, Answers, Makes, Runs, IsIn, HasRoom, state_in, line_of, done_as};
+ghost use Rattle.page_roff_machine.specs.Doing.{Does, Answers, Makes, IsAt, IsIn, HasRoom, state_after, line_after, done_as};
 ghost use Rattle.page_roff_machine.specs.Doing.{charged_in, begun_in, met_in, value_in, answer_in, region_in, leaf_in};
 ghost use Rattle.page_roff_machine.specs.Doing.{read_in, ended_in, unopened_in, finished_in};
 ghost use Rattle.page_roff_effects.specs.Acting.{IfCalled, IsCallable};
@@ -36,8 +36,8 @@ impl BudgetedActions {
     /// A raw line begins, of the page or of a running macro.
     pub(crate) fn begin_line<O: NoteOut>(&mut self, is_page: bool, out: &mut O)
         requires { HasRoom is_page self.old.budget }
-        ensures { Makes O.left self.old out.old (Runs is_page self.old) (begun_in self.old) self.new
-            (λ given. state_in given self.new) out.new }
+        ensures { Makes O.left self.old out.old (IsAt is_page self.old) (begun_in self.old) self.new
+            state_after out.new }
     {
         if is_page {
             self.budget.begin();
@@ -67,7 +67,8 @@ impl BudgetedActions {
             self.new out.new }
     {
         match branch {
-            Branch::If(condition) | Branch::IfElse(condition) => self.actions.test(condition, out),
+            Branch::If(condition) => self.actions.test(condition, out),
+            Branch::IfElse(condition) => self.actions.test(condition, out),
             Branch::Else => bit,
         }
     }
@@ -116,7 +117,7 @@ impl BudgetedActions {
     ) -> ProductKind
         requires { length text.now ≤ LINE }
         ensures done { Makes O.left self.old out.old (λ kind. IsIn kind self.old)
-            (leaf_in self.old may_call text.now reached) self.new (done_as result self.new) out.new }
+            (leaf_in self.old may_call text.now reached) self.new (done_as result) out.new }
         ensures call { IfCalled result (IsCallable may_call self.new.actions.call) }
     {
         if self.meet(reached, out) {
@@ -124,6 +125,13 @@ impl BudgetedActions {
         } else {
             ProductKind::Nothing
         }
+    }
+
+    // Whether the open region is still run.
+    fn runs(&self, region: &OpenRegion) -> bool
+        ensures { result ≡ (region.now.is_run && not self.now.budget.gave_up) }
+    {
+        region.is_run() && !self.budget.gave_up()
     }
 
     /// A line of a region comes. What comes of it is lent from then on.
@@ -136,36 +144,38 @@ impl BudgetedActions {
     ) -> ProductKind
         requires room { HasRoom is_page self.old.budget }
         requires short { length line.now ≤ LINE }
-        ensures { Makes O.left self.old out.old (Runs is_page self.old) (read_in self.old region.now line.now)
-            self.new (λ given. state_in (given ++ line_of result self.new.actions) self.new) out.new }
+        ensures { Makes O.left self.old out.old (IsAt is_page self.old) (read_in self.old region.now line.now)
+            self.new (line_after result) out.new }
     {
         self.begin_line(is_page, out);
-        let is_run = region.is_run() && !self.budget.gave_up();
+        let is_run = self.runs(region);
         self.actions.read_line(region, is_run, line, out)
     }
 
     /// The end line of a region comes.
-    pub(crate) fn end_region<O: NoteOut>(
-        &mut self,
-        is_page: bool,
-        region: &OpenRegion,
-        out: &mut O,
-    )
+    pub(crate) fn end_region<O: NoteOut>(&mut self, is_page: bool, region: &OpenRegion, out: &mut O)
         requires { HasRoom is_page self.old.budget }
-        ensures { Makes O.left self.old out.old (Runs is_page self.old) (ended_in self.old region.now) self.new
-            (λ given. state_in given self.new) out.new }
+        ensures { Makes O.left self.old out.old (IsAt is_page self.old) (ended_in self.old region.now) self.new
+            state_after out.new }
     {
         self.begin_line(is_page, out);
-        let is_run = region.is_run() && !self.budget.gave_up();
+        let is_run = self.runs(region);
         self.actions.end_region(region, is_run, out);
+    }
+
+    // Whether a source was given up, with what it leaves open.
+    fn is_silent(&self, is_page: bool) -> bool
+        ensures { result ≡ (not is_page && self.now.budget.gave_up) }
+    {
+        !is_page && self.budget.gave_up()
     }
 
     /// The end of a block comes where none is open. One that a macro leaves behind which was given up has no message.
     pub(crate) fn report_unopened<O: NoteOut>(&mut self, is_page: bool, out: &mut O)
-        ensures { Makes O.left self.old out.old (Runs is_page self.old) (unopened_in self.old) self.new
-            (λ given. state_in given self.new) out.new }
+        ensures { Makes O.left self.old out.old (IsAt is_page self.old) (unopened_in self.old) self.new
+            state_after out.new }
     {
-        if is_page || !self.budget.gave_up() {
+        if !self.is_silent(is_page) {
             self.actions.report_unopened(out);
         }
     }

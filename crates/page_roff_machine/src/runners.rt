@@ -110,8 +110,10 @@ impl Runner {
         ensures { Shifts self.old (Movement.Leaf product) (progress_as product) self.new }
     {
         self.stack.pass();
-        if let ProductKind::Call = product {
-            self.call();
+        match product {
+            ProductKind::Call => self.call(),
+            ProductKind::Nothing => {}
+            ProductKind::Line => {}
         }
     }
 
@@ -137,7 +139,8 @@ impl Runner {
             Some(value) => {
                 match self.stack.enter_block(value) {
                     Way::Exceeds => self.doing.actions.refuse(column, out),
-                    Way::Runs | Way::Skips => {}
+                    Way::Runs => {}
+                    Way::Skips => {}
                 }
             }
             None => self.stack.skip_block(),
