@@ -9,8 +9,8 @@ use Rattle.page_roff_lines.specs.Decoding.{Line}
 use Rattle.page_roff_lines.specs.Cutting.{Point, point_after, lines_within, line_of, line_at, next_point, point_at}
 use Rattle.page_roff_lines.specs.Open.{open_after}
 use Rattle.page_roff_lines.proofs.OpenLaws.{open_after-consumed}
-use Rattle.page_engine.specs.Page.{Edge, IsAt, laid, laid_line}
-use Rattle.page_engine.specs.declared.pages.Page.{Page}
+use Rattle.page_engine_page.specs.Page.{Edge, IsAt, laid, laid_line}
+use Rattle.page_engine_page.specs.declared.pages.Page.{Page}
 
 pub laid_none : (e : Edge) → laid e [] ≡ nothing e
 unfolding laid

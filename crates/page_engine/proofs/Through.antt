@@ -7,10 +7,10 @@ use Rattle.page_core_base.specs.declared.faults.Fault.{Fault}
 use Rattle.page_core_base.proofs.SinkLemmas.{within-join}
 use Rattle.page_roff_lines.specs.Cutting.{Point, point_after, lines_within, last_line}
 use Rattle.page_roff_lines.proofs.PointLemmas.{point_after-append}
-use Rattle.page_engine.specs.declared.pages.Page.{Page}
+use Rattle.page_engine_page.specs.declared.pages.Page.{Page}
 use Rattle.page_engine.specs.declared.runs.Run.{Run}
-use Rattle.page_engine.specs.Below.{cause_later}
-use Rattle.page_engine.specs.Page.{Edge, IsAt, page}
+use Rattle.page_engine_page.specs.Below.{cause_later}
+use Rattle.page_engine_page.specs.Page.{Edge, IsAt, page}
 use Rattle.page_engine.specs.Streams.{Streams, Sinks, AllCame, FrontCame}
 use Rattle.page_engine.specs.Runs.{page_from, settled_from, Broken, BrokeIn}
 use Rattle.page_engine.specs.Steps.{Front, CanTake, IsFresh, Moved, Settled, Through, ChunkBroke}
@@ -32,7 +32,7 @@ settles_none k rows notes r n e p h = record {
 
 pub moved_none : (run : Run) → run.cutter.ready ≡ false → Moved run run []
 unfolding lines_within point_after
-moved_none run free = record { point = refl; free = free; source_lines = omega arith }
+moved_none run free = record { point = refl; free = free; lines_taken = omega arith }
 
 pub through_none : {R N : Type 0} (k : Sinks R N) → IsSink k.to.row_gave k.to.row_within → IsSink k.to.note_gave k.to.note_within
     → (run : Run) (r : R) (n : N) → run.cutter.ready ≡ false → Through k run run r r n n []
@@ -60,7 +60,7 @@ pub moved_more : {run mid run' : Run} (xs ys : List ℕ) → Moved run mid xs �
 moved_more {run} {mid} {run'} xs ys s t = record {
   point = t.point ∙ (ap (λ p. point_after p ys) s.point ∙ sym (point_after-append run.cutter.point xs ys));
   free = t.free;
-  source_lines = omega (arith, s.source_lines, t.source_lines, lines_more run.cutter.point mid.cutter.point xs ys s.point);
+  lines_taken = omega (arith, s.lines_taken, t.lines_taken, lines_more run.cutter.point mid.cutter.point xs ys s.point);
 }
 
 pub through_more : {R N : Type 0} (k : Sinks R N) → IsSink k.to.row_gave k.to.row_within → IsSink k.to.note_gave k.to.note_within
@@ -78,7 +78,14 @@ pub room_after : {run mid : Run} (xs : List ℕ) (count more : ℕ) → Moved ru
 room_after {run} {mid} xs count more m c h = record {
   free = m.free;
   room = omega (arith, c.room, h, ap (λ p. p.line.consumed) m.point, consumed_more run.cutter.point xs);
-  source_lines = omega (arith, c.source_lines, h, m.source_lines, count_most run.cutter.point xs);
+  few_lines = omega (
+    arith,
+    c.few_lines,
+    m.lines_taken,
+    count_most run.cutter.point xs,
+    ap (λ p. p.line.consumed) m.point,
+    consumed_more run.cutter.point xs,
+  );
 }
 
 -- ---- a sink failed
@@ -190,4 +197,4 @@ pub up_to : (n : ℕ) (xs ys zs : List ℕ) → n ≡ length xs + length ys → 
 up_to n xs ys zs h = rw (← append_assoc xs ys zs) (take_at (xs ++ ys) zs n (length-append xs ys ∙ sym h))
 
 pub fresh_room : (run : Run) (count : ℕ) → IsFresh run → count < 2 ^ 31 → CanTake run count
-fresh_room run count f h = record { free = f.free; room = omega (arith, f.room, h); source_lines = omega (arith, f.source_lines, h) }
+fresh_room run count f h = record { free = f.free; room = omega (arith, f.room, h); few_lines = omega (arith, f.no_lines) }

@@ -13,14 +13,17 @@ use Rattle.page_core_base.specs.declared.page_settings.SettingFault.{SettingFaul
 use Rattle.page_roff_lines.specs.Decoding.{lines}
 use Rattle.page_roff_lines.specs.Cutting.{Point, first_point, lines_from, last_line}
 use Rattle.page_roff_lines.proofs.LineAgreement.{lines-one_by_one}
+use Rattle.page_roff_source.specs.Edges.{counts_of}
+use Rattle.page_roff_source.specs.declared.counts.Counts.{Counts}
+use Rattle.page_engine_lines.specs.Lines.{LinesEdge}
 use Rattle.page_engine.specs.declared.runs.Outcome.{Outcome}
 use Rattle.page_engine.specs.declared.runs.Run.{Run}
-use Rattle.page_engine.specs.Page.{Edge, IsAt, page, start, laid, ended}
+use Rattle.page_engine_page.specs.Page.{Edge, IsAt, page, start, laid, ended}
 use Rattle.page_engine.specs.Sources.{SourceState}
 use Rattle.page_engine.specs.Streams.{Streams, Sinks, AllCame}
 use Rattle.page_engine.specs.Runs.{RunsOver, Stopped, HasCause, Broken, whole_page, page_from, settled_from}
-use Rattle.page_engine.specs.Below.{cause_later}
-use Rattle.page_engine.specs.Steps.{TookLast, Finished, Finishes, Through, EndedWell, StoppedFrom, ReadsAll}
+use Rattle.page_engine_page.specs.Below.{cause_later}
+use Rattle.page_engine.specs.Steps.{source_lines, TookLast, Finished, Finishes, Through, EndedWell, StoppedFrom, ReadsAll}
 use Rattle.page_engine.proofs.BytesRead.{given_none, both_gave, both_within, page_last, lines_last}
 use Rattle.page_engine.proofs.Through.{broken_front, broken_end}
 
@@ -36,7 +39,8 @@ pub finished : {R N : Type 0} (k : Sinks R N) → IsSink k.to.row_gave k.to.row_
     → ((e : Edge) → IsAt mid.page e → Gets res k.to.row_gave k.to.row_within k.to.note_gave k.to.note_within a r' b n' (ended e))
     → ((e : Edge) → IsAt mid.page e → OnOk res (run'.page.worst ≡ (ended e).edge.worst))
     → ((e : Edge) → IsAt mid.page e → FailsBySink res (k.rows_failed a) (k.rows_failed r') (k.notes_failed b) (k.notes_failed n'))
-    → run'.lines ≡ mid.lines → Finishes res k run run' r r' n n'
+    → run'.counts ≡ counts_of mid.page.lines.roff → Finishes res k run run' r r' n n'
+unfolding ended
 finished k rows notes run mid run' r a r' n b n' (Ok o) t gets worst faults same = record {
   came = λ e h.
       let l = laid e (last_line run.cutter.point) in
@@ -47,7 +51,8 @@ finished k rows notes run mid run' r a r' n b n' (Ok o) t gets worst faults same
         notes_quiet = f.1 ∙ c.notes_quiet;
       };
   worst = λ e h. worst (laid e (last_line run.cutter.point)).edge (t.at e h);
-  source_lines = same ∙ t.source_lines;
+  lines_taken = ap (λ (c : Counts). c.source) same ∙ t.lines_taken;
+  counts = λ e h. same ∙ ap (λ (l : LinesEdge). counts_of l.roff) (t.at e h).lines;
 }
 finished k rows notes run mid run' r a r' n b n' (Err fault) t gets worst faults same = λ e h.
     let l = laid e (last_line run.cutter.point) in
@@ -57,7 +62,7 @@ finished k rows notes run mid run' r a r' n b n' (Err fault) t gets worst faults
     }
 
 pub ended_well : {R N : Type 0} (k : Sinks R N) → IsSink k.to.row_gave k.to.row_within → IsSink k.to.note_gave k.to.note_within
-    → {run mid run' : Run} {r a r' : R} {n b n' : N} (s t : SourceState) (xs : List ℕ) → run.lines ≡ 0
+    → {run mid run' : Run} {r a r' : R} {n b n' : N} (s t : SourceState) (xs : List ℕ) → source_lines run ≡ 0
     → Through k run mid r a n b xs → Finished k mid run' a r' b n' → IsAtEnd t.remaining → t.failed ≡ s.failed
     → (e : Edge) → IsAt run.page e → EndedWell k run' s t r r' n n' e run.cutter.point xs
 ended_well k rows notes {run} {mid} {run'} {r} {a} {r'} {n} {b} {n'} s t xs z g f i q e h =
@@ -74,7 +79,8 @@ ended_well k rows notes {run} {mid} {run'} {r} {a} {r'} {n} {b} {n'} s t xs z g 
         notes_quiet = c.notes_quiet ∙ d.came.notes_quiet;
       };
       worst = f.worst x.edge d.at ∙ sym (ap (λ (l : Laid Edge). l.edge.worst) w);
-      source_lines = omega (arith, f.source_lines, g.moved.source_lines, z, lines_last p v xs g.moved.point);
+      source = omega (arith, f.lines_taken, g.moved.lines_taken, z, lines_last p v xs g.moved.point);
+      counts = f.counts x.edge d.at ∙ sym (ap (λ (l : Laid Edge). counts_of l.edge.lines.roff) w);
       all = i;
       quiet = q;
     }
@@ -94,7 +100,7 @@ stopped_by k a b r r' n n' e p asked bytes (BadIndex l) c = absurd c.cause
 
 pub ended_with : {R N : Type 0} (k : Sinks R N) → IsSink k.to.row_gave k.to.row_within → IsSink k.to.note_gave k.to.note_within
     → {run mid : Run} {r a : R} {n b : N} (run' : Run) (r' : R) (n' : N) (res : Result (Unit {0}) Fault) (s t : SourceState) (asked : ℕ) (xs : List ℕ)
-    → run.lines ≡ 0 → Through k run mid r a n b xs → Finishes res k mid run' a r' b n' → IsAtEnd t.remaining → t.failed ≡ s.failed
+    → source_lines run ≡ 0 → Through k run mid r a n b xs → Finishes res k mid run' a r' b n' → IsAtEnd t.remaining → t.failed ≡ s.failed
     → (e : Edge) → IsAt run.page e
     → MatchResult res (λ _. EndedWell k run' s t r r' n n' e run.cutter.point xs) (λ fault. StoppedFrom k s t r r' n n' e run.cutter.point asked xs fault)
 ended_with k rows notes run' r' n' (Ok o) s t asked xs z g f i q e h = ended_well k rows notes s t xs z g f i q e h
@@ -146,9 +152,9 @@ runs_stopped k rows notes {a = a} {b = b} {r = r} {r' = r'} {n = n} {n' = n'} s 
 -- a run that ended well
 pub runs_well : {R N : Type 0} (k : Sinks R N) {run' : Run} {a b : SourceState} {r r' : R} {n n' : N} (s : PageSettings) (p : Point) (bytes : List ℕ) (o : Outcome)
     → p ≡ first_point s.encoding → IsGood s → ReadsAll (Ok tt) k run' a b r r' n n' (start s) p bytes
-    → o.worst ≡ run'.page.worst → o.counts.source ≡ run'.lines → o.counts.taken ≡ run'.lines → o.counts.expansions ≡ 0
+    → o.worst ≡ run'.page.worst → o.counts ≡ run'.counts
     → RunsOver (Ok o) k a b r r' n n' s bytes
-runs_well k s p bytes o q g h ow os ot oe =
+runs_well k s p bytes o q g h ow oc =
     let f = rw q at h.ends in
     let l : length (lines_from (first_point s.encoding) bytes) ≡ length (lines s.encoding bytes) = ap length (sym (lines-one_by_one s.encoding bytes)) in record {
       asked = h.asked;
@@ -157,9 +163,8 @@ runs_well k s p bytes o q g h ow os ot oe =
       runs = record {
         gave = rw (← page_start) f.came.gave;
         worst = ow ∙ (f.worst ∙ ap (λ (m : Laid Edge). m.edge.worst) (page_start s bytes));
-        source = os ∙ (f.source_lines ∙ l);
-        taken = ot ∙ (f.source_lines ∙ l);
-        expansions = oe;
+        source = ap (λ (c : Counts). c.source) oc ∙ (f.source ∙ l);
+        counts = oc ∙ (f.counts ∙ ap (λ (m : Laid Edge). counts_of m.edge.lines.roff) (page_start s bytes));
         good = g;
         all = f.all;
       };

@@ -1,8 +1,4 @@
-pub mod Levels
 pub mod Shown
-pub mod Items
-pub mod Page
-pub mod Below
 pub mod Sources
 pub mod Readings
 pub mod Streams

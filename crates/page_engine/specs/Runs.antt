@@ -9,8 +9,9 @@ use Rattle.page_core_base.specs.Laid.{Laid, nothing}
 use Rattle.page_roff_lines.specs.Decoding.{lines}
 use Rattle.page_roff_lines.specs.Cutting.{Point, first_point, point_after, lines_within, last_line, lines_from}
 use Rattle.page_core_base.specs.Checks.{IsGood, IsFirst}
+use Rattle.page_roff_source.specs.Edges.{counts_of}
 use Rattle.page_engine.specs.declared.runs.Outcome.{Outcome}
-use Rattle.page_engine.specs.Page.{Edge, laid, page, start}
+use Rattle.page_engine_page.specs.Page.{Edge, laid, page, start}
 use Rattle.page_engine.specs.Sources.{SourceState, HasGiven}
 use Rattle.page_engine.specs.Streams.{Streams, Sinks, AllCame, FrontCame}
 
@@ -36,8 +37,7 @@ pub record Whole {R N : Type 0} (j : Streams R N) (r r' : R) (n n' : N) (s : Pag
   pub gave : AllCame j r r' n n' (whole_page s bytes)
   pub worst : o.worst ≡ (whole_page s bytes).edge.worst
   pub source : o.counts.source ≡ length (lines s.encoding bytes)
-  pub taken : o.counts.taken ≡ length (lines s.encoding bytes)
-  pub expansions : o.counts.expansions ≡ 0
+  pub counts : o.counts ≡ counts_of (whole_page s bytes).edge.lines.roff
   pub good : IsGood s
   pub all : IsAtEnd after
 

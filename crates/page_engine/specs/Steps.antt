@@ -7,9 +7,10 @@ use Rattle.page_core_base.specs.declared.faults.Fault.TheVariants.{Memory, Read,
 use Rattle.page_core_base.specs.declared.page_settings.Settings.{Settings as PageSettings}
 use Rattle.page_core_base.specs.Laid.{Laid}
 use Rattle.page_roff_lines.specs.Cutting.{Point, first_point, point_after, lines_within, last_line, lines_from}
-use Rattle.page_engine.specs.declared.pages.Page.{Page}
+use Rattle.page_roff_source.specs.Edges.{counts_of}
+use Rattle.page_engine_page.specs.declared.pages.Page.{Page}
 use Rattle.page_engine.specs.declared.runs.Run.{Run}
-use Rattle.page_engine.specs.Page.{Edge, IsAt, laid, page, start}
+use Rattle.page_engine_page.specs.Page.{Edge, IsAt, laid, page, start}
 use Rattle.page_engine.specs.Sources.{SourceState, HasGiven}
 use Rattle.page_engine.specs.Streams.{Sinks, AllCame, FrontCame}
 use Rattle.page_engine.specs.Runs.{page_from, settled_from, Broken, IsTooLong}
@@ -28,17 +29,21 @@ pub record Front {R N E : Type 0} (k : Sinks R N) (r r' : R) (n n' : N) (l : Lai
 
 -- ---- bytes that are taken
 
+-- how many source lines were taken
+abbrev pub source_lines : Run → ℕ
+source_lines run = run.page.lines.roff.source
+
 -- there is room for more bytes
 pub record CanTake (run : Run) (count : ℕ) : Type 0 where
   pub free : run.cutter.ready ≡ false
   pub room : run.cutter.point.line.consumed + count < 2 ^ 31
-  pub source_lines : run.lines + count < 2 ^ 63
+  pub few_lines : source_lines run ≤ run.cutter.point.line.consumed
 
 -- the cutter took these bytes, and their lines were counted
 pub record Moved (run run' : Run) (bytes : List ℕ) : Type 0 where
   pub point : run'.cutter.point ≡ point_after run.cutter.point bytes
   pub free : run'.cutter.ready ≡ false
-  pub source_lines : run'.lines ≡ run.lines + length (lines_within run.cutter.point bytes)
+  pub lines_taken : source_lines run' ≡ source_lines run + length (lines_within run.cutter.point bytes)
 
 -- what the whole lines of these bytes settle came, and the page is at the edge after them
 pub record Settled {R N : Type 0} (k : Sinks R N) (here : Page) (r r' : R) (n n' : N) (e : Edge) (p : Point)
@@ -94,7 +99,7 @@ TakesChunk res k run run' r r' n n' chunk = MatchResult res
 pub record TookLast {R N : Type 0} (k : Sinks R N) (run run' : Run) (r r' : R) (n n' : N) : Type 0 where
   pub came : (e : Edge) → IsAt run.page e → Came k r r' n n' (laid e (last_line run.cutter.point))
   pub at : (e : Edge) → IsAt run.page e → IsAt run'.page (laid e (last_line run.cutter.point)).edge
-  pub source_lines : run'.lines ≡ run.lines + length (last_line run.cutter.point)
+  pub lines_taken : source_lines run' ≡ source_lines run + length (last_line run.cutter.point)
 
 abbrev pub TakesLast : {R N : Type 0} → Result (Unit {0}) Fault → Sinks R N → Run → Run → R → R → N → N
     → Type 0
@@ -107,7 +112,9 @@ pub record Finished {R N : Type 0} (k : Sinks R N) (run run' : Run) (r r' : R) (
   pub came : (e : Edge) → IsAt run.page e → Came k r r' n n' (page e (last_line run.cutter.point))
   pub worst : (e : Edge) → IsAt run.page e
       → run'.page.worst ≡ (page e (last_line run.cutter.point)).edge.worst
-  pub source_lines : run'.lines ≡ run.lines + length (last_line run.cutter.point)
+  pub lines_taken : run'.counts.source ≡ source_lines run + length (last_line run.cutter.point)
+  pub counts : (e : Edge) → IsAt run.page e
+      → run'.counts ≡ counts_of (page e (last_line run.cutter.point)).edge.lines.roff
 
 abbrev pub Finishes : {R N : Type 0} → Result (Unit {0}) Fault → Sinks R N → Run → Run → R → R → N → N
     → Type 0
@@ -122,18 +129,19 @@ pub record StartsAt (run : Run) (s : PageSettings) : Type 0 where
   pub at : IsAt run.page (start s)
   pub point : run.cutter.point ≡ first_point s.encoding
   pub free : run.cutter.ready ≡ false
-  pub source_lines : run.lines ≡ 0
+  pub no_lines : source_lines run ≡ 0
 
 pub record IsFresh (run : Run) : Type 0 where
   pub room : run.cutter.point.line.consumed ≡ 0
   pub free : run.cutter.ready ≡ false
-  pub source_lines : run.lines ≡ 0
+  pub no_lines : source_lines run ≡ 0
 
 pub record EndedWell {R N : Type 0} (k : Sinks R N) (run' : Run) (a b : SourceState) (r r' : R) (n n' : N)
     (e : Edge) (p : Point) (bytes : List ℕ) : Type 0 where
   pub came : Came k r r' n n' (page_from e p bytes)
   pub worst : run'.page.worst ≡ (page_from e p bytes).edge.worst
-  pub source_lines : run'.lines ≡ length (lines_from p bytes)
+  pub source : run'.counts.source ≡ length (lines_from p bytes)
+  pub counts : run'.counts ≡ counts_of (page_from e p bytes).edge.lines.roff
   pub all : IsAtEnd b.remaining
   pub quiet : b.failed ≡ a.failed
 

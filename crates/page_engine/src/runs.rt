@@ -1,24 +1,22 @@
 //! A run: the bytes of a source become the rows and messages of a page.
 
-ghost use Rattle.std.specs.Prelude.{◌≡◌, ◌<◌, ◌≤◌, ◌^◌, ℕ, List, false, true, length, OnOk, IfOk, IfErr};
+ghost use Rattle.std.specs.Prelude.{◌≡◌, ◌<◌, ◌≤◌, ◌^◌, ℕ, List, false, length, IfOk, IfErr};
 ghost use Rattle.std.specs.Io.KnownBytes.{Consumes};
-ghost use Rattle.page_core_base.specs.Fails.{FailsBySink};
-ghost use Rattle.page_core_base.specs.Laid.{Gets};
 ghost use Rattle.page_core_base.specs.Checks.{IsGood};
-ghost use Rattle.page_roff_lines.specs.Cutting.{line_of};
-ghost use Rattle.page_engine.specs.Page.{Edge, IsAt, laid_line};
+ghost use Rattle.page_engine_page.specs.Page.{Edge, IsAt};
 ghost use Rattle.page_engine.specs.Shown.{is_silent};
 ghost use Rattle.page_engine.specs.Streams.{streams, sinks};
 ghost use Rattle.page_engine.specs.Written.{WritesRows, WritesRowsInto, WritesNotes, WritesNotesInto};
 ghost use Rattle.page_engine.specs.Runs.{Runs, RunsOver};
 ghost use Rattle.page_engine.specs.Steps.{CanTake, TakesPart, TakesChunk, TakesLast, Finishes, StartsAt, IsFresh, ReadsAll};
 
-use crate::filters::{Filter, Shown, is_silent};
-use crate::pages::Page;
+use crate::shown::{Shown, is_silent};
 use crate::sources::{Counted, Reading, Source};
 use page_core_base::{Fault, Level, NoteSink, RowSink, Settings};
 use page_core_writers::{TextNotes, TextRows};
+use page_engine_page::Page;
 use page_roff_lines::Cutter;
+use page_roff_source::Counts;
 use std::alloc::Global;
 use std::io::{Read, Write};
 
@@ -31,14 +29,6 @@ pub const READS: u32 = 4_294_967_295;
 /// The bytes of a chunk at most: those that are read at a time.
 const CHUNK: usize = 16_384;
 
-/// What was counted of a page: its source lines, the lines that were taken of them, and the interpolations.
-#[derive(Clone, Copy, Debug, PartialEq, Eq)]
-pub struct Counts {
-    pub source: u64,
-    pub taken: u64,
-    pub expansions: u64,
-}
-
 /// How a run ended: the worst level of the messages that were given, and the counts.
 #[derive(Clone, Copy, Debug, PartialEq, Eq)]
 pub struct Outcome {
@@ -46,46 +36,12 @@ pub struct Outcome {
     pub counts: Counts,
 }
 
-impl Page {
-    /// Takes the line that a cutter has, and gives what it settles.
-    fn take_line<R: RowSink, N: NoteSink>(
-        &mut self,
-        cutter: &mut Cutter,
-        rows: &mut R,
-        notes: &mut N,
-    ) -> Result<(), Fault>
-        requires { cutter.old.ready ≡ true }
-        ensures gets { (e : Edge) → IsAt self.old e →
-            Gets result R.gave R.within N.gave N.within rows.old rows.new notes.old notes.new
-            (laid_line e (line_of cutter.old.point)) }
-        ensures edge { (e : Edge) → IsAt self.old e →
-            OnOk result (IsAt self.new (laid_line e (line_of cutter.old.point)).edge) }
-        ensures faults { (e : Edge) → IsAt self.old e →
-            FailsBySink result (R.failed rows.old) (R.failed rows.new)
-            (N.failed notes.old) (N.failed notes.new) }
-        ensures point { OnOk result (cutter.new.point ≡ cutter.old.point) }
-        ensures ready { OnOk result (cutter.new.ready ≡ false) }
-        ensures rows_same { R.loans rows.new ≡ R.loans rows.old }
-        ensures notes_same { N.loans notes.new ≡ N.loans notes.old }
-    {
-        let mut filter = Filter {
-            notes: &mut *notes,
-            least: self.least,
-            worst: self.worst,
-        };
-        let line = cutter.line(&mut filter);
-        self.worst = filter.worst;
-        let (text, number) = line?;
-        self.feed(text, number, rows, notes)
-    }
-}
-
-/// A page, the cutter of its bytes, and the count of its source lines.
+/// A page, the cutter of its bytes, and what was counted of it once it has ended.
 #[derive(Drop)]
 struct Run {
     page: Page,
     cutter: Cutter,
-    lines: u64,
+    counts: Counts,
 }
 
 impl Run {
@@ -96,10 +52,11 @@ impl Run {
     {
         let page = Page::new(alloc, settings)?;
         let cutter = Cutter::new(alloc, settings.encoding)?;
+        let counts = page.counts();
         Ok(Run {
             page,
             cutter,
-            lines: 0,
+            counts,
         })
     }
 
@@ -123,7 +80,6 @@ impl Run {
             return Ok(count);
         }
         self.page.take_line(&mut self.cutter, rows, notes)?;
-        self.lines += 1;
         Ok(count)
     }
 
@@ -165,7 +121,6 @@ impl Run {
             return Ok(());
         }
         self.page.take_line(&mut self.cutter, rows, notes)?;
-        self.lines += 1;
         Ok(())
     }
 
@@ -178,6 +133,7 @@ impl Run {
         ensures notes_same { N.loans notes.new ≡ N.loans notes.old }
     {
         self.take_last(rows, notes)?;
+        self.counts = self.page.counts();
         self.page.end(rows, notes)
     }
 
@@ -222,23 +178,6 @@ impl Run {
     }
 }
 
-// The outcome of a run, by the count of its source lines.
-fn ended_well(worst: Option<Level>, source: u64) -> Outcome
-    ensures worst { result.worst ≡ worst }
-    ensures source { result.counts.source ≡ source }
-    ensures taken { result.counts.taken ≡ source }
-    ensures expansions { result.counts.expansions ≡ 0 }
-{
-    Outcome {
-        worst,
-        counts: Counts {
-            source,
-            taken: source,
-            expansions: 0,
-        },
-    }
-}
-
 /// Formats a page: reads all bytes of a source, in chunks of any size, gives the rows to one sink and the
 /// messages to another, and answers the worst level of the messages and the counts.
 ///
@@ -268,7 +207,10 @@ pub fn run_sinks<S: Source, R: RowSink, N: NoteSink>(
     if let Err(fault) = run.read_all(source, rows, notes) {
         return Err(fault);
     }
-    Ok(ended_well(run.page.worst, run.lines))
+    Ok(Outcome {
+        worst: run.page.worst(),
+        counts: run.counts,
+    })
 }
 
 /// Formats a page as [`run_sinks`] does: reads a reader, and writes the rows to one writer and the messages,

@@ -1,4 +1,3 @@
 pub mod Macros
 pub mod Arguments
 pub mod Prose
-pub mod SourceLines

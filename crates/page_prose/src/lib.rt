@@ -7,7 +7,6 @@ mod prose;
 mod raw_lines;
 mod requests;
 mod sections;
-mod source_lines;
 mod text_lines;
 
 pub use macros::{Call, Macro};

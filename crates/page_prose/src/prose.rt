@@ -1,6 +1,6 @@
 //! The body of a page: finished lines, as text, titles, section headers, paragraphs and requests, become pieces and messages (man(7), roff(7)).
 
-ghost use Rattle.std.specs.Prelude.{◌≡◌, ◌≤◌, length, OnOk};
+ghost use Rattle.std.specs.Prelude.{◌≡◌, ◌≤◌, length};
 ghost use Rattle.page_core_base.specs.Latches.{Came, Emits};
 ghost use Rattle.page_core_base.specs.declared.note_kinds.NoteKind.{NoteKind};
 ghost use Rattle.page_core_base.specs.LinesTaken.{line_seen};
@@ -91,9 +91,9 @@ impl Prose {
         }
     }
 
-    /// Gives a finished line, and keeps what it leaves.
+    /// Takes a finished line of at most [`LINE`] bytes, and gives its pieces and messages.
     #[tactic(auto, unfolding(crate::specs::Prose::line_items, crate::specs::Prose::line_after))]
-    pub(crate) fn give_line<O: PieceOut>(&mut self, out: &mut O, taken: Taken<'_>)
+    pub fn give_line<O: PieceOut>(&mut self, out: &mut O, taken: Taken<'_>)
         requires { length taken.text.now ≤ LINE }
         ensures came { Came O.left out.old (prose.line_items self.old (line_seen taken.entry)) out.new }
         ensures after { self.new ≡ prose.line_after self.old (line_seen taken.entry) }
@@ -106,9 +106,9 @@ impl Prose {
         }
     }
 
-    // Gives the end of the body.
+    /// Ends the body after a line: the header and a message where no body began, and the end of the row.
     #[tactic(auto, unfolding(crate::specs::Prose::end_items))]
-    fn give_end<O: PieceOut>(&self, out: &mut O, line: u32)
+    pub fn give_end<O: PieceOut>(&self, out: &mut O, line: u32)
         ensures { Came O.left out.old (prose.end_items self.now line) out.new }
     {
         self.begin_with(out, line, NoteKind::NoBody);
@@ -128,28 +128,6 @@ impl Prose {
 }
 
 impl Prose {
-    /// Takes a finished line of at most [`LINE`] bytes, and gives its pieces and messages. After a fault it is not to be used again.
-    pub fn line<O: PieceSink>(&mut self, out: &mut O, taken: Taken<'_>) -> Result<(), Fault>
-        requires { length taken.text.now ≤ LINE }
-        ensures gives { Emits result O.gave O.broke out.old (prose.line_items self.old (line_seen taken.entry)) out.new }
-        ensures after { OnOk result (self.new ≡ prose.line_after self.old (line_seen taken.entry)) }
-        ensures same { O.loans out.new ≡ O.loans out.old }
-    {
-        let mut latch = PieceLatch::new(out);
-        self.give_line(&mut latch, taken);
-        latch.done()
-    }
-
-    /// Ends the body after a line: the header and a message where no body began, and the end of the row.
-    pub fn end<O: PieceSink>(&self, out: &mut O, line: u32) -> Result<(), Fault>
-        ensures gives { Emits result O.gave O.broke out.old (prose.end_items self.now line) out.new }
-        ensures same { O.loans out.new ≡ O.loans out.old }
-    {
-        let mut latch = PieceLatch::new(out);
-        self.give_end(&mut latch, line);
-        latch.done()
-    }
-
     /// Gives the footer, and before it a blank row, unless one stands there.
     pub fn footer<O: PieceSink>(&self, out: &mut O, line: u32, blank_rows: u32) -> Result<(), Fault>
         ensures gives { Emits result O.gave O.broke out.old (prose.footer_items self.now line blank_rows) out.new }

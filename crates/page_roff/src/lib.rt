@@ -2,3 +2,4 @@
 #![tactic(auto)]
 
 pub use page_roff_lines::Cutter;
+pub use page_roff_source::{Counts, Roff};

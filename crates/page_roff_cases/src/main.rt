@@ -1,30 +1,40 @@
 //! Shows what calls of the crates of roff give, a line for each line of the standard input: the name of a call, a blank, and its text. The
-//! calls work on one set of names and arguments, up to a line `new`. Other lines stay as they are. What cannot be written is missing from
-//! what is wanted.
+//! calls work on one set of names and arguments, and on one page, up to a line `new`. Other lines stay as they are. What cannot be written is
+//! missing from what is wanted.
 #![tactic(auto)]
 
 mod definitions;
 mod heads;
 mod names;
+mod sources;
 mod texts;
 
 use definitions::{show_mode, show_request};
 use heads::{show_end, show_guarded, show_head};
 use names::{Roff, show_register, show_string};
+use sources::{Page, repeated};
 use std::io;
 use texts::{show_condition, show_text};
 
 fn main(rt: HostRuntime) -> io::Result<()> {
     let mut roff = Roff::new(rt.alloc())?;
+    let Ok(mut page) = Page::new(rt.alloc()) else {
+        return Ok(());
+    };
     for line in rt.lines(rt.alloc()) {
         let line = line?;
         if line.as_str() == "new" {
             roff = Roff::new(rt.alloc())?;
+            let Ok(new_page) = Page::new(rt.alloc()) else {
+                return Ok(());
+            };
+            page = new_page;
         }
         let _ = print!(rt; "{line}");
         let (call, text) = line.split_once(' ').unwrap_or((line.as_str(), ""));
         roff.change(call, text);
         show(&rt, &mut roff, call, text);
+        show_source(&rt, &mut page, call, text);
         let _ = println!(rt; "");
     }
     Ok(())
@@ -42,6 +52,22 @@ fn show(rt: &HostRuntime, roff: &mut Roff, call: &str, text: &str) {
         "if" => show_condition(rt, roff, text),
         "text" => show_text(rt, roff, false, text),
         "copy" => show_text(rt, roff, true, text),
+        _ => {}
+    }
+}
+
+// A line of the page, several lines `N TEXT`, or the page's end.
+fn show_source(rt: &HostRuntime, page: &mut Page, call: &str, text: &str) {
+    let (times, text) = match call {
+        "lines" => text.split_once(' ').unwrap_or(("1", text)),
+        _ => ("1", text),
+    };
+    let Ok(text) = repeated(rt.alloc(), text) else {
+        return;
+    };
+    match call {
+        "line" | "lines" => page.show_lines(rt, times.parse().unwrap_or(1), text.as_str()),
+        "page-end" => page.show_end(rt),
         _ => {}
     }
 }

@@ -1,6 +1,6 @@
-use Rattle.std.proofs.Common.{[]}
+use Rattle.std.proofs.Common.{[], refl}
 use Rattle.std.proofs.lemmas.Result.{err_from_is_err_and}
-use Rattle.page_engine.specs.Page.{start}
+use Rattle.page_engine_page.specs.Page.{start}
 use Rattle.page_engine.specs.Streams.{sinks}
 use Rattle.page_engine.proofs.WholeRuns.{runs_refused, runs_without_memory, runs_stopped, runs_well}
 use Rattle.page_engine.proofs.runs.run_sinks.Goals as goal
@@ -39,5 +39,4 @@ returns-clause-runs g c =
     let k = sinks r.gave r.within r.failed n.gave n.within n.failed in
     let s = c.in_ok-run.ensures.ok in
     let h = c.in_default-read_all.ensures.reads (start c.args.settings.now) s.at in
-    let o = c.ended_well.ensures in
-    (h.0, runs_well k c.args.settings.now _ h.0 c.ended_well.result s.point c.in_default.ensures h.1 o.worst o.source o.taken o.expansions)
+    (h.0, runs_well k c.args.settings.now _ h.0 _ s.point c.in_default.ensures h.1 c.worst.ensures refl)

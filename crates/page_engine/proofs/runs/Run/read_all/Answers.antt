@@ -43,7 +43,7 @@ returns-in-End-clause-reads g c = λ e h.
         asked = c.loop-calls.calls + 1;
         few = omega (arith, c.loop-calls-test.true);
         source = given_end c.loop-calls.calls 1 i.0 i.1 d.0;
-        ends = ended_with k g.met.R.RowSink.laws g.met.N.NoteSink.laws _ _ _ c.finish.result _ _ _ i.0 c.requires.source_lines i.3
+        ends = ended_with k g.met.R.RowSink.laws g.met.N.NoteSink.laws _ _ _ c.finish.result _ _ _ i.0 c.requires.no_lines i.3
             c.finish.ensures.ends d.2 (d.1 ∙ i.2) e h;
       },
     )

@@ -16,7 +16,7 @@ returns-then-not-end-clause-takes g c =
         notes_quiet = refl;
       };
       at = λ e h. none_edge e _ b line is c.if-not-end.true h;
-      source_lines = omega (arith, none);
+      lines_taken = omega (arith, none);
     }
 
 pub returns-in_err-take_line-clause-takes : goal.returns-in_err-take_line-clause-takes
@@ -41,5 +41,5 @@ returns-clause-takes g c =
         notes_quiet = (t.faults e h).1;
       };
       at = λ e h. one_edge e _ b line is c.if-not-end.false (t.edge e h);
-      source_lines = omega (arith, one);
+      lines_taken = omega (arith, one, t.source);
     }

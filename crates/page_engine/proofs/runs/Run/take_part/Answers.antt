@@ -25,7 +25,7 @@ returns-then-not-is_whole-clause-takes g c =
           };
           at = none_edge e _ b line f.lines c.if-not-is_whole.true h;
         };
-        moved = record { point = f.point; free = f.ready ∙ c.if-not-is_whole.true; source_lines = omega (arith, none) };
+        moved = record { point = f.point; free = f.ready ∙ c.if-not-is_whole.true; lines_taken = omega (arith, none) };
       };
     }
 
@@ -65,6 +65,6 @@ returns-clause-takes g c =
           };
           at = one_edge e _ b line f.lines c.if-not-is_whole.false (t.edge e h);
         };
-        moved = record { point = t.point ∙ f.point; free = t.ready; source_lines = omega (arith, one) };
+        moved = record { point = t.point ∙ f.point; free = t.ready; lines_taken = omega (arith, one, t.source) };
       };
     }

@@ -1,0 +1,10 @@
+use Rattle.std.proofs.Common.{rules}
+use Rattle.page_core_base.proofs.PieceLatchLemmas.{latched}
+use Rattle.page_engine_lines.specs.Lines.{end_items}
+use Rattle.page_engine_lines.proofs.page_lines.PageLines.end.Goals as goal
+
+pub returns : goal.returns
+returns g c =
+    let items = end_items c.args.self.now c.args.number in
+    let k = latched g.met.O.PieceSink.laws items c.done.result c.new.ensures.fault c.give_end.ensures.came c.done.ensures in
+    record { gives = search (rules, k.0, k.2); same = search (rules, k.0, k.1); prose = search (rules, c.give_end.ensures.prose) }

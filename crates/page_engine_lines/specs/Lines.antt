@@ -1,0 +1,47 @@
+-- The source lines of a page, as pieces and messages. Source: roff(7), "LANGUAGE SYNTAX"; mandoc(1), "DIAGNOSTICS".
+use Rattle.std.specs.Prelude.{ℕ, ◌+◌, nat_lt, List, [], ◌∷◌, ◌++◌, length, map, if◌then◌else◌}
+use Rattle.page_core_base.specs.Pieces.{Item, noted}
+use Rattle.page_core_base.specs.declared.note_kinds.NoteKind.TheVariants.{TrailingBlank}
+use Rattle.page_core_base.specs.declared.page_settings.Settings.{Settings}
+use Rattle.page_roff_forms.specs.Ends.{kept_len}
+use Rattle.page_roff_forms.specs.LineForms.{is_white}
+use Rattle.page_roff_source.specs.Edges as roff
+use Rattle.page_roff_source.specs.Edges.{Edge, SourceLine}
+use Rattle.page_prose.specs.Prose as prose
+use Rattle.page_prose.specs.declared.prose.Prose.{Prose}
+use Rattle.page_scopes_words.specs.Words.{at, says}
+use Rattle.page_engine_lines.specs.Given.{given_items, prose_after}
+
+-- what decides the pieces of the lines to come
+pub record LinesEdge : Type 0 where
+  pub roff : Edge
+  pub prose : Prose
+
+abbrev pub source_line : List ℕ → ℕ → SourceLine
+source_line text number = record { text = text; number = number }
+
+-- white space at a line's end
+abbrev pub trailing_notes : ℕ → List ℕ → List Item
+trailing_notes number text =
+    if nat_lt (kept_len is_white text) (length text) then says TrailingBlank (at number (kept_len is_white text + 1)) [] ∷ [] else []
+
+-- a source line: what roff gives of it goes through the macros, one after another
+unfoldable pub source_items : LinesEdge → ℕ → List ℕ → List Item
+source_items e number text = trailing_notes number text ++ given_items e.prose (roff.line_given e.roff (source_line text number))
+
+abbrev pub source_after : LinesEdge → ℕ → List ℕ → LinesEdge
+source_after e number text = record {
+  roff = roff.line_done e.roff (source_line text number);
+  prose = prose_after e.prose (roff.line_given e.roff (source_line text number));
+}
+
+-- the end of a page, after the line of a number: what roff left open, and then the body's end
+unfoldable pub end_items : LinesEdge → ℕ → List Item
+end_items e line = map noted (roff.end_notes e.roff) ++ prose.end_items e.prose line
+
+abbrev pub footer_items : LinesEdge → ℕ → ℕ → List Item
+footer_items e line blank_rows = prose.footer_items e.prose line blank_rows
+
+-- the start of a page
+abbrev pub start_of : Settings → LinesEdge
+start_of s = record { roff = roff.first_edge s.output; prose = prose.start_of s }

@@ -1,0 +1,48 @@
+//! A latch that takes the pieces and messages of the macros, and the messages of roff between them.
+
+ghost use Rattle.std.specs.Prelude.{◌≡◌, List, ◌++◌, map, IsTrue};
+ghost use Rattle.page_core_base.specs.Latches.{Came};
+ghost use Rattle.page_core_base.specs.Messages.{Message, message_of};
+ghost use Rattle.page_core_base.specs.Pieces.{Item, noted};
+
+use page_core_base::{Note, Piece, PieceOut};
+use page_roff_values::NoteOut;
+
+/// Takes pieces and messages into a latch of pieces, for those who give messages alone too.
+#[derive(Drop)]
+pub struct ItemOut<L> {
+    pub(crate) latch: L,
+}
+
+impl<L: PieceOut> PieceOut for ItemOut<L> {
+    ghost Plan = { L.Plan };
+
+    ghost left = { λ plan s rest. L.left plan s.latch rest };
+
+    fn give(&mut self, piece: Piece<&[u8]>) {
+        self.latch.give(piece);
+    }
+
+    fn report(&mut self, note: &Note) {
+        self.latch.report(note);
+    }
+
+    fn has_failed(&self) -> bool {
+        self.latch.has_failed()
+    }
+}
+
+impl<L: PieceOut> NoteOut for ItemOut<L> {
+    // What comes after the messages belongs to the plan.
+    ghost Plan = { L.Plan × List Item };
+
+    ghost left = { λ plan s notes. L.left plan.0 s.latch (map noted notes ++ plan.1) };
+
+    fn report(&mut self, note: &Note) {
+        self.latch.report(note);
+    }
+
+    fn has_failed(&self) -> bool {
+        self.latch.has_failed()
+    }
+}

@@ -1,0 +1,123 @@
+//! The layers of a page that make pieces of its source lines: roff, and the macros.
+
+ghost use Rattle.std.specs.Prelude.{◌≡◌, ◌≤◌, ◌<◌, ◌^◌, length, IfOk, IfErr};
+ghost use Rattle.page_core_base.specs.Texts.{IsLine};
+ghost use Rattle.page_core_base.specs.Latches.{Came, Emits};
+ghost use Rattle.page_roff_source.specs.Edges.{counts_of};
+ghost use Rattle.page_engine_lines.specs.Lines as lines;
+
+use crate::item_outs::ItemOut;
+use crate::taking::{give_taken, report_trailing};
+use page_core_base::{Fault, PieceLatch, PieceOut, PieceSink, Settings};
+use page_prose::Prose;
+use page_roff_source::{Counts, Processor};
+use std::alloc::Global;
+use std::marker::Model;
+
+/// What decides the pieces of the source lines to come.
+#[derive(Drop)]
+pub struct PageLines {
+    roff: Processor,
+    prose: Prose,
+}
+
+impl Model for PageLines {
+    ghost use Rattle.std.specs.Prelude.{◌≡◌, None};
+    ghost use Rattle.page_engine_lines.specs.Lines.{LinesEdge};
+
+    ghost Value = { LinesEdge };
+
+    ghost view = { λ l. record { roff = l.roff; prose = l.prose } };
+
+    ghost invariant = { λ l. l.roff.to_come ≡ None };
+}
+
+impl PageLines {
+    /// The start of a page of settings that pass their check. Its fault is [`Fault::Memory`].
+    pub fn new(alloc: Global, settings: &Settings) -> Result<PageLines, Fault>
+        ensures ok { IfOk result (λ l. l ≡ lines.start_of settings.now) }
+        ensures fault { IfErr result (λ fault. fault ≡ Fault.Memory) }
+    {
+        let Ok(roff) = Processor::new(alloc, settings.output) else {
+            return Err(Fault::Memory);
+        };
+        Ok(PageLines {
+            roff,
+            prose: Prose::new(settings),
+        })
+    }
+
+    // Gives a source line, and keeps what it leaves.
+    #[tactic(auto, unfolding(crate::specs::Lines::source_items))]
+    fn give_line<L: PieceOut>(&mut self, out: &mut ItemOut<L>, number: u32, text: &[u8])
+        requires line { IsLine text.now }
+        requires count { self.old.roff.source < 2 ^ 31 }
+        ensures came { Came L.left out.old.latch (lines.source_items self.old number text.now) out.new.latch }
+        ensures after { self.new ≡ lines.source_after self.old number text.now }
+    {
+        report_trailing(out, number, text);
+        self.roff.source(text, number);
+        give_taken(&mut self.roff, &mut self.prose, out);
+    }
+
+    // Gives what roff left open, and the end of the body.
+    #[tactic(auto, unfolding(crate::specs::Lines::end_items))]
+    fn give_end<L: PieceOut>(&mut self, out: &mut ItemOut<L>, number: u32)
+        ensures came { Came L.left out.old.latch (lines.end_items self.old number) out.new.latch }
+        ensures prose { self.new.prose ≡ self.old.prose }
+    {
+        self.roff.end_into(out);
+        self.prose.give_end(out, number);
+    }
+}
+
+impl PageLines {
+    /// Takes a source line, and gives its pieces and messages.
+    pub fn line<O: PieceSink>(&mut self, out: &mut O, number: u32, text: &[u8]) -> Result<(), Fault>
+        requires line { IsLine text.now }
+        requires count { self.old.roff.source < 2 ^ 31 }
+        ensures gives { Emits result O.gave O.broke out.old (lines.source_items self.old number text.now) out.new }
+        ensures after { self.new ≡ lines.source_after self.old number text.now }
+        ensures same { O.loans out.new ≡ O.loans out.old }
+    {
+        let mut items = ItemOut {
+            latch: PieceLatch::new(out),
+        };
+        self.give_line(&mut items, number, text);
+        items.latch.done()
+    }
+
+    /// Ends the source and the body after a line: what roff left open, the header and a message where no body
+    /// began, and the end of the row. After that it is not to be used again.
+    pub fn end<O: PieceSink>(&mut self, out: &mut O, number: u32) -> Result<(), Fault>
+        ensures gives { Emits result O.gave O.broke out.old (lines.end_items self.old number) out.new }
+        ensures prose { self.new.prose ≡ self.old.prose }
+        ensures same { O.loans out.new ≡ O.loans out.old }
+    {
+        let mut items = ItemOut {
+            latch: PieceLatch::new(out),
+        };
+        self.give_end(&mut items, number);
+        items.latch.done()
+    }
+
+    /// Gives the footer, and before it a blank row, unless one stands there.
+    pub fn footer<O: PieceSink>(
+        &self,
+        out: &mut O,
+        number: u32,
+        blank_rows: u32,
+    ) -> Result<(), Fault>
+        ensures gives { Emits result O.gave O.broke out.old (lines.footer_items self.now number blank_rows) out.new }
+        ensures same { O.loans out.new ≡ O.loans out.old }
+    {
+        self.prose.footer(out, number, blank_rows)
+    }
+
+    /// What was counted so far.
+    pub fn counts(&self) -> Counts
+        ensures { result ≡ counts_of self.now.roff }
+    {
+        self.roff.counts()
+    }
+}

@@ -1,0 +1,4 @@
+pub mod Levels
+pub mod Items
+pub mod Page
+pub mod Below

@@ -1,0 +1,53 @@
+//! What lies below the lines of a page: the filler, and the sinks of rows and messages.
+
+ghost use Rattle.std.specs.Prelude.{◌≡◌, ℕ, List, Option, Some};
+ghost use Rattle.std.specs.Borrow.{GName};
+ghost use Rattle.page_engine_page.specs.Levels.{filter-sink};
+ghost use Rattle.page_engine_page.specs.Below.{BelowGave, BelowBroke, below-sink};
+
+use crate::filters::Filter;
+use page_core_base::{Fault, Note, NoteSink, Piece, PieceSink, RowSink};
+use page_fill::Filler;
+
+/// Fills pieces, and passes rows and messages on.
+#[derive(Drop)]
+pub struct Below<'f, 'r, 'n, R, N> {
+    pub(crate) filler: &'f mut Filler,
+    pub(crate) rows: &'r mut R,
+    pub(crate) notes: Filter<'n, N>,
+}
+
+impl<R: RowSink, N: NoteSink> PieceSink for Below<'_, '_, '_, R, N> {
+    ghost gave = { BelowGave R.gave R.failed
+        ⟦<Filter<'static, N> as NoteSink>⟧.gave ⟦<Filter<'static, N> as NoteSink>⟧.failed
+        (λ s. s.filler.now) (λ s. s.rows.now) (λ s. s.notes) };
+
+    ghost broke = { BelowBroke R.within R.failed
+        ⟦<Filter<'static, N> as NoteSink>⟧.within ⟦<Filter<'static, N> as NoteSink>⟧.failed
+        (λ s. s.filler.now) (λ s. s.rows.now) (λ s. s.notes) };
+
+    ghost Loans = { GName × GName × GName × R.Loans × N.Loans };
+
+    ghost loans = { λ s. (
+      s.filler.ghost_name,
+      s.rows.ghost_name,
+      s.notes.notes.ghost_name,
+      R.loans s.rows.now,
+      N.loans s.notes.notes.now,
+    ) };
+
+    ghost laws = { below-sink R.gave R.within R.failed ⟦<Filter<'static, N> as NoteSink>⟧.gave
+        ⟦<Filter<'static, N> as NoteSink>⟧.within ⟦<Filter<'static, N> as NoteSink>⟧.failed
+        R.laws (filter-sink N.gave N.within N.laws (λ s. s.notes.now) (λ s. s.least) (λ s. s.worst))
+        (λ s. s.filler.now) (λ s. s.rows.now) (λ s. s.notes) };
+
+    #[tactic(auto, unfolding(crate::specs::Items::laid_items))]
+    fn piece(&mut self, piece: Piece<&[u8]>) -> Result<(), Fault> {
+        self.filler.piece(piece, self.rows, &mut self.notes)
+    }
+
+    #[tactic(auto, unfolding(crate::specs::Items::laid_items))]
+    fn note(&mut self, note: &Note) -> Result<(), Fault> {
+        self.notes.note(note)
+    }
+}

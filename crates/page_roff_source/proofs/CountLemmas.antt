@@ -1,0 +1,146 @@
+-- How many lines a source line gives and takes: helpers of proofs.
+use Rattle.std.proofs.Common.{◌≡◌, ℕ, zero, suc, ◌+◌, ◌*◌, ◌≤◌, ◌==◌, Bool, true, false, is_some, List, [], ◌∷◌, ◌++◌, map, length, Option, Some, None, refl, sym, ap, ◌∙◌, arith}
+use Rattle.page_core_base.specs.Messages.{Message}
+use Rattle.page_core_base.specs.declared.page_settings.Output.{Output}
+use Rattle.page_roff_heads.specs.declared.conditions.Condition.{Condition}
+use Rattle.page_roff_blocks.specs.declared.regions.RegionHead.{RegionHead}
+use Rattle.page_roff_blocks.specs.Levels.{Opened}
+use Rattle.page_roff_values.specs.declared.expansions.TheConstants.{EXPAND}
+use Rattle.page_roff_run.specs.Languages.{Kind}
+use Rattle.page_roff_run.specs.Spending.{after_leaf, Spends}
+use Rattle.page_roff_run.specs.declared.TheConstants.{REREAD}
+use Rattle.page_roff_run.specs.Budgets.{language}
+use Rattle.page_roff_run.proofs.BudgetLemmas.{page_line_bound}
+use Rattle.page_roff_run.proofs.SpendLemmas.{page_spends}
+use Rattle.page_roff_effects.specs.Effects.{effects, answer_of, test_outcome, expansions_of, tested_after, done_by, done_after, budget_outcome, block_outcome, end_of_block_outcome, setting_of}
+use Rattle.page_roff_effects.specs.Leaves.{leaf_outcome}
+use Rattle.page_roff_effects.specs.RegionLines.{head_outcome, line_outcome, kind_outcome, end_outcome, finish_outcome}
+use Rattle.page_roff_effects.specs.States.{Given, says, takes, State, Memory, Outcome, Product, no_product, line_product, call_product, lines_of, after}
+use Rattle.page_roff_effects.proofs.CountLemmas.{spends}
+use Rattle.page_roff_source.specs.Edges.{Edge, SourceLine, before_line, run_line, line_given, line_done, line_count}
+
+count-append : (xs ys : List Given) → line_count (xs ++ ys) ≡ line_count xs + line_count ys
+unfolding line_count
+count-append [] ys = omega arith
+count-append (says note ∷ xs) ys = count-append xs ys
+count-append (takes line ∷ xs) ys = let h = count-append xs ys in omega (arith, h)
+
+count-says : (notes : List Message) → line_count (map says notes) ≡ 0
+unfolding line_count
+count-says [] = refl
+count-says (note ∷ notes) = count-says notes
+
+product_count : (p : Product) → line_count (lines_of p) ≤ 1
+unfolding line_count
+product_count no_product = omega arith
+product_count (line_product line) = omega arith
+product_count (call_product call) = omega arith
+
+-- the lines that were given
+lines_out : State → ℕ
+lines_out s = line_count s.out
+
+after_count : (s : State) (o : Outcome) → lines_out (after s o) ≡ lines_out s + line_count (lines_of o.product)
+unfolding lines_out
+after_count s o =
+    let a = count-append s.out (map says o.notes ++ lines_of o.product) in
+    let b = count-append (map says o.notes) (lines_of o.product) in
+    let c = count-says o.notes in
+    omega (arith, a, b, c)
+
+-- a part of which nothing comes but messages
+quiet : (s : State) (o : Outcome) → o.product ≡ no_product → lines_out (after s o) ≡ lines_out s
+unfolding line_count
+quiet s o e =
+    let a = after_count s o in
+    let b : line_count (lines_of o.product) ≡ 0 = ap (λ (p : Product). line_count (lines_of p)) e in
+    omega (arith, a, b)
+
+few : (s : State) (o : Outcome) → lines_out (after s o) ≤ lines_out s + 1
+few s o = let a = after_count s o in let b = product_count o.product in omega (arith, a, b)
+
+done_out : (p : Product) (s : State) → lines_out (after_leaf (done_by p s)) ≡ lines_out s
+unfolding done_by
+done_out no_product s = refl
+done_out (line_product line) s = refl
+done_out (call_product call) s = refl
+
+head_quiet : (head : RegionHead (List ℕ)) (is_run : Bool) (m : Memory) → (head_outcome head is_run m).product ≡ no_product
+unfolding head_outcome
+head_quiet head true m = refl
+head_quiet head false m = refl
+
+end_quiet : (o : Opened) (is_run : Bool) (m : Memory) → (end_outcome o is_run m).product ≡ no_product
+unfolding end_outcome
+end_quiet o true m = refl
+end_quiet o false m = refl
+
+finish_quiet : (region : Option Opened) (gave_up : Bool) (m : Memory) → (finish_outcome region gave_up m).product ≡ no_product
+unfolding finish_outcome
+finish_quiet None gave_up m = refl
+finish_quiet (Some o) gave_up m = refl
+
+module _ (output : Output) where
+  leaf_lines : (may_call : Bool) (kind : Kind) (text : List ℕ) (s : State)
+      → lines_out (after_leaf ((effects output).leaf may_call kind text s)) ≤ lines_out s + 1
+  unfolding effects done_after
+  leaf_lines may_call kind text s =
+      let o = leaf_outcome (setting_of output kind) may_call text s.memory in
+      let d = done_out o.product (after s o) in
+      let f = few s o in
+      omega (arith, d, f)
+
+  tests_lines : (kind : Kind) (condition : Condition (List ℕ)) (s : State)
+      → lines_out ((effects output).tests kind condition s).1 ≤ lines_out s + 1
+  unfolding effects tested_after
+  tests_lines kind condition s = few s (test_outcome (answer_of (setting_of output kind) condition s.memory) s.memory)
+
+  reads_lines : (kind : Kind) (o : Opened) (line : List ℕ) (s : State)
+      → lines_out ((effects output).reads kind o true line s) ≤ lines_out s + 1
+  unfolding effects
+  reads_lines kind o line s = few s (line_outcome (setting_of output kind) o true line s.memory)
+
+  -- a line that is taken gives one line for the set of macros at most
+  lines_spend : Spends lines_out 1 (effects output)
+  unfolding effects budget_outcome block_outcome end_of_block_outcome line_outcome
+  lines_spend = record {
+    exhausts = λ s. quiet s (budget_outcome s.memory) refl;
+    tests = tests_lines;
+    leaf = leaf_lines;
+    refuses = λ h s. quiet s (block_outcome h.column s.memory) refl;
+    unopened = λ s. quiet s (end_of_block_outcome s.memory) refl;
+    opens_region = λ kind head is_run s. quiet s (head_outcome head is_run s.memory) (head_quiet head is_run s.memory);
+    reads = reads_lines;
+    passes = λ kind o line s. quiet s (line_outcome (setting_of output kind) o false line s.memory) refl;
+    ends_region = λ kind o is_run line s. quiet s (end_outcome o is_run s.memory) (end_quiet o is_run s.memory);
+    finish = λ region gave_up s. quiet s (finish_outcome region gave_up s.memory) (finish_quiet region gave_up s.memory);
+  }
+
+pub taken_bound : (e : Edge) (line : SourceLine) → (line_done e line).taken ≤ e.taken + (REREAD + 1)
+unfolding run_line before_line
+taken_bound e line =
+    let h = page_line_bound (effects e.output) line.text (before_line e line) in
+    omega (arith, h)
+
+before_none : (e : Edge) (line : SourceLine) → lines_out (before_line e line).state.rest ≡ 0
+unfolding before_line lines_out line_count
+before_none e line = refl
+
+taken_before : (e : Edge) (line : SourceLine) → (before_line e line).state.taken ≡ e.taken
+unfolding before_line
+taken_before e line = refl
+
+given_by : (given taken before none : ℕ) {after : ℕ} → none ≡ 0 → before ≡ taken → given + 1 * before ≤ 1 * after + none → given + taken ≤ after
+given_by given taken before none e f h = omega arith
+
+pub given_bound : (e : Edge) (line : SourceLine) → line_count (line_given e line) + e.taken ≤ (line_done e line).taken
+unfolding run_line lines_out
+given_bound e line =
+    let h = page_spends lines_out 1 (effects e.output) (lines_spend e.output) (line.text ∷ []) (before_line e line) in
+    given_by (line_count (line_given e line)) e.taken _ _ (before_none e line) (taken_before e line) h
+
+pub expansions_bound : (e : Edge) (line : SourceLine)
+    → (line_done e line).memory.expansions + EXPAND * e.taken ≤ EXPAND * (line_done e line).taken + e.memory.expansions
+unfolding run_line before_line
+expansions_bound e line =
+    page_spends expansions_of EXPAND (effects e.output) (spends e.output) (line.text ∷ []) (before_line e line)

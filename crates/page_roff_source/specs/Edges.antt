@@ -1,0 +1,135 @@
+-- What roff gives of a page's lines, and what decides the rest of a page. Source: roff(7), "LANGUAGE SYNTAX"; mandoc(1), "DIAGNOSTICS".
+use Rattle.std.specs.Prelude.{ℕ, suc, ◌+◌, Bool, false, is_none, List, [], ◌∷◌, ◌++◌, Option, Some, None, unwrap_or}
+use Rattle.page_core_base.specs.LinesTaken.{Line}
+use Rattle.page_core_base.specs.Messages.{Message}
+use Rattle.page_core_base.specs.declared.page_settings.Output.{Output}
+use Rattle.page_roff_blocks.specs.Levels.{Place, first_place}
+use Rattle.page_roff_blocks.specs.Run.{At}
+use Rattle.page_roff_run.specs.Budgets.{Budgeted, language}
+use Rattle.page_roff_run.specs.Languages.{run_page}
+use Rattle.page_roff_run.specs.declared.TheConstants.{REREAD}
+use Rattle.page_roff_effects.specs.Acting.{first_memory}
+use Rattle.page_roff_effects.specs.Effects.{effects}
+use Rattle.page_roff_effects.specs.RegionLines.{finish_outcome}
+use Rattle.page_roff_effects.specs.States.{Memory, State, Given, says, takes}
+use Rattle.page_roff_machine.specs.Giving.{next_line, after_line}
+use Rattle.page_roff_machine.specs.Machines.{numbered}
+use Rattle.page_roff_source.specs.declared.counts.Counts.{Counts}
+
+-- a line of the page, with its number
+pub record SourceLine : Type 0 where
+  pub text : List ℕ
+  pub number : ℕ
+
+-- What decides the rest: the output; where the page stands, in a region and in blocks; what is remembered; how many source lines came,
+-- and how many lines were taken of them; what of the present source line is still to be given, where one has begun.
+pub record Edge : Type 0 where
+  pub output : Output
+  pub place : Place
+  pub memory : Memory
+  pub source : ℕ
+  pub taken : ℕ
+  pub to_come : Option (List Given)
+
+-- before the first line of a page
+abbrev pub first_edge : Output → Edge
+first_edge output = record {
+  output = output;
+  place = first_place;
+  memory = first_memory;
+  source = 0;
+  taken = 0;
+  to_come = None;
+}
+
+-- ---- one line
+
+-- the line begins where the page stands, with a budget of its own
+unfoldable pub before_line : Edge → SourceLine → At (Budgeted State)
+before_line e line = record {
+  place = e.place;
+  state = record {
+    left = REREAD;
+    gave_up = false;
+    taken = e.taken;
+    rest = record { memory = numbered line.number e.memory; out = [] };
+  };
+}
+
+-- the line is run, with the macros that it calls
+unfoldable pub run_line : Edge → SourceLine → At (Budgeted State)
+run_line e line = run_page (language (effects e.output)) (line.text ∷ []) (before_line e line)
+
+-- what it gives: messages, and lines for the set of macros
+abbrev pub line_given : Edge → SourceLine → List Given
+line_given e line = (run_line e line).state.rest.out
+
+-- where it leaves the page, and what is still to be given
+abbrev pub left_at : Edge → At (Budgeted State) → Option (List Given) → Edge
+left_at e after to_come = record {
+  output = e.output;
+  place = after.place;
+  memory = after.state.rest.memory;
+  source = e.source + 1;
+  taken = after.state.taken;
+  to_come = to_come;
+}
+
+-- a line begins: all that it gives is to come
+abbrev pub line_begun : Edge → SourceLine → Edge
+line_begun e line = left_at e (run_line e line) (Some (line_given e line))
+
+-- all that it gives was given
+abbrev pub line_done : Edge → SourceLine → Edge
+line_done e line = left_at e (run_line e line) None
+
+-- ---- what is given of it, line after line
+
+abbrev pub is_idle : Edge → Bool
+is_idle e = is_none e.to_come
+
+-- what is still to be given of the present line
+abbrev pub given_of : Edge → List Given
+given_of e = unwrap_or e.to_come []
+
+-- after the next line for the set of macros, or after the last message
+abbrev pub left_if : Option Line → List Given → Option (List Given)
+left_if None given = None
+left_if (Some line) given = Some given
+
+abbrev pub line_taken : Edge → Edge
+line_taken e = record {
+  output = e.output;
+  place = e.place;
+  memory = e.memory;
+  source = e.source;
+  taken = e.taken;
+  to_come = left_if (next_line (given_of e)) (after_line (given_of e));
+}
+
+-- ---- all lines of a page
+
+-- what lines give, one after another
+unfoldable pub lines_given : Edge → List SourceLine → List Given
+lines_given e [] = []
+lines_given e (line ∷ lines) = line_given e line ++ lines_given (line_done e line) lines
+
+-- where they leave the page
+unfoldable pub lines_done : Edge → List SourceLine → Edge
+lines_done e [] = e
+lines_done e (line ∷ lines) = lines_done (line_done e line) lines
+
+-- the page ends: a region that is open is dropped with a message
+abbrev pub end_notes : Edge → List Message
+end_notes e = (finish_outcome e.place.region false e.memory).notes
+
+-- ---- counts
+
+abbrev pub counts_of : Edge → Counts
+counts_of e = record { source = e.source; taken = e.taken; expansions = e.memory.expansions }
+
+-- how many lines for the set of macros there are among what was given
+unfoldable pub line_count : List Given → ℕ
+line_count [] = 0
+line_count (says note ∷ given) = line_count given
+line_count (takes line ∷ given) = suc (line_count given)
