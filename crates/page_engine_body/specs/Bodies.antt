@@ -21,12 +21,15 @@ use Rattle.page_sets_lines.specs.declared.events.Event.{Event}
 use Rattle.page_sets_lines.specs.declared.leaves.Leaf.TheVariants.{Prologue}
 use Rattle.page_engine_body.specs.Titles.{title_items, title_fields}
 
--- What decides the pieces of the lines to come: the measure of rows, the system that is the source of a page without one, the fields of
--- header and footer, and the open scopes.
-pub record BodyEdge : Type 0 where
+-- What decides the header and the footer: the measure of rows, the system that is the source of a page without one, and the fields.
+pub record HeaderEdge : Type 0 where
   pub measure : Measure
   pub os : List ℕ
   pub fields : Fields
+
+-- what decides the pieces of the lines to come
+pub record BodyEdge : Type 0 where
+  pub header : HeaderEdge
   pub scopes : PageEdge
 
 -- whether the body began
@@ -37,7 +40,7 @@ has_begun b = b.scopes.state.running.has_begun
 
 -- the header stands before the event that begins the body
 abbrev pub header_of : BodyEdge → ℕ → List Item
-header_of b line = header_items b.measure (at line 1) b.fields
+header_of b line = header_items b.header.measure (at line 1) b.header.fields
 
 abbrev pub begin_items : BodyEdge → Event (List ℕ) → List Item
 begin_items b event =
@@ -51,7 +54,7 @@ RestIsShort _ = Unit {0}
 -- ---- events
 
 abbrev pub with_scopes : BodyEdge → PageEdge → BodyEdge
-with_scopes b edge = record { measure = b.measure; os = b.os; fields = b.fields; scopes = edge }
+with_scopes b edge = record { header = b.header; scopes = edge }
 
 abbrev pub scope_items : BodyEdge → Event (List ℕ) → List Item
 scope_items b event = begin_items b event ++ scopes.event_items b.scopes event
@@ -64,9 +67,11 @@ deed_items _ b event = scope_items b event
 abbrev pub with_title : BodyEdge → List ℕ → BodyEdge
 with_title b rest =
     record {
-      measure = b.measure;
-      os = b.os;
-      fields = title_fields (has_begun b) b.os rest b.fields;
+      header = record {
+        measure = b.header.measure;
+        os = b.header.os;
+        fields = title_fields (has_begun b) b.header.os rest b.header.fields;
+      };
       scopes = b.scopes;
     }
 
@@ -103,9 +108,9 @@ unfoldable pub end_items : BodyEdge → ℕ → List Item
 end_items b line = late_header b line ++ scopes.end_items b.scopes line
 
 -- a blank row, unless one stands there, and the footer
-unfoldable pub footer_items : BodyEdge → ℕ → ℕ → List Item
-footer_items b line blank_rows =
-    (if blank_rows == 0 then shown (pieces.Space 1) ∷ [] else []) ++ footer_row b.measure (at line 1) b.fields
+unfoldable pub footer_items : HeaderEdge → ℕ → ℕ → List Item
+footer_items h line blank_rows =
+    (if blank_rows == 0 then shown (pieces.Space 1) ∷ [] else []) ++ footer_row h.measure (at line 1) h.fields
 
 -- ---- the start
 
@@ -116,8 +121,6 @@ measure_of s indent = record { width = s.width; indent = unwrap_or s.indent inde
 -- before a page's first line
 abbrev pub start_of : Settings → ℕ → BodyEdge
 start_of s indent = record {
-  measure = measure_of s indent;
-  os = s.os.bytes;
-  fields = no_fields s.os.bytes;
+  header = record { measure = measure_of s indent; os = s.os.bytes; fields = no_fields s.os.bytes };
   scopes = scopes.start_edge (record { indent = unwrap_or s.indent indent; output = s.output });
 }

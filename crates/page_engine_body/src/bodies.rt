@@ -36,7 +36,10 @@ impl Model for Body {
 
     ghost Value = { BodyEdge };
 
-    ghost view = { λ b. record { measure = b.measure; os = b.os.bytes; fields = b.fields; scopes = b.scopes } };
+    ghost view = { λ b. record {
+      header = record { measure = b.measure; os = b.os.bytes; fields = b.fields };
+      scopes = b.scopes;
+    } };
 }
 
 impl Body {
@@ -110,8 +113,7 @@ impl Body {
     #[tactic(auto, unfolding(crate::specs::Bodies::end_items))]
     pub fn give_end<O: PieceOut>(&mut self, line: u32, out: &mut O)
         ensures came { Came O.left out.old (bodies.end_items self.old line) out.new }
-        ensures fields { self.new.fields ≡ self.old.fields }
-        ensures measure { self.new.measure ≡ self.old.measure }
+        ensures header { self.new.header ≡ self.old.header }
     {
         if !self.scopes.has_begun() {
             let place = Place { line, column: 1 };
@@ -124,7 +126,7 @@ impl Body {
     /// Gives the footer, and before it a blank row, unless one stands there.
     #[tactic(auto, unfolding(crate::specs::Bodies::footer_items))]
     pub fn give_footer<O: PieceOut>(&self, line: u32, blank_rows: u32, out: &mut O)
-        ensures { Came O.left out.old (bodies.footer_items self.now line blank_rows) out.new }
+        ensures { Came O.left out.old (bodies.footer_items self.now.header line blank_rows) out.new }
     {
         if blank_rows == 0 {
             out.give(Piece::Space(1));

@@ -8,32 +8,31 @@ use Rattle.page_core_base.specs.Pieces.{Item, noted}
 use Rattle.page_roff_effects.specs.States.{Given, says, takes}
 use Rattle.page_roff_source.specs.Edges.{Edge, given_of, line_taken}
 use Rattle.page_roff_machine.specs.Giving.{notes_before, next_line, after_line}
-use Rattle.page_prose.specs.Prose.{line_items, line_after}
-use Rattle.page_prose.specs.declared.prose.Prose.{Prose}
-use Rattle.page_engine_lines.specs.Given.{given_items, prose_after}
+use Rattle.page_engine_body.specs.Bodies.{BodyEdge}
+use Rattle.page_engine_lines.specs.Given.{given_items, line_items, line_after, body_after}
 
 one_before : {A B : Type 0} (x : A) (o : Option B) (all front : List A) (rest : B → List A)
     → MatchOption o (all ≡ front) (λ b. all ≡ front ++ rest b) → MatchOption o (x ∷ all ≡ x ∷ front) (λ b. x ∷ all ≡ x ∷ (front ++ rest b))
 one_before x None all front rest h = ap (λ l. x ∷ l) h
 one_before x (Some b) all front rest h = ap (λ l. x ∷ l) h
 
-pub given_items_parts : (p : Prose) (given : List Given) → MatchOption (next_line given)
-    (given_items p given ≡ map noted (notes_before given))
-    (λ line. given_items p given ≡ map noted (notes_before given) ++ (line_items p line ++ given_items (line_after p line) (after_line given)))
+pub given_items_parts : (body : BodyEdge) (given : List Given) → MatchOption (next_line given)
+    (given_items body given ≡ map noted (notes_before given))
+    (λ line. given_items body given ≡ map noted (notes_before given) ++ (line_items body line ++ given_items (line_after body line) (after_line given)))
 unfolding given_items
-given_items_parts p [] = refl
-given_items_parts p (says note ∷ more) =
-    one_before (noted note) (next_line more) (given_items p more) (map noted (notes_before more))
-    (λ line. line_items p line ++ given_items (line_after p line) (after_line more)) (given_items_parts p more)
-given_items_parts p (takes line ∷ more) = refl
+given_items_parts body [] = refl
+given_items_parts body (says note ∷ more) =
+    one_before (noted note) (next_line more) (given_items body more) (map noted (notes_before more))
+    (λ line. line_items body line ++ given_items (line_after body line) (after_line more)) (given_items_parts body more)
+given_items_parts body (takes line ∷ more) = refl
 
-pub prose_after_parts : (p : Prose) (given : List Given) → MatchOption (next_line given)
-    (prose_after p given ≡ p)
-    (λ line. prose_after p given ≡ prose_after (line_after p line) (after_line given))
-unfolding prose_after
-prose_after_parts p [] = refl
-prose_after_parts p (says note ∷ more) = prose_after_parts p more
-prose_after_parts p (takes line ∷ more) = refl
+pub body_after_parts : (body : BodyEdge) (given : List Given) → MatchOption (next_line given)
+    (body_after body given ≡ body)
+    (λ line. body_after body given ≡ body_after (line_after body line) (after_line given))
+unfolding body_after
+body_after_parts body [] = refl
+body_after_parts body (says note ∷ more) = body_after_parts body more
+body_after_parts body (takes line ∷ more) = refl
 
 -- ---- one line for the set of macros after another
 
@@ -51,37 +50,37 @@ taken_shorter e f line k h = rw (k, given_next e line (sym h)) (shorter (given_o
 pub same_but_taken : (e f next : Edge) → next ≡ line_taken f → f ≡ record e { to_come = f.to_come } → next ≡ record e { to_come = next.to_come }
 same_but_taken e f next h k = rw h (ap (λ (x : Edge). record x { to_come = (line_taken f).to_come }) k)
 
-pub prose_taken : (p : Prose) (e : Edge) (line : Line) (next : Prose) (f : Edge) (end : Prose) → f ≡ line_taken e → Some line ≡ next_line (given_of e)
-    → next ≡ line_after p line → prose_after p (given_of e) ≡ end → prose_after next (given_of f) ≡ end
-prose_taken p e line next f end k h n q =
-    let z = rw (sym h) at (prose_after_parts p (given_of e)) in
+pub body_taken : (body : BodyEdge) (e : Edge) (line : Line) (next : BodyEdge) (f : Edge) (end : BodyEdge) → f ≡ line_taken e → Some line ≡ next_line (given_of e)
+    → next ≡ line_after body line → body_after body (given_of e) ≡ end → body_after next (given_of f) ≡ end
+body_taken body e line next f end k h n q =
+    let z = rw (sym h) at (body_after_parts body (given_of e)) in
     rw (k, given_next e line (sym h), n) (sym z ∙ q)
 
-pub prose_done : (p : Prose) (e : Edge) (end : Prose) → None ≡ next_line (given_of e) → prose_after p (given_of e) ≡ end → p ≡ end
-prose_done p e end h q = let z = rw (sym h) at (prose_after_parts p (given_of e)) in sym z ∙ q
+pub body_done : (body : BodyEdge) (e : Edge) (end : BodyEdge) → None ≡ next_line (given_of e) → body_after body (given_of e) ≡ end → body ≡ end
+body_done body e end h q = let z = rw (sym h) at (body_after_parts body (given_of e)) in sym z ∙ q
 
 -- the messages before a line, and then what it gives
-pub items_taken : {P S : Type 0} (left : P → S → List Item → Type 0) → {a b c d : S} (p : Prose) (e f : Edge) (line : Line) (next : Prose) (all : List Item)
-    → f ≡ line_taken e → Some line ≡ next_line (given_of e) → next ≡ line_after p line
-    → CameUpTo left a all (given_items p (given_of e)) b
+pub items_taken : {P S : Type 0} (left : P → S → List Item → Type 0) → {a b c d : S} (body : BodyEdge) (e f : Edge) (line : Line) (next : BodyEdge) (all : List Item)
+    → f ≡ line_taken e → Some line ≡ next_line (given_of e) → next ≡ line_after body line
+    → CameUpTo left a all (given_items body (given_of e)) b
     → ((plan : P × List Item) (more : List Message) → left plan.0 b (map noted (notes_before (given_of e) ++ more) ++ plan.1) → left plan.0 c (map noted more ++ plan.1))
-    → Came left c (line_items p line) d → CameUpTo left a all (given_items next (given_of f)) d
-items_taken left {b = b} p e f line next all k h n up notes came plan rest x =
+    → Came left c (line_items body line) d → CameUpTo left a all (given_items next (given_of f)) d
+items_taken left {b = b} body e f line next all k h n up notes came plan rest x =
     let front = notes_before (given_of e) in
-    let more = given_items (line_after p line) (after_line (given_of e)) in
-    let items = line_items p line ++ more in
-    let z : given_items p (given_of e) ≡ map noted front ++ items = rw (sym h) at (given_items_parts p (given_of e)) in
+    let more = given_items (line_after body line) (after_line (given_of e)) in
+    let items = line_items body line ++ more in
+    let z : given_items body (given_of e) ≡ map noted front ++ items = rw (sym h) at (given_items_parts body (given_of e)) in
     let y : left plan b (map noted front ++ (items ++ rest)) = rw (← append_assoc (map noted front) items rest, ← z) (up plan rest x) in
     let v = notes (plan, items ++ rest) [] (rw (append-nil front) y) in
-    rw (k, given_next e line (sym h), n) (came plan (more ++ rest) (rw (append_assoc (line_items p line) more rest) at v))
+    rw (k, given_next e line (sym h), n) (came plan (more ++ rest) (rw (append_assoc (line_items body line) more rest) at v))
 
-pub items_done : {P S : Type 0} (left : P → S → List Item → Type 0) → {a b c : S} (p : Prose) (e : Edge) (all : List Item) → None ≡ next_line (given_of e)
-    → CameUpTo left a all (given_items p (given_of e)) b
+pub items_done : {P S : Type 0} (left : P → S → List Item → Type 0) → {a b c : S} (body : BodyEdge) (e : Edge) (all : List Item) → None ≡ next_line (given_of e)
+    → CameUpTo left a all (given_items body (given_of e)) b
     → ((plan : P × List Item) (more : List Message) → left plan.0 b (map noted (notes_before (given_of e) ++ more) ++ plan.1) → left plan.0 c (map noted more ++ plan.1))
     → Came left a all c
-items_done left {b = b} p e all h up notes plan rest x =
+items_done left {b = b} body e all h up notes plan rest x =
     let front = notes_before (given_of e) in
-    let z : given_items p (given_of e) ≡ map noted front = rw (sym h) at (given_items_parts p (given_of e)) in
+    let z : given_items body (given_of e) ≡ map noted front = rw (sym h) at (given_items_parts body (given_of e)) in
     let y : left plan b (map noted front ++ rest) = rw (← z) (up plan rest x) in
     notes (plan, rest) [] (rw (append-nil front) y)
 

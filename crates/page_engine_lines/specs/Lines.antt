@@ -7,15 +7,15 @@ use Rattle.page_roff_forms.specs.Ends.{kept_len}
 use Rattle.page_roff_forms.specs.LineForms.{is_white}
 use Rattle.page_roff_source.specs.Edges as roff
 use Rattle.page_roff_source.specs.Edges.{Edge, SourceLine}
-use Rattle.page_prose.specs.Prose as prose
-use Rattle.page_prose.specs.declared.prose.Prose.{Prose}
+use Rattle.page_engine_body.specs.Bodies as bodies
+use Rattle.page_engine_body.specs.Bodies.{BodyEdge}
 use Rattle.page_scopes_words.specs.Words.{at, says}
-use Rattle.page_engine_lines.specs.Given.{given_items, prose_after}
+use Rattle.page_engine_lines.specs.Given.{given_items, body_after}
 
 -- what decides the pieces of the lines to come
 pub record LinesEdge : Type 0 where
   pub roff : Edge
-  pub prose : Prose
+  pub body : BodyEdge
 
 abbrev pub source_line : List ℕ → ℕ → SourceLine
 source_line text number = record { text = text; number = number }
@@ -27,21 +27,25 @@ trailing_notes number text =
 
 -- a source line: what roff gives of it goes through the macros, one after another
 unfoldable pub source_items : LinesEdge → ℕ → List ℕ → List Item
-source_items e number text = trailing_notes number text ++ given_items e.prose (roff.line_given e.roff (source_line text number))
+source_items e number text = trailing_notes number text ++ given_items e.body (roff.line_given e.roff (source_line text number))
 
 abbrev pub source_after : LinesEdge → ℕ → List ℕ → LinesEdge
 source_after e number text = record {
   roff = roff.line_done e.roff (source_line text number);
-  prose = prose_after e.prose (roff.line_given e.roff (source_line text number));
+  body = body_after e.body (roff.line_given e.roff (source_line text number));
 }
 
 -- the end of a page, after the line of a number: what roff left open, and then the body's end
 unfoldable pub end_items : LinesEdge → ℕ → List Item
-end_items e line = map noted (roff.end_notes e.roff) ++ prose.end_items e.prose line
+end_items e line = map noted (roff.end_notes e.roff) ++ bodies.end_items e.body line
 
 abbrev pub footer_items : LinesEdge → ℕ → ℕ → List Item
-footer_items e line blank_rows = prose.footer_items e.prose line blank_rows
+footer_items e line blank_rows = bodies.footer_items e.body.header line blank_rows
+
+-- the columns of a page's indent in man(7)
+abbrev pub MAN_INDENT : ℕ
+MAN_INDENT = 7
 
 -- the start of a page
 abbrev pub start_of : Settings → LinesEdge
-start_of s = record { roff = roff.first_edge s.output; prose = prose.start_of s }
+start_of s = record { roff = roff.first_edge s.output; body = bodies.start_of s MAN_INDENT }

@@ -9,8 +9,9 @@ ghost use Rattle.page_engine_lines.specs.Lines as lines;
 use crate::item_outs::ItemOut;
 use crate::taking::{give_taken, report_trailing};
 use page_core_base::{Fault, PieceLatch, PieceOut, PieceSink, Settings};
-use page_prose::Prose;
+use page_engine_body::Body;
 use page_roff_source::{Counts, Processor};
+use page_sets::{MacroSet, Man};
 use std::alloc::Global;
 use std::marker::Model;
 
@@ -18,7 +19,7 @@ use std::marker::Model;
 #[derive(Drop)]
 pub struct PageLines {
     roff: Processor,
-    prose: Prose,
+    body: Body,
 }
 
 impl Model for PageLines {
@@ -27,7 +28,7 @@ impl Model for PageLines {
 
     ghost Value = { LinesEdge };
 
-    ghost view = { λ l. record { roff = l.roff; prose = l.prose } };
+    ghost view = { λ l. record { roff = l.roff; body = l.body } };
 
     ghost invariant = { λ l. l.roff.to_come ≡ None };
 }
@@ -41,10 +42,10 @@ impl PageLines {
         let Ok(roff) = Processor::new(alloc, settings.output) else {
             return Err(Fault::Memory);
         };
-        Ok(PageLines {
-            roff,
-            prose: Prose::new(settings),
-        })
+        let Ok(body) = Body::new(alloc, settings, Man.indent()) else {
+            return Err(Fault::Memory);
+        };
+        Ok(PageLines { roff, body })
     }
 
     // Gives a source line, and keeps what it leaves.
@@ -57,17 +58,24 @@ impl PageLines {
     {
         report_trailing(out, number, text);
         self.roff.source(text, number);
-        give_taken(&mut self.roff, &mut self.prose, out);
+        give_taken(&mut self.roff, &mut self.body, out);
     }
 
     // Gives what roff left open, and the end of the body.
     #[tactic(auto, unfolding(crate::specs::Lines::end_items))]
     fn give_end<L: PieceOut>(&mut self, out: &mut ItemOut<L>, number: u32)
         ensures came { Came L.left out.old.latch (lines.end_items self.old number) out.new.latch }
-        ensures prose { self.new.prose ≡ self.old.prose }
+        ensures header { self.new.body.header ≡ self.old.body.header }
     {
         self.roff.end_into(out);
-        self.prose.give_end(out, number);
+        self.body.give_end(number, out);
+    }
+
+    // Gives the footer.
+    fn give_footer<L: PieceOut>(&self, out: &mut ItemOut<L>, number: u32, blank_rows: u32)
+        ensures { Came L.left out.old.latch (lines.footer_items self.now number blank_rows) out.new.latch }
+    {
+        self.body.give_footer(number, blank_rows, out);
     }
 }
 
@@ -91,7 +99,7 @@ impl PageLines {
     /// began, and the end of the row. After that it is not to be used again.
     pub fn end<O: PieceSink>(&mut self, out: &mut O, number: u32) -> Result<(), Fault>
         ensures gives { Emits result O.gave O.broke out.old (lines.end_items self.old number) out.new }
-        ensures prose { self.new.prose ≡ self.old.prose }
+        ensures header { self.new.body.header ≡ self.old.body.header }
         ensures same { O.loans out.new ≡ O.loans out.old }
     {
         let mut items = ItemOut {
@@ -111,7 +119,11 @@ impl PageLines {
         ensures gives { Emits result O.gave O.broke out.old (lines.footer_items self.now number blank_rows) out.new }
         ensures same { O.loans out.new ≡ O.loans out.old }
     {
-        self.prose.footer(out, number, blank_rows)
+        let mut items = ItemOut {
+            latch: PieceLatch::new(out),
+        };
+        self.give_footer(&mut items, number, blank_rows);
+        items.latch.done()
     }
 
     /// What was counted so far.

@@ -66,6 +66,6 @@ pub ends_faults : {R S N : Type 0} (rg rw_ : R → List LaidRow → R → Type 0
 ends_faults rg rw_ rf ng nw nf below least worst (Ok x) r r' s s' l h = (h.1, h.2)
 ends_faults rg rw_ rf ng nw nf below least worst (Err x) r r' s s' l h = h.cause
 
--- the end of the source leaves the prose as it was
-pub same_prose : (lines kept e : LinesEdge) → lines.prose ≡ kept.prose → kept ≡ e → lines.prose ≡ e.prose
-same_prose lines kept e h k = rw k at h
+-- the end of the source leaves the header as it was
+pub same_header : (lines kept e : LinesEdge) → lines.body.header ≡ kept.body.header → kept ≡ e → lines.body.header ≡ e.body.header
+same_header lines kept e h k = rw k at h

@@ -1,8 +1,8 @@
 use Rattle.std.proofs.Common.{rules}
 use Rattle.page_roff_source.specs.Edges.{given_of}
 use Rattle.page_core_base.specs.LinesTaken.{line_seen}
-use Rattle.page_engine_lines.specs.Given.{given_items, prose_after}
-use Rattle.page_engine_lines.proofs.Parts.{taken_shorter, same_but_taken, prose_taken, prose_done, items_taken, items_done}
+use Rattle.page_engine_lines.specs.Given.{given_items, body_after}
+use Rattle.page_engine_lines.proofs.Parts.{taken_shorter, same_but_taken, body_taken, body_done, items_taken, items_done}
 use Rattle.page_engine_lines.proofs.taking.give_taken.Goals as goal
 
 pub loop-taken-smaller : goal.loop-taken-smaller
@@ -14,20 +14,20 @@ loop-taken-preserved g c =
     let e = c.loop-taken.roff in
     let f = c.take_into.follows.lender-at-none in
     let line = line_seen c.in-Some.taken in
-    let p = c.loop-taken.prose in
+    let p = c.loop-taken.body in
     let i = c.loop-taken.invariant in
     let s = c.in-Some.ensures in (
-      items_taken g.L.PieceOut.left p e f line c.give_line.new.self (given_items c.args.prose.now (given_of c.args.roff.now))
+      items_taken g.L.PieceOut.left p e f line c.give_line.new.self (given_items c.args.body.now (given_of c.args.roff.now))
           c.take_into.follows.holds-at-none s.line c.give_line.ensures.after i.0 s.came c.give_line.ensures.came,
-      prose_taken p e line c.give_line.new.self f (prose_after c.args.prose.now (given_of c.args.roff.now)) c.take_into.follows.holds-at-none s.line c.give_line.ensures.after i.1,
+      body_taken p e line c.give_line.new.self f (body_after c.args.body.now (given_of c.args.roff.now)) c.take_into.follows.holds-at-none s.line c.give_line.ensures.after i.1,
       same_but_taken c.args.roff.now e f c.take_into.follows.holds-at-none i.2,
     )
 
 pub returns-clause-came : goal.returns-clause-came
 returns-clause-came g c =
     let s = c.in_default.ensures in
-    items_done g.L.PieceOut.left c.loop-taken.prose c.loop-taken.roff (given_items c.args.prose.now (given_of c.args.roff.now)) s.line c.loop-taken.invariant.0 s.came
+    items_done g.L.PieceOut.left c.loop-taken.body c.loop-taken.roff (given_items c.args.body.now (given_of c.args.roff.now)) s.line c.loop-taken.invariant.0 s.came
 
-pub returns-clause-prose : goal.returns-clause-prose
-returns-clause-prose g c =
-    prose_done c.loop-taken.prose c.loop-taken.roff (prose_after c.args.prose.now (given_of c.args.roff.now)) c.in_default.ensures.line c.loop-taken.invariant.1
+pub returns-clause-body : goal.returns-clause-body
+returns-clause-body g c =
+    body_done c.loop-taken.body c.loop-taken.roff (body_after c.args.body.now (given_of c.args.roff.now)) c.in_default.ensures.line c.loop-taken.invariant.1

@@ -1,14 +1,14 @@
 use Rattle.std.proofs.Common.{◌≡◌, length}
 use Rattle.page_core_base.specs.Latches.{CameUpTo}
 use Rattle.page_roff_source.specs.Edges.{given_of}
-use Rattle.page_engine_lines.specs.Given.{given_items, prose_after}
+use Rattle.page_engine_lines.specs.Given.{given_items, body_after}
 use Rattle.page_engine_lines.proofs.taking.give_taken.Given as goal
 
 abbrev pub invariant-loop-taken : goal.invariant-loop-taken
 invariant-loop-taken g l =
-    CameUpTo g.L.PieceOut.left l.fn.out.latch (given_items l.fn.prose (given_of l.fn.roff))
-    (given_items l.prose (given_of l.roff)) l.out.latch
-    × (prose_after l.prose (given_of l.roff) ≡ prose_after l.fn.prose (given_of l.fn.roff))
+    CameUpTo g.L.PieceOut.left l.fn.out.latch (given_items l.fn.body (given_of l.fn.roff))
+    (given_items l.body (given_of l.roff)) l.out.latch
+    × (body_after l.body (given_of l.roff) ≡ body_after l.fn.body (given_of l.fn.roff))
     × (l.roff ≡ record l.fn.roff { to_come = l.roff.to_come })
 
 abbrev pub decreases-loop-taken : goal.decreases-loop-taken

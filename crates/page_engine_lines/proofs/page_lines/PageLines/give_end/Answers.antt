@@ -1,5 +1,5 @@
 use Rattle.page_roff_source.specs.Edges.{end_notes}
-use Rattle.page_prose.specs.Prose as prose
+use Rattle.page_engine_body.specs.Bodies as bodies
 use Rattle.page_engine_lines.specs.Lines.{end_items}
 use Rattle.page_engine_lines.proofs.Parts.{items_after_notes}
 use Rattle.page_engine_lines.proofs.page_lines.PageLines.give_end.Goals as goal
@@ -9,4 +9,4 @@ unfolding end_items
 returns-clause-came g c =
     let l = c.self.inside in
     rw (← c.self.view_is)
-    (items_after_notes g.L.PieceOut.left (end_notes l.roff) (prose.end_items l.prose c.args.number) c.end_into.ensures.came c.give_end.ensures)
+    (items_after_notes g.L.PieceOut.left (end_notes l.roff) (bodies.end_items l.body c.args.number) c.end_into.ensures.came c.give_end.ensures.came)

@@ -1,4 +1,4 @@
-use Rattle.page_engine_page.proofs.Feeds.{same_prose}
+use Rattle.page_engine_page.proofs.Feeds.{same_header}
 use Rattle.page_engine_lines.specs.Lines.{end_items, footer_items}
 use Rattle.page_fill.specs.Fill as fill
 use Rattle.page_engine_page.specs.Items.{laid_items}
@@ -19,7 +19,7 @@ returns-in-Err-footer-clause-ends g c = λ f e d p q r.
     let x = laid_items e.fill (end_items e.lines e.last) in
     let a = rw (p, q, r) at (c.in_default.ensures.gives f d) in
     let b = rw a.filler at c.blank_rows-blank_rows.ensures in
-    let s = same_prose c.end.new.self c.args.lines.now e.lines c.in_default.ensures.prose q in
+    let s = same_header c.end.new.self c.args.lines.now e.lines c.in_default.ensures.header q in
     let y = laid_items x.edge (footer_items e.lines e.last (fill.blank_rows_at_end x.edge)) in
     broken_after g.met.R.RowSink.laws k _ _ x (footer_laid e x.edge) a
     (broken_join g.met.R.RowSink.laws k y (fill.ended y.edge) (rw (s, r, b) at (c.in-Err-footer.ensures.gives x.edge a.filler)))
@@ -30,7 +30,7 @@ returns-clause-ends g c = λ f e d p q r.
     let x = laid_items e.fill (end_items e.lines e.last) in
     let a = rw (p, q, r) at (c.in_default.ensures.gives f d) in
     let b = rw a.filler at c.blank_rows-blank_rows.ensures in
-    let s = same_prose c.end.new.self c.args.lines.now e.lines c.in_default.ensures.prose q in
+    let s = same_header c.end.new.self c.args.lines.now e.lines c.in_default.ensures.header q in
     let y = laid_items x.edge (footer_items e.lines e.last (fill.blank_rows_at_end x.edge)) in
     let z = rw (s, r, b) at (c.in_default-footer.ensures.gives x.edge a.filler) in
     ends_join g.met.R.RowSink.laws k _ _ c.finish.result x (footer_laid e x.edge) a

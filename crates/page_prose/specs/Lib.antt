@@ -1,3 +1,0 @@
-pub mod Macros
-pub mod Arguments
-pub mod Prose
