@@ -2,6 +2,7 @@
 
 ghost use Rattle.std.specs.Prelude.{◌≡◌, ◌≤◌, [], ◌∷◌, length, IfOk, None, Some};
 ghost use Rattle.page_core_base.specs.LinesTaken.{line_seen};
+ghost use Rattle.page_core_limits.specs.declared.TheConstants.{LINE};
 ghost use Rattle.page_roff_heads.specs.Conditions.{condition_seen, test_seen, FitsTest};
 ghost use Rattle.page_roff_values.specs.declared.call_arguments.TheConstants.{ARGS};
 ghost use Rattle.page_roff_values.specs.Arguments.{arguments_in};
@@ -126,9 +127,12 @@ impl Actions {
         self.expansions
     }
 
-    /// Lends the line that was taken last.
+    /// Lends the line that was taken last, of at most [`LINE`] bytes.
+    ///
+    /// [`LINE`]: page_core_limits::LINE
     pub fn line(&self) -> Taken<'_>
-        ensures { line_seen result ≡ self.now.line }
+        ensures line { line_seen result ≡ self.now.line }
+        ensures short { length result.text.now ≤ LINE }
     {
         self.line.taken()
     }

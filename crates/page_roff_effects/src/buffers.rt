@@ -44,7 +44,7 @@ pub(crate) struct LineBuffer {
 }
 
 impl Model for LineBuffer {
-    ghost use Rattle.std.specs.Prelude.{◌≤◌};
+    ghost use Rattle.std.specs.Prelude.{◌≤◌, length};
     ghost use Rattle.std.specs.Vec.{vec_capacity};
     ghost use Rattle.page_core_base.specs.LinesTaken.{Line};
     ghost use Rattle.page_core_limits.specs.declared.TheConstants.{LINE};
@@ -53,7 +53,7 @@ impl Model for LineBuffer {
 
     ghost view = { λ l. record { form = l.form; text = l.text.items; number = l.line; name_end = l.name_end } };
 
-    ghost invariant = { λ l. LINE ≤ vec_capacity l.text };
+    ghost invariant = { λ l. (length l.text.items ≤ LINE) × (LINE ≤ vec_capacity l.text) };
 }
 
 impl LineBuffer {
@@ -80,9 +80,10 @@ impl LineBuffer {
         self.name_end = name_end;
     }
 
-    /// Lends the line.
+    /// Lends the line, of at most [`LINE`] bytes.
     pub(crate) fn taken(&self) -> Taken<'_>
-        ensures { line_seen result ≡ self.now }
+        ensures line { line_seen result ≡ self.now }
+        ensures short { length result.text.now ≤ LINE }
     {
         Taken {
             form: self.form,
