@@ -1,8 +1,9 @@
 //! The machine that runs the lines of a page (roff(7), "LANGUAGE SYNTAX"): its macros, conditionals and regions.
 
-ghost use Rattle.std.specs.Prelude.{◌≡◌, ◌<◌, ◌≤◌, ◌^◌, true, IfOk};
+ghost use Rattle.std.specs.Prelude.{◌≡◌, ◌<◌, ◌≤◌, ◌^◌, true, IfOk, length};
 ghost use Rattle.page_core_base.specs.LinesTaken.{line_seen};
 ghost use Rattle.page_core_base.specs.Texts.{IsLine};
+ghost use Rattle.page_core_limits.specs.declared.TheConstants.{LINE};
 ghost use Rattle.page_roff_values.specs.Latches.{Came};
 ghost use Rattle.page_roff_machine.specs.Machines.{Advances, Begins, IsNew, is_idle, end_notes};
 
@@ -82,14 +83,18 @@ impl Machine {
 
     /// Lends the line that was taken last.
     pub fn line(&self) -> Taken<'_>
-        ensures { line_seen result ≡ self.now.actions.line }
+        ensures line { line_seen result ≡ self.now.actions.line }
+        ensures short { length result.text.now ≤ LINE }
     {
         self.runner.doing.actions.line()
     }
 
     /// The page ends: an open region is reported.
     pub fn end<O: NoteOut>(&mut self, out: &mut O)
-        ensures { Came O.left out.old (end_notes self.old) out.new }
+        ensures came { Came O.left out.old (end_notes self.old) out.new }
+        ensures stack { self.new.stack ≡ self.old.stack }
+        ensures budget { self.new.budget ≡ self.old.budget }
+        ensures output { self.new.actions.setting ≡ self.old.actions.setting }
     {
         let region = self.runner.stack.region();
         self.runner.doing.actions.finish(region, false, out);
