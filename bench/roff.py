@@ -1,0 +1,87 @@
+#!/usr/bin/env python3
+"""Times ./mandoc on pages of roff (usage: bench/roff.py [RUNS]): text in blocks that run, calls of a macro, and hostile pages.
+
+Each page is formatted RUNS times (default 5); the least time counts. Where a `mandoc` is on the PATH it is run in turn with ours, and its
+time over ours is printed: above 1, ours is faster. The hostile pages are formatted at a quarter, a half and the whole of their size: where
+the time is linear, each column is about twice the one before.
+"""
+import shutil
+import sys
+import tempfile
+
+from pages import page, paragraph_line, timed
+
+HEAD = ".TH BENCH 1 2026-11-22 Bench\n.SH NAME\nbench \\- a page to time\n"
+SIZE = 1_000_000
+
+
+def in_blocks(size):
+    """Text of which each eight lines stand in a block that runs."""
+    lines, length, at = [], 0, 0
+    while length < size:
+        block = [".if n \\{\\"] + [paragraph_line(at + k, False) for k in range(8)] + [".\\}"]
+        lines += block
+        length += sum(len(line) + 1 for line in block)
+        at += 8
+    return HEAD + "\n".join(lines) + "\n"
+
+
+def of_calls(size):
+    """Calls of a macro of three lines, with an argument each."""
+    head = ".de Th\n.if n \\{\nit says \\\\$1 here\n.\\}\n..\n"
+    calls, length, at = [], 0, 0
+    while length < size:
+        call = f'.Th "{paragraph_line(at, False)[:40]}"'
+        calls.append(call)
+        length += len(call) + 1
+        at += 1
+    return HEAD + head + "\n".join(calls) + "\n"
+
+
+def repeated(text, per_line):
+    def made(count):
+        line = text * per_line
+        return HEAD + (line + "\n") * (count // per_line)
+
+    return made
+
+
+HOSTILE = [
+    (".if t \\{, a million", repeated(".if t \\{", 1)),
+    (".if n \\{, a million", repeated(".if n \\{", 1)),
+    (".de, a million", repeated(".de", 1)),
+    ("\\*[a, a million in lines of 1,000", repeated("\\*[a", 1000)),
+    ("\\*a, a million in lines of 1,000", repeated("\\*a", 1000)),
+]
+
+
+def least(words, name, runs):
+    return min(timed(words, name) for _ in range(runs))
+
+
+def main():
+    runs = int(sys.argv[1]) if len(sys.argv) > 1 else 5
+    other = shutil.which("mandoc")
+    with tempfile.TemporaryDirectory() as room:
+        name = f"{room}/page"
+        print("page                      bytes     MB/s" + (f"   time of {other} over ours" if other else ""))
+        pages = [("plain text", page(SIZE, False)), ("text in blocks", in_blocks(SIZE)), ("calls of a macro", of_calls(SIZE))]
+        for kind, text in pages:
+            with open(name, "w") as file:
+                written = file.write(text)
+            ours = least(["./mandoc"], name, runs)
+            line = f"{kind:22} {written:8} {written / ours / 1e6:8.1f}"
+            print(line + (f" {least([other, '-T', 'ascii'], name, runs) / ours:12.2f}" if other else ""))
+        print("page                                     seconds at a quarter, a half and all" + ("   of the other at all" if other else ""))
+        for kind, made in HOSTILE:
+            times = []
+            for count in (250_000, 500_000, 1_000_000):
+                with open(name, "w") as file:
+                    file.write(made(count))
+                times.append(least(["./mandoc"], name, 1))
+            line = f"{kind:38} " + " ".join(f"{seconds:8.3f}" for seconds in times)
+            print(line + (f" {least([other, '-T', 'ascii'], name, 1):12.3f}" if other else ""))
+
+
+if __name__ == "__main__":
+    main()
