@@ -1,3 +1,4 @@
+pub mod CallLemmas
 pub mod ControlLemmas
 pub mod CountLemmas
 pub mod GivenLemmas

@@ -1,5 +1,5 @@
 -- What the code's object holds, and what its calls do, in terms of the effects of parts. Source: roff(7), "LANGUAGE SYNTAX".
-use Rattle.std.specs.Prelude.{◌≡◌, ℕ, Bool, true, false, nat_le, List, [], ◌∷◌, ◌++◌, length, if◌then◌else◌, Option, Some, None}
+use Rattle.std.specs.Prelude.{◌≡◌, ℕ, ◌≤◌, Bool, true, false, nat_le, List, [], ◌∷◌, ◌++◌, length, if◌then◌else◌, Option, Some, None}
 use Rattle.page_core_limits.specs.declared.TheConstants.{BODY}
 use Rattle.page_core_base.specs.Messages.{Message}
 use Rattle.page_core_base.specs.LinesTaken.{Line}
@@ -46,6 +46,17 @@ abbrev pub Lends : Product → Acting → Type 0
 Lends no_product a = Unit {0}
 Lends (line_product line) a = a.line ≡ line
 Lends (call_product call) a = a.call ≡ call
+
+-- one more macro may run, and this one is within the limits
+pub record IsCallable (may_call : Bool) (call : Call) : Type 0 where
+  pub room : may_call ≡ true
+  pub body : length call.body ≤ BODY
+  pub packed : length call.packed ≤ ARGS
+
+abbrev pub IfCalled : ProductKind → Type 0 → Type 0
+IfCalled kinds.Nothing P = Unit {0}
+IfCalled kinds.Line P = Unit {0}
+IfCalled kinds.Call P = P
 
 -- a call did what an outcome says: its messages came, and this is remembered
 pub record Does {P S : Type 0} (left : P → S → List Message → Type 0) (old : Acting) (out : S) (o : Outcome) (new : Acting) (out_new : S) : Type 0 where

@@ -5,7 +5,7 @@ ghost use Rattle.page_core_limits.specs.declared.TheConstants.{LINE};
 ghost use Rattle.page_roff_forms.specs.LineForms.{form_of};
 ghost use Rattle.page_roff_forms.specs.declared.line_forms.LineForm.TheVariants.{Control};
 ghost use Rattle.page_roff_values.specs.Latches.{Came};
-ghost use Rattle.page_roff_effects.specs.Acting.{control_seen, Does, Gives, Takes};
+ghost use Rattle.page_roff_effects.specs.Acting.{control_seen, Does, Gives, Takes, IfCalled, IsCallable};
 ghost use Rattle.page_roff_effects.specs.Leaves as leaves;
 ghost use Rattle.page_roff_effects.specs.Leaves.{leaf_outcome};
 ghost use Rattle.page_roff_effects.specs.States.{gives_line};
@@ -207,8 +207,18 @@ impl Actions {
     }
 
     /// Does what a raw line says that heads nothing, where one more macro may run or not. What comes of it is lent from then on.
-    #[tactic(auto, unfolding(crate::specs::Leaves::leaf_outcome))]
     pub fn leaf<O: NoteOut>(&mut self, may_call: bool, text: &[u8], out: &mut O) -> ProductKind
+        requires { length text.now ≤ LINE }
+        ensures gives { Gives O.left self.old out.old (leaf_outcome self.old.setting may_call text.now self.old.memory)
+            result self.new out.new }
+        ensures call { IfCalled result (IsCallable may_call self.new.call) }
+    {
+        self.take_form(may_call, text, out)
+    }
+
+    // Does what a raw line of this form says.
+    #[tactic(auto, unfolding(crate::specs::Leaves::leaf_outcome))]
+    fn take_form<O: NoteOut>(&mut self, may_call: bool, text: &[u8], out: &mut O) -> ProductKind
         requires { length text.now ≤ LINE }
         ensures { Gives O.left self.old out.old (leaf_outcome self.old.setting may_call text.now self.old.memory)
             result self.new out.new }

@@ -1,0 +1,92 @@
+-- A call that a line gives is within its limits: helpers of proofs.
+use Rattle.std.proofs.Common.{◌≡◌, ℕ, ◌≤◌, nat_le, Bool, true, false, ◌==◌, ◌&&◌, List, [], length, Option, Some, None, unwrap_or, refl, sym, ◌∙◌, ap, if◌then◌else◌, arith}
+use Rattle.std.proofs.lemmas.Bool.Decides.{nat_tests}
+use Rattle.page_core_limits.specs.declared.TheConstants.{BODY}
+use Rattle.page_roff_forms.specs.LineForms.{form_of}
+use Rattle.page_roff_forms.specs.declared.line_forms.LineForm.{LineForm}
+use Rattle.page_roff_forms.specs.declared.line_forms.LineForm.TheVariants.{Comment, BlankLine, Text, Control}
+use Rattle.page_roff_names.specs.Names.{Definitions, body_of}
+use Rattle.page_roff_values.specs.declared.call_arguments.TheConstants.{ARGS}
+use Rattle.page_roff_values.specs.Values.{expanded}
+use Rattle.page_roff_effects.specs.declared.commands.Command.{Command}
+use Rattle.page_roff_effects.specs.declared.commands.Command.TheVariants.{Call, Define, Ignore, Refuse, Pass}
+use Rattle.page_roff_effects.specs.declared.commands.ProductKind.{ProductKind}
+use Rattle.page_roff_effects.specs.declared.commands.ProductKind.TheVariants as kinds
+use Rattle.page_roff_effects.specs.Acting.{Acting, kind_of, Lends, IsCallable, IfCalled}
+use Rattle.page_roff_effects.specs.Commands.{within_limit, called_body, command_of}
+use Rattle.page_roff_effects.specs.Leaves.{ControlLine, call_if, does, command_outcome, control_outcome, control_line, form_outcome, leaf_outcome}
+use Rattle.page_roff_effects.specs.States.{Memory, Outcome, Product, no_product, line_product, call_product, Setting, nothing}
+
+IsWithin : Bool → Product → Type 0
+IsWithin may_call no_product = Unit {0}
+IsWithin may_call (line_product line) = Unit {0}
+IsWithin may_call (call_product call) = IsCallable may_call call
+
+within_by : (fits : Bool) (body : List ℕ) → nat_le (length body) BODY ≡ fits → length (unwrap_or (if fits then Some body else None) []) ≤ BODY
+within_by true body e = grind (arith, nat_tests)
+within_by false body e = omega arith
+
+body_short : (body : Option (List ℕ)) → length (unwrap_or (within_limit body) []) ≤ BODY
+body_short None = omega arith
+body_short (Some body) = within_by (nat_le (length body) BODY) body refl
+
+call_if_within : (may_call fits : Bool) (body bytes : List ℕ) (m : Memory)
+    → nat_le (length bytes) ARGS ≡ fits → length body ≤ BODY → IsWithin may_call (call_if (may_call && fits) body bytes m).product
+unfolding IsWithin
+call_if_within true true body bytes m e h = record { room = refl; body = h; packed = grind (arith, nat_tests) }
+call_if_within true false body bytes m e h = tt
+call_if_within false fits body bytes m e h = tt
+
+does_within : (may_call : Bool) (command : Command) (line : ControlLine) (text : List ℕ) (m : Memory)
+    → IsWithin may_call (does may_call command line text m).product
+unfolding IsWithin
+does_within may_call Call line text m = call_if_within may_call _ _ _ m refl (body_short (body_of line.name m.definitions))
+does_within may_call (Define request) line text m = tt
+does_within may_call Ignore line text m = tt
+does_within may_call Refuse line text m = tt
+does_within may_call Pass line text m = tt
+
+command_within : (setting : Setting) (may_call : Bool) (command : Command) (line : ControlLine) (m : Memory)
+    → IsWithin may_call (command_outcome setting may_call command line m).product
+unfolding command_outcome
+command_within setting may_call command line m = does_within may_call command line _ _
+
+control_by : (is_empty may_call : Bool) (o : Outcome) (m : Memory)
+    → IsWithin may_call o.product → IsWithin may_call (if is_empty then nothing m else o).product
+unfolding IsWithin
+control_by true may_call o m h = tt
+control_by false may_call o m h = h
+
+control_within : (setting : Setting) (may_call : Bool) (line : ControlLine) (m : Memory)
+    → IsWithin may_call (control_outcome setting may_call line m).product
+unfolding control_outcome
+control_within setting may_call line m =
+    control_by (length line.name == 0) may_call (command_outcome setting may_call (command_of line.name m.definitions) line m) m
+    (command_within setting may_call (command_of line.name m.definitions) line m)
+
+form_within : (setting : Setting) (may_call : Bool) (raw : List ℕ) (form : LineForm (List ℕ)) (m : Memory)
+    → IsWithin may_call (form_outcome setting may_call raw form m).product
+unfolding IsWithin
+form_within setting may_call raw Comment m = tt
+form_within setting may_call raw BlankLine m = tt
+form_within setting may_call raw (Text text) m = tt
+form_within setting may_call raw (Control name column rest rest_column) m =
+    control_within setting may_call (control_line raw name column rest_column) m
+
+leaf_within : (setting : Setting) (may_call : Bool) (raw : List ℕ) (m : Memory)
+    → IsWithin may_call (leaf_outcome setting may_call raw m).product
+unfolding leaf_outcome
+leaf_within setting may_call raw m = form_within setting may_call raw (form_of raw) m
+
+if_called : (p : Product) (may_call : Bool) (a : Acting) → Lends p a → IsWithin may_call p → IfCalled (kind_of p) (IsCallable may_call a.call)
+unfolding IsWithin
+if_called no_product may_call a lends within = tt
+if_called (line_product line) may_call a lends within = tt
+if_called (call_product call) may_call a lends within = rw lends within
+
+-- what is lent as a call can be called
+pub leaf_callable : (setting : Setting) (may_call : Bool) (raw : List ℕ) (m : Memory) (result : ProductKind) (a : Acting)
+    → result ≡ kind_of (leaf_outcome setting may_call raw m).product → Lends (leaf_outcome setting may_call raw m).product a
+    → IfCalled result (IsCallable may_call a.call)
+leaf_callable setting may_call raw m result a kind lends =
+    rw kind (if_called (leaf_outcome setting may_call raw m).product may_call a lends (leaf_within setting may_call raw m))

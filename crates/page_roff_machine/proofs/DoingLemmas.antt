@@ -1,0 +1,487 @@
+-- What the parts of sources do under the budget, call by call: helpers of proofs.
+use Rattle.std.proofs.Common.{◌≡◌, ℕ, zero, suc, Bool, true, false, not, ◌&&◌, List, [], ◌∷◌, ◌++◌, map, Option, Some, None, refl, sym, ap, ◌∙◌, append_assoc}
+use Rattle.std.proofs.lemmas.List.{append-nil, map-append}
+use Rattle.page_core_base.specs.Messages.{Message}
+use Rattle.page_core_base.specs.declared.page_settings.Output.{Output}
+use Rattle.page_roff_heads.specs.declared.conditions.Condition.{Condition}
+use Rattle.page_roff_blocks.specs.declared.atoms.Branch.{Branch}
+use Rattle.page_roff_blocks.specs.declared.atoms.Branch.TheVariants.{If, IfElse, Else}
+use Rattle.page_roff_blocks.specs.declared.regions.RegionHead.{RegionHead}
+use Rattle.page_roff_blocks.specs.declared.spots.Reached.{Reached}
+use Rattle.page_roff_blocks.specs.declared.spots.Reached.TheVariants.{PassedOver, First, Remainder}
+use Rattle.page_roff_blocks.specs.Levels.{Opened}
+use Rattle.page_roff_blocks.specs.Run.{meet_as, value}
+use Rattle.page_roff_values.specs.Arguments.{arguments_in}
+use Rattle.page_roff_values.specs.Latches.{Came}
+use Rattle.page_roff_run.specs.Languages.{Kind, page, body, gives, calls}
+use Rattle.page_roff_run.specs.Budgets.{Budgeted, Effects, with_rest, charge_by, charge, begin_line, whether_run, meet, test, unopened_by, read_line, end_line, meaning, done_with, language}
+use Rattle.page_roff_run.specs.Counting.{Budget, budgeted, begun, charged_by, charged, exhausts_by, exhausts}
+use Rattle.page_roff_effects.specs.declared.commands.ProductKind.{ProductKind}
+use Rattle.page_roff_effects.specs.declared.commands.ProductKind.TheVariants as kinds
+use Rattle.page_roff_effects.specs.Acting as acting
+use Rattle.page_roff_effects.specs.Acting.{Acting, kind_of, Lends}
+use Rattle.page_roff_effects.specs.Effects.{effects, setting_of, answer_of, test_outcome, tested_after, done_by, done_after, budget_outcome, end_of_block_outcome}
+use Rattle.page_roff_effects.specs.Leaves.{leaf_outcome}
+use Rattle.page_roff_effects.specs.RegionLines.{head_outcome, line_outcome, end_outcome, finish_outcome}
+use Rattle.page_roff_conditions.specs.Answers.{Answer}
+use Rattle.page_roff_effects.specs.States.{Setting, Call, Memory, State, Outcome, Product, no_product, line_product, call_product, Given, says, takes, after, lines_of}
+use Rattle.page_roff_stack.specs.Changes.{is_page, lines_in}
+use Rattle.page_roff_machine.specs.declared.budgeted_actions.BudgetedActions.{BudgetedActions}
+use Rattle.page_roff_machine.specs.Doing.{output_of, state_in, state_after, answer_with, line_after, IsIn, IsAt, Makes, Does, Answers, parts_of, charged_in, begun_in, met_in, value_in, answer_after, answer_in, region_after, region_in, leaf_after, leaf_in, line_of, done_as, read_in, ended_in, unopened_in, finished_in}
+
+-- ---- lists
+
+pub said : (given : List Given) (xs ys : List Message) → (given ++ map says xs) ++ map says ys ≡ given ++ map says (xs ++ ys)
+said given xs ys = append_assoc given (map says xs) (map says ys) ∙ ap (λ more. given ++ more) (sym (map-append says xs ys))
+
+-- ---- one thing after another
+
+module _ {P S : Type 0} (left : P → S → List Message → Type 0) where
+  pub came_both : (s t u : S) (xs ys : List Message) → Came left s xs t → Came left t ys u → Came left s (xs ++ ys) u
+  came_both s t u xs ys a b = λ plan more h. b plan more (a plan (ys ++ more) (rw append_assoc at h))
+
+  pub came_none : (s : S) → Came left s [] s
+  came_none s = λ plan more h. h
+
+  -- nothing comes
+  pub stays : {A : Type 0} (old : BudgetedActions) (out : S) (suits : Kind → Type 0) (does : Kind → Budgeted State → A) (to : BudgetedActions → List Given → A)
+      → ((kind : Kind) → suits kind → (given : List Given) → does kind (state_in given old) ≡ to old given)
+      → Makes left old out suits does old to out
+  stays old out suits does to e = record {
+    setting = refl;
+    notes = [];
+    came = came_none out;
+    state = λ kind k given. e kind k given ∙ ap (to old) (sym (append-nil given));
+  }
+
+  pub both : {A B : Type 0} (old mid new : BudgetedActions) (out out_mid out_new : S) (suits suits_mid : Kind → Type 0)
+      (f : Kind → Budgeted State → A) (h : Kind → A → B) (k : Kind → Budgeted State → B) (to_mid : BudgetedActions → List Given → A) (to : BudgetedActions → List Given → B)
+      → Makes left old out suits f mid to_mid out_mid
+      → Makes left mid out_mid suits_mid k new to out_new
+      → ((kind : Kind) → suits kind → suits_mid kind)
+      → ((kind : Kind) → suits kind → (given : List Given) → h kind (to_mid mid given) ≡ k kind (state_in given mid))
+      → Makes left old out suits (λ kind s. h kind (f kind s)) new to out_new
+  both old mid new out out_mid out_new suits suits_mid f h k to_mid to a b suit link = record {
+    setting = b.setting ∙ a.setting;
+    notes = a.notes ++ b.notes;
+    came = came_both out out_mid out_new a.notes b.notes a.came b.came;
+    state = λ kind s given.
+        ap (h kind) (a.state kind s given)
+        ∙ link kind s (given ++ map says a.notes)
+        ∙ b.state kind (suit kind s) (given ++ map says a.notes)
+        ∙ ap (to new) (said given a.notes b.notes);
+  }
+
+-- ---- the budget
+
+charged_beyond : (e : Effects State) (gave_up : Bool) (left : ℕ) (b : Budget) (s : State)
+    → exhausts_by gave_up left ≡ true → charge_by e gave_up left (budgeted b s) ≡ budgeted (charged_by gave_up left b) (e.exhausts s)
+unfolding charge_by
+charged_beyond e true left b s h = absurd (cc)
+charged_beyond e false zero b s h = refl
+charged_beyond e false (suc left) b s h = absurd (cc)
+
+charged_within : (e : Effects State) (gave_up : Bool) (left : ℕ) (b : Budget) (s : State)
+    → exhausts_by gave_up left ≡ false → charge_by e gave_up left (budgeted b s) ≡ budgeted (charged_by gave_up left b) s
+unfolding charge_by
+charged_within e true left b s h = refl
+charged_within e false zero b s h = absurd (cc)
+charged_within e false (suc left) b s h = refl
+
+-- the same budget and the same memory
+state_to : (b : Budget) (m : Memory) (new : BudgetedActions) (given : List Given)
+    → new.budget ≡ b → new.actions.memory ≡ m → budgeted b (record { memory = m; out = given }) ≡ state_in given new
+state_to b m new given eb em = rw (eb, em) refl
+
+plain_to : (b : Budget) (m : Memory) (new : BudgetedActions) (given : List Given) (notes : List Message)
+    → new.budget ≡ b → new.actions.memory ≡ m → budgeted b (record { memory = m; out = given ++ (map says notes ++ []) }) ≡ state_in (given ++ map says notes) new
+plain_to b m new given notes eb em =
+    ap (λ (more : List Given). budgeted b (record { memory = m; out = given ++ more })) (append-nil (map says notes)) ∙ state_to b m new (given ++ map says notes) eb em
+
+head_plain : (head : RegionHead (List ℕ)) (is_run : Bool) (m : Memory) → (head_outcome head is_run m).product ≡ no_product
+unfolding head_outcome
+head_plain head true m = refl
+head_plain head false m = refl
+
+end_plain : (o : Opened) (is_run : Bool) (m : Memory) → (end_outcome o is_run m).product ≡ no_product
+unfolding end_outcome
+end_plain o true m = refl
+end_plain o false m = refl
+
+finish_plain : (region : Option Opened) (gave_up : Bool) (m : Memory) → (finish_outcome region gave_up m).product ≡ no_product
+unfolding finish_outcome
+finish_plain None gave_up m = refl
+finish_plain (Some o) gave_up m = refl
+
+-- after a part without a product
+pub acted : (b : Budget) (m : Memory) (new : BudgetedActions) (given : List Given) (o : Outcome)
+    → new.budget ≡ b → new.actions.memory ≡ o.memory → o.product ≡ no_product
+    → budgeted b (after (record { memory = m; out = given }) o) ≡ state_in (given ++ map says o.notes) new
+acted b m new given o eb em ep = rw (eb, em, ep) (ap (λ more. budgeted b (record { memory = o.memory; out = given ++ more })) (append-nil (map says o.notes)))
+
+module _ {P S : Type 0} (left : P → S → List Message → Type 0) where
+  pub charge_beyond : (old new : BudgetedActions) (out out_new : S)
+      → exhausts old.budget ≡ true → new.budget ≡ charged old.budget
+      → acting.Does left old.actions out (budget_outcome old.actions.memory) new.actions out_new
+      → Does left old out (charged_in old) new out_new
+  unfolding charge effects budget_outcome
+  charge_beyond old new out out_new h eb d = record {
+    setting = d.setting;
+    notes = (budget_outcome old.actions.memory).notes;
+    came = d.came;
+    state = λ kind k given.
+        charged_beyond (effects (output_of old)) old.budget.gave_up old.budget.left old.budget (record { memory = old.actions.memory; out = given }) h
+        ∙ acted (charged old.budget) old.actions.memory new given (budget_outcome old.actions.memory) eb d.memory refl;
+  }
+
+  pub charge_within : (old new : BudgetedActions) (out : S)
+      → exhausts old.budget ≡ false → new.budget ≡ charged old.budget → new.actions ≡ old.actions
+      → Does left old out (charged_in old) new out
+  unfolding charge
+  charge_within old new out h eb ea = record {
+    setting = ap (λ a. a.setting) ea;
+    notes = [];
+    came = came_none left out;
+    state = λ kind k given.
+        charged_within (effects (output_of old)) old.budget.gave_up old.budget.left old.budget (record { memory = old.actions.memory; out = given }) h
+        ∙ rw (eb, ea) (ap (λ more. budgeted (charged old.budget) (record { memory = old.actions.memory; out = more })) (sym (append-nil given)));
+  }
+
+begun_page : (e : Effects State) (kind : Kind) (b : Budget) (s : State) → is_page kind ≡ true → begin_line e kind (budgeted b s) ≡ budgeted (begun b) s
+unfolding begin_line
+begun_page e page b s h = refl
+begun_page e (body args) b s h = absurd (cc)
+
+begun_body : (e : Effects State) (kind : Kind) (s : Budgeted State) → is_page kind ≡ false → begin_line e kind s ≡ charge e s
+unfolding begin_line
+begun_body e page s h = absurd (cc)
+begun_body e (body args) s h = refl
+
+module _ {P S : Type 0} (left : P → S → List Message → Type 0) where
+  pub begin_page : (old new : BudgetedActions) (out : S)
+      → new.budget ≡ begun old.budget → new.actions ≡ old.actions
+      → Makes left old out (IsAt true old) (begun_in old) new state_after out
+  begin_page old new out eb ea = record {
+    setting = ap (λ a. a.setting) ea;
+    notes = [];
+    came = came_none left out;
+    state = λ kind k given.
+        begun_page (effects (output_of old)) kind old.budget (record { memory = old.actions.memory; out = given }) k.page
+        ∙ rw (eb, ea) (ap (λ more. budgeted (begun old.budget) (record { memory = old.actions.memory; out = more })) (sym (append-nil given)));
+  }
+
+  pub begin_body : (old new : BudgetedActions) (out out_new : S)
+      → Does left old out (charged_in old) new out_new
+      → Makes left old out (IsAt false old) (begun_in old) new state_after out_new
+  begin_body old new out out_new d = record {
+    setting = d.setting;
+    notes = d.notes;
+    came = d.came;
+    state = λ kind k given.
+        begun_body (effects (output_of old)) kind (state_in given old) k.page ∙ d.state kind k.setting given;
+  }
+
+  -- ---- whether a part is run
+
+  pub meet_passed : (old : BudgetedActions) (out : S) → Answers left old out (met_in old PassedOver) false old out
+  unfolding meet_as
+  meet_passed old out = stays left old out (λ kind. IsIn kind old) (met_in old PassedOver) (answer_with false) (λ kind k given. refl)
+
+  pub meet_first : (old : BudgetedActions) (out : S) → Answers left old out (met_in old First) (not old.budget.gave_up) old out
+  unfolding meet_as meaning meet whether_run
+  meet_first old out = stays left old out (λ kind. IsIn kind old) (met_in old First) (answer_with (not old.budget.gave_up)) (λ kind k given. refl)
+
+  pub meet_remainder : (old new : BudgetedActions) (out out_new : S)
+      → Does left old out (charged_in old) new out_new
+      → Answers left old out (met_in old Remainder) (not new.budget.gave_up) new out_new
+  unfolding meet_as meaning meet whether_run
+  meet_remainder old new out out_new d = record {
+    setting = d.setting;
+    notes = d.notes;
+    came = d.came;
+    state = λ kind k given. ap (λ (s : Budgeted State). (not s.gave_up, s)) (d.state kind k given);
+  }
+
+-- the line that was taken is lent
+lent_line : (p : Product) (a : Acting) → Lends p a → lines_of p ≡ line_of (kind_of p) a
+lent_line no_product a lends = refl
+lent_line (line_product line) a lends = ap (λ line. takes line ∷ []) (sym lends)
+lent_line (call_product call) a lends = refl
+
+-- ---- the heads of conditionals
+
+abbrev answer_pair : Bool → Budgeted State → Bool × Budgeted State
+answer_pair holds s = (holds, s)
+
+abbrev answered : Budget → Bool × State → Bool × Budgeted State
+answered b v = (v.0, budgeted b v.1)
+
+tested_as : (b : Budget) (m : Memory) (new : BudgetedActions) (given : List Given) (a : Answer) (result : Bool)
+    → new.budget ≡ b → new.actions.memory ≡ (test_outcome a m).memory → result ≡ a.holds
+    → answered b (tested_after (record { memory = m; out = given }) a) ≡ answer_with result new (given ++ map says a.notes)
+unfolding tested_after
+tested_as b m new given a result eb em er =
+    ap (answer_pair a.holds) (acted b m new given (test_outcome a m) eb em refl)
+    ∙ ap (λ holds. answer_pair holds (state_in (given ++ map says a.notes) new)) (sym er)
+
+module _ {P S : Type 0} (left : P → S → List Message → Type 0) where
+  tests_as : (old new : BudgetedActions) (out out_new : S) (condition : Condition (List ℕ)) (result : Bool)
+      → new.budget ≡ old.budget
+      → acting.Tests left old.actions out (answer_of old.actions.setting condition old.actions.memory) result new.actions out_new
+      → Answers left old out (λ kind s. test (effects (output_of old)) kind condition s) result new out_new
+  unfolding test effects with_rest
+  tests_as old new out out_new condition result eb t =
+      let a = answer_of old.actions.setting condition old.actions.memory in
+      record {
+        setting = t.does.setting;
+        notes = a.notes;
+        came = t.does.came;
+        state = λ kind k given.
+            ap (λ (setting : Setting).
+            answered old.budget (tested_after (record { memory = old.actions.memory; out = given }) (answer_of setting condition old.actions.memory))) (sym k)
+            ∙ tested_as old.budget old.actions.memory new given a result eb t.does.memory t.holds;
+      }
+
+  pub value_if : (old new : BudgetedActions) (out out_new : S) (condition : Condition (List ℕ)) (bit result : Bool)
+      → new.budget ≡ old.budget
+      → acting.Tests left old.actions out (answer_of old.actions.setting condition old.actions.memory) result new.actions out_new
+      → Answers left old out (value_in old (If condition) bit) result new out_new
+  unfolding value meaning
+  value_if old new out out_new condition bit result eb t = tests_as old new out out_new condition result eb t
+
+  pub value_if_else : (old new : BudgetedActions) (out out_new : S) (condition : Condition (List ℕ)) (bit result : Bool)
+      → new.budget ≡ old.budget
+      → acting.Tests left old.actions out (answer_of old.actions.setting condition old.actions.memory) result new.actions out_new
+      → Answers left old out (value_in old (IfElse condition) bit) result new out_new
+  unfolding value meaning
+  value_if_else old new out out_new condition bit result eb t = tests_as old new out out_new condition result eb t
+
+  pub value_else : (old : BudgetedActions) (out : S) (bit : Bool) → Answers left old out (value_in old Else bit) bit old out
+  unfolding value
+  value_else old out bit = stays left old out (λ kind. IsIn kind old) (value_in old Else bit) (answer_with bit) (λ kind k given. refl)
+
+  -- where the same output is written
+  kind_after : (old mid : BudgetedActions) → mid.actions.setting ≡ old.actions.setting → (kind : Kind) → IsIn kind old → IsIn kind mid
+  kind_after old mid e kind k = rw e k
+
+  pub answer_met : (old mid new : BudgetedActions) (out out_mid out_new : S) (reached : Reached) (branch : Branch (List ℕ)) (bit result : Bool)
+      → Answers left old out (met_in old reached) true mid out_mid
+      → Answers left mid out_mid (value_in mid branch bit) result new out_new
+      → Answers left old out (answer_in old branch bit reached) (Some result) new out_new
+  answer_met old mid new out out_mid out_new reached branch bit result a b =
+      both left old mid new out out_mid out_new (λ kind. IsIn kind old) (λ kind. IsIn kind mid)
+      (met_in old reached) (λ kind q. answer_after (parts_of old kind) branch bit q)
+      (λ kind s. let v = value_in mid branch bit kind s in (Some v.0, v.1))
+      (answer_with true) (answer_with (Some result)) a
+      (record {
+        setting = b.setting;
+        notes = b.notes;
+        came = b.came;
+        state = λ kind k given. ap (λ (v : Bool × Budgeted State). (Some v.0, v.1)) (b.state kind k given);
+      })
+      (kind_after old mid a.setting)
+      (λ kind k given.
+      ap (λ (output : Output). let v = value (meaning (effects output) kind) branch bit (state_in given mid) in (Some v.0, v.1))
+      (sym (ap (λ setting. setting.output) a.setting)))
+
+  pub answer_passed : (old new : BudgetedActions) (out out_new : S) (reached : Reached) (branch : Branch (List ℕ)) (bit : Bool)
+      → Answers left old out (met_in old reached) false new out_new
+      → Answers left old out (answer_in old branch bit reached) None new out_new
+  answer_passed old new out out_new reached branch bit a = record {
+    setting = a.setting;
+    notes = a.notes;
+    came = a.came;
+    state = λ kind k given. ap (answer_after (parts_of old kind) branch bit) (a.state kind k given);
+  }
+
+  -- ---- regions
+
+  pub region_met : (old mid new : BudgetedActions) (out out_mid out_new : S) (reached : Reached) (head : RegionHead (List ℕ)) (result : Bool)
+      → Answers left old out (met_in old reached) result mid out_mid
+      → new.budget ≡ mid.budget
+      → acting.Does left mid.actions out_mid (head_outcome head result mid.actions.memory) new.actions out_new
+      → Answers left old out (region_in old head reached) result new out_new
+  unfolding meaning effects with_rest
+  region_met old mid new out out_mid out_new reached head result a eb d =
+      both left old mid new out out_mid out_new (λ kind. IsIn kind old) (λ kind. IsIn kind mid)
+      (met_in old reached) (λ kind q. region_after (parts_of old kind) head q)
+      (λ kind s. region_after (parts_of mid kind) head (result, s))
+      (answer_with result) (answer_with result) a
+      (record {
+        setting = d.setting;
+        notes = (head_outcome head result mid.actions.memory).notes;
+        came = d.came;
+        state = λ kind k given. ap (λ (s : Budgeted State). (result, s)) (acted mid.budget mid.actions.memory new given (head_outcome head result mid.actions.memory) eb d.memory (head_plain head result mid.actions.memory));
+      })
+      (kind_after old mid a.setting)
+      (λ kind k given. refl)
+
+  run_after : (old mid : BudgetedActions) → mid.actions.setting ≡ old.actions.setting → (is_page_now : Bool) (kind : Kind) → IsAt is_page_now old kind → IsAt is_page_now mid kind
+  run_after old mid e is_page_now kind k = record { page = k.page; setting = kind_after old mid e kind k.setting }
+
+  -- what came of a line of a region
+  line_acted : (b : Budget) (m : Memory) (new : BudgetedActions) (given : List Given) (o : Outcome) (result : ProductKind)
+      → new.budget ≡ b → new.actions.memory ≡ o.memory → result ≡ kind_of o.product → Lends o.product new.actions
+      → budgeted b (after (record { memory = m; out = given }) o) ≡ state_in ((given ++ map says o.notes) ++ line_of result new.actions) new
+  line_acted b m new given o result eb em er lends =
+      ap (λ (more : List Given). budgeted b (record { memory = o.memory; out = more }))
+      (sym (append_assoc given (map says o.notes) (lines_of o.product))
+      ∙ ap (λ (more : List Given). (given ++ map says o.notes) ++ more) (lent_line o.product new.actions lends ∙ ap (λ product. line_of product new.actions) (sym er)))
+      ∙ state_to b o.memory new ((given ++ map says o.notes) ++ line_of result new.actions) eb em
+
+  pub read_met : (old mid new : BudgetedActions) (out out_mid out_new : S) (is_page_now : Bool) (o : Opened) (line : List ℕ) (result : ProductKind)
+      → Makes left old out (IsAt is_page_now old) (begun_in old) mid state_after out_mid
+      → new.budget ≡ mid.budget
+      → acting.Gives left mid.actions out_mid (line_outcome mid.actions.setting o (o.is_run && not mid.budget.gave_up) line mid.actions.memory) result new.actions out_new
+      → Makes left old out (IsAt is_page_now old) (read_in old o line) new (line_after result) out_new
+  unfolding meaning read_line effects with_rest
+  read_met old mid new out out_mid out_new is_page_now o line result a eb g =
+      let outcome = line_outcome mid.actions.setting o (o.is_run && not mid.budget.gave_up) line mid.actions.memory in
+      both left old mid new out out_mid out_new (IsAt is_page_now old) (IsAt is_page_now mid)
+      (begun_in old)
+      (λ kind t. with_rest (effects (output_of old)) t ((effects (output_of old)).reads kind o (o.is_run && not t.gave_up) line t.rest))
+      (λ kind t. with_rest (effects (output_of mid)) t ((effects (output_of mid)).reads kind o (o.is_run && not t.gave_up) line t.rest))
+      state_after (line_after result) a
+      (record {
+        setting = g.does.setting;
+        notes = outcome.notes;
+        came = g.does.came;
+        state = λ kind k given.
+            ap (λ (setting : Setting). budgeted mid.budget (after (record { memory = mid.actions.memory; out = given })
+            (line_outcome setting o (o.is_run && not mid.budget.gave_up) line mid.actions.memory))) (sym k.setting)
+            ∙ line_acted mid.budget mid.actions.memory new given outcome result eb g.does.memory g.kind g.lends;
+      })
+      (run_after old mid a.setting is_page_now)
+      (λ kind k given.
+      ap (λ (output : Output). budgeted mid.budget (after (record { memory = mid.actions.memory; out = given })
+      (line_outcome (setting_of output kind) o (o.is_run && not mid.budget.gave_up) line mid.actions.memory)))
+      (sym (ap (λ setting. setting.output) a.setting)))
+
+  pub end_met : (old mid new : BudgetedActions) (out out_mid out_new : S) (is_page_now : Bool) (o : Opened)
+      → Makes left old out (IsAt is_page_now old) (begun_in old) mid state_after out_mid
+      → new.budget ≡ mid.budget
+      → acting.Does left mid.actions out_mid (end_outcome o (o.is_run && not mid.budget.gave_up) mid.actions.memory) new.actions out_new
+      → Makes left old out (IsAt is_page_now old) (ended_in old o) new state_after out_new
+  unfolding meaning end_line effects with_rest
+  end_met old mid new out out_mid out_new is_page_now o a eb d =
+      let outcome = end_outcome o (o.is_run && not mid.budget.gave_up) mid.actions.memory in
+      both left old mid new out out_mid out_new (IsAt is_page_now old) (IsAt is_page_now mid)
+      (begun_in old)
+      (λ kind t. with_rest (effects (output_of old)) t ((effects (output_of old)).ends_region kind o (o.is_run && not t.gave_up) [] t.rest))
+      (λ kind t. with_rest (effects (output_of mid)) t ((effects (output_of mid)).ends_region kind o (o.is_run && not t.gave_up) [] t.rest))
+      state_after state_after a
+      (record {
+        setting = d.setting;
+        notes = outcome.notes;
+        came = d.came;
+        state = λ kind k given. acted mid.budget mid.actions.memory new given outcome eb d.memory (end_plain o (o.is_run && not mid.budget.gave_up) mid.actions.memory);
+      })
+      (run_after old mid a.setting is_page_now)
+      (λ kind k given. refl)
+
+  pub finished : (old new : BudgetedActions) (out out_new : S) (region : Option Opened)
+      → new.budget ≡ old.budget
+      → acting.Does left old.actions out (finish_outcome region old.budget.gave_up old.actions.memory) new.actions out_new
+      → Does left old out (finished_in old region) new out_new
+  unfolding language effects with_rest
+  finished old new out out_new region eb d = record {
+    setting = d.setting;
+    notes = (finish_outcome region old.budget.gave_up old.actions.memory).notes;
+    came = d.came;
+    state = λ kind k given. acted old.budget old.actions.memory new given (finish_outcome region old.budget.gave_up old.actions.memory) eb d.memory (finish_plain region old.budget.gave_up old.actions.memory);
+  }
+
+  -- ---- lines that head nothing
+
+  pub leaf_passed : (old new : BudgetedActions) (out out_new : S) (reached : Reached) (may_call : Bool) (text : List ℕ)
+      → Answers left old out (met_in old reached) false new out_new
+      → Makes left old out (λ kind. IsIn kind old) (leaf_in old may_call text reached) new (done_as kinds.Nothing) out_new
+  leaf_passed old new out out_new reached may_call text a = record {
+    setting = a.setting;
+    notes = a.notes;
+    came = a.came;
+    state = λ kind k given. ap (leaf_after (language (effects (output_of old))) may_call kind text) (a.state kind k given);
+  }
+
+  leaf_done : (e : Effects State) (b : Budget) (s : State) (m : Memory) (new : BudgetedActions) (given : List Given) (notes : List Message) (p : Product) (result : ProductKind)
+      → new.budget ≡ b → new.actions.memory ≡ m → result ≡ kind_of p → Lends p new.actions
+      → done_with e (budgeted b s) (done_by p (record { memory = m; out = given ++ (map says notes ++ lines_of p) }))
+      ≡ done_as result new (given ++ map says notes)
+  unfolding done_with done_by with_rest
+  leaf_done e b s m new given notes no_product result eb em er lends =
+      ap (λ (t : Budgeted State). gives t) (plain_to b m new given notes eb em) ∙ ap (λ product. done_as product new (given ++ map says notes)) (sym er)
+  leaf_done e b s m new given notes (line_product line) result eb em er lends =
+      ap (λ (more : List Given). gives (budgeted b (record { memory = m; out = more }))) (sym (append_assoc given (map says notes) (takes line ∷ [])))
+      ∙ ap (λ (t : Budgeted State). gives t) (state_to b m new ((given ++ map says notes) ++ (takes line ∷ [])) eb em)
+      ∙ ap (λ line. gives (state_in ((given ++ map says notes) ++ (takes line ∷ [])) new)) (sym lends)
+      ∙ ap (λ product. done_as product new (given ++ map says notes)) (sym er)
+  leaf_done e b s m new given notes (call_product call) result eb em er lends =
+      ap (λ (t : Budgeted State). calls (lines_in call.body) (arguments_in call.packed) t) (plain_to b m new given notes eb em)
+      ∙ ap (λ (call : Call). calls (lines_in call.body) (arguments_in call.packed) (state_in (given ++ map says notes) new)) (sym lends)
+      ∙ ap (λ product. done_as product new (given ++ map says notes)) (sym er)
+
+  pub leaf_met : (old mid new : BudgetedActions) (out out_mid out_new : S) (reached : Reached) (may_call : Bool) (text : List ℕ) (result : ProductKind)
+      → Answers left old out (met_in old reached) true mid out_mid
+      → new.budget ≡ mid.budget
+      → acting.Gives left mid.actions out_mid (leaf_outcome mid.actions.setting may_call text mid.actions.memory) result new.actions out_new
+      → Makes left old out (λ kind. IsIn kind old) (leaf_in old may_call text reached) new (done_as result) out_new
+  unfolding language effects done_after
+  leaf_met old mid new out out_mid out_new reached may_call text result a eb g =
+      let outcome = leaf_outcome mid.actions.setting may_call text mid.actions.memory in
+      both left old mid new out out_mid out_new (λ kind. IsIn kind old) (λ kind. IsIn kind mid)
+      (met_in old reached) (λ kind q. leaf_after (language (effects (output_of old))) may_call kind text q)
+      (λ kind s. (language (effects (output_of mid))).leaf may_call kind text s)
+      (answer_with true) (done_as result) a
+      (record {
+        setting = g.does.setting;
+        notes = outcome.notes;
+        came = g.does.came;
+        state = λ kind k given.
+            ap (λ (setting : Setting). done_with (effects (output_of mid)) (state_in given mid)
+            (done_after (record { memory = mid.actions.memory; out = given }) (leaf_outcome setting may_call text mid.actions.memory))) (sym k)
+            ∙ leaf_done (effects (output_of mid)) mid.budget (record { memory = mid.actions.memory; out = given }) outcome.memory new given outcome.notes outcome.product result
+            eb g.does.memory g.kind g.lends;
+      })
+      (kind_after old mid a.setting)
+      (λ kind k given.
+      ap (λ (output : Output). (language (effects output)).leaf may_call kind text (state_in given mid))
+      (sym (ap (λ setting. setting.output) a.setting)))
+
+-- ---- the end of a block where none is open
+
+told_by : (e : Effects State) (kind : Kind) (gave_up : Bool) (s : Budgeted State) → (not (is_page kind) && gave_up) ≡ false
+    → unopened_by e kind gave_up s ≡ with_rest e s (e.unopened s.rest)
+unfolding unopened_by
+told_by e page gave_up s h = refl
+told_by e (body args) true s h = absurd (cc)
+told_by e (body args) false s h = refl
+
+silent_by : (e : Effects State) (kind : Kind) (gave_up : Bool) (s : Budgeted State) → (not (is_page kind) && gave_up) ≡ true
+    → unopened_by e kind gave_up s ≡ s
+unfolding unopened_by
+silent_by e page gave_up s h = absurd (cc)
+silent_by e (body args) true s h = refl
+silent_by e (body args) false s h = absurd (cc)
+
+module _ {P S : Type 0} (left : P → S → List Message → Type 0) where
+  pub unopened_told : (old new : BudgetedActions) (out out_new : S) (is_page_now : Bool)
+      → (not is_page_now && old.budget.gave_up) ≡ false → new.budget ≡ old.budget
+      → acting.Does left old.actions out (end_of_block_outcome old.actions.memory) new.actions out_new
+      → Makes left old out (IsAt is_page_now old) (unopened_in old) new state_after out_new
+  unfolding meaning effects with_rest end_of_block_outcome
+  unopened_told old new out out_new is_page_now h eb d = record {
+    setting = d.setting;
+    notes = (end_of_block_outcome old.actions.memory).notes;
+    came = d.came;
+    state = λ kind k given.
+        told_by (effects (output_of old)) kind old.budget.gave_up (state_in given old) (ap (λ page. not page && old.budget.gave_up) k.page ∙ h)
+        ∙ acted old.budget old.actions.memory new given (end_of_block_outcome old.actions.memory) eb d.memory refl;
+  }
+
+  pub unopened_silent : (old : BudgetedActions) (out : S) (is_page_now : Bool)
+      → (not is_page_now && old.budget.gave_up) ≡ true
+      → Makes left old out (IsAt is_page_now old) (unopened_in old) old state_after out
+  unfolding meaning
+  unopened_silent old out is_page_now h =
+      stays left old out (IsAt is_page_now old) (unopened_in old) state_after
+      (λ kind k given. silent_by (effects (output_of old)) kind old.budget.gave_up (state_in given old) (ap (λ page. not page && old.budget.gave_up) k.page ∙ h))

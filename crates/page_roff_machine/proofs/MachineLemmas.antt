@@ -1,0 +1,130 @@
+-- What is still to come: helpers of proofs.
+use Rattle.std.proofs.Common.{◌≡◌, ℕ, ◌≤◌, ◌^◌, inl, inr, true, List, [], ◌∷◌, ◌++◌, map, Some, None, refl, sym, ap, ◌∙◌}
+use Rattle.std.proofs.lemmas.List.{append-nil}
+use Rattle.page_core_base.specs.Messages.{Message}
+use Rattle.page_core_base.specs.declared.page_settings.Output.{Output}
+use Rattle.page_roff_blocks.specs.declared.atoms.Atom.{Atom}
+use Rattle.page_roff_blocks.specs.Levels.{Opened}
+use Rattle.page_roff_blocks.specs.Run.{Meaning, At}
+use Rattle.page_roff_run.specs.Languages.{Language, meaning_at, run_page}
+use Rattle.page_roff_run.specs.Machine.{Frame, depth, at_page, rest_of, next, stands_at}
+use Rattle.page_roff_run.specs.Budgets.{Budgeted, language}
+use Rattle.page_roff_run.specs.Fronts.{over}
+use Rattle.page_roff_run.proofs.FrontLemmas.{rest_front}
+use Rattle.page_roff_run.proofs.MachineLemmas.{next_law, end_law, page_law}
+use Rattle.page_roff_run.specs.Counting.{renewed}
+use Rattle.page_roff_run.specs.Measures.{HasMeasure, AreOnLine, IsOnLine, IsFirst}
+use Rattle.page_roff_effects.specs.Acting as acting
+use Rattle.page_roff_effects.specs.Acting.{Acting, with_number, with_arguments}
+use Rattle.page_roff_effects.specs.Effects.{effects, in_front}
+use Rattle.page_roff_stack.specs.Changes.{page_line}
+use Rattle.page_roff_effects.specs.States.{State, Given, says}
+use Rattle.page_roff_effects.proofs.GivenLemmas.{is_front}
+use Rattle.page_roff_stack.specs.declared.next.Next.{Next}
+use Rattle.page_roff_stack.specs.declared.next.Next.TheVariants as things
+use Rattle.page_roff_stack.specs.Stacks.{Stack, first_stack, next_of, is_nothing, step_in, step_of}
+use Rattle.page_roff_stack.proofs.StackLemmas.{next_steps}
+use Rattle.page_roff_machine.specs.Giving.{notes_before, next_line, after_line}
+use Rattle.page_roff_machine.specs.declared.runners.Runner.{Runner}
+use Rattle.page_roff_machine.specs.Machines.{Machine, output_of, language_of, running_of, outcome_of, is_idle, stands, begun_at, Begins, IsNew}
+use Rattle.page_roff_machine.specs.Stepping.{machine_of, IsSound}
+
+-- ---- after some messages
+
+pub notes_after : (notes : List Message) (given : List Given) → notes_before (map says notes ++ given) ≡ notes ++ notes_before given
+notes_after [] given = refl
+notes_after (note ∷ notes) given = ap (λ more. note ∷ more) (notes_after notes given)
+
+pub line_after : (notes : List Message) (given : List Given) → next_line (map says notes ++ given) ≡ next_line given
+line_after [] given = refl
+line_after (note ∷ notes) given = line_after notes given
+
+pub rest_after : (notes : List Message) (given : List Given) → after_line (map says notes ++ given) ≡ after_line given
+rest_after [] given = refl
+rest_after (note ∷ notes) given = rest_after notes given
+
+-- ---- one step
+
+-- what a step gives stands in front of what comes after it
+pub outcome_step : (old new : Machine) (given : List Given) → output_of new ≡ output_of old
+    → next (language_of old) (running_of [] old) ≡ Some (running_of given new)
+    → outcome_of old ≡ over (in_front given) (outcome_of new)
+unfolding outcome_of
+outcome_step old new given eo e =
+    let l = language_of old in
+    next_law l (running_of [] old) (running_of given new) e
+    ∙ ap (λ (before : List Given). rest_of l (running_of before new)) (sym (append-nil given))
+    ∙ rest_front (in_front given) l (is_front (output_of old) given) (running_of [] new)
+    ∙ ap (λ (output : Output). over (in_front given) (rest_of (language (effects output)) (running_of [] new))) (sym eo)
+
+pub outcome_end : (m : Machine) → next (language_of m) (running_of [] m) ≡ None → outcome_of m ≡ stands m
+unfolding outcome_of stands_at
+outcome_end m e = end_law (language_of m) (running_of [] m) e
+
+-- ---- where nothing is left
+
+none_next : {S : Type 0} (l : Language S) (m : Meaning S) (x : Next (List ℕ) Opened) (parts : List (Atom (List ℕ))) (lines : List (List ℕ)) (f : Frame) (under : List Frame) (s : S)
+    → is_nothing x ≡ true → step_in l m x parts lines f under s ≡ None
+unfolding step_in
+none_next l m (things.Part part) parts lines f under s e = absurd (cc)
+none_next l m (things.Line line) parts lines f under s e = absurd (cc)
+none_next l m (things.RegionLine o line is_end) parts lines f under s e = absurd (cc)
+none_next l m (things.SourceEnd region) parts lines f under s e = absurd (cc)
+none_next l m things.Nothing parts lines f under s e = refl
+
+pub idle_stands : (m : Machine) → is_idle m ≡ true → outcome_of m ≡ stands m
+unfolding step_of
+idle_stands m e =
+    let l = language_of m in
+    let r = running_of [] m in
+    outcome_end m (next_steps l m.stack r.state ∙ none_next l (meaning_at l (depth m.stack.under) m.stack.top.kind) (next_of m.stack) m.stack.top.parts m.stack.top.lines m.stack.top m.stack.under r.state e)
+
+pub new_idle : (output : Output) (m : Machine) → IsNew output m → is_idle m ≡ true
+new_idle output m h = ap (λ stack. is_nothing (next_of stack)) h.stack
+
+-- ---- a line of the page
+
+pub outcome_line : (old new : Machine) (line : List ℕ) (at : At (Budgeted State)) → output_of new ≡ output_of old → running_of [] new ≡ at_page line at
+    → outcome_of new ≡ run_page (language_of old) (line ∷ []) at
+unfolding outcome_of
+outcome_line old new line at eo e =
+    ap (λ (output : Output). rest_of (language (effects output)) (running_of [] new)) eo
+    ∙ ap (rest_of (language_of old)) e
+    ∙ page_law (language_of old) line at
+
+-- ---- the whole object
+
+pub new_sound : (output : Output) (r : Runner) → r.stack ≡ first_stack → acting.IsNew output r.doing.actions → IsSound r
+unfolding HasMeasure AreOnLine IsOnLine
+new_sound output r e h = record {
+  setting = rw (e, h.setting) refl;
+  way = inr (λ k. ap (λ (s : Stack). s.top.lines) e, rw e tt);
+}
+
+pub begun_sound : (old new : Runner) (line : List ℕ) (number : ℕ) → new.stack ≡ record { top = page_line line old.stack.top; under = [] }
+    → new.doing.actions ≡ with_number number (with_arguments None old.doing.actions) → new.doing.budget ≡ renewed old.doing.budget
+    → old.doing.budget.taken ≤ 2 ^ 62 → IsSound new
+unfolding IsFirst
+begun_sound old new line number es ea eb h = record {
+  setting = rw (ea, es) refl;
+  way = inl ((line, ap (λ (s : Stack). s.top.lines) es, ap (λ (s : Stack). s.top.parts) es, ap (λ (s : Stack). s.under) es), rw eb h);
+}
+
+pub begins : (old new : Runner) (line : List ℕ) (number : ℕ) → new.stack ≡ record { top = page_line line old.stack.top; under = [] }
+    → new.doing.actions ≡ with_number number (with_arguments None old.doing.actions) → new.doing.budget ≡ renewed old.doing.budget
+    → Begins line number (machine_of old) (machine_of new)
+unfolding at_page
+begins old new line number es ea eb =
+    let eo : output_of (machine_of new) ≡ output_of (machine_of old) = ap (λ (a : Acting). a.setting.output) ea in
+    record {
+      output = eo;
+      outcome = outcome_line (machine_of old) (machine_of new) line (begun_at number (machine_of old)) eo (rw (es, ea, eb) refl);
+    }
+
+pub ended_sound : (r : Runner) (actions : Acting) → actions.setting ≡ r.doing.actions.setting → IsSound r
+    → IsSound (record { stack = r.stack; doing = record { actions = actions; budget = r.doing.budget } })
+unfolding IsFirst HasMeasure
+ended_sound r actions e h = record {
+  setting = rw e h.setting;
+  way = elim h.way [ inl first ↦ inl first | inr measured ↦ inr measured ];
+}

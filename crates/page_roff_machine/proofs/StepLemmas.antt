@@ -1,0 +1,198 @@
+-- Steps of the machine, one after another: helpers of proofs.
+use Rattle.std.proofs.Common.{◌≡◌, ℕ, suc, ◌≤◌, inl, inr, Bool, true, false, List, [], ◌∷◌, ◌++◌, map, length, Some, refl, sym, ap, ◌∙◌, append_assoc}
+use Rattle.std.proofs.lemmas.List.{append-nil}
+use Rattle.page_core_base.specs.Messages.{Message}
+use Rattle.page_core_base.specs.declared.page_settings.Output.{Output}
+use Rattle.page_roff_blocks.specs.Run.{At}
+use Rattle.page_roff_values.specs.Latches.{Came}
+use Rattle.page_roff_run.specs.Machine.{next}
+use Rattle.page_roff_run.specs.Measures.{measure, HasMeasure, HasBodyWithin, IsFirst, credit}
+use Rattle.page_roff_run.specs.Budgets.{Budgeted, language}
+use Rattle.page_roff_run.specs.Fronts.{over}
+use Rattle.page_roff_run.proofs.MeasureLemmas.{next_falls, first_falls}
+use Rattle.page_roff_effects.specs.Effects.{effects, in_front}
+use Rattle.page_roff_effects.specs.States.{State, Given, says, takes}
+use Rattle.page_roff_stack.specs.Stacks.{Stack, running, next_of, is_nothing}
+use Rattle.page_roff_machine.specs.declared.movements.Movement.{Movement}
+use Rattle.page_roff_machine.specs.declared.movements.Movement.TheVariants as moves
+use Rattle.page_roff_machine.specs.declared.movements.Progress.{Progress}
+use Rattle.page_roff_machine.specs.declared.movements.Progress.TheVariants.{More, Line, Done}
+use Rattle.page_roff_machine.specs.declared.runners.Runner.{Runner}
+use Rattle.page_roff_machine.specs.Doing.{IsIn, output_of, state_in}
+use Rattle.page_roff_machine.specs.Giving.{notes_before, next_line, after_line}
+use Rattle.page_roff_machine.specs.Machines.{Machine, outcome_of, to_come, end_of, hushed, Advances}
+use Rattle.page_roff_machine.specs.Moving.{moved, reached_with, IsBodyWithin, IfDone, Suits, HUGE, Decides, Moves}
+use Rattle.page_roff_machine.specs.Stepping.{machine_of, IsMeasured, IsSound, Steps, Leads}
+use Rattle.page_roff_machine.proofs.DoingLemmas.{came_both, said}
+use Rattle.page_roff_machine.proofs.MachineLemmas.{notes_after, line_after, rest_after, outcome_step, outcome_end}
+
+-- what is left of a line, in steps
+abbrev pub work_of : Runner → ℕ
+work_of r = measure HUGE (running r.stack (state_in [] r.doing))
+
+-- ---- steps end
+
+pub falls : (old new : Runner) (given : List Given) → IsMeasured old → IsIn new.stack.top.kind new.doing → IsBodyWithin old.stack.under new.stack
+    → next (language (effects (output_of old.doing))) (running old.stack (state_in [] old.doing)) ≡ Some (running new.stack (state_in given new.doing))
+    → (suc (work_of new) ≤ work_of old) × IsMeasured new
+unfolding measure HasMeasure HasBodyWithin credit
+falls old new given h k b e =
+    let f = next_falls (effects (output_of old.doing)) HUGE (running old.stack (state_in [] old.doing)) (running new.stack (state_in given new.doing)) h.way b e in
+    (f.0, record { setting = k; way = f.1 })
+
+first_measured : (old new : Runner) (given : List Given) → IsFirst (running old.stack (state_in [] old.doing)) → IsIn new.stack.top.kind new.doing
+    → next (language (effects (output_of old.doing))) (running old.stack (state_in [] old.doing)) ≡ Some (running new.stack (state_in given new.doing))
+    → IsMeasured new
+unfolding HasMeasure
+first_measured old new given h k e =
+    record { setting = k; way = first_falls (effects (output_of old.doing)) (running old.stack (state_in [] old.doing)) (running new.stack (state_in given new.doing)) h e }
+
+measured_from : (old new : Runner) (given : List Given) → IsSound old → IsIn new.stack.top.kind new.doing → IsBodyWithin old.stack.under new.stack
+    → next (language (effects (output_of old.doing))) (running old.stack (state_in [] old.doing)) ≡ Some (running new.stack (state_in given new.doing))
+    → IsMeasured new
+measured_from old new given h k b e =
+    elim h.way [
+      | inl first ↦ first_measured old new given first.0 k e
+      | inr measured ↦ (falls old new given (record { setting = h.setting; way = measured }) k b e).1
+    ]
+
+pub sound_of : (r : Runner) → IsMeasured r → IsSound r
+sound_of r h = record { setting = h.setting; way = inr h.way }
+
+if_done : (progress : Progress) (A B : Type 0) → (A → B) → IfDone progress A → IfDone progress B
+if_done More A B f h = tt
+if_done Line A B f h = tt
+if_done Done A B f h = f h
+
+module _ {P S : Type 0} (left : P → S → List Message → Type 0) where
+  -- ---- what comes next is done, and the stack moves on
+
+  pub steps : (old mid new : Runner) (out out_mid out_new : S) (movement : Movement) (progress : Progress)
+      → Decides left old out movement mid out_mid → Moves left mid out_mid movement progress new out_new
+      → Steps left old out progress new out_new
+  steps old mid new out out_mid out_new movement progress a b = record {
+    output = b.output ∙ ap (λ setting. setting.output) a.setting;
+    setting = b.setting;
+    notes = a.notes ++ b.notes;
+    came = came_both left out out_mid out_new a.notes b.notes a.came b.came;
+    step =
+        a.step
+        ∙ ap (λ (output : Output). moved output movement old.stack (map says a.notes) mid.doing) (sym (ap (λ setting. setting.output) a.setting))
+        ∙ ap (λ (s : Stack). moved (output_of mid.doing) movement s (map says a.notes) mid.doing) (sym a.stack)
+        ∙ b.step (map says a.notes)
+        ∙ ap (λ (given : List Given). reached_with progress given new) (said [] a.notes b.notes);
+    body = λ h. b.body (h ∙ ap (λ (s : Stack). suc (length s.under)) (sym a.stack));
+    done =
+        if_done progress ((new ≡ mid) × (b.notes ≡ []) × (movement ≡ moves.Nothing))
+        ((new ≡ old) × (a.notes ++ b.notes ≡ []) × (is_nothing (next_of old.stack) ≡ true))
+        (λ d.
+        let n = rw d.2 at a.nothing in
+        let s = rw d.2 at a.suits in
+        (d.0 ∙ n.0, ap (λ (notes : List Message). notes ++ b.notes) n.1 ∙ d.1, s)) b.done;
+  }
+
+  pub decided : (old mid : Runner) (out out_mid : S) (movement : Movement) → IsIn old.stack.top.kind old.doing → Decides left old out movement mid out_mid
+      → IsIn mid.stack.top.kind mid.doing × Suits movement mid.stack mid.doing
+  decided old mid out out_mid movement k a = (rw (a.stack, a.setting) k, rw a.stack a.suits)
+
+  -- ---- what is to come
+
+  leads_given : (old new : Machine) (out out_new : S) (notes : List Message) → new.actions.setting.output ≡ old.actions.setting.output
+      → Came left out notes out_new → outcome_of old ≡ over (in_front (map says notes)) (outcome_of new)
+      → Leads left old out new out_new
+  leads_given old new out out_new notes eo came e =
+      let given : to_come old ≡ map says notes ++ to_come new = ap (λ (a : At (Budgeted State)). a.state.rest.out) e in
+      let before : notes_before (to_come old) ≡ notes ++ notes_before (to_come new) = ap notes_before given ∙ notes_after notes (to_come new) in
+      record {
+        output = eo;
+        came = λ plan more h. came plan (notes_before (to_come new) ++ more) (rw append_assoc at (rw before at h));
+        line = sym (ap next_line given ∙ line_after notes (to_come new));
+        rest = sym (ap after_line given ∙ rest_after notes (to_come new));
+        ends = sym (ap hushed e);
+      }
+
+  pub leads : (old new : Runner) (out out_new : S) → Steps left old out More new out_new
+      → Leads left (machine_of old) out (machine_of new) out_new
+  unfolding reached_with
+  leads old new out out_new s =
+      leads_given (machine_of old) (machine_of new) out out_new s.notes s.output s.came
+      (outcome_step (machine_of old) (machine_of new) (map says s.notes) s.output s.step)
+
+  pub takes_line : (old new : Runner) (out out_new : S) → Steps left old out Line new out_new
+      → Advances left (machine_of old) out true (machine_of new) out_new
+  unfolding reached_with
+  takes_line old new out out_new s =
+      let line = new.doing.actions.line in
+      let m = machine_of new in
+      let e = outcome_step (machine_of old) m (map says s.notes ++ (takes line ∷ [])) s.output s.step in
+      let given : to_come (machine_of old) ≡ map says s.notes ++ (takes line ∷ to_come m) =
+      ap (λ (a : At (Budgeted State)). a.state.rest.out) e ∙ append_assoc (map says s.notes) (takes line ∷ []) (to_come m) in
+      let before : notes_before (to_come (machine_of old)) ≡ s.notes =
+      ap notes_before given ∙ notes_after s.notes (takes line ∷ to_come m) ∙ append-nil s.notes in
+      record {
+        output = s.output;
+        came = rw before s.came;
+        line = ap next_line given ∙ line_after s.notes (takes line ∷ to_come m);
+        rest = sym (ap after_line given ∙ rest_after s.notes (takes line ∷ to_come m));
+        ends = sym (ap hushed e);
+        idle = tt;
+      }
+
+  pub is_done : (old new : Runner) (out out_new : S) → Steps left old out Done new out_new
+      → Advances left (machine_of old) out false (machine_of new) out_new
+  unfolding reached_with
+  is_done old new out out_new s =
+      let m = machine_of old in
+      let e = outcome_end m s.step in
+      let none : to_come m ≡ [] = ap (λ (a : At (Budgeted State)). a.state.rest.out) e in
+      let same : machine_of new ≡ m = ap machine_of s.done.0 in
+      record {
+        output = s.output;
+        came = rw none (rw s.done.1 at s.came);
+        line = ap next_line none;
+        rest = ap to_come same ∙ none ∙ sym (ap after_line none);
+        ends = ap end_of same;
+        idle = ap (λ (r : Runner). is_nothing (next_of r.stack)) s.done.0 ∙ s.done.2;
+      }
+
+  -- ---- one after another
+
+  pub leads_refl : (m : Machine) (out : S) → Leads left m out m out
+  leads_refl m out = record { output = refl; came = λ plan more h. h; line = refl; rest = refl; ends = refl }
+
+  pub leads_on : (a b d : Machine) (s t u : S) → Leads left a s b t → Leads left b t d u → Leads left a s d u
+  leads_on a b d s t u x y = record {
+    output = y.output ∙ x.output;
+    came = λ plan more h. y.came plan more (x.came plan more h);
+    line = y.line ∙ x.line;
+    rest = y.rest ∙ x.rest;
+    ends = y.ends ∙ x.ends;
+  }
+
+  pub advances_on : (a b d : Machine) (s t u : S) (result : Bool) → Leads left a s b t → Advances left b t result d u → Advances left a s result d u
+  advances_on a b d s t u result x y = record {
+    output = y.output ∙ x.output;
+    came = λ plan more h. y.came plan more (x.came plan more h);
+    line = sym x.line ∙ y.line;
+    rest = y.rest ∙ x.rest;
+    ends = y.ends ∙ x.ends;
+    idle = y.idle;
+  }
+
+  -- ---- from step to step
+
+  pub measured_more : (old new : Runner) (out out_new : S) → IsMeasured old → Steps left old out More new out_new → (suc (work_of new) ≤ work_of old) × IsMeasured new
+  unfolding reached_with
+  measured_more old new out out_new h s = falls old new (map says s.notes) h s.setting s.body s.step
+
+  pub sound_more : (old new : Runner) (out out_new : S) → IsSound old → Steps left old out More new out_new → IsMeasured new
+  unfolding reached_with
+  sound_more old new out out_new h s = measured_from old new (map says s.notes) h s.setting s.body s.step
+
+  pub sound_line : (old new : Runner) (out out_new : S) → IsSound old → Steps left old out Line new out_new → IsSound new
+  unfolding reached_with
+  sound_line old new out out_new h s =
+      sound_of new (measured_from old new (map says s.notes ++ (takes new.doing.actions.line ∷ [])) h s.setting s.body s.step)
+
+  pub sound_done : (old new : Runner) (out out_new : S) → IsSound old → Steps left old out Done new out_new → IsSound new
+  sound_done old new out out_new h s = rw s.done.0 h

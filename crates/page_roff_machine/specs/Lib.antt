@@ -1,0 +1,5 @@
+pub mod Doing
+pub mod Giving
+pub mod Machines
+pub mod Moving
+pub mod Stepping

@@ -1,0 +1,123 @@
+//! The machine that runs the lines of a page (roff(7), "LANGUAGE SYNTAX"): its macros, conditionals and regions.
+
+ghost use Rattle.std.specs.Prelude.{◌≡◌, ◌<◌, ◌≤◌, ◌^◌, true, IfOk, length};
+ghost use Rattle.page_core_base.specs.LinesTaken.{line_seen};
+ghost use Rattle.page_core_base.specs.Texts.{IsLine};
+ghost use Rattle.page_core_limits.specs.declared.TheConstants.{LINE};
+ghost use Rattle.page_roff_values.specs.Latches.{Came};
+ghost use Rattle.page_roff_machine.specs.Machines.{Advances, Begins, IsNew, is_idle, end_notes};
+
+use crate::budgeted_actions::BudgetedActions;
+use crate::runners::Runner;
+use page_core_base::{Output, Taken};
+use page_roff_effects::Actions;
+use page_roff_run::Budget;
+use page_roff_stack::InputStack;
+use page_roff_values::NoteOut;
+use std::alloc::{AllocError, Global};
+use std::marker::Model;
+
+/// The machine that runs a page, a source line at a time. All memory is reserved by [`Machine::new`].
+///
+/// [`Machine::begin`] takes a source line; [`Machine::advance`] is then called until it answers that the source line is done.
+#[derive(Drop)]
+pub struct Machine {
+    runner: Runner,
+}
+
+impl Model for Machine {
+    ghost use Rattle.page_roff_machine.specs.Machines.{Machine};
+
+    ghost Value = { Machine };
+
+    ghost use Rattle.page_roff_machine.specs.Stepping.{machine_of, IsSound};
+
+    ghost view = { λ m. machine_of m.runner };
+
+    ghost invariant = { λ m. IsSound m.runner };
+}
+
+impl Machine {
+    /// Before the first line of a page.
+    pub fn new(alloc: Global, output: Output) -> Result<Machine, AllocError>
+        ensures { IfOk result (IsNew output) }
+    {
+        Ok(Machine {
+            runner: Runner {
+                stack: InputStack::new(alloc)?,
+                doing: BudgetedActions {
+                    actions: Actions::new(alloc, output)?,
+                    budget: Budget::new(),
+                },
+            },
+        })
+    }
+
+    /// Whether the source line is done, or none came.
+    pub fn is_idle(&self) -> bool
+        ensures { result ≡ is_idle self.now }
+    {
+        self.runner.stack.is_idle()
+    }
+
+    /// A source line of this number comes, after the last one is done. It has a budget of its own.
+    pub fn begin(&mut self, line: &[u8], number: u32)
+        requires idle { is_idle self.old ≡ true }
+        requires line { IsLine line.now }
+        requires skips { self.old.stack.top.spot.levels.skipped < 2 ^ 62 }
+        requires count { self.old.budget.taken ≤ 2 ^ 62 }
+        ensures { Begins line.now number self.old self.new }
+    {
+        self.runner.stack.set_line(line);
+        self.runner.doing.actions.leave();
+        self.runner.doing.actions.begin_line(number);
+        self.runner.doing.budget.renew();
+    }
+
+    /// Runs on until a line is taken, or until the source line is done: whether a line was taken.
+    pub fn advance<O: NoteOut>(&mut self, out: &mut O) -> bool
+        ensures { Advances O.left self.old out.old result self.new out.new }
+    {
+        self.runner.run(out)
+    }
+
+    /// Lends the line that was taken last.
+    pub fn line(&self) -> Taken<'_>
+        ensures line { line_seen result ≡ self.now.actions.line }
+        ensures short { length result.text.now ≤ LINE }
+    {
+        self.runner.doing.actions.line()
+    }
+
+    /// The page ends: an open region is reported.
+    pub fn end<O: NoteOut>(&mut self, out: &mut O)
+        ensures came { Came O.left out.old (end_notes self.old) out.new }
+        ensures stack { self.new.stack ≡ self.old.stack }
+        ensures budget { self.new.budget ≡ self.old.budget }
+        ensures output { self.new.actions.setting ≡ self.old.actions.setting }
+    {
+        let region = self.runner.stack.region();
+        self.runner.doing.actions.finish(region, false, out);
+    }
+
+    /// The number of lines that were taken: source lines, and those that were read again.
+    pub fn taken(&self) -> u64
+        ensures { result ≡ self.now.budget.taken }
+    {
+        self.runner.doing.budget.taken()
+    }
+
+    /// How many interpolations were made.
+    pub fn expansions(&self) -> u64
+        ensures { result ≡ self.now.actions.memory.expansions }
+    {
+        self.runner.doing.actions.expansions()
+    }
+
+    /// The number of skipped blocks that are open on the page, or in the macro that runs.
+    pub fn skipped(&self) -> u64
+        ensures { result ≡ self.now.stack.top.spot.levels.skipped }
+    {
+        self.runner.stack.skipped()
+    }
+}
