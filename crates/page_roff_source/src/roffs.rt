@@ -114,7 +114,7 @@ impl Roff {
             Ok(true) => Ok(Some(self.machine.line())),
             Ok(false) => Ok(None),
             Err(fault) => {
-                self.stop();
+                self.is_going = false;
                 Err(fault)
             }
         }
@@ -134,16 +134,8 @@ impl Roff {
         if !self.is_going {
             return Err(Fault::Failed);
         }
-        let result = end(&mut self.machine, notes);
-        self.stop();
-        result
-    }
-
-    // From now on nothing is taken.
-    fn stop(&mut self)
-        ensures { self.new ≡ None }
-    {
         self.is_going = false;
+        end(&mut self.machine, notes)
     }
 
     /// Whether the last source line is done, or none came; after a failure and the end there is none.
