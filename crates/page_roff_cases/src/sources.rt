@@ -53,10 +53,10 @@ impl Page {
 
     // Runs a line, and adds what it gives: its finished lines and messages, each with a line feed.
     fn run_line(&mut self, given: &mut Vec<u8>, text: &[u8]) -> Result<(), Fault> {
-        if !is_line(text) || !self.roff.idle() || self.number == u32::MAX / 2 {
+        if !is_line(text) || !self.roff.idle() || self.roff.counts().source > 1_000_000 {
             return Ok(());
         }
-        self.number += 1;
+        self.number = self.number.saturating_add(1);
         self.roff.source(text, self.number);
         'takes: for _ in 0..MOST {
             let mut notes = TextNotes::new(&mut *given, "roff");
@@ -86,9 +86,9 @@ fn add_line(given: &mut Vec<u8>, taken: Taken<'_>) -> io::Result<()> {
 
 // Shows what was given, a line for each, with how often it came where it came several times in turn.
 fn show_given(rt: &HostRuntime, given: &str) {
-    let mut last = "";
+    let mut last: &[u8] = b"";
     let mut times = 0u32;
-    for line in given.lines() {
+    for line in given.lines().map(|line| line.as_bytes()) {
         if line != last {
             show_times(rt, last, times);
             last = line;
@@ -99,7 +99,8 @@ fn show_given(rt: &HostRuntime, given: &str) {
     show_times(rt, last, times);
 }
 
-fn show_times(rt: &HostRuntime, line: &str, times: u32) {
+fn show_times(rt: &HostRuntime, line: &[u8], times: u32) {
+    let line = shown(line);
     let _ = match times {
         0 => Ok(()),
         1 => print!(rt; "\n{line}"),
@@ -107,10 +108,10 @@ fn show_times(rt: &HostRuntime, line: &str, times: u32) {
     };
 }
 
-/// A text in which each `@N*TEXT@` stands for the text N times.
+/// A text in which each `~N*TEXT~` stands for the text N times.
 pub(crate) fn repeated(alloc: Global, text: &str) -> Result<String, AllocError> {
     let mut whole = String::new(alloc);
-    for (index, part) in text.split('@').enumerate() {
+    for (index, part) in text.split('~').enumerate() {
         let (times, part) = match part.split_once('*') {
             Some((times, repeats)) if index % 2 == 1 => (times.parse().unwrap_or(1u32), repeats),
             _ => (1, part),

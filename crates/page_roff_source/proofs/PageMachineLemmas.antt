@@ -231,10 +231,10 @@ ended_counted old new source i j s b c =
     let o = idle_stands old i in
     let n = idle_stands new j in
     let t : (outcome_of new).state.taken ≡ (outcome_of old).state.taken =
-        ap (λ (a : At (Budgeted State)). a.state.taken) n ∙ ap (λ (x : Budget). x.taken) b ∙ sym (ap (λ (a : At (Budgeted State)). a.state.taken) o) in
+    ap (λ (a : At (Budgeted State)). a.state.taken) n ∙ ap (λ (x : Budget). x.taken) b ∙ sym (ap (λ (a : At (Budgeted State)). a.state.taken) o) in
     let k : (outcome_of new).place.levels.skipped ≡ (outcome_of old).place.levels.skipped =
-        ap (λ (a : At (Budgeted State)). a.place.levels.skipped) n ∙ ap (λ (x : stack.Stack). x.top.spot.levels.skipped) s
-        ∙ sym (ap (λ (a : At (Budgeted State)). a.place.levels.skipped) o) in
+    ap (λ (a : At (Budgeted State)). a.place.levels.skipped) n ∙ ap (λ (x : stack.Stack). x.top.spot.levels.skipped) s
+    ∙ sym (ap (λ (a : At (Budgeted State)). a.place.levels.skipped) o) in
     record { source = c.source; taken = omega (arith, t, c.taken); skipped = omega (arith, k, c.skipped) }
 
 pub end_invariant : (old new : Machine) (source : ℕ) (is_idle : Bool) → IsPageMachine old source is_idle → (edge_of old source is_idle).to_come ≡ None
