@@ -87,7 +87,15 @@ impl Body {
         if let Deed::Leaf(Leaf::Prologue(name, rest)) = event.deed {
             let os = self.os.as_str().as_bytes();
             let has_begun = self.scopes.has_begun();
-            give_title(out, event.place, name, rest, has_begun, os, &mut self.fields);
+            give_title(
+                out,
+                event.place,
+                name,
+                rest,
+                has_begun,
+                os,
+                &mut self.fields,
+            );
             return;
         }
         self.give_begin(out, event);

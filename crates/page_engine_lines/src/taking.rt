@@ -12,8 +12,8 @@ use page_core_limits::LINE;
 use page_engine_body::Body;
 use page_roff_forms::{is_white, kept_len};
 use page_roff_source::Processor;
-use page_sets::Man;
 use page_scopes_words::report;
+use page_sets::Man;
 
 /// Reports white space at a line's end.
 pub(crate) fn report_trailing<O: PieceOut>(out: &mut O, number: u32, text: &[u8])

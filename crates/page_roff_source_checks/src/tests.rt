@@ -52,18 +52,7 @@ impl NoteSink for Notes {
 
 // Eight messages: of a text, a condition, a request, a table, the end of a block, a call, the budget, and an open region.
 const PAGE: [&str; 12] = [
-    "\\*(zz",
-    ".if z x",
-    ".nr a b",
-    ".TS",
-    ".TE",
-    "\\}",
-    ".de m",
-    ".m",
-    "..",
-    ".m",
-    ".so x",
-    ".ig",
+    "\\*(zz", ".if z x", ".nr a b", ".TS", ".TE", "\\}", ".de m", ".m", "..", ".m", ".so x", ".ig",
 ];
 
 const MESSAGES: u64 = 8;
