@@ -1,19 +1,17 @@
 -- A call that a line gives is within its limits: helpers of proofs.
-use Rattle.std.proofs.Common.{◌≡◌, ℕ, ◌≤◌, nat_le, Bool, true, false, ◌==◌, ◌&&◌, List, [], length, Option, Some, None, unwrap_or, refl, sym, ◌∙◌, ap, if◌then◌else◌, arith}
+use Rattle.std.proofs.Common.{◌≡◌, ℕ, ◌≤◌, nat_le, Bool, true, false, ◌==◌, ◌&&◌, List, [], length, Option, Some, None, unwrap_or, refl, if◌then◌else◌, arith}
 use Rattle.std.proofs.lemmas.Bool.Decides.{nat_tests}
 use Rattle.page_core_limits.specs.declared.TheConstants.{BODY}
 use Rattle.page_roff_forms.specs.LineForms.{form_of}
 use Rattle.page_roff_forms.specs.declared.line_forms.LineForm.{LineForm}
 use Rattle.page_roff_forms.specs.declared.line_forms.LineForm.TheVariants.{Comment, BlankLine, Text, Control}
-use Rattle.page_roff_names.specs.Names.{Definitions, body_of}
+use Rattle.page_roff_names.specs.Names.{body_of}
 use Rattle.page_roff_values.specs.declared.call_arguments.TheConstants.{ARGS}
-use Rattle.page_roff_values.specs.Values.{expanded}
 use Rattle.page_roff_effects.specs.declared.commands.Command.{Command}
 use Rattle.page_roff_effects.specs.declared.commands.Command.TheVariants.{Call, Define, Ignore, Refuse, Pass}
 use Rattle.page_roff_effects.specs.declared.commands.ProductKind.{ProductKind}
-use Rattle.page_roff_effects.specs.declared.commands.ProductKind.TheVariants as kinds
 use Rattle.page_roff_effects.specs.Acting.{Acting, kind_of, Lends, IsCallable, IfCalled}
-use Rattle.page_roff_effects.specs.Commands.{within_limit, called_body, command_of}
+use Rattle.page_roff_effects.specs.Commands.{within_limit, command_of}
 use Rattle.page_roff_effects.specs.Leaves.{ControlLine, call_if, does, command_outcome, control_outcome, control_line, form_outcome, leaf_outcome}
 use Rattle.page_roff_effects.specs.States.{Memory, Outcome, Product, no_product, line_product, call_product, Setting, nothing}
 

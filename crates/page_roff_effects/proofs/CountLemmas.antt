@@ -1,5 +1,5 @@
 -- How many interpolations a part makes: helpers of proofs.
-use Rattle.std.proofs.Common.{◌≡◌, ℕ, ◌+◌, ◌-◌, ◌≤◌, ◌^◌, ◌==◌, min, Bool, true, false, ◌&&◌, nat_le, is_some, List, [], ◌∷◌, ◌++◌, length, Option, Some, None, refl, ap, arith, if◌then◌else◌}
+use Rattle.std.proofs.Common.{◌≡◌, ℕ, ◌+◌, ◌-◌, ◌≤◌, ◌==◌, Bool, true, false, is_some, List, length, Option, Some, None, refl, ap, arith, if◌then◌else◌}
 use Rattle.page_core_base.specs.declared.page_settings.Output.{Output}
 use Rattle.page_core_base.specs.declared.places.Place.{Place}
 use Rattle.page_roff_blocks.specs.Levels.{Opened}
@@ -14,9 +14,9 @@ use Rattle.page_roff_heads.specs.declared.conditions.Test.{Test}
 use Rattle.page_roff_heads.specs.declared.conditions.Test.TheVariants.{Always, Unknown, IsDefined, IsRegister, Expression, Texts, Missing}
 use Rattle.page_roff_values.specs.declared.expansions.TheConstants.{EXPAND}
 use Rattle.page_roff_values.specs.Environments.{Surroundings}
-use Rattle.page_roff_values.specs.Values.{Spot, Laid, IsWithin, start, expanded, NEST, value}
+use Rattle.page_roff_values.specs.Values.{Spot, Laid, IsWithin, start, expanded, NEST}
 use Rattle.page_roff_values.proofs.LineLemmas.{value_within}
-use Rattle.page_roff_conditions.specs.Answers.{Answer, condition_answer, test_answer, unless_cut, after, expands, texts_answer, second_answer, bytes_between}
+use Rattle.page_roff_conditions.specs.Answers.{Answer, condition_answer, test_answer, unless_cut, expands, bytes_between}
 use Rattle.page_roff_run.specs.Languages.{Kind}
 use Rattle.page_roff_run.specs.Spending.{after_leaf, Spends}
 use Rattle.page_roff_effects.specs.declared.commands.Command.{Command}
@@ -24,9 +24,9 @@ use Rattle.page_roff_effects.specs.declared.commands.Command.TheVariants as comm
 use Rattle.page_roff_effects.specs.Commands.{command_of, copies}
 use Rattle.page_roff_effects.specs.States.{Memory, State, Outcome, Product, no_product, line_product, call_product, sum_of_counts, Setting, surroundings, nothing}
 use Rattle.page_roff_effects.specs.States as states
-use Rattle.page_roff_effects.specs.Leaves.{call_if, ControlLine, does, command_outcome, control_outcome, text_outcome, form_outcome, leaf_outcome}
-use Rattle.page_roff_effects.specs.RegionLines.{head_outcome, longer, longer_if, with_line, body_outcome, kind_outcome, line_outcome, end_outcome, finish_outcome}
-use Rattle.page_roff_effects.specs.Effects.{effects, setting_of, answer_of, test_outcome, tested_after, done_by, done_after, budget_outcome, block_outcome, end_of_block_outcome, expansions_of}
+use Rattle.page_roff_effects.specs.Leaves.{call_if, ControlLine, does, command_outcome, control_outcome, form_outcome, leaf_outcome}
+use Rattle.page_roff_effects.specs.RegionLines.{head_outcome, longer, longer_if, body_outcome, kind_outcome, line_outcome, end_outcome, finish_outcome}
+use Rattle.page_roff_effects.specs.Effects.{effects, setting_of, answer_of, tested_after, done_by, done_after, budget_outcome, block_outcome, end_of_block_outcome, expansions_of}
 
 -- so many more than before, at most
 abbrev IsFew : ℕ → ℕ → Type 0

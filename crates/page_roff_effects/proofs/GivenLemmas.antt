@@ -1,13 +1,11 @@
 -- What was given before stays in front: helpers of proofs.
-use Rattle.std.proofs.Common.{◌≡◌, ℕ, zero, suc, Bool, true, false, not, ◌&&◌, List, ◌++◌, Option, refl, ap, ◌∙◌, append_assoc}
+use Rattle.std.proofs.Common.{◌≡◌, ℕ, zero, suc, Bool, true, false, not, ◌&&◌, List, refl, ap, ◌∙◌, append_assoc}
 use Rattle.page_core_base.specs.declared.page_settings.Output.{Output}
 use Rattle.page_roff_heads.specs.declared.conditions.Condition.{Condition}
-use Rattle.page_roff_blocks.specs.declared.atoms.Head.{Head}
-use Rattle.page_roff_blocks.specs.declared.regions.RegionHead.{RegionHead}
 use Rattle.page_roff_blocks.specs.Levels.{Opened}
 use Rattle.page_roff_conditions.specs.Answers.{Answer}
 use Rattle.page_roff_run.specs.Languages.{Kind, page, body, Done, gives, calls}
-use Rattle.page_roff_run.specs.Budgets.{Budgeted, Effects, with_rest, charge_by, charge, begin_line, whether_run, meet, test, unopened_by, read_line, end_line, meaning, done_with, language}
+use Rattle.page_roff_run.specs.Budgets.{Budgeted, with_rest, charge_by, charge, begin_line, whether_run, meet, test, unopened_by, read_line, end_line, meaning, done_with, language}
 use Rattle.page_roff_run.specs.Fronts.{over_pair, over_done, IsFrontOfParts, IsFront}
 use Rattle.page_roff_effects.specs.States.{State, Outcome, Product, no_product, line_product, call_product, Given, after}
 use Rattle.page_roff_effects.specs.Leaves.{leaf_outcome}

@@ -1,7 +1,6 @@
 -- What lines do that head nothing: text, requests, calls of macros. Source: roff(7), "LANGUAGE SYNTAX" and "MACRO SYNTAX".
-use Rattle.std.specs.Prelude.{ℕ, ◌+◌, ◌-◌, ◌==◌, ◌&&◌, Bool, true, false, nat_le, List, [], ◌∷◌, ◌++◌, length, drop, codes, if◌then◌else◌, Option, Some, None, unwrap_or}
+use Rattle.std.specs.Prelude.{ℕ, ◌+◌, ◌-◌, ◌==◌, ◌&&◌, Bool, true, false, nat_le, List, [], ◌∷◌, ◌++◌, length, drop, codes, if◌then◌else◌, unwrap_or}
 use Rattle.std.specs.List.{flat_map}
-use Rattle.page_core_limits.specs.Limits.{name_of}
 use Rattle.page_core_base.specs.Messages.{Message, message_about}
 use Rattle.page_core_base.specs.declared.places.Place.{Place}
 use Rattle.page_core_base.specs.declared.lines_taken.Form.TheVariants as forms
@@ -15,7 +14,6 @@ use Rattle.page_roff_values.specs.declared.call_arguments.TheConstants.{ARGS}
 use Rattle.page_roff_values.specs.Values.{Laid, expanded}
 use Rattle.page_roff_definitions.specs.Arguments.{closings_notes}
 use Rattle.page_roff_definitions.specs.Definitions.{Outcome, outcome_of}
-use Rattle.page_roff_definitions.specs.Definitions as defining
 use Rattle.page_roff_effects.specs.declared.commands.Command.{Command}
 use Rattle.page_roff_effects.specs.declared.commands.Command.TheVariants.{Call, Define, Ignore, Refuse, Pass}
 use Rattle.page_roff_effects.specs.Commands.{called_body, command_of, copies}

@@ -1,5 +1,5 @@
 -- What the heads and the lines of regions do. Source: roff(7), "de", "am", "ig"; mandoc(1), "unsupported".
-use Rattle.std.specs.Prelude.{ℕ, ◌+◌, ◌||◌, ◌&&◌, not, Bool, true, false, nat_le, is_some, List, [], ◌∷◌, ◌++◌, length, codes, if◌then◌else◌, Option, Some, None, unwrap_or}
+use Rattle.std.specs.Prelude.{ℕ, ◌||◌, ◌&&◌, not, Bool, true, false, nat_le, is_some, List, [], ◌∷◌, ◌++◌, length, codes, if◌then◌else◌, Option, Some, None, unwrap_or}
 use Rattle.page_core_limits.specs.declared.TheConstants.{BODY}
 use Rattle.page_core_limits.specs.declared.Limit.TheVariants as limits
 use Rattle.page_core_limits.specs.Limits.{name_of}
@@ -14,12 +14,12 @@ use Rattle.page_roff_blocks.specs.declared.regions.RegionKind.TheVariants.{Defin
 use Rattle.page_roff_names.specs.declared.rows.Meaning.TheVariants.{Macro}
 use Rattle.page_roff_names.specs.Entries.{definition}
 use Rattle.page_roff_names.specs.Names.{Definitions, with_text}
-use Rattle.page_roff_values.specs.Values.{Laid, expanded}
+use Rattle.page_roff_values.specs.Values.{expanded}
 use Rattle.page_roff_definitions.specs.Definitions.{settles}
 use Rattle.page_roff_definitions.specs.Definitions as defining
 use Rattle.page_roff_effects.specs.Commands.{called_body}
 use Rattle.page_roff_effects.specs.Leaves.{defines, after_expansion}
-use Rattle.page_roff_effects.specs.States.{Memory, Outcome, nothing, reports, reports_at, note_at, gives_line, after_notes, at, with_body, counted, Setting, surroundings}
+use Rattle.page_roff_effects.specs.States.{Memory, Outcome, nothing, reports, reports_at, note_at, gives_line, at, with_body, Setting, surroundings}
 
 -- the control word of a region
 abbrev pub word_of : RegionKind → List ℕ

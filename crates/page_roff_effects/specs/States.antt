@@ -1,5 +1,5 @@
 -- What the parts of a source change, and what they give. Source: roff(7), "LANGUAGE SYNTAX", "ds", "de".
-use Rattle.std.specs.Prelude.{ℕ, ◌+◌, ◌-◌, ◌^◌, min, Bool, List, [], ◌∷◌, ◌++◌, map, Option, Some, None}
+use Rattle.std.specs.Prelude.{ℕ, ◌+◌, ◌-◌, ◌^◌, min, Bool, List, [], ◌∷◌, ◌++◌, map, Option}
 use Rattle.page_core_base.specs.Messages.{Message, message_about}
 use Rattle.page_core_base.specs.LinesTaken.{Line}
 use Rattle.page_core_base.specs.declared.lines_taken.Form.{Form}
