@@ -6,7 +6,6 @@ use Rattle.page_core_base.specs.Pieces.{Item, shown}
 use Rattle.page_core_base.specs.declared.note_kinds.NoteKind.TheVariants.{NoBody}
 use Rattle.page_core_base.specs.declared.page_settings.Settings.{Settings}
 use Rattle.page_core_base.specs.declared.pieces.Piece.TheVariants as pieces
-use Rattle.page_core_base.specs.declared.places.Place.{Place}
 use Rattle.page_engine_header.specs.Fields.{no_fields}
 use Rattle.page_engine_header.specs.Header.{header_items, footer_row}
 use Rattle.page_engine_header.specs.declared.fields.Fields.{Fields}
