@@ -24,6 +24,8 @@ def pages(folder):
         folders.sort()
         for name in sorted(names):
             path = os.path.join(base, name)
+            if not os.path.isfile(path):
+                continue
             opening = gzip.open if name.endswith(".gz") else open
             with opening(path, "rb") as file:
                 page = file.read()
