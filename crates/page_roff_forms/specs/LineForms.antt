@@ -17,6 +17,10 @@ has_word text = nat_lt (prefix_len is_white text) (length text)
 abbrev pub begins_comment : ℕ → Bool
 begins_comment byte = byte == 34 || byte == 35
 
+-- a byte that is no backslash
+abbrev pub is_plain : ℕ → Bool
+is_plain byte = not (byte == 92)
+
 -- a line up to its comment
 abbrev pub without_comment : List ℕ → List ℕ
 without_comment [] = []
