@@ -14,8 +14,8 @@ pub fn plain_len(text: &[u8]) -> usize
     memchr(b'\\', text).unwrap_or(text.len())
 }
 
-// Whether a backslash and this byte begin a comment.
-fn begins_comment(byte: u8) -> bool
+/// Whether a backslash and this byte begin a comment.
+pub fn begins_comment(byte: u8) -> bool
     ensures { result ≡ begins_comment byte }
 {
     byte == b'"' || byte == b'#'
