@@ -2,7 +2,7 @@
 
 ghost use Rattle.std.specs.Prelude.{◌≡◌, ◌≤◌, ◌<◌, length};
 ghost use Rattle.std.specs.List.{prefix_len};
-ghost use Rattle.page_roff_forms.specs.LineForms.{is_white, is_name, has_word, without_comment, control_line, form_of, form_seen, FitsLine};
+ghost use Rattle.page_roff_forms.specs.LineForms.{is_white, is_name, has_word, begins_control, without_comment, control_line, form_of, form_seen, FitsLine};
 
 use crate::comments::uncommented_len;
 use page_core_limits::LINE;
@@ -57,6 +57,16 @@ pub fn has_word(text: &[u8]) -> bool
     ensures { result ≡ has_word text.now }
 {
     white_len(text) < text.len()
+}
+
+/// Whether a line begins with a control character.
+pub fn begins_control(line: &[u8]) -> bool
+    ensures { result ≡ begins_control line.now }
+{
+    match line {
+        [] => false,
+        [first, ..] => *first == b'.' || *first == b'\'',
+    }
 }
 
 // Whether a byte may stand in a name.
