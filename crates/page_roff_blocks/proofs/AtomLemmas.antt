@@ -1,6 +1,7 @@
 -- The parts of a line: each remainder is shorter than its line. Helpers of proofs.
-use Rattle.std.proofs.Common.{◌≡◌, ℕ, zero, suc, ◌+◌, ◌-◌, ◌<◌, ◌≤◌, List, [], ◌∷◌, length, Option, Some, None, IfSome, refl, ap, arith, length-drop}
-use Rattle.page_roff_forms.specs.LineForms.{form_of}
+use Rattle.std.proofs.Common.{◌≡◌, ℕ, zero, suc, ◌+◌, ◌-◌, ◌<◌, ◌≤◌, ◌==◌, false, List, [], ◌∷◌, length, Option, Some, None, IfSome, refl, ap, inl, inr, arith, length-drop}
+use Rattle.std.proofs.lemmas.Bool.{cases_Bool}
+use Rattle.page_roff_forms.specs.LineForms.{form_of, has_word, begins_comment, without_comment, begins_control, uncommented_form}
 use Rattle.page_roff_forms.specs.declared.line_forms.LineForm.{LineForm}
 use Rattle.page_roff_forms.specs.declared.line_forms.LineForm.TheVariants.{Comment, BlankLine, Text, Control}
 use Rattle.page_roff_heads.specs.Heads.{conditional_of, guarded_of, block_end_of}
@@ -71,6 +72,21 @@ pub column_within : (line name rest : List ℕ) (column rest_column : ℕ) → f
 column_within line name rest column rest_column e =
     let h = rest_within line name rest column rest_column e in
     record { behind = h.0; within = h.1 }
+
+-- ---- a line that begins with no control character heads nothing
+
+uncommented_plain : (raw line : List ℕ) → begins_control line ≡ false → form_part raw (uncommented_form (without_comment line)) ≡ plain_part raw
+uncommented_plain raw [] h = refl
+uncommented_plain raw (x ∷ []) h = rw h refl
+uncommented_plain raw (x ∷ y ∷ ys) h =
+    elim (cases_Bool (x == 92)) [
+      | inl t ↦ elim (cases_Bool (begins_comment y)) [ inl c ↦ rw (t, c) refl | inr c ↦ rw (t, c, h) refl ]
+      | inr t ↦ rw (t, h) refl
+    ]
+
+pub plain_of : (line : List ℕ) → begins_control line ≡ false → part_of line ≡ plain_part line
+unfolding part_of
+plain_of line h = elim (cases_Bool (has_word line)) [ inl w ↦ rw w (uncommented_plain line line h) | inr w ↦ rw w refl ]
 
 -- ---- so many remainders are enough
 

@@ -1,5 +1,5 @@
 -- What is left of a line after a part is the end of that line: helpers of proofs.
-use Rattle.std.proofs.Common.{◌≡◌, ℕ, ◌+◌, ◌-◌, ◌<◌, ◌≤◌, ◌⊎◌, nat_lt, List, [], ◌∷◌, length, take, drop, Option, Some, None, refl, sym, ap, ◌∙◌, arith, inl, inr, length-drop}
+use Rattle.std.proofs.Common.{◌≡◌, ℕ, ◌+◌, ◌-◌, ◌≤◌, nat_lt, List, ◌∷◌, length, take, drop, Option, Some, None, refl, sym, ap, ◌∙◌, arith, inl, inr, length-drop}
 use Rattle.std.proofs.lemmas.Bool.{cases_Bool}
 use Rattle.std.proofs.lemmas.Bool.Decides.{nat_tests}
 use Rattle.std.proofs.lemmas.List.{drop-drop, drop_all, take_all}
@@ -9,11 +9,10 @@ use Rattle.page_roff_forms.specs.declared.line_forms.LineForm.TheVariants.{Comme
 use Rattle.page_roff_heads.specs.Conditions.{condition_len}
 use Rattle.page_roff_heads.specs.Heads.{conditional_of, guarded_of, end_place, block_end_of}
 use Rattle.page_roff_heads.specs.Texts.{blank_len, after_blanks, begins_pair, is_some_line, remainder_of}
-use Rattle.page_roff_heads.specs.declared.heads.BlockEnd.{BlockEnd}
 use Rattle.page_roff_heads.specs.declared.texts.Placed.{Placed}
 use Rattle.page_roff_blocks.specs.declared.parts.Keyword.{Keyword}
 use Rattle.page_roff_blocks.specs.declared.parts.Keyword.TheVariants as keywords
-use Rattle.page_roff_blocks.specs.Atoms.{rest_text, end_part, cut_part, plain_part, raw_rest, keyword_of, keyword_part, form_part, part_of, with_part, atoms, atoms_left}
+use Rattle.page_roff_blocks.specs.Atoms.{rest_text, plain_part, raw_rest, keyword_of, keyword_part, form_part, part_of, with_part, atoms, atoms_left}
 use Rattle.page_roff_blocks.specs.LinePlaces.{IsEndOf, IsRestIn, rest_at, parts_at, place_after}
 use Rattle.page_roff_blocks.proofs.AtomLemmas.{end_rest, atoms_cons}
 

@@ -1,5 +1,5 @@
 -- Places in a raw line, between its parts: how the code goes through a line. Source: roff(7), "if", "ie", "el".
-use Rattle.std.specs.Prelude.{◌≡◌, ℕ, ◌-◌, ◌≤◌, false, List, length, drop, Option, Some, None}
+use Rattle.std.specs.Prelude.{◌≡◌, ℕ, ◌-◌, ◌≤◌, Bool, false, not, ◌&&◌, is_none, List, length, drop, Option, Some, None}
 use Rattle.page_roff_blocks.specs.declared.atoms.Atom.{Atom}
 use Rattle.page_roff_blocks.specs.declared.line_places.LinePlace.{LinePlace}
 use Rattle.page_roff_blocks.specs.Atoms.{atoms_left, ends_first}
@@ -10,6 +10,9 @@ line_start = record { is_end = false; rest = Some 0 }
 
 abbrev pub line_end : LinePlace
 line_end = record { is_end = false; rest = None }
+
+abbrev pub is_at_end : LinePlace → Bool
+is_at_end place = not place.is_end && is_none place.rest
 
 -- what is left of a line from a place on
 abbrev pub rest_at : List ℕ → Option ℕ → Option (List ℕ)

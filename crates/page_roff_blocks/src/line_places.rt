@@ -3,7 +3,7 @@
 ghost use Rattle.std.specs.Prelude.{◌≡◌, ◌≤◌, length, IfSome};
 ghost use Rattle.page_core_limits.specs.declared.TheConstants.{LINE};
 ghost use Rattle.page_roff_blocks.specs.Atoms.{atom_seen, FitsAtom, ReadsNext};
-ghost use Rattle.page_roff_blocks.specs.LinePlaces.{parts_at, line_start, line_end, place_after, IsPlaceIn, IsEndOf};
+ghost use Rattle.page_roff_blocks.specs.LinePlaces.{parts_at, line_start, line_end, is_at_end, place_after, IsPlaceIn, IsEndOf};
 ghost use Rattle.page_roff_blocks.specs.Regions.{text_seen};
 
 use crate::atoms::Atom;
@@ -49,6 +49,13 @@ impl LinePlace {
             is_end: false,
             rest: None,
         }
+    }
+
+    /// Whether no part of a line comes after it.
+    pub fn is_at_end(&self) -> bool
+        ensures { result ≡ is_at_end self.now }
+    {
+        !self.is_end && self.rest.is_none()
     }
 
     /// Reads the next part of a line of at most [`LINE`] bytes, in which the place is, and goes past it.

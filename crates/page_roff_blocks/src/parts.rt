@@ -13,7 +13,7 @@ ghost use Rattle.page_roff_blocks.specs.Regions.{text_seen};
 use crate::atoms::{Atom, Branch, Head};
 use crate::regions::{RegionKind, region_head};
 use page_core_limits::LINE;
-use page_roff_forms::{LineForm, form_of};
+use page_roff_forms::{LineForm, begins_control, form_of};
 use page_roff_heads::{Conditional, Guarded, Placed, block_end, read_conditional, read_guarded};
 use std::alloc::AllocError;
 
@@ -206,6 +206,9 @@ pub(crate) fn part_of(line: &[u8]) -> Part<&[u8]>
     ensures value { part_seen result ≡ part_of line.now }
     ensures fits { FitsPart (part_seen result) }
 {
+    if !begins_control(line) {
+        return plain_part(line);
+    }
     match form_of(line) {
         LineForm::Control {
             name,

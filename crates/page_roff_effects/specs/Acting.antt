@@ -92,6 +92,18 @@ Expands left old new edge laid = (edge ≡ laid.edge) × Came left old laid.note
 abbrev pub line_laid : Bool → List ℕ → Acting → Laid
 line_laid copy text a = expanded (surroundings copy a.setting a.memory) a.memory.number text
 
+-- a line was expanded, or is what it gives and was not copied
+abbrev pub text_given : Bool → List ℕ → Acting → List ℕ
+text_given true text a = text
+text_given false text a = a.finished.text
+
+pub record ExpandsOrKeeps {P S : Type 0} (left : P → S → List Message → Type 0) (old : Acting) (out : S) (text : List ℕ) (kept : Bool)
+    (new : Acting) (out_new : S) : Type 0 where
+  pub setting : new.setting ≡ old.setting
+  pub memory : new.memory ≡ counted (line_laid false text old).edge.count old.memory
+  pub given : text_given kept text new ≡ (line_laid false text old).edge.text
+  pub came : Came left out (line_laid false text old).notes out_new
+
 abbrev pub with_arguments : Option (List (List ℕ)) → Acting → Acting
 with_arguments arguments a = record a { setting = record { output = a.setting.output; arguments = arguments } }
 

@@ -9,7 +9,7 @@ ghost use Rattle.page_roff_values.specs.Arguments.{arguments_in};
 ghost use Rattle.page_roff_values.specs.Environments.{surroundings_of};
 ghost use Rattle.page_roff_values.specs.Values as laying;
 ghost use Rattle.page_roff_effects.specs.Acting as acting;
-ghost use Rattle.page_roff_effects.specs.Acting.{Does, Tests, Expands};
+ghost use Rattle.page_roff_effects.specs.Acting.{Does, Tests, Expands, ExpandsOrKeeps};
 ghost use Rattle.page_roff_effects.specs.Effects.{answer_of, budget_outcome, block_outcome, end_of_block_outcome};
 ghost use Rattle.page_core_base.specs.Messages.{message_about};
 ghost use Rattle.page_roff_values.specs.Latches.{Came};
@@ -165,6 +165,25 @@ impl Actions {
         expand_line(text, self.number, &env, &mut self.expansion, out);
         let count = self.expansion.count();
         self.expansions = self.expansions.saturating_add(count as u64);
+    }
+
+    /// Expands a line. Answers whether the line itself is what it gives: then it is not copied.
+    pub(crate) fn expand_or_keep<O: NoteOut>(&mut self, text: &[u8], out: &mut O) -> bool
+        requires { length text.now ≤ LINE }
+        ensures { ExpandsOrKeeps O.left self.old out.old text.now result self.new out.new }
+    {
+        let env = Environment {
+            copy: false,
+            names: &self.names,
+            arguments: &self.arguments,
+            output: self.output,
+        };
+        if self.expansion.expand(&env, text, self.number, out) {
+            return true;
+        }
+        let count = self.expansion.count();
+        self.expansions = self.expansions.saturating_add(count as u64);
+        false
     }
 
     /// Whether a condition holds.

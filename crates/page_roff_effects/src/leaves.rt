@@ -199,11 +199,15 @@ impl Actions {
 
     // Expands a text line, and takes it.
     fn text<O: NoteOut>(&mut self, text: &[u8], out: &mut O) -> ProductKind
+        requires { length text.now ≤ LINE }
         ensures { Gives O.left self.old out.old (leaves.text_outcome self.old.setting text.now self.old.memory)
             result self.new out.new }
     {
-        self.expand(false, text, out);
-        self.take_finished(Form::Text, 0)
+        if self.expand_or_keep(text, out) {
+            self.take_raw(Form::Text, text)
+        } else {
+            self.take_finished(Form::Text, 0)
+        }
     }
 
     /// Does what a raw line says that heads nothing, where one more macro may run or not. What comes of it is lent from then on.

@@ -1,5 +1,5 @@
 -- The form of a raw line: a comment, a blank line, a text line or a control line. Source: roff(7), "LANGUAGE SYNTAX".
-use Rattle.std.specs.Prelude.{ℕ, ◌+◌, ◌≤◌, Bool, not, ◌==◌, nat_lt, ◌||◌, List, [], ◌∷◌, length, take, drop, if◌then◌else◌}
+use Rattle.std.specs.Prelude.{ℕ, ◌+◌, ◌≤◌, Bool, false, not, ◌==◌, nat_lt, ◌||◌, List, [], ◌∷◌, length, take, drop, if◌then◌else◌}
 use Rattle.std.specs.List.{prefix_len}
 use Rattle.std.specs.Borrow.{Bor}
 use Rattle.page_core_limits.specs.declared.TheConstants.{LINE}
@@ -17,6 +17,10 @@ has_word text = nat_lt (prefix_len is_white text) (length text)
 abbrev pub begins_comment : ℕ → Bool
 begins_comment byte = byte == 34 || byte == 35
 
+-- a byte that is no backslash
+abbrev pub is_plain : ℕ → Bool
+is_plain byte = not (byte == 92)
+
 -- a line up to its comment
 abbrev pub without_comment : List ℕ → List ℕ
 without_comment [] = []
@@ -28,6 +32,10 @@ without_comment (byte ∷ next ∷ bytes) =
 -- the control characters: the full stop (46) and the apostrophe (39)
 abbrev pub is_control : ℕ → Bool
 is_control byte = byte == 46 || byte == 39
+
+abbrev pub begins_control : List ℕ → Bool
+begins_control [] = false
+begins_control (byte ∷ bytes) = is_control byte
 
 -- a name ends before a blank, a tab or a backslash
 abbrev pub is_name : ℕ → Bool

@@ -2,8 +2,9 @@
 
 ghost use Rattle.std.specs.Prelude.{◌≡◌, ◌≤◌, ◌<◌, length};
 ghost use Rattle.std.specs.List.{prefix_len};
-ghost use Rattle.page_roff_forms.specs.LineForms.{is_white, is_name, has_word, without_comment, control_line, form_of, form_seen, FitsLine};
+ghost use Rattle.page_roff_forms.specs.LineForms.{is_white, is_name, has_word, begins_control, without_comment, control_line, form_of, form_seen, FitsLine};
 
+use crate::comments::uncommented_len;
 use page_core_limits::LINE;
 use std::alloc::AllocError;
 
@@ -58,6 +59,16 @@ pub fn has_word(text: &[u8]) -> bool
     white_len(text) < text.len()
 }
 
+/// Whether a line begins with a control character.
+pub fn begins_control(line: &[u8]) -> bool
+    ensures { result ≡ begins_control line.now }
+{
+    match line {
+        [] => false,
+        [first, ..] => *first == b'.' || *first == b'\'',
+    }
+}
+
 // Whether a byte may stand in a name.
 fn is_name(byte: u8) -> bool
     ensures { result ≡ is_name byte }
@@ -78,17 +89,7 @@ fn without_comment(line: &[u8]) -> &[u8]
     ensures value { result.now ≡ without_comment line.now }
     ensures within { length result.now ≤ length line.now }
 {
-    let mut len = 0;
-    while len + 1 < line.len() {
-        if line[len] != b'\\' {
-            len += 1;
-        } else if line[len + 1] == b'"' || line[len + 1] == b'#' {
-            return &line[..len];
-        } else {
-            len += 2;
-        }
-    }
-    line
+    &line[..uncommented_len(line)]
 }
 
 // A control line, of which the bytes after the control character are given.

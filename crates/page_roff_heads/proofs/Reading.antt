@@ -1,9 +1,12 @@
 -- Texts that are read pairwise: helpers of proofs.
-use Rattle.std.proofs.Common.{◌≡◌, ◌≢◌, ℕ, zero, suc, ◌+◌, ◌<◌, ◌≤◌, ◌==◌, nat_eq, nat_lt, true, false, List, [], ◌∷◌, length, take, drop, get_or, refl, sym, ap, ◌∙◌, arith, length-drop}
+use Rattle.std.proofs.Common.{◌≡◌, ◌≢◌, ℕ, zero, suc, ◌+◌, ◌<◌, ◌≤◌, ◌==◌, nat_eq, nat_lt, Bool, true, false, not, List, [], ◌∷◌, length, take, drop, get_or, refl, sym, ap, ◌∙◌, inl, inr, arith, length-drop}
 use Rattle.std.specs.List.{starts_with}
 use Rattle.std.proofs.lemmas.Bool.Decides.{nat_tests}
-use Rattle.std.proofs.lemmas.List.{drop_more, drop_all, drop-drop}
-use Rattle.page_roff_forms.specs.LineForms.{is_white}
+use Rattle.std.proofs.lemmas.List.{drop_more, drop_all, drop-drop, get_or-drop}
+use Rattle.std.proofs.lemmas.List.Sums.{prefix_len_stops, prefix_len-le-length}
+use Rattle.std.proofs.lemmas.Bool.{cases_Bool}
+use Rattle.std.specs.List.{prefix_len}
+use Rattle.page_roff_forms.specs.LineForms.{is_white, is_plain, begins_comment}
 use Rattle.page_roff_heads.specs.Delimiters.{delimiter_len, place_of, quoted_len, argument_len, expression_rest, expression_len}
 use Rattle.page_roff_heads.specs.Conditions.{longer, texts_after, texts_at}
 use Rattle.page_roff_heads.specs.Heads.{end_place}
@@ -121,23 +124,85 @@ expression_end text i h s = rw (drop_more text i 0 h) (expression_none (get_or t
 
 -- ---- the ends of blocks
 
-end_plain : (x : ℕ) (xs : List ℕ) → (x == 92) ≡ false → end_place (x ∷ xs) ≡ 1 + end_place xs
-end_plain x [] t = refl
-end_plain x (y ∷ ys) t = rw t refl
+passed_none : (line : List ℕ) (n : ℕ) → n ≡ 0 → end_place line ≡ n + end_place (drop n line)
+passed_none line n e = rw e (omega arith)
 
-pub end_byte : (line : List ℕ) (i : ℕ) → i < length line → get_or line i 0 ≢ 92 → end_place (drop i line) ≡ 1 + end_place (drop (i + 1) line)
-end_byte line i h e =
-    let a = drop_more line i 0 h in
-    let t : (get_or line i 0 == 92) ≡ false = grind (arith, nat_tests) in
-    rw a (end_plain (get_or line i 0) (drop (i + 1) line) t)
+passed_one : (x y : ℕ) (ys : List ℕ) (n m : ℕ) → n ≡ 1 + m → (x == 92) ≡ false → end_place (y ∷ ys) ≡ m + end_place (drop m (y ∷ ys))
+    → end_place (x ∷ y ∷ ys) ≡ n + end_place (drop n (x ∷ y ∷ ys))
+passed_one x y ys n m e t p = let s : n ≡ suc m = omega arith in rw (s, t) (omega (arith, p))
+
+-- the bytes of a line that are no backslash stand before its first pair
+plain_passed : (line : List ℕ) → end_place line ≡ prefix_len is_plain line + end_place (drop (prefix_len is_plain line) line)
+plain_passed [] = refl
+plain_passed (x ∷ []) = elim (cases_Bool (x == 92)) [ inl t ↦ rw t refl | inr t ↦ rw t refl ]
+plain_passed (x ∷ y ∷ ys) =
+    elim (cases_Bool (x == 92)) [
+      | inl t ↦ passed_none (x ∷ y ∷ ys) (prefix_len is_plain (x ∷ y ∷ ys)) (rw t refl)
+      | inr t ↦ passed_one x y ys (prefix_len is_plain (x ∷ y ∷ ys)) (prefix_len is_plain (y ∷ ys)) (rw t refl) t (plain_passed (y ∷ ys))
+    ]
 
 short_end : (line : List ℕ) → length line ≤ 1 → end_place line ≡ length line
 short_end [] h = refl
 short_end (x ∷ []) h = refl
 short_end (x ∷ y ∷ ys) h = absurd (omega arith)
 
-pub end_none : (line : List ℕ) (i : ℕ) → i ≤ length line → length line ≤ i + 1 → i + end_place (drop i line) ≡ length line
-end_none line i h k =
-    let l = length-drop i line in
+-- a line as far as it was read: up to a backslash outside its comment, or to its end
+pub record IsReadTo (line : List ℕ) (i : ℕ) : Type 0 where
+  pub within : i ≤ length line
+  pub place : end_place line ≡ i + end_place (drop i line)
+  pub stops : i < length line → (get_or line i 0 == 92) ≡ true
+
+plain_false : (b : Bool) → not b ≡ false → b ≡ true
+plain_false true h = refl
+plain_false false h = sym h
+
+-- from a place on, up to the next backslash
+pub read_on : (line : List ℕ) (i n : ℕ) → i ≤ length line → end_place line ≡ i + end_place (drop i line) → n ≡ prefix_len is_plain (drop i line) → IsReadTo line (i + n)
+read_on line i n w e f =
+    let d = length-drop i line in
+    let l = prefix_len-le-length is_plain (drop i line) in
+    let p = plain_passed (drop i line) in
+    let q : drop n (drop i line) ≡ drop (i + n) line = drop-drop n i line in
+    let r : end_place (drop i line) ≡ n + end_place (drop (i + n) line) = rw (← q, f) p in
+    record {
+      within = omega arith;
+      place = omega arith;
+      stops = λ h.
+          let s = prefix_len_stops is_plain (drop i line) 0 (omega arith) in
+          plain_false (get_or line (i + n) 0 == 92) (rw (get_or-drop, ← f) at s);
+    }
+
+pub read_first : (line : List ℕ) (n : ℕ) → n ≡ prefix_len is_plain line → IsReadTo line n
+read_first line n f = let e : 0 + n ≡ n = omega arith in rw e at (read_on line 0 n (omega arith) (omega arith) f)
+
+-- the pair at a backslash
+pub read_end : (line : List ℕ) (i : ℕ) → IsReadTo line i → i + 1 < length line → get_or line (i + 1) 0 ≡ 125 → end_place line ≡ i
+read_end line i r h c =
+    let a = drop_more line i 0 (omega arith) in
+    let b = drop_more line (i + 1) 0 h in
+    let e : end_place (drop i line) ≡ 0 = rw (a, b, r.stops (omega arith), c) refl in
+    omega (arith, r.place)
+
+pub read_comment : (line : List ℕ) (i : ℕ) → IsReadTo line i → i + 1 < length line → (get_or line (i + 1) 0 == 125) ≡ false
+    → begins_comment (get_or line (i + 1) 0) ≡ true → end_place line ≡ length line
+read_comment line i r h n c =
+    let a = drop_more line i 0 (omega arith) in
+    let b = drop_more line (i + 1) 0 h in
+    let e : end_place (drop i line) ≡ 2 + length (drop (i + 1 + 1) line) = rw (a, b, r.stops (omega arith), n, c) refl in
+    let d = length-drop (i + 1 + 1) line in
+    omega (arith, r.place)
+
+pub read_pair : (line : List ℕ) (i n : ℕ) → IsReadTo line i → i + 1 < length line → (get_or line (i + 1) 0 == 125) ≡ false
+    → begins_comment (get_or line (i + 1) 0) ≡ false → n ≡ prefix_len is_plain (drop (i + 2) line) → IsReadTo line (i + 2 + n)
+read_pair line i n r h m c f =
+    let a = drop_more line i 0 (omega arith) in
+    let b = drop_more line (i + 1) 0 h in
+    let k : i + 1 + 1 ≡ i + 2 = omega arith in
+    let e : end_place (drop i line) ≡ 2 + end_place (drop (i + 2) line) = rw (a, b, k, r.stops (omega arith), m, c) (omega arith) in
+    read_on line (i + 2) n (omega arith) (omega (arith, r.place)) f
+
+pub read_all : (line : List ℕ) (i : ℕ) → IsReadTo line i → length line ≤ i + 1 → end_place line ≡ length line
+read_all line i r h =
+    let d = length-drop i line in
     let e = short_end (drop i line) (omega arith) in
-    omega arith
+    omega (arith, r.place, r.within)

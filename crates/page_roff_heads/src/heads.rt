@@ -3,10 +3,10 @@
 ghost use Rattle.std.specs.Prelude.{◌≡◌, ◌≤◌, ◌<◌, ◌+◌, length, IfSome};
 ghost use Rattle.page_roff_heads.specs.Heads.{guarded_of, guarded_seen, conditional_at, conditional_of, conditional_seen, end_place, block_end_of, block_end_seen, FitsGuarded, FitsConditional, FitsBlockEnd};
 
-use crate::comments::uncommented_len;
 use crate::conditions::{Condition, read_condition};
 use crate::texts::{Placed, begins_pair, blank_len, remainder};
 use page_core_limits::LINE;
+use page_roff_forms::{begins_comment, plain_len, uncommented_len};
 use std::alloc::AllocError;
 
 /// What the head of a conditional guards; `W` is a text.
@@ -123,17 +123,16 @@ fn end_place(line: &[u8]) -> usize
     ensures fits { result < length line.now → result + 2 ≤ length line.now }
     ensures within { result ≤ length line.now }
 {
-    let mut place = 0;
+    let mut place = plain_len(line);
     while place + 1 < line.len() {
-        if line[place] != b'\\' {
-            place += 1;
-        } else {
-            match line[place + 1] {
-                b'}' => return place,
-                b'"' | b'#' => return line.len(),
-                _ => place += 2,
-            }
+        if line[place + 1] == b'}' {
+            return place;
         }
+        if begins_comment(line[place + 1]) {
+            return line.len();
+        }
+        place += 2;
+        place += plain_len(&line[place..]);
     }
     line.len()
 }

@@ -2,7 +2,6 @@
 //! (roff(7), "Conditional expressions"). All of it is read from the raw line alone.
 #![tactic(auto)]
 
-mod comments;
 mod conditions;
 mod delimiters;
 mod expressions;

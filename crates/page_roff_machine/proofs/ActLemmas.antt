@@ -135,6 +135,21 @@ step_next output s x state e =
     next_steps l s state
     ∙ ap (λ x. step_in l (meaning_at l (depth s.under) s.top.kind) x s.top.parts s.top.lines s.top s.under state) (sym e)
 
+-- the line that begins next
+abbrev pub the_line : Next (List ℕ) Opened → List ℕ
+the_line (Part part) = []
+the_line (Line line) = line
+the_line (RegionLine o line is_end) = []
+the_line (SourceEnd region) = []
+the_line Nothing = []
+
+pub is_the_line : (x : Next (List ℕ) Opened) → is_line x ≡ true → Line (the_line x) ≡ x
+is_the_line (Part part) e = absurd (cc)
+is_the_line (Line line) e = refl
+is_the_line (RegionLine o line is_end) e = absurd (cc)
+is_the_line (SourceEnd region) e = absurd (cc)
+is_the_line Nothing e = absurd (cc)
+
 pub line_there : (s : Stack) (line : List ℕ) → Line line ≡ next_of s → 0 < length s.top.lines
 line_there s line e = stack_line_there s.top.region s.top.parts s.top.lines s.under (ap is_line (sym e))
 

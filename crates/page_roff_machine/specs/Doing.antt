@@ -41,11 +41,14 @@ HasRoom true b = b.taken ≤ 2 ^ 62
 HasRoom false b = Unit {0}
 
 -- A call did what the definitions do to the state, whatever was given before: its messages came after it.
-pub record Makes {P S A : Type 0} (left : P → S → List Message → Type 0) (old : BudgetedActions) (out : S) (suits : Kind → Type 0) (does : Kind → Budgeted State → A) (new : BudgetedActions) (to : BudgetedActions → List Given → A) (out_new : S) : Type 0 where
+pub record Makes {P S A : Type 0} (left : P → S → List Message → Type 0) (old : BudgetedActions) (out : S)
+    (suits : Kind → Type 0) (does : Kind → Budgeted State → A) (new : BudgetedActions)
+    (to : BudgetedActions → List Given → A) (out_new : S) : Type 0 where
   pub setting : new.actions.setting ≡ old.actions.setting
   pub notes : List Message
   pub came : Came left out notes out_new
-  pub state : (kind : Kind) → suits kind → (given : List Given) → does kind (state_in given old) ≡ to new (given ++ map says notes)
+  pub state : (kind : Kind) → suits kind → (given : List Given) → does kind (state_in given old)
+      ≡ to new (given ++ map says notes)
 
 -- this is the state then, with an answer or not
 abbrev pub state_after : BudgetedActions → List Given → Budgeted State
@@ -55,12 +58,14 @@ abbrev pub answer_with : {A : Type 0} → A → BudgetedActions → List Given �
 answer_with result b given = (result, state_in given b)
 
 -- where the arguments are those of the source that runs
-abbrev pub Does : {P S : Type 0} → (P → S → List Message → Type 0) → BudgetedActions → S → (Kind → Budgeted State → Budgeted State) → BudgetedActions → S → Type 0
+abbrev pub Does : {P S : Type 0} → (P → S → List Message → Type 0) → BudgetedActions → S
+    → (Kind → Budgeted State → Budgeted State) → BudgetedActions → S → Type 0
 Does left old out does new out_new =
     Makes left old out (λ kind. IsIn kind old) does new state_after out_new
 
 -- the same with an answer
-abbrev pub Answers : {P S A : Type 0} → (P → S → List Message → Type 0) → BudgetedActions → S → (Kind → Budgeted State → A × Budgeted State) → A → BudgetedActions → S → Type 0
+abbrev pub Answers : {P S A : Type 0} → (P → S → List Message → Type 0) → BudgetedActions → S
+    → (Kind → Budgeted State → A × Budgeted State) → A → BudgetedActions → S → Type 0
 Answers left old out does result new out_new =
     Makes left old out (λ kind. IsIn kind old) does new (answer_with result) out_new
 
@@ -89,14 +94,16 @@ answer_if m branch bit false s = (None, s)
 abbrev pub answer_after : {S : Type 0} → Meaning S → Branch (List ℕ) → Bool → Bool × S → Option Bool × S
 answer_after m branch bit q = answer_if m branch bit q.0 q.1
 
-abbrev pub answer_in : BudgetedActions → Branch (List ℕ) → Bool → Reached → Kind → Budgeted State → Option Bool × Budgeted State
+abbrev pub answer_in : BudgetedActions → Branch (List ℕ) → Bool → Reached → Kind → Budgeted State
+    → Option Bool × Budgeted State
 answer_in b branch bit reached kind s = answer_after (parts_of b kind) branch bit (met_in b reached kind s)
 
 -- the head of a region
 abbrev pub region_after : {S : Type 0} → Meaning S → RegionHead (List ℕ) → Bool × S → Bool × S
 region_after m head q = (q.0, m.opens_region head q.0 q.1)
 
-abbrev pub region_in : BudgetedActions → RegionHead (List ℕ) → Reached → Kind → Budgeted State → Bool × Budgeted State
+abbrev pub region_in : BudgetedActions → RegionHead (List ℕ) → Reached → Kind → Budgeted State
+    → Bool × Budgeted State
 region_in b head reached kind s = region_after (parts_of b kind) head (met_in b reached kind s)
 
 -- a line that heads nothing, where it is run
@@ -123,7 +130,8 @@ line_after product b given = state_in (given ++ line_of product b.actions) b
 abbrev pub done_as : ProductKind → BudgetedActions → List Given → Done (Budgeted State)
 done_as kinds.Nothing b given = gives (state_in given b)
 done_as kinds.Line b given = gives (state_in (given ++ (takes b.actions.line ∷ [])) b)
-done_as kinds.Call b given = calls (lines_in b.actions.call.body) (arguments_in b.actions.call.packed) (state_in given b)
+done_as kinds.Call b given =
+    calls (lines_in b.actions.call.body) (arguments_in b.actions.call.packed) (state_in given b)
 
 -- a line of a region; and its end line, whose text decides nothing more
 abbrev pub read_in : BudgetedActions → Opened → List ℕ → Kind → Budgeted State → Budgeted State

@@ -106,7 +106,8 @@ IsIdleUnless false m = is_idle m ≡ true
 
 -- It ran on: the messages before the next line came, and that line was taken, if there is one; what comes after it is still to come, and
 -- leads to the same end. Where there is none, the source line is done.
-pub record Advances {P S : Type 0} (left : P → S → List Message → Type 0) (old : Machine) (out : S) (result : Bool) (new : Machine) (out_new : S) : Type 0 where
+pub record Advances {P S : Type 0} (left : P → S → List Message → Type 0) (old : Machine) (out : S)
+    (result : Bool) (new : Machine) (out_new : S) : Type 0 where
   pub output : output_of new ≡ output_of old
   pub came : Came left out (notes_before (to_come old)) out_new
   pub line : next_line (to_come old) ≡ taken_if result new.actions.line

@@ -46,7 +46,8 @@ refused output (Some value) column spot s =
 
 -- the end of a block where none is open
 abbrev pub unopened : Output → Stack → Budgeted State → Budgeted State
-unopened output s state = unopened_if (meaning (effects output) s.top.kind) (has_block s.top.spot.levels) state
+unopened output s state =
+    unopened_if (meaning (effects output) s.top.kind) (has_block s.top.spot.levels) state
 
 -- the innermost source ends
 abbrev pub ended : List Frame → Budgeted State → Option (Running (Budgeted State))
@@ -54,7 +55,8 @@ ended [] state = None
 ended (f ∷ fs) state = Some (record { top = f; under = fs; state = state })
 
 -- the stack moves on, and what was done is the state
-unfoldable pub moved : Output → Movement → Stack → List Given → BudgetedActions → Option (Running (Budgeted State))
+unfoldable pub moved : Output → Movement → Stack → List Given → BudgetedActions
+    → Option (Running (Budgeted State))
 moved output (moves.Leaf product) s given b =
     Some (leaf_next (language (effects output)) (is_some (depth s.under)) (past (after_part s.top.spot.levels) s.top) s.under (done_as product b given))
 moved output (moves.Guard value) s given b =
@@ -134,7 +136,8 @@ IfNothing moves.SourceEnd P = Unit {0}
 IfNothing moves.Nothing P = P
 
 -- What comes next was done, as far as the stack stays: with this movement the step of the definition is made.
-pub record Decides {P S : Type 0} (left : P → S → List Message → Type 0) (old : Runner) (out : S) (result : Movement) (new : Runner) (out_new : S) : Type 0 where
+pub record Decides {P S : Type 0} (left : P → S → List Message → Type 0) (old : Runner) (out : S)
+    (result : Movement) (new : Runner) (out_new : S) : Type 0 where
   pub stack : new.stack ≡ old.stack
   pub setting : new.doing.actions.setting ≡ old.doing.actions.setting
   pub notes : List Message
@@ -149,7 +152,8 @@ pub record Decides {P S : Type 0} (left : P → S → List Message → Type 0) (
 -- what was reached: the line that was taken last is given too
 unfoldable pub reached_with : Progress → List Given → Runner → Option (Running (Budgeted State))
 reached_with More given r = Some (running r.stack (state_in given r.doing))
-reached_with Line given r = Some (running r.stack (state_in (given ++ (takes r.doing.actions.line ∷ [])) r.doing))
+reached_with Line given r =
+    Some (running r.stack (state_in (given ++ (takes r.doing.actions.line ∷ [])) r.doing))
 reached_with Done given r = None
 
 -- bodies have less than this weight: a byte of a line counts twice, and its end three times
@@ -170,16 +174,19 @@ IfDone Done P = P
 pub record Shifts (old : Runner) (movement : Movement) (result : Progress) (new : Runner) : Type 0 where
   pub output : output_of new.doing ≡ output_of old.doing
   pub setting : IsIn new.stack.top.kind new.doing
-  pub step : (given : List Given) → moved (output_of old.doing) movement old.stack given old.doing ≡ reached_with result given new
+  pub step : (given : List Given) → moved (output_of old.doing) movement old.stack given old.doing
+      ≡ reached_with result given new
   pub body : IsBodyWithin old.stack.under new.stack
 
 -- The stack moved on: messages came, and perhaps a line was taken.
-pub record Moves {P S : Type 0} (left : P → S → List Message → Type 0) (old : Runner) (out : S) (movement : Movement) (result : Progress) (new : Runner) (out_new : S) : Type 0 where
+pub record Moves {P S : Type 0} (left : P → S → List Message → Type 0) (old : Runner) (out : S)
+    (movement : Movement) (result : Progress) (new : Runner) (out_new : S) : Type 0 where
   pub output : output_of new.doing ≡ output_of old.doing
   pub setting : IsIn new.stack.top.kind new.doing
   pub notes : List Message
   pub came : Came left out notes out_new
   pub step : (given : List Given)
-      → moved (output_of old.doing) movement old.stack given old.doing ≡ reached_with result (given ++ map says notes) new
+      → moved (output_of old.doing) movement old.stack given old.doing
+      ≡ reached_with result (given ++ map says notes) new
   pub body : IsBodyWithin old.stack.under new.stack
   pub done : IfDone result ((new ≡ old) × (notes ≡ []) × (movement ≡ moves.Nothing))

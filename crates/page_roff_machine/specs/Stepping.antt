@@ -35,7 +35,8 @@ pub record IsSound (r : Runner) : Type 0 where
   pub way : IsUnderWay r
 
 -- One step was made: messages came, and perhaps a line was taken.
-pub record Steps {P S : Type 0} (left : P → S → List Message → Type 0) (old : Runner) (out : S) (result : Progress) (new : Runner) (out_new : S) : Type 0 where
+pub record Steps {P S : Type 0} (left : P → S → List Message → Type 0) (old : Runner) (out : S)
+    (result : Progress) (new : Runner) (out_new : S) : Type 0 where
   pub output : output_of new.doing ≡ output_of old.doing
   pub setting : IsIn new.stack.top.kind new.doing
   pub notes : List Message
@@ -46,9 +47,11 @@ pub record Steps {P S : Type 0} (left : P → S → List Message → Type 0) (ol
   pub done : IfDone result ((new ≡ old) × (notes ≡ []) × (is_nothing (next_of old.stack) ≡ true))
 
 -- Steps were made without a line: what is to come is the same but for the messages that came.
-pub record Leads {P S : Type 0} (left : P → S → List Message → Type 0) (old : Machine) (out : S) (new : Machine) (out_new : S) : Type 0 where
+pub record Leads {P S : Type 0} (left : P → S → List Message → Type 0) (old : Machine) (out : S)
+    (new : Machine) (out_new : S) : Type 0 where
   pub output : new.actions.setting.output ≡ old.actions.setting.output
-  pub came : (plan : P) (more : List Message) → left plan out (notes_before (to_come old) ++ more) → left plan out_new (notes_before (to_come new) ++ more)
+  pub came : (plan : P) (more : List Message) → left plan out (notes_before (to_come old) ++ more)
+      → left plan out_new (notes_before (to_come new) ++ more)
   pub line : next_line (to_come new) ≡ next_line (to_come old)
   pub rest : after_line (to_come new) ≡ after_line (to_come old)
   pub ends : end_of new ≡ end_of old

@@ -42,6 +42,10 @@ impl Runner {
         let bit = self.stack.bit();
         let may_call = self.stack.may_call();
         let is_page = self.stack.is_page();
+        if self.stack.begins_line() {
+            self.doing.begin_line(is_page, out);
+            return Movement::Line;
+        }
         match self.stack.peek() {
             Next::Part(Atom::Leaf(text)) => {
                 Movement::Leaf(self.doing.leaf(reached, may_call, text, out))
@@ -57,10 +61,8 @@ impl Runner {
             Next::Part(Atom::Region(head)) => {
                 Movement::Region(self.doing.open_region(reached, &head, out))
             }
-            Next::Line(_) => {
-                self.doing.begin_line(is_page, out);
-                Movement::Line
-            }
+            // That it comes was asked above, without its text.
+            Next::Line(_) => unreachable!(),
             Next::RegionLine {
                 region,
                 line: _,

@@ -22,6 +22,7 @@ use Rattle.page_roff_effects.specs.States.{Given, State, Memory, Setting}
 use Rattle.page_roff_machine.specs.Giving.{next_line, after_line}
 use Rattle.page_roff_machine.specs.Machines.{Machine, output_of, language_of, running_of, outcome_of, to_come, end_of, place_of, stands, numbered, begun_at, Begins, Advances, taken_if, IsIdleUnless, IsNew}
 use Rattle.page_roff_machine.specs.Machines as machine
+use Rattle.page_roff_machine.proofs.MachineLemmas.{idle_stands, new_idle}
 use Rattle.page_roff_source.specs.declared.counts.Counts.{Counts}
 use Rattle.page_roff_source.specs.Edges.{Edge, SourceLine, first_edge, before_line, run_line, line_begun, line_taken, left_if, counts_of, end_notes}
 use Rattle.page_roff_source.specs.PageMachines.{edge_of, Running, IsCounted, IsPageMachine}
@@ -64,32 +65,7 @@ begun_from a number = record {
   };
 }
 
--- ---- where nothing is left to do
-
-none_next : {S : Type 0} (l : Language S) (m : Meaning S) (region : Option Opened) (parts : List (Atom (List ℕ))) (lines : List (List ℕ)) (f : Frame) (under : List Frame) (s : S)
-    → is_nothing (stack.next_in region parts lines under) ≡ true → run.next_in l m region parts lines f under s ≡ None
-unfolding run.next_in source_next
-none_next l m None (part ∷ more) lines f under s h = absurd (cc)
-none_next l m None [] (line ∷ more) f under s h = absurd (cc)
-none_next l m None [] [] f [] s h = refl
-none_next l m None [] [] f (g ∷ gs) s h = absurd (cc)
-none_next l m (Some o) parts (line ∷ more) f under s h = absurd (cc)
-none_next l m (Some o) parts [] f [] s h = refl
-none_next l m (Some o) parts [] f (g ∷ gs) s h = absurd (cc)
-
-pub idle_stands : (m : Machine) → machine.is_idle m ≡ true → outcome_of m ≡ stands m
-unfolding outcome_of next stands_at
-idle_stands m h =
-    end_law (language_of m) (running_of [] m)
-    (none_next (language_of m) _ m.stack.top.region m.stack.top.parts m.stack.top.lines m.stack.top m.stack.under _ h)
-
 -- ---- before the first line
-
-new_stack_idle : (m : Machine) → m.stack ≡ stack.first_stack → machine.is_idle m ≡ true
-new_stack_idle m e = ap (λ (s : stack.Stack). is_nothing (stack.next_of s)) e
-
-pub new_idle : (output : Output) (m : Machine) → IsNew output m → machine.is_idle m ≡ true
-new_idle output m n = new_stack_idle m n.stack
 
 new_edge : (output : Output) (m : Machine) → IsNew output m → outcome_of m ≡ stands m → edge_of m 0 true ≡ first_edge output
 unfolding at_line first_place

@@ -38,7 +38,8 @@ pub record Running : Type 0 where
   pub line : Line
 
 -- It ran on: the messages before the next line came, and that is the line from now on, if there is one.
-pub record RunsOn {P S : Type 0} (left : P → S → List Message → Type 0) (old : Running) (out : S) (result : Bool) (new : Running) (out_new : S) : Type 0 where
+pub record RunsOn {P S : Type 0} (left : P → S → List Message → Type 0) (old : Running) (out : S)
+    (result : Bool) (new : Running) (out_new : S) : Type 0 where
   pub came : Came left out (notes_before (given_of old.edge)) out_new
   pub line : next_line (given_of old.edge) ≡ taken_if result new.line
   pub edge : new.edge ≡ line_taken old.edge

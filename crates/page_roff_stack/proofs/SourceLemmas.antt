@@ -1,22 +1,24 @@
 -- A source as its parts and lines are passed: helpers of proofs.
-use Rattle.std.proofs.Common.{◌≡◌, ℕ, ◌+◌, ◌<◌, ◌≤◌, Bool, List, [], ◌∷◌, length, take, drop, Option, Some, None, refl, sym, ap, ◌∙◌, arith, length-drop}
+use Rattle.std.proofs.Common.{◌≡◌, ℕ, ◌+◌, ◌-◌, ◌<◌, ◌≤◌, Bool, true, false, not, ◌&&◌, ◌==◌, nat_lt, is_none, is_some, List, [], ◌∷◌, length, take, drop, Option, Some, None, refl, sym, ap, ◌∙◌, arith, length-drop}
+use Rattle.std.proofs.lemmas.Bool.Decides.{nat_tests}
 use Rattle.std.specs.Borrow.{Bor}
 use Rattle.page_core_limits.specs.declared.TheConstants.{LINE}
 use Rattle.page_roff_blocks.specs.declared.atoms.Atom.{Atom}
 use Rattle.page_roff_blocks.specs.declared.line_places.LinePlace.{LinePlace}
 use Rattle.page_roff_blocks.specs.Atoms.{ReadsNext}
 use Rattle.page_roff_blocks.specs.Levels.{Opened, Spot, at_line}
-use Rattle.page_roff_blocks.specs.LinePlaces.{parts_at, line_start, line_end, IsPlaceIn}
+use Rattle.page_roff_blocks.specs.LinePlaces.{parts_at, line_start, line_end, is_at_end, IsPlaceIn}
+use Rattle.page_roff_blocks.proofs.AtomLemmas.{atoms_cons}
 use Rattle.page_roff_blocks.proofs.RoomLemmas.{atoms_room}
 use Rattle.page_roff_run.specs.Machine.{Frame, at_part}
 use Rattle.page_roff_run.specs.Measures.{weight, work_in}
 use Rattle.page_roff_stack.specs.declared.sources.Source.TheInside.{Inside}
 use Rattle.page_roff_stack.specs.declared.spans.Span.{Span}
-use Rattle.page_roff_stack.specs.Changes.{lines_in, past, first_branch, first_region, in_region, next_line, first_atoms, AreShort, IsBounded}
+use Rattle.page_roff_stack.specs.Changes.{lines_in, past, first_branch, first_region, in_region, next_line, first_atoms, begins_next, begins_line, AreShort, IsBounded}
 use Rattle.page_roff_stack.specs.Held.{span_text, IsSpanIn, IsFirstLine}
 use Rattle.page_roff_stack.specs.Sources.{frame_of, IsHeld}
 use Rattle.page_roff_stack.specs.Views.{parts_seen, IsNextLine}
-use Rattle.page_roff_stack.proofs.LineLemmas.{span_len}
+use Rattle.page_roff_stack.proofs.LineLemmas.{span_len, some_line, no_lines}
 
 -- ---- a part is read
 
@@ -234,3 +236,71 @@ ended_held a h =
 pub next_line_is : (lines : List (List ℕ)) (text : List ℕ) → IsFirstLine lines text → AreShort lines → 0 < length lines → IsNextLine lines (Some text)
 next_line_is [] text h s p = absurd (omega arith)
 next_line_is (line ∷ lines) text h s p = (h, rw h s.0)
+
+-- ---- whether a line begins
+
+-- no part comes after the last place
+pub end_parts : (text : List ℕ) (place : LinePlace) → is_at_end place ≡ true → parts_at text place ≡ []
+end_parts text place e = at_parts text place.is_end place.rest e
+  where
+    at_parts : (text : List ℕ) (is_end : Bool) (rest : Option ℕ) → (not is_end && is_none rest) ≡ true
+        → parts_at text (record { is_end = is_end; rest = rest }) ≡ []
+    at_parts text true rest e = absurd (cc)
+    at_parts text false None e = refl
+    at_parts text false (Some start) e = absurd (cc)
+
+pub some_parts : (text : List ℕ) (place : LinePlace) → is_at_end place ≡ false → 0 < length (parts_at text place)
+some_parts text place e = at_parts text place.is_end place.rest e
+  where
+    at_parts : (text : List ℕ) (is_end : Bool) (rest : Option ℕ) → (not is_end && is_none rest) ≡ false
+        → 0 < length (parts_at text (record { is_end = is_end; rest = rest }))
+    at_parts text true rest e = omega arith
+    at_parts text false None e = absurd (cc)
+    at_parts text false (Some start) e = rw (atoms_cons (drop start text)) (omega arith)
+
+begins_region : (region : Option Opened) (parts : List (Atom (List ℕ))) (lines : List (List ℕ)) → is_some region ≡ true → false ≡ begins_next region parts lines
+begins_region None parts lines e = absurd (cc)
+begins_region (Some o) parts lines e = refl
+
+begins_part : (region : Option Opened) (parts : List (Atom (List ℕ))) (lines : List (List ℕ)) → 0 < length parts → false ≡ begins_next region parts lines
+begins_part None [] lines h = absurd (omega arith)
+begins_part None (part ∷ more) lines h = refl
+begins_part (Some o) parts lines h = refl
+
+begins_lines : (lines : List (List ℕ)) (b : Bool) → (b ≡ true → 0 < length lines) → (b ≡ false → lines ≡ []) → b ≡ begins_next None [] lines
+begins_lines [] true some none = absurd (let h = some refl in omega (arith, h))
+begins_lines [] false some none = refl
+begins_lines (line ∷ more) true some none = refl
+begins_lines (line ∷ more) false some none = let h = none refl in absurd (cc)
+
+begins_outside : (region : Option Opened) (parts : List (Atom (List ℕ))) (lines : List (List ℕ)) (b : Bool) → is_some region ≡ false → parts ≡ []
+    → (b ≡ true → 0 < length lines) → (b ≡ false → lines ≡ []) → b ≡ begins_next region parts lines
+begins_outside None parts lines b e p some none = rw p (begins_lines lines b some none)
+begins_outside (Some o) parts lines b e p some none = absurd (cc)
+
+less_some : (start end n : ℕ) → n ≡ end - start → nat_lt start end ≡ true → (n == 0) ≡ false
+less_some start end n k t =
+    let p : start < end = grind (arith, nat_tests) in
+    let q : 0 < n = omega arith in
+    grind (arith, nat_tests)
+
+less_none : (start end n : ℕ) → n ≡ end - start → nat_lt start end ≡ false → (n == 0) ≡ true
+less_none start end n k t =
+    let p : end ≤ start = grind (arith, nat_tests) in
+    let q : n ≡ 0 = omega arith in
+    grind (arith, nat_tests)
+
+pub not_in_region : (a : Inside) → is_some a.region ≡ true → false ≡ begins_line (frame_of a)
+not_in_region a e = begins_region a.region (frame_of a).parts (frame_of a).lines e
+
+pub not_in_line : (a : Inside) → is_at_end a.place ≡ false → false ≡ begins_line (frame_of a)
+not_in_line a e = begins_part a.region (frame_of a).parts (frame_of a).lines (some_parts (span_text a.line a.text.items) a.place e)
+
+pub begins_here : (a : Inside) → is_some a.region ≡ false → is_at_end a.place ≡ true → IsSpanIn a.lines a.text.items
+    → nat_lt a.lines.start a.lines.end ≡ begins_line (frame_of a)
+begins_here a e p h =
+    let k = span_len a.lines a.text.items h in
+    let n = length (span_text a.lines a.text.items) in
+    begins_outside a.region (frame_of a).parts (frame_of a).lines (nat_lt a.lines.start a.lines.end) e (end_parts (span_text a.line a.text.items) a.place p)
+    (λ b. some_line (span_text a.lines a.text.items) (less_some a.lines.start a.lines.end n k b))
+    (λ b. no_lines (span_text a.lines a.text.items) (less_none a.lines.start a.lines.end n k b))

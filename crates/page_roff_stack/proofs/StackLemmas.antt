@@ -6,7 +6,7 @@ use Rattle.page_roff_blocks.specs.Run.{Meaning}
 use Rattle.page_roff_run.specs.Languages.{Kind, Language, meaning_at}
 use Rattle.page_roff_run.specs.Machine as machine
 use Rattle.page_roff_run.specs.Machine.{Frame, depth}
-use Rattle.page_roff_stack.specs.Changes.{first_branch, first_region, is_page}
+use Rattle.page_roff_stack.specs.Changes.{first_branch, first_region, is_page, begins_next}
 use Rattle.page_roff_stack.specs.Stacks.{Stack, running, next_around, next_in, next_of, is_part, is_line, is_source_end, is_nothing, branch_in, region_in, AreStacked, step_in, step_of}
 
 step_around : {S : Type 0} (l : Language S) (m : Meaning S) (region : Option Opened) (parts : List (Atom (List ℕ))) (lines : List (List ℕ)) (f : Frame) (under : List Frame) (s : S)
@@ -84,3 +84,14 @@ nothing_there (Some o) parts [] under e = around_nothing (Some o) under e
 -- all macros stand on the page
 pub page_alone : (kind : Kind) (under : List Frame) → under ≡ [] → AreStacked kind under → is_page kind ≡ true
 page_alone kind under e h = rw e at h
+
+-- whether a line begins next does not depend on the sources around
+pub line_next : (region : Option Opened) (parts : List (Atom (List ℕ))) (lines : List (List ℕ)) (under : List Frame)
+    → begins_next region parts lines ≡ is_line (next_in region parts lines under)
+line_next None (part ∷ more) lines under = refl
+line_next None [] (line ∷ more) under = refl
+line_next None [] [] [] = refl
+line_next None [] [] (f ∷ fs) = refl
+line_next (Some o) parts (line ∷ more) under = refl
+line_next (Some o) parts [] [] = refl
+line_next (Some o) parts [] (f ∷ fs) = refl

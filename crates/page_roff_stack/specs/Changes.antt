@@ -20,6 +20,16 @@ lines_in bytes = arguments_in bytes
 abbrev pub first_frame : Frame
 first_frame = record { kind = page; region = None; parts = []; spot = at_line outside; lines = [] }
 
+-- whether a line begins next, outside of regions
+abbrev pub begins_next : Option Opened → List (Atom (List ℕ)) → List (List ℕ) → Bool
+begins_next None [] (line ∷ more) = true
+begins_next None [] [] = false
+begins_next None (part ∷ more) lines = false
+begins_next (Some o) parts lines = false
+
+abbrev pub begins_line : Frame → Bool
+begins_line f = begins_next f.region f.parts f.lines
+
 -- a line of the page is to come
 abbrev pub page_line : List ℕ → Frame → Frame
 page_line line f = record { kind = page; region = f.region; parts = []; spot = at_line f.spot.levels; lines = line ∷ [] }

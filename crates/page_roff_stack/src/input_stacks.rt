@@ -118,6 +118,13 @@ impl InputStack {
         }
     }
 
+    /// Whether a line begins next, outside of regions.
+    pub fn begins_line(&self) -> bool
+        ensures { result ≡ is_line (next_of self.now) }
+    {
+        self.top.begins_line()
+    }
+
     /// How the part that comes next is reached.
     pub fn reached(&self) -> Reached
         ensures { result ≡ reached self.now.top.spot }

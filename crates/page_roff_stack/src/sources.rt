@@ -11,7 +11,7 @@ ghost use Rattle.page_roff_run.specs.Languages.{page};
 ghost use Rattle.page_roff_run.specs.Machine.{entered};
 ghost use Rattle.page_roff_values.specs.Arguments.{arguments_in};
 ghost use Rattle.page_roff_values.specs.declared.call_arguments.TheConstants.{ARGS};
-ghost use Rattle.page_roff_stack.specs.Changes.{lines_in, first_frame, page_line, past, first_branch, first_region, in_region, next_line, first_atoms, is_page, HasPart, HasLine};
+ghost use Rattle.page_roff_stack.specs.Changes.{lines_in, first_frame, page_line, past, first_branch, first_region, in_region, next_line, first_atoms, is_page, begins_line, HasPart, HasLine};
 ghost use Rattle.page_roff_stack.specs.Held.{span_text, room_for, kind_in, AreArgumentsIn, IsSpanIn, IsFirstLine};
 ghost use Rattle.page_roff_stack.specs.Views.{opened_seen, parts_seen, kind_of, IsNextLine};
 
@@ -191,8 +191,24 @@ impl Source {
         ensures value { parts_seen result ≡ take 1 self.now.parts }
         ensures fits { IfSome result (λ part. FitsAtom (atom_seen part)) }
     {
+        if self.place.is_at_end() {
+            return None;
+        }
         let mut place = self.place;
         place.next_atom(self.line.of(&self.text))
+    }
+
+    /// Whether a line begins next, outside of regions.
+    pub(crate) fn begins_line(&self) -> bool
+        ensures { result ≡ begins_line self.now }
+    {
+        if self.region.is_some() {
+            return false;
+        }
+        if !self.place.is_at_end() {
+            return false;
+        }
+        self.lines.start < self.lines.end
     }
 
     /// The line that comes next.

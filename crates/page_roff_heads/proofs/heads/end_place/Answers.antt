@@ -1,15 +1,22 @@
-use Rattle.std.proofs.Common.{arith}
-use Rattle.page_roff_heads.proofs.Reading.{end_byte, end_none}
+use Rattle.std.proofs.Common.{◌+◌, ◌∙◌, sym, arith}
+use Rattle.std.proofs.lemmas.Bool.Decides.{nat_tests}
+use Rattle.std.proofs.lemmas.List.{take_rest}
+use Rattle.page_roff_heads.proofs.Reading.{read_first, read_pair, read_comment, read_all}
 use Rattle.page_roff_heads.proofs.heads.end_place.Goals as goal
 
-pub loop-place-preserved-then-line-place-ne92 : goal.loop-place-preserved-then-line-place-ne92
-loop-place-preserved-then-line-place-ne92 c =
-    let i = c.loop-place.invariant in
-    let q = end_byte c.args.line.now c.loop-place.place (omega arith) c.if-line-place-ne92.true in
-    (omega arith, omega (arith, i.1, q))
+pub loop-place-init : goal.loop-place-init
+loop-place-init c = read_first c.args.line.now c.plain_len-place.result c.plain_len-place.ensures.value
+
+pub loop-place-preserved : goal.loop-place-preserved
+loop-place-preserved c =
+    read_pair c.args.line.now c.loop-place.place c.plain_len-place-in-loop-place.result c.loop-place.invariant c.loop-place-test.true
+    (grind (arith, nat_tests)) (sym c.begins_comment.ensures ∙ c.if-begins_comment.false)
+    (rw (take_rest c.args.line.now (c.loop-place.place + 2)) at c.plain_len-place-in-loop-place.ensures.value)
+
+pub returns-then-begins_comment-clause-value : goal.returns-then-begins_comment-clause-value
+returns-then-begins_comment-clause-value c =
+    sym (read_comment c.args.line.now c.loop-place.place c.loop-place.invariant c.loop-place-test.true
+    (grind (arith, nat_tests)) (sym c.begins_comment.ensures ∙ c.if-begins_comment.true))
 
 pub returns-clause-value : goal.returns-clause-value
-returns-clause-value c =
-    let i = c.loop-place.invariant in
-    let q = end_none c.args.line.now c.loop-place.place i.0 c.loop-place-test.false in
-    omega (arith, i.1, q)
+returns-clause-value c = sym (read_all c.args.line.now c.loop-place.place c.loop-place.invariant (omega (arith, c.loop-place-test.false)))

@@ -1,6 +1,5 @@
-use Rattle.std.proofs.Common.{◌≤◌, ◌-◌, length, ◌∷◌, take, drop, ap, sym, ◌∙◌}
-use Rattle.page_roff_blocks.specs.Atoms.{ends_first, part_of, atoms_left}
-use Rattle.page_roff_blocks.specs.LinePlaces.{rest_at, place_after, parts_at}
+use Rattle.std.proofs.Common.{◌≤◌, length, ◌∷◌, ap, sym, ◌∙◌}
+use Rattle.page_roff_blocks.specs.LinePlaces.{place_after, parts_at}
 use Rattle.page_roff_blocks.proofs.EndLemmas.{slice_ends, slice_parts, place_within}
 use Rattle.page_roff_blocks.proofs.line_places.LinePlace.next_atom.Goals as goal
 

@@ -1,12 +1,16 @@
-use Rattle.page_roff_machine.proofs.ActLemmas.{room, line_there, region_line_there, decides_leaf, decides_guard, decides_block, decides_region, decides_line, decides_region_line, decides_region_end, decides_source_end, decides_block_end, decides_nothing}
+use Rattle.std.proofs.Common.{sym, ◌∙◌}
+use Rattle.page_roff_machine.proofs.ActLemmas.{room, the_line, is_the_line, line_there, region_line_there, decides_leaf, decides_guard, decides_block, decides_region, decides_line, decides_region_line, decides_region_end, decides_source_end, decides_block_end, decides_nothing}
 use Rattle.page_roff_blocks.specs.Atoms.{head_seen}
 use Rattle.page_roff_blocks.specs.Regions.{region_seen}
+use Rattle.page_roff_stack.specs.Stacks.{next_of}
 use Rattle.page_roff_stack.specs.Views.{opened_seen}
 use Rattle.page_roff_machine.proofs.runners.Runner.act.Goals as goal
 
 pub begin_line-requires : goal.begin_line-requires
 begin_line-requires g c =
-    rw c.is_page-is_page.ensures (room c.args.self.now c.requires (line_there c.args.self.now.stack c.in-Line.field-0.now c.in-Line.ensures.value))
+    let next = next_of c.args.self.now.stack in
+    let there = is_the_line next (sym c.begins_line.ensures ∙ c.if-begins_line.true) in
+    rw c.is_page-is_page.ensures (room c.args.self.now c.requires (line_there c.args.self.now.stack (the_line next) there))
 
 pub end_region-requires : goal.end_region-requires
 end_region-requires g c =
@@ -42,10 +46,11 @@ returns-in-Part-Region g c =
     decides_region g.O.NoteOut.left c.args.self.now c.open_region.new.self c.args.out.now c.open_region.new.out (region_seen c.in-Part-Region.head) c.reached-reached.result c.open_region.result
     (rw c.in-Part-Region.field-0-is at c.in-Part-Region.ensures.value) c.reached-reached.ensures c.requires.setting c.open_region.ensures
 
-pub returns-in-Line : goal.returns-in-Line
-returns-in-Line g c =
-    decides_line g.O.NoteOut.left c.args.self.now c.begin_line.new.self c.args.out.now c.begin_line.new.out c.in-Line.field-0.now c.is_page-is_page.result
-    c.in-Line.ensures.value c.is_page-is_page.ensures c.requires.setting c.begin_line.ensures
+pub returns-then-begins_line : goal.returns-then-begins_line
+returns-then-begins_line g c =
+    let next = next_of c.args.self.now.stack in
+    decides_line g.O.NoteOut.left c.args.self.now c.begin_line.new.self c.args.out.now c.begin_line.new.out (the_line next) c.is_page-is_page.result
+    (is_the_line next (sym c.begins_line.ensures ∙ c.if-begins_line.true)) c.is_page-is_page.ensures c.requires.setting c.begin_line.ensures
 
 pub returns-in-RegionLine-default-default-true : goal.returns-in-RegionLine-default-default-true
 returns-in-RegionLine-default-default-true g c =
