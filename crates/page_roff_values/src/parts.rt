@@ -6,7 +6,7 @@ ghost use Rattle.page_roff_values.specs.Parts as reading;
 ghost use Rattle.page_roff_values.specs.Views.{seen_of, cut_of, call_of};
 
 use crate::endings::after;
-use memchr::memchr;
+use memchr::{memchr, memmem};
 
 /// An interpolation: of a string, a number register, an argument (the escape as it is written), or the width of a text.
 #[derive(Drop)]
@@ -117,6 +117,10 @@ fn content_len(delimiter: &[u8], text: &[u8]) -> Option<usize>
     ensures value { result ≡ reading.content_len delimiter.now 0 text.now }
     ensures bound { IfSome result (λ len. len + length delimiter.now ≤ length text.now) }
 {
+    // Without this, a line of nothing but widths without their ends would be walked up to its end for each of them.
+    if memmem::find(text, delimiter).is_none() {
+        return None;
+    }
     let mut at = 0;
     while at < text.len() {
         let rest = after(text, at);
