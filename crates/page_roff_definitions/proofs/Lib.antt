@@ -1,1 +1,2 @@
+pub mod ClosingLemmas
 pub mod Coming

@@ -7,6 +7,7 @@ ghost use Rattle.page_roff_forms.specs.Arguments.{argument_seen, arguments, is_b
 ghost use Rattle.page_roff_definitions.specs.Arguments as ends;
 ghost use Rattle.page_roff_definitions.specs.Arguments.{closing_notes, closings_notes, end_of, after_blanks, without_quote, value_after};
 
+use memchr::memchr;
 use page_core_base::{Note, NoteKind, Place};
 use page_core_limits::LINE;
 use page_roff_forms::{Argument, Arguments, Quoting};
@@ -32,6 +33,9 @@ pub fn report_closings<O: NoteOut>(out: &mut O, place: Place, rest: &[u8])
     requires room { place.column + length rest.now ≤ LINE + 1 }
     ensures { Came O.left out.old (closings_notes place.line (arguments place.column rest.now)) out.new }
 {
+    if memchr(b'"', rest).is_none() {
+        return;
+    }
     let mut arguments = Arguments::new(rest, place.column);
     while let Some(argument) = arguments.next_argument() {
         report_closing(out, place.line, argument);

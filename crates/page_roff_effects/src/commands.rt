@@ -1,6 +1,6 @@
 //! What the name of a control line stands for (roff(7), "MACRO SYNTAX" and "REQUEST REFERENCE").
 
-ghost use Rattle.std.specs.Prelude.{◌≡◌, ◌≤◌, [], length, IfSome, unwrap_or};
+ghost use Rattle.std.specs.Prelude.{◌≡◌, ◌≤◌, [], length, IfSome, is_some, unwrap_or};
 ghost use Rattle.page_core_limits.specs.declared.TheConstants.{BODY};
 ghost use Rattle.page_roff_blocks.specs.Regions.{text_seen};
 ghost use Rattle.page_roff_definitions.specs.Definitions.{request_of};
@@ -82,15 +82,28 @@ fn request_command(name: &[u8]) -> Command
     }
 }
 
+// Whether a name calls a macro of the page, whose body is then found at once.
+fn is_called(name: &[u8], names: &mut Names) -> bool
+    ensures called { result ≡ is_some (named.called_body name.now names.old) }
+    ensures same { names.new ≡ names.old }
+{
+    match names.seek_body(name) {
+        Some(len) => len <= BODY,
+        None => false,
+    }
+}
+
 impl Command {
     /// What a name stands for.
     #[tactic(auto, unfolding(crate::specs::Commands::command_of))]
-    pub(crate) fn of(name: &[u8], names: &Names) -> Command
-        ensures { result ≡ named.command_of name.now names.now }
+    pub(crate) fn of(name: &[u8], names: &mut Names) -> Command
+        ensures command { result ≡ named.command_of name.now names.old }
+        ensures same { names.new ≡ names.old }
     {
-        match called_body(name, names) {
-            Some(_) => Command::Call,
-            None => request_command(name),
+        if is_called(name, names) {
+            Command::Call
+        } else {
+            request_command(name)
         }
     }
 

@@ -192,7 +192,7 @@ impl Actions {
         if line.name.is_empty() {
             return ProductKind::Nothing;
         }
-        let command = Command::of(line.name, &self.names);
+        let command = Command::of(line.name, &mut self.names);
         self.expand(command.copies(), line.text, out);
         self.run(may_call, command, line, out)
     }

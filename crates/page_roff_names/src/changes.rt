@@ -1,6 +1,6 @@
 //! Changes of one set of names, which shares its limits with the other.
 ghost use Rattle.std.specs.Prelude.{◌≡◌, ℕ, ◌+◌, ◌<◌, ◌≤◌, List, [], ◌∷◌, ◌++◌, length};
-ghost use Rattle.std.specs.Prelude.{MatchOption, MatchResult, Some, None, unwrap_or, T};
+ghost use Rattle.std.specs.Prelude.{IsTrue, MatchOption, MatchResult, Some, None, unwrap_or, T};
 ghost use Rattle.std.specs.FinMap.{is_sorted};
 ghost use Rattle.std.specs.List.{insert, remove};
 ghost use Rattle.std.specs.Vec.{vec_len, vec_capacity};
@@ -63,6 +63,24 @@ pub(crate) fn find(row: &Row, name: &[u8]) -> Option<usize>
     }
 }
 
+/// Whether a name stands at this place.
+fn stands_at(row: &Row, place: usize, name: &[u8]) -> bool
+    ensures { IsTrue result → (place < length row.now) × FoundAt name.now row.now place }
+{
+    place < row.len() && matches!(name.cmp(&row.name(place)), Ordering::Equal)
+}
+
+/// Where a name stands. It is looked for at this place first.
+pub(crate) fn find_near(row: &Row, place: usize, name: &[u8]) -> Option<usize>
+    requires { T (is_sorted by_bytes row.now) }
+    ensures { MatchOption result (look name.now row.now ≡ None) (λ i. StandsAt name.now row.now i) }
+{
+    if stands_at(row, place, name) {
+        return Some(place);
+    }
+    find(row, name)
+}
+
 /// The string of a name.
 pub(crate) fn string<'a>(row: &'a Row, name: &[u8]) -> Option<&'a [u8]>
     requires sorted { T (is_sorted by_bytes row.now) }
@@ -80,14 +98,14 @@ pub(crate) fn string<'a>(row: &'a Row, name: &[u8]) -> Option<&'a [u8]>
     }
 }
 
-/// The body of a macro.
-pub(crate) fn body<'a>(row: &'a Row, name: &[u8]) -> Option<&'a [u8]>
+/// The body of a macro. Its name is looked for at this place first.
+pub(crate) fn body<'a>(row: &'a Row, place: usize, name: &[u8]) -> Option<&'a [u8]>
     requires sorted { T (is_sorted by_bytes row.now) }
     requires short { AreShort row.now }
     ensures is { Lends result (body_or_none (look name.now row.now)) }
     ensures short { MatchOption result (Unit {0}) (λ value. length value.now ≤ BODY) }
 {
-    match find(row, name) {
+    match find_near(row, place, name) {
         Some(i) => match row.meaning(i) {
             Meaning::String => None,
             Meaning::Macro => Some(row.value(i)),
@@ -117,7 +135,7 @@ pub(crate) fn body_so_far<'a>(row: &'a Row, name: &[u8]) -> &'a [u8]
     ensures is { result.now ≡ unwrap_or (body_or_none (look name.now row.now)) [] }
     ensures short { length result.now ≤ BODY }
 {
-    match body(row, name) {
+    match body(row, 0, name) {
         Some(value) => value,
         None => b"",
     }

@@ -3,6 +3,7 @@
 
 mod changes;
 mod names;
+mod places;
 mod predefined;
 mod rows;
 

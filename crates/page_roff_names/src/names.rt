@@ -1,13 +1,14 @@
 //! The names of a page: its strings and macros, and its number registers.
-ghost use Rattle.std.specs.Prelude.{◌≡◌, [], ◌++◌, IfOk, unwrap_or};
+ghost use Rattle.std.specs.Prelude.{◌≡◌, [], ◌++◌, IfOk, length, option_map, unwrap_or};
 ghost use Rattle.page_roff_names.specs.Names.{Definitions, definitions, string_of, body_of, number_of};
 ghost use Rattle.page_roff_names.specs.Names.{without_text, with_register, without_register};
 ghost use Rattle.page_roff_names.specs.Names.{Lends, Defines, DefinesText, Renames};
 
 use crate::changes::{
-    body, body_so_far, copy, find, others, rename, settle, settle_longer, string, string_so_far,
-    withdraw,
+    body, body_so_far, copy, find, find_near, others, rename, settle, settle_longer, string,
+    string_so_far, withdraw,
 };
+use crate::places::Places;
 use crate::rows::{Meaning, Row};
 use page_core_limits::{BODY, Limit};
 use std::alloc::{AllocError, Global};
@@ -19,6 +20,8 @@ pub struct Names {
     texts: Row,
     registers: Row,
     scratch: Vec<u8>,
+    // Where the macros stand that were called last.
+    called: Places,
 }
 
 impl Model for Names {
@@ -44,6 +47,7 @@ impl Names {
             texts: Row::new(alloc)?,
             registers: Row::new(alloc)?,
             scratch: Vec::with_capacity(alloc, BODY)?,
+            called: Places::new(),
         })
     }
 
@@ -58,7 +62,21 @@ impl Names {
     pub fn body(&self, name: &[u8]) -> Option<&[u8]>
         ensures { Lends result (body_of name.now self.now) }
     {
-        body(&self.texts, name)
+        body(&self.texts, self.called.of(name), name)
+    }
+
+    /// The number of bytes of the body of a macro that is to be called: [`Names::body`] then finds it at once.
+    pub fn seek_body(&mut self, name: &[u8]) -> Option<usize>
+        ensures len { result ≡ option_map length (body_of name.now self.old) }
+        ensures same { self.new ≡ self.old }
+    {
+        let place = find_near(&self.texts, self.called.of(name), name)?;
+        self.called.set(name, place);
+        match self.texts.meaning(place) {
+            Meaning::Macro => Some(self.texts.value(place).len()),
+            Meaning::String => None,
+            Meaning::Register(_) => None,
+        }
     }
 
     /// The number in a register.

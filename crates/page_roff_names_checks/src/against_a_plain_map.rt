@@ -58,16 +58,17 @@ fn put(rt: &impl Abort, plains: &mut [Plain], i: usize, plain: Plain) {
     plains[i] = plain;
 }
 
-fn check_entry(rt: &impl Abort, names: &Names, text: &[u8], i: usize, plain: Plain) {
+fn check_entry(rt: &impl Abort, names: &mut Names, text: &[u8], i: usize, plain: Plain) {
     let name = name_of(i);
     let value = part(rt, text, plain.start, plain.len);
     let is_string = plain.is_there && !plain.is_macro;
     let is_macro = plain.is_there && plain.is_macro;
     assert!(rt; names.string(&name) == if is_string { Some(value) } else { None });
     assert!(rt; names.body(&name) == if is_macro { Some(value) } else { None });
+    assert!(rt; names.seek_body(&name) == if is_macro { Some(plain.len) } else { None });
 }
 
-fn check_all(rt: &impl Abort, names: &Names, text: &[u8], plains: &[Plain]) {
+fn check_all(rt: &impl Abort, names: &mut Names, text: &[u8], plains: &[Plain]) {
     for i in 0..plains.len() {
         check_entry(rt, names, text, i, plains[i]);
     }
@@ -143,7 +144,7 @@ fn a_thousand_changes(rt: HostRuntime) -> Result<(), Fail> {
     let mut seed = 2_026u32;
     for _ in 0..1_000u32 {
         change(&rt, &mut names, &text, &mut plains, &mut seed);
-        check_all(&rt, &names, &text, &plains);
+        check_all(&rt, &mut names, &text, &plains);
     }
     Ok(())
 }

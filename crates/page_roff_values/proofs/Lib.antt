@@ -1,4 +1,5 @@
 pub mod ArgumentLemmas
+pub mod BracketLemmas
 pub mod CallLemmas
 pub mod EndLemmas
 pub mod FollowLemmas

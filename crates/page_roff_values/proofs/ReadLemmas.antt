@@ -1,8 +1,10 @@
 -- How a text is read: helpers of proofs.
-use Rattle.std.proofs.Common.{◌≡◌, ℕ, zero, suc, ◌+◌, ◌<◌, ◌≤◌, Bool, true, false, not, ◌&&◌, ◌==◌, nat_eq, List, [], ◌∷◌, length, get_or, take, drop, if◌then◌else◌, Option, None, Some, MatchOption, option_map, unwrap_or, position, refl, sym, ap, ◌∙◌, add_assoc, arith, length-drop}
+use Rattle.std.proofs.Common.{◌≡◌, ℕ, zero, suc, ◌+◌, ◌<◌, ◌≤◌, Bool, true, false, not, ◌&&◌, ◌==◌, nat_eq, List, [], ◌∷◌, length, get_or, take, drop, if◌then◌else◌, Option, None, Some, MatchOption, option_map, unwrap_or, position, refl, sym, ap, ◌∙◌, add_assoc, is_none, arith, length-drop, length-take}
+use Rattle.std.proofs.lemmas.List.{get_or-take, get_or-drop}
 use Rattle.std.proofs.lemmas.Bool.{eqb-true}
 use Rattle.std.specs.List.{starts_with}
-use Rattle.memchr.specs.Find.{IsFirstByte, is_byte}
+use Rattle.std.specs.Cmp.Lexicographic.{same_text}
+use Rattle.memchr.specs.Find.{IsFirstByte, is_byte, OccursAt, FindsNeedle}
 use Rattle.page_roff_values.specs.declared.parts.Call.{Call}
 use Rattle.page_roff_values.specs.declared.parts.Call.TheVariants.{String, Register, Argument, Width}
 use Rattle.page_roff_values.specs.Parts.{CutText, SeenText, copies, calls, cut, character_len, two_characters, bracketed, name_cut, further, paired_len, unit_len, content_len, width_cut, plain, after_plain, argument_call, call_cut, pair, is_doubled, escape, begins_escape, seen, parts_up_to, parts}
@@ -120,6 +122,31 @@ content_here delimiter (b ∷ bs) h e = rw e refl
 pub content_none : (delimiter : List ℕ) → content_len delimiter 0 [] ≡ None
 unfolding content_len
 content_none delimiter = refl
+
+-- a delimiter that stands nowhere
+here_occurs : (text d : List ℕ) (k : ℕ) → k ≤ length text → d ≡ take (length d) (drop k text) → OccursAt text d k
+here_occurs text d k h e = record {
+  fits = let n = ap length e in omega (arith, n, length-take (length d) (drop k text), length-drop k text);
+  reads = λ j l. sym (ap (λ xs. get_or xs j 0) e ∙ get_or-take (length d) (drop k text) j 0 l ∙ get_or-drop k text j 0);
+}
+
+nowhere : (delimiter : List ℕ) (text : List ℕ) → FindsNeedle text delimiter 0 None → (k : ℕ) → k ≤ length text → starts_with nat_eq (drop k text) delimiter ≡ false
+nowhere delimiter text h k l =
+    not_true (starts_with nat_eq (drop k text) delimiter)
+    (λ e. h k (omega arith) (omega arith) (here_occurs text delimiter k l (same_text delimiter (take (length delimiter) (drop k text)) (sym e))))
+
+never : (delimiter : List ℕ) (skipped : ℕ) (text : List ℕ) → ((k : ℕ) → k ≤ length text → starts_with nat_eq (drop k text) delimiter ≡ false)
+    → content_len delimiter skipped text ≡ None
+unfolding content_len
+never delimiter skipped [] h = refl
+never delimiter (suc skipped) (b ∷ bs) h =
+    ap (further 1) (never delimiter skipped bs (λ k l. h (suc k) (omega arith)))
+never delimiter zero (b ∷ bs) h =
+    rw (h 0 (omega arith)) (ap (further 1) (never delimiter (paired_len b bs) bs (λ k l. h (suc k) (omega arith))))
+
+pub content_absent : (delimiter text : List ℕ) (r : Option ℕ) → is_none r ≡ true → FindsNeedle text delimiter 0 r → content_len delimiter 0 text ≡ None
+content_absent delimiter text None e h = never delimiter 0 text (nowhere delimiter text h)
+content_absent delimiter text (Some k) e h = let no : ⊥ = cc in absurd no
 
 -- ---- what follows is shorter
 

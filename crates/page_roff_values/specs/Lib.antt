@@ -1,4 +1,5 @@
 pub mod Arguments
+pub mod Brackets
 pub mod Environments
 pub mod Expansions
 pub mod Held

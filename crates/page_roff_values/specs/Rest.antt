@@ -45,7 +45,7 @@ size (t ∷ ts) = suc (length t + size ts)
 
 -- the innermost first
 abbrev pub texts_of : Sources → List (List ℕ)
-texts_of s = s.text.now ∷ map (λ (t : Bor (List ℕ)). t.now) (reverse s.outer.items)
+texts_of s = s.inner.text.now ∷ map (λ (t : Bor (List ℕ)). t.now) (reverse s.outer.items)
 
 -- How much may still come, at most: a value is paid by its interpolation, and each byte and each text's end is one.
 unfoldable pub HUGE : ℕ

@@ -57,7 +57,7 @@ fn append_spaced(text: &mut Vec<u8>, argument: &[u8])
     ensures items { text.new.items ≡ text.old.items ++ (32 ∷ argument.now) }
     ensures capacity { vec_capacity text.old ≤ vec_capacity text.new }
 {
-    append(text, b" ");
+    text.push_reserved(b' ');
     append(text, argument);
 }
 
@@ -67,9 +67,10 @@ fn append_quoted(text: &mut Vec<u8>, argument: &[u8])
     ensures items { text.new.items ≡ text.old.items ++ (32 ∷ 34 ∷ (argument.now ++ (34 ∷ []))) }
     ensures capacity { vec_capacity text.old ≤ vec_capacity text.new }
 {
-    append(text, b" \"");
+    text.push_reserved(b' ');
+    text.push_reserved(b'"');
     append(text, argument);
-    append(text, b"\"");
+    text.push_reserved(b'"');
 }
 
 // The first argument, and the bytes of the others.

@@ -10,6 +10,7 @@ mod laws;
 mod note_latches;
 mod parts;
 mod sources;
+mod unread;
 
 pub use call_arguments::{ARGS, CallArguments};
 pub use environments::Environment;

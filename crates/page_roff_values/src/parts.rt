@@ -1,11 +1,12 @@
 //! What a text is made of (roff(7), "Escape sequences").
 
 ghost use Rattle.std.specs.Prelude.{◌≡◌, ℕ, ◌<◌, ◌≤◌, ◌+◌, ◌==◌, List, length, Some, None, IsTrue, MatchOption, option_map, position, IfSome, take, drop, get_or};
+ghost use Rattle.page_roff_values.specs.Brackets.{IsKnown};
 ghost use Rattle.page_roff_values.specs.Parts as reading;
 ghost use Rattle.page_roff_values.specs.Views.{seen_of, cut_of, call_of};
 
 use crate::endings::after;
-use memchr::memchr;
+use memchr::{memchr, memmem};
 
 /// An interpolation: of a string, a number register, an argument (the escape as it is written), or the width of a text.
 #[derive(Drop)]
@@ -79,32 +80,34 @@ fn two_characters(text: &[u8]) -> Option<Cut<'_>>
     Some(cut_at(text, first + second, 0))
 }
 
-// Where the first bracket that closes stands.
-fn bracket_place(text: &[u8]) -> Option<usize>
-    ensures value { result ≡ position (λ b. b == 93) text.now }
-    ensures bound { IfSome result (λ place. place < length text.now) }
-{
-    text.iter().position(|b| *b == b']')
-}
-
 // A name up to its bracket.
-fn bracketed(text: &[u8]) -> Option<Cut<'_>>
-    ensures { option_map cut_of result ≡ reading.bracketed text.now }
+fn bracketed<'e>(text: &'e [u8], is_unclosed: &mut bool) -> Option<Cut<'e>>
+    requires { IsKnown is_unclosed.old text.now }
+    ensures cut { option_map cut_of result ≡ reading.bracketed text.now }
+    ensures known { IsKnown is_unclosed.new text.now }
 {
-    match bracket_place(text) {
-        None => None,
+    if *is_unclosed {
+        return None;
+    }
+    match memchr(b']', text) {
+        None => {
+            *is_unclosed = true;
+            None
+        }
         Some(place) => Some(cut_at(text, place, 1)),
     }
 }
 
 // The name at a text's front: `x`, `(xx` or `[name]`. None where the text ends before the name does.
-fn read_name(text: &[u8]) -> Option<Cut<'_>>
-    ensures { option_map cut_of result ≡ reading.name_cut text.now }
+fn read_name<'e>(text: &'e [u8], is_unclosed: &mut bool) -> Option<Cut<'e>>
+    requires { IsKnown is_unclosed.old text.now }
+    ensures cut { option_map cut_of result ≡ reading.name_cut text.now }
+    ensures known { IsKnown is_unclosed.new text.now }
 {
     match text {
         [] => None,
         [b'(', rest @ ..] => two_characters(rest),
-        [b'[', rest @ ..] => bracketed(rest),
+        [b'[', rest @ ..] => bracketed(rest, is_unclosed),
         _ => Some(cut_at(text, character_len(text), 0)),
     }
 }
@@ -114,6 +117,10 @@ fn content_len(delimiter: &[u8], text: &[u8]) -> Option<usize>
     ensures value { result ≡ reading.content_len delimiter.now 0 text.now }
     ensures bound { IfSome result (λ len. len + length delimiter.now ≤ length text.now) }
 {
+    // Without this, a line of nothing but widths without their ends would be walked up to its end for each of them.
+    if memmem::find(text, delimiter).is_none() {
+        return None;
+    }
     let mut at = 0;
     while at < text.len() {
         let rest = after(text, at);
@@ -172,18 +179,21 @@ fn called<'e>(call: Call<&'e [u8]>, rest: &'e [u8]) -> Seen<'e>
 }
 
 // The interpolation at a text's front, where a backslash and a letter are.
-fn read_call(text: &[u8], copy: bool) -> Option<Seen<'_>>
+fn read_call<'e>(text: &'e [u8], copy: bool, is_unclosed: &mut bool) -> Option<Seen<'e>>
     requires some { 2 ≤ length text.now }
     requires escape { IsTrue (reading.begins_escape text.now) }
-    ensures { option_map seen_of result ≡ reading.call_cut copy (get_or text.now 1 0) (drop 2 text.now) }
+    requires known { IsKnown is_unclosed.old text.now }
+    ensures seen { option_map seen_of result
+        ≡ reading.call_cut copy (get_or text.now 1 0) (drop 2 text.now) }
+    ensures known { IsKnown is_unclosed.new text.now }
 {
     let rest = after(text, 2);
     match text[1] {
-        b'*' => match read_name(rest) {
+        b'*' => match read_name(rest, is_unclosed) {
             None => None,
             Some(name) => Some(called(Call::String(name.front), name.rest)),
         },
-        b'n' => match read_name(rest) {
+        b'n' => match read_name(rest, is_unclosed) {
             None => None,
             Some(name) => Some(called(Call::Register(name.front), name.rest)),
         },
@@ -200,10 +210,12 @@ fn read_call(text: &[u8], copy: bool) -> Option<Seen<'_>>
 }
 
 // The first part of a text that begins with a backslash.
-fn read_escape(text: &[u8], copy: bool) -> Seen<'_>
+fn read_escape<'e>(text: &'e [u8], copy: bool, is_unclosed: &mut bool) -> Seen<'e>
     requires some { 0 < length text.now }
     requires escape { IsTrue (reading.begins_escape text.now) }
-    ensures { seen_of result ≡ reading.seen copy text.now }
+    requires known { IsKnown is_unclosed.old text.now }
+    ensures seen { seen_of result ≡ reading.seen copy text.now }
+    ensures known { IsKnown is_unclosed.new text.now }
 {
     if text.len() < 2 {
         return copied(text, text.len(), 0);
@@ -211,7 +223,7 @@ fn read_escape(text: &[u8], copy: bool) -> Seen<'_>
     if is_doubled(copy, text[1]) {
         return copied(text, 1, 1);
     }
-    match read_call(text, copy) {
+    match read_call(text, copy, is_unclosed) {
         Some(seen) => seen,
         None => copied(text, 1 + character_len(after(text, 1)), 0),
     }
@@ -228,14 +240,17 @@ fn copied(text: &[u8], len: usize, over: usize) -> Seen<'_>
     }
 }
 
-/// Reads the first part of a text, in copy mode or not.
-pub(crate) fn read(text: &[u8], copy: bool) -> Seen<'_>
-    requires { 0 < length text.now }
-    ensures { seen_of result ≡ reading.seen copy text.now }
+/// Reads the first part of a text, in copy mode or not. Where `is_unclosed` is set, no bracket closes in the text, and none is looked for;
+/// it is set where none was found.
+pub(crate) fn read<'e>(text: &'e [u8], copy: bool, is_unclosed: &mut bool) -> Seen<'e>
+    requires some { 0 < length text.now }
+    requires known { IsKnown is_unclosed.old text.now }
+    ensures seen { seen_of result ≡ reading.seen copy text.now }
+    ensures known { IsKnown is_unclosed.new result.rest.now }
 {
     let end = memchr(b'\\', text).unwrap_or(text.len());
     if end == 0 {
-        return read_escape(text, copy);
+        return read_escape(text, copy, is_unclosed);
     }
     copied(text, end, 0)
 }

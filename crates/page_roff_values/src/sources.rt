@@ -3,7 +3,8 @@
 ghost use Rattle.std.specs.Prelude.{◌≡◌, ℕ, ◌<◌, ◌≤◌, ◌+◌, ◌^◌, nat_le, List, [], ◌∷◌, length, Option, Some, None, MatchOption};
 ghost use Rattle.page_roff_values.specs.Rest.{texts_of, size, Reads};
 
-use crate::parts::{Part, Seen, read};
+use crate::parts::Part;
+use crate::unread::Unread;
 use arrayvec::ArrayVec;
 
 /// Interpolations inside one another.
@@ -12,7 +13,7 @@ pub const NEST: usize = 16;
 /// What is left of the innermost text, and of those around it, the outermost first.
 #[derive(Drop)]
 pub(crate) struct Sources<'e> {
-    pub(crate) text: &'e [u8],
+    pub(crate) inner: Unread<'e>,
     pub(crate) outer: ArrayVec<&'e [u8], NEST>,
 }
 
@@ -22,7 +23,7 @@ impl<'e> Sources<'e> {
         ensures { texts_of result ≡ text.now ∷ [] }
     {
         Sources {
-            text,
+            inner: Unread::new(text),
             outer: ArrayVec::new(),
         }
     }
@@ -32,15 +33,13 @@ impl<'e> Sources<'e> {
         ensures reads { Reads copy (texts_of self.old) result (texts_of self.new) }
         ensures falls { MatchOption result ℕ (λ p. size (texts_of self.new) < size (texts_of self.old)) }
     {
-        while self.text.is_empty() {
+        while self.inner.text.is_empty() {
             match self.outer.pop() {
                 None => return None,
-                Some(text) => self.text = text,
+                Some(text) => self.inner = Unread::new(text),
             }
         }
-        let seen = read(self.text, copy);
-        self.text = seen.rest;
-        Some(seen.part)
+        Some(self.inner.next(copy))
     }
 
     /// How many texts stand around the innermost.
@@ -57,7 +56,7 @@ impl<'e> Sources<'e> {
         ensures texts { texts_of self.new ≡ value.now ∷ texts_of self.old }
         ensures fits { length value.now < 2 ^ 64 }
     {
-        self.outer.push(self.text);
-        self.text = value;
+        self.outer.push(self.inner.text);
+        self.inner = Unread::new(value);
     }
 }

@@ -1,8 +1,12 @@
-use Rattle.std.proofs.Common.{◌≡◌, ◌+◌, length, drop, Some, add-zero, arith, ap, ◌∙◌, sym, drop-drop, length-drop}
+use Rattle.std.proofs.Common.{◌≡◌, ◌+◌, length, drop, Some, add-zero, arith, ap, ◌∙◌, sym, rules, drop-drop, length-drop}
 use Rattle.std.proofs.Math.Seq.{drop-length}
 use Rattle.page_roff_values.specs.Parts.{content_len, further}
-use Rattle.page_roff_values.proofs.ReadLemmas.{content_past, content_here, content_none, further_further}
+use Rattle.page_roff_values.proofs.ReadLemmas.{content_past, content_here, content_none, content_absent, further_further}
 use Rattle.page_roff_values.proofs.parts.content_len.Goals as goal
+
+pub returns-then-is_none-clause-value : goal.returns-then-is_none-clause-value
+returns-then-is_none-clause-value c =
+    sym (content_absent c.args.delimiter.now c.args.text.now c.find.result (search rules) c.find.ensures)
 
 pub returns-then-starts_with-clause-value : goal.returns-then-starts_with-clause-value
 returns-then-starts_with-clause-value c =

@@ -1,31 +1,33 @@
-use Rattle.std.proofs.Common.{arith, ◌∙◌, sym, rules}
-use Rattle.page_roff_values.specs.Views.{seen_of}
+use Rattle.std.proofs.Common.{◌∷◌, arith, ap, ◌∙◌, sym, rules}
+use Rattle.page_roff_values.specs.Rest.{rest}
+use Rattle.page_roff_values.specs.Views.{part_of}
 use Rattle.page_roff_values.proofs.TextLemmas.{outer_of, rest_none, rest_pop, size_pop, rest_reads, shorter}
 use Rattle.page_roff_values.proofs.sources.Sources.next.Goals as goal
 
 pub returns-in-None-clause-reads : goal.returns-in-None-clause-reads
 returns-in-None-clause-reads c = λ env room s copy e.
     let l = c.loop-self.self in
-    c.loop-self.invariant.same env room s e ∙ rest_none env room l.text.now l.outer.items s e (sym c.is_empty.ensures ∙ c.loop-self-test.true) (search rules)
+    c.loop-self.invariant.same env room s e ∙ rest_none env room l.inner.text.now l.outer.items s e (sym c.is_empty.ensures ∙ c.loop-self-test.true) (search rules)
 
 pub loop-self-preserved : goal.loop-self-preserved
 loop-self-preserved c =
     let l = c.loop-self.self in
-    let k = size_pop l.text.now l.outer.items c.pop.new.self.items c.in-Some.text c.in-Some.ensures.items in
+    let k = size_pop l.inner.text.now l.outer.items c.pop.new.self.items c.in-Some.text c.in-Some.ensures.items in
+    let n = c.new-self.ensures in
     let f = c.loop-self.invariant.falls in record {
-      same = λ env room s e. c.loop-self.invariant.same env room s e ∙ rest_pop env room l.text.now l.outer.items c.pop.new.self.items c.in-Some.text s e (sym c.is_empty.ensures ∙ c.loop-self-test.true) c.in-Some.ensures.items;
-      falls = omega arith;
+      same = λ env room s e. c.loop-self.invariant.same env room s e ∙ rest_pop env room l.inner.text.now l.outer.items c.pop.new.self.items c.in-Some.text s e (sym c.is_empty.ensures ∙ c.loop-self-test.true) c.in-Some.ensures.items ∙ ap (λ t. rest env room (t ∷ outer_of c.pop.new.self.items) s) (sym c.new-self.ensures);
+      falls = rw n (omega arith);
     }
 
 pub returns-clause-reads : goal.returns-clause-reads
 returns-clause-reads c = λ env room s copy e.
     let l = c.loop-self.self in
     c.loop-self.invariant.same env room s e
-    ∙ rest_reads env room l.text.now (seen_of c.read-seen.result) (outer_of l.outer.items) s (search rules) (rw (← copy) at c.read-seen.ensures)
+    ∙ rest_reads env room l.inner.text.now (record { part = part_of c.next.result; rest = c.next.new.self.text.now }) (outer_of l.outer.items) s (search rules) (rw (← copy) at c.next.ensures)
 
 pub returns-clause-falls : goal.returns-clause-falls
 returns-clause-falls c =
     let l = c.loop-self.self in
-    let k = shorter c.args.copy l.text.now (seen_of c.read-seen.result) (search rules) c.read-seen.ensures in
+    let k = shorter c.args.copy l.inner.text.now (record { part = part_of c.next.result; rest = c.next.new.self.text.now }) (search rules) c.next.ensures in
     let f = c.loop-self.invariant.falls in
     omega arith

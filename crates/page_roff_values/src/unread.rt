@@ -1,0 +1,41 @@
+//! What is left of a text.
+
+ghost use Rattle.std.specs.Prelude.{◌≡◌, ◌<◌, length};
+ghost use Rattle.page_roff_values.specs.Brackets.{IsKnown};
+ghost use Rattle.page_roff_values.specs.Parts as reading;
+ghost use Rattle.page_roff_values.specs.Views.{part_of};
+
+use crate::parts::{Part, read};
+
+/// What is left of a text, and whether it is known that no bracket closes in it: then no name that lacks its bracket costs a search up to the
+/// end.
+#[derive(Drop)]
+pub(crate) struct Unread<'e> {
+    pub(crate) text: &'e [u8],
+    is_unclosed: bool,
+    ghost known: { IsKnown is_unclosed text.now },
+}
+
+impl<'e> Unread<'e> {
+    /// A text of which nothing is read.
+    pub(crate) fn new(text: &'e [u8]) -> Unread<'e>
+        ensures { result.text.now ≡ text.now }
+    {
+        Unread {
+            text,
+            is_unclosed: false,
+        }
+    }
+
+    /// Reads the next part.
+    pub(crate) fn next(&mut self, copy: bool) -> Part<&'e [u8]>
+        requires { 0 < length self.old.text.now }
+        ensures { record { part = part_of result; rest = self.new.text.now } ≡ reading.seen copy self.old.text.now }
+    {
+        let mut is_unclosed = self.is_unclosed;
+        let seen = read(self.text, copy, &mut is_unclosed);
+        self.text = seen.rest;
+        self.is_unclosed = is_unclosed;
+        seen.part
+    }
+}
