@@ -64,6 +64,7 @@ impl<O: PieceSink> PieceOut for PieceLatch<'_, O> {
 
     ghost left = { λ plan s rest. Left O.gave O.broke O.loans plan s.out.ghost_name s.out.now s.fault rest };
 
+    #[inline(always)]
     fn give(&mut self, piece: Piece<&[u8]>) {
         if self.fault.is_none() {
             self.fault = self.out.piece(piece).err();

@@ -104,13 +104,24 @@ fn begins_quote(text: &[u8]) -> bool
     }
 }
 
+// Whether a byte prints itself. Most bytes are above blanks and quotes, so that two looks are enough.
+#[inline(always)]
+fn prints_itself(quoted: bool, byte: u8) -> bool
+    ensures { result ≡ prints_itself quoted byte }
+{
+    if byte > b'"' {
+        return byte != b'\\';
+    }
+    !(is_white(byte) || (quoted && byte == b'"'))
+}
+
 // The number of bytes at a text's front that print themselves.
 fn plain_len(quoted: bool, text: &[u8]) -> usize
     ensures value { result ≡ prefix_len (prints_itself quoted) text.now }
     ensures within { result ≤ length text.now }
 {
     text.iter()
-        .take_while(|byte| !(is_white(**byte) || **byte == b'\\' || (quoted && **byte == b'"')))
+        .take_while(|byte| prints_itself(quoted, **byte))
         .count()
 }
 

@@ -1,8 +1,9 @@
 //! The bytes of cells (mandoc(1), "ASCII Output").
 
-ghost use Rattle.std.specs.Prelude.{◌≡◌, ℕ, ◌+◌, ◌*◌, ◌≤◌, [], ◌∷◌, ◌++◌, length, take, encode_utf8};
-ghost use Rattle.std.specs.List.{flat_map};
+ghost use Rattle.std.specs.Prelude.{◌≡◌, ℕ, ◌+◌, ◌*◌, ◌≤◌, [], ◌∷◌, ◌++◌, length, take, true, encode_utf8};
+ghost use Rattle.std.specs.List.{flat_map, list_all};
 ghost use Rattle.page_core_base.specs.Rows.{trimmed};
+ghost use Rattle.page_core_writers.specs.PlainCells as plain;
 ghost use Rattle.page_core_writers.specs.RowBytes.{cell_bytes_of};
 
 use arrayvec::ArrayVec;
@@ -21,6 +22,50 @@ pub fn cell_bytes(cell: Cell) -> ArrayVec<u8, 16>
     let mut bytes = ArrayVec::new();
     let _fits = bytes.try_extend_from_slice(&places[..end]);
     bytes
+}
+
+// Whether a cell is printed as one byte.
+#[inline(always)]
+fn is_plain(cell: Cell) -> bool
+    ensures { result ≡ plain.is_plain cell }
+{
+    cell.c.is_ascii() && matches!(cell.font, Font::R)
+}
+
+/// Whether each cell is printed as one byte.
+pub(crate) fn are_plain(cells: &[Cell]) -> bool
+    ensures { result ≡ list_all plain.is_plain cells.now }
+{
+    // All cells are looked at: without a way out the compiler takes several at a time.
+    let mut so_far = true;
+    for cell in cells {
+        so_far = so_far & is_plain(*cell);
+    }
+    so_far
+}
+
+// The byte that a plain cell is printed as.
+#[inline(always)]
+fn plain_byte(cell: Cell) -> u8
+    requires { plain.is_plain cell ≡ true }
+    ensures { cell_bytes_of cell ≡ result ∷ [] }
+{
+    cell.c as u8
+}
+
+/// Writes plain cells from `start` on, and answers where they end.
+pub(crate) fn write_plain(bytes: &mut [u8], start: usize, cells: &[Cell]) -> usize
+    requires plain { list_all plain.is_plain cells.now ≡ true }
+    requires room { start + length cells.now ≤ length bytes.old }
+    ensures front { take result bytes.new ≡ take start bytes.old ++ flat_map cell_bytes_of cells.now }
+    ensures end { result ≡ start + length cells.now }
+{
+    let mut end = start;
+    for cell in cells {
+        bytes[end] = plain_byte(*cell);
+        end += 1;
+    }
+    end
 }
 
 /// Writes the bytes of cells from `start` on, and answers where they end.

@@ -1,13 +1,14 @@
 //! Rows as bytes of a writer (mandoc(1), "ASCII Output").
 
-ghost use Rattle.std.specs.Prelude.{◌≡◌, ◌≤◌, ◌++◌, [], ◌∷◌, MatchOption, length, take, replicate};
+ghost use Rattle.std.specs.Prelude.{◌≡◌, ◌+◌, ◌<◌, ◌≤◌, ◌++◌, [], ◌∷◌, MatchOption, length, take, true, replicate};
 ghost use Rattle.std.specs.Borrow.{GName};
-ghost use Rattle.std.specs.List.{flat_map};
+ghost use Rattle.std.specs.List.{flat_map, list_all};
 ghost use Rattle.page_core_writers.specs.Grows.{GrowsInto, GrowsUpTo, Writes};
 ghost use Rattle.page_core_writers.specs.Grows.{Adds, AddsInto, adds-sink, adds-whole};
+ghost use Rattle.page_core_writers.specs.PlainCells.{is_plain};
 ghost use Rattle.page_core_writers.specs.RowBytes.{row_bytes, printed, cell_bytes_of};
 
-use crate::cells::{CELL_BYTES, without_blanks_at_end, write_cells};
+use crate::cells::{CELL_BYTES, are_plain, without_blanks_at_end, write_cells, write_plain};
 use crate::writing::{BUFFER, put};
 use page_core_base::{Cell, Fault, RowSink};
 use std::io::Write;
@@ -67,8 +68,20 @@ fn room_after<W: Write>(out: &mut W, bytes: &[u8], end: usize) -> Option<usize>
     }
 }
 
-// Writes the bytes before a place, and then cells and a line feed.
-fn put_cells<W: Write>(out: &mut W, bytes: &mut [u8; BUFFER], start: usize, cells: &[Cell]) -> bool
+// Writes the bytes before a place, and then plain cells that have room and a line feed.
+fn put_plain<W: Write>(out: &mut W, bytes: &mut [u8; BUFFER], start: usize, cells: &[Cell]) -> bool
+    requires plain { list_all is_plain cells.now ≡ true }
+    requires room { start + length cells.now < 512 }
+    ensures { Writes result (W.contents out.old) (W.contents out.new)
+        (take start bytes.old ++ (flat_map cell_bytes_of cells.now ++ 10 ∷ [])) }
+{
+    let end = write_plain(bytes, start, cells);
+    bytes[end] = b'\n';
+    put(out, &bytes[..end + 1])
+}
+
+// Writes the bytes before a place, and then cells, a part of them after another, and a line feed.
+fn put_parts<W: Write>(out: &mut W, bytes: &mut [u8; BUFFER], start: usize, cells: &[Cell]) -> bool
     requires { start ≤ 256 }
     ensures { Writes result (W.contents out.old) (W.contents out.new)
         (take start bytes.old ++ (flat_map cell_bytes_of cells.now ++ 10 ∷ [])) }
@@ -85,6 +98,18 @@ fn put_cells<W: Write>(out: &mut W, bytes: &mut [u8; BUFFER], start: usize, cell
     }
     bytes[end] = b'\n';
     put(out, &bytes[..end + 1])
+}
+
+// Writes the bytes before a place, and then cells and a line feed.
+fn put_cells<W: Write>(out: &mut W, bytes: &mut [u8; BUFFER], start: usize, cells: &[Cell]) -> bool
+    requires { start ≤ 256 }
+    ensures { Writes result (W.contents out.old) (W.contents out.new)
+        (take start bytes.old ++ (flat_map cell_bytes_of cells.now ++ 10 ∷ [])) }
+{
+    if cells.len() < BUFFER - start && are_plain(cells) {
+        return put_plain(out, bytes, start, cells);
+    }
+    put_parts(out, bytes, start, cells)
 }
 
 // Writes a margin, cells and a line feed, or the line feed alone where there is no cell.

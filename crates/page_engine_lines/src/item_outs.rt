@@ -19,6 +19,7 @@ impl<L: PieceOut> PieceOut for ItemOut<L> {
 
     ghost left = { λ plan s rest. L.left plan s.latch rest };
 
+    #[inline(always)]
     fn give(&mut self, piece: Piece<&[u8]>) {
         self.latch.give(piece);
     }

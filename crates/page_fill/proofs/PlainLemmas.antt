@@ -28,10 +28,10 @@ pub plain-columns : (font : Font) (b : ℕ) → is_printable b ≡ true → cell
 unfolding char_width
 plain-columns font b h = grind (arith, nat_tests)
 
-first-plain : (b : ℕ) (bytes : List ℕ) → is_printable_ascii (b ∷ bytes) ≡ true → is_printable b ≡ true
+pub first-plain : (b : ℕ) (bytes : List ℕ) → is_printable_ascii (b ∷ bytes) ≡ true → is_printable b ≡ true
 first-plain b bytes h = grind (arith, h)
 
-rest-plain : (b : ℕ) (bytes : List ℕ) → is_printable_ascii (b ∷ bytes) ≡ true → is_printable_ascii bytes ≡ true
+pub rest-plain : (b : ℕ) (bytes : List ℕ) → is_printable_ascii (b ∷ bytes) ≡ true → is_printable_ascii bytes ≡ true
 rest-plain b bytes h = grind (arith, h)
 
 -- ---- one cell
@@ -42,10 +42,10 @@ not-passed s cell n one room = grind (arith, nat_tests, one, room)
 not-full : (s : Sheet) (n : ℕ) → has_room s (suc n) ≡ true → (length s.cells == CELLS) ≡ false
 not-full s n room = grind (arith, nat_tests, room)
 
-has-some : (cells : List Cell) (n : ℕ) → length cells ≡ suc n → (length cells == 0) ≡ false
+pub has-some : (cells : List Cell) (n : ℕ) → length cells ≡ suc n → (length cells == 0) ≡ false
 has-some cells n is = grind (arith, nat_tests, is)
 
-has-more : (cells : List Cell) (cell : Cell) → (length (cells ++ cell ∷ []) == 0) ≡ false
+pub has-more : (cells : List Cell) (cell : Cell) → (length (cells ++ cell ∷ []) == 0) ≡ false
 has-more cells cell = has-some (cells ++ cell ∷ []) (length cells) (length-append cells (cell ∷ []) ∙ omega arith)
 
 letter-at : (s : Sheet) (cells : List Cell) (cell : Cell) (n : ℕ) (place : Place) → s.cells ≡ cells → cell_columns cell ≡ 1 → has_room s (suc n) ≡ true
@@ -72,7 +72,7 @@ room-at s (c ∷ cs) cell n is one room =
 pub room-less : (s : Sheet) (cell : Cell) (n : ℕ) → cell_columns cell ≡ 1 → has_room s (suc n) ≡ true → has_room (taken s (cell ∷ [])) n ≡ true
 room-less s cell n one room = room-at s s.cells cell n refl one room
 
-counts-more : (columns n : ℕ) → min (min (columns + 1) TAG_COLUMNS + suc n) TAG_COLUMNS ≡ min (columns + suc (suc n)) TAG_COLUMNS
+pub counts-more : (columns n : ℕ) → min (min (columns + 1) TAG_COLUMNS + suc n) TAG_COLUMNS ≡ min (columns + suc (suc n)) TAG_COLUMNS
 counts-more columns n = omega arith
 
 taken-at : (s : Sheet) (front : List Cell) (cell next : Cell) (cells : List Cell) → s.cells ≡ front

@@ -1,9 +1,10 @@
 -- A machine, which no public clause cites: the fast way for plain texts. They are bytes of printable ASCII, each a cell of one column, so that an
 -- open row with room for them takes them as a whole.
-use Rattle.std.specs.Prelude.{ℕ, ◌+◌, Bool, true, not, ◌&&◌, ◌||◌, ◌==◌, nat_le, min, List, [], ◌∷◌, ◌++◌, length, if◌then◌else◌}
+use Rattle.std.specs.Prelude.{ℕ, ◌+◌, Bool, true, not, ◌&&◌, ◌||◌, ◌==◌, nat_le, nat_lt, min, List, [], ◌∷◌, ◌++◌, length, if◌then◌else◌}
 use Rattle.std.specs.List.{list_all}
 use Rattle.page_core_base.specs.declared.cells.Cell.{Cell}
-use Rattle.page_fill.specs.Sheets.{Sheet, begins, columns, blank, counted, opens}
+use Rattle.page_core_base.specs.Laid.{Laid}
+use Rattle.page_fill.specs.Sheets.{Sheet, begins, columns, blank, counted, emptied, gives, opens, over, passes}
 use Rattle.page_fill.specs.Fill.{Edge}
 use Rattle.page_core_limits.specs.declared.TheConstants.{CELLS}
 use Rattle.page_fill.specs.declared.TheConstants.{TAG_COLUMNS}
@@ -32,6 +33,16 @@ has_word_room s count =
 abbrev pub takes_word : Edge → ℕ → Bool
 takes_word e count = not e.word.is_joined && (not e.word.has_tab && (e.word.blanks == 1 && has_word_room e.sheet count))
 
+-- an open row that is filled ends before a word after one blank, with this count of cells of a column each
+abbrev pub ends_before : Sheet → ℕ → Bool
+ends_before s count =
+    not s.literal
+    && (not (length s.cells == 0)
+    && (nat_le (length s.cells + 1 + count) CELLS && nat_lt s.width (s.margin + columns s.cells + 1 + count)))
+
+abbrev pub wraps_word : Edge → ℕ → Bool
+wraps_word e count = not e.word.is_joined && (not e.word.has_tab && (e.word.blanks == 1 && ends_before e.sheet count))
+
 -- the row took a blank before its next word
 abbrev pub spaced : Sheet → Sheet
 spaced s = let t = counted (opens s) blank in record t { cells = t.cells ++ blank ∷ []; word = length t.cells + 1 }
@@ -52,3 +63,11 @@ taken s cells =
       tag_columns = min (s.tag_columns + length cells) TAG_COLUMNS;
       tag_begun = true;
     }
+
+-- the blank before a word counts for the open tag where it does not pass the width itself
+abbrev pub blank_counted : Sheet → Sheet
+blank_counted s = if passes (opens s) blank then opens s else counted (opens s) blank
+
+-- the row ended before a word of a column a cell, which begins the next row
+abbrev pub wraps_plain : Sheet → List Cell → Laid Sheet
+wraps_plain s cells = over (gives (blank_counted s) s.cells) (λ t. taken (emptied t) cells)

@@ -15,6 +15,7 @@ use std::alloc::Global;
 use std::marker::Model;
 
 // Takes a piece, and gives the rows and messages that it settles.
+#[inline(always)]
 #[tactic(auto, unfolding(crate::specs::Fill::laid_piece))]
 fn take_piece<O: RowOut>(edge: &mut Edge, piece: Piece<&[u8]>, out: &mut O)
     ensures { LaysOut O.left out.old (fill.laid_piece edge.old (piece_of piece.entry)) out.new edge.new }
@@ -40,6 +41,7 @@ fn take_piece<O: RowOut>(edge: &mut Edge, piece: Piece<&[u8]>, out: &mut O)
 }
 
 // Takes a piece over two sinks.
+#[inline(always)]
 fn fill_piece<R: RowSink, N: NoteSink>(
     edge: &mut Edge,
     piece: Piece<&[u8]>,
@@ -134,6 +136,7 @@ impl Filler {
     /// Takes a piece, and gives the rows and messages that it settles. It succeeds if the sinks do.
     ///
     /// Its faults are those of the sinks; after one, and after [`finish`](Filler::finish), it is [`Fault::Failed`].
+    #[inline(always)]
     pub fn piece<R: RowSink, N: NoteSink>(
         &mut self,
         piece: Piece<&[u8]>,

@@ -345,6 +345,41 @@ impl OpenRow {
         columns <= u64::from(self.width)
     }
 
+    /// Whether a filled row ends before a blank and this count of cells of a column each after it.
+    pub(crate) fn ends_before(&self, count: usize) -> bool
+        ensures { result ≡ plain.ends_before self.now count }
+    {
+        if self.is_literal || self.row.is_empty() || CELLS - self.row.len() <= count {
+            return false;
+        }
+        let columns = u64::from(self.margin) + u64::from(self.columns) + 1 + count as u64;
+        u64::from(self.width) < columns
+    }
+
+    // A word begins after the row's cells, and the blank before it counts for the open tag where it has room.
+    fn count_blank(&mut self)
+        ensures { self.new ≡ plain.blank_counted self.old }
+    {
+        self.open_word();
+        if !self.passes(BLANK) {
+            self.count(BLANK);
+        }
+    }
+
+    /// The row ends, and a word of bytes that are a column each begins the next one.
+    pub(crate) fn wrap_plain<O: RowOut>(&mut self, bytes: &[u8], font: Font, out: &mut O)
+        requires plain { plain.is_printable_ascii bytes.now ≡ true }
+        requires room { length bytes.now ≤ CELLS }
+        ensures { LaysOut O.left out.old
+            (plain.wraps_plain self.old (shown.cells_of font bytes.now)) out.new self.new }
+    {
+        self.count_blank();
+        let end = self.row.len();
+        self.give(end, out);
+        self.empty();
+        self.add_plain(bytes, font);
+    }
+
     /// The row takes a blank, and after it a word of bytes that are a column each.
     pub(crate) fn add_word(&mut self, bytes: &[u8], font: Font)
         requires plain { plain.is_printable_ascii bytes.now ≡ true }

@@ -177,6 +177,14 @@ impl Edge {
         !word.is_joined && !word.has_tab && word.blanks == 1 && self.sheet.has_word_room(count)
     }
 
+    // Whether the next word, with this count of cells of a column each, begins the next row after one blank.
+    fn wraps_word(&self, count: usize) -> bool
+        ensures { result ≡ plain.wraps_word self.now count }
+    {
+        let word = &self.word;
+        !word.is_joined && !word.has_tab && word.blanks == 1 && self.sheet.ends_before(count)
+    }
+
     // Takes a plain text.
     #[tactic(auto, unfolding(crate::specs::Fill::text))]
     fn plain<O: RowOut>(&mut self, bytes: &[u8], font: Font, place: Place, out: &mut O)
@@ -189,6 +197,11 @@ impl Edge {
         }
         if self.takes_word(bytes.len()) {
             self.sheet.add_word(bytes, font);
+            self.word = OpenWord::begun(false);
+            return;
+        }
+        if self.wraps_word(bytes.len()) {
+            self.sheet.wrap_plain(bytes, font, out);
             self.word = OpenWord::begun(false);
             return;
         }

@@ -1,5 +1,5 @@
 -- The words of a text, token by token.
-use Rattle.std.proofs.Common.{◌≡◌, ℕ, zero, ◌+◌, ◌<◌, ◌≤◌, ◌==◌, ◌&&◌, Bool, true, false, List, [], ◌∷◌, ◌++◌, length, take, drop, refl, ap, ◌∙◌, arith, sym, suc, Option, None, Some, inl, inr}
+use Rattle.std.proofs.Common.{◌≡◌, ℕ, zero, ◌+◌, ◌<◌, ◌≤◌, ◌==◌, ◌&&◌, Bool, true, false, List, [], ◌∷◌, ◌++◌, length, take, drop, refl, ap, ◌∙◌, arith, sym, suc, length-drop, Option, None, Some, inl, inr}
 use Rattle.std.specs.List.{prefix_len}
 use Rattle.std.proofs.lemmas.List.Folds.{length-prefix_len}
 use Rattle.std.proofs.lemmas.Bool.{cases_Bool}
@@ -8,10 +8,11 @@ use Rattle.page_core_escapes.specs.Tokens.{TextToken, white, plain, quotes, esca
 use Rattle.page_core_escapes.specs.Escapes.{escape_of, read_escape}
 use Rattle.page_core_escapes.specs.Lengths.{escape_len}
 use Rattle.page_core_escapes.proofs.Contents.{escape_len-some}
-use Rattle.page_core_escapes.proofs.TokenLemmas.{tokens_more as text_tokens, tokens_none, word_token, not_white, white_first}
+use Rattle.page_core_escapes.proofs.TokenLemmas.{tokens_more as text_tokens, tokens_none, word_token, not_white, space_token, white_first}
 use Rattle.page_scopes_text.specs.Words.{pen_after, pen_through, token_items, tokens_items}
 use Rattle.page_scopes_text.specs.declared.pens.Pen.{Pen}
 use Rattle.page_scopes_text.specs.Parted.{Parted, after_token, parted, words_of, spaced_front}
+use Rattle.page_scopes_text.specs.Reads.{ReadsPlain}
 
 token_before : (token : TextToken) (text : Parted) → is_space token ≡ false → after_token token text ≡ record { word = token ∷ text.word; others = text.others }
 token_before (white bytes) text h = let no : ⊥ = cc in absurd no
@@ -130,3 +131,26 @@ front_not_space quoted [] h = absurd (never h)
     never : false ≡ true → ⊥
     never e = grind (arith, e)
 front_not_space quoted (b ∷ bs) h = word_token quoted b bs (not_white b bs h)
+
+-- ---- a word that prints itself
+
+plain_begins : (quoted : Bool) (text word : List ℕ) → token_at quoted text ≡ plain word → 0 < length word → length word ≤ length text → begins_word text ≡ true
+plain_begins quoted [] word e h k = absurd (omega (arith, h, k))
+plain_begins quoted (b ∷ bs) word e h k =
+    elim (cases_Bool (is_white b)) [ inl t ↦ absurd (never (sym (space_token quoted b bs t) ∙ ap is_space e)) | inr f ↦ rw f refl ]
+  where
+    never : true ≡ false → ⊥
+    never e = grind (arith, e)
+
+-- the one token of a word, where no word goes on after it
+pub reads_plain : (quoted : Bool) (text word : List ℕ) → token_at quoted text ≡ plain word → 0 < length word → length word ≤ length text
+    → begins_word (drop (length word) text) ≡ false → ReadsPlain quoted text word (drop (length word) text)
+reads_plain quoted text word e h k ends =
+    let w = plain_begins quoted text word e h k in
+    let len : length word ≡ token_len quoted text = rw e refl in
+    record {
+      len = omega (arith, length-drop (length word) text, k);
+      only = ap (λ (t : Parted). t.word) (words_more quoted text (length word) w h len) ∙ rw (e, no_word quoted (drop (length word) text) ends) refl;
+      ends = ends;
+      others = others_same quoted text (length word) w h len;
+    }

@@ -1,6 +1,6 @@
 -- How the code's own reading of a text goes on from its front. Source: roff(7).
-use Rattle.std.specs.Prelude.{◌≡◌, ℕ, ◌≤◌, ◌<◌, ◌+◌, ◌^◌, Bool, false, List, length, drop}
-use Rattle.page_core_escapes.specs.Tokens.{begins_word, token_len}
+use Rattle.std.specs.Prelude.{◌≡◌, ℕ, ◌≤◌, ◌<◌, ◌+◌, ◌^◌, Bool, false, List, [], ◌∷◌, length, drop}
+use Rattle.page_core_escapes.specs.Tokens.{begins_word, plain, token_len}
 use Rattle.page_core_limits.specs.declared.TheConstants.{LINE}
 use Rattle.page_scopes_text.specs.Parted.{words_of}
 use Rattle.page_scopes_text.specs.declared.pens.Pen.{Pen}
@@ -27,3 +27,10 @@ pub record ReadsSpaced (quoted : Bool) (pen : Pen) (text : List ℕ) (next : Pen
   pub some : length rest < length text
   pub ends : begins_word rest ≡ false
   pub others : (words_of quoted rest).others ≡ (words_of quoted (drop (token_len quoted text) text)).others
+
+-- a word at a text's front was read, all of which prints itself
+pub record ReadsPlain (quoted : Bool) (text word rest : List ℕ) : Type 0 where
+  pub len : length word + length rest ≡ length text
+  pub only : (words_of quoted text).word ≡ plain word ∷ []
+  pub ends : begins_word rest ≡ false
+  pub others : (words_of quoted rest).others ≡ (words_of quoted text).others

@@ -1,9 +1,9 @@
 //! What is known between two tokens of a text (roff(7), `\f` and `\c`).
 
-ghost use Rattle.std.specs.Prelude.{◌≡◌, ◌<◌, ◌+◌, ◌^◌, length};
-ghost use Rattle.page_core_escapes.specs.Tokens.{token_bytes, token_seen};
+ghost use Rattle.std.specs.Prelude.{◌≡◌, ◌<◌, ◌+◌, ◌^◌, [], ◌∷◌, length};
+ghost use Rattle.page_core_escapes.specs.Tokens.{plain, token_bytes, token_seen};
 ghost use Rattle.page_scopes_text.specs.Texts.{indented_pen, white_after};
-ghost use Rattle.page_scopes_text.specs.Words.{gap_after, has_gap_cells, pen_after, word_begun, word_ended};
+ghost use Rattle.page_scopes_text.specs.Words.{body_after, gap_after, has_gap_cells, pen_after, word_begun, word_ended};
 
 use crate::tokens::{fonts_after, is_glue, token_prints};
 use page_core_escapes::Token;
@@ -83,7 +83,22 @@ impl Pen {
         self.has_cell = self.has_cell || self.has_gap_cells(style);
     }
 
+    /// Goes on after a word that prints itself.
+    #[inline(always)]
+    pub(crate) fn pass_plain(&mut self, word: &[u8])
+        requires { self.old.column + length word.now < 2 ^ 32 }
+        ensures { self.new ≡ body_after self.old (plain word.now ∷ []) }
+    {
+        self.column += word.len() as u32;
+        self.gap = 1;
+        self.is_after_word = true;
+        self.has_cell = true;
+        self.is_cut = false;
+        self.ends_blank = false;
+    }
+
     /// Goes on after white space.
+    #[inline(always)]
     pub(crate) fn pass_white(&mut self, style: TextStyle, white: &[u8])
         requires { self.old.column + length white.now < 2 ^ 32 }
         ensures { self.new ≡ white_after style self.old white.now }

@@ -16,6 +16,7 @@ use page_core_escapes::{begins_word, read_token};
 use page_scopes_words::{give_white_cells, has_tab};
 
 // Gives white space, and goes on after it.
+#[inline(always)]
 fn give_white<O: PieceOut>(out: &mut O, style: TextStyle, line: u32, pen: &mut Pen, white: &[u8])
     requires { pen.old.column + length white.now < 2 ^ 32 }
     ensures came { Came O.left out.old
@@ -33,6 +34,7 @@ fn give_white<O: PieceOut>(out: &mut O, style: TextStyle, line: u32, pen: &mut P
 }
 
 // Gives the white space at a text's front, and the word after it; what is left of the text.
+#[inline(always)]
 fn give_spaced<'a, O: PieceOut>(
     out: &mut O,
     style: TextStyle,

@@ -1,15 +1,16 @@
 //! Words: their messages, the blanks before them, and what they print (roff(7); mandoc(1), "DIAGNOSTICS").
 
-ghost use Rattle.std.specs.Prelude.{◌≡◌, ◌≤◌, ◌<◌, ◌+◌, ◌^◌, length};
+ghost use Rattle.std.specs.Prelude.{◌≡◌, ◌≤◌, ◌<◌, ◌+◌, ◌^◌, [], ◌∷◌, IfSome, length};
 ghost use Rattle.page_core_base.specs.Latches.{Came};
+ghost use Rattle.page_core_escapes.specs.Tokens.{plain};
 ghost use Rattle.page_scopes_text.specs.Parted.{words_of};
-ghost use Rattle.page_scopes_text.specs.Reads.{Fits, ReadsWord};
+ghost use Rattle.page_scopes_text.specs.Reads.{Fits, ReadsPlain, ReadsWord};
 ghost use Rattle.page_scopes_text.specs.Words as words;
 
 use crate::tokens::{give_blank_cells, give_token, report_token};
 use crate::{Pen, TextStyle};
 use page_core_base::{Font, Piece, PieceOut, Place};
-use page_core_escapes::{begins_word, read_token};
+use page_core_escapes::{Token, begins_word, read_token};
 use page_core_limits::LINE;
 
 /// Gives the messages of the word at a text's front.
@@ -78,6 +79,7 @@ pub(crate) fn give_body<'a, O: PieceOut>(
 }
 
 // Gives the blanks before a word.
+#[inline(always)]
 fn give_gap<O: PieceOut>(out: &mut O, style: TextStyle, has_tab: bool, place: Place, pen: &Pen)
     ensures { Came O.left out.old (words.gap_items style has_tab place pen.now) out.new }
 {
@@ -93,8 +95,53 @@ fn give_gap<O: PieceOut>(out: &mut O, style: TextStyle, has_tab: bool, place: Pl
     }
 }
 
-/// Gives the word at a text's front, which is empty where white space stands there; what is left of the text.
-pub(crate) fn give_word<'a, O: PieceOut>(
+// The word at a text's front and what is left after it, where all of the word prints itself.
+#[inline(always)]
+fn read_plain(quoted: bool, text: &[u8]) -> Option<(&[u8], &[u8])>
+    requires { length text.now ≤ LINE }
+    ensures { IfSome result (λ parts. ReadsPlain quoted text.now parts.0.now parts.1.now) }
+{
+    let Token::Plain(word) = read_token(quoted, text) else {
+        return None;
+    };
+    let rest = &text[word.len()..];
+    if word.is_empty() || begins_word(rest) {
+        return None;
+    }
+    Some((word, rest))
+}
+
+// Gives a word that prints itself, after the blanks before it.
+#[inline(always)]
+fn give_plain<O: PieceOut>(
+    out: &mut O,
+    style: TextStyle,
+    line: u32,
+    has_tab: bool,
+    pen: &mut Pen,
+    word: &[u8],
+)
+    requires { pen.old.column + length word.now < 2 ^ 32 }
+    ensures came { Came O.left out.old
+        (words.word_items style line has_tab pen.old (plain word.now ∷ [])) out.new }
+    ensures pen { pen.new ≡ words.word_after style pen.old (plain word.now ∷ []) }
+{
+    let place = Place {
+        line,
+        column: pen.column,
+    };
+    give_gap(out, style, has_tab, place, pen);
+    pen.pass_gap(style);
+    out.give(Piece::Text {
+        text: word,
+        font: pen.fonts.value.font,
+        place,
+    });
+    pen.pass_plain(word);
+}
+
+// Gives the word at a text's front, its messages first; what is left of the text.
+fn give_told_word<'a, O: PieceOut>(
     out: &mut O,
     style: TextStyle,
     line: u32,
@@ -116,4 +163,27 @@ pub(crate) fn give_word<'a, O: PieceOut>(
     give_gap(out, style, has_tab, place, pen);
     pen.pass_gap(style);
     give_body(out, style.is_quoted, place, pen, text)
+}
+
+/// Gives the word at a text's front, which is empty where white space stands there; what is left of the text.
+#[inline(always)]
+pub(crate) fn give_word<'a, O: PieceOut>(
+    out: &mut O,
+    style: TextStyle,
+    line: u32,
+    has_tab: bool,
+    pen: &mut Pen,
+    text: &'a [u8],
+) -> &'a [u8]
+    requires { Fits pen.old text.now }
+    ensures came { Came O.left out.old
+        (words.word_items style line has_tab pen.old (words_of style.is_quoted text.now).word) out.new }
+    ensures pen { pen.new ≡ words.word_after style pen.old (words_of style.is_quoted text.now).word }
+    ensures rest { ReadsWord style.is_quoted pen.old text.now pen.new result.now }
+{
+    if let Some((word, rest)) = read_plain(style.is_quoted, text) {
+        give_plain(out, style, line, has_tab, pen, word);
+        return rest;
+    }
+    give_told_word(out, style, line, has_tab, pen, text)
 }

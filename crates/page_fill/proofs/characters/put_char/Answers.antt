@@ -1,4 +1,3 @@
-use Rattle.std.proofs.Common.{ap, sym, ◌∙◌}
 use Rattle.page_fill.specs.Characters.{cell_of}
 use Rattle.page_fill.proofs.SheetLemmas.{letters-one}
 use Rattle.page_fill.proofs.characters.put_char.Goals as goal

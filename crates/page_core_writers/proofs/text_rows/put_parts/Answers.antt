@@ -4,7 +4,7 @@ use Rattle.std.proofs.lemmas.List.{take_rest, take_more_set}
 use Rattle.page_core_writers.specs.RowBytes.{cell_bytes_of}
 use Rattle.page_core_writers.proofs.GrowsLemmas.{GrowsUpTo-flow, GrowsUpTo-broken, GrowsUpTo-last}
 use Rattle.page_core_writers.proofs.RowLemmas.{cells_moved, cells_done}
-use Rattle.page_core_writers.proofs.text_rows.put_cells.Goals as goal
+use Rattle.page_core_writers.proofs.text_rows.put_parts.Goals as goal
 
 pub returns-in_default : goal.returns-in_default
 returns-in_default g c =

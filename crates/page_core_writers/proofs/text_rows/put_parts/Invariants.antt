@@ -2,7 +2,7 @@ use Rattle.std.proofs.Common.{◌++◌, ◌<◌, [], ◌∷◌, take, length}
 use Rattle.std.specs.List.{flat_map}
 use Rattle.page_core_writers.specs.RowBytes.{cell_bytes_of}
 use Rattle.page_core_writers.specs.Grows.{GrowsUpTo}
-use Rattle.page_core_writers.proofs.text_rows.put_cells.Given as goal
+use Rattle.page_core_writers.proofs.text_rows.put_parts.Given as goal
 
 abbrev pub invariant-loop-rest : goal.invariant-loop-rest
 invariant-loop-rest g l = (l.end < 512) × GrowsUpTo (g.W.Write.contents l.fn.out) (g.W.Write.contents l.out)
