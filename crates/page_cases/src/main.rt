@@ -1,13 +1,18 @@
 //! Shows what whole pages give: rows, messages, counts of lines and the worst level. The standard input has the pages, each after a line
 //! `== WORDS: what it shows`, where the words are those of `settings` or none. What cannot be written is missing from what is wanted.
+//!
+//! Each page is also run by bytes, cut, and with reads and writes that fail. Where it then gives something else, a line `-- not` says how.
 #![tactic(auto)]
 
 mod settings;
+mod streams;
+mod ways;
 
 use page_core_base::{Level, Settings};
-use page_engine::{Outcome, run_page};
+use page_engine::Outcome;
 use settings::settings_of;
 use std::io;
+use ways::{Case, difference, run_whole};
 
 fn main(rt: HostRuntime) -> io::Result<()> {
     let mut page = Vec::new(rt.alloc());
@@ -34,22 +39,20 @@ fn main(rt: HostRuntime) -> io::Result<()> {
 
 // Shows what a page gives.
 fn show(rt: &HostRuntime, page: &[u8], settings: &Settings) {
-    let mut reader = page;
-    let mut rows = Vec::new(rt.alloc());
-    let mut messages = Vec::new(rt.alloc());
-    let result = run_page(
-        rt.alloc(),
-        &mut reader,
-        &mut rows,
-        &mut messages,
-        "x.1",
-        settings,
+    let case = Case { page, settings };
+    let given = run_whole(rt.alloc(), case);
+    let _ = print!(rt;
+        "{}{}",
+        shown(&given.rows.kept),
+        shown(&given.messages.kept)
     );
-    let _ = print!(rt; "{}{}", shown(&rows), shown(&messages));
-    let _ = match result {
+    let _ = match given.result {
         Ok(outcome) => show_outcome(rt, outcome),
         Err(fault) => println!(rt; "-- {fault}"),
     };
+    if let Some(way) = difference(rt.alloc(), case, &given) {
+        let _ = println!(rt; "-- not {way}");
+    }
 }
 
 fn show_outcome(rt: &HostRuntime, outcome: Outcome) -> io::Result<()> {
