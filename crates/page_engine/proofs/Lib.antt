@@ -1,3 +1,4 @@
+pub mod LineCounts
 pub mod Cutting
 pub mod BytesRead
 pub mod Through

@@ -3,7 +3,7 @@ use Rattle.page_core_base.specs.Laid.{Gets}
 use Rattle.page_core_base.specs.Fails.{FailsBySink}
 use Rattle.page_engine_page.specs.Page.{ended, end_laid}
 use Rattle.page_engine_page.proofs.Feeds.{ends_gets, ends_worst, ends_faults}
-use Rattle.page_engine_page.proofs.pages.Page.end.Goals as goal
+use Rattle.page_engine_page.proofs.parts.Parts.end.Goals as goal
 
 pub returns-clause-gets : goal.returns-clause-gets
 unfolding ended
