@@ -1,15 +1,15 @@
 -- What a call on the layers did, as it is said of the page.
-use Rattle.std.proofs.Common.{◌≡◌, ℕ, ◌<◌, ◌-◌, ◌^◌, List, Option, None, Some, refl, ap, ◌∙◌, sym, arith}
+use Rattle.std.proofs.Common.{◌≡◌, ℕ, ◌<◌, ◌-◌, ◌^◌, Option, None, Some, refl, ap, ◌∙◌, arith}
 use Rattle.page_core_base.specs.Fails.{IsSinkFault}
 use Rattle.page_core_base.specs.declared.faults.Fault.{Fault}
 use Rattle.page_core_base.specs.declared.faults.Fault.TheVariants as faults
-use Rattle.page_core_base.specs.Laid.{Laid}
 use Rattle.page_fill.specs.declared.words.Edge.{Edge as FillEdge}
+use Rattle.page_engine_page.specs.declared.pages.Phase.{Phase}
 use Rattle.page_engine_page.specs.declared.parts.Parts.{Parts}
-use Rattle.page_engine_page.specs.Levels.{given, worst_of}
-use Rattle.page_engine_page.specs.Page.{Edge, text_line, settled_text, settled_line}
+use Rattle.page_engine_page.specs.States.{PageState, IsOpenAt}
+use Rattle.page_roff_source.specs.declared.counts.Counts.{Counts}
+use Rattle.page_engine_page.specs.Page.{Edge}
 use Rattle.page_engine_page.specs.Parts.{IsAt, with_fill, edge_of}
-use Rattle.page_engine_page.specs.Streams.{Sinks, Front, AreWell}
 
 -- ---- the edge that the layers are at
 
@@ -30,11 +30,10 @@ at_edge p e h = fill_at p p.filler e refl h
 pub edge_at : (p : Parts) (e : Edge) → IsAt p e → edge_of p ≡ Some e
 edge_at p e h = rw (h.filled, h.lines, h.levels, h.worst_level, h.last_line) refl
 
--- ---- a line
-
-pub line_of_text : (e : Edge) (text : List ℕ) (number : ℕ) → settled_line e (text_line text number) ≡ settled_text e text number
-unfolding given worst_of
-line_of_text e text number = refl
+-- the layers of a page that is open at an edge
+pub open_parts : {now : PageState} {phase : Phase} {counts : Counts} (parts : Parts) (e : Edge)
+    → record { phase = phase; edge = edge_of parts; worst = parts.worst; counts = counts } ≡ now → IsOpenAt now e → IsAt parts e
+open_parts parts e is h = at_edge parts e (ap (λ (p : PageState). p.edge) is ∙ h.edge)
 
 -- ---- sinks that are well
 

@@ -1,5 +1,5 @@
 -- A page as contracts see it, and what its calls do. Source: mandoc(1).
-use Rattle.std.specs.Prelude.{◌≡◌, ℕ, ◌-◌, ◌^◌, nat_lt, Option, None, Some, Result, Err, MatchResult, ⊥, if◌then◌else◌}
+use Rattle.std.specs.Prelude.{◌≡◌, ℕ, ◌-◌, ◌^◌, nat_lt, Option, None, Some, Result, Err, MatchResult, if◌then◌else◌}
 use Rattle.page_core_base.specs.Checks.{IsGood, IsFirst}
 use Rattle.page_core_base.specs.declared.faults.Fault.{Fault}
 use Rattle.page_core_base.specs.declared.faults.Fault.TheVariants as faults

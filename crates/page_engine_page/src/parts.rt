@@ -151,7 +151,11 @@ impl Parts {
 
 impl Parts {
     /// Ends the page. After that the parts are not to be used again.
-    pub(crate) fn end<R: RowSink, N: NoteSink>(&mut self, rows: &mut R, notes: &mut N) -> Result<(), Fault>
+    pub(crate) fn end<R: RowSink, N: NoteSink>(
+        &mut self,
+        rows: &mut R,
+        notes: &mut N,
+    ) -> Result<(), Fault>
         ensures gets { (e : Edge) → IsAt self.old e →
             Gets result R.gave R.within N.gave N.within rows.old rows.new notes.old notes.new (ended e) }
         ensures worst { (e : Edge) → IsAt self.old e → OnOk result (self.new.worst ≡ (ended e).edge.worst) }
