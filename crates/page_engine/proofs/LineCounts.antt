@@ -1,14 +1,15 @@
 -- A page has at most a line for each of its bytes, also with the line that is open.
 use Rattle.std.proofs.Common.{◌≡◌, ℕ, ◌+◌, ◌<◌, ◌≤◌, ◌-◌, ◌^◌, None, Bool, true, false, List, [], ◌∷◌, ◌++◌, length, refl, ap, ◌∙◌, sym, arith, length-append}
-use Rattle.std.specs.Prelude.{if◌then◌else◌}
+use Rattle.std.specs.Prelude.{if◌then◌else◌, ◌==◌}
 use Rattle.std.proofs.lemmas.Bool.{lt-ltb}
 use Rattle.page_core_base.specs.declared.page_settings.Encoding.{Encoding}
-use Rattle.page_roff_lines.specs.Decoding.{Line}
+use Rattle.page_roff_lines.specs.Bytes.{newline}
 use Rattle.page_roff_lines.specs.Cutting.{Point, first_point, point_after, lines_within, last_line, line_of, line_at, next_point, point_at, end_point}
-use Rattle.page_roff_lines.specs.Open.{Open, first_open, restart, put, put_plain, put_pair, put_in, close, without_return, newline_in, put_newline, put_byte, count_byte, next_open, end_open}
+use Rattle.page_roff_lines.specs.Open.{Open, first_open, restart, put, put_plain, put_pair, put_in, close, without_return, newline_in, put_newline, put_byte, count_byte, ends_mark, next_open, end_open}
 use Rattle.page_roff_lines.specs.declared.Mode.{Mode}
 use Rattle.page_roff_lines.specs.declared.Mode.TheVariants.{Plain, Backslash, Comment, Dropped}
 use Rattle.page_engine_page.specs.Page.{Edge}
+use Rattle.page_engine.proofs.Cutting.{at_most}
 use Rattle.page_engine_page.specs.States.{PageState, IsOpenAt, line_fault}
 
 -- ---- a line that is whole has not begun again
@@ -20,13 +21,16 @@ either : (P : Open → Type 0) (c : Bool) (x y : Open) → P x → P y → P (if
 either P true x y a b = a
 either P false x y a b = b
 
+not_both : (w : Bool) → w ≡ false → w ≡ true → ⊥
+not_both w f t = let no : false ≡ true = sym f ∙ t in cc
+
 free_closed : (o : Open) → o.whole ≡ false → IsClosed o
-free_closed o f = λ t. let no : false ≡ true = sym f ∙ t in let none : ⊥ = cc in absurd none
+free_closed o f = λ t. absurd (not_both o.whole f t)
 
 restart_at : (o : Open) (w : Bool) → o.whole ≡ w → (restart o).whole ≡ false
 unfolding restart
 restart_at o true is = rw is refl
-restart_at o false is = rw (is, is) refl
+restart_at o false is = rw is refl
 
 restart_free : (o : Open) → (restart o).whole ≡ false
 restart_free o = restart_at o o.whole refl
@@ -51,8 +55,8 @@ newline_closed : (m : Mode) (o : Open) → o.whole ≡ false → IsClosed (newli
 unfolding newline_in close
 newline_closed Plain o f = λ t. refl
 newline_closed Comment o f = λ t. refl
-newline_closed Backslash o f = free_closed _ f
-newline_closed Dropped o f = free_closed _ f
+newline_closed Backslash o f = λ t. absurd (not_both o.whole f t)
+newline_closed Dropped o f = λ t. absurd (not_both o.whole f t)
 
 put_newline_closed : (o : Open) → o.whole ≡ false → IsClosed (put_newline o)
 unfolding put_newline
@@ -62,11 +66,13 @@ put_closed : (c : Bool) (o : Open) (b : ℕ) → o.whole ≡ false → IsClosed 
 unfolding put_byte
 put_closed true o b f = λ t. refl
 put_closed false o b f =
-    either IsClosed _ _ _ (put_newline_closed o f) (free_closed _ (in_whole o.mode o.after_return o b ∙ f))
+    let kept = put_in o.mode o.after_return o b in
+    either IsClosed (b == newline) (put_newline o) kept (put_newline_closed o f)
+    (free_closed kept (in_whole o.mode o.after_return o b ∙ f))
 
 next_closed : (o : Open) (b : ℕ) → IsClosed (next_open o b)
 unfolding next_open count_byte
-next_closed o b = put_closed _ (count_byte (restart o) b) b (restart_free o)
+next_closed o b = put_closed (ends_mark o.mark b) (count_byte (restart o) b) b (restart_free o)
 
 -- ---- at most one line a byte
 
@@ -76,11 +82,7 @@ end_free o f = let g = restart_begun o ∙ f in rw g (restart_free o)
 
 one_at_most : (p : Point) → length (line_at p) ≤ 1
 unfolding line_at
-one_at_most p = either_line p.line.whole (line_of p)
-where
-  either_line : (b : Bool) (line : Line) → length (if b then line ∷ [] else []) ≤ 1
-  either_line true line = omega arith
-  either_line false line = omega arith
+one_at_most p = at_most p.line.whole (line_of p)
 
 no_line_at : (p : Point) → p.line.whole ≡ false → line_at p ≡ []
 unfolding line_at
@@ -91,12 +93,12 @@ unfolding end_point point_at
 no_last_line p f = no_line_at (end_point p) (end_free p.line f)
 
 one_of_both : (p : Point) (w : Bool) → p.line.whole ≡ w → IsClosed p.line → length (line_at p) + length (last_line p) ≤ 1
-one_of_both p true is closed = omega (arith, one_at_most p, ap length (no_last_line p (closed is)))
-one_of_both p false is closed = omega (arith, ap length (no_line_at p is), one_at_most (end_point p))
+one_of_both p true is closed = let z : length (last_line p) ≡ 0 = ap length (no_last_line p (closed is)) in omega (arith, one_at_most p, z)
+one_of_both p false is closed = let z : length (line_at p) ≡ 0 = ap length (no_line_at p is) in omega (arith, z, one_at_most (end_point p))
 
 one_more : (p : Point) (b : ℕ) → length (line_at (next_point p b)) + length (last_line (next_point p b)) ≤ 1
 unfolding next_point point_at
-one_more p b = one_of_both (next_point p b) _ refl (next_closed p.line b)
+one_more p b = one_of_both (next_point p b) (next_open p.line b).whole refl (next_closed p.line b)
 
 pub lines_most : (p : Point) (bytes : List ℕ)
     → length (lines_within p bytes) + length (last_line (point_after p bytes)) ≤ length bytes + length (last_line p)

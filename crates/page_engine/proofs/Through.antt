@@ -11,9 +11,9 @@ use Rattle.page_engine.specs.declared.runs.Run.{Run}
 use Rattle.page_engine_page.specs.Below.{cause_later}
 use Rattle.page_engine_page.specs.States.{PageState, IsOpenAt}
 use Rattle.page_engine_page.specs.Page.{Edge, page}
-use Rattle.page_engine_page.specs.Streams.{Streams, Sinks, AllCame, FrontCame}
+use Rattle.page_engine_page.specs.Streams.{Streams, Sinks, AllCame, FrontCame, Front}
 use Rattle.page_engine.specs.Runs.{page_from, settled_from, Broken, BrokeIn}
-use Rattle.page_engine.specs.Steps.{Front, CanTake, IsFresh, Moved, Settled, Through, ChunkBroke}
+use Rattle.page_engine.specs.Steps.{CanTake, IsFresh, Moved, Settled, Through, ChunkBroke}
 use Rattle.page_engine_page.proofs.Lists.{settled_none}
 use Rattle.page_engine.proofs.LineCounts.{lines_most}
 use Rattle.page_engine.proofs.Cutting.{consumed_more}

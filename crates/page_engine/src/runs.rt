@@ -51,7 +51,9 @@ impl Run {
         ensures fault { IfErr result (λ fault. CannotStart settings.now fault) }
     {
         let page = Page::new(alloc, settings)?;
-        let cutter = Cutter::new(alloc, settings.encoding)?;
+        let Ok(cutter) = Cutter::new(alloc, settings.encoding) else {
+            return Err(Fault::Memory);
+        };
         Ok(Run { page, cutter })
     }
 

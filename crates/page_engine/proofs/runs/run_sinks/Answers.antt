@@ -1,7 +1,9 @@
-use Rattle.std.proofs.Common.{[], refl}
+use Rattle.std.proofs.Common.{[], ap, ◌∙◌}
 use Rattle.std.proofs.lemmas.Result.{err_from_is_err_and}
+use Rattle.page_roff_lines.specs.Cutting.{Point, last_line}
 use Rattle.page_engine_page.specs.Page.{start}
 use Rattle.page_engine_page.specs.Streams.{sinks}
+use Rattle.page_engine.proofs.LineCounts.{first_none}
 use Rattle.page_engine.proofs.WholeRuns.{runs_not_begun, runs_stopped, runs_well}
 use Rattle.page_engine.proofs.runs.run_sinks.Goals as goal
 
@@ -14,6 +16,15 @@ returns-in_err-run-clause-runs g c =
       [],
       rw (p.1, p.2) (runs_not_begun k g.met.R.RowSink.laws g.met.N.NoteSink.laws _ _ _ c.args.settings.now _ c.in_err-run.ensures.fault),
     )
+
+pub read_all-requires : goal.read_all-requires
+read_all-requires g c =
+    let s = c.in_ok-run.ensures.ok.1 in record {
+      room = ap (λ (p : Point). p.line.consumed) s.point;
+      free = s.free;
+      no_line = ap (λ (p : Point). last_line p) s.point ∙ first_none c.args.settings.now.encoding;
+      no_lines = s.no_lines;
+    }
 
 pub returns-in-Err-clause-runs : goal.returns-in-Err-clause-runs
 returns-in-Err-clause-runs g c =
