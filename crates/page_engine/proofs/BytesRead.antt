@@ -8,10 +8,10 @@ use Rattle.page_core_base.specs.Laid.{Laid, Gave, join, join_assoc}
 use Rattle.page_core_base.proofs.SinkLemmas.{within-join}
 use Rattle.page_roff_lines.specs.Cutting.{Point, point_after, lines_within, last_line, lines_from}
 use Rattle.page_roff_lines.proofs.PointLemmas.{lines_within-append}
-use Rattle.page_engine_page.specs.Page.{Edge, laid, page, ended}
+use Rattle.page_engine_page.specs.Page.{Edge, settled, page, ended}
 use Rattle.page_engine.specs.Runs.{page_from, settled_from}
 use Rattle.page_engine.specs.Sources.{SourceState, HasGiven, counted}
-use Rattle.page_engine.proofs.Cutting.{laid-append}
+use Rattle.page_engine_page.proofs.Lists.{settled-append}
 
 pub consumes_none : (a : Option (List ℕ)) → Consumes a a []
 consumes_none None = tt
@@ -50,13 +50,13 @@ given_end {s} {t} {u} a b xs g h = rw append-nil at (given_more a b xs [] g h)
 
 pub settled_more : (e : Edge) (p q : Point) (xs ys : List ℕ) → q ≡ point_after p xs
     → settled_from e p (xs ++ ys) ≡ join (settled_from e p xs) (settled_from (settled_from e p xs).edge q ys)
-settled_more e p q xs ys h = rw h (ap (laid e) (lines_within-append p xs ys) ∙ laid-append e (lines_within p xs) (lines_within (point_after p xs) ys))
+settled_more e p q xs ys h = rw h (ap (settled e) (lines_within-append p xs ys) ∙ settled-append e (lines_within p xs) (lines_within (point_after p xs) ys))
 
 pub page_last : (e : Edge) (p q : Point) (xs : List ℕ) → q ≡ point_after p xs
     → page_from e p xs ≡ join (settled_from e p xs) (page (settled_from e p xs).edge (last_line q))
 page_last e p q xs h =
-    rw h (ap (λ (l : Laid Edge). join l (ended l.edge)) (laid-append e (lines_within p xs) (last_line (point_after p xs)))
-    ∙ join_assoc (laid e (lines_within p xs)) (laid (laid e (lines_within p xs)).edge (last_line (point_after p xs))) _)
+    rw h (ap (λ (l : Laid Edge). join l (ended l.edge)) (settled-append e (lines_within p xs) (last_line (point_after p xs)))
+    ∙ join_assoc (settled e (lines_within p xs)) (settled (settled e (lines_within p xs)).edge (last_line (point_after p xs))) _)
 
 -- a page of bytes begins with what its whole lines settle
 pub page_front : {R N : Type 0} {rg rw_ : R → List LaidRow → R → Type 0} {ng nw : N → List Message → N → Type 0} → IsSink rg rw_ → IsSink ng nw

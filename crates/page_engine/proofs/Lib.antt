@@ -1,4 +1,5 @@
 pub mod Cutting
+pub mod LineCounts
 pub mod BytesRead
 pub mod Through
 pub mod WholeRuns

@@ -7,27 +7,29 @@ use Rattle.page_core_base.specs.declared.faults.Fault.{Fault}
 use Rattle.page_core_base.proofs.SinkLemmas.{within-join}
 use Rattle.page_roff_lines.specs.Cutting.{Point, point_after, lines_within, last_line}
 use Rattle.page_roff_lines.proofs.PointLemmas.{point_after-append}
-use Rattle.page_engine_page.specs.declared.pages.Page.{Page}
 use Rattle.page_engine.specs.declared.runs.Run.{Run}
 use Rattle.page_engine_page.specs.Below.{cause_later}
-use Rattle.page_engine_page.specs.Page.{Edge, IsAt, page}
-use Rattle.page_engine.specs.Streams.{Streams, Sinks, AllCame, FrontCame}
+use Rattle.page_engine_page.specs.States.{PageState, IsOpenAt}
+use Rattle.page_engine_page.specs.Page.{Edge, page}
+use Rattle.page_engine_page.specs.Streams.{Streams, Sinks, AllCame, FrontCame, Front}
 use Rattle.page_engine.specs.Runs.{page_from, settled_from, Broken, BrokeIn}
-use Rattle.page_engine.specs.Steps.{Front, CanTake, IsFresh, Moved, Settled, Through, ChunkBroke}
-use Rattle.page_engine.proofs.Cutting.{laid_none, count_most, consumed_more}
+use Rattle.page_engine.specs.Steps.{CanTake, IsFresh, Moved, Settled, Through, ChunkBroke}
+use Rattle.page_engine_page.proofs.Lists.{settled_none}
+use Rattle.page_engine.proofs.LineCounts.{lines_most}
+use Rattle.page_engine.proofs.Cutting.{consumed_more}
 use Rattle.page_engine.proofs.BytesRead.{settled_more, page_last, page_front, both_gave, both_within, lines_more}
 
 -- ---- no byte
 
-pub settled_none : (e : Edge) (p : Point) → settled_from e p [] ≡ nothing e
+pub from_none : (e : Edge) (p : Point) → settled_from e p [] ≡ nothing e
 unfolding lines_within
-settled_none e p = laid_none e
+from_none e p = settled_none e
 
 pub settles_none : {R N : Type 0} (k : Sinks R N) → IsSink k.to.row_gave k.to.row_within → IsSink k.to.note_gave k.to.note_within
-    → {here : Page} (r : R) (n : N) (e : Edge) (p : Point) → IsAt here e → Settled k here r r n n e p []
+    → {here : PageState} (r : R) (n : N) (e : Edge) (p : Point) → IsOpenAt here e → Settled k here r r n n e p []
 settles_none k rows notes r n e p h = record {
-  came = record { gave = rw settled_none record { rows = rows.none r; notes = notes.none n }; rows_quiet = refl; notes_quiet = refl };
-  at = rw settled_none h;
+  came = record { gave = rw from_none record { rows = rows.none r; notes = notes.none n }; rows_quiet = refl; notes_quiet = refl };
+  at = rw from_none h;
 }
 
 pub moved_none : (run : Run) → run.cutter.ready ≡ false → Moved run run []
@@ -42,7 +44,7 @@ through_none k rows notes run r n free =
 -- ---- more bytes
 
 pub settles_more : {R N : Type 0} (k : Sinks R N) → IsSink k.to.row_gave k.to.row_within → IsSink k.to.note_gave k.to.note_within
-    → {here next : Page} {r a a' : R} {n b b' : N} (e : Edge) (p q : Point) (xs ys : List ℕ) → q ≡ point_after p xs
+    → {here next : PageState} {r a a' : R} {n b b' : N} (e : Edge) (p q : Point) (xs ys : List ℕ) → q ≡ point_after p xs
     → Settled k here r a n b e p xs → Settled k next a a' b b' (settled_from e p xs).edge q ys → Settled k next r a' n b' e p (xs ++ ys)
 settles_more k rows notes {a' = a'} {b' = b'} e p q xs ys h s t =
     let x = settled_from e p xs in
@@ -82,7 +84,8 @@ room_after {run} {mid} xs count more m c h = record {
     arith,
     c.few_lines,
     m.lines_taken,
-    count_most run.cutter.point xs,
+    lines_most run.cutter.point xs,
+    ap (λ p. length (last_line p)) m.point,
     ap (λ p. p.line.consumed) m.point,
     consumed_more run.cutter.point xs,
   );
@@ -113,8 +116,8 @@ cut_length ys bs as_ zs n most h m =
 -- in a chunk after bytes that were taken, where these are left aside
 pub broken_chunk : {R N : Type 0} (k : Sinks R N) → IsSink k.to.row_gave k.to.row_within → IsSink k.to.note_gave k.to.note_within
     → {run mid : Run} {r a a' : R} {n b b' : N} (xs ys zs : List ℕ) (fault : Fault) → Through k run mid r a n b xs
-    → ((e : Edge) → IsAt mid.page e → ChunkBroke k a a' b b' e mid.cutter.point ys fault) → length (ys ++ zs) ≤ 2 ^ 14
-    → (e : Edge) → IsAt run.page e → Broken k r a' n b' e run.cutter.point (xs ++ (ys ++ zs)) fault
+    → ((e : Edge) → IsOpenAt mid.page e → ChunkBroke k a a' b b' e mid.cutter.point ys fault) → length (ys ++ zs) ≤ 2 ^ 14
+    → (e : Edge) → IsOpenAt run.page e → Broken k r a' n b' e run.cutter.point (xs ++ (ys ++ zs)) fault
 broken_chunk k rows notes {run} {mid} {r} {a} {a'} {n} {b} {b'} xs ys zs fault s t m e h =
     let p = run.cutter.point in
     let q = mid.cutter.point in
@@ -138,8 +141,8 @@ broken_chunk k rows notes {run} {mid} {r} {a} {a'} {n} {b} {b'} xs ys zs fault s
 
 -- at the end, after all bytes were taken
 pub broken_end : {R N : Type 0} (k : Sinks R N) {run mid : Run} {r a a' : R} {n b b' : N} (xs : List ℕ) (fault : Fault) → Through k run mid r a n b xs
-    → ((e : Edge) → IsAt mid.page e → Front k a a' b b' (page e (last_line mid.cutter.point)) fault)
-    → (e : Edge) → IsAt run.page e → Broken k r a' n b' e run.cutter.point xs fault
+    → ((e : Edge) → IsOpenAt mid.page e → Front k a a' b b' (page e (last_line mid.cutter.point)) fault)
+    → (e : Edge) → IsOpenAt run.page e → Broken k r a' n b' e run.cutter.point xs fault
 broken_end k {run} {mid} {r} {a} {a'} {n} {b} {b'} xs fault s t e h =
     let f = s.settled e h in
     let c = t (settled_from e run.cutter.point xs).edge f.at in record {
@@ -197,4 +200,4 @@ pub up_to : (n : ℕ) (xs ys zs : List ℕ) → n ≡ length xs + length ys → 
 up_to n xs ys zs h = rw (← append_assoc xs ys zs) (take_at (xs ++ ys) zs n (length-append xs ys ∙ sym h))
 
 pub fresh_room : (run : Run) (count : ℕ) → IsFresh run → count < 2 ^ 31 → CanTake run count
-fresh_room run count f h = record { free = f.free; room = omega (arith, f.room, h); few_lines = omega (arith, f.no_lines) }
+fresh_room run count f h = record { free = f.free; room = omega (arith, f.room, h); few_lines = omega (arith, f.no_lines, ap length f.no_line) }

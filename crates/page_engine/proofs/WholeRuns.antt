@@ -2,9 +2,7 @@
 use Rattle.std.proofs.Common.{◌≡◌, ℕ, List, [], length, Result, Ok, Err, MatchResult, refl, sym, ap, ◌∙◌, arith}
 use Rattle.std.specs.Io.KnownBytes.{IsAtEnd}
 use Rattle.page_core_base.specs.Sinks.{IsSink}
-use Rattle.page_core_base.specs.Fails.{FailsBySink}
-use Rattle.page_core_base.specs.Laid.{Laid, Gets, nothing}
-use Rattle.std.specs.Prelude.{OnOk}
+use Rattle.page_core_base.specs.Laid.{Laid, nothing}
 use Rattle.page_core_base.specs.Checks.{IsGood, IsFirst}
 use Rattle.page_core_base.specs.declared.faults.Fault.{Fault}
 use Rattle.page_core_base.specs.declared.faults.Fault.TheVariants.{Memory, Read, WriteText, WriteNotes, TooLong, Settings, Failed, Ended, BadIndex}
@@ -13,16 +11,15 @@ use Rattle.page_core_base.specs.declared.page_settings.SettingFault.{SettingFaul
 use Rattle.page_roff_lines.specs.Decoding.{lines}
 use Rattle.page_roff_lines.specs.Cutting.{Point, first_point, lines_from, last_line}
 use Rattle.page_roff_lines.proofs.LineAgreement.{lines-one_by_one}
-use Rattle.page_roff_source.specs.Edges.{counts_of}
-use Rattle.page_roff_source.specs.declared.counts.Counts.{Counts}
-use Rattle.page_engine_lines.specs.Lines.{LinesEdge}
 use Rattle.page_engine.specs.declared.runs.Outcome.{Outcome}
 use Rattle.page_engine.specs.declared.runs.Run.{Run}
-use Rattle.page_engine_page.specs.Page.{Edge, IsAt, page, start, laid, ended}
+use Rattle.page_engine_page.specs.States.{IsOpenAt, CannotStart, Ends}
+use Rattle.page_engine_page.specs.Page.{Edge, counts_at, page, start, settled, ended}
 use Rattle.page_engine.specs.Sources.{SourceState}
-use Rattle.page_engine.specs.Streams.{Streams, Sinks, AllCame}
+use Rattle.page_engine_page.specs.Streams.{Streams, Sinks, AllCame}
 use Rattle.page_engine.specs.Runs.{RunsOver, Stopped, HasCause, Broken, whole_page, page_from, settled_from}
 use Rattle.page_engine_page.specs.Below.{cause_later}
+use Rattle.page_roff_source.specs.declared.counts.Counts.{Counts}
 use Rattle.page_engine.specs.Steps.{source_lines, TookLast, Finished, Finishes, Through, EndedWell, StoppedFrom, ReadsAll}
 use Rattle.page_engine.proofs.BytesRead.{given_none, both_gave, both_within, page_last, lines_last}
 use Rattle.page_engine.proofs.Through.{broken_front, broken_end}
@@ -36,35 +33,36 @@ page_start s bytes = ap (page (start s)) (sym (lines-one_by_one s.encoding bytes
 -- the last line was taken, and then the page's end
 pub finished : {R N : Type 0} (k : Sinks R N) → IsSink k.to.row_gave k.to.row_within → IsSink k.to.note_gave k.to.note_within
     → (run mid run' : Run) (r a r' : R) (n b n' : N) (res : Result (Unit {0}) Fault) → TookLast k run mid r a n b
-    → ((e : Edge) → IsAt mid.page e → Gets res k.to.row_gave k.to.row_within k.to.note_gave k.to.note_within a r' b n' (ended e))
-    → ((e : Edge) → IsAt mid.page e → OnOk res (run'.page.worst ≡ (ended e).edge.worst))
-    → ((e : Edge) → IsAt mid.page e → FailsBySink res (k.rows_failed a) (k.rows_failed r') (k.notes_failed b) (k.notes_failed n'))
-    → run'.counts ≡ counts_of mid.page.lines.roff → Finishes res k run run' r r' n n'
+    → ((e : Edge) → IsOpenAt mid.page e → Ends res k a r' b n' (ended e) run'.page) → Finishes res k run run' r r' n n'
 unfolding ended
-finished k rows notes run mid run' r a r' n b n' (Ok o) t gets worst faults same = record {
+finished k rows notes run mid run' r a r' n b n' (Ok o) t ends = record {
   came = λ e h.
-      let l = laid e (last_line run.cutter.point) in
+      let l = settled e (last_line run.cutter.point) in
       let c = t.came e h in
-      let f = faults l.edge (t.at e h) in record {
-        gave = both_gave rows notes r' n' l (ended l.edge) c.gave (gets l.edge (t.at e h));
-        rows_quiet = f.0 ∙ c.rows_quiet;
-        notes_quiet = f.1 ∙ c.notes_quiet;
+      let f = (ends l.edge (t.at e h)).0 in record {
+        gave = both_gave rows notes r' n' l (ended l.edge) c.gave f.gave;
+        rows_quiet = f.rows_quiet ∙ c.rows_quiet;
+        notes_quiet = f.notes_quiet ∙ c.notes_quiet;
       };
-  worst = λ e h. worst (laid e (last_line run.cutter.point)).edge (t.at e h);
-  lines_taken = ap (λ (c : Counts). c.source) same ∙ t.lines_taken;
-  counts = λ e h. same ∙ ap (λ (l : LinesEdge). counts_of l.roff) (t.at e h).lines;
+  worst = λ e h. (ends (settled e (last_line run.cutter.point)).edge (t.at e h)).1.worst;
+  lines_taken = λ e h.
+      let l = settled e (last_line run.cutter.point) in
+      let same = (ends l.edge (t.at e h)).1.counts ∙ sym (t.at e h).counts in
+      ap (λ (c : Counts). c.source) same ∙ t.lines_taken;
+  counts = λ e h. (ends (settled e (last_line run.cutter.point)).edge (t.at e h)).1.counts;
 }
-finished k rows notes run mid run' r a r' n b n' (Err fault) t gets worst faults same = λ e h.
-    let l = laid e (last_line run.cutter.point) in
-    let c = t.came e h in record {
-      gave = both_within rows notes r' n' l (ended l.edge) c.gave (gets l.edge (t.at e h));
-      cause = cause_later fault _ _ _ _ _ _ c.rows_quiet c.notes_quiet (faults l.edge (t.at e h));
+finished k rows notes run mid run' r a r' n b n' (Err fault) t ends = λ e h.
+    let l = settled e (last_line run.cutter.point) in
+    let c = t.came e h in
+    let f = (ends l.edge (t.at e h)).0 in record {
+      gave = both_within rows notes r' n' l (ended l.edge) c.gave f.gave;
+      cause = cause_later fault _ _ _ _ _ _ c.rows_quiet c.notes_quiet f.cause;
     }
 
 pub ended_well : {R N : Type 0} (k : Sinks R N) → IsSink k.to.row_gave k.to.row_within → IsSink k.to.note_gave k.to.note_within
     → {run mid run' : Run} {r a r' : R} {n b n' : N} (s t : SourceState) (xs : List ℕ) → source_lines run ≡ 0
     → Through k run mid r a n b xs → Finished k mid run' a r' b n' → IsAtEnd t.remaining → t.failed ≡ s.failed
-    → (e : Edge) → IsAt run.page e → EndedWell k run' s t r r' n n' e run.cutter.point xs
+    → (e : Edge) → IsOpenAt run.page e → EndedWell k run' s t r r' n n' e run.cutter.point xs
 ended_well k rows notes {run} {mid} {run'} {r} {a} {r'} {n} {b} {n'} s t xs z g f i q e h =
     let p = run.cutter.point in
     let v = mid.cutter.point in
@@ -79,8 +77,8 @@ ended_well k rows notes {run} {mid} {run'} {r} {a} {r'} {n} {b} {n'} s t xs z g 
         notes_quiet = c.notes_quiet ∙ d.came.notes_quiet;
       };
       worst = f.worst x.edge d.at ∙ sym (ap (λ (l : Laid Edge). l.edge.worst) w);
-      source = omega (arith, f.lines_taken, g.moved.lines_taken, z, lines_last p v xs g.moved.point);
-      counts = f.counts x.edge d.at ∙ sym (ap (λ (l : Laid Edge). counts_of l.edge.lines.roff) w);
+      source = omega (arith, f.lines_taken x.edge d.at, g.moved.lines_taken, z, lines_last p v xs g.moved.point);
+      counts = f.counts x.edge d.at ∙ sym (ap (λ (l : Laid Edge). counts_at l.edge) w);
       all = i;
       quiet = q;
     }
@@ -101,7 +99,7 @@ stopped_by k a b r r' n n' e p asked bytes (BadIndex l) c = absurd c.cause
 pub ended_with : {R N : Type 0} (k : Sinks R N) → IsSink k.to.row_gave k.to.row_within → IsSink k.to.note_gave k.to.note_within
     → {run mid : Run} {r a : R} {n b : N} (run' : Run) (r' : R) (n' : N) (res : Result (Unit {0}) Fault) (s t : SourceState) (asked : ℕ) (xs : List ℕ)
     → source_lines run ≡ 0 → Through k run mid r a n b xs → Finishes res k mid run' a r' b n' → IsAtEnd t.remaining → t.failed ≡ s.failed
-    → (e : Edge) → IsAt run.page e
+    → (e : Edge) → IsOpenAt run.page e
     → MatchResult res (λ _. EndedWell k run' s t r r' n n' e run.cutter.point xs) (λ fault. StoppedFrom k s t r r' n n' e run.cutter.point asked xs fault)
 ended_with k rows notes run' r' n' (Ok o) s t asked xs z g f i q e h = ended_well k rows notes s t xs z g f i q e h
 ended_with k rows notes {run} {r = r} {n = n} run' r' n' (Err fault) s t asked xs z g f i q e h =
@@ -152,7 +150,7 @@ runs_stopped k rows notes {a = a} {b = b} {r = r} {r' = r'} {n = n} {n' = n'} s 
 -- a run that ended well
 pub runs_well : {R N : Type 0} (k : Sinks R N) {run' : Run} {a b : SourceState} {r r' : R} {n n' : N} (s : PageSettings) (p : Point) (bytes : List ℕ) (o : Outcome)
     → p ≡ first_point s.encoding → IsGood s → ReadsAll (Ok tt) k run' a b r r' n n' (start s) p bytes
-    → o.worst ≡ run'.page.worst → o.counts ≡ run'.counts
+    → o.worst ≡ run'.page.worst → o.counts ≡ run'.page.counts
     → RunsOver (Ok o) k a b r r' n n' s bytes
 runs_well k s p bytes o q g h ow oc =
     let f = rw q at h.ends in
@@ -164,7 +162,7 @@ runs_well k s p bytes o q g h ow oc =
         gave = rw (← page_start) f.came.gave;
         worst = ow ∙ (f.worst ∙ ap (λ (m : Laid Edge). m.edge.worst) (page_start s bytes));
         source = ap (λ (c : Counts). c.source) oc ∙ (f.source ∙ l);
-        counts = oc ∙ (f.counts ∙ ap (λ (m : Laid Edge). counts_of m.edge.lines.roff) (page_start s bytes));
+        counts = oc ∙ (f.counts ∙ ap (λ (m : Laid Edge). counts_at m.edge) (page_start s bytes));
         good = g;
         all = f.all;
       };
@@ -177,7 +175,7 @@ none_came : {R N : Type 0} (j : Streams R N) → IsSink j.row_gave j.row_within 
     → (r : R) (n : N) (e : Edge) → AllCame j r r n n (nothing e)
 none_came j rows notes r n e = record { rows = rows.none r; notes = notes.none n }
 
-pub runs_refused : {R N : Type 0} (k : Sinks R N) → IsSink k.to.row_gave k.to.row_within → IsSink k.to.note_gave k.to.note_within
+runs_refused : {R N : Type 0} (k : Sinks R N) → IsSink k.to.row_gave k.to.row_within → IsSink k.to.note_gave k.to.note_within
     → (a : SourceState) (r : R) (n : N) (s : PageSettings) (fault : SettingFault) → IsFirst s fault → RunsOver (Err (Settings fault)) k a a r r n n s []
 runs_refused k rows notes a r n s fault h = record {
   asked = 0;
@@ -187,7 +185,7 @@ runs_refused k rows notes a r n s fault h = record {
   cause = record { source = refl; rows = refl; notes = refl };
 }
 
-pub runs_without_memory : {R N : Type 0} (k : Sinks R N) → IsSink k.to.row_gave k.to.row_within → IsSink k.to.note_gave k.to.note_within
+runs_without_memory : {R N : Type 0} (k : Sinks R N) → IsSink k.to.row_gave k.to.row_within → IsSink k.to.note_gave k.to.note_within
     → (a : SourceState) (r : R) (n : N) (s : PageSettings) → IsGood s → RunsOver (Err Memory) k a a r r n n s []
 runs_without_memory k rows notes a r n s g = record {
   asked = 0;
@@ -196,3 +194,16 @@ runs_without_memory k rows notes a r n s g = record {
   runs = (g, refl, none_came k.to rows notes r n (start s));
   cause = record { source = refl; rows = refl; notes = refl };
 }
+
+-- a page that cannot start
+pub runs_not_begun : {R N : Type 0} (k : Sinks R N) → IsSink k.to.row_gave k.to.row_within → IsSink k.to.note_gave k.to.note_within
+    → (a : SourceState) (r : R) (n : N) (s : PageSettings) (fault : Fault) → CannotStart s fault → RunsOver (Err fault) k a a r r n n s []
+runs_not_begun k rows notes a r n s Memory h = runs_without_memory k rows notes a r n s h
+runs_not_begun k rows notes a r n s Read h = absurd h
+runs_not_begun k rows notes a r n s WriteText h = absurd h
+runs_not_begun k rows notes a r n s WriteNotes h = absurd h
+runs_not_begun k rows notes a r n s TooLong h = absurd h
+runs_not_begun k rows notes a r n s (Settings f) h = runs_refused k rows notes a r n s f h
+runs_not_begun k rows notes a r n s Failed h = absurd h
+runs_not_begun k rows notes a r n s Ended h = absurd h
+runs_not_begun k rows notes a r n s (BadIndex l) h = absurd h

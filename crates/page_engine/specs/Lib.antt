@@ -1,7 +1,6 @@
 pub mod Shown
 pub mod Sources
 pub mod Readings
-pub mod Streams
 pub mod Runs
 pub mod Steps
 pub mod Written

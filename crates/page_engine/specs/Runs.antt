@@ -9,18 +9,17 @@ use Rattle.page_core_base.specs.Laid.{Laid, nothing}
 use Rattle.page_roff_lines.specs.Decoding.{lines}
 use Rattle.page_roff_lines.specs.Cutting.{Point, first_point, point_after, lines_within, last_line, lines_from}
 use Rattle.page_core_base.specs.Checks.{IsGood, IsFirst}
-use Rattle.page_roff_source.specs.Edges.{counts_of}
 use Rattle.page_engine.specs.declared.runs.Outcome.{Outcome}
-use Rattle.page_engine_page.specs.Page.{Edge, laid, page, start}
+use Rattle.page_engine_page.specs.Page.{Edge, counts_at, settled, page, start}
 use Rattle.page_engine.specs.Sources.{SourceState, HasGiven}
-use Rattle.page_engine.specs.Streams.{Streams, Sinks, AllCame, FrontCame}
+use Rattle.page_engine_page.specs.Streams.{Streams, Sinks, AllCame, FrontCame}
 
 -- from an edge and a point between two bytes: the page of the bytes to come, and what their lines settle
 abbrev pub page_from : Edge → Point → List ℕ → Laid Edge
 page_from e p bytes = page e (lines_from p bytes)
 
 abbrev pub settled_from : Edge → Point → List ℕ → Laid Edge
-settled_from e p bytes = laid e (lines_within p bytes)
+settled_from e p bytes = settled e (lines_within p bytes)
 
 -- ---- a whole run
 
@@ -29,7 +28,7 @@ abbrev pub whole_page : PageSettings → List ℕ → Laid Edge
 whole_page s bytes = page (start s) (lines s.encoding bytes)
 
 abbrev pub settled_page : PageSettings → List ℕ → Laid Edge
-settled_page s bytes = laid (start s) (lines_within (first_point s.encoding) bytes)
+settled_page s bytes = settled (start s) (lines_within (first_point s.encoding) bytes)
 
 -- to the sinks came all of the page that these bytes make, and with it its worst level and its counts
 pub record Whole {R N : Type 0} (j : Streams R N) (r r' : R) (n n' : N) (s : PageSettings) (bytes : List ℕ)
@@ -37,7 +36,7 @@ pub record Whole {R N : Type 0} (j : Streams R N) (r r' : R) (n n' : N) (s : Pag
   pub gave : AllCame j r r' n n' (whole_page s bytes)
   pub worst : o.worst ≡ (whole_page s bytes).edge.worst
   pub source : o.counts.source ≡ length (lines s.encoding bytes)
-  pub counts : o.counts ≡ counts_of (whole_page s bytes).edge.lines.roff
+  pub counts : o.counts ≡ counts_at (whole_page s bytes).edge
   pub good : IsGood s
   pub all : IsAtEnd after
 

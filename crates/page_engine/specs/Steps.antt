@@ -1,43 +1,30 @@
 -- The steps of a run, as the code takes them: a machine of proofs, which no public clause cites.
-use Rattle.std.specs.Prelude.{◌≡◌, ◌<◌, ◌≤◌, ℕ, ◌+◌, ◌-◌, ◌^◌, false, List, ◌++◌, Result, MatchResult, length, take}
+use Rattle.std.specs.Prelude.{◌≡◌, ◌<◌, ◌≤◌, ℕ, ◌+◌, ◌-◌, ◌^◌, false, List, [], ◌++◌, Result, MatchResult, length, take}
 use Rattle.std.specs.Io.KnownBytes.{IsAtEnd}
-use Rattle.page_core_base.specs.Fails.{IsSinkFault, Rose}
+use Rattle.page_core_base.specs.Fails.{Rose}
 use Rattle.page_core_base.specs.declared.faults.Fault.{Fault}
 use Rattle.page_core_base.specs.declared.faults.Fault.TheVariants.{Memory, Read, WriteText, WriteNotes, TooLong, Settings, Failed, Ended, BadIndex}
 use Rattle.page_core_base.specs.declared.page_settings.Settings.{Settings as PageSettings}
 use Rattle.page_core_base.specs.Laid.{Laid}
 use Rattle.page_roff_lines.specs.Cutting.{Point, first_point, point_after, lines_within, last_line, lines_from}
-use Rattle.page_roff_source.specs.Edges.{counts_of}
-use Rattle.page_engine_page.specs.declared.pages.Page.{Page}
 use Rattle.page_engine.specs.declared.runs.Run.{Run}
-use Rattle.page_engine_page.specs.Page.{Edge, IsAt, laid, page, start}
+use Rattle.page_engine_page.specs.States.{PageState, IsOpenAt}
+use Rattle.page_engine_page.specs.Page.{Edge, counts_at, settled, page, start}
 use Rattle.page_engine.specs.Sources.{SourceState, HasGiven}
-use Rattle.page_engine.specs.Streams.{Sinks, AllCame, FrontCame}
+use Rattle.page_engine_page.specs.Streams.{Sinks, AllCame, Came, Front}
 use Rattle.page_engine.specs.Runs.{page_from, settled_from, Broken, IsTooLong}
-
--- all that is laid came, and no sink failed
-pub record Came {R N E : Type 0} (k : Sinks R N) (r r' : R) (n n' : N) (l : Laid E) : Type 0 where
-  pub gave : AllCame k.to r r' n n' l
-  pub rows_quiet : k.rows_failed r' ≡ k.rows_failed r
-  pub notes_quiet : k.notes_failed n' ≡ k.notes_failed n
-
--- a front of it came, and a sink failed
-pub record Front {R N E : Type 0} (k : Sinks R N) (r r' : R) (n n' : N) (l : Laid E)
-    (fault : Fault) : Type 0 where
-  pub gave : FrontCame k.to r r' n n' l
-  pub cause : IsSinkFault fault (k.rows_failed r) (k.rows_failed r') (k.notes_failed n) (k.notes_failed n')
 
 -- ---- bytes that are taken
 
 -- how many source lines were taken
 abbrev pub source_lines : Run → ℕ
-source_lines run = run.page.lines.roff.source
+source_lines run = run.page.counts.source
 
 -- there is room for more bytes
 pub record CanTake (run : Run) (count : ℕ) : Type 0 where
   pub free : run.cutter.ready ≡ false
   pub room : run.cutter.point.line.consumed + count < 2 ^ 31
-  pub few_lines : source_lines run ≤ run.cutter.point.line.consumed
+  pub few_lines : source_lines run + length (last_line run.cutter.point) ≤ run.cutter.point.line.consumed
 
 -- the cutter took these bytes, and their lines were counted
 pub record Moved (run run' : Run) (bytes : List ℕ) : Type 0 where
@@ -46,14 +33,14 @@ pub record Moved (run run' : Run) (bytes : List ℕ) : Type 0 where
   pub lines_taken : source_lines run' ≡ source_lines run + length (lines_within run.cutter.point bytes)
 
 -- what the whole lines of these bytes settle came, and the page is at the edge after them
-pub record Settled {R N : Type 0} (k : Sinks R N) (here : Page) (r r' : R) (n n' : N) (e : Edge) (p : Point)
+pub record Settled {R N : Type 0} (k : Sinks R N) (here : PageState) (r r' : R) (n n' : N) (e : Edge) (p : Point)
     (bytes : List ℕ) : Type 0 where
   pub came : Came k r r' n n' (settled_from e p bytes)
-  pub at : IsAt here (settled_from e p bytes).edge
+  pub at : IsOpenAt here (settled_from e p bytes).edge
 
 pub record Through {R N : Type 0} (k : Sinks R N) (run run' : Run) (r r' : R) (n n' : N)
     (bytes : List ℕ) : Type 0 where
-  pub settled : (e : Edge) → IsAt run.page e → Settled k run'.page r r' n n' e run.cutter.point bytes
+  pub settled : (e : Edge) → IsOpenAt run.page e → Settled k run'.page r r' n n' e run.cutter.point bytes
   pub moved : Moved run run' bytes
 
 -- a part of a chunk was taken, at least a byte
@@ -85,48 +72,49 @@ abbrev pub TakesPart : {R N : Type 0} → Result ℕ Fault → Sinks R N → Run
     → Type 0
 TakesPart res k run run' r r' n n' chunk = MatchResult res
     (λ count. TookPart k run run' r r' n n' chunk count)
-    (λ fault. (e : Edge) → IsAt run.page e → PartBroke k r r' n n' e run.cutter.point chunk fault)
+    (λ fault. (e : Edge) → IsOpenAt run.page e → PartBroke k r r' n n' e run.cutter.point chunk fault)
 
 abbrev pub TakesChunk : {R N : Type 0} → Result (Unit {0}) Fault → Sinks R N → Run → Run → R → R → N → N
     → List ℕ → Type 0
 TakesChunk res k run run' r r' n n' chunk = MatchResult res
     (λ _. Through k run run' r r' n n' chunk)
-    (λ fault. (e : Edge) → IsAt run.page e → ChunkBroke k r r' n n' e run.cutter.point chunk fault)
+    (λ fault. (e : Edge) → IsOpenAt run.page e → ChunkBroke k r r' n n' e run.cutter.point chunk fault)
 
 -- ---- the end of a page
 
 -- the last line came, where there was one
 pub record TookLast {R N : Type 0} (k : Sinks R N) (run run' : Run) (r r' : R) (n n' : N) : Type 0 where
-  pub came : (e : Edge) → IsAt run.page e → Came k r r' n n' (laid e (last_line run.cutter.point))
-  pub at : (e : Edge) → IsAt run.page e → IsAt run'.page (laid e (last_line run.cutter.point)).edge
+  pub came : (e : Edge) → IsOpenAt run.page e → Came k r r' n n' (settled e (last_line run.cutter.point))
+  pub at : (e : Edge) → IsOpenAt run.page e → IsOpenAt run'.page (settled e (last_line run.cutter.point)).edge
   pub lines_taken : source_lines run' ≡ source_lines run + length (last_line run.cutter.point)
 
 abbrev pub TakesLast : {R N : Type 0} → Result (Unit {0}) Fault → Sinks R N → Run → Run → R → R → N → N
     → Type 0
 TakesLast res k run run' r r' n n' = MatchResult res
     (λ _. TookLast k run run' r r' n n')
-    (λ fault. (e : Edge) → IsAt run.page e → Front k r r' n n' (laid e (last_line run.cutter.point)) fault)
+    (λ fault. (e : Edge) → IsOpenAt run.page e → Front k r r' n n' (settled e (last_line run.cutter.point)) fault)
 
 -- and then the end
 pub record Finished {R N : Type 0} (k : Sinks R N) (run run' : Run) (r r' : R) (n n' : N) : Type 0 where
-  pub came : (e : Edge) → IsAt run.page e → Came k r r' n n' (page e (last_line run.cutter.point))
-  pub worst : (e : Edge) → IsAt run.page e
+  pub came : (e : Edge) → IsOpenAt run.page e → Came k r r' n n' (page e (last_line run.cutter.point))
+  pub worst : (e : Edge) → IsOpenAt run.page e
       → run'.page.worst ≡ (page e (last_line run.cutter.point)).edge.worst
-  pub lines_taken : run'.counts.source ≡ source_lines run + length (last_line run.cutter.point)
-  pub counts : (e : Edge) → IsAt run.page e
-      → run'.counts ≡ counts_of (page e (last_line run.cutter.point)).edge.lines.roff
+  pub lines_taken : (e : Edge) → IsOpenAt run.page e
+      → run'.page.counts.source ≡ source_lines run + length (last_line run.cutter.point)
+  pub counts : (e : Edge) → IsOpenAt run.page e
+      → run'.page.counts ≡ counts_at (page e (last_line run.cutter.point)).edge
 
 abbrev pub Finishes : {R N : Type 0} → Result (Unit {0}) Fault → Sinks R N → Run → Run → R → R → N → N
     → Type 0
 Finishes res k run run' r r' n n' = MatchResult res
     (λ _. Finished k run run' r r' n n')
-    (λ fault. (e : Edge) → IsAt run.page e → Front k r r' n n' (page e (last_line run.cutter.point)) fault)
+    (λ fault. (e : Edge) → IsOpenAt run.page e → Front k r r' n n' (page e (last_line run.cutter.point)) fault)
 
 -- ---- all bytes of a source
 
 -- before the first byte
 pub record StartsAt (run : Run) (s : PageSettings) : Type 0 where
-  pub at : IsAt run.page (start s)
+  pub at : IsOpenAt run.page (start s)
   pub point : run.cutter.point ≡ first_point s.encoding
   pub free : run.cutter.ready ≡ false
   pub no_lines : source_lines run ≡ 0
@@ -134,14 +122,15 @@ pub record StartsAt (run : Run) (s : PageSettings) : Type 0 where
 pub record IsFresh (run : Run) : Type 0 where
   pub room : run.cutter.point.line.consumed ≡ 0
   pub free : run.cutter.ready ≡ false
+  pub no_line : last_line run.cutter.point ≡ []
   pub no_lines : source_lines run ≡ 0
 
 pub record EndedWell {R N : Type 0} (k : Sinks R N) (run' : Run) (a b : SourceState) (r r' : R) (n n' : N)
     (e : Edge) (p : Point) (bytes : List ℕ) : Type 0 where
   pub came : Came k r r' n n' (page_from e p bytes)
   pub worst : run'.page.worst ≡ (page_from e p bytes).edge.worst
-  pub source : run'.counts.source ≡ length (lines_from p bytes)
-  pub counts : run'.counts ≡ counts_of (page_from e p bytes).edge.lines.roff
+  pub source : run'.page.counts.source ≡ length (lines_from p bytes)
+  pub counts : run'.page.counts ≡ counts_at (page_from e p bytes).edge
   pub all : IsAtEnd b.remaining
   pub quiet : b.failed ≡ a.failed
 

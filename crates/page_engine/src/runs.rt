@@ -3,9 +3,10 @@
 ghost use Rattle.std.specs.Prelude.{◌≡◌, ◌<◌, ◌≤◌, ◌^◌, ℕ, List, false, length, IfOk, IfErr};
 ghost use Rattle.std.specs.Io.KnownBytes.{Consumes};
 ghost use Rattle.page_core_base.specs.Checks.{IsGood};
-ghost use Rattle.page_engine_page.specs.Page.{Edge, IsAt};
+ghost use Rattle.page_engine_page.specs.Page.{Edge};
+ghost use Rattle.page_engine_page.specs.States.{IsOpenAt, CannotStart};
 ghost use Rattle.page_engine.specs.Shown.{is_silent};
-ghost use Rattle.page_engine.specs.Streams.{streams, sinks};
+ghost use Rattle.page_engine_page.specs.Streams.{streams, sinks};
 ghost use Rattle.page_engine.specs.Written.{WritesRows, WritesRowsInto, WritesNotes, WritesNotesInto};
 ghost use Rattle.page_engine.specs.Runs.{Runs, RunsOver};
 ghost use Rattle.page_engine.specs.Steps.{CanTake, TakesPart, TakesChunk, TakesLast, Finishes, StartsAt, IsFresh, ReadsAll};
@@ -36,28 +37,24 @@ pub struct Outcome {
     pub counts: Counts,
 }
 
-/// A page, the cutter of its bytes, and what was counted of it once it has ended.
+/// A page, and the cutter of its bytes.
 #[derive(Drop)]
 struct Run {
     page: Page,
     cutter: Cutter,
-    counts: Counts,
 }
 
 impl Run {
-    /// Before the first byte of a page of settings that pass their check. Its fault is [`Fault::Memory`].
+    /// Before the first byte of a page. Its fault is [`Fault::Settings`], or else [`Fault::Memory`].
     fn new(alloc: Global, settings: &Settings) -> Result<Run, Fault>
-        ensures ok { IfOk result (λ run. StartsAt run settings.now) }
-        ensures fault { IfErr result (λ fault. fault ≡ Fault.Memory) }
+        ensures ok { IfOk result (λ run. IsGood settings.now × StartsAt run settings.now) }
+        ensures fault { IfErr result (λ fault. CannotStart settings.now fault) }
     {
         let page = Page::new(alloc, settings)?;
-        let cutter = Cutter::new(alloc, settings.encoding)?;
-        let counts = page.counts();
-        Ok(Run {
-            page,
-            cutter,
-            counts,
-        })
+        let Ok(cutter) = Cutter::new(alloc, settings.encoding) else {
+            return Err(Fault::Memory);
+        };
+        Ok(Run { page, cutter })
     }
 
     // Takes bytes up to the end of a line, or all of a chunk, and gives what a line that is whole settles. It
@@ -133,7 +130,6 @@ impl Run {
         ensures notes_same { N.loans notes.new ≡ N.loans notes.old }
     {
         self.take_last(rows, notes)?;
-        self.counts = self.page.counts();
         self.page.end(rows, notes)
     }
 
@@ -145,7 +141,7 @@ impl Run {
         notes: &mut N,
     ) -> Result<(), Fault>
         requires { IsFresh self.old }
-        ensures reads { (e : Edge) → IsAt self.old.page e → (bytes : List ℕ)
+        ensures reads { (e : Edge) → IsOpenAt self.old.page e → (bytes : List ℕ)
             × ReadsAll result (sinks R.gave R.within R.failed N.gave N.within N.failed) self.new
             (S.state source.old) (S.state source.new) rows.old rows.new notes.old notes.new
             e self.old.cutter.point bytes }
@@ -200,16 +196,13 @@ pub fn run_sinks<S: Source, R: RowSink, N: NoteSink>(
     ensures rows_same { R.loans rows.new ≡ R.loans rows.old }
     ensures notes_same { N.loans notes.new ≡ N.loans notes.old }
 {
-    if let Err(fault) = settings.check() {
-        return Err(Fault::Settings(fault));
-    }
     let mut run = Run::new(alloc, settings)?;
     if let Err(fault) = run.read_all(source, rows, notes) {
         return Err(fault);
     }
     Ok(Outcome {
         worst: run.page.worst(),
-        counts: run.counts,
+        counts: run.page.counts(),
     })
 }
 

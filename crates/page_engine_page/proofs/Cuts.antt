@@ -7,12 +7,13 @@ use Rattle.page_core_base.specs.declared.faults.Fault.{Fault}
 use Rattle.page_core_base.specs.declared.note_kinds.Level.{Level}
 use Rattle.page_core_base.specs.Laid.{Laid, Gave, Gets, join}
 use Rattle.page_core_base.specs.Fails.{FailsBySink}
-use Rattle.page_engine_page.specs.declared.pages.Page.{Page}
+use Rattle.page_engine_page.specs.declared.parts.Parts.{Parts}
 use Rattle.page_engine_page.specs.Levels.{given, worst_of}
-use Rattle.page_engine_page.specs.Page.{Edge, IsAt, laid_notes}
+use Rattle.page_engine_page.specs.Parts.{IsAt}
+use Rattle.page_engine_page.specs.Page.{Edge, laid_notes}
 
 -- the messages of a cutting change the worst level alone
-pub cut_at : {here : Page} {e : Edge} (worst' : Option Level) (m : List Message)
+pub cut_at : {here : Parts} {e : Edge} (worst' : Option Level) (m : List Message)
     → IsAt here e → worst' ≡ worst_of here.worst (given here.least m) → IsAt (record here { worst = worst' }) (laid_notes e m).edge
 cut_at {here} {e} worst' m h w =
     record { filled = h.filled; lines = h.lines; levels = h.levels; worst_level = rw (h.worst_level, h.levels) at w; last_line = h.last_line }

@@ -10,7 +10,8 @@ use Rattle.page_fill.specs.declared.words.Edge.{Edge as FillEdge}
 use Rattle.page_engine_lines.specs.Lines.{LinesEdge}
 use Rattle.page_engine_page.specs.Levels.{FilterGave, FilterWithin}
 use Rattle.page_engine_page.specs.Below.{Passed, Broken, Ends}
-use Rattle.page_engine_page.specs.Page.{Edge, IsAt, of_page}
+use Rattle.page_engine_page.specs.Parts.{IsAt}
+use Rattle.page_engine_page.specs.Page.{Edge, of_page}
 
 -- what a call did that passes items on
 abbrev pub Passes : {R S N : Type 0} → Result (Unit {0}) Fault → (R → List LaidRow → R → Type 0) → (R → List LaidRow → R → Type 0) → (R → ℕ)

@@ -3,8 +3,11 @@
 
 mod belows;
 mod filters;
+mod laws;
 mod pages;
+mod parts;
 
 pub use belows::Below;
 pub use filters::Filter;
-pub use pages::Page;
+pub use laws::{count_law, cut_law};
+pub use pages::{LINES, Page, Phase};

@@ -1,191 +1,225 @@
-//! A page: lines become rows and messages.
+//! A page that streams: lines come one by one, and what they settle goes out at once.
 
-ghost use Rattle.std.specs.Prelude.{◌≡◌, ◌<◌, ◌≤◌, ◌+◌, ◌^◌, ℕ, true, false, OnOk, IfOk, IfErr, length, Some, None};
-ghost use Rattle.page_core_base.specs.Fails.{FailsBySink};
-ghost use Rattle.page_core_base.specs.Laid.{Gets};
+ghost use Rattle.std.specs.Prelude.{◌≡◌, ◌<◌, ◌+◌, ◌-◌, ◌^◌, ℕ, true, false, None, Some, OnOk, OnErr, MatchResult};
+ghost use Rattle.page_core_base.specs.Checks.{IsGood};
 ghost use Rattle.page_core_base.specs.Texts.{IsLine};
+ghost use Rattle.page_core_base.specs.declared.faults.Fault.{Fault};
 ghost use Rattle.page_roff_lines.specs.Cutting.{line_of};
-ghost use Rattle.page_roff_source.specs.Edges.{counts_of};
-ghost use Rattle.page_fill.specs.declared.words.Edge.{Edge as FillEdge};
-ghost use Rattle.page_engine_page.specs.Page.{Edge, IsAt, laid_text, laid_line, ended, end_laid, start};
-ghost use Rattle.page_engine_page.specs.Below.{Ends};
+ghost use Rattle.page_engine_page.specs.Page.{Edge, text_line, settled_line, ended, start};
+ghost use Rattle.page_engine_page.specs.Streams.{sinks, AreWell};
+ghost use Rattle.page_engine_page.specs.States.{IsOpenAt, CannotStart, closed, line_fault, line_fault_of, IsRefused, Takes, Ends};
 
-use crate::belows::Below;
-use crate::filters::Filter;
+use crate::parts::Parts;
 use page_core_base::{Fault, Level, NoteSink, RowSink, Settings};
-use page_engine_lines::PageLines;
-use page_fill::Filler;
 use page_roff_lines::Cutter;
 use page_roff_source::Counts;
 use std::alloc::Global;
+use std::marker::Model;
 
-/// A page whose lines come one by one.
-#[derive(Drop)]
-pub struct Page {
-    pub(crate) filler: Filler,
-    pub(crate) lines: PageLines,
-    pub(crate) least: Option<Level>,
-    pub(crate) worst: Option<Level>,
-    pub(crate) last: u32,
+/// The source lines of a page at most.
+pub const LINES: u64 = 2_147_483_647;
+
+/// Whether a page takes lines.
+#[derive(Clone, Copy)]
+pub enum Phase {
+    /// It takes lines, and its end.
+    Open,
+    /// A sink failed.
+    Failed,
+    /// It has ended well.
+    Ended,
 }
 
-impl<R: RowSink, N: NoteSink> Below<'_, '_, '_, R, N> {
-    // Ends the body after a line, gives the footer, and ends the filling.
-    fn end(&mut self, lines: &mut PageLines, last: u32) -> Result<(), Fault>
-        ensures ends { (f : FillEdge) (e : Edge) → self.old.filler.now ≡ Some f → f ≡ e.fill
-            → lines.old ≡ e.lines → last ≡ e.last →
-            Ends result R.gave R.within R.failed ⟦<Filter<'static, N> as NoteSink>⟧.gave
-            ⟦<Filter<'static, N> as NoteSink>⟧.within ⟦<Filter<'static, N> as NoteSink>⟧.failed
-            self.old.rows.now self.new.rows.now self.old.notes self.new.notes (end_laid e) }
-        ensures filler { self.new.filler.ghost_name ≡ self.old.filler.ghost_name }
-        ensures rows { self.new.rows.ghost_name ≡ self.old.rows.ghost_name }
-        ensures notes { self.new.notes.notes.ghost_name ≡ self.old.notes.notes.ghost_name }
-        ensures rows_same { R.loans self.new.rows.now ≡ R.loans self.old.rows.now }
-        ensures notes_same { N.loans self.new.notes.notes.now ≡ N.loans self.old.notes.notes.now }
+impl Phase {
+    // The fault of each call on a page that is not open.
+    fn fault(self) -> Option<Fault>
+        ensures is { result ≡ closed self }
+        ensures open { result ≡ None → self ≡ Phase.Open }
     {
-        if let Err(fault) = lines.end(self, last) {
-            return Err(fault);
+        match self {
+            Phase::Open => None,
+            Phase::Failed => Some(Fault::Failed),
+            Phase::Ended => Some(Fault::Ended),
         }
-        let blank_rows = self.filler.blank_rows();
-        if let Err(fault) = lines.footer(self, last, blank_rows) {
-            return Err(fault);
-        }
-        self.filler.finish(self.rows, &mut self.notes)
     }
+
+    // The fault of a line after a count of lines.
+    fn line_fault(self, source: u64) -> Option<Fault>
+        ensures is { result ≡ line_fault_of self source }
+        ensures open { result ≡ None → (self ≡ Phase.Open) × (source < 2 ^ 31 - 1) }
+    {
+        match self {
+            Phase::Open if source >= LINES => Some(Fault::TooLong),
+            Phase::Open => None,
+            Phase::Failed => Some(Fault::Failed),
+            Phase::Ended => Some(Fault::Ended),
+        }
+    }
+}
+
+/// A page whose lines come one by one. What a line settles is given before the call returns; what is held
+/// between two lines is the page's edge.
+#[derive(Drop)]
+pub struct Page {
+    parts: Parts,
+    phase: Phase,
+    counts: Counts,
+}
+
+impl Model for Page {
+    ghost use Rattle.page_engine_page.specs.Parts.{edge_of};
+    ghost use Rattle.page_engine_page.specs.States.{PageState, KeepsCounts};
+
+    ghost Value = { PageState };
+
+    ghost view = { λ p. record {
+      phase = p.phase;
+      edge = edge_of p.parts;
+      worst = p.parts.worst;
+      counts = p.counts;
+    } };
+
+    ghost invariant = { λ p. KeepsCounts p.phase p.counts p.parts.lines };
 }
 
 impl Page {
-    /// The start of a page of settings that pass their check. Its fault is [`Fault::Memory`].
+    /// The start of a page. The settings are checked first, with [`Fault::Settings`]; then memory is reserved for
+    /// all that the page will ever hold, with [`Fault::Memory`].
     pub fn new(alloc: Global, settings: &Settings) -> Result<Page, Fault>
-        ensures ok { IfOk result (λ p. IsAt p (start settings.now)) }
-        ensures fault { IfErr result (λ fault. fault ≡ Fault.Memory) }
+        ensures { MatchResult result (λ p. IsGood settings.now × IsOpenAt p (start settings.now))
+            (λ fault. CannotStart settings.now fault) }
     {
-        let filler = Filler::new(alloc, settings)?;
-        let lines = PageLines::new(alloc, settings)?;
+        if let Err(fault) = settings.check() {
+            return Err(Fault::Settings(fault));
+        }
+        let parts = Parts::new(alloc, settings)?;
+        let counts = parts.counts();
         Ok(Page {
-            filler,
-            lines,
-            least: settings.least,
-            worst: None,
-            last: 1,
+            parts,
+            phase: Phase::Open,
+            counts,
         })
     }
 
-    /// Takes a line, and gives what it settles. After a fault, which is one of a sink, the page is not to be
-    /// used again.
-    pub fn feed<R: RowSink, N: NoteSink>(
+    /// Takes a line with its number, and gives what it settles.
+    ///
+    /// Its faults are in this order: [`Fault::Ended`] after a good end, [`Fault::Failed`] after a fault of a sink,
+    /// [`Fault::TooLong`] after [`LINES`] lines, by which nothing changes; then [`Fault::WriteText`] and
+    /// [`Fault::WriteNotes`], of the sink that failed.
+    pub fn feed_line<R: RowSink, N: NoteSink>(
         &mut self,
         text: &[u8],
         number: u32,
         rows: &mut R,
         notes: &mut N,
     ) -> Result<(), Fault>
-        requires line { IsLine text.now }
-        requires count { self.old.lines.roff.source < 2 ^ 31 }
-        ensures gets { (e : Edge) → IsAt self.old e →
-            Gets result R.gave R.within N.gave N.within rows.old rows.new notes.old notes.new
-            (laid_text e text.now number) }
-        ensures edge { (e : Edge) → IsAt self.old e →
-            OnOk result (IsAt self.new (laid_text e text.now number).edge) }
-        ensures source { self.new.lines.roff.source ≡ self.old.lines.roff.source + 1 }
-        ensures faults { (e : Edge) → IsAt self.old e →
-            FailsBySink result (R.failed rows.old) (R.failed rows.new)
-            (N.failed notes.old) (N.failed notes.new) }
+        requires { IsLine text.now }
+        ensures takes { (e : Edge) → IsOpenAt self.old e → line_fault self.old ≡ None →
+            Takes result (sinks R.gave R.within R.failed N.gave N.within N.failed)
+            rows.old rows.new notes.old notes.new (settled_line e (text_line text.now number)) self.new }
+        ensures works { (e : Edge) → IsOpenAt self.old e → line_fault self.old ≡ None →
+            AreWell (sinks R.gave R.within R.failed N.gave N.within N.failed) rows.old rows.new notes.old notes.new
+            → OnErr result ⊥ }
+        ensures refused { (fault : Fault) → line_fault self.old ≡ Some fault →
+            IsRefused result fault self.old self.new rows.old rows.new notes.old notes.new }
         ensures rows_same { R.loans rows.new ≡ R.loans rows.old }
         ensures notes_same { N.loans notes.new ≡ N.loans notes.old }
     {
-        let notes = Filter {
-            notes,
-            least: self.least,
-            worst: self.worst,
-        };
-        let mut below = Below {
-            filler: &mut self.filler,
-            rows,
-            notes,
-        };
-        let result = self.lines.line(&mut below, number, text);
-        self.worst = below.notes.worst;
-        self.last = number;
-        result
+        if let Some(fault) = self.phase.line_fault(self.counts.source) {
+            return Err(fault);
+        }
+        self.phase = Phase::Failed;
+        if let Err(fault) = self.parts.feed(text, number, rows, notes) {
+            return Err(fault);
+        }
+        self.counts = self.parts.counts();
+        self.phase = Phase::Open;
+        Ok(())
     }
 }
 
 impl Page {
-    /// Takes the line that a cutter has, and gives what it settles. After a fault, which is one of a sink, the
-    /// page is not to be used again.
+    /// Takes the line that a cutter has, after the messages of its cutting, and gives what it settles. Its faults
+    /// are those of [`Page::feed_line`], in the same order.
     pub fn take_line<R: RowSink, N: NoteSink>(
         &mut self,
         cutter: &mut Cutter,
         rows: &mut R,
         notes: &mut N,
     ) -> Result<(), Fault>
-        requires ready { cutter.old.ready ≡ true }
-        requires count { self.old.lines.roff.source < 2 ^ 31 }
-        ensures gets { (e : Edge) → IsAt self.old e →
-            Gets result R.gave R.within N.gave N.within rows.old rows.new notes.old notes.new
-            (laid_line e (line_of cutter.old.point)) }
-        ensures edge { (e : Edge) → IsAt self.old e →
-            OnOk result (IsAt self.new (laid_line e (line_of cutter.old.point)).edge) }
-        ensures source { OnOk result (self.new.lines.roff.source ≡ self.old.lines.roff.source + 1) }
-        ensures faults { (e : Edge) → IsAt self.old e →
-            FailsBySink result (R.failed rows.old) (R.failed rows.new)
-            (N.failed notes.old) (N.failed notes.new) }
+        requires { cutter.old.ready ≡ true }
+        ensures takes { (e : Edge) → IsOpenAt self.old e → line_fault self.old ≡ None →
+            Takes result (sinks R.gave R.within R.failed N.gave N.within N.failed)
+            rows.old rows.new notes.old notes.new (settled_line e (line_of cutter.old.point)) self.new }
+        ensures refused { (fault : Fault) → line_fault self.old ≡ Some fault →
+            IsRefused result fault self.old self.new rows.old rows.new notes.old notes.new }
+        ensures works { (e : Edge) → IsOpenAt self.old e → line_fault self.old ≡ None →
+            AreWell (sinks R.gave R.within R.failed N.gave N.within N.failed) rows.old rows.new notes.old notes.new
+            → OnErr result ⊥ }
+        ensures source { OnOk result (self.new.counts.source ≡ self.old.counts.source + 1) }
         ensures point { OnOk result (cutter.new.point ≡ cutter.old.point) }
         ensures ready { OnOk result (cutter.new.ready ≡ false) }
         ensures rows_same { R.loans rows.new ≡ R.loans rows.old }
         ensures notes_same { N.loans notes.new ≡ N.loans notes.old }
     {
-        let mut filter = Filter {
-            notes: &mut *notes,
-            least: self.least,
-            worst: self.worst,
-        };
-        let line = cutter.line(&mut filter);
-        self.worst = filter.worst;
-        let (text, number) = line?;
-        self.feed(text, number, rows, notes)
+        if let Some(fault) = self.phase.line_fault(self.counts.source) {
+            return Err(fault);
+        }
+        self.phase = Phase::Failed;
+        if let Err(fault) = self.parts.take_line(cutter, rows, notes) {
+            return Err(fault);
+        }
+        self.counts = self.parts.counts();
+        self.phase = Phase::Open;
+        Ok(())
     }
 }
 
 impl Page {
-    /// Ends the page. After that it is not to be used again.
+    /// Ends the page, and gives the rest. Its faults are in this order: [`Fault::Ended`] after a good end,
+    /// [`Fault::Failed`] after a fault of a sink; then [`Fault::WriteText`] and [`Fault::WriteNotes`], of the sink
+    /// that failed.
     pub fn end<R: RowSink, N: NoteSink>(&mut self, rows: &mut R, notes: &mut N) -> Result<(), Fault>
-        ensures gets { (e : Edge) → IsAt self.old e →
-            Gets result R.gave R.within N.gave N.within rows.old rows.new notes.old notes.new (ended e) }
-        ensures worst { (e : Edge) → IsAt self.old e → OnOk result (self.new.worst ≡ (ended e).edge.worst) }
-        ensures faults { (e : Edge) → IsAt self.old e →
-            FailsBySink result (R.failed rows.old) (R.failed rows.new)
-            (N.failed notes.old) (N.failed notes.new) }
+        ensures ends { (e : Edge) → IsOpenAt self.old e →
+            Ends result (sinks R.gave R.within R.failed N.gave N.within N.failed)
+            rows.old rows.new notes.old notes.new (ended e) self.new }
+        ensures works { (e : Edge) → IsOpenAt self.old e →
+            AreWell (sinks R.gave R.within R.failed N.gave N.within N.failed) rows.old rows.new notes.old notes.new
+            → OnErr result ⊥ }
+        ensures refused { (fault : Fault) → closed self.old.phase ≡ Some fault →
+            IsRefused result fault self.old self.new rows.old rows.new notes.old notes.new }
         ensures rows_same { R.loans rows.new ≡ R.loans rows.old }
         ensures notes_same { N.loans notes.new ≡ N.loans notes.old }
     {
-        let notes = Filter {
-            notes,
-            least: self.least,
-            worst: self.worst,
-        };
-        let mut below = Below {
-            filler: &mut self.filler,
-            rows,
-            notes,
-        };
-        let result = below.end(&mut self.lines, self.last);
-        self.worst = below.notes.worst;
-        result
+        if let Some(fault) = self.phase.fault() {
+            return Err(fault);
+        }
+        self.phase = Phase::Failed;
+        if let Err(fault) = self.parts.end(rows, notes) {
+            return Err(fault);
+        }
+        self.phase = Phase::Ended;
+        Ok(())
     }
 
-    /// What was counted so far.
-    pub fn counts(&self) -> Counts
-        ensures { result ≡ counts_of self.now.lines.roff }
+    /// Whether the page takes lines.
+    pub fn phase(&self) -> Phase
+        ensures { result ≡ self.now.phase }
     {
-        self.lines.counts()
+        self.phase
+    }
+
+    /// What was counted up to the last line.
+    pub fn counts(&self) -> Counts
+        ensures { result ≡ self.now.counts }
+    {
+        self.counts
     }
 
     /// The worst level of the messages that were given.
     pub fn worst(&self) -> Option<Level>
         ensures { result ≡ self.now.worst }
     {
-        self.worst
+        self.parts.worst
     }
 }

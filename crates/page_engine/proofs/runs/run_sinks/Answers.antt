@@ -1,16 +1,11 @@
-use Rattle.std.proofs.Common.{[], refl}
+use Rattle.std.proofs.Common.{[], ap, ◌∙◌}
 use Rattle.std.proofs.lemmas.Result.{err_from_is_err_and}
+use Rattle.page_roff_lines.specs.Cutting.{Point, last_line}
 use Rattle.page_engine_page.specs.Page.{start}
-use Rattle.page_engine.specs.Streams.{sinks}
-use Rattle.page_engine.proofs.WholeRuns.{runs_refused, runs_without_memory, runs_stopped, runs_well}
+use Rattle.page_engine_page.specs.Streams.{sinks}
+use Rattle.page_engine.proofs.LineCounts.{first_none}
+use Rattle.page_engine.proofs.WholeRuns.{runs_not_begun, runs_stopped, runs_well}
 use Rattle.page_engine.proofs.runs.run_sinks.Goals as goal
-
-pub returns-in-Err-clause-runs : goal.returns-in-Err-clause-runs
-returns-in-Err-clause-runs g c =
-    let r = g.R.RowSink in
-    let n = g.N.NoteSink in
-    let k = sinks r.gave r.within r.failed n.gave n.within n.failed in
-    ([], runs_refused k g.met.R.RowSink.laws g.met.N.NoteSink.laws _ _ _ _ c.in-Err.fault c.in-Err.ensures)
 
 pub returns-in_err-run-clause-runs : goal.returns-in_err-run-clause-runs
 returns-in_err-run-clause-runs g c =
@@ -19,18 +14,26 @@ returns-in_err-run-clause-runs g c =
     let k = sinks r.gave r.within r.failed n.gave n.within n.failed in
     let p = err_from_is_err_and c.from_residual.result c.from_residual.ensures.1 in (
       [],
-      rw (p.1, p.2, c.in_err-run.ensures.fault)
-          (runs_without_memory k g.met.R.RowSink.laws g.met.N.NoteSink.laws _ _ _ c.args.settings.now c.in_default.ensures),
+      rw (p.1, p.2) (runs_not_begun k g.met.R.RowSink.laws g.met.N.NoteSink.laws _ _ _ c.args.settings.now _ c.in_err-run.ensures.fault),
     )
 
-pub returns-in-Err-read_all-clause-runs : goal.returns-in-Err-read_all-clause-runs
-returns-in-Err-read_all-clause-runs g c =
+pub read_all-requires : goal.read_all-requires
+read_all-requires g c =
+    let s = c.in_ok-run.ensures.ok.1 in record {
+      room = ap (λ (p : Point). p.line.consumed) s.point;
+      free = s.free;
+      no_line = ap (λ (p : Point). last_line p) s.point ∙ first_none c.args.settings.now.encoding;
+      no_lines = s.no_lines;
+    }
+
+pub returns-in-Err-clause-runs : goal.returns-in-Err-clause-runs
+returns-in-Err-clause-runs g c =
     let r = g.R.RowSink in
     let n = g.N.NoteSink in
     let k = sinks r.gave r.within r.failed n.gave n.within n.failed in
     let s = c.in_ok-run.ensures.ok in
-    let h = c.in-Err-read_all.ensures.reads (start c.args.settings.now) s.at in
-    (h.0, runs_stopped k g.met.R.RowSink.laws g.met.N.NoteSink.laws c.args.settings.now _ h.0 c.in-Err-read_all.fault s.point c.in_default.ensures h.1)
+    let h = c.in-Err.ensures.reads (start c.args.settings.now) s.1.at in
+    (h.0, runs_stopped k g.met.R.RowSink.laws g.met.N.NoteSink.laws c.args.settings.now _ h.0 c.in-Err.fault s.1.point s.0 h.1)
 
 pub returns-clause-runs : goal.returns-clause-runs
 returns-clause-runs g c =
@@ -38,5 +41,5 @@ returns-clause-runs g c =
     let n = g.N.NoteSink in
     let k = sinks r.gave r.within r.failed n.gave n.within n.failed in
     let s = c.in_ok-run.ensures.ok in
-    let h = c.in_default-read_all.ensures.reads (start c.args.settings.now) s.at in
-    (h.0, runs_well k c.args.settings.now _ h.0 _ s.point c.in_default.ensures h.1 c.worst.ensures refl)
+    let h = c.in_default.ensures.reads (start c.args.settings.now) s.1.at in
+    (h.0, runs_well k c.args.settings.now _ h.0 _ s.1.point s.0 h.1 c.worst.ensures c.counts.ensures)

@@ -2,8 +2,8 @@ use Rattle.std.proofs.Common.{refl}
 use Rattle.std.proofs.lemmas.Result.{err_from_is_err_and}
 use Rattle.page_roff_lines.specs.Cutting.{last_line}
 use Rattle.page_core_base.proofs.SinkLemmas.{within-join}
-use Rattle.page_engine_page.specs.Page.{laid, ended}
-use Rattle.page_engine.specs.Streams.{sinks}
+use Rattle.page_engine_page.specs.Page.{settled, ended}
+use Rattle.page_engine_page.specs.Streams.{sinks}
 use Rattle.page_engine.proofs.WholeRuns.{finished}
 use Rattle.page_engine.proofs.runs.Run.finish.Goals as goal
 
@@ -12,7 +12,7 @@ returns-in_err-take_last-clause-ends g c =
     let r = err_from_is_err_and c.from_residual.result c.from_residual.ensures.1 in
     rw (r.1, r.2) (λ e h.
     let f = c.in_err-take_last.ensures.takes e h in
-    let l = laid e (last_line c.args.self.now.cutter.point) in record {
+    let l = settled e (last_line c.args.self.now.cutter.point) in record {
       gave = within-join g.met.R.RowSink.laws g.met.N.NoteSink.laws _ _ _ _ l (ended l.edge) f.gave;
       cause = f.cause;
     })
@@ -22,4 +22,4 @@ returns-clause-ends g c =
     let r = g.R.RowSink in
     let n = g.N.NoteSink in
     finished (sinks r.gave r.within r.failed n.gave n.within n.failed) g.met.R.RowSink.laws g.met.N.NoteSink.laws _ _ _ _ _ _ _ _ _ c.end.result
-    c.in_ok-take_last.ensures.takes c.end.ensures.gets c.end.ensures.worst c.end.ensures.faults c.counts-self.ensures
+    c.in_ok-take_last.ensures.takes c.end.ensures.ends

@@ -1,6 +1,7 @@
 use Rattle.std.proofs.Common.{refl, ap, ◌∙◌, sym, arith}
 use Rattle.std.proofs.lemmas.Result.{err_from_is_err_and}
 use Rattle.page_roff_lines.specs.Cutting.{line_of, line_at, last_line}
+use Rattle.page_engine.proofs.LineCounts.{may_take}
 use Rattle.page_engine.proofs.Cutting.{none_gave, none_edge, none_count, one_gave, one_edge, one_count}
 use Rattle.page_engine.proofs.runs.Run.take_last.Goals as goal
 
@@ -22,10 +23,14 @@ returns-then-not-end-clause-takes g c =
 pub returns-in_err-take_line-clause-takes : goal.returns-in_err-take_line-clause-takes
 returns-in_err-take_line-clause-takes g c =
     let is = ap line_at (sym c.end.ensures.point) ∙ c.end.ensures.line in
+    let line = line_of c.end.new.self.point in
+    let one = one_count (last_line c.args.self.now.cutter.point) c.end.result line is c.if-not-end.false in
     let r = err_from_is_err_and c.from_residual.result c.from_residual.ensures.1 in
-    rw (r.1, r.2) (λ e h. record {
-      gave = one_gave e _ c.end.result (line_of c.end.new.self.point) is c.if-not-end.false (c.in_err-take_line.ensures.gets e h);
-      cause = c.in_err-take_line.ensures.faults e h;
+    rw (r.1, r.2) (λ e h.
+    let few = may_take c.args.self.now.page e h (omega (arith, one, c.requires.room, c.requires.few_lines)) in
+    let t = c.in_err-take_line.ensures.takes e h few in record {
+      gave = one_gave e _ c.end.result line is c.if-not-end.false t.0.gave;
+      cause = t.0.cause;
     })
 
 pub returns-clause-takes : goal.returns-clause-takes
@@ -35,11 +40,15 @@ returns-clause-takes g c =
     let is = ap line_at (sym c.end.ensures.point) ∙ c.end.ensures.line in
     let t = c.in_ok-take_line.ensures in
     let one = one_count (last_line c.args.self.now.cutter.point) b line is c.if-not-end.false in record {
-      came = λ e h. record {
-        gave = one_gave e _ b line is c.if-not-end.false (t.gets e h);
-        rows_quiet = (t.faults e h).0;
-        notes_quiet = (t.faults e h).1;
-      };
-      at = λ e h. one_edge e _ b line is c.if-not-end.false (t.edge e h);
+      came = λ e h.
+          let few = may_take c.args.self.now.page e h (omega (arith, one, c.requires.room, c.requires.few_lines)) in
+          let w = t.takes e h few in record {
+            gave = one_gave e _ b line is c.if-not-end.false w.0.gave;
+            rows_quiet = w.0.rows_quiet;
+            notes_quiet = w.0.notes_quiet;
+          };
+      at = λ e h.
+          let few = may_take c.args.self.now.page e h (omega (arith, one, c.requires.room, c.requires.few_lines)) in
+          one_edge e _ b line is c.if-not-end.false (t.takes e h few).1;
       lines_taken = omega (arith, one, t.source);
     }

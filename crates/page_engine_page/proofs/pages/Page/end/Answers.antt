@@ -1,32 +1,25 @@
-use Rattle.std.proofs.Common.{rules, refl}
-use Rattle.page_core_base.specs.Laid.{Gets}
-use Rattle.page_core_base.specs.Fails.{FailsBySink}
-use Rattle.page_engine_page.specs.Page.{ended, end_laid}
-use Rattle.page_engine_page.proofs.Feeds.{ends_gets, ends_worst, ends_faults}
+use Rattle.std.proofs.Common.{refl, ap, ◌∙◌}
+use Rattle.page_engine_page.specs.Page.{ended}
+use Rattle.page_engine_page.specs.States.{PageState}
+use Rattle.page_engine_page.proofs.Phases.{open_parts, no_cause}
 use Rattle.page_engine_page.proofs.pages.Page.end.Goals as goal
 
-pub returns-clause-gets : goal.returns-clause-gets
-unfolding ended
-returns-clause-gets g c = λ e h.
-    let x = c.end-result.ensures.ends e.fill e h.filled refl h.lines h.last_line in
-    let y : Gets c.end-result.result g.R.RowSink.gave g.R.RowSink.within g.N.NoteSink.gave g.N.NoteSink.within c.args.rows.now c.end-result.new.self.rows.now
-    c.args.notes.now c.end-result.new.self.notes.notes.now (ended e) =
-    ends_gets g.R.RowSink.gave g.R.RowSink.within g.R.RowSink.failed g.N.NoteSink.gave g.N.NoteSink.within (λ s. g.N.NoteSink.failed s.notes.now)
-    (λ s. s.notes.now) (λ s. s.least) (λ s. s.worst) c.end-result.result _ _ _ _ (end_laid e) e e h.levels x in
-    search rules
+pub returns-in-Err-clause-ends : goal.returns-in-Err-clause-ends
+returns-in-Err-clause-ends g c = λ e h.
+    let i = open_parts c.self.inside.parts e c.self.view_is h in
+    (record { gave = c.in-Err.ensures.gets e i; cause = c.in-Err.ensures.faults e i }, refl)
 
-pub returns-clause-worst : goal.returns-clause-worst
-unfolding ended
-returns-clause-worst g c = λ e h.
-    let x = c.end-result.ensures.ends e.fill e h.filled refl h.lines h.last_line in
-    ends_worst g.R.RowSink.gave g.R.RowSink.within g.R.RowSink.failed g.N.NoteSink.gave g.N.NoteSink.within (λ s. g.N.NoteSink.failed s.notes.now)
-    (λ s. s.notes.now) (λ s. s.least) (λ s. s.worst) c.end-result.result _ _ _ _ (end_laid e) e e h.levels h.worst_level x
+pub returns-in-Err-clause-works : goal.returns-in-Err-clause-works
+returns-in-Err-clause-works g c = λ e h w.
+    let i = open_parts c.self.inside.parts e c.self.view_is h in
+    no_cause c.in-Err.fault _ _ _ _ w.rows_room w.rows w.notes_room w.notes (c.in-Err.ensures.faults e i)
 
-pub returns-clause-faults : goal.returns-clause-faults
-returns-clause-faults g c = λ e h.
-    let x = c.end-result.ensures.ends e.fill e h.filled refl h.lines h.last_line in
-    let y : FailsBySink c.end-result.result (g.R.RowSink.failed c.args.rows.now) (g.R.RowSink.failed c.end-result.new.self.rows.now)
-    (g.N.NoteSink.failed c.args.notes.now) (g.N.NoteSink.failed c.end-result.new.self.notes.notes.now) =
-    ends_faults g.R.RowSink.gave g.R.RowSink.within g.R.RowSink.failed g.N.NoteSink.gave g.N.NoteSink.within (λ s. g.N.NoteSink.failed s.notes.now)
-    (λ s. s.notes.now) (λ s. s.least) (λ s. s.worst) c.end-result.result _ _ _ _ (end_laid e) x in
-    search rules
+pub returns-clause-ends : goal.returns-clause-ends
+unfolding ended
+returns-clause-ends g c = λ e h.
+    let i = open_parts c.self.inside.parts e c.self.view_is h in
+    let done = c.in_default-end.ensures in
+    let f = done.faults e i in (
+      record { gave = done.gets e i; rows_quiet = f.0; notes_quiet = f.1 },
+      record { phase = refl; worst = done.worst e i; counts = ap (λ (p : PageState). p.counts) c.self.view_is ∙ h.counts },
+    )

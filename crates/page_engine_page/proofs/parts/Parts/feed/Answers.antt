@@ -3,16 +3,16 @@ use Rattle.page_core_base.specs.Laid.{Gets}
 use Rattle.page_core_base.specs.Fails.{FailsBySink}
 use Rattle.page_engine_lines.specs.Lines.{source_items}
 use Rattle.page_engine_page.specs.Items.{laid_items}
-use Rattle.page_engine_page.specs.Page.{laid_text, passed}
+use Rattle.page_engine_page.specs.Page.{settled_text, passed}
 use Rattle.page_engine_page.proofs.Feeds.{passes_gets, passes_edge, passes_faults}
-use Rattle.page_engine_page.proofs.pages.Page.feed.Goals as goal
+use Rattle.page_engine_page.proofs.parts.Parts.feed.Goals as goal
 
 pub returns-clause-gets : goal.returns-clause-gets
-unfolding laid_text
+unfolding settled_text
 returns-clause-gets g c = λ e h.
     let x = rw h.lines at c.line-result.ensures.gives in
     let y : Gets c.line-result.result g.R.RowSink.gave g.R.RowSink.within g.N.NoteSink.gave g.N.NoteSink.within c.args.rows.now c.line-result.new.out.rows.now
-    c.args.notes.now c.line-result.new.out.notes.notes.now (laid_text e c.args.text.now c.args.number) =
+    c.args.notes.now c.line-result.new.out.notes.notes.now (settled_text e c.args.text.now c.args.number) =
     passes_gets g.R.RowSink.gave g.R.RowSink.within g.R.RowSink.failed g.N.NoteSink.gave g.N.NoteSink.within (λ s. g.N.NoteSink.failed s.notes.now)
     (λ s. s.notes.now) (λ s. s.least) (λ s. s.worst) c.line-result.result _ _ _ _ _ _ (λ f. laid_items f (source_items e.lines c.args.number c.args.text.now))
     e (passed e c.args.text.now c.args.number) h.filled h.levels x in
@@ -29,7 +29,7 @@ returns-clause-faults g c = λ e h.
     search rules
 
 pub returns-clause-edge : goal.returns-clause-edge
-unfolding laid_text
+unfolding settled_text
 returns-clause-edge g c = λ e h.
     let x = rw h.lines at c.line-result.ensures.gives in
     let y = rw h.lines at c.line-result.ensures.after in
