@@ -1,9 +1,10 @@
 //! The pages of a command line, each from its bytes to its rows, its messages and its status (mandoc(1), DESCRIPTION).
 
 use crate::SYSTEM_FAILURE;
+use crate::streams::{FlushingReader, Stream, flush};
 use mandoc_command::{Format, status_of};
 use page_core_base::{Fault, Output, Settings};
-use page_engine::run_page;
+use page_engine::{Outcome, run_page};
 use std::alloc::Global;
 use std::fs::{self, Files};
 use std::io::{self, Read, Write};
@@ -59,7 +60,7 @@ fn format_file<R: Files, W: Write, V: Write>(
     }
 }
 
-// Formats a page, and puts out all that was written of it.
+// Formats a page, and tells of its fault.
 fn format_page<I: Read, W: Write, V: Write>(
     alloc: Global,
     input: &mut I,
@@ -68,16 +69,7 @@ fn format_page<I: Read, W: Write, V: Write>(
     name: &str,
     settings: &Settings,
 ) -> Done {
-    let run = match settings.output {
-        Output::Lint => run_page(alloc, input, &mut io::sink(), out, name, settings),
-        _ => run_page(alloc, input, out, notes, name, settings),
-    };
-    let run = match (run, out.flush(), notes.flush()) {
-        (Ok(_), Err(_), _) => Err(Fault::WriteText),
-        (Ok(_), _, Err(_)) => Err(Fault::WriteNotes),
-        (run, _, _) => run,
-    };
-    match run {
+    match run_flushing(alloc, input, out, notes, name, settings) {
         Ok(outcome) => Done {
             status: status_of(outcome.worst),
             stops: false,
@@ -87,6 +79,52 @@ fn format_page<I: Read, W: Write, V: Write>(
             matches!(fault, Fault::WriteText | Fault::WriteNotes),
         ),
     }
+}
+
+// Runs over a page: what was written of it is put out before each read, and at its end.
+fn run_flushing<I: Read, W: Write, V: Write>(
+    alloc: Global,
+    input: &mut I,
+    out: &mut W,
+    notes: &mut V,
+    name: &str,
+    settings: &Settings,
+) -> Result<Outcome, Fault> {
+    let rows = Stream::new(&mut *out);
+    let messages = Stream::new(&mut *notes);
+    let mut reader = FlushingReader::new(input, &rows, &messages);
+    let run = run_into(alloc, &mut reader, &rows, &messages, name, settings);
+    let flushed = flush(&rows, &messages);
+    put_out(run, reader.fault(), flushed)
+}
+
+// Runs over a page; rows and messages go to the streams.
+fn run_into<I: Read, W: Write, V: Write>(
+    alloc: Global,
+    reader: &mut I,
+    mut out: &Stream<W>,
+    mut notes: &Stream<V>,
+    name: &str,
+    settings: &Settings,
+) -> Result<Outcome, Fault> {
+    match settings.output {
+        Output::Lint => run_page(alloc, reader, &mut io::sink(), &mut out, name, settings),
+        _ => run_page(alloc, reader, &mut out, &mut notes, name, settings),
+    }
+}
+
+// How a page ended whose streams were put out before its reads and at its end.
+fn put_out(
+    run: Result<Outcome, Fault>,
+    before_a_read: Option<Fault>,
+    at_the_end: Result<(), Fault>,
+) -> Result<Outcome, Fault> {
+    if let Some(fault) = before_a_read {
+        return Err(fault);
+    }
+    let outcome = run?;
+    at_the_end?;
+    Ok(outcome)
 }
 
 // What is left where a page failed, after that was told.

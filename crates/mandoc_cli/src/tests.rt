@@ -26,7 +26,8 @@ const HEAD: &str =
 const FOOT: &str =
     "\nS                                 2020-01-01                              T(1)\n";
 
-// What is told of several writers in turn: their bytes, and `[NAME]` where the bytes of another one begin.
+// What is told of a reader and several writers in turn: `[in]` for a read, the bytes of the writers, and `[NAME]` where those of another
+// one begin.
 #[derive(Drop)]
 struct Journal {
     text: String,
@@ -47,7 +48,8 @@ impl Journal {
 enum Fails {
     Never,
     Past(usize),
-    AtFlush,
+    // After this number of flushes.
+    AtFlush(usize),
 }
 
 // A writer that tells a journal of each write and flush.
@@ -83,8 +85,11 @@ impl<'a> Write for Told<'a> {
         let Ok(mut journal) = self.journal.try_borrow_mut() else {
             return Err(io::Error::from(ErrorKind::InvalidData));
         };
-        if matches!(self.fails, Fails::AtFlush) {
-            return Err(io::Error::from(ErrorKind::StorageFull));
+        if let Fails::AtFlush(left) = self.fails {
+            let Some(rest) = left.checked_sub(1) else {
+                return Err(io::Error::from(ErrorKind::StorageFull));
+            };
+            self.fails = Fails::AtFlush(rest);
         }
         let name = self.name;
         write!(journal.text, "[{name} flushed]")?;
@@ -93,18 +98,27 @@ impl<'a> Write for Told<'a> {
     }
 }
 
-// A page whose reader fails where the page ends.
+// A page that comes line by line, as one that is typed, and fails where it ends.
 #[derive(Drop)]
-struct Broken<'a> {
+struct Typed<'a> {
     page: &'a [u8],
+    journal: &'a RefCell<Journal>,
 }
 
-impl<'a> Read for Broken<'a> {
+impl<'a> Read for Typed<'a> {
     fn read(&mut self, buffer: &mut [u8]) -> io::Result<usize> {
+        if let Ok(mut journal) = self.journal.try_borrow_mut() {
+            journal.text.push_str("[in]")?;
+            journal.last = "";
+        }
         if self.page.is_empty() {
             return Err(io::Error::from(ErrorKind::ConnectionReset));
         }
-        let count = self.page.len().min(buffer.len());
+        let end = self.page.iter().position(|byte| *byte == b'\n');
+        let count = end
+            .map_or(self.page.len(), |end| end.saturating_add(1))
+            .min(self.page.len())
+            .min(buffer.len());
         let (front, rest) = self.page.split_at(count);
         buffer[..count].copy_from_slice(front);
         self.page = rest;
@@ -112,11 +126,12 @@ impl<'a> Read for Broken<'a> {
     }
 }
 
-// Formats pages by these words, with a standard input that fails after a page, and compares what the writers were told and the status.
+// Formats pages by these words, with a standard input that fails after a page, where the rows and the messages fail so, and compares what
+// the reader and the writers were told and the status.
 fn tells<R: Files + AllocGlobal + Abort>(
     rt: &R,
     words: &[&str],
-    fails: Fails,
+    fails: (Fails, Fails),
     journal: String,
     status: u8,
 ) {
@@ -124,15 +139,16 @@ fn tells<R: Files + AllocGlobal + Abort>(
     let mut out = Told {
         name: "out",
         journal: &told,
-        fails,
+        fails: fails.0,
     };
     let mut notes = Told {
         name: "notes",
         journal: &told,
-        fails: Fails::Never,
+        fails: fails.1,
     };
-    let mut input = Broken {
+    let mut input = Typed {
         page: BLANK.as_bytes(),
+        journal: &told,
     };
     if let Ok(Command::Format(format)) = command(rt.alloc(), words) {
         let ended = format_all(rt, rt.alloc(), &format, &mut input, &mut out, &mut notes);
@@ -180,6 +196,8 @@ const TEXT: &str = "       t - x\n";
 
 const FLUSHED: &str = "[out flushed][notes flushed]";
 
+const NEVER: (Fails, Fails) = (Fails::Never, Fails::Never);
+
 #[test]
 fn formats_files_in_turn(rt: HostRuntime) -> Result<(), Fail> {
     let alloc = rt.alloc();
@@ -188,26 +206,42 @@ fn formats_files_in_turn(rt: HostRuntime) -> Result<(), Fail> {
     let quiet = file(alloc, &folder, "quiet.1")?;
     let warned = joined(alloc, &["mandoc: ", blank.as_str(), ":4:1: ", WARNING])?;
     let told = [
+        FLUSHED,
         "[out]",
         HEAD,
         "[notes]",
         warned.as_str(),
         "\n[out]",
         TEXT,
-        "\n       y\n",
+        "\n",
+        FLUSHED,
+        "[out]       y\n",
         FOOT,
+        FLUSHED,
         FLUSHED,
         "[out]",
         HEAD,
+        FLUSHED,
+        "[out]",
         TEXT,
         FOOT,
         FLUSHED,
     ];
     let words = ["-Wall", blank.as_str(), quiet.as_str()];
-    tells(&rt, &words, Fails::Never, joined(alloc, &told)?, 2);
-    let told = ["[out]", warned.as_str(), "\n", FLUSHED, FLUSHED];
+    tells(&rt, &words, NEVER, joined(alloc, &told)?, 2);
+    let told = [
+        FLUSHED,
+        "[out]",
+        warned.as_str(),
+        "\n",
+        FLUSHED,
+        FLUSHED,
+        FLUSHED,
+        FLUSHED,
+        FLUSHED,
+    ];
     let words = ["-Tlint", blank.as_str(), quiet.as_str()];
-    tells(&rt, &words, Fails::Never, joined(alloc, &told)?, 2);
+    tells(&rt, &words, NEVER, joined(alloc, &told)?, 2);
     fs::remove_dir_all(&rt, folder.as_str())?;
     Ok(())
 }
@@ -222,27 +256,34 @@ fn goes_on_after_a_file_that_fails(rt: HostRuntime) -> Result<(), Fail> {
         "[notes]mandoc: ",
         missing.as_str(),
         ": cannot open\n",
+        FLUSHED,
         "[out]",
         HEAD,
+        FLUSHED,
+        "[out]",
         TEXT,
         FOOT,
         FLUSHED,
     ];
     let words = [missing.as_str(), quiet.as_str()];
-    tells(&rt, &words, Fails::Never, joined(alloc, &told)?, 6);
+    tells(&rt, &words, NEVER, joined(alloc, &told)?, 6);
     let told = [
+        FLUSHED,
         FLUSHED,
         "[notes]mandoc: ",
         folder.as_str(),
         ": cannot read\n",
+        FLUSHED,
         "[out]",
         HEAD,
+        FLUSHED,
+        "[out]",
         TEXT,
         FOOT,
         FLUSHED,
     ];
     let words = [folder.as_str(), quiet.as_str()];
-    tells(&rt, &words, Fails::Never, joined(alloc, &told)?, 6);
+    tells(&rt, &words, NEVER, joined(alloc, &told)?, 6);
     fs::remove_dir_all(&rt, folder.as_str())?;
     Ok(())
 }
@@ -257,34 +298,83 @@ fn stops_after_a_writer_that_fails(rt: HostRuntime) -> Result<(), Fail> {
         alloc,
         &["[notes]mandoc: ", quiet.as_str(), ": cannot write\n"],
     )?;
-    let told = ["[out]", HEAD, FLUSHED, fault.as_str()];
-    tells(
-        &rt,
-        &words,
-        Fails::Past(HEAD.len()),
-        joined(alloc, &told)?,
-        6,
-    );
-    let told = ["[out]", HEAD, TEXT, FOOT, "[notes flushed]", fault.as_str()];
-    tells(&rt, &words, Fails::AtFlush, joined(alloc, &told)?, 6);
+    let fault = fault.as_str();
+    let cases: [(Fails, Fails, &[&str]); 6] = [
+        (Fails::Past(0), Fails::Never, &[FLUSHED, FLUSHED, fault]),
+        (
+            Fails::Past(HEAD.len()),
+            Fails::Never,
+            &[FLUSHED, "[out]", HEAD, FLUSHED, FLUSHED, fault],
+        ),
+        (
+            Fails::AtFlush(0),
+            Fails::Never,
+            &["[notes flushed][notes flushed]", fault],
+        ),
+        (
+            Fails::AtFlush(1),
+            Fails::Never,
+            &[
+                FLUSHED,
+                "[out]",
+                HEAD,
+                "[notes flushed][notes flushed]",
+                fault,
+            ],
+        ),
+        (
+            Fails::AtFlush(2),
+            Fails::Never,
+            &[
+                FLUSHED,
+                "[out]",
+                HEAD,
+                FLUSHED,
+                "[out]",
+                TEXT,
+                FOOT,
+                "[notes flushed]",
+                fault,
+            ],
+        ),
+        (
+            Fails::Never,
+            Fails::AtFlush(1),
+            &[FLUSHED, "[out]", HEAD, "[out flushed][out flushed]", fault],
+        ),
+    ];
+    for (of_rows, of_notes, told) in cases {
+        tells(&rt, &words, (of_rows, of_notes), joined(alloc, told)?, 6);
+    }
     fs::remove_dir_all(&rt, folder.as_str())?;
     Ok(())
 }
 
+// What each line settles goes out before the next one is asked for, and a page before its fault.
 #[test]
-fn tells_of_a_page_before_its_fault(rt: HostRuntime) -> Result<(), Fail> {
+fn puts_out_what_there_is_before_it_reads_on(rt: HostRuntime) -> Result<(), Fail> {
     let told = [
-        "[out]",
+        FLUSHED,
+        "[in]",
+        FLUSHED,
+        "[in][out]",
         HEAD,
-        "[notes]mandoc: <stdin>:4:1: ",
+        FLUSHED,
+        "[in]",
+        FLUSHED,
+        "[in][notes]mandoc: <stdin>:4:1: ",
         WARNING,
         "\n[out]",
         TEXT,
         "\n",
         FLUSHED,
+        "[in]",
+        FLUSHED,
+        "[in]",
+        FLUSHED,
         "[notes]mandoc: <stdin>: cannot read\n",
     ];
-    tells(&rt, &["-Wall"], Fails::Never, joined(rt.alloc(), &told)?, 6);
+    tells(&rt, &["-Wall"], NEVER, joined(rt.alloc(), &told)?, 6);
     Ok(())
 }
 
