@@ -41,6 +41,8 @@ impl<R: RowSink, N: NoteSink> PieceSink for Below<'_, '_, '_, R, N> {
         R.laws (filter-sink N.gave N.within N.laws (λ s. s.notes.now) (λ s. s.least) (λ s. s.worst))
         (λ s. s.filler.now) (λ s. s.rows.now) (λ s. s.notes) };
 
+    // The filler's own `piece` is put in its place, so that a piece of a known kind costs no copy and no match.
+    #[inline(always)]
     #[tactic(auto, unfolding(crate::specs::Items::laid_items))]
     fn piece(&mut self, piece: Piece<&[u8]>) -> Result<(), Fault> {
         self.filler.piece(piece, self.rows, &mut self.notes)
