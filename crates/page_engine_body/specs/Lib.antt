@@ -1,2 +1,3 @@
 pub mod Bodies
+pub mod Caps
 pub mod Titles

@@ -5,6 +5,7 @@ ghost use Rattle.page_core_base.specs.Latches.{Came, Emits};
 ghost use Rattle.page_core_base.specs.LinesTaken.{line_seen};
 ghost use Rattle.page_engine_body.specs.Bodies as bodies;
 ghost use Rattle.page_engine_body.specs.Bodies.{IsShort};
+ghost use Rattle.page_engine_body.specs.Caps.{BodyFits};
 ghost use Rattle.page_sets_lines.specs.Events.{event_seen};
 ghost use Rattle.page_sets_lines.specs.Laws.{HasSlices};
 
@@ -140,5 +141,17 @@ impl Body {
             out.give(Piece::Space(1));
         }
         give_footer_row(out, self.measure, Place { line, column: 1 }, &self.fields);
+    }
+
+    /// What is held between two lines is within its limits. Nothing is done: the fields and the scopes tell it.
+    pub fn caps_law(&self)
+        ensures { BodyFits self.now }
+    {
+        self.fields.title.text();
+        self.fields.section.text();
+        self.fields.date.text();
+        self.fields.source.text();
+        self.fields.volume.text();
+        self.scopes.depth();
     }
 }

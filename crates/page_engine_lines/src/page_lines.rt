@@ -4,6 +4,7 @@ ghost use Rattle.std.specs.Prelude.{◌≡◌, ◌≤◌, ◌<◌, ◌^◌, leng
 ghost use Rattle.page_core_base.specs.Texts.{IsLine};
 ghost use Rattle.page_core_base.specs.Latches.{Came, Emits};
 ghost use Rattle.page_roff_source.specs.Edges.{counts_of};
+ghost use Rattle.page_engine_body.specs.Caps.{BodyFits};
 ghost use Rattle.page_engine_lines.specs.Lines as lines;
 
 use crate::item_outs::ItemOut;
@@ -131,5 +132,12 @@ impl PageLines {
         ensures { result ≡ counts_of self.now.roff }
     {
         self.roff.counts()
+    }
+
+    /// What is held of the body between two lines is within its limits.
+    pub fn caps_law(&self)
+        ensures { BodyFits self.now.body }
+    {
+        self.body.caps_law();
     }
 }

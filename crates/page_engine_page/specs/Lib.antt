@@ -5,3 +5,4 @@ pub mod Below
 pub mod Parts
 pub mod Streams
 pub mod States
+pub mod Within

@@ -1,12 +1,13 @@
 //! A page that streams: lines come one by one, and what they settle goes out at once.
 
-ghost use Rattle.std.specs.Prelude.{◌≡◌, ◌<◌, ◌+◌, ◌-◌, ◌^◌, ℕ, true, false, None, Some, OnOk, OnErr, MatchResult};
+ghost use Rattle.std.specs.Prelude.{◌≡◌, ◌<◌, ◌+◌, ◌-◌, ◌^◌, ℕ, true, false, None, Some, IfOk, OnOk, OnErr, MatchResult};
 ghost use Rattle.page_core_base.specs.Checks.{IsGood};
 ghost use Rattle.page_core_base.specs.Texts.{IsLine};
 ghost use Rattle.page_core_base.specs.declared.faults.Fault.{Fault};
 ghost use Rattle.page_roff_lines.specs.Cutting.{line_of};
 ghost use Rattle.page_engine_page.specs.Page.{Edge, text_line, settled_line, ended, start};
 ghost use Rattle.page_engine_page.specs.Streams.{sinks, AreWell};
+ghost use Rattle.page_engine_page.specs.Within.{HoldsWithin};
 ghost use Rattle.page_engine_page.specs.States.{IsOpenAt, CannotStart, closed, line_fault, line_fault_of, IsRefused, Takes, Ends};
 
 use crate::parts::Parts;
@@ -86,14 +87,16 @@ impl Page {
     /// The start of a page. The settings are checked first, with [`Fault::Settings`]; then memory is reserved for
     /// all that the page will ever hold, with [`Fault::Memory`].
     pub fn new(alloc: Global, settings: &Settings) -> Result<Page, Fault>
-        ensures { MatchResult result (λ p. IsGood settings.now × IsOpenAt p (start settings.now))
+        ensures starts { MatchResult result (λ p. IsGood settings.now × IsOpenAt p (start settings.now))
             (λ fault. CannotStart settings.now fault) }
+        ensures within { IfOk result HoldsWithin }
     {
         if let Err(fault) = settings.check() {
             return Err(Fault::Settings(fault));
         }
         let parts = Parts::new(alloc, settings)?;
         let counts = parts.counts();
+        parts.caps_law();
         Ok(Page {
             parts,
             phase: Phase::Open,
@@ -117,6 +120,7 @@ impl Page {
         ensures takes { (e : Edge) → IsOpenAt self.old e → line_fault self.old ≡ None →
             Takes result (sinks R.gave R.within R.failed N.gave N.within N.failed)
             rows.old rows.new notes.old notes.new (settled_line e (text_line text.now number)) self.new }
+        ensures within { OnOk result (HoldsWithin self.new) }
         ensures works { (e : Edge) → IsOpenAt self.old e → line_fault self.old ≡ None →
             AreWell (sinks R.gave R.within R.failed N.gave N.within N.failed) rows.old rows.new notes.old notes.new
             → OnErr result ⊥ }
@@ -132,6 +136,7 @@ impl Page {
         if let Err(fault) = self.parts.feed(text, number, rows, notes) {
             return Err(fault);
         }
+        self.parts.caps_law();
         self.counts = self.parts.counts();
         self.phase = Phase::Open;
         Ok(())
@@ -153,6 +158,7 @@ impl Page {
             rows.old rows.new notes.old notes.new (settled_line e (line_of cutter.old.point)) self.new }
         ensures refused { (fault : Fault) → line_fault self.old ≡ Some fault →
             IsRefused result fault self.old self.new rows.old rows.new notes.old notes.new }
+        ensures within { OnOk result (HoldsWithin self.new) }
         ensures works { (e : Edge) → IsOpenAt self.old e → line_fault self.old ≡ None →
             AreWell (sinks R.gave R.within R.failed N.gave N.within N.failed) rows.old rows.new notes.old notes.new
             → OnErr result ⊥ }
@@ -169,6 +175,7 @@ impl Page {
         if let Err(fault) = self.parts.take_line(cutter, rows, notes) {
             return Err(fault);
         }
+        self.parts.caps_law();
         self.counts = self.parts.counts();
         self.phase = Phase::Open;
         Ok(())

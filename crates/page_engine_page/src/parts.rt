@@ -8,6 +8,7 @@ ghost use Rattle.page_roff_lines.specs.Cutting.{line_of};
 ghost use Rattle.page_roff_source.specs.Edges.{counts_of};
 ghost use Rattle.page_fill.specs.declared.words.Edge.{Edge as FillEdge};
 ghost use Rattle.page_engine_page.specs.Parts.{IsAt};
+ghost use Rattle.page_engine_page.specs.Within.{IsWithin};
 ghost use Rattle.page_engine_page.specs.Page.{Edge, settled_text, settled_line, ended, end_laid, start};
 ghost use Rattle.page_engine_page.specs.Below.{Ends};
 
@@ -185,5 +186,13 @@ impl Parts {
         ensures { result ≡ counts_of self.now.lines.roff }
     {
         self.lines.counts()
+    }
+
+    /// What is held between two lines is within its limits.
+    pub(crate) fn caps_law(&self)
+        ensures { (e : Edge) → IsAt self.now e → IsWithin e }
+    {
+        self.filler.pending();
+        self.lines.caps_law();
     }
 }

@@ -1,7 +1,7 @@
 use Rattle.std.proofs.Common.{refl, ap, ◌∙◌}
 use Rattle.page_roff_source.specs.Edges.{counts_of}
 use Rattle.page_engine_lines.specs.Lines.{LinesEdge}
-use Rattle.page_engine_page.proofs.Phases.{edge_at, open_parts, no_cause}
+use Rattle.page_engine_page.proofs.Phases.{at_edge, edge_at, open_parts, no_cause}
 use Rattle.page_engine_page.proofs.pages.Page.take_line.Goals as goal
 
 pub returns-in-Err-clause-takes : goal.returns-in-Err-clause-takes
@@ -28,3 +28,6 @@ returns-clause-takes g c = λ e h free.
         counts = c.counts-self-inside.ensures ∙ ap (λ (l : LinesEdge). counts_of l.roff) at.lines;
       },
     )
+
+pub returns-clause-within : goal.returns-clause-within
+returns-clause-within g c = λ e h. c.caps_law.ensures e (at_edge _ e h)
