@@ -1,0 +1,90 @@
+//! A page at once, and with each of its writes failing in turn.
+
+use crate::endings::run_lines;
+use crate::lines::FILE;
+use crate::stores::{Fails, Store};
+use crate::streams::{Shows, Streams};
+use page_core_base::{Fault, Settings};
+use page_engine::{Outcome, run_page};
+use std::alloc::Global;
+
+/// The first writes that fail in turn, of each sink.
+const WRITES: usize = 100;
+
+/// What a run over a whole page gives.
+#[derive(Drop)]
+pub(crate) struct Whole {
+    rows: Store,
+    messages: Store,
+    result: Result<Outcome, Fault>,
+}
+
+impl Whole {
+    /// A run over a page.
+    pub(crate) fn new(alloc: Global, bytes: &[u8], settings: &Settings) -> Option<Whole> {
+        let mut reader = bytes;
+        let mut rows = Store::new(alloc, 0, Fails::Never).ok()?;
+        let mut messages = Store::new(alloc, 0, Fails::Never).ok()?;
+        let result = run_page(alloc, &mut reader, &mut rows, &mut messages, FILE, settings);
+        Some(Whole {
+            rows,
+            messages,
+            result,
+        })
+    }
+
+    /// Whether streams got the same, and the result is the same.
+    pub(crate) fn is(&self, streams: &Streams, other: Result<Outcome, Fault>) -> bool {
+        other == self.result
+            && streams.rows.kept == self.rows.kept
+            && streams.messages.kept == self.messages.kept
+    }
+
+    // Whether streams got a front of the same.
+    fn begins_with(&self, streams: &Streams) -> bool {
+        self.rows.kept.starts_with(streams.rows.kept.as_slice())
+            && self
+                .messages
+                .kept
+                .starts_with(streams.messages.kept.as_slice())
+    }
+
+    /// Whether the page that comes line by line ends by the fault of the sink, wherever a write fails, with a front of what the run gives,
+    /// and is closed then.
+    pub(crate) fn stands_failures(&self, alloc: Global, bytes: &[u8], settings: &Settings) -> bool {
+        let writes = self.rows.calls.max(self.messages.calls).min(WRITES);
+        for call in 1..writes.saturating_add(2) {
+            for fails in [Fails::At(call), Fails::TakesNothing(call)] {
+                if !self.stands(alloc, bytes, settings, (fails, Fails::Never))
+                    || !self.stands(alloc, bytes, settings, (Fails::Never, fails))
+                {
+                    return false;
+                }
+            }
+        }
+        true
+    }
+
+    // The same of one failure.
+    fn stands(
+        &self,
+        alloc: Global,
+        bytes: &[u8],
+        settings: &Settings,
+        fails: (Fails, Fails),
+    ) -> bool {
+        let Some(mut streams) = Streams::new(alloc, 0, fails, Shows::Nothing) else {
+            return false;
+        };
+        let Some(ending) = run_lines(alloc, bytes, settings, &mut streams) else {
+            return false;
+        };
+        match (streams.fault(), ending.result) {
+            (Some(failed), Err(fault)) => {
+                fault == failed && ending.later == Some(Fault::Failed) && self.begins_with(&streams)
+            }
+            (None, other) => self.is(&streams, other) && ending.later == Some(Fault::Ended),
+            _ => false,
+        }
+    }
+}

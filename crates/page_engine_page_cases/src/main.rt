@@ -1,0 +1,113 @@
+//! Shows what pages give whose lines come one by one: rows, messages, counts of lines and the worst level, and the fault of each further call.
+//! The standard input has the pages, each after a line `== WORDS: what it shows`, where the words are those of `words` or none.
+//!
+//! Each page is also run at once, and with each write failing in turn. Where it then gives something else, a line `-- not` says so. Where an
+//! allocation is refused, either there is no page, or it is the one after the page.
+#![tactic(auto)]
+
+mod endings;
+mod failing;
+mod lines;
+mod stores;
+mod streams;
+mod words;
+
+use endings::{Ending, run_lines};
+use failing::Whole;
+use page_core_base::Level;
+use page_engine::Outcome;
+use std::io;
+use streams::{Shows, Streams};
+use words::Words;
+
+/// The bytes that the writers have memory for.
+const ROOM: usize = 100_000;
+
+fn main(rt: HostRuntime) -> io::Result<()> {
+    let mut page = Vec::new(rt.alloc());
+    let mut words = Words::new();
+    let mut is_first = true;
+    for line in rt.lines(rt.alloc()) {
+        let line = line?;
+        if let Some(title) = line.strip_prefix("== ") {
+            if !is_first {
+                show(&rt, page.as_slice(), words);
+            }
+            is_first = false;
+            page.clear();
+            words = Words::of(title);
+            let _ = println!(rt; "{line}");
+        } else {
+            page.extend_from_slice(line.as_bytes())?;
+            page.push(b'\n')?;
+        }
+    }
+    show(&rt, page.as_slice(), words);
+    Ok(())
+}
+
+// Shows what a page gives.
+fn show(rt: &HostRuntime, page: &[u8], words: Words) {
+    let shows = if words.each {
+        Shows::Lines(rt)
+    } else {
+        Shows::Text(rt)
+    };
+    let fails = (words.rows, words.messages);
+    let Some(mut streams) = Streams::new(rt.alloc(), ROOM, fails, shows) else {
+        return;
+    };
+    let Some(ending) = run_lines(rt.alloc(), page, &words.settings, &mut streams) else {
+        return;
+    };
+    streams.show();
+    let _ = show_ending(rt, ending);
+    if words.are_well() {
+        show_differences(rt, page, &words, &streams, ending);
+    }
+}
+
+fn show_ending(rt: &HostRuntime, ending: Ending) -> io::Result<()> {
+    match ending.result {
+        Ok(outcome) => show_outcome(rt, outcome)?,
+        Err(fault) => println!(rt; "-- {fault}")?,
+    }
+    if let Some(fault) = ending.later {
+        println!(rt; "-- then {fault}")?;
+    }
+    if !ending.has_memory {
+        println!(rt; "-- no memory after the page")?;
+    }
+    Ok(())
+}
+
+fn show_outcome(rt: &HostRuntime, outcome: Outcome) -> io::Result<()> {
+    let worst = outcome.worst.map_or("none", Level::name);
+    let counts = outcome.counts;
+    println!(rt;
+        "-- source {} taken {} expansions {} worst {worst}",
+        counts.source, counts.taken, counts.expansions
+    )
+}
+
+// Shows where the page gives something else at once, or does not stand a write that fails.
+fn show_differences(
+    rt: &HostRuntime,
+    page: &[u8],
+    words: &Words,
+    streams: &Streams,
+    ending: Ending,
+) {
+    let Some(whole) = Whole::new(rt.alloc(), page, &words.settings) else {
+        return;
+    };
+    if !ending.is_plain {
+        return;
+    }
+    if !whole.is(streams, ending.result) {
+        let _ = println!(rt; "-- not at once");
+    }
+    if !whole.stands_failures(rt.alloc(), page, &words.settings) {
+        let _ = println!(rt; "-- not where a write fails");
+    }
+}

@@ -1,0 +1,58 @@
+//! What the words of a title say of a page's run.
+
+use crate::stores::Fails;
+use page_core_base::{Level, Output, Settings};
+
+/// How a page is run, and what is shown of it.
+#[derive(Clone, Copy)]
+pub(crate) struct Words {
+    pub(crate) settings: Settings,
+    pub(crate) rows: Fails,
+    pub(crate) messages: Fails,
+    /// Whether each line is shown before what it gives.
+    pub(crate) each: bool,
+}
+
+impl Words {
+    /// All messages are given, and nothing fails.
+    pub(crate) fn new() -> Words {
+        Words {
+            settings: Settings {
+                least: Some(Level::Base),
+                ..Settings::new()
+            },
+            rows: Fails::Never,
+            messages: Fails::Never,
+            each: false,
+        }
+    }
+
+    /// Those of a title `WORDS: what it shows`: `utf8`, `width=N`, `rows=N` and `messages=N`, after how many bytes the writer of the rows or
+    /// of the messages fails, and `each`.
+    pub(crate) fn of(title: &str) -> Words {
+        let mut words = Words::new();
+        let (all, _) = title.split_once(": ").unwrap_or(("", title));
+        for word in all.split(' ') {
+            words.set(word);
+        }
+        words
+    }
+
+    fn set(&mut self, word: &str) {
+        match word.split_once('=') {
+            Some(("width", digits)) => self.settings.width = digits.parse().unwrap_or(0),
+            Some(("rows", digits)) => self.rows = Fails::Past(digits.parse().unwrap_or(0)),
+            Some(("messages", digits)) => self.messages = Fails::Past(digits.parse().unwrap_or(0)),
+            _ => match word {
+                "utf8" => self.settings.output = Output::Utf8,
+                "each" => self.each = true,
+                _ => {}
+            },
+        }
+    }
+
+    /// Whether no writer fails.
+    pub(crate) fn are_well(&self) -> bool {
+        matches!((self.rows, self.messages), (Fails::Never, Fails::Never))
+    }
+}
