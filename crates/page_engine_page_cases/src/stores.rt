@@ -36,12 +36,22 @@ impl Store {
         })
     }
 
-    // Keeps bytes, after which the writer may fail otherwise.
-    fn keep(&mut self, bytes: &[u8], fails: Fails) -> io::Result<usize> {
-        self.fails = fails;
-        self.has_failed = false;
-        self.kept.extend_from_slice(bytes)?;
-        Ok(bytes.len())
+    // How many bytes the write that is under way takes at most.
+    fn room(&self) -> io::Result<usize> {
+        match self.fails {
+            Fails::Past(0) => Err(io::Error::from(ErrorKind::StorageFull)),
+            Fails::Past(room) => Ok(room),
+            Fails::At(call) if call == self.calls => Err(io::Error::from(ErrorKind::BrokenPipe)),
+            Fails::TakesNothing(call) if call == self.calls => Ok(0),
+            _ => Ok(usize::MAX),
+        }
+    }
+
+    // So many bytes are kept.
+    fn pass(&mut self, count: usize) {
+        if let Fails::Past(room) = self.fails {
+            self.fails = Fails::Past(room.saturating_sub(count));
+        }
     }
 }
 
@@ -49,16 +59,11 @@ impl Write for Store {
     fn write(&mut self, bytes: &[u8]) -> io::Result<usize> {
         self.calls = self.calls.saturating_add(1);
         self.has_failed = true;
-        match self.fails {
-            Fails::Past(0) => Err(io::Error::from(ErrorKind::StorageFull)),
-            Fails::Past(room) => {
-                let count = bytes.len().min(room);
-                self.keep(&bytes[..count], Fails::Past(room - count))
-            }
-            Fails::At(call) if call == self.calls => Err(io::Error::from(ErrorKind::BrokenPipe)),
-            Fails::TakesNothing(call) if call == self.calls => Ok(0),
-            fails => self.keep(bytes, fails),
-        }
+        let count = bytes.len().min(self.room()?);
+        self.kept.extend_from_slice(&bytes[..count])?;
+        self.pass(count);
+        self.has_failed = count == 0 && !bytes.is_empty();
+        Ok(count)
     }
 
     fn flush(&mut self) -> io::Result<()> {
