@@ -9,7 +9,7 @@ use std::alloc::Global;
 const FILE: &str = "x.1";
 
 /// The places, of reads, of writes and of ends, that are tried of a page: about as many at most.
-const PLACES: usize = 100;
+const PLACES: usize = 1_000;
 
 /// A page and its settings.
 #[derive(Clone, Copy)]
@@ -99,7 +99,10 @@ fn is_same_by_bytes(alloc: Global, case: Case, whole: &Given) -> bool {
 fn ends_anywhere(alloc: Global, case: Case) -> bool {
     let step = step_of(case.page.len());
     for place in 0..PLACES {
-        let end = place.saturating_mul(step).min(case.page.len());
+        let end = place.saturating_mul(step);
+        if end > case.page.len() {
+            return true;
+        }
         let cut = Case {
             page: &case.page[..end],
             settings: case.settings,
