@@ -1,5 +1,6 @@
 -- How much is held between two lines. Source: mandoc(1), "DIAGNOSTICS".
--- The caps on names and their values, and on an open region and the open blocks, are those of roff's own objects, and are not said here.
+-- Not said here: the caps on names and their values, on an open region and on open blocks, which are invariants of
+-- roff's own objects; on the columns of an open tag and the blank rows at the end; on the name of the system.
 use Rattle.std.specs.Prelude.{◌≡◌, ◌≤◌, Some, length}
 use Rattle.page_core_limits.specs.declared.TheConstants.{CELLS}
 use Rattle.page_engine_body.specs.Caps.{BodyFits}
