@@ -5,7 +5,7 @@ use page_core_limits::LINE;
 use page_core_writers::TextNotes;
 use page_roff_conditions::holds;
 use page_roff_heads::read_conditional;
-use page_roff_values::{Environment, NoteLatch};
+use page_roff_values::{Environment, Expansion, NoteLatch};
 
 /// Shows whether the condition of a head in line 7 holds, of which what follows `.if` is given, and its messages.
 pub(crate) fn show_condition(rt: &HostRuntime, roff: &mut Roff, rest: &str) {
@@ -33,13 +33,18 @@ pub(crate) fn show_condition(rt: &HostRuntime, roff: &mut Roff, rest: &str) {
 pub(crate) fn show_text(rt: &HostRuntime, roff: &mut Roff, copy: bool, text: &str) {
     let mut messages = Vec::new(rt.alloc());
     let is_plain = expand(roff, copy, text.as_bytes(), &mut messages);
-    let _ = print!(rt; " -> {} ", roff.line.count());
+    show_expanded(rt, &roff.line, is_plain, text);
+    show_messages(rt, messages.as_slice());
+}
+
+// Shows how many interpolations a text made, and what it gives.
+fn show_expanded(rt: &HostRuntime, line: &Expansion, is_plain: bool, text: &str) {
+    let _ = print!(rt; " -> {} ", line.count());
     let _ = if is_plain {
         print!(rt; "{text}")
     } else {
-        print!(rt; "{}", shown(roff.line.text()))
+        print!(rt; "{}", shown(line.text()))
     };
-    show_messages(rt, messages.as_slice());
 }
 
 // Expands line 7, and answers whether it is what it gives.
