@@ -1,9 +1,9 @@
 #!/usr/bin/env python3
 """Refuses each allocation in turn to runs over the pages of page_engine_page_cases (usage: bench/refusals.py PROGRAM).
 
-The program feeds a page line by line. What is not the page's has its memory before the page is made; after the page's end the program
-makes one allocation of its own. So where an allocation is refused, there is either no page, or the one refused is that last one, and the
-page gives the same rows, messages and counts: a page asks for nothing once it is made.
+The program feeds a page line by line, first to a page and then to roff alone. What is not theirs has its memory before they are made; after
+the end of each the program makes one allocation of its own. So where an allocation is refused, there is either no page, or no roff, or the one
+refused is one of those two, and what is given is the same: a page and roff ask for nothing once they are made.
 """
 import os
 import re
@@ -47,7 +47,9 @@ int posix_memalign(void **to, size_t align, size_t size) {
 }
 """
 
-AFTER = b"-- no memory after the page\n"
+AFTER_PAGE = b"-- no memory after the page\n"
+NO_ROFF = b"-- not by roff alone\n"
+AFTER_ROFF = b"-- no memory after roff\n"
 
 
 def given(program, library, page, refused):
@@ -59,11 +61,17 @@ def given(program, library, page, refused):
 def fault_of(program, library, page):
     """Returns what a page does not keep to where an allocation is refused, or None."""
     whole = given(program, library, page, 0)
+    has_page = False
     for refused in range(1, 10_000):
         shown = given(program, library, page, refused)
-        if AFTER in shown:
-            return None if shown.replace(AFTER, b"") == whole else f"gives something else where allocation {refused} is refused"
-        if b"-- source" in shown:
+        told = [line for line in (AFTER_PAGE, NO_ROFF, AFTER_ROFF) if line in shown]
+        if told:
+            has_page = True
+            if shown.replace(told[0], b"") != whole:
+                return f"gives something else where allocation {refused} is refused"
+            if AFTER_ROFF in told:
+                return None
+        elif has_page or b"-- source" in shown:
             return f"is there, but for what it gives, where allocation {refused} is refused"
     return "asks for memory without end"
 

@@ -1,6 +1,6 @@
 //! How a page ends whose lines come one by one.
 
-use crate::lines::{Lines, fault_after};
+use crate::lines::{Lines, PageFeed, fault_after};
 use crate::streams::Streams;
 use page_core_base::{Fault, Settings};
 use page_engine::Outcome;
@@ -38,7 +38,11 @@ pub(crate) fn run_lines(
         Ok(page) => page,
         Err(fault) => return Some(Ending::without_page(fault)),
     };
-    let result = lines.feed_all(&mut page, bytes, streams);
+    let mut feed = PageFeed {
+        page: &mut page,
+        streams,
+    };
+    let result = lines.feed_all(&mut feed, bytes);
     let outcome = Outcome {
         worst: page.worst(),
         counts: page.counts(),

@@ -1,6 +1,7 @@
 //! A page whose logical lines come one by one.
 
 ghost use Rattle.std.specs.Prelude.{◌≡◌, ◌+◌, ◌^◌, ◌<◌, length, false, true, OnOk, IfSome};
+ghost use Rattle.page_core_base.specs.Texts.{IsLine};
 
 use crate::streams::Streams;
 use page_core_base::{Encoding, Fault};
@@ -11,6 +12,43 @@ use std::alloc::Global;
 
 /// The name of the file in messages.
 pub(crate) const FILE: &str = "x.1";
+
+/// What takes the lines of a page one by one, and its end.
+pub(crate) trait Feed {
+    /// A line comes, of a number.
+    fn line(&mut self, text: &[u8], number: u32) -> Result<(), Fault>
+        requires { IsLine text.now };
+
+    /// No more lines come.
+    fn end(&mut self) -> Result<(), Fault>;
+}
+
+/// A page, and where its rows and messages go.
+#[derive(Drop)]
+pub(crate) struct PageFeed<'a, 'b> {
+    pub(crate) page: &'a mut Page,
+    pub(crate) streams: &'a mut Streams<'b>,
+}
+
+impl Feed for PageFeed<'_, '_> {
+    fn line(&mut self, text: &[u8], number: u32) -> Result<(), Fault> {
+        self.page.feed_line(
+            text,
+            number,
+            &mut TextRows::new(&mut self.streams.rows),
+            &mut TextNotes::new(&mut self.streams.messages, FILE),
+        )?;
+        self.streams.show_line(number);
+        Ok(())
+    }
+
+    fn end(&mut self) -> Result<(), Fault> {
+        self.page.end(
+            &mut TextRows::new(&mut self.streams.rows),
+            &mut TextNotes::new(&mut self.streams.messages, FILE),
+        )
+    }
+}
 
 /// Cuts the bytes of a page into lines, with the messages of the cutting.
 #[derive(Drop)]
@@ -38,29 +76,17 @@ impl Lines {
     }
 
     // Feeds the line that waits.
-    fn feed_line(&mut self, page: &mut Page, streams: &mut Streams) -> Result<(), Fault>
+    fn feed_line<F: Feed>(&mut self, feed: &mut F) -> Result<(), Fault>
         requires { self.old.cutter.ready ≡ true }
         ensures ready { OnOk result (self.new.cutter.ready ≡ false) }
         ensures point { OnOk result (self.new.cutter.point ≡ self.old.cutter.point) }
     {
         let (text, number) = self.cutter.line(&mut self.cuts)?;
-        page.feed_line(
-            text,
-            number,
-            &mut TextRows::new(&mut streams.rows),
-            &mut TextNotes::new(&mut streams.messages, FILE),
-        )?;
-        streams.show_line(number);
-        Ok(())
+        feed.line(text, number)
     }
 
-    /// Feeds all lines, and ends the page.
-    pub(crate) fn feed_all(
-        &mut self,
-        page: &mut Page,
-        bytes: &[u8],
-        streams: &mut Streams,
-    ) -> Result<(), Fault>
+    /// Feeds all lines, and the end.
+    pub(crate) fn feed_all<F: Feed>(&mut self, feed: &mut F, bytes: &[u8]) -> Result<(), Fault>
         requires ready { self.old.cutter.ready ≡ false }
         requires consumed { self.old.cutter.point.line.consumed + length bytes.now < 2 ^ 31 }
     {
@@ -70,38 +96,24 @@ impl Lines {
                 let (consumed, whole) = self.cutter.feed(&bytes[at..]);
                 at += consumed;
                 if whole {
-                    self.feed_line(page, streams)?;
+                    self.feed_line(feed)?;
                 }
             }
         }
         if self.cutter.end() {
-            self.feed_line(page, streams)?;
+            self.feed_line(feed)?;
         }
-        end(page, streams)
+        feed.end()
     }
-}
-
-/// Ends a page.
-pub(crate) fn end(page: &mut Page, streams: &mut Streams) -> Result<(), Fault> {
-    page.end(
-        &mut TextRows::new(&mut streams.rows),
-        &mut TextNotes::new(&mut streams.messages, FILE),
-    )
 }
 
 /// The fault of a further line and of a further end, where both have the same and nothing is written.
 pub(crate) fn fault_after(page: &mut Page, streams: &mut Streams) -> Option<Fault> {
     let calls = streams.calls();
-    let of_line = page
-        .feed_line(
-            b".ZZ",
-            1,
-            &mut TextRows::new(&mut streams.rows),
-            &mut TextNotes::new(&mut streams.messages, FILE),
-        )
-        .err()?;
-    let of_end = end(page, streams).err()?;
-    if of_line == of_end && calls == streams.calls() {
+    let mut feed = PageFeed { page, streams };
+    let of_line = feed.line(b".ZZ", 1).err()?;
+    let of_end = feed.end().err()?;
+    if of_line == of_end && calls == feed.streams.calls() {
         Some(of_end)
     } else {
         None

@@ -1,13 +1,14 @@
 //! Shows what pages give whose lines come one by one: rows, messages, counts of lines and the worst level, and the fault of each further call.
 //! The standard input has the pages, each after a line `== WORDS: what it shows`, where the words are those of `words` or none.
 //!
-//! Each page is also run at once, and with each write failing in turn. Where it then gives something else, a line `-- not` says so. Where an
-//! allocation is refused, either there is no page, or it is the one after the page.
+//! Each page is also run at once, with each write failing in turn, and by roff alone, which counts the same. Where it then gives something
+//! else, a line `-- not` says so. Where an allocation is refused, either there is no page, or it is the one after the page; and the same of roff.
 #![tactic(auto)]
 
 mod endings;
 mod failing;
 mod lines;
+mod roffs;
 mod stores;
 mod streams;
 mod words;
@@ -16,6 +17,7 @@ use endings::{Ending, run_lines};
 use failing::Whole;
 use page_core_base::Level;
 use page_engine::Outcome;
+use roffs::run_roff;
 use std::io;
 use streams::{Shows, Streams};
 use words::Words;
@@ -63,6 +65,7 @@ fn show(rt: &HostRuntime, page: &[u8], words: Words) {
     streams.show();
     let _ = show_ending(rt, ending);
     if words.are_well() {
+        show_roff(rt, page, &words, ending);
         show_differences(rt, page, &words, &streams, ending);
     }
 }
@@ -88,6 +91,20 @@ fn show_outcome(rt: &HostRuntime, outcome: Outcome) -> io::Result<()> {
         "-- source {} taken {} expansions {} worst {worst}",
         counts.source, counts.taken, counts.expansions
     )
+}
+
+// Shows where roff alone counts something else of the page, or lacks memory.
+fn show_roff(rt: &HostRuntime, page: &[u8], words: &Words, ending: Ending) {
+    let Some(roff) = run_roff(rt.alloc(), page, &words.settings, ROOM) else {
+        let _ = println!(rt; "-- not by roff alone");
+        return;
+    };
+    if ending.result.is_ok_and(|outcome| outcome.counts != roff.counts) {
+        let _ = println!(rt; "-- not the counts of roff alone");
+    }
+    if !roff.has_memory {
+        let _ = println!(rt; "-- no memory after roff");
+    }
 }
 
 // Shows where the page gives something else at once, or does not stand a write that fails.

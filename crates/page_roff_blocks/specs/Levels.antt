@@ -1,5 +1,6 @@
 -- Where a source stands: the levels of its blocks, and an open region. Source: roff(7), "if", "ie", "el".
 use Rattle.std.specs.Prelude.{ℕ, zero, suc, Bool, true, false, not, List, [], ◌∷◌, length, Option, Some, None, nat_lt, nat_le, if◌then◌else◌}
+use Rattle.std.specs.Borrow.{Bor}
 use Rattle.page_core_limits.specs.declared.TheConstants.{NAME}
 use Rattle.page_roff_blocks.specs.declared.TheConstants.{CONDS}
 use Rattle.page_roff_blocks.specs.declared.atoms.Branch.{Branch}
@@ -119,6 +120,11 @@ within_limit (Some name) = if nat_le (length name) NAME then Some name else None
 
 unfoldable pub opened : RegionHead (List ℕ) → Bool → Opened
 opened head is_run = record { kind = head.kind; name = within_limit head.name; ending = head.ending; is_run = is_run }
+
+-- the open region that is lent, if there is one
+abbrev pub opened_seen : Option (Bor Opened) → Option Opened
+opened_seen None = None
+opened_seen (Some region) = Some region.now
 
 -- where a source stands between two lines
 pub record Place : Type 0 where

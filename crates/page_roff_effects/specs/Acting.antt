@@ -5,7 +5,6 @@ use Rattle.page_core_base.specs.Messages.{Message}
 use Rattle.page_core_base.specs.LinesTaken.{Line}
 use Rattle.page_core_base.specs.declared.lines_taken.Form.TheVariants.{Text}
 use Rattle.page_core_base.specs.declared.page_settings.Output.{Output}
-use Rattle.page_roff_blocks.specs.Levels.{Opened}
 use Rattle.page_roff_names.specs.Names.{definitions}
 use Rattle.page_roff_values.specs.declared.call_arguments.TheConstants.{ARGS}
 use Rattle.page_roff_values.specs.Latches.{Came}
@@ -18,7 +17,6 @@ use Rattle.page_roff_effects.specs.Effects.{test_outcome}
 use Rattle.page_roff_effects.specs.RegionLines.{with_line}
 use Rattle.page_roff_effects.specs.Leaves as leaves
 use Rattle.page_roff_effects.specs.declared.leaves.ControlLine.{ControlLine}
-use Rattle.std.specs.Borrow.{Bor}
 
 -- What decides, what is remembered, the line as far as it is expanded, and what was taken last: a line, and a call.
 pub record Acting : Type 0 where
@@ -154,7 +152,3 @@ pub record IsNew (output : Output) (a : Acting) : Type 0 where
 abbrev pub control_seen : ControlLine → leaves.ControlLine
 control_seen line =
     record { name = line.name.now; column = line.column; name_end = line.name_end; text = line.text.now }
-
-abbrev pub opened_seen : Option (Bor Opened) → Option Opened
-opened_seen None = None
-opened_seen (Some region) = Some region.now

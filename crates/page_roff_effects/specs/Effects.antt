@@ -3,7 +3,7 @@ use Rattle.std.specs.Prelude.{ℕ, Bool, false, List, ◌++◌, codes, Some, Non
 use Rattle.page_core_base.specs.declared.note_kinds.NoteKind.TheVariants as kinds
 use Rattle.page_core_base.specs.declared.page_settings.Output.{Output}
 use Rattle.page_roff_heads.specs.declared.conditions.Condition.{Condition}
-use Rattle.page_roff_values.specs.Arguments.{arguments_in}
+use Rattle.page_roff_values.specs.Arguments.{arguments_in, lines_in}
 use Rattle.page_roff_conditions.specs.Answers.{Answer, condition_answer}
 use Rattle.page_roff_run.specs.Languages.{Kind, page, body, Done, gives, calls}
 use Rattle.page_roff_run.specs.Budgets.{Budgeted, Effects}
@@ -34,10 +34,6 @@ block_outcome column m = reports_at kinds.Limit column (codes "CONDS") m
 -- the end of a block where none is open
 unfoldable pub end_of_block_outcome : Memory → Outcome
 end_of_block_outcome m = reports_at kinds.NotOpen 1 (codes "\\}") m
-
--- the lines of a body
-abbrev pub lines_in : List ℕ → List (List ℕ)
-lines_in bytes = arguments_in bytes
 
 -- a call of a macro is told to the source, all else is done
 unfoldable pub done_by : Product → State → Done State

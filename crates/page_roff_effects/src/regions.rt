@@ -2,11 +2,11 @@
 
 ghost use Rattle.std.specs.Prelude.{◌≡◌, ◌≤◌, ◌∷◌, [], length};
 ghost use Rattle.page_core_limits.specs.declared.TheConstants.{LINE, BODY};
-ghost use Rattle.page_roff_blocks.specs.Levels.{within_limit};
+ghost use Rattle.page_roff_blocks.specs.Levels.{within_limit, opened_seen};
 ghost use Rattle.page_roff_blocks.specs.Regions.{region_seen, text_seen};
 ghost use Rattle.page_roff_definitions.specs.Definitions as defining;
 ghost use Rattle.page_roff_values.specs.Latches.{Came};
-ghost use Rattle.page_roff_effects.specs.Acting.{opened_seen, Does, Gives};
+ghost use Rattle.page_roff_effects.specs.Acting.{Does, Gives};
 ghost use Rattle.page_roff_effects.specs.RegionLines as regions;
 ghost use Rattle.page_roff_effects.specs.States.{Memory};
 

@@ -11,7 +11,7 @@ use Rattle.page_roff_blocks.specs.declared.spots.Reached.{Reached}
 use Rattle.page_roff_blocks.specs.declared.spots.Reached.TheVariants.{PassedOver, First, Remainder}
 use Rattle.page_roff_blocks.specs.Levels.{Opened}
 use Rattle.page_roff_blocks.specs.Run.{meet_as, value}
-use Rattle.page_roff_values.specs.Arguments.{arguments_in}
+use Rattle.page_roff_values.specs.Arguments.{arguments_in, lines_in}
 use Rattle.page_roff_values.specs.Latches.{Came}
 use Rattle.page_roff_run.specs.Languages.{Kind, page, body, gives, calls}
 use Rattle.page_roff_run.specs.Budgets.{Budgeted, Effects, with_rest, charge_by, charge, begin_line, whether_run, meet, test, unopened_by, read_line, end_line, meaning, done_with, language}
@@ -25,7 +25,7 @@ use Rattle.page_roff_effects.specs.Leaves.{leaf_outcome}
 use Rattle.page_roff_effects.specs.RegionLines.{head_outcome, line_outcome, end_outcome, finish_outcome}
 use Rattle.page_roff_conditions.specs.Answers.{Answer}
 use Rattle.page_roff_effects.specs.States.{Setting, Call, Memory, State, Outcome, Product, no_product, line_product, call_product, Given, says, takes, after, lines_of}
-use Rattle.page_roff_stack.specs.Changes.{is_page, lines_in}
+use Rattle.page_roff_stack.specs.Changes.{is_page}
 use Rattle.page_roff_machine.specs.declared.budgeted_actions.BudgetedActions.{BudgetedActions}
 use Rattle.page_roff_machine.specs.Doing.{output_of, state_in, state_after, answer_with, line_after, IsIn, IsAt, Makes, Does, Answers, parts_of, charged_in, begun_in, met_in, value_in, answer_after, answer_in, region_after, region_in, leaf_after, leaf_in, line_of, done_as, read_in, ended_in, unopened_in, finished_in}
 

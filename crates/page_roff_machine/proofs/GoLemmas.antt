@@ -9,7 +9,7 @@ use Rattle.page_roff_blocks.specs.declared.levels.Way.TheVariants.{Runs, Skips, 
 use Rattle.page_roff_blocks.specs.declared.atoms.Branch.TheVariants.{Else}
 use Rattle.page_roff_blocks.specs.Levels.{after_part, guarded_by, bit_after, way_of, enter, skip, leave, has_block}
 use Rattle.page_roff_blocks.specs.Run.{refuse_if, unopened_if}
-use Rattle.page_roff_values.specs.Arguments.{begin_first, arguments_in}
+use Rattle.page_roff_values.specs.Arguments.{begin_first, arguments_in, lines_in}
 use Rattle.page_roff_run.specs.Languages.{Kind, page, body, gives, calls, Language}
 use Rattle.page_roff_run.specs.Machine.{Frame, entered, at_part, depth, is_some, leaf_next}
 use Rattle.page_roff_run.specs.Measures.{weight}
@@ -20,7 +20,7 @@ use Rattle.page_roff_effects.specs.Acting as acting
 use Rattle.page_roff_effects.specs.Acting.{Acting, with_arguments, IsCallable}
 use Rattle.page_roff_effects.specs.Effects.{effects, setting_of, block_outcome}
 use Rattle.page_roff_effects.specs.States.{State, Given, says, takes}
-use Rattle.page_roff_stack.specs.Changes.{past, in_region, next_line, first_atoms, lines_in, is_page}
+use Rattle.page_roff_stack.specs.Changes.{past, in_region, next_line, first_atoms, is_page}
 use Rattle.page_roff_stack.specs.Stacks as stacks
 use Rattle.page_roff_stack.specs.Stacks.{Stack, running, with_top, call_of, next_of}
 use Rattle.page_roff_machine.specs.declared.budgeted_actions.BudgetedActions.{BudgetedActions}

@@ -7,7 +7,7 @@ use Rattle.page_roff_blocks.specs.declared.regions.RegionHead.{RegionHead}
 use Rattle.page_roff_blocks.specs.declared.spots.Reached.{Reached}
 use Rattle.page_roff_blocks.specs.Levels.{Opened}
 use Rattle.page_roff_blocks.specs.Run.{Meaning, meet_as, value}
-use Rattle.page_roff_values.specs.Arguments.{arguments_in}
+use Rattle.page_roff_values.specs.Arguments.{arguments_in, lines_in}
 use Rattle.page_roff_values.specs.Latches.{Came}
 use Rattle.page_roff_run.specs.Languages.{Kind, Done, gives, calls, Language}
 use Rattle.page_roff_run.specs.Budgets.{Budgeted, charge, begin_line, meaning, language}
@@ -17,7 +17,7 @@ use Rattle.page_roff_effects.specs.declared.commands.ProductKind.TheVariants as 
 use Rattle.page_roff_effects.specs.Acting.{Acting}
 use Rattle.page_roff_effects.specs.Effects.{effects, setting_of}
 use Rattle.page_roff_effects.specs.States.{State, Given, says, takes}
-use Rattle.page_roff_stack.specs.Changes.{is_page, lines_in}
+use Rattle.page_roff_stack.specs.Changes.{is_page}
 use Rattle.page_roff_machine.specs.declared.budgeted_actions.BudgetedActions.{BudgetedActions}
 
 abbrev pub output_of : BudgetedActions → Output

@@ -6,7 +6,7 @@ use Rattle.page_roff_blocks.specs.declared.atoms.Branch.{Branch}
 use Rattle.page_roff_blocks.specs.declared.atoms.Branch.TheVariants.{Else}
 use Rattle.page_roff_blocks.specs.Levels.{Spot, after_part, guarded_by, bit_after, way_of, enter, skip, leave, has_block}
 use Rattle.page_roff_blocks.specs.Run.{refuse_if, unopened_if}
-use Rattle.page_roff_values.specs.Arguments.{arguments_in}
+use Rattle.page_roff_values.specs.Arguments.{arguments_in, lines_in}
 use Rattle.page_roff_values.specs.Latches.{Came}
 use Rattle.page_roff_run.specs.Languages.{Kind, page, body}
 use Rattle.page_roff_run.specs.Machine.{Frame, Running, depth, is_some, leaf_next, next}
@@ -17,7 +17,7 @@ use Rattle.page_roff_effects.specs.declared.commands.ProductKind.TheVariants as 
 use Rattle.page_roff_effects.specs.Acting.{with_arguments, IsCallable, IfCalled}
 use Rattle.page_roff_effects.specs.Effects.{effects}
 use Rattle.page_roff_effects.specs.States.{State, Given, says, takes}
-use Rattle.page_roff_stack.specs.Changes.{past, in_region, next_line, first_atoms, lines_in}
+use Rattle.page_roff_stack.specs.Changes.{past, in_region, next_line, first_atoms}
 use Rattle.page_roff_stack.specs.Stacks.{Stack, running, with_top, call_of, next_of, is_part, is_line, is_source_end, is_nothing, branch_in, region_in}
 use Rattle.page_roff_machine.specs.declared.budgeted_actions.BudgetedActions.{BudgetedActions}
 use Rattle.page_roff_machine.specs.declared.movements.Movement.{Movement}

@@ -5,7 +5,7 @@ ghost use Rattle.page_core_limits.specs.declared.TheConstants.{LINE};
 ghost use Rattle.page_roff_heads.specs.Conditions.{FitsTest};
 ghost use Rattle.page_roff_blocks.specs.Atoms.{branch_seen, FitsBranch};
 ghost use Rattle.page_roff_blocks.specs.Regions.{region_seen};
-ghost use Rattle.page_roff_stack.specs.Views.{opened_seen};
+ghost use Rattle.page_roff_blocks.specs.Levels.{opened_seen};
 ghost use Rattle.page_roff_machine.specs.Doing.{Does, Answers, Makes, IsAt, IsIn, HasRoom, state_after, line_after, done_as};
 ghost use Rattle.page_roff_machine.specs.Doing.{charged_in, begun_in, met_in, value_in, answer_in, region_in, leaf_in};
 ghost use Rattle.page_roff_machine.specs.Doing.{read_in, ended_in, unopened_in, finished_in};

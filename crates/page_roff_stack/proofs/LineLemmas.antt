@@ -5,11 +5,11 @@ use Rattle.std.proofs.lemmas.Bool.{cases_Bool, eqb-true}
 use Rattle.std.proofs.lemmas.List.{drop-drop, drop-take, drop_all, length-take, length-take-le}
 use Rattle.page_core_base.specs.Texts.{has_no_control, is_no_control}
 use Rattle.page_core_limits.specs.declared.TheConstants.{LINE}
-use Rattle.page_roff_values.specs.Arguments.{begin_first, arguments_in}
+use Rattle.page_roff_values.specs.Arguments.{begin_first, arguments_in, lines_in}
 use Rattle.page_roff_values.proofs.ArgumentLemmas.{last_of}
 use Rattle.page_roff_run.specs.Measures.{weight}
 use Rattle.page_roff_stack.specs.declared.spans.Span.{Span}
-use Rattle.page_roff_stack.specs.Changes.{lines_in, AreShort}
+use Rattle.page_roff_stack.specs.Changes.{AreShort}
 use Rattle.page_roff_stack.specs.Held.{span_text, IsSpanIn, IsFirstLine}
 
 -- ---- a text without a line feed is one line, unless it is empty

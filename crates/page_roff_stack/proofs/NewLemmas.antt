@@ -10,10 +10,10 @@ use Rattle.page_roff_run.specs.Languages.{Kind, page, body}
 use Rattle.page_roff_run.specs.Machine.{Frame, entered}
 use Rattle.page_roff_run.specs.Measures.{weight, work_in}
 use Rattle.page_roff_values.specs.declared.call_arguments.TheConstants.{ARGS}
-use Rattle.page_roff_values.specs.Arguments.{arguments_in}
+use Rattle.page_roff_values.specs.Arguments.{arguments_in, lines_in}
 use Rattle.page_roff_stack.specs.declared.sources.Source.TheInside.{Inside}
 use Rattle.page_roff_stack.specs.declared.spans.Span.{Span}
-use Rattle.page_roff_stack.specs.Changes.{lines_in, IsBounded}
+use Rattle.page_roff_stack.specs.Changes.{IsBounded}
 use Rattle.page_roff_stack.specs.Held.{kind_in, room_for, AreArgumentsIn}
 use Rattle.page_roff_stack.specs.Sources.{frame_of, IsHeld}
 use Rattle.page_roff_stack.proofs.LineLemmas.{lines_short, lines_weight, page_line_in}

@@ -14,7 +14,8 @@ use Rattle.page_roff_run.specs.Machine.{Frame, at_part}
 use Rattle.page_roff_run.specs.Measures.{weight, work_in}
 use Rattle.page_roff_stack.specs.declared.sources.Source.TheInside.{Inside}
 use Rattle.page_roff_stack.specs.declared.spans.Span.{Span}
-use Rattle.page_roff_stack.specs.Changes.{lines_in, past, first_branch, first_region, in_region, next_line, first_atoms, begins_next, begins_line, AreShort, IsBounded}
+use Rattle.page_roff_values.specs.Arguments.{lines_in}
+use Rattle.page_roff_stack.specs.Changes.{past, first_branch, first_region, in_region, next_line, first_atoms, begins_next, begins_line, AreShort, IsBounded}
 use Rattle.page_roff_stack.specs.Held.{span_text, IsSpanIn, IsFirstLine}
 use Rattle.page_roff_stack.specs.Sources.{frame_of, IsHeld}
 use Rattle.page_roff_stack.specs.Views.{parts_seen, IsNextLine}

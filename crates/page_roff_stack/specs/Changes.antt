@@ -7,14 +7,10 @@ use Rattle.page_roff_blocks.specs.declared.atoms.Branch.{Branch}
 use Rattle.page_roff_blocks.specs.declared.atoms.Branch.TheVariants.{Else}
 use Rattle.page_roff_blocks.specs.Atoms.{atoms}
 use Rattle.page_roff_blocks.specs.Levels.{Opened, opened, Spot, at_line, outside}
-use Rattle.page_roff_values.specs.Arguments.{arguments_in}
+use Rattle.page_roff_values.specs.Arguments.{lines_in}
 use Rattle.page_roff_run.specs.Languages.{Kind, page, body}
 use Rattle.page_roff_run.specs.Machine.{Frame, at_part}
 use Rattle.page_roff_run.specs.Measures.{work_in}
-
--- the lines of a body, each with a line feed at its end
-abbrev pub lines_in : List ℕ → List (List ℕ)
-lines_in bytes = arguments_in bytes
 
 -- the page before its first line
 abbrev pub first_frame : Frame

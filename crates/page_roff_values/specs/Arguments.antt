@@ -13,6 +13,10 @@ arguments_in [] = []
 arguments_in (byte ∷ bytes) =
     if byte == 10 then [] ∷ arguments_in bytes else begin_first byte (arguments_in bytes)
 
+-- the lines of a macro's body, each with a line feed at its end
+abbrev pub lines_in : List ℕ → List (List ℕ)
+lines_in bytes = arguments_in bytes
+
 -- each argument with a blank (32) before it; the same with quotes (34) around each
 abbrev pub spaced : List (List ℕ) → List ℕ
 spaced [] = []

@@ -1,23 +1,11 @@
-//! The margins of a context as a piece (man(7)).
+//! The margins of a context after the end of a row (man(7)).
 
 ghost use Rattle.std.specs.Prelude.{◌≡◌};
 ghost use Rattle.page_core_base.specs.Latches.{Came};
-ghost use Rattle.page_scopes_layout.specs.Nodes.{margin_items};
 ghost use Rattle.page_scopes_leaves.specs.Outcomes.{row_margin_items};
 
 use page_core_base::{Piece, PieceOut};
-use page_scopes_layout::{Context, margins_of};
-
-/// Gives the margins of a context.
-pub(crate) fn give_margins<O: PieceOut>(out: &mut O, context: &Context)
-    ensures { Came O.left out.old (margin_items context.now) out.new }
-{
-    let margins = margins_of(context);
-    out.give(Piece::Indent {
-        first: margins.first,
-        rest: margins.rest,
-    });
-}
+use page_scopes_layout::{Context, give_margins};
 
 /// Ends the row, and gives the margins of a context.
 pub(crate) fn give_row_margins<O: PieceOut>(out: &mut O, context: &Context)

@@ -6,10 +6,9 @@ ghost use Rattle.page_scopes_leaves.specs.Fits.{ArgumentFits};
 ghost use Rattle.page_scopes_leaves.specs.Tags as tags;
 ghost use Rattle.page_sets_lines.specs.Events.{word_seen};
 
-use crate::margins::give_margins;
 use crate::{Running, give_line_word};
 use page_core_base::{Piece, PieceOut, TagForm};
-use page_scopes_layout::{Context, PagePart};
+use page_scopes_layout::{Context, PagePart, give_margins};
 use page_sets_lines::Word;
 
 /// Where a tag stands, in columns.

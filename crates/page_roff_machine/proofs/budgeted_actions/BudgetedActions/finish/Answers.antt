@@ -1,6 +1,6 @@
 use Rattle.std.proofs.Common.{refl}
 use Rattle.page_roff_machine.proofs.DoingLemmas.{finished}
-use Rattle.page_roff_stack.specs.Views.{opened_seen}
+use Rattle.page_roff_blocks.specs.Levels.{opened_seen}
 use Rattle.page_roff_machine.proofs.budgeted_actions.BudgetedActions.finish.Goals as goal
 
 pub returns : goal.returns

@@ -3,7 +3,7 @@ use Rattle.page_roff_machine.proofs.ActLemmas.{room, the_line, is_the_line, line
 use Rattle.page_roff_blocks.specs.Atoms.{head_seen}
 use Rattle.page_roff_blocks.specs.Regions.{region_seen}
 use Rattle.page_roff_stack.specs.Stacks.{next_of}
-use Rattle.page_roff_stack.specs.Views.{opened_seen}
+use Rattle.page_roff_blocks.specs.Levels.{opened_seen}
 use Rattle.page_roff_machine.proofs.runners.Runner.act.Goals as goal
 
 pub begin_line-requires : goal.begin_line-requires
