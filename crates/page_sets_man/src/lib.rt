@@ -7,5 +7,5 @@ mod plans;
 mod rows;
 mod words;
 
-pub use man_set::Man;
+pub use man_set::{Man, PAGE_INDENT};
 pub use plans::Plan;

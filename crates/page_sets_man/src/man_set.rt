@@ -4,18 +4,22 @@ use crate::plans::{Plan, next_event, plan_of};
 use page_core_base::Taken;
 use page_sets_lines::{Event, MacroSet};
 
+/// The columns by which the text of a page is indented (man(7)).
+pub const PAGE_INDENT: u32 = 7;
+
 /// The macros of man(7).
 #[derive(Clone, Copy)]
 pub struct Man;
 
 impl MacroSet for Man {
+    ghost use Rattle.page_sets_man.specs.declared.man_set.TheConstants.{PAGE_INDENT};
     ghost use Rattle.page_sets_man.specs.Man.{man_events};
     ghost use Rattle.page_sets_man.specs.Plans.{plan_events, FitsPlan};
     ghost use Rattle.page_sets_man.specs.ManLaws.{man_slices, plan_slices, man_in_order, man_few};
 
     type Place = Plan;
 
-    ghost page_indent = { λ set. 7 };
+    ghost page_indent = { λ set. PAGE_INDENT };
 
     ghost table = { λ set line. man_events line };
 
@@ -32,7 +36,7 @@ impl MacroSet for Man {
     ghost few = { λ set line. man_few line };
 
     fn indent(&self) -> u32 {
-        7
+        PAGE_INDENT
     }
 
     fn start(&self, line: Taken<'_>) -> Plan {
