@@ -5,7 +5,8 @@ use Rattle.page_core_limits.specs.declared.TheConstants.{LINE}
 use Rattle.page_roff_blocks.specs.LinePlaces.{parts_at, IsPlaceIn}
 use Rattle.page_roff_run.specs.Machine.{Frame}
 use Rattle.page_roff_stack.specs.declared.sources.Source.TheInside.{Inside}
-use Rattle.page_roff_stack.specs.Changes.{lines_in, IsBounded}
+use Rattle.page_roff_stack.specs.Changes.{IsBounded}
+use Rattle.page_roff_values.specs.Arguments.{lines_in}
 use Rattle.page_roff_stack.specs.Held.{span_text, IsSpanIn, kind_in, AreArgumentsIn, room_for}
 
 abbrev pub frame_of : Inside → Frame

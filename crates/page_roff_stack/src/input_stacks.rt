@@ -6,9 +6,9 @@ ghost use Rattle.page_core_limits.specs.declared.TheConstants.{BODY};
 ghost use Rattle.page_roff_blocks.specs.Levels.{after_part, guarded_by, way_of, enter, bit_after, skip, leave, has_block, reached, opened_seen};
 ghost use Rattle.page_roff_blocks.specs.Regions.{text_seen};
 ghost use Rattle.page_roff_run.specs.Machine.{depth, is_some};
-ghost use Rattle.page_roff_values.specs.Arguments.{arguments_in};
+ghost use Rattle.page_roff_values.specs.Arguments.{arguments_in, lines_in};
 ghost use Rattle.page_roff_values.specs.declared.call_arguments.TheConstants.{ARGS};
-ghost use Rattle.page_roff_stack.specs.Changes.{lines_in, page_line, past, in_region, next_line, first_atoms, is_page};
+ghost use Rattle.page_roff_stack.specs.Changes.{page_line, past, in_region, next_line, first_atoms, is_page};
 ghost use Rattle.page_roff_stack.specs.Stacks.{first_stack, with_top, call_of, next_around, next_of, is_part, is_line, is_source_end, is_nothing, branch_in, region_in};
 ghost use Rattle.page_roff_stack.specs.Views.{kind_of, next_seen, FitsNext};
 
