@@ -13,7 +13,8 @@ pub record FieldsFit (fields : Fields) : Type 0 where
   pub source : length fields.source ≤ FIELD
   pub volume : length fields.volume ≤ FIELD
 
--- these, and the open scopes
+-- these; the bytes of the system's name; and the open scopes
 pub record BodyFits (b : BodyEdge) : Type 0 where
+  pub os : length b.header.os ≤ FIELD
   pub fields : FieldsFit b.header.fields
   pub scopes : length b.scopes.scopes ≤ SCOPES
