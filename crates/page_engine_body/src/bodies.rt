@@ -153,6 +153,6 @@ impl Body {
         self.fields.source.text();
         self.fields.volume.text();
         self.os.as_str();
-        self.scopes.depth();
+        self.scopes.caps_law();
     }
 }

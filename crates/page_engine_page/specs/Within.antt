@@ -1,5 +1,5 @@
 -- How much is held between two lines. Source: mandoc(1), "DIAGNOSTICS".
--- Not said here: the bytes of the link targets of open scopes; the columns of an open tag and the blank rows at the end.
+-- Not said here: the columns of an open tag and the blank rows at the end.
 use Rattle.std.specs.Prelude.{◌≡◌, ◌≤◌, Some, length}
 use Rattle.page_core_limits.specs.declared.TheConstants.{CELLS}
 use Rattle.page_roff_source.specs.Caps.{RoffFits}
@@ -13,7 +13,7 @@ pub record IsWithin (e : Edge) : Type 0 where
   pub open_row : length (open_cells e.fill) ≤ CELLS
   -- names and what they stand for, an open region, and open blocks
   pub roff : RoffFits e.lines.roff
-  -- the fields of header and footer, the name of the system, and the open scopes
+  -- the fields of header and footer, the name of the system, and the open scopes with the targets of links
   pub body : BodyFits e.lines.body
 
 -- the edge that a page is at

@@ -11,5 +11,5 @@ returns c =
         volume = rw c.text-5.ensures.text at c.text-5.ensures.within;
       };
       os = rw c.as_str.ensures.value at c.as_str.ensures.fits;
-      scopes = rw c.depth.ensures.is at c.depth.ensures.within;
+      scopes = c.caps_law.ensures;
     }
