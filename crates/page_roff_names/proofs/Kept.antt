@@ -29,7 +29,8 @@ fit_by_order Greater a b c p q s = s
 
 fit_put : (n : List ℕ) (d : Definition) (es : Entries) → EntryFits (n, d) → EntriesFit es → EntriesFit (put n d es)
 fit_put n d [] f h = (f, tt)
-fit_put n d (e ∷ es) f h = fit_by_order (by_bytes n e.0) _ _ _ (f, h) (f, h.1) (h.0, fit_put n d es f h.1)
+fit_put n d (e ∷ es) f h =
+    fit_by_order (by_bytes n e.0) _ _ _ (f, h) (record { name = h.0.name; value = f.value }, h.1) (h.0, fit_put n d es f h.1)
 
 pub fit_remove : (es : Entries) (i : ℕ) → EntriesFit es → EntriesFit (remove es i)
 fit_remove [] zero h = tt

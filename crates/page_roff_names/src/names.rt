@@ -196,6 +196,6 @@ impl Names {
     pub fn caps_law(&self)
         ensures { DefinitionsFit self.now }
     {
-        let _names = self;
+        let _ = &self.texts;
     }
 }
