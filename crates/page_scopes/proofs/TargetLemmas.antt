@@ -82,8 +82,9 @@ outer_fits : (found scopes : List (Scope Label Kept)) (s : LayoutState) (outer :
 outer_fits found scopes s [] p q = append_fits found scopes p q
 outer_fits found [] s (next ∷ outer) p q = p
 outer_fits found (scope ∷ scopes) s (next ∷ outer) p q =
+    let after_end = closing_state man scope next.ender s in
     if_open_fits next.ender _ _ (append_fits found (scope ∷ scopes) p q)
-    (outer_fits _ scopes _ outer (inner_fits next.siblings (closing_state man scope next.ender s)) q.1)
+    (outer_fits (open_in man next.siblings after_end) scopes (after man next.siblings after_end) outer (inner_fits next.siblings after_end) q.1)
 
 pub steps_fit : (d : PageEdge) (steps : List Step) → TargetsFit d.scopes → TargetsFit (edge scopes_nesting man d steps).scopes
 unfolding edge
