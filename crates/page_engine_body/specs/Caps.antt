@@ -2,7 +2,7 @@
 use Rattle.std.specs.Prelude.{◌≤◌, length}
 use Rattle.page_core_limits.specs.declared.TheConstants.{FIELD}
 use Rattle.page_engine_header.specs.declared.fields.Fields.{Fields}
-use Rattle.page_scopes_tree.specs.declared.TheConstants.{SCOPES}
+use Rattle.page_scopes.specs.Caps.{ScopesFit}
 use Rattle.page_engine_body.specs.Bodies.{BodyEdge}
 
 -- the fields of header and footer
@@ -13,7 +13,8 @@ pub record FieldsFit (fields : Fields) : Type 0 where
   pub source : length fields.source ≤ FIELD
   pub volume : length fields.volume ≤ FIELD
 
--- these, and the open scopes
+-- these; the bytes of the system's name; and the open scopes, with the targets of links
 pub record BodyFits (b : BodyEdge) : Type 0 where
+  pub os : length b.header.os ≤ FIELD
   pub fields : FieldsFit b.header.fields
-  pub scopes : length b.scopes.scopes ≤ SCOPES
+  pub scopes : ScopesFit b.scopes

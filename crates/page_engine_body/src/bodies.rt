@@ -143,7 +143,7 @@ impl Body {
         give_footer_row(out, self.measure, Place { line, column: 1 }, &self.fields);
     }
 
-    /// What is held between two lines is within its limits. Nothing is done: the fields and the scopes tell it.
+    /// What is held between two lines is within its limits. Nothing is done: the fields, the name and the scopes tell it.
     pub fn caps_law(&self)
         ensures { BodyFits self.now }
     {
@@ -152,6 +152,7 @@ impl Body {
         self.fields.date.text();
         self.fields.source.text();
         self.fields.volume.text();
-        self.scopes.depth();
+        self.os.as_str();
+        self.scopes.caps_law();
     }
 }

@@ -3,6 +3,7 @@
 ghost use Rattle.std.specs.Prelude.{◌≡◌, ◌≤◌, ◌<◌, ◌^◌, length, IfOk, IfErr};
 ghost use Rattle.page_core_base.specs.Texts.{IsLine};
 ghost use Rattle.page_core_base.specs.Latches.{Came, Emits};
+ghost use Rattle.page_roff_source.specs.Caps.{RoffFits};
 ghost use Rattle.page_roff_source.specs.Edges.{counts_of};
 ghost use Rattle.page_engine_body.specs.Caps.{BodyFits};
 ghost use Rattle.page_engine_lines.specs.Lines as lines;
@@ -134,10 +135,12 @@ impl PageLines {
         self.roff.counts()
     }
 
-    /// What is held of the body between two lines is within its limits.
+    /// What is held between two lines is within its limits. Nothing is done: roff and the body tell it.
     pub fn caps_law(&self)
-        ensures { BodyFits self.now.body }
+        ensures roff { RoffFits self.now.roff }
+        ensures body { BodyFits self.now.body }
     {
+        self.roff.caps_law();
         self.body.caps_law();
     }
 }

@@ -1,6 +1,6 @@
 //! A page that streams: lines come one by one, and what they settle goes out at once.
 
-ghost use Rattle.std.specs.Prelude.{◌≡◌, ◌<◌, ◌+◌, ◌-◌, ◌^◌, ℕ, true, false, None, Some, IfOk, OnOk, OnErr, MatchResult};
+ghost use Rattle.std.specs.Prelude.{◌≡◌, ◌<◌, ◌+◌, ◌-◌, ◌^◌, ℕ, true, false, None, Some, IfOk, OnOk, OnErr, MatchOption, MatchResult};
 ghost use Rattle.page_core_base.specs.Checks.{IsGood};
 ghost use Rattle.page_core_base.specs.Texts.{IsLine};
 ghost use Rattle.page_core_base.specs.declared.faults.Fault.{Fault};
@@ -44,14 +44,20 @@ impl Phase {
         }
     }
 
-    // The fault of a line after a count of lines.
-    fn line_fault(self, source: u64) -> Option<Fault>
-        ensures is { result ≡ line_fault_of self source }
-        ensures open { result ≡ None → (self ≡ Phase.Open) × (source < 2 ^ 31 - 1) }
+    // A line begins after a count of lines: the page counts as failed until all of it was given. Or the line is
+    // refused with a fault, and nothing changes.
+    fn begin_line(&mut self, source: u64) -> Option<Fault>
+        ensures is { result ≡ line_fault_of self.old source }
+        ensures begins { MatchOption result
+            ((self.old ≡ Phase.Open) × (source < 2 ^ 31 - 1) × (self.new ≡ Phase.Failed))
+            (λ _. self.new ≡ self.old) }
     {
-        match self {
+        match *self {
             Phase::Open if source >= LINES => Some(Fault::TooLong),
-            Phase::Open => None,
+            Phase::Open => {
+                *self = Phase::Failed;
+                None
+            }
             Phase::Failed => Some(Fault::Failed),
             Phase::Ended => Some(Fault::Ended),
         }
@@ -129,10 +135,9 @@ impl Page {
         ensures rows_same { R.loans rows.new ≡ R.loans rows.old }
         ensures notes_same { N.loans notes.new ≡ N.loans notes.old }
     {
-        if let Some(fault) = self.phase.line_fault(self.counts.source) {
+        if let Some(fault) = self.phase.begin_line(self.counts.source) {
             return Err(fault);
         }
-        self.phase = Phase::Failed;
         if let Err(fault) = self.parts.feed(text, number, rows, notes) {
             return Err(fault);
         }
@@ -168,10 +173,9 @@ impl Page {
         ensures rows_same { R.loans rows.new ≡ R.loans rows.old }
         ensures notes_same { N.loans notes.new ≡ N.loans notes.old }
     {
-        if let Some(fault) = self.phase.line_fault(self.counts.source) {
+        if let Some(fault) = self.phase.begin_line(self.counts.source) {
             return Err(fault);
         }
-        self.phase = Phase::Failed;
         if let Err(fault) = self.parts.take_line(cutter, rows, notes) {
             return Err(fault);
         }

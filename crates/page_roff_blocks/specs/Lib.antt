@@ -1,4 +1,5 @@
 pub mod Atoms
+pub mod Caps
 pub mod Regions
 pub mod Forest
 pub mod Levels

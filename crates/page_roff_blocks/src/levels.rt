@@ -1,6 +1,7 @@
 //! The levels of the blocks of one source (roff(7), "if", "ie", "el").
 
-ghost use Rattle.std.specs.Prelude.{◌≡◌, ◌<◌, ◌^◌, length};
+ghost use Rattle.std.specs.Prelude.{◌≡◌, ◌<◌, ◌≤◌, ◌^◌, length};
+ghost use Rattle.page_roff_blocks.specs.declared.TheConstants.{CONDS};
 ghost use Rattle.page_roff_blocks.specs.Atoms.{branch_seen};
 ghost use Rattle.page_roff_blocks.specs.Levels.{outside, bit_after, way_of, enter, skip, leave, has_block};
 
@@ -144,5 +145,12 @@ impl Levels {
             }
             None => false,
         }
+    }
+
+    /// At most so many true blocks are open. Nothing is done: the array of their bits tells it.
+    pub fn caps_law(&self)
+        ensures { length self.now.outer ≤ CONDS }
+    {
+        self.outer.as_slice();
     }
 }

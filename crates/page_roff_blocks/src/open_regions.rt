@@ -2,6 +2,7 @@
 
 ghost use Rattle.std.specs.Prelude.{◌≡◌, ◌≤◌, length};
 ghost use Rattle.page_core_limits.specs.declared.TheConstants.{LINE, NAME};
+ghost use Rattle.page_roff_blocks.specs.Caps.{RegionFits};
 ghost use Rattle.page_roff_blocks.specs.Levels.{name_if, within_limit, opened};
 ghost use Rattle.page_roff_blocks.specs.Regions.{is_ending, text_seen, region_seen, FitsRegion};
 
@@ -106,5 +107,13 @@ impl OpenRegion {
         ensures { result ≡ is_ending self.now.ending line.now }
     {
         is_ending(self.ending.as_slice(), line)
+    }
+
+    /// Its names are within their limit. Nothing is done: the arrays that hold them tell it.
+    pub fn caps_law(&self)
+        ensures { RegionFits self.now }
+    {
+        self.name.as_slice();
+        self.ending.as_slice();
     }
 }

@@ -1,6 +1,7 @@
 //! Where a source stands in a line (roff(7), "if", "ie", "el").
 
-ghost use Rattle.std.specs.Prelude.{◌≡◌, ◌<◌, ◌^◌, true, length};
+ghost use Rattle.std.specs.Prelude.{◌≡◌, ◌<◌, ◌≤◌, ◌^◌, true, length};
+ghost use Rattle.page_roff_blocks.specs.declared.TheConstants.{CONDS};
 ghost use Rattle.page_roff_blocks.specs.Atoms.{branch_seen};
 ghost use Rattle.page_roff_blocks.specs.Levels.{outside, bit_after, way_of, enter, skip, leave, has_block, at_line, after_part, guarded_by, reached};
 
@@ -141,5 +142,12 @@ impl Spot {
     {
         self.pass();
         self.levels.leave()
+    }
+
+    /// At most so many true blocks are open. Nothing is done: the levels tell it.
+    pub fn caps_law(&self)
+        ensures { length self.now.levels.outer ≤ CONDS }
+    {
+        self.levels.caps_law();
     }
 }

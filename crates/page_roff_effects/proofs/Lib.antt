@@ -1,4 +1,5 @@
 pub mod CallLemmas
+pub mod CapLemmas
 pub mod ControlLemmas
 pub mod CountLemmas
 pub mod GivenLemmas

@@ -1,4 +1,5 @@
 pub mod Acting
+pub mod Caps
 pub mod Commands
 pub mod Effects
 pub mod Leaves

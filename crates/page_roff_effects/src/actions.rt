@@ -9,6 +9,7 @@ ghost use Rattle.page_roff_values.specs.Arguments.{arguments_in};
 ghost use Rattle.page_roff_values.specs.Environments.{surroundings_of};
 ghost use Rattle.page_roff_values.specs.Values as laying;
 ghost use Rattle.page_roff_effects.specs.Acting as acting;
+ghost use Rattle.page_roff_effects.specs.Caps.{MemoryFits};
 ghost use Rattle.page_roff_effects.specs.Acting.{Does, Tests, Expands, ExpandsOrKeeps};
 ghost use Rattle.page_roff_effects.specs.Effects.{answer_of, budget_outcome, block_outcome, end_of_block_outcome};
 ghost use Rattle.page_core_base.specs.Messages.{message_about};
@@ -227,5 +228,13 @@ impl Actions {
         ensures { Does O.left self.old out.old (end_of_block_outcome self.old.memory) self.new out.new }
     {
         report_at(NoteKind::NotOpen, self.number, 1, b"\\}", out);
+    }
+
+    /// What is remembered is within its limits. Nothing is done: the names and the body tell it.
+    pub fn caps_law(&self)
+        ensures { MemoryFits self.now.memory }
+    {
+        self.names.caps_law();
+        self.body.caps_law();
     }
 }

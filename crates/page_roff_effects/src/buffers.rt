@@ -1,6 +1,6 @@
 //! What was taken last, in memory that is reserved once: a line, a call, the body of a region.
 
-ghost use Rattle.std.specs.Prelude.{◌≡◌, ◌≤◌, ◌+◌, [], ◌∷◌, ◌++◌, length, IfOk, None, Some};
+ghost use Rattle.std.specs.Prelude.{◌≡◌, ◌≤◌, ◌+◌, [], ◌∷◌, ◌++◌, length, IfOk, IfSome, None, Some};
 ghost use Rattle.std.specs.Vec.{vec_len, vec_capacity};
 ghost use Rattle.page_core_base.specs.LinesTaken.{line_seen};
 ghost use Rattle.page_core_limits.specs.declared.TheConstants.{LINE, BODY};
@@ -165,5 +165,12 @@ impl BodyBuffer {
         append(&mut self.text, line);
         append(&mut self.text, b"\n");
         true
+    }
+
+    /// The body is within its limit. Nothing is done: what is added keeps to it.
+    pub(crate) fn caps_law(&self)
+        ensures { IfSome self.now (λ body. length body ≤ BODY) }
+    {
+        let _is_open = self.is_open;
     }
 }

@@ -4,8 +4,10 @@ ghost use Rattle.std.specs.Prelude.{◌≡◌, ◌<◌, ◌≤◌, ◌^◌, true
 ghost use Rattle.page_core_base.specs.LinesTaken.{line_seen};
 ghost use Rattle.page_core_base.specs.Texts.{IsLine};
 ghost use Rattle.page_core_limits.specs.declared.TheConstants.{LINE};
+ghost use Rattle.page_roff_blocks.specs.Caps.{PlaceFits};
 ghost use Rattle.page_roff_values.specs.Latches.{Came};
-ghost use Rattle.page_roff_machine.specs.Machines.{Advances, Begins, IsNew, is_idle, end_notes};
+ghost use Rattle.page_roff_effects.specs.Caps.{MemoryFits};
+ghost use Rattle.page_roff_machine.specs.Machines.{Advances, Begins, IsNew, is_idle, end_notes, place_of};
 
 use crate::budgeted_actions::BudgetedActions;
 use crate::runners::Runner;
@@ -119,5 +121,15 @@ impl Machine {
         ensures { result ≡ self.now.stack.top.spot.levels.skipped }
     {
         self.runner.stack.skipped()
+    }
+
+    /// Where the innermost source stands, and what is remembered, are within their limits. Nothing is done: the parts
+    /// tell it.
+    pub fn caps_law(&self)
+        ensures place { PlaceFits (place_of self.now) }
+        ensures memory { MemoryFits self.now.actions.memory }
+    {
+        self.runner.stack.caps_law();
+        self.runner.doing.actions.caps_law();
     }
 }

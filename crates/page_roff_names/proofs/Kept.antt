@@ -14,37 +14,40 @@ use Rattle.page_core_limits.specs.declared.TheConstants.{BODY}
 use Rattle.page_core_limits.specs.declared.Limit.{Limit}
 use Rattle.page_roff_names.specs.declared.changes.OtherSet.{OtherSet}
 use Rattle.page_roff_names.specs.declared.rows.Meaning.{Meaning}
+use Rattle.page_roff_names.specs.Caps.{EntryFits, EntriesFit, DefinitionsFit}
 use Rattle.page_roff_names.specs.Entries.{Entries, Definition, definition, size, name_at, definition_at, value_at}
 use Rattle.page_roff_names.specs.Names.{Definitions, definitions, with_text, Defines, by_bytes, look, put, without}
-use Rattle.page_roff_names.specs.Changes.{refusal_beside, Settles, RenamesBeside, AreShort, IsKept, IsStore, IsBelow, IsAbove}
+use Rattle.page_roff_names.specs.Changes.{refusal_beside, Settles, RenamesBeside, IsKept, IsStore, IsBelow, IsAbove}
 use Rattle.page_roff_names.proofs.Laid.{length-remove, size-remove, length-insert, size-insert}
 use Rattle.page_roff_names.proofs.Search.{same_name, look_hit, put_hit, without_hit, look_miss, put_miss}
 use Rattle.page_roff_names.proofs.Refused.{within, same_limits}
 
-short_by_order : (r : Ordering) (a b c : Entries) → AreShort a → AreShort b → AreShort c → AreShort (by_order r a b c)
-short_by_order Less a b c p q s = p
-short_by_order Equal a b c p q s = q
-short_by_order Greater a b c p q s = s
+fit_by_order : (r : Ordering) (a b c : Entries) → EntriesFit a → EntriesFit b → EntriesFit c → EntriesFit (by_order r a b c)
+fit_by_order Less a b c p q s = p
+fit_by_order Equal a b c p q s = q
+fit_by_order Greater a b c p q s = s
 
-short_put : (n : List ℕ) (d : Definition) (es : Entries) → length d.value ≤ BODY → AreShort es → AreShort (put n d es)
-short_put n d [] l h = (l, tt)
-short_put n d (e ∷ es) l h = short_by_order (by_bytes n e.0) _ _ _ (l, h) (l, h.1) (h.0, short_put n d es l h.1)
+fit_put : (n : List ℕ) (d : Definition) (es : Entries) → EntryFits (n, d) → EntriesFit es → EntriesFit (put n d es)
+fit_put n d [] f h = (f, tt)
+fit_put n d (e ∷ es) f h =
+    fit_by_order (by_bytes n e.0) _ _ _ (f, h) (record { name = h.0.name; value = f.value }, h.1) (h.0, fit_put n d es f h.1)
 
-pub short_remove : (es : Entries) (i : ℕ) → AreShort es → AreShort (remove es i)
-short_remove [] zero h = tt
-short_remove [] (suc i) h = tt
-short_remove (e ∷ es) zero h = h.1
-short_remove (e ∷ es) (suc i) h = (h.0, short_remove es i h.1)
+pub fit_remove : (es : Entries) (i : ℕ) → EntriesFit es → EntriesFit (remove es i)
+fit_remove [] zero h = tt
+fit_remove [] (suc i) h = tt
+fit_remove (e ∷ es) zero h = h.1
+fit_remove (e ∷ es) (suc i) h = (h.0, fit_remove es i h.1)
 
-pub short_at : (es : Entries) (i : ℕ) → AreShort es → length (value_at es i) ≤ BODY
+pub short_at : (es : Entries) (i : ℕ) → EntriesFit es → length (value_at es i) ≤ BODY
 short_at [] i h = omega arith
-short_at (e ∷ es) zero h = h.0
+short_at (e ∷ es) zero h = h.0.value
 short_at (e ∷ es) (suc i) h = short_at es i h.1
 
-pub kept_put : (o : OtherSet) (n : List ℕ) (d : Definition) (es : Entries) → T (is_sorted by_bytes es) → AreShort es → refusal_beside o n d.value (put n d es) ≡ None → IsKept o (put n d es)
+pub kept_put : (o : OtherSet) (n : List ℕ) (d : Definition) (es : Entries) → T (is_sorted by_bytes es) → EntriesFit es → refusal_beside o n d.value (put n d es) ≡ None → IsKept o (put n d es)
 kept_put o n d es h k e =
     let w = within _ _ _ _ e in
-    record { sorted = is_sorted-put by_bytes nat_list_cmp_total n d es h; few = w.0; small = w.2; short = short_put n d es w.1 k }
+    let f : EntryFits (n, d) = record { name = w.name_fits; value = w.value_fits } in
+    record { sorted = is_sorted-put by_bytes nat_list_cmp_total n d es h; few = w.names_fit; small = w.bytes_fit; fit = fit_put n d es f k }
 
 pub sorted_remove : (n : List ℕ) (es : Entries) (i : ℕ) → T (is_sorted by_bytes es) → i < length es → by_bytes n (name_at es i) ≡ Equal → T (is_sorted by_bytes (remove es i))
 sorted_remove n es i h l e = subst (λ es. T (is_sorted by_bytes es)) (without_hit n es i h l e) (is_sorted-where_key by_bytes _ es h)
@@ -53,7 +56,7 @@ pub kept_remove : (o : OtherSet) (n : List ℕ) (es : Entries) (i : ℕ) → IsK
 kept_remove o n es i h l e =
     let a = length-remove es i l in
     let b = size-remove es i l in
-    record { sorted = sorted_remove n es i h.sorted l e; few = omega (arith, a, h.few); small = omega (arith, b, h.small); short = short_remove es i h.short }
+    record { sorted = sorted_remove n es i h.sorted l e; few = omega (arith, a, h.few); small = omega (arith, b, h.small); fit = fit_remove es i h.fit }
 
 length_cond : (b : Bool) (e : List ℕ × Definition) (xs es : Entries) → length xs ≤ length es → length (cond b (e ∷ xs) xs) ≤ length (e ∷ es)
 length_cond true e xs es h = omega (arith, h)
@@ -71,23 +74,23 @@ size_without : (n : List ℕ) (es : Entries) → size (without n es) ≤ size es
 size_without n [] = omega arith
 size_without n (e ∷ es) = size_cond (not (is_eq (by_bytes n e.0))) e (without n es) es (size_without n es)
 
-short_cond : (b : Bool) (e : List ℕ × Definition) (xs : Entries) → length e.1.value ≤ BODY → AreShort xs → AreShort (cond b (e ∷ xs) xs)
-short_cond true e xs l h = (l, h)
-short_cond false e xs l h = h
+fit_cond : (b : Bool) (e : List ℕ × Definition) (xs : Entries) → EntryFits e → EntriesFit xs → EntriesFit (cond b (e ∷ xs) xs)
+fit_cond true e xs f h = (f, h)
+fit_cond false e xs f h = h
 
-short_without : (n : List ℕ) (es : Entries) → AreShort es → AreShort (without n es)
-short_without n [] h = tt
-short_without n (e ∷ es) h = short_cond (not (is_eq (by_bytes n e.0))) e (without n es) h.0 (short_without n es h.1)
+fit_without : (n : List ℕ) (es : Entries) → EntriesFit es → EntriesFit (without n es)
+fit_without n [] h = tt
+fit_without n (e ∷ es) h = fit_cond (not (is_eq (by_bytes n e.0))) e (without n es) h.0 (fit_without n es h.1)
 
 pub kept_without : (o : OtherSet) (n : List ℕ) (es : Entries) → IsKept o es → IsKept o (without n es)
 kept_without o n es h =
     let a = length_without n es in
     let b = size_without n es in
-    record { sorted = is_sorted-where_key by_bytes _ es h.sorted; few = omega (arith, a, h.few); small = omega (arith, b, h.small); short = short_without n es h.short }
+    record { sorted = is_sorted-where_key by_bytes _ es h.sorted; few = omega (arith, a, h.few); small = omega (arith, b, h.small); fit = fit_without n es h.fit }
 
 -- a definition that is settled keeps the set; `base` is what it is put into
 pub settled_kept : (o : OtherSet) (n : List ℕ) (d : Definition) (base es new : Entries) (r : Result (Unit {0}) Limit) → IsKept o base → IsKept o es → Settles o n d.value (put n d base) es r new → IsKept o new
-settled_kept o n d base es new (Ok u) g h s = subst (IsKept o) (sym s.1) (kept_put o n d base g.sorted g.short s.0)
+settled_kept o n d base es new (Ok u) g h s = subst (IsKept o) (sym s.1) (kept_put o n d base g.sorted g.fit s.0)
 settled_kept o n d base es new (Err l) g h s = subst (IsKept o) (sym s.1) h
 
 renamed_kept_by : (o : OtherSet) (n : List ℕ) (base es new : Entries) (r : Result (Unit {0}) Limit) (found : Option Definition) → IsKept o base → IsKept o es → MatchOption found ((r ≡ Ok tt) × (new ≡ es)) (λ d. Settles o n d.value (put n d base) es r new) → IsKept o new
@@ -99,16 +102,22 @@ renamed_kept o old_name n es new r h s = renamed_kept_by o n (without old_name e
 
 -- one set of a store, beside the other
 pub texts_kept : (o : OtherSet) (t r : Entries) → IsStore (definitions t r) → (o.names ≡ length r) × (o.bytes ≡ size r) → IsKept o t
-texts_kept o t r h e = record { sorted = h.sorted; few = omega (arith, h.few, e.0); small = omega (arith, h.small, e.1); short = h.short }
+texts_kept o t r h e = record { sorted = h.sorted; few = omega (arith, h.fits.names, e.0); small = omega (arith, h.fits.bytes, e.1); fit = h.fits.texts }
 
 pub registers_kept : (o : OtherSet) (t r : Entries) → IsStore (definitions t r) → (o.names ≡ length t) × (o.bytes ≡ size t) → IsKept o r
-registers_kept o t r h e = record { sorted = h.registers_sorted; few = omega (arith, h.few, e.0); small = omega (arith, h.small, e.1); short = h.registers_short }
+registers_kept o t r h e = record { sorted = h.registers_sorted; few = omega (arith, h.fits.names, e.0); small = omega (arith, h.fits.bytes, e.1); fit = h.fits.registers }
 
 pub store_texts : (o : OtherSet) (t new r : Entries) → IsStore (definitions t r) → (o.names ≡ length r) × (o.bytes ≡ size r) → IsKept o new → IsStore (definitions new r)
-store_texts o t new r h e k = record { sorted = k.sorted; registers_sorted = h.registers_sorted; few = omega (arith, k.few, e.0); small = omega (arith, k.small, e.1); short = k.short; registers_short = h.registers_short }
+store_texts o t new r h e k =
+    let f : DefinitionsFit (definitions new r) =
+    record { texts = k.fit; registers = h.fits.registers; names = omega (arith, k.few, e.0); bytes = omega (arith, k.small, e.1) } in
+    record { sorted = k.sorted; registers_sorted = h.registers_sorted; fits = f }
 
 pub store_registers : (o : OtherSet) (t r new : Entries) → IsStore (definitions t r) → (o.names ≡ length t) × (o.bytes ≡ size t) → IsKept o new → IsStore (definitions t new)
-store_registers o t r new h e k = record { sorted = h.sorted; registers_sorted = k.sorted; few = omega (arith, k.few, e.0); small = omega (arith, k.small, e.1); short = h.short; registers_short = k.short }
+store_registers o t r new h e k =
+    let f : DefinitionsFit (definitions t new) =
+    record { texts = h.fits.texts; registers = k.fit; names = omega (arith, k.few, e.0); bytes = omega (arith, k.small, e.1) } in
+    record { sorted = h.sorted; registers_sorted = k.sorted; fits = f }
 
 pub store_without_text : (n : List ℕ) (t new r : Entries) → IsStore (definitions t r) → new ≡ without n t → IsStore (definitions new r)
 store_without_text n t new r h e =

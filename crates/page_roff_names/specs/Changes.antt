@@ -1,5 +1,5 @@
 -- The changes of one set of names beside the other: the code's own form of them.
-use Rattle.std.specs.Prelude.{◌≡◌, ℕ, ◌+◌, ◌<◌, ◌≤◌, List, [], ◌∷◌, length, T}
+use Rattle.std.specs.Prelude.{◌≡◌, ℕ, ◌+◌, ◌<◌, ◌≤◌, List, length, T}
 use Rattle.std.specs.Prelude.{MatchOption, MatchResult}
 use Rattle.std.specs.declared.option.Option.{Option}
 use Rattle.std.specs.declared.option.Option.TheVariants.{Some, None}
@@ -7,9 +7,10 @@ use Rattle.std.specs.declared.result.Result.{Result}
 use Rattle.std.specs.declared.result.Result.TheVariants.{Ok}
 use Rattle.std.specs.declared.cmp.Ordering.TheVariants.{Less, Equal, Greater}
 use Rattle.std.specs.FinMap.{is_sorted}
-use Rattle.page_core_limits.specs.declared.TheConstants.{NAMES, BODY, DEFS}
+use Rattle.page_core_limits.specs.declared.TheConstants.{NAMES, DEFS}
 use Rattle.page_core_limits.specs.declared.Limit.{Limit}
 use Rattle.page_roff_names.specs.declared.changes.OtherSet.{OtherSet}
+use Rattle.page_roff_names.specs.Caps.{EntriesFit, DefinitionsFit}
 use Rattle.page_roff_names.specs.Entries.{Entries, size, name_at, definition_at}
 use Rattle.page_roff_names.specs.Names.{Definitions, by_bytes, look, put, without, first_passed}
 
@@ -30,25 +31,18 @@ RenamesBeside others old_name name old result new = MatchOption (look old_name o
     ((result ≡ Ok tt) × (new ≡ old))
     (λ d. Settles others name d.value (put name d (without old_name old)) old result new)
 
-abbrev pub AreShort : Entries → Type 0
-AreShort [] = Unit {0}
-AreShort (e ∷ es) = (length e.1.value ≤ BODY) × AreShort es
-
 -- one set of names beside the other
 pub record IsKept (others : OtherSet) (es : Entries) : Type 0 where
   pub sorted : T (is_sorted by_bytes es)
   pub few : length es + others.names ≤ NAMES
   pub small : size es + others.bytes ≤ DEFS
-  pub short : AreShort es
+  pub fit : EntriesFit es
 
 -- both
 pub record IsStore (d : Definitions) : Type 0 where
   pub sorted : T (is_sorted by_bytes d.texts)
   pub registers_sorted : T (is_sorted by_bytes d.registers)
-  pub few : length d.texts + length d.registers ≤ NAMES
-  pub small : size d.texts + size d.registers ≤ DEFS
-  pub short : AreShort d.texts
-  pub registers_short : AreShort d.registers
+  pub fits : DefinitionsFit d
 
 -- the names before the i-th are less than n
 abbrev pub IsBelow : List ℕ → ℕ → Entries → Type 0

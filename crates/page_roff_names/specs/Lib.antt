@@ -1,3 +1,4 @@
+pub mod Caps
 pub mod Changes
 pub mod Entries
 pub mod Layout

@@ -4,11 +4,12 @@ ghost use Rattle.std.specs.Prelude.{IsTrue, MatchOption, MatchResult, Some, None
 ghost use Rattle.std.specs.FinMap.{is_sorted};
 ghost use Rattle.std.specs.List.{insert, remove};
 ghost use Rattle.std.specs.Vec.{vec_len, vec_capacity};
+ghost use Rattle.page_roff_names.specs.Caps.{EntriesFit};
 ghost use Rattle.page_roff_names.specs.Entries.{Definition, definition, size, name_at, definition_at};
 ghost use Rattle.page_roff_names.specs.Predefined.{predefined};
 ghost use Rattle.page_roff_names.specs.Names.{by_bytes, look, put, without, string_or, body_or_none};
 ghost use Rattle.page_roff_names.specs.Names.{first_passed, Lends};
-ghost use Rattle.page_roff_names.specs.Changes.{refusal_beside, Settles, RenamesBeside, AreShort, IsKept};
+ghost use Rattle.page_roff_names.specs.Changes.{refusal_beside, Settles, RenamesBeside, IsKept};
 ghost use Rattle.page_roff_names.specs.Changes.{FoundAt, MissingAt, StandsAt};
 
 use crate::predefined::predefined;
@@ -84,7 +85,7 @@ pub(crate) fn find_near(row: &Row, place: usize, name: &[u8]) -> Option<usize>
 /// The string of a name.
 pub(crate) fn string<'a>(row: &'a Row, name: &[u8]) -> Option<&'a [u8]>
     requires sorted { T (is_sorted by_bytes row.now) }
-    requires short { AreShort row.now }
+    requires fit { EntriesFit row.now }
     ensures is { Lends result (string_or (predefined name.now) (look name.now row.now)) }
     ensures short { MatchOption result (Unit {0}) (λ value. length value.now ≤ BODY) }
 {
@@ -101,7 +102,7 @@ pub(crate) fn string<'a>(row: &'a Row, name: &[u8]) -> Option<&'a [u8]>
 /// The body of a macro. Its name is looked for at this place first.
 pub(crate) fn body<'a>(row: &'a Row, place: usize, name: &[u8]) -> Option<&'a [u8]>
     requires sorted { T (is_sorted by_bytes row.now) }
-    requires short { AreShort row.now }
+    requires fit { EntriesFit row.now }
     ensures is { Lends result (body_or_none (look name.now row.now)) }
     ensures short { MatchOption result (Unit {0}) (λ value. length value.now ≤ BODY) }
 {
@@ -118,7 +119,7 @@ pub(crate) fn body<'a>(row: &'a Row, place: usize, name: &[u8]) -> Option<&'a [u
 /// The string of a name, empty where it has none.
 pub(crate) fn string_so_far<'a>(row: &'a Row, name: &[u8]) -> &'a [u8]
     requires sorted { T (is_sorted by_bytes row.now) }
-    requires short { AreShort row.now }
+    requires fit { EntriesFit row.now }
     ensures is { result.now ≡ unwrap_or (string_or (predefined name.now) (look name.now row.now)) [] }
     ensures short { length result.now ≤ BODY }
 {
@@ -131,7 +132,7 @@ pub(crate) fn string_so_far<'a>(row: &'a Row, name: &[u8]) -> &'a [u8]
 /// The body of a macro, empty where the name has none.
 pub(crate) fn body_so_far<'a>(row: &'a Row, name: &[u8]) -> &'a [u8]
     requires sorted { T (is_sorted by_bytes row.now) }
-    requires short { AreShort row.now }
+    requires fit { EntriesFit row.now }
     ensures is { result.now ≡ unwrap_or (body_or_none (look name.now row.now)) [] }
     ensures short { length result.now ≤ BODY }
 {

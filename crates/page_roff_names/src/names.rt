@@ -1,5 +1,6 @@
 //! The names of a page: its strings and macros, and its number registers.
 ghost use Rattle.std.specs.Prelude.{◌≡◌, [], ◌++◌, IfOk, length, option_map, unwrap_or};
+ghost use Rattle.page_roff_names.specs.Caps.{DefinitionsFit};
 ghost use Rattle.page_roff_names.specs.Names.{Definitions, definitions, string_of, body_of, number_of};
 ghost use Rattle.page_roff_names.specs.Names.{without_text, with_register, without_register};
 ghost use Rattle.page_roff_names.specs.Names.{Lends, Defines, DefinesText, Renames};
@@ -189,5 +190,12 @@ impl Names {
         ensures { self.new ≡ without_register name.now self.old }
     {
         withdraw(&mut self.registers, name)
+    }
+
+    /// The names and what they stand for are within their limits. Nothing is done: each change keeps to them.
+    pub fn caps_law(&self)
+        ensures { DefinitionsFit self.now }
+    {
+        let _ = &self.texts;
     }
 }

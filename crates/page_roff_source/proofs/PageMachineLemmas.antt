@@ -5,6 +5,7 @@ use Rattle.page_core_base.specs.LinesTaken.{Line}
 use Rattle.page_core_base.specs.Messages.{Message}
 use Rattle.page_core_base.specs.declared.page_settings.Output.{Output}
 use Rattle.page_roff_blocks.specs.declared.atoms.Atom.{Atom}
+use Rattle.page_roff_blocks.specs.Caps.{PlaceFits}
 use Rattle.page_roff_blocks.specs.Levels.{Opened, at_line, outside, first_place}
 use Rattle.page_roff_blocks.specs.Run.{Meaning, At}
 use Rattle.page_roff_run.specs.declared.TheConstants.{REREAD}
@@ -17,6 +18,7 @@ use Rattle.page_roff_run.proofs.MachineLemmas.{end_law}
 use Rattle.page_roff_stack.specs.Stacks.{is_nothing}
 use Rattle.page_roff_stack.specs.Stacks as stack
 use Rattle.page_roff_effects.specs.Acting.{first_memory}
+use Rattle.page_roff_effects.specs.Caps.{MemoryFits}
 use Rattle.page_roff_effects.specs.RegionLines.{finish_outcome}
 use Rattle.page_roff_effects.specs.States.{Given, State, Memory, Setting}
 use Rattle.page_roff_machine.specs.Giving.{next_line, after_line}
@@ -24,6 +26,7 @@ use Rattle.page_roff_machine.specs.Machines.{Machine, output_of, language_of, ru
 use Rattle.page_roff_machine.specs.Machines as machine
 use Rattle.page_roff_machine.proofs.MachineLemmas.{idle_stands, new_idle}
 use Rattle.page_roff_source.specs.declared.counts.Counts.{Counts}
+use Rattle.page_roff_source.specs.Caps.{RoffFits}
 use Rattle.page_roff_source.specs.Edges.{Edge, SourceLine, first_edge, before_line, run_line, line_begun, line_taken, left_if, counts_of, end_notes}
 use Rattle.page_roff_source.specs.PageMachines.{edge_of, Running, IsCounted, IsPageMachine}
 use Rattle.page_roff_source.proofs.CountLemmas.{taken_bound}
@@ -194,6 +197,15 @@ pub counts_at : (m : Machine) (source : ℕ) (is_idle : Bool) → IsPageMachine 
 counts_at m source true p none =
     ap (λ (a : At (Budgeted State)). counts source a.state.taken a.state.rest.memory.expansions) (sym (idle_stands m (p.idle refl)))
 counts_at m source false p none = absurd (cc)
+
+pub fits_at : (m : Machine) (source : ℕ) (is_idle : Bool) → IsPageMachine m source is_idle → (edge_of m source is_idle).to_come ≡ None
+    → PlaceFits (place_of m) → MemoryFits m.actions.memory → RoffFits (edge_of m source is_idle)
+fits_at m source true p none f g =
+    let e = sym (idle_stands m (p.idle refl)) in
+    let place = subst (λ (a : At (Budgeted State)). PlaceFits a.place) e f in
+    let memory = subst (λ (a : At (Budgeted State)). MemoryFits a.state.rest.memory) e g in
+    record { names = memory.names; region = place.region; body = memory.body; blocks = place.blocks }
+fits_at m source false p none f g = absurd (cc)
 
 pub end_notes_at : (m : Machine) (source : ℕ) (is_idle : Bool) → IsPageMachine m source is_idle → (edge_of m source is_idle).to_come ≡ None
     → end_notes (edge_of m source is_idle) ≡ machine.end_notes m

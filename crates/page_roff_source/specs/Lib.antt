@@ -1,3 +1,4 @@
+pub mod Caps
 pub mod Edges
 pub mod Fuses
 pub mod PageMachines

@@ -5,6 +5,7 @@ ghost use Rattle.page_core_base.specs.LinesTaken.{line_seen};
 ghost use Rattle.page_core_base.specs.Texts.{IsLine};
 ghost use Rattle.page_core_limits.specs.declared.TheConstants.{LINE};
 ghost use Rattle.page_roff_values.specs.Latches.{Came};
+ghost use Rattle.page_roff_source.specs.Caps.{RoffFits};
 ghost use Rattle.page_roff_source.specs.Edges.{first_edge, line_begun, end_notes, is_idle, counts_of};
 ghost use Rattle.page_roff_source.specs.PageMachines.{RunsOn};
 
@@ -102,5 +103,12 @@ impl PageMachine {
             taken: self.machine.taken(),
             expansions: self.machine.expansions(),
         }
+    }
+
+    /// What is held between two lines is within its limits. Nothing is done: the machine tells it.
+    pub(crate) fn caps_law(&self)
+        ensures { self.now.edge.to_come ≡ None → RoffFits self.now.edge }
+    {
+        self.machine.caps_law();
     }
 }

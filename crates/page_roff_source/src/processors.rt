@@ -8,6 +8,7 @@ ghost use Rattle.page_core_base.specs.Texts.{IsLine};
 ghost use Rattle.page_core_limits.specs.declared.TheConstants.{LINE};
 ghost use Rattle.page_roff_values.specs.Latches.{Came};
 ghost use Rattle.page_roff_machine.specs.Giving.{notes_before, next_line};
+ghost use Rattle.page_roff_source.specs.Caps.{RoffFits};
 ghost use Rattle.page_roff_source.specs.Edges.{first_edge, line_begun, given_of, line_taken, end_notes, is_idle, counts_of};
 
 use crate::counts::Counts;
@@ -93,5 +94,12 @@ impl Processor {
         ensures { self.now.to_come ≡ None → result ≡ counts_of self.now }
     {
         self.machine.counts()
+    }
+
+    /// What is held between two lines is within its limits. Nothing is done: the machine tells it.
+    pub fn caps_law(&self)
+        ensures { self.now.to_come ≡ None → RoffFits self.now }
+    {
+        self.machine.caps_law();
     }
 }

@@ -7,6 +7,7 @@ ghost use Rattle.page_core_base.specs.LinesTaken.{line_seen};
 ghost use Rattle.page_core_base.specs.Texts.{IsLine};
 ghost use Rattle.page_core_limits.specs.declared.TheConstants.{LINE};
 ghost use Rattle.page_roff_machine.specs.Giving.{notes_before, next_line};
+ghost use Rattle.page_roff_source.specs.Caps.{RoffFits};
 ghost use Rattle.page_roff_source.specs.Edges.{Edge, first_edge, line_begun, given_of, line_taken, end_notes, counts_of};
 ghost use Rattle.page_roff_machine.specs.Machines.{taken_if};
 ghost use Rattle.page_roff_source.specs.Fuses.{is_idle_at, Tells};
@@ -150,5 +151,12 @@ impl Roff {
         ensures { IfSome self.now (λ e. e.to_come ≡ None → result ≡ counts_of e) }
     {
         self.machine.counts()
+    }
+
+    /// What is held between two lines is within its limits. Nothing is done: the machine tells it.
+    pub fn caps_law(&self)
+        ensures { IfSome self.now (λ e. e.to_come ≡ None → RoffFits e) }
+    {
+        self.machine.caps_law();
     }
 }

@@ -3,6 +3,7 @@
 ghost use Rattle.std.specs.Prelude.{◌≡◌, [], ◌∷◌, ◌≤◌, ◌<◌, ◌^◌, true, length, IfOk, IfSome, None, Some};
 ghost use Rattle.page_core_base.specs.Texts.{IsLine};
 ghost use Rattle.page_core_limits.specs.declared.TheConstants.{BODY};
+ghost use Rattle.page_roff_blocks.specs.Caps.{PlaceFits};
 ghost use Rattle.page_roff_blocks.specs.Levels.{after_part, guarded_by, way_of, enter, bit_after, skip, leave, has_block, reached, opened_seen};
 ghost use Rattle.page_roff_blocks.specs.Regions.{text_seen};
 ghost use Rattle.page_roff_run.specs.Machine.{depth, is_some};
@@ -285,5 +286,12 @@ impl InputStack {
         let caller = self.under.take_last();
         let source = mem::replace(&mut self.top, caller);
         self.spare.push_reserved(source);
+    }
+
+    /// Where the innermost source stands is within its limits. Nothing is done: the source tells it.
+    pub fn caps_law(&self)
+        ensures { PlaceFits (record { region = self.now.top.region; levels = self.now.top.spot.levels }) }
+    {
+        self.top.caps_law();
     }
 }

@@ -5,6 +5,7 @@ ghost use Rattle.std.specs.Vec.{vec_len, vec_capacity};
 ghost use Rattle.page_core_base.specs.Texts.{IsLine};
 ghost use Rattle.page_core_limits.specs.declared.TheConstants.{LINE, BODY};
 ghost use Rattle.page_roff_blocks.specs.Atoms.{atom_seen, branch_seen, FitsAtom};
+ghost use Rattle.page_roff_blocks.specs.Caps.{PlaceFits};
 ghost use Rattle.page_roff_blocks.specs.Levels.{after_part, guarded_by, way_of, enter, bit_after, skip, leave, has_block, reached, opened_seen};
 ghost use Rattle.page_roff_blocks.specs.Regions.{text_seen};
 ghost use Rattle.page_roff_run.specs.Languages.{page};
@@ -360,5 +361,15 @@ impl Source {
     {
         self.region = None;
         self.pass_region_line();
+    }
+
+    /// Where it stands is within its limits. Nothing is done: the region and the levels tell it.
+    pub(crate) fn caps_law(&self)
+        ensures { PlaceFits (record { region = self.now.region; levels = self.now.spot.levels }) }
+    {
+        self.spot.caps_law();
+        if let Some(region) = &self.region {
+            region.caps_law();
+        }
     }
 }

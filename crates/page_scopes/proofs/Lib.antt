@@ -1,2 +1,3 @@
+pub mod TargetLemmas
 pub mod SliceLemmas
 pub mod LineLemmas

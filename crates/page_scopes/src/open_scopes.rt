@@ -2,6 +2,7 @@
 
 ghost use Rattle.std.specs.Prelude.{◌≡◌, ◌≤◌, IfOk, length};
 ghost use Rattle.page_core_base.specs.Latches.{Came};
+ghost use Rattle.page_scopes.specs.Caps.{ScopesFit};
 ghost use Rattle.page_scopes.specs.Edges.{begins_body, end_after, end_items, event_after, event_items, start_edge};
 ghost use Rattle.page_scopes_leaves.specs.Fits.{DeedFits};
 ghost use Rattle.page_sets_lines.specs.Events.{deed_seen, event_seen};
@@ -22,11 +23,14 @@ pub struct OpenScopes {
 }
 
 impl Model for OpenScopes {
+    ghost use Rattle.page_scopes.specs.Caps.{TargetsFit};
     ghost use Rattle.page_scopes.specs.Edges.{PageEdge};
 
     ghost Value = { PageEdge };
 
     ghost view = { λ s. s.stack };
+
+    ghost invariant = { λ s. TargetsFit s.stack.scopes };
 }
 
 impl OpenScopes {
@@ -76,5 +80,12 @@ impl OpenScopes {
         ensures edge { self.new ≡ end_after self.old line }
     {
         self.stack.finish(line, out);
+    }
+
+    /// What is held of the scopes between two lines is within its limits. Nothing is done: each event keeps to them.
+    pub fn caps_law(&self)
+        ensures { ScopesFit self.now }
+    {
+        self.stack.depth();
     }
 }

@@ -4,6 +4,6 @@ use Rattle.page_roff_names.proofs.changes.body.Goals as goal
 
 pub returns-in-Macro-clause-short : goal.returns-in-Macro-clause-short
 returns-in-Macro-clause-short c =
-    let v = short_at c.args.row.now c.in-Some.i c.requires.short in
+    let v = short_at c.args.row.now c.in-Some.i c.requires.fit in
     let e = ap length c.value.ensures in
     omega (arith, v, e)

@@ -8,7 +8,7 @@ use Rattle.page_roff_names.proofs.changes.move_to.Goals as goal
 
 pub copy-requires-clause-short : goal.copy-requires-clause-short
 copy-requires-clause-short c =
-    let v = short_at c.args.row.now c.args.i c.requires.kept.short in
+    let v = short_at c.args.row.now c.args.i c.requires.kept.fit in
     let e = ap length c.value.ensures in
     omega (arith, v, e)
 

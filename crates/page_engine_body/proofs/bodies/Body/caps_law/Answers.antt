@@ -10,5 +10,6 @@ returns c =
         source = rw c.text-4.ensures.text at c.text-4.ensures.within;
         volume = rw c.text-5.ensures.text at c.text-5.ensures.within;
       };
-      scopes = rw c.depth.ensures.is at c.depth.ensures.within;
+      os = rw c.as_str.ensures.value at c.as_str.ensures.fits;
+      scopes = c.caps_law.ensures;
     }
