@@ -115,9 +115,10 @@ columns-plain font (b ∷ bytes) plain =
     sum_by-append cell_columns (cell_of font b ∷ []) (cells_of font bytes) ∙ omega (arith, last, others)
 
 -- a sound row with the cells of a plain text is sound
-pub sound-more : (cells : List Cell) (bytes : List ℕ) (font : Font) (capacity count gap word : ℕ) → IsSound cells capacity count gap word → is_printable_ascii bytes ≡ true
-    → length cells + length bytes ≤ CELLS → IsSound (cells ++ cells_of font bytes) capacity (count + length bytes) gap word
-sound-more cells bytes font capacity count gap word sound plain room =
+pub sound-more : (cells : List Cell) (bytes : List ℕ) (font : Font) (capacity count gap word tag tag-now : ℕ) → IsSound cells capacity count gap word tag
+    → is_printable_ascii bytes ≡ true → length cells + length bytes ≤ CELLS → tag-now ≤ TAG_COLUMNS
+    → IsSound (cells ++ cells_of font bytes) capacity (count + length bytes) gap word tag-now
+sound-more cells bytes font capacity count gap word tag tag-now sound plain room tagged =
     let len : length (cells ++ cells_of font bytes) ≡ length cells + length bytes = length-append cells (cells_of font bytes) ∙ ap (λ k. length cells + k) (length-map bytes (cell_of font)) in
     let more : columns (cells ++ cells_of font bytes) ≡ columns cells + length bytes = sum_by-append cell_columns cells (cells_of font bytes) ∙ ap (λ k. columns cells + k) (columns-plain font bytes plain) in
     record {
@@ -127,6 +128,7 @@ sound-more cells bytes font capacity count gap word sound plain room =
       narrow = omega (arith, len, sound.narrow);
       gap_within = sound.gap_within;
       word_within = omega (arith, len, sound.word_within);
+      tag_within = tagged;
     }
 
 -- ---- its characters

@@ -5,6 +5,7 @@ ghost use Rattle.page_core_base.specs.Fails.{FailsBySink};
 ghost use Rattle.page_core_base.specs.Laid.{Gets};
 ghost use Rattle.page_core_base.specs.Latches.{LaysOut};
 ghost use Rattle.page_core_base.specs.Pieces.{piece_of};
+ghost use Rattle.page_fill.specs.Caps.{FillFits};
 ghost use Rattle.page_fill.specs.Fill as fill;
 
 use crate::sheets::OpenRow;
@@ -131,6 +132,14 @@ impl Filler {
         ensures { IfSome self.now (λ e. result ≡ fill.blank_rows_at_end e) }
     {
         self.edge.sheet.blank_rows()
+    }
+
+    /// What is held between two pieces is within its limits. Nothing is done: the open row tells it.
+    pub fn caps_law(&self)
+        ensures { IfSome self.now FillFits }
+    {
+        self.edge.sheet.cells();
+        self.edge.sheet.tag_columns();
     }
 
     /// Takes a piece, and gives the rows and messages that it settles. It succeeds if the sinks do.

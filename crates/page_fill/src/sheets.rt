@@ -62,7 +62,8 @@ impl Model for OpenRow {
       tag_begun = a.has_tag_cell;
     } };
 
-    ghost invariant = { λ a. IsSound a.row.items (vec_capacity a.row) a.columns a.gap a.word };
+    ghost invariant = { λ a. IsSound a.row.items (vec_capacity a.row) a.columns a.gap a.word
+        a.tag_columns };
 }
 
 impl OpenRow {
@@ -123,7 +124,8 @@ impl OpenRow {
 
     /// The columns of the open tag, up to [`TAG_COLUMNS`].
     pub(crate) fn tag_columns(&self) -> u32
-        ensures { result ≡ self.now.tag_columns }
+        ensures value { result ≡ self.now.tag_columns }
+        ensures bound { result ≤ TAG_COLUMNS }
     {
         self.tag_columns
     }
