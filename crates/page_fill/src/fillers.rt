@@ -1,8 +1,8 @@
 //! The filler of a page.
 
-ghost use Rattle.std.specs.Prelude.{◌≡◌, ◌≤◌, length, IfOk, IfErr, IfSome, OnOk, OnErr, Some, None};
+ghost use Rattle.std.specs.Prelude.{◌≡◌, ◌≤◌, length, IfOk, IfErr, IfSome, OnOk, OnErr, Some, None, true, false};
 ghost use Rattle.page_core_base.specs.Fails.{FailsBySink};
-ghost use Rattle.page_core_base.specs.Laid.{Gets};
+ghost use Rattle.page_core_base.specs.Laid.{Gets, nothing};
 ghost use Rattle.page_core_base.specs.Latches.{LaysOut};
 ghost use Rattle.page_core_base.specs.Pieces.{piece_of};
 ghost use Rattle.page_fill.specs.Caps.{FillFits};
@@ -38,6 +38,24 @@ fn take_piece<O: RowOut>(edge: &mut Edge, piece: Piece<&[u8]>, out: &mut O)
         Piece::Literal(is_literal) => edge.sheet.set_literal(is_literal),
         Piece::Tag { hang, form } => edge.begin_tag(hang, form),
         Piece::Column(column) => edge.column(column),
+    }
+}
+
+// Takes a blank, or a plain word that the open row has room for, and says whether it was one of these, which settle nothing. Most of a page
+// is made of them.
+#[inline(always)]
+#[tactic(auto, unfolding(crate::specs::Fill::laid_piece))]
+fn takes_at_once(edge: &mut Edge, piece: Piece<&[u8]>) -> bool
+    ensures taken { result ≡ true → fill.laid_piece edge.old (piece_of piece.entry) ≡ nothing edge.new }
+    ensures same { result ≡ false → edge.new ≡ edge.old }
+{
+    match piece {
+        Piece::Blank { count, has_tab } => {
+            edge.word = edge.word.ended(count, has_tab);
+            true
+        }
+        Piece::Text { text, font, .. } => edge.takes_at_once(text, font),
+        _ => false,
     }
 }
 
@@ -168,6 +186,9 @@ impl Filler {
     {
         if !self.is_going {
             return Err(Fault::Failed);
+        }
+        if takes_at_once(&mut self.edge, piece) {
+            return Ok(());
         }
         let result = fill_piece(&mut self.edge, piece, rows, notes);
         self.is_going = result.is_ok();
