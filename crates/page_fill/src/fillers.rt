@@ -32,7 +32,7 @@ fn take_piece<O: RowOut>(edge: &mut Edge, piece: Piece<&[u8]>, out: &mut O)
         Piece::Space(count) => edge.space(count, out),
         Piece::TagEnd => edge.end_tag(out),
         Piece::Heading => edge.heading(out),
-        Piece::Blank { count, has_tab } => edge.word = edge.word.ended(count, has_tab),
+        Piece::Blank { count, has_tab } => edge.word.end(count, has_tab),
         Piece::Glue => edge.word = edge.word.glued(),
         Piece::Indent { first, rest } => edge.sheet.set_margins(first, rest),
         Piece::Literal(is_literal) => edge.sheet.set_literal(is_literal),
@@ -51,7 +51,7 @@ fn takes_at_once(edge: &mut Edge, piece: Piece<&[u8]>) -> bool
 {
     match piece {
         Piece::Blank { count, has_tab } => {
-            edge.word = edge.word.ended(count, has_tab);
+            edge.word.end(count, has_tab);
             true
         }
         Piece::Text { text, font, .. } => edge.takes_at_once(text, font),

@@ -10,6 +10,7 @@ use page_core_base::{Cell, Font};
 use page_core_limits::CELLS;
 use std::alloc::{AllocError, Global};
 use std::marker::Model;
+use std::mem;
 
 /// The cells of a row, at most [`CELLS`].
 ///
@@ -129,10 +130,11 @@ fn put_printable(places: &mut [Cell], start: usize, bytes: &[u8], font: Font) ->
         if *byte < b' ' || b'~' < *byte {
             return false;
         }
-        places[end] = Cell {
+        let cell = Cell {
             c: *byte as char,
             font,
         };
+        let _place = mem::replace(&mut places[end], cell);
         end += 1;
     }
     true

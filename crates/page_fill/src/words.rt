@@ -86,17 +86,14 @@ impl OpenWord {
     }
 
     /// The word ends, and blanks wait before the next one.
-    pub(crate) fn ended(self, blanks: u32, has_tab: bool) -> OpenWord
-        ensures { result ≡ fill.blanks_wait self blanks has_tab }
+    pub(crate) fn end(&mut self, blanks: u32, has_tab: bool)
+        ensures { self.new ≡ fill.blanks_wait self.old blanks has_tab }
     {
-        if self.is_placed {
-            return OpenWord { has_tab, ..self };
-        }
-        OpenWord {
-            blanks,
-            has_tab,
-            is_told: self.is_told,
-            ..NO_WORD
+        self.has_tab = has_tab;
+        if !self.is_placed {
+            self.is_joined = false;
+            self.is_open = false;
+            self.blanks = blanks;
         }
     }
 
