@@ -9,3 +9,5 @@ pub mod Boundaries
 pub mod ArgumentTexts
 pub mod EscapeTexts
 pub mod TokenLemmas
+pub mod PlainLemmas
+pub mod FontLemmas

@@ -1,13 +1,15 @@
 -- Of the code's own steps, which no public clause cites: what is read next in a quoted argument, a byte, an escape, an argument inside it
--- or the delimiter at its end.
-use Rattle.std.specs.Prelude.{ℕ, ◌+◌, ◌<◌, ◌≤◌, ◌==◌, nat_eq, List, [], ◌∷◌, length, take, drop, if◌then◌else◌, Option, Some, None, option_map, option_and_then, unwrap_or}
+-- or the delimiter at its end; and fonts that one letter names.
+use Rattle.std.specs.Prelude.{ℕ, ◌≡◌, ◌+◌, ◌<◌, ◌≤◌, ◌==◌, nat_eq, List, [], ◌∷◌, length, take, drop, if◌then◌else◌, Option, Some, None, option_map, option_and_then, unwrap_or}
 use Rattle.std.specs.List.{starts_with}
 use Rattle.page_core_escapes.specs.declared.extents.Extent.{Extent}
 use Rattle.page_core_escapes.specs.declared.extents.Extent.TheVariants.{Whole, QuotedFrom}
 use Rattle.page_core_escapes.specs.declared.quoted.Step.{Step}
 use Rattle.page_core_escapes.specs.declared.quoted.Step.TheVariants.{Passes, Opens, Closes}
 use Rattle.page_core_escapes.specs.Bytes.{backslash}
-use Rattle.page_core_escapes.specs.Extents.{character_len, extent_of}
+use Rattle.page_core_escapes.specs.Escapes.{escape_of}
+use Rattle.page_core_escapes.specs.Extents.{character_len, extent_of, name_len}
+use Rattle.page_core_escapes.specs.Meanings.{Face, bare_name, face, face_of}
 
 -- the first character of a text, as it is written
 abbrev pub first_character : List ℕ → List ℕ
@@ -32,3 +34,14 @@ abbrev pub StepFits : ℕ → Step → Type 0
 StepFits n (Passes k) = (0 < k) × (k ≤ n)
 StepFits n (Opens k mark) = (2 ≤ k) × (0 < mark) × (k + mark ≤ n)
 StepFits n (Closes k) = k ≤ n
+
+-- a letter that names a font by itself
+pub record FontLetter (letter : ℕ) (font : Face) : Type 0 where
+  pub named : face_of (letter ∷ []) ≡ font
+  pub bare : bare_name (letter ∷ []) ≡ letter ∷ []
+  pub alone : (rest : List ℕ) → name_len (letter ∷ rest) ≡ Some 1
+
+-- an escape of three bytes at a text's front asks for a font
+pub record ShortFont (text : List ℕ) (font : Face) : Type 0 where
+  pub within : 3 ≤ length text
+  pub escape : escape_of text ≡ (face font, 3)

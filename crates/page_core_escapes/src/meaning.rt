@@ -1,9 +1,10 @@
 //! What an escape means.
-ghost use Rattle.std.specs.Prelude.{◌≡◌, ◌<◌, ◌≤◌, length, drop, if◌then◌else◌};
+ghost use Rattle.std.specs.Prelude.{◌≡◌, ◌<◌, ◌≤◌, length, drop, if◌then◌else◌, IfSome};
 ghost use Rattle.std.specs.List.{list_all, list_any};
 ghost use Rattle.std.specs.Str.{bytes_eq};
 ghost use Rattle.page_core_escapes.specs.Meanings.{meaning_of, argument_of, meaning_by, bare_name, bare_quoted, without_last, bracketed, names_code_point, is_hex_digit, hex_number, hex_value, face_of, first_char};
 ghost use Rattle.page_core_escapes.specs.Escapes.{meaning_seen, face_seen};
+ghost use Rattle.page_core_escapes.specs.Steps.{FontLetter};
 
 use crate::extents::character_len;
 use crate::letters::{Kind, Shape, letter_of};
@@ -150,6 +151,21 @@ fn hex_value(digit: u8) -> u32
         digit.saturating_sub(b'A' - 10)
     };
     value as u32
+}
+
+/// The font that one letter names.
+#[inline(always)]
+pub(crate) fn font_by_letter<'a>(letter: u8) -> Option<FontName<'a>>
+    ensures { IfSome result (λ name. FontLetter letter (face_seen name)) }
+{
+    match letter {
+        b'R' | b'1' => Some(FontName::R),
+        b'I' | b'2' => Some(FontName::I),
+        b'B' | b'3' => Some(FontName::B),
+        b'4' => Some(FontName::BI),
+        b'P' => Some(FontName::Former),
+        _ => None,
+    }
 }
 
 /// The font of a name: roff(7), `\f` and `ft`.

@@ -1,11 +1,19 @@
 //! The tokens of a text: white space, characters that print themselves, quotes and escapes (roff(7), "LANGUAGE SYNTAX").
 
-ghost use Rattle.std.specs.Prelude.{◌≡◌, ◌≤◌, ◌<◌, length};
+ghost use Rattle.std.specs.Prelude.{◌≡◌, ◌≤◌, ◌<◌, length, map, not, slice_index, if◌then◌else◌, IfSome};
 ghost use Rattle.std.specs.List.{prefix_len};
+ghost use Rattle.std.specs.Simd.Lanes.{mask_l};
+ghost use Rattle.page_core_escapes.specs.Escapes.{face_seen};
+ghost use Rattle.page_core_escapes.specs.Steps.{ShortFont};
 ghost use Rattle.page_core_escapes.specs.Tokens.{is_white, begins_white, begins_word, begins_escape, begins_quote, prints_itself, is_space, token_at, token_bytes, token_seen};
 
-use crate::{Escape, escape};
+use crate::meaning::font_by_letter;
+use crate::{Escape, FontName, escape};
 use page_core_limits::LINE;
+use std::simd::prelude::*;
+
+// The bytes that are tested at a time.
+const LANES: usize = 16;
 
 /// A token of a text, as it is written.
 #[derive(Clone, Copy)]
@@ -115,14 +123,50 @@ fn prints_itself(quoted: bool, byte: u8) -> bool
     !(is_white(byte) || (quoted && byte == b'"'))
 }
 
-// The number of bytes at a text's front that print themselves.
-fn plain_len(quoted: bool, text: &[u8]) -> usize
+// What ends a run of bytes that print themselves besides white space and escapes: in a quoted argument a quote, else nothing more.
+fn mark(quoted: bool) -> u8
+    ensures { result ≡ (if quoted then 34 else 32) }
+{
+    if quoted { b'"' } else { b' ' }
+}
+
+// The bytes of a vector that do not print themselves, as the bits of a number.
+#[inline(always)]
+fn stops(quoted: bool, bytes: u8x16) -> u64
+    ensures { result ≡ mask_l (map (λ byte. not (prints_itself quoted byte)) bytes) }
+{
+    let white = bytes.simd_eq(u8x16::splat(b' ')) | bytes.simd_eq(u8x16::splat(b'\t'));
+    let others = bytes.simd_eq(u8x16::splat(b'\\')) | bytes.simd_eq(u8x16::splat(mark(quoted)));
+    (white | others).to_bitmask()
+}
+
+/// The number of bytes at a text's front that print themselves. Most words end within one vector.
+#[inline(always)]
+pub fn plain_len(quoted: bool, text: &[u8]) -> usize
     ensures value { result ≡ prefix_len (prints_itself quoted) text.now }
     ensures within { result ≤ length text.now }
 {
+    if text.len() >= LANES {
+        let found = stops(quoted, u8x16::from_slice(text));
+        if found != 0 {
+            return found.trailing_zeros() as usize;
+        }
+    }
     text.iter()
         .take_while(|byte| prints_itself(quoted, **byte))
         .count()
+}
+
+// The font that an escape of three bytes at a text's front asks for, as `\fB` does.
+#[inline(always)]
+fn short_font(text: &[u8]) -> Option<FontName<'_>>
+    requires { slice_index text.now 0 ≡ 0x5C }
+    ensures { IfSome result (λ name. ShortFont text.now (face_seen name)) }
+{
+    if text.len() < 3 || text[1] != b'f' {
+        return None;
+    }
+    font_by_letter(text[2])
 }
 
 /// The token at a text's front; `quoted` says whether it is that of a quoted argument.
@@ -138,6 +182,12 @@ pub fn read_token(quoted: bool, text: &[u8]) -> Token<'_>
         return Token::White(&text[..white_len(text)]);
     }
     if begins_escape(text) {
+        if let Some(name) = short_font(text) {
+            return Token::Escaped {
+                bytes: &text[..3],
+                meaning: Escape::Font(name),
+            };
+        }
         let (meaning, len) = escape(text);
         return Token::Escaped {
             bytes: &text[..len],

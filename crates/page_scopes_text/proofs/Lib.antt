@@ -1,2 +1,3 @@
 pub mod PartedLemmas
 pub mod TextLemmas
+pub mod PlainWordLemmas

@@ -154,3 +154,23 @@ reads_plain quoted text word e h k ends =
       ends = ends;
       others = others_same quoted text (length word) w h len;
     }
+
+-- what prints itself at a text's front is its first token
+plain_token : (quoted : Bool) (text : List ℕ) → 0 < prefix_len (prints_itself quoted) text → token_at quoted text ≡ plain (take (prefix_len (prints_itself quoted) text) text)
+unfolding token_at
+plain_token quoted [] h = absurd (omega arith)
+plain_token quoted (b ∷ bs) h =
+    elim (cases_Bool (is_white b)) [
+      | inl t ↦ absurd (omega (arith, rw t at h))
+      | inr t ↦ elim (cases_Bool (b == 92)) [
+        | inl e ↦ absurd (omega (arith, rw (t, e) at h))
+        | inr e ↦ elim (cases_Bool (quoted && b == 34)) [ inl q ↦ absurd (omega (arith, rw (t, e, q) at h)) | inr q ↦ rw (t, e, q) refl ]
+      ]
+    ]
+
+pub reads_front : (quoted : Bool) (text : List ℕ) (n : ℕ) → n ≡ prefix_len (prints_itself quoted) text → n ≤ length text → 0 < length (take n text)
+    → begins_word (drop n text) ≡ false → ReadsPlain quoted text (take n text) (drop n text)
+reads_front quoted text n e k some ends =
+    let len : length (take n text) ≡ n = rw e (length-prefix_len (prints_itself quoted) text) in
+    let token : token_at quoted text ≡ plain (take n text) = rw e (plain_token quoted text (omega (arith, len, some, e))) in
+    rw len at (reads_plain quoted text (take n text) token some (omega (arith, len, k)) (rw len ends))

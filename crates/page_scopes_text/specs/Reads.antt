@@ -1,8 +1,10 @@
 -- How the code's own reading of a text goes on from its front. Source: roff(7).
-use Rattle.std.specs.Prelude.{◌≡◌, ℕ, ◌≤◌, ◌<◌, ◌+◌, ◌^◌, Bool, false, List, [], ◌∷◌, length, drop}
+use Rattle.std.specs.Prelude.{◌≡◌, ℕ, ◌≤◌, ◌<◌, ◌+◌, ◌^◌, Bool, true, false, List, [], ◌∷◌, length, drop}
 use Rattle.page_core_escapes.specs.Tokens.{begins_word, plain, token_len}
 use Rattle.page_core_limits.specs.declared.TheConstants.{LINE}
 use Rattle.page_scopes_text.specs.Parted.{words_of}
+use Rattle.page_scopes_layout.specs.declared.settings.Setting.{Setting}
+use Rattle.page_scopes_words.specs.declared.fonts.Fonts.{Fonts}
 use Rattle.page_scopes_text.specs.declared.pens.Pen.{Pen}
 
 -- a text of a line, up to whose end columns have room
@@ -28,9 +30,27 @@ pub record ReadsSpaced (quoted : Bool) (pen : Pen) (text : List ℕ) (next : Pen
   pub ends : begins_word rest ≡ false
   pub others : (words_of quoted rest).others ≡ (words_of quoted (drop (token_len quoted text) text)).others
 
+-- a pen after a word that prints itself
+abbrev pub resting : Setting Fonts → ℕ → Pen
+resting fonts column = record {
+  fonts = fonts;
+  column = column;
+  gap = 1;
+  is_after_word = true;
+  has_cell = true;
+  is_cut = false;
+  ends_blank = false;
+}
+
 -- a word at a text's front was read, all of which prints itself
 pub record ReadsPlain (quoted : Bool) (text word rest : List ℕ) : Type 0 where
   pub len : length word + length rest ≡ length text
   pub only : (words_of quoted text).word ≡ plain word ∷ []
   pub ends : begins_word rest ≡ false
   pub others : (words_of quoted rest).others ≡ (words_of quoted text).others
+
+-- the one blank at a text's front was read, and the word after it, all of which prints itself
+pub record ReadsBlankWord (quoted : Bool) (text word rest : List ℕ) : Type 0 where
+  pub len : (1 + length word) + length rest ≡ length text
+  pub front : (words_of quoted text).others ≡ record { white = 32 ∷ []; word = plain word ∷ [] } ∷ (words_of quoted rest).others
+  pub ends : begins_word rest ≡ false

@@ -1,7 +1,8 @@
 //! What is known between two tokens of a text (roff(7), `\f` and `\c`).
 
-ghost use Rattle.std.specs.Prelude.{◌≡◌, ◌<◌, ◌+◌, ◌^◌, [], ◌∷◌, length};
+ghost use Rattle.std.specs.Prelude.{◌≡◌, ◌<◌, ◌+◌, ◌^◌, [], ◌∷◌, length, IsTrue};
 ghost use Rattle.page_core_escapes.specs.Tokens.{plain, token_bytes, token_seen};
+ghost use Rattle.page_scopes_text.specs.Reads.{resting};
 ghost use Rattle.page_scopes_text.specs.Texts.{indented_pen, white_after};
 ghost use Rattle.page_scopes_text.specs.Words.{body_after, gap_after, has_gap_cells, pen_after, word_begun, word_ended};
 
@@ -41,6 +42,7 @@ pub struct Pen {
 
 impl Pen {
     /// Goes on after a token of a word.
+    #[inline(always)]
     pub(crate) fn pass(&mut self, token: &Token<'_>)
         requires { self.old.column + length (token_bytes (token_seen token.now)) < 2 ^ 32 }
         ensures { self.new ≡ pen_after self.old (token_seen token.now) }
@@ -95,6 +97,14 @@ impl Pen {
         self.has_cell = true;
         self.is_cut = false;
         self.ends_blank = false;
+    }
+
+    /// Whether a word that prints itself was the last thing that was passed.
+    #[inline(always)]
+    pub(crate) fn is_resting(&self) -> bool
+        ensures { IsTrue result → self.now ≡ resting self.now.fonts self.now.column }
+    {
+        self.gap == 1 && self.is_after_word && self.has_cell && !self.is_cut && !self.ends_blank
     }
 
     /// Goes on after white space.

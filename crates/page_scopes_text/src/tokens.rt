@@ -15,6 +15,7 @@ use page_scopes_layout::Setting;
 use page_scopes_words::{Fonts, token_piece};
 
 /// Gives the messages of a token.
+#[inline(always)]
 pub fn report_token<O: PieceOut>(out: &mut O, place: Place, token: &Token<'_>)
     ensures { Came O.left out.old (words.token_notes place (token_seen token.now)) out.new }
 {
@@ -50,6 +51,7 @@ fn blank_count(expression: &[u8]) -> u32
 }
 
 /// Gives what a token prints.
+#[inline(always)]
 pub fn give_token<O: PieceOut>(out: &mut O, font: Font, place: Place, token: &Token<'_>)
     requires { is_space (token_seen token.now) ≡ false }
     ensures { Came O.left out.old (words.token_items font place (token_seen token.now)) out.new }
@@ -78,6 +80,7 @@ fn escape_prints(meaning: Escape<'_>) -> bool
 }
 
 /// Whether a token prints a cell.
+#[inline(always)]
 pub(crate) fn token_prints(token: &Token<'_>) -> bool
     ensures { result ≡ words.token_prints (token_seen token.now) }
 {
@@ -88,6 +91,7 @@ pub(crate) fn token_prints(token: &Token<'_>) -> bool
 }
 
 /// Whether an escape glues the next line's text.
+#[inline(always)]
 pub(crate) fn is_glue(token: &Token<'_>) -> bool
     ensures { result ≡ is_glue (token_seen token.now) }
 {
@@ -118,6 +122,7 @@ fn token_sets(token: &Token<'_>) -> bool
 }
 
 /// The fonts after a token, and whether they were set.
+#[inline(always)]
 pub fn fonts_after(token: &Token<'_>, fonts: Setting<Fonts>) -> Setting<Fonts>
     ensures { result ≡ words.fonts_after (token_seen token.now) fonts }
 {

@@ -10,7 +10,7 @@ ghost use Rattle.page_scopes_text.specs.Words as words;
 use crate::tokens::{give_blank_cells, give_token, report_token};
 use crate::{Pen, TextStyle};
 use page_core_base::{Font, Piece, PieceOut, Place};
-use page_core_escapes::{Token, begins_word, read_token};
+use page_core_escapes::{begins_word, plain_len, read_token};
 use page_core_limits::LINE;
 
 /// Gives the messages of the word at a text's front.
@@ -95,16 +95,13 @@ fn give_gap<O: PieceOut>(out: &mut O, style: TextStyle, has_tab: bool, place: Pl
     }
 }
 
-// The word at a text's front and what is left after it, where all of the word prints itself.
+/// The word at a text's front and what is left after it, where all of the word prints itself.
 #[inline(always)]
-fn read_plain(quoted: bool, text: &[u8]) -> Option<(&[u8], &[u8])>
+pub(crate) fn read_plain(quoted: bool, text: &[u8]) -> Option<(&[u8], &[u8])>
     requires { length text.now ≤ LINE }
     ensures { IfSome result (λ parts. ReadsPlain quoted text.now parts.0.now parts.1.now) }
 {
-    let Token::Plain(word) = read_token(quoted, text) else {
-        return None;
-    };
-    let rest = &text[word.len()..];
+    let (word, rest) = text.split_at(plain_len(quoted, text));
     if word.is_empty() || begins_word(rest) {
         return None;
     }

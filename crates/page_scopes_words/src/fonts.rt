@@ -33,6 +33,7 @@ impl Fonts {
     }
 
     /// The fonts after a font is asked for by its name.
+    #[inline(always)]
     pub fn named(self, name: FontName<'_>) -> Fonts
         ensures { result ≡ face_fonts (face_seen name.entry) self }
     {
@@ -47,6 +48,7 @@ impl Fonts {
     }
 
     // The fonts after an escape.
+    #[inline(always)]
     fn escaped(self, meaning: Escape<'_>) -> Fonts
         ensures { result ≡ meaning_fonts (meaning_seen meaning.entry) self }
     {
@@ -57,6 +59,7 @@ impl Fonts {
     }
 
     /// The fonts after a token.
+    #[inline(always)]
     pub fn after(self, token: &Token<'_>) -> Fonts
         ensures { result ≡ token_fonts (token_seen token.now) self }
     {

@@ -12,6 +12,7 @@ use page_core_base::{Font, Note, NoteKind, Piece, PieceOut, Place};
 use page_core_escapes::{Escape, FontName, Token};
 
 /// Gives a message about a place, with a detail that is cut to 64 bytes.
+#[inline(never)]
 pub fn report<O: PieceOut>(out: &mut O, kind: NoteKind, place: Place, detail: &[u8])
     ensures { Came O.left out.old (says kind place detail.now ∷ []) out.new }
 {
@@ -19,6 +20,7 @@ pub fn report<O: PieceOut>(out: &mut O, kind: NoteKind, place: Place, detail: &[
 }
 
 /// Reports a name that no font has.
+#[inline(always)]
 pub fn report_font<O: PieceOut>(out: &mut O, place: Place, name: FontName<'_>)
     ensures { Came O.left out.old (words.face_notes place (face_seen name.entry)) out.new }
 {
@@ -29,6 +31,7 @@ pub fn report_font<O: PieceOut>(out: &mut O, place: Place, name: FontName<'_>)
 }
 
 // Gives the message of an escape.
+#[inline(always)]
 fn report_escape<O: PieceOut>(out: &mut O, place: Place, bytes: &[u8], meaning: Escape<'_>)
     ensures { Came O.left out.old (words.meaning_notes place bytes.now (meaning_seen meaning.entry)) out.new }
 {

@@ -5,21 +5,27 @@ use Rattle.page_scopes_text.proofs.TextLemmas.{after_others_more, no_others, oth
 use Rattle.page_scopes_text.specs.Texts.{others_after}
 use Rattle.page_scopes_text.proofs.texts.give_others.Goals as goal
 
+pub loop-rest-init : goal.loop-rest-init
+loop-rest-init g c =
+    let w = c.give_plain_words-rest.ensures in
+    record { came = w.came; pen = sym w.pen; ends = w.ends; column = w.within.column; less = w.within.less }
+
 pub loop-rest-preserved : goal.loop-rest-preserved
 loop-rest-preserved g c =
     let l = c.loop-rest in
     let i = l.invariant in
     let some : 0 < length l.rest.now = grind (arith, nat_tests) in
     let white = white_front l.rest.now some i.ends in
-    let h = c.give_spaced-rest.ensures in
+    let h = c.give_spaced-after.ensures in
+    let w = c.give_plain_words-rest-in-loop-rest.ensures in
     let items = others_more c.args.style c.args.line l.pen l.rest.now white in
     let pens = after_others_more c.args.style l.pen l.rest.now white in
     record {
-      came = λ plan rest k. rw (h.pen, h.rest.others) (h.came plan _ (rw (items, append_assoc) at (i.came plan rest k)));
-      pen = rw (h.pen, h.rest.others) (i.pen ∙ pens);
-      ends = h.rest.ends;
-      column = omega (arith, h.rest.within.column, i.column);
-      less = omega (arith, h.rest.within.less, i.less);
+      came = λ plan rest k. w.came plan rest (rw (h.pen, h.rest.others) (h.came plan _ (rw (items, append_assoc) at (i.came plan rest k))));
+      pen = (rw (h.pen, h.rest.others) (i.pen ∙ pens)) ∙ sym w.pen;
+      ends = w.ends;
+      column = omega (arith, h.rest.within.column, w.within.column, i.column);
+      less = omega (arith, h.rest.within.less, w.within.less, i.less);
     }
 
 pub returns-clause-came : goal.returns-clause-came

@@ -1,0 +1,78 @@
+-- Words that print themselves, with one blank before each.
+use Rattle.std.proofs.Common.{◌≡◌, ℕ, ◌+◌, ◌<◌, Bool, true, false, List, [], ◌∷◌, ◌++◌, length, drop, get_or, refl, ap, ◌∙◌, arith, sym, inl, inr}
+use Rattle.std.specs.List.{prefix_len}
+use Rattle.std.proofs.Math.Bool.{or-false}
+use Rattle.std.proofs.lemmas.Bool.{cases_Bool}
+use Rattle.page_core_base.specs.Pieces.{Item, shown}
+use Rattle.page_core_base.specs.declared.pieces.Piece.TheVariants.{Text, Blank}
+use Rattle.page_core_escapes.specs.Tokens.{plain, begins_word, is_white, token_at, token_len}
+use Rattle.page_core_escapes.proofs.TokenLemmas.{not_white}
+use Rattle.page_scopes_layout.specs.declared.settings.Setting.{Setting}
+use Rattle.page_scopes_words.specs.declared.fonts.Fonts.{Fonts}
+use Rattle.page_scopes_words.specs.Words.{at}
+use Rattle.page_scopes_text.proofs.PartedLemmas.{no_word, spaced_more}
+use Rattle.page_scopes_text.specs.Parted.{Parted, Spaced}
+use Rattle.page_scopes_text.specs.Reads.{ReadsBlankWord, ReadsPlain, resting}
+use Rattle.page_scopes_text.specs.Texts.{others_after, others_items, spaced_after, spaced_items}
+use Rattle.page_scopes_text.specs.declared.pens.Pen.{Pen}
+use Rattle.page_scopes_text.specs.declared.pens.TextStyle.{TextStyle}
+
+-- one blank, and a word that prints itself
+abbrev pub blank_word : List ℕ → Spaced
+blank_word word = record { white = 32 ∷ []; word = plain word ∷ [] }
+
+-- in rows that are filled such a word leaves another column, and nothing else
+after_blank_word : (style : TextStyle) (fonts : Setting Fonts) (column : ℕ) (word : List ℕ)
+    → spaced_after style (resting fonts column) (blank_word word) ≡ resting fonts (column + 1 + length word)
+after_blank_word style fonts column word = rw (or-false fonts.is_set) refl
+
+one_blank_word : (style : TextStyle) (line : ℕ) (fonts : Setting Fonts) (column : ℕ) (word : List ℕ) → style.is_literal ≡ false
+    → spaced_items style line (resting fonts column) (blank_word word) ≡ shown (Blank 1 false) ∷ (shown (Text word fonts.value.font (at line (column + 1))) ∷ [])
+one_blank_word style line fonts column word h = rw h refl
+
+pub blank_word_items : (style : TextStyle) (line : ℕ) (fonts : Setting Fonts) (column : ℕ) (word : List ℕ) (others : List Spaced) → style.is_literal ≡ false
+    → others_items style line (resting fonts column) (blank_word word ∷ others)
+    ≡ shown (Blank 1 false) ∷ (shown (Text word fonts.value.font (at line (column + 1))) ∷ others_items style line (resting fonts (column + 1 + length word)) others)
+blank_word_items style line fonts column word others h =
+    ap (λ (t : List Item). t ++ others_items style line (spaced_after style (resting fonts column) (blank_word word)) others) (one_blank_word style line fonts column word h)
+    ∙ ap (λ (p : Pen). shown (Blank 1 false) ∷ (shown (Text word fonts.value.font (at line (column + 1))) ∷ others_items style line p others)) (after_blank_word style fonts column word)
+
+pub blank_word_after : (style : TextStyle) (fonts : Setting Fonts) (column : ℕ) (word : List ℕ) (others : List Spaced)
+    → others_after style (resting fonts column) (blank_word word ∷ others) ≡ others_after style (resting fonts (column + 1 + length word)) others
+blank_word_after style fonts column word others = ap (λ (p : Pen). others_after style p others) (after_blank_word style fonts column word)
+
+-- ---- one blank
+
+no_white : (text : List ℕ) → begins_word text ≡ true → prefix_len is_white text ≡ 0
+no_white [] h = refl
+no_white (b ∷ bs) h = rw (not_white b bs h) refl
+
+plain_begins : (quoted : Bool) (text word rest : List ℕ) → ReadsPlain quoted text word rest → begins_word text ≡ true
+plain_begins quoted text word rest r = elim (cases_Bool (begins_word text)) [ inl t ↦ t | inr f ↦ absurd (never (sym (no_word quoted text f) ∙ r.only)) ]
+  where
+    never : [] ≡ plain word ∷ [] → ⊥
+    never e = cc
+
+blank_len : (quoted : Bool) (text : List ℕ) → begins_word text ≡ true → token_len quoted (32 ∷ text) ≡ 1
+unfolding token_at
+blank_len quoted text h = rw (no_white text h) refl
+
+reads_blank_word : (quoted : Bool) (text word rest : List ℕ) → ReadsPlain quoted text word rest → ReadsBlankWord quoted (32 ∷ text) word rest
+reads_blank_word quoted text word rest r =
+    let one = blank_len quoted text (plain_begins quoted text word rest r) in
+    let parts = spaced_more quoted (32 ∷ text) 1 refl (omega arith) (sym one) in
+    record {
+      len = omega (arith, r.len);
+      front = ap (λ (t : Parted). t.others) parts ∙ rw (one, r.only, r.others) refl;
+      ends = r.ends;
+    }
+
+pub reads_blank_text : (quoted : Bool) (text word rest : List ℕ) → 0 < length text → get_or text 0 0 ≡ 32 → ReadsPlain quoted (drop 1 text) word rest
+    → ReadsBlankWord quoted text word rest
+reads_blank_text quoted [] word rest some e r = absurd (omega (arith, some))
+reads_blank_text quoted (b ∷ bs) word rest some e r = let blank : b ≡ 32 = e in rw blank (reads_blank_word quoted bs word rest r)
+
+-- ---- a pen that rests
+
+pub moved : (pen : Pen) (column : ℕ) → pen ≡ resting pen.fonts pen.column → record pen { column = column } ≡ resting pen.fonts column
+moved pen column e = ap (λ (p : Pen). record p { column = column }) e
