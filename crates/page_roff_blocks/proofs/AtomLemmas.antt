@@ -1,5 +1,5 @@
 -- The parts of a line: each remainder is shorter than its line. Helpers of proofs.
-use Rattle.std.proofs.Common.{◌≡◌, ℕ, zero, suc, ◌+◌, ◌-◌, ◌<◌, ◌≤◌, ◌==◌, false, List, [], ◌∷◌, length, Option, Some, None, IfSome, refl, ap, inl, inr, arith, length-drop}
+use Rattle.std.proofs.Common.{◌≡◌, ℕ, zero, suc, ◌+◌, ◌-◌, ◌<◌, ◌≤◌, ◌==◌, false, List, [], ◌∷◌, length, Option, Some, None, IfSome, refl, ap, ◌∙◌, inl, inr, arith, length-drop}
 use Rattle.std.proofs.lemmas.Bool.{cases_Bool}
 use Rattle.page_roff_forms.specs.LineForms.{form_of, has_word, begins_comment, without_comment, begins_control, uncommented_form}
 use Rattle.page_roff_forms.specs.declared.line_forms.LineForm.{LineForm}
@@ -9,6 +9,7 @@ use Rattle.page_roff_heads.specs.declared.heads.BlockEnd.{BlockEnd}
 use Rattle.page_roff_heads.specs.declared.texts.Placed.{Placed}
 use Rattle.page_roff_heads.proofs.Within.{conditional_within, guarded_within, end_shorter, rest_within}
 use Rattle.page_roff_heads.proofs.Within as remainders
+use Rattle.page_roff_blocks.specs.declared.atoms.Atom.TheVariants.{Leaf}
 use Rattle.page_roff_blocks.specs.declared.parts.Keyword.{Keyword}
 use Rattle.page_roff_blocks.specs.declared.parts.Keyword.TheVariants as keywords
 use Rattle.page_roff_blocks.specs.Atoms.{rest_text, end_part, cut_part, plain_part, raw_rest, keyword_of, keyword_part, form_part, part_of, with_part, parts, atoms, atoms_left, IsWithin}
@@ -122,3 +123,8 @@ pub atoms_cons : (line : List ℕ) → atoms line ≡ with_part (part_of line) (
 unfolding atoms
 atoms_cons line =
     ap (with_part (part_of line)) (all_left (length line) (part_of line).rest (room_left line (part_of line).rest (part_shorter line)))
+
+-- ---- a line that heads nothing and ends no block is one part
+
+pub one_leaf : (line : List ℕ) → part_of line ≡ plain_part line → block_end_of line ≡ None → atoms line ≡ Leaf line ∷ []
+one_leaf line h e = atoms_cons line ∙ ap (λ part. with_part part (atoms_left part.rest)) (h ∙ ap (cut_part line) e)

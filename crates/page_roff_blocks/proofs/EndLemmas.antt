@@ -1,5 +1,5 @@
 -- What is left of a line after a part is the end of that line: helpers of proofs.
-use Rattle.std.proofs.Common.{◌≡◌, ℕ, ◌+◌, ◌-◌, ◌≤◌, nat_lt, List, ◌∷◌, length, take, drop, Option, Some, None, refl, sym, ap, ◌∙◌, arith, inl, inr, length-drop}
+use Rattle.std.proofs.Common.{◌≡◌, ℕ, ◌+◌, ◌-◌, ◌≤◌, nat_lt, false, List, ◌∷◌, length, take, drop, Option, Some, None, refl, sym, ap, ◌∙◌, arith, inl, inr, length-drop}
 use Rattle.std.proofs.lemmas.Bool.{cases_Bool}
 use Rattle.std.proofs.lemmas.Bool.Decides.{nat_tests}
 use Rattle.std.proofs.lemmas.List.{drop-drop, drop_all, take_all}
@@ -148,7 +148,7 @@ slice_ends n line p = rw (to_end n line) (end_further n line (part_of (drop n li
 
 pub slice_parts : (n : ℕ) (line : List ℕ) → n ≤ length line
     → let part = part_of (take (length line - n) (drop n line)) in
-    atoms (drop n line) ≡ part.atom ∷ parts_at line (record { is_end = part.is_end; rest = place_after line part.rest })
+    atoms (drop n line) ≡ part.atom ∷ parts_at line (record { is_whole = false; is_end = part.is_end; rest = place_after line part.rest })
 slice_parts n line p =
     let part = part_of (drop n line) in
     let found = rest_found line part.rest (end_further n line part.rest p (rest_ends (drop n line))) in

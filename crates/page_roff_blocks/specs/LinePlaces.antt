@@ -1,27 +1,30 @@
 -- Places in a raw line, between its parts: how the code goes through a line. Source: roff(7), "if", "ie", "el".
-use Rattle.std.specs.Prelude.{◌≡◌, ℕ, ◌-◌, ◌≤◌, Bool, false, not, ◌&&◌, is_none, List, length, drop, Option, Some, None}
+use Rattle.std.specs.Prelude.{◌≡◌, ℕ, ◌-◌, ◌≤◌, Bool, true, false, not, ◌&&◌, is_none, List, ◌∷◌, length, drop, Option, Some, None}
 use Rattle.page_roff_blocks.specs.declared.atoms.Atom.{Atom}
+use Rattle.page_roff_blocks.specs.declared.atoms.Atom.TheVariants.{Leaf}
 use Rattle.page_roff_blocks.specs.declared.line_places.LinePlace.{LinePlace}
 use Rattle.page_roff_blocks.specs.Atoms.{atoms_left, ends_first}
 
--- before the first part, and after the last one
-abbrev pub line_start : LinePlace
-line_start = record { is_end = false; rest = Some 0 }
-
+-- after the last part
 abbrev pub line_end : LinePlace
-line_end = record { is_end = false; rest = None }
+line_end = record { is_whole = false; is_end = false; rest = None }
 
 abbrev pub is_at_end : LinePlace → Bool
-is_at_end place = not place.is_end && is_none place.rest
+is_at_end place = not place.is_whole && (not place.is_end && is_none place.rest)
 
 -- what is left of a line from a place on
 abbrev pub rest_at : List ℕ → Option ℕ → Option (List ℕ)
 rest_at line None = None
 rest_at line (Some start) = Some (drop start line)
 
+-- all of a line as a part, and then the others
+abbrev pub whole_first : Bool → List ℕ → List (Atom (List ℕ)) → List (Atom (List ℕ))
+whole_first true line more = Leaf line ∷ more
+whole_first false line more = more
+
 -- the parts of a line after a place in it
 abbrev pub parts_at : List ℕ → LinePlace → List (Atom (List ℕ))
-parts_at line place = ends_first place.is_end (atoms_left (rest_at line place.rest))
+parts_at line place = whole_first place.is_whole line (ends_first place.is_end (atoms_left (rest_at line place.rest)))
 
 -- it lies in a line
 abbrev pub IsRestIn : List ℕ → Option ℕ → Type 0

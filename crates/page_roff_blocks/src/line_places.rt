@@ -1,18 +1,20 @@
 //! Places in a raw line, between its parts (roff(7), "if", "ie", "el").
 
-ghost use Rattle.std.specs.Prelude.{◌≡◌, ◌≤◌, length, IfSome};
+ghost use Rattle.std.specs.Prelude.{◌≡◌, ◌≤◌, false, length, IfSome};
 ghost use Rattle.page_core_limits.specs.declared.TheConstants.{LINE};
-ghost use Rattle.page_roff_blocks.specs.Atoms.{atom_seen, FitsAtom, ReadsNext};
-ghost use Rattle.page_roff_blocks.specs.LinePlaces.{parts_at, line_start, line_end, is_at_end, place_after, IsPlaceIn, IsEndOf};
+ghost use Rattle.page_roff_blocks.specs.Atoms.{atom_seen, atoms, FitsAtom, ReadsNext};
+ghost use Rattle.page_roff_blocks.specs.LinePlaces.{parts_at, line_end, is_at_end, place_after, IsPlaceIn, IsEndOf};
 ghost use Rattle.page_roff_blocks.specs.Regions.{text_seen};
 
 use crate::atoms::Atom;
-use crate::parts::part_of;
+use crate::parts::{is_leaf, part_of};
 use page_core_limits::LINE;
 
 /// A place in a raw line, between two of its parts.
 #[derive(Clone, Copy)]
 pub struct LinePlace {
+    // Whether all of the line comes next, as one part.
+    is_whole: bool,
     // Whether the end of a block comes next.
     is_end: bool,
     // Where what is left of the line after that begins, if anything is left.
@@ -31,13 +33,17 @@ fn place_after(line: &[u8], rest: Option<&[u8]>) -> Option<usize>
 }
 
 impl LinePlace {
-    /// Before the first part of a line.
-    pub fn start() -> LinePlace
-        ensures { result ≡ line_start }
+    /// Before the first part of a line of at most [`LINE`] bytes.
+    pub fn start(line: &[u8]) -> LinePlace
+        requires { length line.now ≤ LINE }
+        ensures parts { parts_at line.now result ≡ atoms line.now }
+        ensures within { IsPlaceIn line.now result }
     {
+        let is_whole = is_leaf(line);
         LinePlace {
+            is_whole,
             is_end: false,
-            rest: Some(0),
+            rest: if is_whole { None } else { Some(0) },
         }
     }
 
@@ -46,6 +52,7 @@ impl LinePlace {
         ensures { result ≡ line_end }
     {
         LinePlace {
+            is_whole: false,
             is_end: false,
             rest: None,
         }
@@ -55,13 +62,14 @@ impl LinePlace {
     pub fn is_at_end(&self) -> bool
         ensures { result ≡ is_at_end self.now }
     {
-        !self.is_end && self.rest.is_none()
+        !self.is_whole && !self.is_end && self.rest.is_none()
     }
 
-    /// Reads the next part of a line of at most [`LINE`] bytes, in which the place is, and goes past it.
-    pub fn next_atom<'a>(&mut self, line: &'a [u8]) -> Option<Atom<&'a [u8]>>
+    // Reads the next part of a line that is not one part, and goes past it.
+    fn next_of_several<'a>(&mut self, line: &'a [u8]) -> Option<Atom<&'a [u8]>>
         requires short { length line.now ≤ LINE }
         requires within { IsPlaceIn line.now self.old }
+        requires several { self.old.is_whole ≡ false }
         ensures next { ReadsNext (parts_at line.now self.old) result (parts_at line.now self.new) }
         ensures within { IsPlaceIn line.now self.new }
         ensures fits { IfSome result (λ atom. FitsAtom (atom_seen atom)) }
@@ -79,5 +87,19 @@ impl LinePlace {
                 Some(part.atom)
             }
         }
+    }
+    /// Reads the next part of a line of at most [`LINE`] bytes, in which the place is, and goes past it.
+    pub fn next_atom<'a>(&mut self, line: &'a [u8]) -> Option<Atom<&'a [u8]>>
+        requires short { length line.now ≤ LINE }
+        requires within { IsPlaceIn line.now self.old }
+        ensures next { ReadsNext (parts_at line.now self.old) result (parts_at line.now self.new) }
+        ensures within { IsPlaceIn line.now self.new }
+        ensures fits { IfSome result (λ atom. FitsAtom (atom_seen atom)) }
+    {
+        if self.is_whole {
+            self.is_whole = false;
+            return Some(Atom::Leaf(line));
+        }
+        self.next_of_several(line)
     }
 }

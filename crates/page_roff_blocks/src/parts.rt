@@ -1,13 +1,14 @@
 //! The first part of a raw line (roff(7), "if", "ie", "el").
 
-ghost use Rattle.std.specs.Prelude.{◌≡◌, ◌≤◌, ◌+◌, [], length};
+ghost use Rattle.std.specs.Prelude.{◌≡◌, ◌≤◌, ◌+◌, true, [], ◌∷◌, length};
 ghost use Rattle.page_core_limits.specs.declared.TheConstants.{LINE};
 ghost use Rattle.page_roff_forms.specs.LineForms.{FitsLine};
 ghost use Rattle.page_roff_forms.specs.declared.line_forms.LineForm.TheVariants.{Control};
 ghost use Rattle.page_roff_heads.specs.Heads.{conditional_of, guarded_of, guarded_seen, FitsGuarded};
 ghost use Rattle.page_roff_heads.specs.Texts.{remainder_seen};
+ghost use Rattle.page_roff_blocks.specs.declared.atoms.Atom.TheVariants.{Leaf};
 ghost use Rattle.page_roff_blocks.specs.declared.atoms.Branch.TheVariants.{If, IfElse};
-ghost use Rattle.page_roff_blocks.specs.Atoms.{keyword_of, rest_text, head_part, head_seen, conditional_part, else_part, end_part, keyword_part, plain_part, part_of, part_seen, IsWithin, FitsBranch, FitsRest, FitsPart};
+ghost use Rattle.page_roff_blocks.specs.Atoms.{keyword_of, rest_text, head_part, head_seen, conditional_part, else_part, end_part, keyword_part, plain_part, part_of, part_seen, atoms, IsWithin, FitsBranch, FitsRest, FitsPart};
 ghost use Rattle.page_roff_blocks.specs.Regions.{text_seen};
 
 use crate::atoms::{Atom, Branch, Head};
@@ -217,5 +218,33 @@ pub(crate) fn part_of(line: &[u8]) -> Part<&[u8]>
             rest_column,
         } => keyword_part(keyword_of(name), line, column, rest, rest_column),
         LineForm::Comment | LineForm::BlankLine | LineForm::Text(_) => plain_part(line),
+    }
+}
+
+// Whether a line heads no conditional and no region.
+fn heads_nothing(line: &[u8]) -> bool
+    requires { length line.now ≤ LINE }
+    ensures { result ≡ true → part_of line.now ≡ plain_part line.now }
+{
+    if !begins_control(line) {
+        return true;
+    }
+    match form_of(line) {
+        LineForm::Control { name, .. } => matches!(keyword_of(name), Keyword::Other),
+        LineForm::Comment | LineForm::BlankLine | LineForm::Text(_) => true,
+    }
+}
+
+/// Whether a line is one part, a leaf.
+pub(crate) fn is_leaf(line: &[u8]) -> bool
+    requires { length line.now ≤ LINE }
+    ensures { result ≡ true → atoms line.now ≡ Leaf line.now ∷ [] }
+{
+    if !heads_nothing(line) {
+        return false;
+    }
+    match block_end(line) {
+        Some(_) => false,
+        None => true,
     }
 }

@@ -56,7 +56,7 @@ fn show_atom(shown: &mut Shown, atom: Atom<&[u8]>) {
 fn check_atoms(rt: &impl Abort, line: &[u8], want: &[u8]) {
     assert!(rt; line.len() < 200);
     let mut shown = Shown::new();
-    let mut place = LinePlace::start();
+    let mut place = LinePlace::start(line);
     for _ in 0..100 {
         if let Some(atom) = place.next_atom(line) {
             show_atom(&mut shown, atom);

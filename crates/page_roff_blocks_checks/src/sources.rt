@@ -126,7 +126,7 @@ impl Source {
         }
         assert!(rt; line.len() < 100);
         self.spot.begin_line();
-        let mut place = LinePlace::start();
+        let mut place = LinePlace::start(line.as_bytes());
         for _ in 0..50 {
             if let Some(atom) = place.next_atom(line.as_bytes()) {
                 self.part(rt, atom);

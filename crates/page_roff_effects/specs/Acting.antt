@@ -1,10 +1,12 @@
 -- What the code's object holds, and what its calls do, in terms of the effects of parts. Source: roff(7), "LANGUAGE SYNTAX".
-use Rattle.std.specs.Prelude.{◌≡◌, ℕ, ◌≤◌, Bool, true, false, nat_le, List, [], length, Option, Some, None}
+use Rattle.std.specs.Prelude.{◌≡◌, ℕ, ◌≤◌, Bool, true, false, nat_le, List, [], length, Option, Some, None, if◌then◌else◌}
 use Rattle.page_core_limits.specs.declared.TheConstants.{BODY}
 use Rattle.page_core_base.specs.Messages.{Message}
 use Rattle.page_core_base.specs.LinesTaken.{Line}
-use Rattle.page_core_base.specs.declared.lines_taken.Form.TheVariants.{Text}
+use Rattle.page_core_base.specs.declared.lines_taken.Form.{Form}
+use Rattle.page_core_base.specs.declared.lines_taken.Form.TheVariants.{Text, Blank}
 use Rattle.page_core_base.specs.declared.page_settings.Output.{Output}
+use Rattle.page_roff_forms.specs.LineForms.{has_word}
 use Rattle.page_roff_names.specs.Names.{definitions}
 use Rattle.page_roff_values.specs.declared.call_arguments.TheConstants.{ARGS}
 use Rattle.page_roff_values.specs.Latches.{Came}
@@ -152,3 +154,7 @@ pub record IsNew (output : Output) (a : Acting) : Type 0 where
 abbrev pub control_seen : ControlLine → leaves.ControlLine
 control_seen line =
     record { name = line.name.now; column = line.column; name_end = line.name_end; text = line.text.now }
+
+-- the form of a line of plain text
+abbrev pub plain_form : List ℕ → Form
+plain_form line = if has_word line then Text else Blank

@@ -5,7 +5,7 @@ ghost use Rattle.page_core_limits.specs.declared.TheConstants.{LINE};
 ghost use Rattle.page_roff_forms.specs.LineForms.{form_of};
 ghost use Rattle.page_roff_forms.specs.declared.line_forms.LineForm.TheVariants.{Control};
 ghost use Rattle.page_roff_values.specs.Latches.{Came};
-ghost use Rattle.page_roff_effects.specs.Acting.{control_seen, Does, Gives, Takes, IfCalled, IsCallable};
+ghost use Rattle.page_roff_effects.specs.Acting.{control_seen, plain_form, Does, Gives, Takes, IfCalled, IsCallable};
 ghost use Rattle.page_roff_effects.specs.Leaves as leaves;
 ghost use Rattle.page_roff_effects.specs.Leaves.{leaf_outcome};
 ghost use Rattle.page_roff_effects.specs.States.{gives_line};
@@ -15,7 +15,7 @@ use crate::commands::{Command, ProductKind, body_or_nothing};
 use page_core_base::{Form, NoteKind, Place};
 use page_core_limits::LINE;
 use page_roff_definitions::{DefinitionRequest, RequestLine, define, report_closings};
-use page_roff_forms::{LineForm, form_of};
+use page_roff_forms::{LineForm, begins_control, form_of, has_word, plain_len};
 use page_roff_values::NoteOut;
 
 /// A control line with a name.
@@ -48,6 +48,17 @@ fn control_line<'a>(
         column,
         name_end,
         text: &text[..name_end as usize + rest.len()],
+    }
+}
+
+// The form of a line of plain text.
+fn plain_form(text: &[u8]) -> Form
+    ensures { result ≡ plain_form text.now }
+{
+    if has_word(text) {
+        Form::Text
+    } else {
+        Form::Blank
     }
 }
 
@@ -227,6 +238,9 @@ impl Actions {
         ensures { Gives O.left self.old out.old (leaf_outcome self.old.setting may_call text.now self.old.memory)
             result self.new out.new }
     {
+        if !begins_control(text) && plain_len(text) == text.len() {
+            return self.take_raw(plain_form(text), text);
+        }
         match form_of(text) {
             LineForm::Comment => ProductKind::Nothing,
             LineForm::BlankLine => self.take_raw(Form::Blank, text),

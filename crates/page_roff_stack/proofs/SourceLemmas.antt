@@ -5,9 +5,9 @@ use Rattle.std.specs.Borrow.{Bor}
 use Rattle.page_core_limits.specs.declared.TheConstants.{LINE}
 use Rattle.page_roff_blocks.specs.declared.atoms.Atom.{Atom}
 use Rattle.page_roff_blocks.specs.declared.line_places.LinePlace.{LinePlace}
-use Rattle.page_roff_blocks.specs.Atoms.{ReadsNext}
+use Rattle.page_roff_blocks.specs.Atoms.{atoms, ReadsNext}
 use Rattle.page_roff_blocks.specs.Levels.{Opened, Spot, at_line}
-use Rattle.page_roff_blocks.specs.LinePlaces.{parts_at, line_start, line_end, is_at_end, IsPlaceIn}
+use Rattle.page_roff_blocks.specs.LinePlaces.{parts_at, line_end, is_at_end, IsPlaceIn}
 use Rattle.page_roff_blocks.proofs.AtomLemmas.{atoms_cons}
 use Rattle.page_roff_blocks.proofs.RoomLemmas.{atoms_room}
 use Rattle.page_roff_run.specs.Machine.{Frame, at_part}
@@ -143,7 +143,7 @@ pub record IsPassed (a : Inside) (line lines : Span) : Type 0 where
 abbrev pub lined : Inside → Span → LinePlace → Span → Option Opened → Spot → Inside
 lined a line place lines region spot = record a { line = line; place = place; lines = lines; region = region; spot = spot }
 
-first_parts : (lines : List (List ℕ)) (text : List ℕ) → 0 < length lines → IsFirstLine lines text → parts_at text line_start ≡ first_atoms lines
+first_parts : (lines : List (List ℕ)) (text : List ℕ) → 0 < length lines → IsFirstLine lines text → atoms text ≡ first_atoms lines
 first_parts [] text p h = absurd (omega arith)
 first_parts (line ∷ lines) text p h = rw h refl
 
@@ -170,17 +170,22 @@ next_bounded : (region : Option Opened) (parts : List (Atom (List ℕ))) (f : Fr
 unfolding work_in at_line
 next_bounded region parts f p h = record { short = rest_short f.lines h.short; skips = omega (arith, p, h.skips) }
 
+-- the place before the first part of a text
+pub record IsStart (text : List ℕ) (place : LinePlace) : Type 0 where
+  pub parts : parts_at text place ≡ atoms text
+  pub within : IsPlaceIn text place
+
 -- a line begins
 pub begun_view : (a : Inside) (line : Span) (place : LinePlace) (lines : Span) (spot : Spot) → IsPassed a line lines → 0 < length (frame_of a).lines
-    → place ≡ line_start → spot ≡ at_line a.spot.levels → frame_of (lined a line place lines None spot) ≡ next_line None (first_atoms (frame_of a).lines) (frame_of a)
+    → IsStart (span_text line a.text.items) place → spot ≡ at_line a.spot.levels → frame_of (lined a line place lines None spot) ≡ next_line None (first_atoms (frame_of a).lines) (frame_of a)
 begun_view a line place lines spot h p e g =
-    rw (e, g, h.rest) (
+    rw (e.parts, g, h.rest) (
     ap (λ parts. let f : Frame = record { kind = (frame_of a).kind; region = None; parts = parts; spot = at_line a.spot.levels; lines = drop 1 (frame_of a).lines } in f)
     (first_parts (frame_of a).lines (span_text line a.text.items) p h.first)
     )
 
 pub begun_held : (a : Inside) (line : Span) (place : LinePlace) (lines : Span) (spot : Spot) → IsPassed a line lines → 0 < length (frame_of a).lines
-    → place ≡ line_start → spot ≡ at_line a.spot.levels → IsHeld a → IsHeld (lined a line place lines None spot)
+    → IsStart (span_text line a.text.items) place → spot ≡ at_line a.spot.levels → IsHeld a → IsHeld (lined a line place lines None spot)
 begun_held a line place lines spot h p e g held =
     let text = a.text.items in
     let f = frame_of a in
@@ -189,7 +194,7 @@ begun_held a line place lines spot h p e g held =
     record {
       line = h.line_within;
       short = omega (arith, l, s, h.line_within.0);
-      place = rw e (omega arith);
+      place = e.within;
       lines = h.lines_within;
       arguments = held.arguments;
       room = held.room;
@@ -242,22 +247,24 @@ next_line_is (line ∷ lines) text h s p = (h, rw h s.0)
 
 -- no part comes after the last place
 pub end_parts : (text : List ℕ) (place : LinePlace) → is_at_end place ≡ true → parts_at text place ≡ []
-end_parts text place e = at_parts text place.is_end place.rest e
+end_parts text place e = at_parts text place.is_whole place.is_end place.rest e
   where
-    at_parts : (text : List ℕ) (is_end : Bool) (rest : Option ℕ) → (not is_end && is_none rest) ≡ true
-        → parts_at text (record { is_end = is_end; rest = rest }) ≡ []
-    at_parts text true rest e = absurd (cc)
-    at_parts text false None e = refl
-    at_parts text false (Some start) e = absurd (cc)
+    at_parts : (text : List ℕ) (is_whole is_end : Bool) (rest : Option ℕ) → (not is_whole && (not is_end && is_none rest)) ≡ true
+        → parts_at text (record { is_whole = is_whole; is_end = is_end; rest = rest }) ≡ []
+    at_parts text true is_end rest e = absurd (cc)
+    at_parts text false true rest e = absurd (cc)
+    at_parts text false false None e = refl
+    at_parts text false false (Some start) e = absurd (cc)
 
 pub some_parts : (text : List ℕ) (place : LinePlace) → is_at_end place ≡ false → 0 < length (parts_at text place)
-some_parts text place e = at_parts text place.is_end place.rest e
+some_parts text place e = at_parts text place.is_whole place.is_end place.rest e
   where
-    at_parts : (text : List ℕ) (is_end : Bool) (rest : Option ℕ) → (not is_end && is_none rest) ≡ false
-        → 0 < length (parts_at text (record { is_end = is_end; rest = rest }))
-    at_parts text true rest e = omega arith
-    at_parts text false None e = absurd (cc)
-    at_parts text false (Some start) e = rw (atoms_cons (drop start text)) (omega arith)
+    at_parts : (text : List ℕ) (is_whole is_end : Bool) (rest : Option ℕ) → (not is_whole && (not is_end && is_none rest)) ≡ false
+        → 0 < length (parts_at text (record { is_whole = is_whole; is_end = is_end; rest = rest }))
+    at_parts text true is_end rest e = omega arith
+    at_parts text false true rest e = omega arith
+    at_parts text false false None e = absurd (cc)
+    at_parts text false false (Some start) e = rw (atoms_cons (drop start text)) (omega arith)
 
 begins_region : (region : Option Opened) (parts : List (Atom (List ℕ))) (lines : List (List ℕ)) → is_some region ≡ true → false ≡ begins_next region parts lines
 begins_region None parts lines e = absurd (cc)

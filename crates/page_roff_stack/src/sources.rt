@@ -341,7 +341,7 @@ impl Source {
         ensures { self.new ≡ next_line None (first_atoms self.old.lines) self.old }
     {
         self.line = pass_line(&self.text, &mut self.lines);
-        self.place = LinePlace::start();
+        self.place = LinePlace::start(self.line.of(&self.text));
         self.region = None;
         self.spot.begin_line();
     }

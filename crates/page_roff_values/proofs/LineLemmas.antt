@@ -1,6 +1,6 @@
 -- The limits of a line, and a line without a backslash: helpers of proofs.
 use Rattle.std.specs.Fmt.{decimal, signed_decimal}
-use Rattle.std.proofs.Common.{◌≡◌, ℕ, zero, suc, ◌-◌, ◌<◌, ◌≤◌, Bool, true, false, nat_le, nat_lt, List, [], ◌∷◌, ◌++◌, length, take, get_or, ◌&&◌, codes, if◌then◌else◌, Option, None, Some, refl, arith, length-append}
+use Rattle.std.proofs.Common.{◌≡◌, ℕ, zero, suc, ◌-◌, ◌<◌, ◌≤◌, ◌==◌, Bool, true, false, nat_le, nat_lt, List, [], ◌∷◌, ◌++◌, length, take, get_or, ◌&&◌, codes, if◌then◌else◌, Option, None, Some, refl, arith, length-append}
 use Rattle.std.proofs.Math.Seq.{drop-length, take-length}
 use Rattle.std.proofs.lemmas.Bool.{le-leb, leb-true, ltb-true}
 use Rattle.memchr.specs.Find.{IsFirstByte, is_byte}
@@ -19,6 +19,7 @@ use Rattle.page_roff_values.specs.Arguments.{argument_of}
 use Rattle.page_roff_values.specs.Environments.{Surroundings, register_of}
 use Rattle.page_roff_values.specs.Parts.{copies, seen, parts, parts_up_to, without_lone}
 use Rattle.page_roff_values.specs.Values.{Spot, Laid, nothing, unless, seq, says, ends, adds, counts, kept, character_end, put, lay, charge, value_or, inside, leaves, units_of, width, interpolated, call_at, value, start, expanded, IsWithin}
+use Rattle.page_roff_values.proofs.LayLemmas.{seq_end}
 use Rattle.page_roff_values.proofs.ReadLemmas.{parts_more, plain_part}
 
 unless_within : (b : Bool) (x y : Laid) → IsWithin x.edge → IsWithin y.edge → IsWithin (unless b x y).edge
@@ -128,3 +129,18 @@ plain_line env n (b ∷ bs) None f e h =
     let t = b ∷ bs in
     let s : copies t [] ≡ seen env.copy t = rw (take-length t, drop-length t) at (plain_part env.copy t None f (omega arith) (omega arith)) in
     rw (parts_more env.copy b bs, ← s, put_all t (start n) h) refl
+
+pub plain_expanded : (env : Surroundings) (n : ℕ) (line : List ℕ) → ((k : ℕ) → k < length line → ¬ ((get_or line k 0 == 92) ≡ true)) → length line ≤ LINE
+    → expanded env n line ≡ nothing (adds line (start n))
+plain_expanded env n line f h = plain_line env n line None (λ k low high. f k high) refl h
+
+-- the value of a text without a backslash is that text
+pub plain_value : (env : Surroundings) (depth : ℕ) (text : List ℕ) (s : Spot) (r : Option ℕ) → IsFirstByte (is_byte 92) text r → is_none r ≡ true → 0 < length text
+    → value env depth text s ≡ put text s
+unfolding value lay parts parts_up_to seq
+plain_value env depth text s (Some k) f e h = let no : ⊥ = cc in absurd no
+plain_value env depth [] s None f e h = absurd (omega arith)
+plain_value env depth (b ∷ bs) s None f e h =
+    let t = b ∷ bs in
+    let c : copies t [] ≡ seen env.copy t = rw (take-length t, drop-length t) at (plain_part env.copy t None f (omega arith) (omega arith)) in
+    rw (parts_more env.copy b bs, ← c) (seq_end (put t s))

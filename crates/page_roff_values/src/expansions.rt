@@ -330,6 +330,10 @@ impl Expansion {
         ensures around { self.new.around ≡ (laying.after_bytes base self.old).around }
     {
         self.set_base(base);
+        if !text.is_empty() && memchr(b'\\', text).is_none() {
+            self.put(text, out);
+            return;
+        }
         let mut sources = Sources::new(text);
         self.run(env, NEST, &mut sources, out);
     }

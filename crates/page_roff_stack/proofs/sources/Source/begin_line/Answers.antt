@@ -1,8 +1,9 @@
 use Rattle.std.proofs.Common.{◌<◌, length, ap, ◌∙◌}
 use Rattle.std.specs.Prelude.{None}
 use Rattle.page_roff_stack.specs.Changes.{next_line, first_atoms}
+use Rattle.page_roff_stack.specs.Held.{span_text}
 use Rattle.page_roff_stack.specs.Sources.{frame_of}
-use Rattle.page_roff_stack.proofs.SourceLemmas.{IsPassed, begun_view, begun_held}
+use Rattle.page_roff_stack.proofs.SourceLemmas.{IsPassed, IsStart, begun_view, begun_held}
 use Rattle.page_roff_stack.proofs.sources.Source.begin_line.Goals as goal
 
 pub invariant_of-self : goal.invariant_of-self
@@ -15,8 +16,14 @@ invariant_of-self c =
       lines_within = rw c.deref.ensures.value at c.pass_line-self-inside.ensures.spans.1;
     } in
     let there : 0 < length (frame_of a).lines = rw (← c.self.view_is) at c.requires in
+    let line = c.pass_line-self-inside.result in
+    let text = c.of.ensures ∙ ap (span_text line) c.deref-2.ensures.value in
+    let start : IsStart (span_text line a.text.items) c.start-self-inside.result = record {
+      parts = rw text at c.start-self-inside.ensures.parts;
+      within = rw text at c.start-self-inside.ensures.within;
+    } in
     begun_held a c.pass_line-self-inside.result c.start-self-inside.result c.pass_line-self-inside.new.lines c.begin_line.new.self
-    passed there c.start-self-inside.ensures c.begin_line.ensures c.self.invariant
+    passed there start c.begin_line.ensures c.self.invariant
 
 pub returns : goal.returns
 returns c =
@@ -28,6 +35,12 @@ returns c =
       lines_within = rw c.deref.ensures.value at c.pass_line-self-inside.ensures.spans.1;
     } in
     let there : 0 < length (frame_of a).lines = rw (← c.self.view_is) at c.requires in
+    let line = c.pass_line-self-inside.result in
+    let text = c.of.ensures ∙ ap (span_text line) c.deref-2.ensures.value in
+    let start : IsStart (span_text line a.text.items) c.start-self-inside.result = record {
+      parts = rw text at c.start-self-inside.ensures.parts;
+      within = rw text at c.start-self-inside.ensures.within;
+    } in
     begun_view a c.pass_line-self-inside.result c.start-self-inside.result c.pass_line-self-inside.new.lines c.begin_line.new.self
-    passed there c.start-self-inside.ensures c.begin_line.ensures
+    passed there start c.begin_line.ensures
     ∙ ap (λ f. next_line None (first_atoms f.lines) f) c.self.view_is

@@ -1,7 +1,7 @@
-use Rattle.std.proofs.Common.{◌≤◌, length, ◌∷◌, ap, sym, ◌∙◌}
+use Rattle.std.proofs.Common.{false, ◌≤◌, length, ◌∷◌, ap, sym, ◌∙◌}
 use Rattle.page_roff_blocks.specs.LinePlaces.{place_after, parts_at}
 use Rattle.page_roff_blocks.proofs.EndLemmas.{slice_ends, slice_parts, place_within}
-use Rattle.page_roff_blocks.proofs.line_places.LinePlace.next_atom.Goals as goal
+use Rattle.page_roff_blocks.proofs.line_places.LinePlace.next_of_several.Goals as goal
 
 pub place_after-self-requires : goal.place_after-self-requires
 place_after-self-requires c =
@@ -15,9 +15,9 @@ returns-in-Some-clause-next c =
     let start = c.in-Some.start in
     let within : start ≤ length line = rw c.in-Some.is at c.requires.within in
     let part = c.part_of-part.ensures.value in
-    rw (c.if-self.false, c.in-Some.is, c.place_after-self.ensures) (
+    rw (c.requires.several, c.if-self.false, c.in-Some.is, c.place_after-self.ensures) (
     slice_parts start line within
-    ∙ ap (λ part. part.atom ∷ parts_at line (record { is_end = part.is_end; rest = place_after line part.rest })) (sym part)
+    ∙ ap (λ part. part.atom ∷ parts_at line (record { is_whole = false; is_end = part.is_end; rest = place_after line part.rest })) (sym part)
     )
 
 pub returns-in-Some-clause-within : goal.returns-in-Some-clause-within

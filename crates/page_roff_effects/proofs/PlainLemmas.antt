@@ -1,0 +1,47 @@
+-- A line of plain text is what it gives: helpers of proofs.
+use Rattle.std.proofs.Common.{◌≡◌, ℕ, ◌<◌, ◌≤◌, ◌==◌, Bool, true, false, not, List, [], ◌∷◌, length, get_or, refl, sym, ap, ◌∙◌, inl, inr, arith}
+use Rattle.std.proofs.lemmas.Bool.{cases_Bool}
+use Rattle.std.proofs.Math.Seq.{take-length}
+use Rattle.std.proofs.lemmas.List.Sums.{prefix_len_passes}
+use Rattle.std.specs.List.{prefix_len}
+use Rattle.page_core_limits.specs.declared.TheConstants.{LINE}
+use Rattle.page_core_base.specs.declared.lines_taken.Form.TheVariants as forms
+use Rattle.page_roff_forms.specs.LineForms.{is_plain, has_word, begins_control, without_comment, uncommented_form}
+use Rattle.page_roff_forms.specs.declared.line_forms.LineForm.TheVariants.{Text}
+use Rattle.page_roff_forms.proofs.FormLemmas.{read_first, read_all, front_of}
+use Rattle.page_roff_values.proofs.LineLemmas.{plain_expanded}
+use Rattle.page_roff_effects.specs.Acting.{plain_form}
+use Rattle.page_roff_effects.specs.Leaves.{leaf_outcome}
+use Rattle.page_roff_effects.specs.States.{Memory, Setting, counted, gives_line, surroundings}
+
+no_comment : (line : List ℕ) → prefix_len is_plain line ≡ length line → without_comment line ≡ line
+no_comment line p =
+    let n = prefix_len is_plain line in
+    let e = read_all line n (read_first line n refl) (omega (arith, p)) in
+    sym (front_of line (length line) e) ∙ take-length line
+
+both : (b : Bool) → b ≡ true → not b ≡ true → ⊥
+both true e h = cc
+both false e h = cc
+
+no_backslash : (line : List ℕ) → prefix_len is_plain line ≡ length line → (k : ℕ) → k < length line → ¬ ((get_or line k 0 == 92) ≡ true)
+no_backslash line p k h e = both (get_or line k 0 == 92) e (prefix_len_passes is_plain line k 0 (omega (arith, p, h)))
+
+text_form : (line : List ℕ) → has_word line ≡ true → begins_control line ≡ false → uncommented_form line ≡ Text line
+text_form [] w b = cc
+text_form (x ∷ xs) w b = rw b refl
+
+counted_none : (m : Memory) → counted 0 m ≡ m
+counted_none m = ap (λ n. let k : Memory = record { definitions = m.definitions; body = m.body; number = m.number; expansions = n } in k) (omega arith)
+
+-- a line without a control character at its front and without a backslash is taken as it is written
+pub plain_taken : (setting : Setting) (may_call : Bool) (line : List ℕ) (m : Memory) → begins_control line ≡ false → prefix_len is_plain line ≡ length line
+    → length line ≤ LINE → leaf_outcome setting may_call line m ≡ gives_line (plain_form line) line 0 m
+unfolding leaf_outcome
+plain_taken setting may_call line m b p h =
+    elim (cases_Bool (has_word line)) [
+      | inl w ↦
+          rw (w, no_comment line p, text_form line w b, plain_expanded (surroundings false setting m) m.number line (no_backslash line p) h)
+          (ap (λ m. gives_line forms.Text line 0 m) (counted_none m))
+      | inr w ↦ rw w refl
+    ]
