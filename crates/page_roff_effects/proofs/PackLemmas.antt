@@ -1,7 +1,9 @@
 -- The arguments of a call, packed: helpers of proofs.
-use Rattle.std.proofs.Common.{◌≡◌, ℕ, ◌+◌, ◌<◌, ◌≤◌, ◌==◌, true, false, nat_le, List, [], ◌∷◌, ◌++◌, length, drop, refl, ap, ◌∙◌, sym, append_assoc, append-nil, length-append, arith}
+use Rattle.std.proofs.Common.{◌≡◌, ℕ, suc, ◌+◌, ◌<◌, ◌≤◌, ◌==◌, Bool, true, false, if◌then◌else◌, nat_le, List, [], ◌∷◌, ◌++◌, length, drop, get_or, Option, Some, None, is_some, refl, ap, ◌∙◌, sym, append_assoc, append-nil, length-append, arith}
 use Rattle.std.proofs.lemmas.Bool.{eqb-true}
 use Rattle.std.proofs.lemmas.Bool.Decides.{nat_tests}
+use Rattle.memchr.specs.Find.{IsFirstByte, is_byte}
+use Rattle.page_roff_forms.specs.Arguments.{is_quoted}
 use Rattle.page_roff_forms.specs.declared.quotes.Argument.{Argument}
 use Rattle.page_roff_effects.specs.Leaves.{unpaired, argument_value, packed}
 
@@ -10,6 +12,27 @@ pub unpaired_step : (text rest all new : List ℕ) (byte : ℕ) → text ++ unpa
 unpaired_step text rest all new byte e r u =
     append_assoc text (byte ∷ []) (unpaired new) ∙ ap (λ (l : List ℕ). text ++ l) (sym u)
     ∙ ap (λ (l : List ℕ). text ++ unpaired l) (sym r) ∙ e
+
+-- a text without a quote has no pair of them
+unpaired_plain : (text : List ℕ) → ((k : ℕ) → k < length text → ¬ ((get_or text k 0 == 34) ≡ true)) → unpaired text ≡ text
+unpaired_plain [] f = refl
+unpaired_plain (b ∷ []) f = refl
+unpaired_plain (b ∷ n ∷ bs) f =
+    let t : (b == 34) ≡ false = other (b == 34) (f 0 (omega arith)) in
+    rw t (ap (λ (l : List ℕ). b ∷ l) (unpaired_plain (n ∷ bs) (λ k l. f (suc k) (omega arith))))
+  where
+    other : (c : Bool) → ¬ (c ≡ true) → c ≡ false
+    other true h = absurd (h refl)
+    other false h = refl
+
+-- an argument in which no quote was found
+pub plain_value : (a : Argument (List ℕ)) (r : Option ℕ) → IsFirstByte (is_byte 34) a.text r → is_some r ≡ false → argument_value a ≡ a.text
+plain_value a (Some n) h e = let no : ⊥ = cc in absurd no
+plain_value a None h e = either (is_quoted a.quoting)
+  where
+    either : (quoted : Bool) → (if quoted then unpaired a.text else a.text) ≡ a.text
+    either true = unpaired_plain a.text (λ k l. h k (omega arith) l)
+    either false = refl
 
 no_bytes : (rest : List ℕ) → (length rest == 0) ≡ true → rest ≡ []
 no_bytes [] h = refl

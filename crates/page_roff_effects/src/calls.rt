@@ -8,6 +8,7 @@ ghost use Rattle.page_roff_effects.specs.Acting.{no_call, Packs};
 ghost use Rattle.page_roff_effects.specs.Leaves.{unpaired, argument_value, packed};
 
 use crate::buffers::{append, replace};
+use memchr::memchr;
 use page_core_limits::{BODY, LINE};
 use page_roff_forms::{Argument, Arguments};
 use page_roff_values::ARGS;
@@ -52,7 +53,7 @@ fn append_argument(text: &mut Vec<u8>, argument: Argument<&[u8]>)
     ensures items { text.new.items ≡ text.old.items ++ (argument_value (argument_seen argument.entry) ++ (10 ∷ [])) }
     ensures capacity { vec_capacity text.old ≤ vec_capacity text.new }
 {
-    if argument.is_quoted() {
+    if argument.is_quoted() && memchr(b'"', argument.text).is_some() {
         append_unpaired(text, argument.text);
     } else {
         append(text, argument.text);

@@ -111,7 +111,8 @@ pub fn open(
     is_run: bool,
 ) -> Option<OpenRegion> {
     assert!(rt; line.len() <= 65_000);
-    let Some(Atom::Region(head)) = LinePlace::start(line.as_bytes()).next_atom(line.as_bytes()) else {
+    let Some(Atom::Region(head)) = LinePlace::start(line.as_bytes()).next_atom(line.as_bytes())
+    else {
         return None;
     };
     let mut notes = KeptNotes::new(rt.alloc());

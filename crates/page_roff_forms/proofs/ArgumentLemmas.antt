@@ -1,9 +1,10 @@
 -- Arguments, one by one: helpers of proofs.
-use Rattle.std.proofs.Common.{◌≡◌, ◌≢◌, ℕ, zero, suc, ◌+◌, ◌<◌, ◌≤◌, ◌==◌, true, false, List, [], ◌∷◌, length, drop, get_or, refl, sym, ap, ◌∙◌, arith, inl, inr, length-drop, add-zero}
+use Rattle.std.proofs.Common.{◌≡◌, ◌≢◌, ℕ, zero, suc, ◌+◌, ◌<◌, ◌≤◌, ◌==◌, true, false, List, [], ◌∷◌, length, drop, get_or, Option, Some, None, unwrap_or, refl, sym, ap, ◌∙◌, arith, inl, inr, length-drop, add-zero}
 use Rattle.std.specs.List.{prefix_len}
-use Rattle.std.proofs.lemmas.Bool.{cases_Bool}
+use Rattle.std.proofs.lemmas.Bool.{cases_Bool, eqb-true}
 use Rattle.std.proofs.lemmas.Bool.Decides.{nat_tests}
 use Rattle.std.proofs.lemmas.List.{drop_more, drop_all, drop-drop}
+use Rattle.memchr.specs.Find.{IsFirstByte, is_byte}
 use Rattle.page_roff_forms.specs.Arguments.{is_blank, bare_len, quoted_len, argument_len, first_argument, first_arguments, arguments}
 
 -- ---- arguments without quotes
@@ -76,6 +77,28 @@ quoted_byte text i h e =
     let a = drop_more text i 0 h in
     let t : (get_or text i 0 == 34) ≡ false = grind (arith, nat_tests) in
     rw a (plain_at (get_or text i 0) (drop (i + 1) text) t)
+
+-- bytes that are no quote are read at once
+quoted_run : (text : List ℕ) (n : ℕ) → n ≤ length text → ((k : ℕ) → k < n → get_or text k 0 ≢ 34) → quoted_len text ≡ n + quoted_len (drop n text)
+quoted_run text zero h f = omega arith
+quoted_run text (suc n) h f =
+    let e : n + 1 ≡ suc n = omega arith in
+    let r = quoted_run text n (omega arith) (λ k l. f k (omega arith)) in
+    let q = rw e at (quoted_byte text n (omega arith) (f n (omega arith))) in
+    omega (arith, r, q)
+
+other : (b : ℕ) → ¬ ((b == 34) ≡ true) → b ≢ 34
+other b h = λ e. h (let t : (b == 34) ≡ true = grind (arith, nat_tests) in t)
+
+pub quoted_to : (text : List ℕ) (r : Option ℕ) → IsFirstByte (is_byte 34) text r
+    → let n = unwrap_or r (length text) in quoted_len text ≡ n + quoted_len (drop n text)
+quoted_to text None h = quoted_run text (length text) (omega arith) (λ k l. other (get_or text k 0) (h k (omega arith) l))
+quoted_to text (Some n) h = quoted_run text n (omega (arith, h.0.high)) (λ k l. other (get_or text k 0) (h.0.before k (omega arith) l))
+
+pub quoted_some : (text : List ℕ) (r : Option ℕ) → IsFirstByte (is_byte 34) text r → 0 < length text → get_or text 0 0 ≢ 34 → 0 < unwrap_or r (length text)
+quoted_some text None h p e = p
+quoted_some text (Some zero) h p e = absurd (e (eqb-true (get_or text 0 0) 34 h.1))
+quoted_some text (Some (suc n)) h p e = omega arith
 
 pub quoted_within : (text : List ℕ) → quoted_len text ≤ length text
 quoted_within [] = omega arith

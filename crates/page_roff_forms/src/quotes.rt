@@ -1,8 +1,9 @@
 //! The first argument of a text (roff(7), "Macro syntax").
 
-ghost use Rattle.std.specs.Prelude.{◌≡◌, ◌≤◌, ◌<◌, ◌+◌, ◌-◌, ◌^◌, length};
+ghost use Rattle.std.specs.Prelude.{◌≡◌, ◌≢◌, ◌≤◌, ◌<◌, ◌+◌, ◌-◌, ◌^◌, length, drop, get_or};
 ghost use Rattle.page_roff_forms.specs.Arguments.{argument_seen, is_quoted, bare_len, quoted_len, quoted_argument, begins_quoted, first_argument, argument_len};
 
+use memchr::memchr;
 use std::alloc::AllocError;
 
 /// How an argument is quoted.
@@ -62,6 +63,15 @@ fn bare_len(text: &[u8]) -> usize
     len
 }
 
+// The number of bytes before a text's first quote, or of all of them.
+fn unquoted_len(text: &[u8]) -> usize
+    ensures value { quoted_len text.now ≡ result + quoted_len (drop result text.now) }
+    ensures within { result ≤ length text.now }
+    ensures some { 0 < length text.now → get_or text.now 0 0 ≢ 34 → 0 < result }
+{
+    memchr(b'"', text).unwrap_or(text.len())
+}
+
 // The number of bytes of a quoted argument after its first quote, up to the next lone quote or the end.
 fn quoted_len(text: &[u8]) -> usize
     ensures value { result ≡ quoted_len text.now }
@@ -70,7 +80,7 @@ fn quoted_len(text: &[u8]) -> usize
     let mut len = 0;
     while len < text.len() {
         if text[len] != b'"' {
-            len += 1;
+            len += unquoted_len(&text[len..]);
         } else if len + 1 < text.len() && text[len + 1] == b'"' {
             len += 2;
         } else {

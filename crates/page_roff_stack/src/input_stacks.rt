@@ -27,10 +27,11 @@ use std::mem;
 #[derive(Drop)]
 pub struct InputStack {
     top: Source,
-    // The sources around it, from the page on.
-    under: Vec<Source>,
-    // What macros can be run in that are still to be called.
-    spare: Vec<Source>,
+    // The sources around it, from the page on, and then what macros can be run in that are still to be called. A call, and the end of
+    // one, exchange one of them for the innermost source.
+    others: Vec<Source>,
+    // How many sources are around it.
+    depth: usize,
 }
 
 impl Model for InputStack {
@@ -51,12 +52,15 @@ impl InputStack {
         ensures { IfOk result (λ stack. stack ≡ first_stack) }
     {
         let top = Source::page(alloc)?;
-        let under = Vec::with_capacity(alloc, CALLS)?;
-        let mut spare = Vec::with_capacity(alloc, CALLS)?;
+        let mut others = Vec::with_capacity(alloc, CALLS)?;
         for _ in 0..CALLS {
-            spare.push_reserved(Source::body(alloc)?);
+            others.push_reserved(Source::body(alloc)?);
         }
-        Ok(InputStack { top, under, spare })
+        Ok(InputStack {
+            top,
+            others,
+            depth: 0,
+        })
     }
 
     /// Whether the page's line is done, or none came.
@@ -70,7 +74,7 @@ impl InputStack {
     fn next_around<'a>(&self, region: Option<&'a OpenRegion>) -> Next<&'a [u8], &'a OpenRegion>
         ensures { next_seen result ≡ next_around (opened_seen region.entry) self.now.under }
     {
-        if self.under.is_empty() {
+        if self.depth == 0 {
             Next::Nothing
         } else {
             Next::SourceEnd(region)
@@ -151,7 +155,7 @@ impl InputStack {
     pub fn may_call(&self) -> bool
         ensures { result ≡ is_some (depth self.now.under) }
     {
-        self.under.len() < CALLS
+        self.depth < CALLS
     }
 
     /// Whether the innermost source is the page.
@@ -272,10 +276,9 @@ impl InputStack {
         requires arguments { length arguments.now ≤ ARGS }
         ensures { self.new ≡ call_of (lines_in body.now) (arguments_in arguments.now) self.old }
     {
-        let mut source = self.spare.take_last();
-        source.enter(body, arguments);
-        let caller = mem::replace(&mut self.top, source);
-        self.under.push_reserved(caller);
+        mem::swap(&mut self.top, &mut self.others[self.depth]);
+        self.depth += 1;
+        self.top.enter(body, arguments);
     }
 
     /// The innermost macro ends.
@@ -283,9 +286,8 @@ impl InputStack {
         requires { is_source_end (next_of self.old) ≡ true }
         ensures { self.old.under ≡ self.new.top ∷ self.new.under }
     {
-        let caller = self.under.take_last();
-        let source = mem::replace(&mut self.top, caller);
-        self.spare.push_reserved(source);
+        self.depth -= 1;
+        mem::swap(&mut self.top, &mut self.others[self.depth]);
     }
 
     /// Where the innermost source stands is within its limits. Nothing is done: the source tells it.

@@ -1,16 +1,35 @@
-use Rattle.std.proofs.Common.{◌≡◌, ◌+◌, true, length, reverse, ap, ◌∙◌, arith}
-use Rattle.std.proofs.lemmas.List.{length-reverse}
+use Rattle.std.proofs.Common.{◌≡◌, ◌<◌, ◌∷◌, true, length, ap, sym, ◌∙◌, arith, length-set}
 use Rattle.page_roff_run.specs.declared.TheConstants.{CALLS}
-use Rattle.page_roff_run.specs.Machine.{depth, is_some}
-use Rattle.page_roff_stack.proofs.InputStackLemmas.{is_spare}
+use Rattle.page_roff_run.specs.Machine.{depth, is_some, entered}
+use Rattle.page_roff_values.specs.Arguments.{arguments_in}
+use Rattle.page_roff_stack.specs.Changes.{lines_in}
+use Rattle.page_roff_stack.specs.InputStacks.{stack_of}
+use Rattle.page_roff_stack.specs.Stacks.{Stack, AreStacked, call_of}
+use Rattle.page_roff_stack.proofs.InputStackLemmas.{under_len, is_room, deeper}
 use Rattle.page_roff_stack.proofs.input_stacks.InputStack.call.Goals as goal
 
-pub take_last-source-requires : goal.take_last-source-requires
-take_last-source-requires c =
+pub index_mut-requires : goal.index_mut-requires
+index_mut-requires c =
     let a = c.self.inside in
-    let under = reverse a.under.items in
-    let l = length-reverse a.under.items in
-    let room : is_some (depth under) ≡ true = ap (λ s. is_some (depth s.under)) c.self.view_is ∙ c.requires.room in
-    let all : length under + length a.spare.items ≡ CALLS = omega (arith, l, c.self.invariant.calls) in
-    let there = is_spare under (length a.spare.items) room all in
-    omega (arith, there, a.spare.ok.0)
+    let room = is_room (stack_of a).under (ap (λ s. is_some (depth s.under)) c.self.view_is ∙ c.requires.room) in
+    omega (arith, room, under_len a c.self.invariant, c.self.invariant.calls, a.others.ok.0)
+
+pub invariant_of-self : goal.invariant_of-self
+invariant_of-self c =
+    let a = c.self.inside in
+    let room = is_room (stack_of a).under (ap (λ s. is_some (depth s.under)) c.self.view_is ∙ c.requires.room) in
+    let there : a.depth < length a.others.items = omega (arith, room, under_len a c.self.invariant, c.self.invariant.calls) in
+    let under = deeper a.others.items a.depth c.swap.new.y there in
+    record {
+      page = rw (under, c.swap.ensures.y_after) c.self.invariant.page;
+      calls = length-set a.others.items a.depth c.swap.new.y ∙ c.self.invariant.calls;
+      deep = omega (arith, there, c.self.invariant.calls);
+    }
+
+pub returns : goal.returns
+returns c =
+    let a = c.self.inside in
+    let room = is_room (stack_of a).under (ap (λ s. is_some (depth s.under)) c.self.view_is ∙ c.requires.room) in
+    let there : a.depth < length a.others.items = omega (arith, room, under_len a c.self.invariant, c.self.invariant.calls) in
+    let under = deeper a.others.items a.depth c.swap.new.y there ∙ ap (λ f. f ∷ (stack_of a).under) c.swap.ensures.y_after in
+    rw (under, c.enter.ensures) (ap (λ s. call_of (lines_in c.args.body.now) (arguments_in c.args.arguments.now) s) c.self.view_is)

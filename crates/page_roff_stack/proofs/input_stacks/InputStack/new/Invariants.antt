@@ -4,4 +4,4 @@ use Rattle.page_roff_run.specs.declared.TheConstants.{CALLS}
 use Rattle.page_roff_stack.proofs.input_stacks.InputStack.new.Given as goal
 
 abbrev pub invariant-loop : goal.invariant-loop
-invariant-loop l = (vec_len l.spare ≡ l.counter) × (CALLS ≤ vec_capacity l.spare)
+invariant-loop l = (vec_len l.others ≡ l.counter) × (CALLS ≤ vec_capacity l.others)

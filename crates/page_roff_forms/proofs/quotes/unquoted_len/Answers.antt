@@ -1,0 +1,12 @@
+use Rattle.std.proofs.Common.{◌+◌, drop, length, ap, ◌∙◌}
+use Rattle.page_roff_forms.specs.Arguments.{quoted_len}
+use Rattle.page_roff_forms.proofs.ArgumentLemmas.{quoted_to, quoted_some}
+use Rattle.page_roff_forms.proofs.quotes.unquoted_len.Goals as goal
+
+pub returns-clause-value : goal.returns-clause-value
+returns-clause-value c =
+    let text = c.args.text.now in
+    rw c.unwrap_or.ensures (quoted_to text c.memchr.result c.memchr.ensures)
+
+pub returns-clause-some : goal.returns-clause-some
+returns-clause-some c = λ p e. rw c.unwrap_or.ensures (quoted_some c.args.text.now c.memchr.result c.memchr.ensures p e)
