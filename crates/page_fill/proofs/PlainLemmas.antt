@@ -115,18 +115,59 @@ columns-plain font (b ∷ bytes) plain =
     sum_by-append cell_columns (cell_of font b ∷ []) (cells_of font bytes) ∙ omega (arith, last, others)
 
 -- a sound row with the cells of a plain text is sound
-pub sound-more : (cells : List Cell) (bytes : List ℕ) (font : Font) (capacity count gap word : ℕ) → IsSound cells capacity count gap word → is_printable_ascii bytes ≡ true
-    → length cells + length bytes ≤ CELLS → IsSound (cells ++ cells_of font bytes) capacity (count + length bytes) gap word
-sound-more cells bytes font capacity count gap word sound plain room =
+pub sound-more : (cells : List Cell) (bytes : List ℕ) (font : Font) (count gap word tag tag-now : ℕ) → IsSound cells count gap word tag
+    → is_printable_ascii bytes ≡ true → length cells + length bytes ≤ CELLS → tag-now ≤ TAG_COLUMNS
+    → IsSound (cells ++ cells_of font bytes) (count + length bytes) gap word tag-now
+sound-more cells bytes font count gap word tag tag-now sound plain room tagged =
     let len : length (cells ++ cells_of font bytes) ≡ length cells + length bytes = length-append cells (cells_of font bytes) ∙ ap (λ k. length cells + k) (length-map bytes (cell_of font)) in
     let more : columns (cells ++ cells_of font bytes) ≡ columns cells + length bytes = sum_by-append cell_columns cells (cells_of font bytes) ∙ ap (λ k. columns cells + k) (columns-plain font bytes plain) in
     record {
       bounded = omega (arith, len, room);
-      reserved = sound.reserved;
       counted = ap (λ k. k + length bytes) sound.counted ∙ sym more;
       narrow = omega (arith, len, sound.narrow);
       gap_within = sound.gap_within;
       word_within = omega (arith, len, sound.word_within);
+      tag_within = tagged;
+    }
+
+-- ---- a blank and its cells
+
+pub blank-one : cell_columns blank ≡ 1
+unfolding char_width
+blank-one = refl
+
+-- blank and cells count for the open tag one after another, or together
+counts-both : (columns n : ℕ) → min (min (columns + 1) TAG_COLUMNS + n) TAG_COLUMNS ≡ min (columns + (n + 1)) TAG_COLUMNS
+counts-both columns n = omega arith
+
+pub taken-word : (s : Sheet) (bytes : List ℕ) (font : Font) → taken (spaced s) (cells_of font bytes) ≡ record s {
+  cells = s.cells ++ blank ∷ cells_of font bytes;
+  gap = length s.cells;
+  word = length s.cells + 1;
+  tag_columns = min (s.tag_columns + (length bytes + 1)) TAG_COLUMNS;
+  tag_begun = true;
+}
+taken-word s bytes font =
+    rw (has-more s.cells blank, blank-one, length-map bytes (cell_of font), append_assoc s.cells (blank ∷ []) (cells_of font bytes), counts-both s.tag_columns (length bytes)) refl
+
+-- a sound row with a blank and the cells of a plain text is sound
+pub sound-word : (cells : List Cell) (bytes : List ℕ) (font : Font) (count gap word tag tag-now : ℕ) → IsSound cells count gap word tag
+    → is_printable_ascii bytes ≡ true → length cells + 1 + length bytes ≤ CELLS → tag-now ≤ TAG_COLUMNS
+    → IsSound (cells ++ blank ∷ cells_of font bytes) (count + (length bytes + 1)) (length cells) (length cells + 1) tag-now
+sound-word cells bytes font count gap word tag tag-now sound plain room tagged =
+    let more : length (blank ∷ cells_of font bytes) ≡ length bytes + 1 = omega (arith, length-map bytes (cell_of font)) in
+    let len : length (cells ++ blank ∷ cells_of font bytes) ≡ length cells + (length bytes + 1) = length-append cells (blank ∷ cells_of font bytes) ∙ ap (λ k. length cells + k) more in
+    let others = columns-plain font bytes plain in
+    let first : columns (blank ∷ []) ≡ 1 = omega (arith, blank-one) in
+    let wide : columns (blank ∷ cells_of font bytes) ≡ length bytes + 1 = sum_by-append cell_columns (blank ∷ []) (cells_of font bytes) ∙ omega (arith, first, others) in
+    let sum : columns (cells ++ blank ∷ cells_of font bytes) ≡ columns cells + (length bytes + 1) = sum_by-append cell_columns cells (blank ∷ cells_of font bytes) ∙ ap (λ k. columns cells + k) wide in
+    record {
+      bounded = omega (arith, len, room);
+      counted = ap (λ k. k + (length bytes + 1)) sound.counted ∙ sym sum;
+      narrow = omega (arith, len, sound.narrow);
+      gap_within = omega arith;
+      word_within = omega (arith, len);
+      tag_within = tagged;
     }
 
 -- ---- its characters

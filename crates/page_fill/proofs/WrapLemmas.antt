@@ -4,7 +4,6 @@ use Rattle.std.proofs.Math.Seq.{take-append_seam, take-length, drop-append-add}
 use Rattle.std.proofs.lemmas.Bool.{cases_Bool}
 use Rattle.std.proofs.lemmas.Bool.Decides.{nat_tests}
 use Rattle.std.proofs.lemmas.List.Sums.{sum_by-append}
-use Rattle.unicode_width.specs.Width.{char_width}
 use Rattle.page_core_base.specs.declared.cells.Cell.{Cell}
 use Rattle.page_core_base.specs.declared.cells.Font.{Font}
 use Rattle.page_core_base.specs.declared.places.Place.{Place}
@@ -16,7 +15,7 @@ use Rattle.page_fill.specs.Sheets.{Sheet, blank, cell_columns, columns, counted,
 use Rattle.page_fill.specs.Characters.{cell_of, cells_of}
 use Rattle.page_fill.specs.Fill.{Edge, begun_word, opening, stands, text}
 use Rattle.page_fill.specs.Plain.{ends_before, has_room, is_printable_ascii, spaced, wraps_plain, wraps_word}
-use Rattle.page_fill.proofs.PlainLemmas.{counts-more, first-plain, has-more, letters-fit, plain-columns, rest-plain, text-plain}
+use Rattle.page_fill.proofs.PlainLemmas.{blank-one, counts-more, first-plain, has-more, letters-fit, plain-columns, rest-plain, text-plain}
 use Rattle.page_fill.proofs.SheetLemmas.{letters-one}
 
 -- the row of some cells was given, and the next one has others
@@ -135,10 +134,6 @@ space-stays : (s : Sheet) (place : Place) → (length s.cells == 0) ≡ false �
     → space (opens s) place ≡ nothing (spaced s)
 unfolding space
 space-stays s place some p full = rw (some, p, full) refl
-
-blank-one : cell_columns blank ≡ 1
-unfolding char_width
-blank-one = refl
 
 -- ---- blank and word
 

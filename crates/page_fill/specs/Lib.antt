@@ -3,3 +3,4 @@ pub mod Room
 pub mod Characters
 pub mod Fill
 pub mod Plain
+pub mod Caps

@@ -1,10 +1,11 @@
 //! The filler of a page.
 
-ghost use Rattle.std.specs.Prelude.{◌≡◌, ◌≤◌, length, IfOk, IfErr, IfSome, OnOk, OnErr, Some, None};
+ghost use Rattle.std.specs.Prelude.{◌≡◌, ◌≤◌, length, IfOk, IfErr, IfSome, OnOk, OnErr, Some, None, true, false};
 ghost use Rattle.page_core_base.specs.Fails.{FailsBySink};
-ghost use Rattle.page_core_base.specs.Laid.{Gets};
+ghost use Rattle.page_core_base.specs.Laid.{Gets, nothing};
 ghost use Rattle.page_core_base.specs.Latches.{LaysOut};
 ghost use Rattle.page_core_base.specs.Pieces.{piece_of};
+ghost use Rattle.page_fill.specs.Caps.{FillFits};
 ghost use Rattle.page_fill.specs.Fill as fill;
 
 use crate::sheets::OpenRow;
@@ -31,12 +32,30 @@ fn take_piece<O: RowOut>(edge: &mut Edge, piece: Piece<&[u8]>, out: &mut O)
         Piece::Space(count) => edge.space(count, out),
         Piece::TagEnd => edge.end_tag(out),
         Piece::Heading => edge.heading(out),
-        Piece::Blank { count, has_tab } => edge.word = edge.word.ended(count, has_tab),
+        Piece::Blank { count, has_tab } => edge.word.end(count, has_tab),
         Piece::Glue => edge.word = edge.word.glued(),
         Piece::Indent { first, rest } => edge.sheet.set_margins(first, rest),
         Piece::Literal(is_literal) => edge.sheet.set_literal(is_literal),
         Piece::Tag { hang, form } => edge.begin_tag(hang, form),
         Piece::Column(column) => edge.column(column),
+    }
+}
+
+// Takes a blank, or a plain word that the open row has room for, and says whether it was one of these, which settle nothing. Most of a page
+// is made of them.
+#[inline(always)]
+#[tactic(auto, unfolding(crate::specs::Fill::laid_piece))]
+fn takes_at_once(edge: &mut Edge, piece: Piece<&[u8]>) -> bool
+    ensures taken { result ≡ true → fill.laid_piece edge.old (piece_of piece.entry) ≡ nothing edge.new }
+    ensures same { result ≡ false → edge.new ≡ edge.old }
+{
+    match piece {
+        Piece::Blank { count, has_tab } => {
+            edge.word.end(count, has_tab);
+            true
+        }
+        Piece::Text { text, font, .. } => edge.takes_at_once(text, font),
+        _ => false,
     }
 }
 
@@ -133,6 +152,14 @@ impl Filler {
         self.edge.sheet.blank_rows()
     }
 
+    /// What is held between two pieces is within its limits. Nothing is done: the open row tells it.
+    pub fn caps_law(&self)
+        ensures { IfSome self.now FillFits }
+    {
+        self.edge.sheet.cells();
+        self.edge.sheet.tag_columns();
+    }
+
     /// Takes a piece, and gives the rows and messages that it settles. It succeeds if the sinks do.
     ///
     /// Its faults are those of the sinks; after one, and after [`finish`](Filler::finish), it is [`Fault::Failed`].
@@ -159,6 +186,9 @@ impl Filler {
     {
         if !self.is_going {
             return Err(Fault::Failed);
+        }
+        if takes_at_once(&mut self.edge, piece) {
+            return Ok(());
         }
         let result = fill_piece(&mut self.edge, piece, rows, notes);
         self.is_going = result.is_ok();

@@ -7,6 +7,7 @@ mod cell_widths;
 mod characters;
 mod fillers;
 mod laws;
+mod row_cells;
 mod sheets;
 mod words;
 

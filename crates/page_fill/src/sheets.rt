@@ -10,6 +10,7 @@ ghost use Rattle.page_fill.specs.Sheets as sheet;
 
 use crate::TAG_COLUMNS;
 use crate::cell_widths::{BLANK, cell_columns, columns, is_blank};
+use crate::row_cells::RowCells;
 use page_core_base::{Cell, Font, Note, NoteKind, Place, RowOut};
 use page_core_limits::{CELLS, Limit};
 use std::alloc::{AllocError, Global};
@@ -30,7 +31,7 @@ pub(crate) struct OpenRow {
     first: u32,
     rest: u32,
     margin: u32,
-    row: Vec<Cell>,
+    row: RowCells,
     columns: u32,
     gap: usize,
     word: usize,
@@ -41,7 +42,6 @@ pub(crate) struct OpenRow {
 }
 
 impl Model for OpenRow {
-    ghost use Rattle.std.specs.Prelude.{vec_capacity};
     ghost use Rattle.page_fill.specs.Room.{IsSound};
     ghost use Rattle.page_fill.specs.Sheets.{Sheet};
 
@@ -53,7 +53,7 @@ impl Model for OpenRow {
       first = a.first;
       rest = a.rest;
       margin = a.margin;
-      cells = a.row.items;
+      cells = a.row;
       gap = a.gap;
       word = a.word;
       blank_rows = a.blank_rows;
@@ -62,7 +62,7 @@ impl Model for OpenRow {
       tag_begun = a.has_tag_cell;
     } };
 
-    ghost invariant = { λ a. IsSound a.row.items (vec_capacity a.row) a.columns a.gap a.word };
+    ghost invariant = { λ a. IsSound a.row a.columns a.gap a.word a.tag_columns };
 }
 
 impl OpenRow {
@@ -70,7 +70,7 @@ impl OpenRow {
     pub(crate) fn new(alloc: Global, width: u32) -> Result<OpenRow, AllocError>
         ensures { IfOk result (λ s. s ≡ sheet.fresh width) }
     {
-        let row = Vec::with_capacity(alloc, CELLS)?;
+        let row = RowCells::new(alloc)?;
         Ok(OpenRow {
             width,
             is_literal: false,
@@ -123,7 +123,8 @@ impl OpenRow {
 
     /// The columns of the open tag, up to [`TAG_COLUMNS`].
     pub(crate) fn tag_columns(&self) -> u32
-        ensures { result ≡ self.now.tag_columns }
+        ensures value { result ≡ self.now.tag_columns }
+        ensures bound { result ≤ TAG_COLUMNS }
     {
         self.tag_columns
     }
@@ -189,8 +190,9 @@ impl OpenRow {
         requires { end ≤ length self.old.cells }
         ensures { LaysOut O.left out.old (sheet.gives self.old (take end self.old.cells)) out.new self.new }
     {
-        out.give(self.margin, &self.row[..end]);
-        self.blank_rows = if is_blank(&self.row[..end]) {
+        let cells = &self.row.as_slice()[..end];
+        out.give(self.margin, cells);
+        self.blank_rows = if is_blank(cells) {
             self.blank_rows.saturating_add(1)
         } else {
             0
@@ -213,10 +215,8 @@ impl OpenRow {
         requires { 0 < self.old.gap }
         ensures { self.new ≡ sheet.begins self.old (drop self.old.word self.old.cells ++ cell ∷ []) }
     {
-        let kept = self.row.len() - self.word;
-        move_to_front(&mut self.row, self.word);
-        self.row.truncate(kept);
-        self.row.push_reserved(cell);
+        self.row.keep_from(self.word);
+        self.row.push(cell);
         self.columns = columns(self.row.as_slice());
         self.margin = self.first;
         self.first = self.rest;
@@ -229,7 +229,7 @@ impl OpenRow {
         ensures { self.new ≡ sheet.begins self.old (cell ∷ []) }
     {
         self.row.clear();
-        self.row.push_reserved(cell);
+        self.row.push(cell);
         self.columns = cell_columns(cell);
         self.margin = self.first;
         self.first = self.rest;
@@ -255,7 +255,7 @@ impl OpenRow {
         ensures { self.new ≡ record self.old { cells = self.old.cells ++ cell ∷ [] } }
     {
         self.columns += cell_columns(cell);
-        self.row.push_reserved(cell);
+        self.row.push(cell);
     }
 
     // The open row takes a blank before its next word.
@@ -268,7 +268,7 @@ impl OpenRow {
         } }
     {
         self.columns += cell_columns(BLANK);
-        self.row.push_reserved(BLANK);
+        self.row.push(BLANK);
         self.word = self.row.len();
     }
 
@@ -380,16 +380,25 @@ impl OpenRow {
         self.add_plain(bytes, font);
     }
 
-    /// The row takes a blank, and after it a word of bytes that are a column each.
-    pub(crate) fn add_word(&mut self, bytes: &[u8], font: Font)
-        requires plain { plain.is_printable_ascii bytes.now ≡ true }
-        requires room { length self.old.cells + 1 + length bytes.now ≤ CELLS }
-        ensures { self.new ≡ plain.taken (plain.spaced self.old) (shown.cells_of font bytes.now) }
+    /// The row takes a blank, and after it a word of bytes, if these are a column each; says whether they are.
+    pub(crate) fn add_word(&mut self, bytes: &[u8], font: Font) -> bool
+        requires { length self.old.cells + 1 + length bytes.now ≤ CELLS }
+        ensures answer { result ≡ plain.is_printable_ascii bytes.now }
+        ensures word { result ≡ true
+            → self.new ≡ plain.taken (plain.spaced self.old) (shown.cells_of font bytes.now) }
+        ensures same { result ≡ false → self.new ≡ self.old }
     {
-        self.open_word();
-        self.count(BLANK);
-        self.add_space();
-        self.add_plain(bytes, font);
+        let gap = self.row.len();
+        if !self.row.add_word(bytes, font) {
+            return false;
+        }
+        self.gap = gap;
+        self.word = gap + 1;
+        let count = bytes.len() as u32 + 1;
+        self.columns += count;
+        self.tag_columns = (self.tag_columns + count).min(TAG_COLUMNS);
+        self.has_tag_cell = true;
+        true
     }
 
     /// The row takes cells of bytes that are a column each.
@@ -401,7 +410,7 @@ impl OpenRow {
         if self.row.is_empty() {
             self.open_row();
         }
-        append_plain(&mut self.row, bytes, font);
+        self.row.add_plain(bytes, font);
         let count = bytes.len() as u32;
         self.columns += count;
         self.tag_columns = self.tag_columns.saturating_add(count).min(TAG_COLUMNS);
@@ -508,31 +517,6 @@ impl OpenRow {
         give_empty(count, out);
         self.blank_rows = self.blank_rows.saturating_add(count);
         self.has_heading = self.has_heading && count == 0;
-    }
-}
-
-// The cells from a start on come to the front.
-fn move_to_front(cells: &mut [Cell], start: usize)
-    requires { start ≤ length cells.old }
-    ensures front { take (length cells.old - start) cells.new ≡ drop start cells.old }
-    ensures len { length cells.new ≡ length cells.old }
-{
-    for i in 0..cells.len() - start {
-        cells[i] = cells[start + i];
-    }
-}
-
-// Appends a cell of each byte.
-fn append_plain(row: &mut Vec<Cell>, bytes: &[u8], font: Font)
-    requires { length row.old.items + length bytes.now ≤ vec_capacity row.old }
-    ensures cells { row.new.items ≡ row.old.items ++ shown.cells_of font bytes.now }
-    ensures capacity { vec_capacity row.new ≡ vec_capacity row.old }
-{
-    for byte in bytes {
-        row.push_reserved(Cell {
-            c: *byte as char,
-            font,
-        });
     }
 }
 

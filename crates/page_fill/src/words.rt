@@ -1,8 +1,10 @@
 //! Words, breaks and tags: what is held between two pieces.
 
-ghost use Rattle.std.specs.Prelude.{◌≡◌, ◌+◌, ◌-◌, ◌<◌, ◌≤◌, ◌==◌, not, true, [], ◌∷◌, length};
+ghost use Rattle.std.specs.Prelude.{◌≡◌, ◌+◌, ◌-◌, ◌<◌, ◌≤◌, ◌==◌, not, true, false, [], ◌∷◌, length};
 ghost use Rattle.std.specs.Str.{chars};
+ghost use Rattle.page_core_base.specs.Laid.{nothing};
 ghost use Rattle.page_core_base.specs.Latches.{CameRows, LaysOut};
+ghost use Rattle.page_core_base.specs.declared.places.Place.{Place};
 ghost use Rattle.page_fill.specs.Characters.{characters_of};
 ghost use Rattle.page_fill.specs.Fill as fill;
 ghost use Rattle.page_fill.specs.Plain as plain;
@@ -84,17 +86,14 @@ impl OpenWord {
     }
 
     /// The word ends, and blanks wait before the next one.
-    pub(crate) fn ended(self, blanks: u32, has_tab: bool) -> OpenWord
-        ensures { result ≡ fill.blanks_wait self blanks has_tab }
+    pub(crate) fn end(&mut self, blanks: u32, has_tab: bool)
+        ensures { self.new ≡ fill.blanks_wait self.old blanks has_tab }
     {
-        if self.is_placed {
-            return OpenWord { has_tab, ..self };
-        }
-        OpenWord {
-            blanks,
-            has_tab,
-            is_told: self.is_told,
-            ..NO_WORD
+        self.has_tab = has_tab;
+        if !self.is_placed {
+            self.is_joined = false;
+            self.is_open = false;
+            self.blanks = blanks;
         }
     }
 
@@ -185,6 +184,19 @@ impl Edge {
         !word.is_joined && !word.has_tab && word.blanks == 1 && self.sheet.ends_before(count)
     }
 
+    /// Takes a word that the open row has room for after one blank, if it is plain; says whether it did.
+    pub(crate) fn takes_at_once(&mut self, bytes: &[u8], font: Font) -> bool
+        ensures taken { result ≡ true → (place : Place)
+            → fill.text self.old (characters_of bytes.now) font place ≡ nothing self.new }
+        ensures same { result ≡ false → self.new ≡ self.old }
+    {
+        if bytes.is_empty() || !self.takes_word(bytes.len()) || !self.sheet.add_word(bytes, font) {
+            return false;
+        }
+        self.word = OpenWord::begun(false);
+        true
+    }
+
     // Takes a plain text.
     #[tactic(auto, unfolding(crate::specs::Fill::text))]
     fn plain<O: RowOut>(&mut self, bytes: &[u8], font: Font, place: Place, out: &mut O)
@@ -193,11 +205,6 @@ impl Edge {
     {
         if bytes.is_empty() {
             self.word.is_open = true;
-            return;
-        }
-        if self.takes_word(bytes.len()) {
-            self.sheet.add_word(bytes, font);
-            self.word = OpenWord::begun(false);
             return;
         }
         if self.wraps_word(bytes.len()) {

@@ -1,10 +1,10 @@
-use Rattle.std.proofs.Common.{◌+◌, ◌≤◌, length, rules}
+use Rattle.std.proofs.Common.{◌+◌, ◌≤◌, length, arith, rules}
 use Rattle.page_fill.proofs.PlainLemmas.{sound-more}
 use Rattle.page_fill.proofs.sheets.OpenRow.add_plain.Goals as goal
 use Rattle.page_fill.proofs.sheets.OpenRow.add_plain.Goals.{then-is_empty, else-is_empty}
 
 pub invariant_of-self : goal.invariant_of-self
 invariant_of-self c =
-    let room : length c.self-2.inside.row.items + length c.args.bytes.now ≤ 4096 = search rules in
-    rw (c.append_plain.ensures.cells, c.append_plain.ensures.capacity)
-    (sound-more c.self-2.inside.row.items c.args.bytes.now c.args.font _ c.self-2.inside.columns c.self-2.inside.gap c.self-2.inside.word c.self-2.invariant c.requires.plain room)
+    let room : length c.self-2.inside.row + length c.args.bytes.now ≤ 4096 = search rules in
+    rw c.add_plain.ensures
+    (sound-more c.self-2.inside.row c.args.bytes.now c.args.font c.self-2.inside.columns c.self-2.inside.gap c.self-2.inside.word c.self-2.inside.tag_columns _ c.self-2.invariant c.requires.plain room (omega arith))

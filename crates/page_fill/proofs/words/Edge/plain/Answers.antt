@@ -1,19 +1,14 @@
 use Rattle.std.proofs.Common.{append_assoc, sym, ap, ◌∙◌, refl}
 use Rattle.page_fill.specs.Fill.{on_sheet}
-use Rattle.page_fill.proofs.PlainLemmas.{text-plain, text-word}
+use Rattle.page_fill.proofs.PlainLemmas.{text-plain}
 use Rattle.page_fill.proofs.WrapLemmas.{text-wrap}
 use Rattle.page_fill.proofs.words.Edge.plain.Goals as goal
-
-pub returns-then-takes_word : goal.returns-then-takes_word
-returns-then-takes_word g c =
-    rw (text-word c.args.self.now c.args.bytes.now c.args.font c.args.place c.requires (sym c.is_empty.ensures ∙ c.if-is_empty.false) (sym c.takes_word.ensures ∙ c.if-takes_word.true))
-    ((λ plan rows notes h. h), rw (c.add_word.ensures, c.begun-self.ensures) refl)
 
 pub returns-then-wraps_word : goal.returns-then-wraps_word
 returns-then-wraps_word g c =
     let p = c.wrap_plain.ensures in
     rw (text-wrap c.args.self.now c.args.bytes.now c.args.font c.args.place c.requires (sym c.is_empty.ensures ∙ c.if-is_empty.false) (sym c.wraps_word.ensures ∙ c.if-wraps_word.true))
-    (p.0, rw (p.1, c.begun-self-then-wraps_word.ensures) refl)
+    (p.0, rw (p.1, c.begun-self.ensures) refl)
 
 pub returns : goal.returns
 returns g c =
