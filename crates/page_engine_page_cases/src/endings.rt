@@ -1,14 +1,11 @@
 //! How a page ends whose lines come one by one.
 
-use crate::lines::{Lines, PageFeed, fault_after};
+use crate::lines::{BYTES, Lines, PageFeed, fault_after};
 use crate::streams::Streams;
 use page_core_base::{Fault, Settings};
 use page_engine::Outcome;
 use page_engine_page::Page;
 use std::alloc::{AllocError, Global};
-
-/// The bytes of a page at most.
-const BYTES: usize = 1_000_000;
 
 /// How a page ended.
 #[derive(Clone, Copy)]

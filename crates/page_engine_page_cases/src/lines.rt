@@ -10,6 +10,9 @@ use page_engine_page::Page;
 use page_roff_lines::Cutter;
 use std::alloc::Global;
 
+/// The bytes of a page at most.
+pub(crate) const BYTES: usize = 1_000_000;
+
 /// The name of the file in messages.
 pub(crate) const FILE: &str = "x.1";
 
@@ -32,22 +35,34 @@ pub(crate) struct PageFeed<'a, 'b> {
 
 impl Feed for PageFeed<'_, '_> {
     fn line(&mut self, text: &[u8], number: u32) -> Result<(), Fault> {
-        self.page.feed_line(
-            text,
-            number,
-            &mut TextRows::new(&mut self.streams.rows),
-            &mut TextNotes::new(&mut self.streams.messages, FILE),
-        )?;
-        self.streams.show_line(number);
-        Ok(())
+        feed(self.page, self.streams, text, number)
     }
 
     fn end(&mut self) -> Result<(), Fault> {
-        self.page.end(
-            &mut TextRows::new(&mut self.streams.rows),
-            &mut TextNotes::new(&mut self.streams.messages, FILE),
-        )
+        end(self.page, self.streams)
     }
+}
+
+// Feeds a line to a page.
+fn feed(page: &mut Page, streams: &mut Streams, text: &[u8], number: u32) -> Result<(), Fault>
+    requires { IsLine text.now }
+{
+    page.feed_line(
+        text,
+        number,
+        &mut TextRows::new(&mut streams.rows),
+        &mut TextNotes::new(&mut streams.messages, FILE),
+    )?;
+    streams.show_line(number);
+    Ok(())
+}
+
+// Ends a page.
+fn end(page: &mut Page, streams: &mut Streams) -> Result<(), Fault> {
+    page.end(
+        &mut TextRows::new(&mut streams.rows),
+        &mut TextNotes::new(&mut streams.messages, FILE),
+    )
 }
 
 /// Cuts the bytes of a page into lines, with the messages of the cutting.
@@ -110,10 +125,9 @@ impl Lines {
 /// The fault of a further line and of a further end, where both have the same and nothing is written.
 pub(crate) fn fault_after(page: &mut Page, streams: &mut Streams) -> Option<Fault> {
     let calls = streams.calls();
-    let mut feed = PageFeed { page, streams };
-    let of_line = feed.line(b".ZZ", 1).err()?;
-    let of_end = feed.end().err()?;
-    if of_line == of_end && calls == feed.streams.calls() {
+    let of_line = feed(page, streams, b".ZZ", 1).err()?;
+    let of_end = end(page, streams).err()?;
+    if of_line == of_end && calls == streams.calls() {
         Some(of_end)
     } else {
         None

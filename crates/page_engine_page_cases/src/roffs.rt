@@ -1,6 +1,6 @@
 //! Roff alone over the lines of a page.
 
-use crate::lines::{FILE, Feed, Lines};
+use crate::lines::{BYTES, FILE, Feed, Lines};
 use crate::stores::{Fails, Store};
 use page_core_base::{Fault, Settings};
 use page_core_writers::TextNotes;
@@ -30,7 +30,7 @@ pub(crate) fn run_roff(
     settings: &Settings,
     room: usize,
 ) -> Option<RoffEnding> {
-    if bytes.len() > room {
+    if bytes.len() > BYTES {
         return None;
     }
     let mut lines = Lines::new(alloc, settings.encoding)?;
@@ -59,8 +59,8 @@ impl Feed for RoffFeed {
             return Err(Fault::TooLong);
         }
         self.roff.source(text, number);
-        let mut notes = TextNotes::new(&mut self.messages, FILE);
         'takes: for _ in 0..MOST {
+            let mut notes = TextNotes::new(&mut self.messages, FILE);
             if self.roff.take(&mut notes)?.is_none() {
                 return Ok(());
             }

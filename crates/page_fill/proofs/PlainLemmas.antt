@@ -115,9 +115,9 @@ columns-plain font (b ∷ bytes) plain =
     sum_by-append cell_columns (cell_of font b ∷ []) (cells_of font bytes) ∙ omega (arith, last, others)
 
 -- a sound row with the cells of a plain text is sound
-pub sound-more : (cells : List Cell) (bytes : List ℕ) (font : Font) (count gap word tag tag-now : ℕ) → IsSound cells count gap word tag
+pub sound-more : {blanks : ℕ} (cells : List Cell) (bytes : List ℕ) (font : Font) (count gap word tag tag-now : ℕ) → IsSound cells count gap word tag blanks
     → is_printable_ascii bytes ≡ true → length cells + length bytes ≤ CELLS → tag-now ≤ TAG_COLUMNS
-    → IsSound (cells ++ cells_of font bytes) (count + length bytes) gap word tag-now
+    → IsSound (cells ++ cells_of font bytes) (count + length bytes) gap word tag-now blanks
 sound-more cells bytes font count gap word tag tag-now sound plain room tagged =
     let len : length (cells ++ cells_of font bytes) ≡ length cells + length bytes = length-append cells (cells_of font bytes) ∙ ap (λ k. length cells + k) (length-map bytes (cell_of font)) in
     let more : columns (cells ++ cells_of font bytes) ≡ columns cells + length bytes = sum_by-append cell_columns cells (cells_of font bytes) ∙ ap (λ k. columns cells + k) (columns-plain font bytes plain) in
@@ -128,6 +128,7 @@ sound-more cells bytes font count gap word tag tag-now sound plain room tagged =
       gap_within = sound.gap_within;
       word_within = omega (arith, len, sound.word_within);
       tag_within = tagged;
+      blanks_within = sound.blanks_within;
     }
 
 -- ---- a blank and its cells
@@ -151,9 +152,9 @@ taken-word s bytes font =
     rw (has-more s.cells blank, blank-one, length-map bytes (cell_of font), append_assoc s.cells (blank ∷ []) (cells_of font bytes), counts-both s.tag_columns (length bytes)) refl
 
 -- a sound row with a blank and the cells of a plain text is sound
-pub sound-word : (cells : List Cell) (bytes : List ℕ) (font : Font) (count gap word tag tag-now : ℕ) → IsSound cells count gap word tag
+pub sound-word : {blanks : ℕ} (cells : List Cell) (bytes : List ℕ) (font : Font) (count gap word tag tag-now : ℕ) → IsSound cells count gap word tag blanks
     → is_printable_ascii bytes ≡ true → length cells + 1 + length bytes ≤ CELLS → tag-now ≤ TAG_COLUMNS
-    → IsSound (cells ++ blank ∷ cells_of font bytes) (count + (length bytes + 1)) (length cells) (length cells + 1) tag-now
+    → IsSound (cells ++ blank ∷ cells_of font bytes) (count + (length bytes + 1)) (length cells) (length cells + 1) tag-now blanks
 sound-word cells bytes font count gap word tag tag-now sound plain room tagged =
     let more : length (blank ∷ cells_of font bytes) ≡ length bytes + 1 = omega (arith, length-map bytes (cell_of font)) in
     let len : length (cells ++ blank ∷ cells_of font bytes) ≡ length cells + (length bytes + 1) = length-append cells (blank ∷ cells_of font bytes) ∙ ap (λ k. length cells + k) more in
@@ -168,6 +169,7 @@ sound-word cells bytes font count gap word tag tag-now sound plain room tagged =
       gap_within = omega arith;
       word_within = omega (arith, len);
       tag_within = tagged;
+      blanks_within = sound.blanks_within;
     }
 
 -- ---- its characters

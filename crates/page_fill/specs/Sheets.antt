@@ -1,7 +1,7 @@
 -- The steps of filling, which page_fill_laws proves equal to the definition by words: the open row, cell by cell, and what stands at the end of the
 -- rows that were given.
 -- Source: roff(7), "Filling and adjusting"; mandoc(1), "ASCII Output".
-use Rattle.std.specs.Prelude.{ℕ, zero, suc, ◌+◌, ◌^◌, ◌-◌, Bool, true, false, not, ◌&&◌, ◌==◌, nat_lt, min, List, [], ◌∷◌, ◌++◌, length, take, drop, replicate, sum_by, if◌then◌else◌}
+use Rattle.std.specs.Prelude.{ℕ, zero, suc, ◌+◌, ◌-◌, Bool, true, false, not, ◌&&◌, ◌==◌, nat_lt, min, List, [], ◌∷◌, ◌++◌, length, take, drop, replicate, sum_by, if◌then◌else◌}
 use Rattle.page_core_base.specs.declared.cells.Cell.{Cell}
 use Rattle.page_core_base.specs.declared.cells.Font.TheVariants.{R}
 use Rattle.page_core_base.specs.declared.note_kinds.NoteKind.TheVariants.{Limit}
@@ -13,7 +13,7 @@ use Rattle.page_core_tables.specs.Printed.{char_columns}
 use Rattle.page_core_limits.specs.Limits.{name_of}
 use Rattle.page_core_limits.specs.declared.Limit.TheVariants.{Cells}
 use Rattle.page_core_limits.specs.declared.TheConstants.{CELLS}
-use Rattle.page_fill.specs.declared.TheConstants.{TAG_COLUMNS}
+use Rattle.page_fill.specs.declared.TheConstants.{TAG_COLUMNS, BLANK_ROWS}
 
 -- the columns of a cell, and of cells
 abbrev pub cell_columns : Cell → ℕ
@@ -39,7 +39,7 @@ pub record Sheet : Type 0 where
   pub cells : List Cell
   pub gap : ℕ
   pub word : ℕ
-  -- how many blank rows stand at the end of the rows that were given, and whether a heading's row does
+  -- how many blank rows stand at the end of the rows that were given, up to BLANK_ROWS, and whether a heading's row does
   pub blank_rows : ℕ
   pub heading : Bool
   -- the columns of the open tag's cells, up to TAG_COLUMNS, and whether it has a cell
@@ -55,9 +55,9 @@ cells_note place = message_about Limit place (name_of Cells)
 
 -- ---- rows
 
--- the count of blank rows with more
+-- the count of blank rows with more, as far as they are counted
 abbrev pub more_blank_rows : ℕ → ℕ → ℕ
-more_blank_rows count more = min (count + more) (2 ^ 32 - 1)
+more_blank_rows count more = min (count + more) BLANK_ROWS
 
 -- a row of these cells was given
 abbrev pub given : Sheet → List Cell → Sheet

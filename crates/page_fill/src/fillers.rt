@@ -158,6 +158,7 @@ impl Filler {
     {
         self.edge.sheet.cells();
         self.edge.sheet.tag_columns();
+        self.edge.sheet.blank_rows();
     }
 
     /// Takes a piece, and gives the rows and messages that it settles. It succeeds if the sinks do.

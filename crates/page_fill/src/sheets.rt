@@ -8,9 +8,9 @@ ghost use Rattle.page_fill.specs.Characters as shown;
 ghost use Rattle.page_fill.specs.Plain as plain;
 ghost use Rattle.page_fill.specs.Sheets as sheet;
 
-use crate::TAG_COLUMNS;
 use crate::cell_widths::{BLANK, cell_columns, columns, is_blank};
 use crate::row_cells::RowCells;
+use crate::{BLANK_ROWS, TAG_COLUMNS};
 use page_core_base::{Cell, Font, Note, NoteKind, Place, RowOut};
 use page_core_limits::{CELLS, Limit};
 use std::alloc::{AllocError, Global};
@@ -62,7 +62,7 @@ impl Model for OpenRow {
       tag_begun = a.has_tag_cell;
     } };
 
-    ghost invariant = { λ a. IsSound a.row a.columns a.gap a.word a.tag_columns };
+    ghost invariant = { λ a. IsSound a.row a.columns a.gap a.word a.tag_columns a.blank_rows };
 }
 
 impl OpenRow {
@@ -103,9 +103,10 @@ impl OpenRow {
         self.is_literal
     }
 
-    /// How many blank rows stand at the end.
+    /// How many blank rows stand at the end, up to [`BLANK_ROWS`].
     pub(crate) fn blank_rows(&self) -> u32
-        ensures { result ≡ self.now.blank_rows }
+        ensures value { result ≡ self.now.blank_rows }
+        ensures bound { result ≤ BLANK_ROWS }
     {
         self.blank_rows
     }
@@ -193,7 +194,7 @@ impl OpenRow {
         let cells = &self.row.as_slice()[..end];
         out.give(self.margin, cells);
         self.blank_rows = if is_blank(cells) {
-            self.blank_rows.saturating_add(1)
+            self.blank_rows.saturating_add(1).min(BLANK_ROWS)
         } else {
             0
         };
@@ -515,7 +516,7 @@ impl OpenRow {
         ensures { LaysOut O.left out.old (sheet.empty_rows self.old count) out.new self.new }
     {
         give_empty(count, out);
-        self.blank_rows = self.blank_rows.saturating_add(count);
+        self.blank_rows = self.blank_rows.saturating_add(count).min(BLANK_ROWS);
         self.has_heading = self.has_heading && count == 0;
     }
 }
