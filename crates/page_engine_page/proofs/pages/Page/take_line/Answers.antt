@@ -7,7 +7,7 @@ use Rattle.page_engine_page.proofs.pages.Page.take_line.Goals as goal
 pub returns-in-Err-clause-takes : goal.returns-in-Err-clause-takes
 returns-in-Err-clause-takes g c = λ e h free.
     let i = open_parts c.self.inside.parts e c.self.view_is h in
-    (record { gave = c.in-Err.ensures.gets e i; cause = c.in-Err.ensures.faults e i }, refl)
+    (record { gave = c.in-Err.ensures.gets e i; cause = c.in-Err.ensures.faults e i }, c.in_default.ensures.begins.2)
 
 pub returns-in-Err-clause-works : goal.returns-in-Err-clause-works
 returns-in-Err-clause-works g c = λ e h free w.
