@@ -1,7 +1,7 @@
 -- A plain text that the open row has room for.
-use Rattle.std.proofs.Common.{◌≡◌, ℕ, ◌+◌, ◌<◌, ◌≤◌, suc, true, false, ◌==◌, List, [], ◌∷◌, ◌++◌, length, min, take, drop, set, get_or, append_assoc, append-nil, length-append, ◌||◌, length-drop, ◌-◌, nat_lt, ◌<◌, refl, ap, sym, ◌∙◌, arith}
+use Rattle.std.proofs.Common.{◌≡◌, ℕ, ◌+◌, ◌<◌, ◌≤◌, zero, suc, true, false, ◌==◌, List, [], ◌∷◌, ◌++◌, length, replicate, min, take, drop, set, get_or, append_assoc, append-nil, length-append, ◌||◌, length-drop, ◌-◌, nat_lt, ◌<◌, refl, ap, sym, ◌∙◌, arith}
 use Rattle.std.proofs.lemmas.Bool.Decides.{nat_tests}
-use Rattle.std.proofs.lemmas.List.{length-map, length-take-le, get_or-append_right, get_or-drop, take_more, drop_more, set_at}
+use Rattle.std.proofs.lemmas.List.{length-map, length-replicate, length-take-le, get_or-append_right, get_or-drop, take_more, drop_more, set_at}
 use Rattle.std.proofs.lemmas.List.Sums.{sum_by-append}
 use Rattle.unicode_width.specs.Width.{char_width}
 use Rattle.page_core_base.specs.declared.cells.Cell.{Cell}
@@ -21,7 +21,7 @@ use Rattle.page_core_base.specs.declared.page_settings.Output.{Output}
 use Rattle.std.proofs.lemmas.Str.{chars-IsAscii, IsUtf8-from_ascii}
 use Rattle.std.proofs.lemmas.Str.Ascii.{IsAscii-nil, IsAscii-cons}
 use Rattle.std.specs.Str.{IsAscii}
-use Rattle.page_fill.specs.Plain.{is_printable, is_printable_ascii, has_room, taken, has_word_room, takes_word, spaced}
+use Rattle.page_fill.specs.Plain.{is_printable, is_printable_ascii, has_room, taken, has_word_room, takes_word, spaced_by}
 
 -- a plain byte has a column
 pub plain-columns : (font : Font) (b : ℕ) → is_printable b ≡ true → cell_columns (cell_of font b) ≡ 1
@@ -131,40 +131,51 @@ sound-more cells bytes font count gap word tag tag-now sound plain room tagged =
       blanks_within = sound.blanks_within;
     }
 
--- ---- a blank and its cells
+-- ---- blanks and their cells
 
 pub blank-one : cell_columns blank ≡ 1
 unfolding char_width
 blank-one = refl
 
--- blank and cells count for the open tag one after another, or together
-counts-both : (columns n : ℕ) → min (min (columns + 1) TAG_COLUMNS + n) TAG_COLUMNS ≡ min (columns + (n + 1)) TAG_COLUMNS
-counts-both columns n = omega arith
-
-pub taken-word : (s : Sheet) (bytes : List ℕ) (font : Font) → taken (spaced s) (cells_of font bytes) ≡ record s {
-  cells = s.cells ++ blank ∷ cells_of font bytes;
-  gap = length s.cells;
-  word = length s.cells + 1;
-  tag_columns = min (s.tag_columns + (length bytes + 1)) TAG_COLUMNS;
-  tag_begun = true;
-}
-taken-word s bytes font =
-    rw (has-more s.cells blank, blank-one, length-map bytes (cell_of font), append_assoc s.cells (blank ∷ []) (cells_of font bytes), counts-both s.tag_columns (length bytes)) refl
-
--- a sound row with a blank and the cells of a plain text is sound
-pub sound-word : {blanks : ℕ} (cells : List Cell) (bytes : List ℕ) (font : Font) (count gap word tag tag-now : ℕ) → IsSound cells count gap word tag blanks
-    → is_printable_ascii bytes ≡ true → length cells + 1 + length bytes ≤ CELLS → tag-now ≤ TAG_COLUMNS
-    → IsSound (cells ++ blank ∷ cells_of font bytes) (count + (length bytes + 1)) (length cells) (length cells + 1) tag-now blanks
-sound-word cells bytes font count gap word tag tag-now sound plain room tagged =
-    let more : length (blank ∷ cells_of font bytes) ≡ length bytes + 1 = omega (arith, length-map bytes (cell_of font)) in
-    let len : length (cells ++ blank ∷ cells_of font bytes) ≡ length cells + (length bytes + 1) = length-append cells (blank ∷ cells_of font bytes) ∙ ap (λ k. length cells + k) more in
-    let others = columns-plain font bytes plain in
+columns-blanks : (n : ℕ) → columns (replicate n blank) ≡ n
+columns-blanks zero = refl
+columns-blanks (suc n) =
     let first : columns (blank ∷ []) ≡ 1 = omega (arith, blank-one) in
-    let wide : columns (blank ∷ cells_of font bytes) ≡ length bytes + 1 = sum_by-append cell_columns (blank ∷ []) (cells_of font bytes) ∙ omega (arith, first, others) in
-    let sum : columns (cells ++ blank ∷ cells_of font bytes) ≡ columns cells + (length bytes + 1) = sum_by-append cell_columns cells (blank ∷ cells_of font bytes) ∙ ap (λ k. columns cells + k) wide in
+    let others = columns-blanks n in
+    sum_by-append cell_columns (blank ∷ []) (replicate n blank) ∙ omega (arith, first, others)
+
+has-front : (cells more : List Cell) → (length cells == 0) ≡ false → (length (cells ++ more) == 0) ≡ false
+has-front cells more some = let len = length-append cells more in grind (arith, nat_tests, some, len)
+
+-- blanks and cells count for the open tag one after another, or together
+counts-both : (columns blanks n : ℕ) → min (min (columns + blanks) TAG_COLUMNS + n) TAG_COLUMNS ≡ min (columns + (blanks + n)) TAG_COLUMNS
+counts-both columns blanks n = omega arith
+
+pub taken-word : (s : Sheet) (blanks : ℕ) (bytes : List ℕ) (font : Font) → (length s.cells == 0) ≡ false
+    → taken (spaced_by s blanks) (cells_of font bytes) ≡ record s {
+      cells = s.cells ++ replicate blanks blank ++ cells_of font bytes;
+      gap = length s.cells;
+      word = length s.cells + blanks;
+      tag_columns = min (s.tag_columns + (blanks + length bytes)) TAG_COLUMNS;
+      tag_begun = true;
+    }
+taken-word s blanks bytes font some =
+    rw (has-front s.cells (replicate blanks blank) some, length-map bytes (cell_of font), counts-both s.tag_columns blanks (length bytes)) refl
+
+-- a sound row with blanks and the cells of a plain text is sound
+pub sound-word : {held : ℕ} (cells : List Cell) (blanks : ℕ) (bytes : List ℕ) (font : Font) (count gap word tag tag-now : ℕ) → IsSound cells count gap word tag held
+    → is_printable_ascii bytes ≡ true → length cells + blanks + length bytes ≤ CELLS → tag-now ≤ TAG_COLUMNS
+    → IsSound (cells ++ replicate blanks blank ++ cells_of font bytes) (count + (blanks + length bytes)) (length cells) (length cells + blanks) tag-now held
+sound-word cells blanks bytes font count gap word tag tag-now sound plain room tagged =
+    let front = length-append cells (replicate blanks blank) in
+    let whole = length-append (cells ++ replicate blanks blank) (cells_of font bytes) in
+    let len : length (cells ++ replicate blanks blank ++ cells_of font bytes) ≡ length cells + (blanks + length bytes) = omega (arith, whole, front, length-replicate blanks blank, length-map bytes (cell_of font)) in
+    let wide = sum_by-append cell_columns cells (replicate blanks blank) in
+    let all = sum_by-append cell_columns (cells ++ replicate blanks blank) (cells_of font bytes) in
+    let sum : columns (cells ++ replicate blanks blank ++ cells_of font bytes) ≡ columns cells + (blanks + length bytes) = omega (arith, all, wide, columns-blanks blanks, columns-plain font bytes plain) in
     record {
       bounded = omega (arith, len, room);
-      counted = ap (λ k. k + (length bytes + 1)) sound.counted ∙ sym sum;
+      counted = ap (λ k. k + (blanks + length bytes)) sound.counted ∙ sym sum;
       narrow = omega (arith, len, sound.narrow);
       gap_within = omega arith;
       word_within = omega (arith, len);
@@ -208,39 +219,65 @@ unfolding text
 text-plain e bytes font place plain some =
     rw (some, characters-plain (opening e place).edge.output (opening e place).edge.sheet bytes font place plain) refl
 
--- ---- a word after one blank
+-- ---- a word after blanks
 
-space-fits : (s : Sheet) (n : ℕ) (place : Place) → has_word_room s n ≡ true → space (opens s) place ≡ nothing (spaced s)
-unfolding space char_width
-space-fits s n place room =
-    let some : (length s.cells == 0) ≡ false = grind (arith, nat_tests, room) in
+space-fits : (s : Sheet) (place : Place) → s.literal ≡ false → (length s.cells == 0) ≡ false → length s.cells < CELLS
+    → s.margin + columns s.cells + 1 ≤ s.width
+    → space s place ≡ nothing (record s { cells = s.cells ++ blank ∷ []; word = length s.cells + 1; tag_columns = min (s.tag_columns + 1) TAG_COLUMNS; tag_begun = true })
+unfolding space
+space-fits s place literal some room wide =
     let full : (length s.cells == CELLS) ≡ false = grind (arith, nat_tests, room) in
-    let passed : passes (opens s) blank ≡ false = grind (arith, nat_tests, room) in
-    rw (some, passed, full) refl
+    let passed : passes s blank ≡ false = grind (arith, nat_tests, literal, wide, blank-one) in
+    rw (some, passed, full, blank-one) refl
 
-spaced-room : (s : Sheet) (n : ℕ) → has_word_room s n ≡ true → has_room (spaced s) n ≡ true
-unfolding char_width
-spaced-room s n room =
-    let sum : columns (s.cells ++ blank ∷ []) ≡ columns s.cells + 1 = sum_by-append cell_columns s.cells (blank ∷ []) in
-    rw (sum, length-append s.cells (blank ∷ [])) (grind (arith, nat_tests, room))
+spaces-fit : (s : Sheet) (n : ℕ) (place : Place) → s.literal ≡ false → (length s.cells == 0) ≡ false → length s.cells + suc n ≤ CELLS
+    → s.margin + columns s.cells + suc n ≤ s.width
+    → spaces s (suc n) place ≡ nothing (record s {
+      cells = s.cells ++ replicate (suc n) blank;
+      word = length s.cells + suc n;
+      tag_columns = min (s.tag_columns + suc n) TAG_COLUMNS;
+      tag_begun = true;
+    })
+unfolding spaces
+spaces-fit s zero place literal some room wide = rw (space-fits s place literal some (omega (arith, room)) wide) refl
+spaces-fit s (suc n) place literal some room wide =
+    let t = record s { cells = s.cells ++ blank ∷ []; word = length s.cells + 1; tag_columns = min (s.tag_columns + 1) TAG_COLUMNS; tag_begun = true } in
+    let len = length-append s.cells (blank ∷ []) in
+    let last : columns (blank ∷ []) ≡ 1 = omega (arith, blank-one) in
+    let sum : columns (s.cells ++ blank ∷ []) ≡ columns s.cells + 1 = sum_by-append cell_columns s.cells (blank ∷ []) ∙ ap (λ k. columns s.cells + k) last in
+    let others = spaces-fit t n place literal (has-more s.cells blank) (omega (arith, len, room)) (omega (arith, sum, wide)) in
+    let word : length (s.cells ++ blank ∷ []) + suc n ≡ length s.cells + suc (suc n) = omega (arith, len) in
+    rw (space-fits s place literal some (omega (arith, room)) (omega (arith, wide)), others)
+    (rw (append_assoc s.cells (blank ∷ []) (replicate (suc n) blank), word, counts-more s.tag_columns n) refl)
 
-opening-fits : (e : Edge) (n : ℕ) (place : Place) → takes_word e n ≡ true → opening e place ≡ nothing (record e { sheet = spaced e.sheet; word = begun_word false })
-unfolding opening spaces
-opening-fits e n place takes =
+spaced-room : (s : Sheet) (blanks n : ℕ) → has_word_room s blanks n ≡ true → has_room (spaced_by s blanks) n ≡ true
+spaced-room s blanks n room =
+    let sum : columns (s.cells ++ replicate blanks blank) ≡ columns s.cells + blanks = sum_by-append cell_columns s.cells (replicate blanks blank) ∙ ap (λ k. columns s.cells + k) (columns-blanks blanks) in
+    let len : length (s.cells ++ replicate blanks blank) ≡ length s.cells + blanks = length-append s.cells (replicate blanks blank) ∙ ap (λ k. length s.cells + k) (length-replicate blanks blank) in
+    rw (sum, len) (grind (arith, nat_tests, room))
+
+opening-fits : (e : Edge) (m n : ℕ) (place : Place) → e.word.blanks ≡ suc m → takes_word e n ≡ true
+    → opening e place ≡ nothing (record e { sheet = spaced_by e.sheet e.word.blanks; word = begun_word false })
+unfolding opening
+opening-fits e m n place is takes =
     let joined : e.word.is_joined ≡ false = grind (arith, takes) in
     let tab : e.word.has_tab ≡ false = grind (arith, takes) in
-    let one : e.word.blanks ≡ 1 = grind (arith, nat_tests, takes) in
-    let room : has_word_room e.sheet n ≡ true = grind (arith, takes) in
+    let held : has_word_room e.sheet e.word.blanks n ≡ true = grind (arith, takes) in
+    let room : has_word_room e.sheet (suc m) n ≡ true = rw is at held in
     let literal : e.sheet.literal ≡ false = grind (arith, room) in
     let some : (length e.sheet.cells == 0) ≡ false = grind (arith, nat_tests, room) in
     let stood : stands e ≡ false = grind (arith, literal, some) in
-    rw (joined, tab, one, stood, space-fits e.sheet n place room) refl
+    let within : length e.sheet.cells + suc m ≤ CELLS = grind (arith, nat_tests, room) in
+    let narrow : e.sheet.margin + columns e.sheet.cells + suc m ≤ e.sheet.width = grind (arith, nat_tests, room) in
+    rw (joined, tab, is, stood, spaces-fit (opens e.sheet) m place literal some within narrow) refl
 
 pub text-word : (e : Edge) (bytes : List ℕ) (font : Font) (place : Place) → is_printable_ascii bytes ≡ true → (length bytes == 0) ≡ false → takes_word e (length bytes) ≡ true
-    → text e bytes font place ≡ nothing (record e { sheet = taken (spaced e.sheet) (cells_of font bytes); word = begun_word false })
+    → text e bytes font place ≡ nothing (record e { sheet = taken (spaced_by e.sheet e.word.blanks) (cells_of font bytes); word = begun_word false })
 text-word e bytes font place plain some takes =
-    let room : has_word_room e.sheet (length bytes) ≡ true = grind (arith, takes) in
-    rw (text-plain e bytes font place plain some, opening-fits e (length bytes) place takes, letters-fits (spaced e.sheet) bytes font place some plain (spaced-room e.sheet (length bytes) room)) refl
+    let room : has_word_room e.sheet e.word.blanks (length bytes) ≡ true = grind (arith, takes) in
+    let is : e.word.blanks ≡ suc (e.word.blanks - 1) = grind (arith, nat_tests, takes) in
+    let opens = opening-fits e (e.word.blanks - 1) (length bytes) place is takes in
+    rw (text-plain e bytes font place plain some, opens, letters-fits (spaced_by e.sheet e.word.blanks) bytes font place some plain (spaced-room e.sheet e.word.blanks (length bytes) room)) refl
 
 -- ---- a word that goes on in the next row
 

@@ -1,6 +1,6 @@
 -- A machine, which no public clause cites: the fast way for plain texts. They are bytes of printable ASCII, each a cell of one column, so that an
 -- open row with room for them takes them as a whole.
-use Rattle.std.specs.Prelude.{ℕ, ◌+◌, Bool, true, not, ◌&&◌, ◌||◌, ◌==◌, nat_le, nat_lt, min, List, [], ◌∷◌, ◌++◌, length, if◌then◌else◌}
+use Rattle.std.specs.Prelude.{ℕ, ◌+◌, Bool, true, not, ◌&&◌, ◌||◌, ◌==◌, nat_le, nat_lt, min, List, [], ◌∷◌, ◌++◌, length, replicate, if◌then◌else◌}
 use Rattle.std.specs.List.{list_all}
 use Rattle.page_core_base.specs.declared.cells.Cell.{Cell}
 use Rattle.page_core_base.specs.Laid.{Laid}
@@ -22,16 +22,17 @@ has_room s count =
     nat_le (length s.cells + count) CELLS
     && (s.literal || (s.gap == 0 || nat_le (s.margin + columns s.cells + count) s.width))
 
--- an open row that is filled has room for a blank and this count of cells of a column each after it
-abbrev pub has_word_room : Sheet → ℕ → Bool
-has_word_room s count =
+-- an open row that is filled has room for blanks and this count of cells of a column each after them
+abbrev pub has_word_room : Sheet → ℕ → ℕ → Bool
+has_word_room s blanks count =
     not s.literal
     && (not (length s.cells == 0)
-    && (nat_le (length s.cells + 1 + count) CELLS && nat_le (s.margin + columns s.cells + 1 + count) s.width))
+    && (nat_le (length s.cells + blanks + count) CELLS && nat_le (s.margin + columns s.cells + blanks + count) s.width))
 
--- a word after one blank, with this count of cells of a column each, goes into the open row
+-- a word after blanks, with this count of cells of a column each, goes into the open row
 abbrev pub takes_word : Edge → ℕ → Bool
-takes_word e count = not e.word.is_joined && (not e.word.has_tab && (e.word.blanks == 1 && has_word_room e.sheet count))
+takes_word e count =
+    not e.word.is_joined && (not e.word.has_tab && (nat_lt 0 e.word.blanks && has_word_room e.sheet e.word.blanks count))
 
 -- an open row that is filled ends before a word after one blank, with this count of cells of a column each
 abbrev pub ends_before : Sheet → ℕ → Bool
@@ -46,6 +47,16 @@ wraps_word e count = not e.word.is_joined && (not e.word.has_tab && (e.word.blan
 -- the row took a blank before its next word
 abbrev pub spaced : Sheet → Sheet
 spaced s = let t = counted (opens s) blank in record t { cells = t.cells ++ blank ∷ []; word = length t.cells + 1 }
+
+-- the same of a count of blanks
+abbrev pub spaced_by : Sheet → ℕ → Sheet
+spaced_by s n = record s {
+  cells = s.cells ++ replicate n blank;
+  gap = length s.cells;
+  word = length s.cells + n;
+  tag_columns = min (s.tag_columns + n) TAG_COLUMNS;
+  tag_begun = true;
+}
 
 -- a row is open, perhaps without cells
 abbrev pub opened : Sheet → Sheet

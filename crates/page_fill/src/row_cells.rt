@@ -1,6 +1,6 @@
 //! The cells of a row, in places that are reserved for good.
 
-ghost use Rattle.std.specs.Prelude.{◌≡◌, ℕ, ◌+◌, ◌-◌, ◌<◌, ◌≤◌, [], ◌∷◌, ◌++◌, ◌==◌, length, take, drop, IfOk, true, if◌then◌else◌};
+ghost use Rattle.std.specs.Prelude.{◌≡◌, ℕ, ◌+◌, ◌-◌, ◌<◌, ◌≤◌, [], ◌∷◌, ◌++◌, ◌==◌, length, take, drop, replicate, IfOk, true, if◌then◌else◌};
 ghost use Rattle.page_fill.specs.Characters as shown;
 ghost use Rattle.page_fill.specs.Plain as plain;
 ghost use Rattle.page_fill.specs.Sheets as sheet;
@@ -102,18 +102,31 @@ impl RowCells {
         self.len += bytes.len();
     }
 
-    /// Appends a blank and a cell of each byte, if all bytes are printable ASCII, and says whether they are.
-    pub(crate) fn add_word(&mut self, bytes: &[u8], font: Font) -> bool
-        requires { length self.old + 1 + length bytes.now ≤ CELLS }
+    /// Appends blanks and a cell of each byte, if all bytes are printable ASCII, and says whether they are.
+    pub(crate) fn add_word(&mut self, blanks: u32, bytes: &[u8], font: Font) -> bool
+        requires { length self.old + blanks + length bytes.now ≤ CELLS }
         ensures answer { result ≡ plain.is_printable_ascii bytes.now }
-        ensures cells { self.new ≡ (if result then self.old ++ sheet.blank ∷ shown.cells_of font bytes.now else self.old) }
+        ensures cells { self.new ≡ (if result then self.old ++ replicate blanks sheet.blank ++ shown.cells_of font bytes.now else self.old) }
     {
-        self.places[self.len] = BLANK;
-        if !put_printable(&mut self.places, self.len + 1, bytes, font) {
+        let start = self.len + blanks as usize;
+        put_blanks(&mut self.places, self.len, blanks as usize);
+        if !put_printable(&mut self.places, start, bytes, font) {
             return false;
         }
-        self.len += 1 + bytes.len();
+        self.len = start + bytes.len();
         true
+    }
+}
+
+// Puts a count of blanks at a start and after it.
+fn put_blanks(places: &mut [Cell], start: usize, count: usize)
+    requires { start + count ≤ length places.old }
+    ensures blanks { take (start + count) places.new ≡ take start places.old ++ replicate count sheet.blank }
+    ensures before { take start places.new ≡ take start places.old }
+    ensures len { length places.new ≡ length places.old }
+{
+    for i in 0..count {
+        places[start + i] = BLANK;
     }
 }
 

@@ -1,6 +1,6 @@
 //! The open row, cell by cell.
 
-ghost use Rattle.std.specs.Prelude.{◌≡◌, ℕ, ◌+◌, ◌*◌, ◌^◌, ◌-◌, ◌<◌, ◌≤◌, List, [], ◌∷◌, ◌++◌, length, take, drop, replicate, vec_capacity, IfOk, true, false, if◌then◌else◌};
+ghost use Rattle.std.specs.Prelude.{◌≡◌, ℕ, ◌+◌, ◌*◌, ◌^◌, ◌-◌, ◌<◌, ◌≤◌, ◌==◌, List, [], ◌∷◌, ◌++◌, length, take, drop, replicate, vec_capacity, IfOk, true, false, if◌then◌else◌};
 ghost use Rattle.page_core_base.specs.Latches.{CameRows, LaysOut};
 ghost use Rattle.page_core_base.specs.Messages.{message_of};
 ghost use Rattle.page_core_base.specs.Rows.{row_of};
@@ -335,14 +335,22 @@ impl OpenRow {
         self.is_literal || self.gap == 0 || columns <= u64::from(self.width)
     }
 
-    /// Whether a filled row takes a blank and this count of cells of a column each after it before it ends.
-    pub(crate) fn has_word_room(&self, count: usize) -> bool
-        ensures { result ≡ plain.has_word_room self.now count }
+    /// Whether a filled row takes blanks and this count of cells of a column each after them before it ends.
+    pub(crate) fn has_word_room(&self, blanks: u32, count: usize) -> bool
+        ensures { result ≡ plain.has_word_room self.now blanks count }
     {
-        if self.is_literal || self.row.is_empty() || CELLS - self.row.len() <= count {
+        let free = CELLS - self.row.len();
+        if self.is_literal
+            || self.row.is_empty()
+            || free < count
+            || free - count < blanks as usize
+        {
             return false;
         }
-        let columns = u64::from(self.margin) + u64::from(self.columns) + 1 + count as u64;
+        let columns = u64::from(self.margin)
+            + u64::from(self.columns)
+            + u64::from(blanks)
+            + count as u64;
         columns <= u64::from(self.width)
     }
 
@@ -381,21 +389,22 @@ impl OpenRow {
         self.add_plain(bytes, font);
     }
 
-    /// The row takes a blank, and after it a word of bytes, if these are a column each; says whether they are.
-    pub(crate) fn add_word(&mut self, bytes: &[u8], font: Font) -> bool
-        requires { length self.old.cells + 1 + length bytes.now ≤ CELLS }
+    /// The row takes blanks, and after them a word of bytes, if these are a column each; says whether they are.
+    pub(crate) fn add_word(&mut self, blanks: u32, bytes: &[u8], font: Font) -> bool
+        requires some { (length self.old.cells == 0) ≡ false }
+        requires room { length self.old.cells + blanks + length bytes.now ≤ CELLS }
         ensures answer { result ≡ plain.is_printable_ascii bytes.now }
         ensures word { result ≡ true
-            → self.new ≡ plain.taken (plain.spaced self.old) (shown.cells_of font bytes.now) }
+            → self.new ≡ plain.taken (plain.spaced_by self.old blanks) (shown.cells_of font bytes.now) }
         ensures same { result ≡ false → self.new ≡ self.old }
     {
         let gap = self.row.len();
-        if !self.row.add_word(bytes, font) {
+        if !self.row.add_word(blanks, bytes, font) {
             return false;
         }
         self.gap = gap;
-        self.word = gap + 1;
-        let count = bytes.len() as u32 + 1;
+        self.word = gap + blanks as usize;
+        let count = blanks + bytes.len() as u32;
         self.columns += count;
         self.tag_columns = (self.tag_columns + count).min(TAG_COLUMNS);
         self.has_tag_cell = true;

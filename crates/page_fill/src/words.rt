@@ -168,12 +168,15 @@ impl Edge {
         put_characters(&mut self.sheet, self.output, text, font, place, out);
     }
 
-    // Whether the next word, with this count of cells of a column each, goes into the row after one blank.
+    // Whether the next word, with this count of cells of a column each, goes into the row after its blanks.
     fn takes_word(&self, count: usize) -> bool
         ensures { result ≡ plain.takes_word self.now count }
     {
         let word = &self.word;
-        !word.is_joined && !word.has_tab && word.blanks == 1 && self.sheet.has_word_room(count)
+        !word.is_joined
+            && !word.has_tab
+            && 0 < word.blanks
+            && self.sheet.has_word_room(word.blanks, count)
     }
 
     // Whether the next word, with this count of cells of a column each, begins the next row after one blank.
@@ -184,13 +187,17 @@ impl Edge {
         !word.is_joined && !word.has_tab && word.blanks == 1 && self.sheet.ends_before(count)
     }
 
-    /// Takes a word that the open row has room for after one blank, if it is plain; says whether it did.
+    /// Takes a word that the open row has room for after its blanks, if it is plain; says whether it did.
     pub(crate) fn takes_at_once(&mut self, bytes: &[u8], font: Font) -> bool
         ensures taken { result ≡ true → (place : Place)
             → fill.text self.old (characters_of bytes.now) font place ≡ nothing self.new }
         ensures same { result ≡ false → self.new ≡ self.old }
     {
-        if bytes.is_empty() || !self.takes_word(bytes.len()) || !self.sheet.add_word(bytes, font) {
+        let blanks = self.word.blanks;
+        if bytes.is_empty() || !self.takes_word(bytes.len()) {
+            return false;
+        }
+        if !self.sheet.add_word(blanks, bytes, font) {
             return false;
         }
         self.word = OpenWord::begun(false);

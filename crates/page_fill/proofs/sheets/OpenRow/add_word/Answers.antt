@@ -6,9 +6,9 @@ pub invariant_of-self-2 : goal.invariant_of-self-2
 invariant_of-self-2 c =
     let added = c.if-not-add_word.ensures in
     rw (added.cells, c.len-gap.ensures.value)
-    (sound-word c.self.inside.row c.args.bytes.now c.args.font c.self.inside.columns c.self.inside.gap c.self.inside.word c.self.inside.tag_columns _ c.self.invariant (sym added.answer) (rw (← c.self.view_is) at c.requires) (omega (arith, c.min-self-inside.ensures)))
+    (sound-word c.self.inside.row c.args.blanks c.args.bytes.now c.args.font c.self.inside.columns c.self.inside.gap c.self.inside.word c.self.inside.tag_columns _ c.self.invariant (sym added.answer) (rw (← c.self.view_is) at c.requires.room) (omega (arith, c.min-self-inside.ensures)))
 
 pub returns-clause-word : goal.returns-clause-word
 returns-clause-word c =
     let added = c.if-not-add_word.ensures in
-    λ _. rw (taken-word c.args.self.now c.args.bytes.now c.args.font, ← c.self.view_is, added.cells, c.len-gap.ensures.value, c.min-self-inside.ensures) refl
+    λ _. rw (taken-word c.args.self.now c.args.blanks c.args.bytes.now c.args.font c.requires.some, ← c.self.view_is, added.cells, c.len-gap.ensures.value, c.min-self-inside.ensures) refl
