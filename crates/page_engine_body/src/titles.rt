@@ -12,6 +12,7 @@ use page_scopes_words::report;
 use page_sets::Prologue;
 
 /// Gives the messages of a title, which stands at a place, and keeps its fields where the body has not begun.
+#[inline(never)]
 pub(crate) fn give_title<O: PieceOut>(
     out: &mut O,
     place: Place,

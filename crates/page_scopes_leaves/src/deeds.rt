@@ -29,12 +29,12 @@ pub fn give_deed<O: PieceOut>(
     ensures running { running.new
         ≡ (deeds.deed_outcome place (deed_seen deed.now) context.old running.old).running }
 {
-    match *deed {
-        Deed::Word(word) => give_line_word(out, place.line, &word, context, running),
-        Deed::Leaf(leaf) => give_leaf(out, place, &leaf, context, running),
+    match deed {
+        Deed::Word(word) => give_line_word(out, place.line, word, context, running),
+        Deed::Leaf(leaf) => give_leaf(out, place, leaf, context, running),
         Deed::Raw(text) => give_raw_line(out, place, text, context, running),
         Deed::End { .. } => end_line(out, context, running),
-        Deed::Note { kind, detail, .. } => report(out, kind, place, detail),
+        Deed::Note { kind, detail, .. } => report(out, *kind, place, detail),
         Deed::Open(_) | Deed::Close(_) | Deed::LineScope(_) => {}
     }
 }
