@@ -1,20 +1,18 @@
 -- How much is held between two lines. Source: mandoc(1), "DIAGNOSTICS".
--- Not said here: the columns of an open tag and the blank rows at the end.
-use Rattle.std.specs.Prelude.{◌≡◌, ◌≤◌, Some, length}
-use Rattle.page_core_limits.specs.declared.TheConstants.{CELLS}
+use Rattle.std.specs.Prelude.{◌≡◌, Some}
 use Rattle.page_roff_source.specs.Caps.{RoffFits}
 use Rattle.page_engine_body.specs.Caps.{BodyFits}
-use Rattle.page_fill.specs.Fill.{open_cells}
+use Rattle.page_fill.specs.Caps.{FillFits}
 use Rattle.page_engine_page.specs.Page.{Edge}
 use Rattle.page_engine_page.specs.States.{PageState}
 
 pub record IsWithin (e : Edge) : Type 0 where
-  -- the cells of the open row
-  pub open_row : length (open_cells e.fill) ≤ CELLS
   -- names and what they stand for, an open region, and open blocks
   pub roff : RoffFits e.lines.roff
   -- the fields of header and footer, the name of the system, and the open scopes with the targets of links
   pub body : BodyFits e.lines.body
+  -- the cells of the open row, the columns of an open tag, and the blank rows at the end
+  pub fill : FillFits e.fill
 
 -- the edge that a page is at
 abbrev pub HoldsWithin : PageState → Type 0

@@ -192,7 +192,7 @@ impl Parts {
     pub(crate) fn caps_law(&self)
         ensures { (e : Edge) → IsAt self.now e → IsWithin e }
     {
-        self.filler.pending();
+        self.filler.caps_law();
         self.lines.caps_law();
     }
 }
