@@ -27,7 +27,8 @@ pub fn write_note<W: Write>(out: &mut W, file: &str, note: &Note) -> Result<(), 
 
 // Writes a message, and says whether that succeeded.
 pub(crate) fn put_note<W: Write>(out: &mut W, file: &str, note: &Note) -> bool
-    ensures { Writes result (W.contents out.old) (W.contents out.new) (message_bytes file.now (message_of note.now)) }
+    ensures { Writes result (W.contents out.old) (W.contents out.new)
+        (message_bytes file.now (message_of note.now)) }
 {
     let mut line = Buffer::new();
     let mut column = Buffer::new();

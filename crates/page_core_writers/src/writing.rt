@@ -35,7 +35,8 @@ pub(crate) fn put<W: Write>(out: &mut W, bytes: &[u8]) -> bool
 // Makes room for a number of bytes, by a write where there is too little.
 fn make_room<W: Write>(out: &mut W, unsent: &mut Unsent, bytes: usize) -> bool
     requires { bytes ≤ 512 }
-    ensures sent { WritesUpTo result (W.contents out.old) (W.contents out.new) unsent.old.items unsent.new.items }
+    ensures sent { WritesUpTo result (W.contents out.old)
+        (W.contents out.new) unsent.old.items unsent.new.items }
     ensures room { result ≡ true → length unsent.new.items + bytes ≤ 512 }
 {
     if unsent.remaining_capacity() >= bytes {
@@ -46,7 +47,8 @@ fn make_room<W: Write>(out: &mut W, unsent: &mut Unsent, bytes: usize) -> bool
 
 // Collects the bytes of a text, and writes what has no room.
 fn add<W: Write>(out: &mut W, unsent: &mut Unsent, text: &[u8]) -> bool
-    ensures { WritesUpTo result (W.contents out.old) (W.contents out.new) (unsent.old.items ++ text.now) unsent.new.items }
+    ensures { WritesUpTo result (W.contents out.old) (W.contents out.new) (unsent.old.items
+        ++ text.now) unsent.new.items }
 {
     if text.len() > BUFFER {
         return send(out, unsent) && put(out, text);
@@ -71,7 +73,8 @@ fn send<W: Write>(out: &mut W, unsent: &mut Unsent) -> bool
 
 /// Writes texts one after another.
 pub(crate) fn put_all<W: Write>(out: &mut W, texts: &[&[u8]]) -> bool
-    ensures { Writes result (W.contents out.old) (W.contents out.new) (flat_map (λ text. text.now) texts.now) }
+    ensures { Writes result (W.contents out.old) (W.contents out.new)
+        (flat_map (λ text. text.now) texts.now) }
 {
     let mut unsent = Unsent::new();
     for text in texts {

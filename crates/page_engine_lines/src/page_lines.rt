@@ -86,7 +86,8 @@ impl PageLines {
     pub fn line<O: PieceSink>(&mut self, out: &mut O, number: u32, text: &[u8]) -> Result<(), Fault>
         requires line { IsLine text.now }
         requires count { self.old.roff.source < 2 ^ 31 }
-        ensures gives { Emits result O.gave O.broke out.old (lines.source_items self.old number text.now) out.new }
+        ensures gives { Emits result O.gave O.broke out.old
+            (lines.source_items self.old number text.now) out.new }
         ensures after { self.new ≡ lines.source_after self.old number text.now }
         ensures same { O.loans out.new ≡ O.loans out.old }
     {
@@ -118,7 +119,8 @@ impl PageLines {
         number: u32,
         blank_rows: u32,
     ) -> Result<(), Fault>
-        ensures gives { Emits result O.gave O.broke out.old (lines.footer_items self.now number blank_rows) out.new }
+        ensures gives { Emits result O.gave O.broke out.old
+            (lines.footer_items self.now number blank_rows) out.new }
         ensures same { O.loans out.new ≡ O.loans out.old }
     {
         let mut items = ItemOut {

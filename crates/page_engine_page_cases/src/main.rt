@@ -99,7 +99,10 @@ fn show_roff(rt: &HostRuntime, page: &[u8], words: &Words, ending: Ending) {
         let _ = println!(rt; "-- not by roff alone");
         return;
     };
-    if ending.result.is_ok_and(|outcome| outcome.counts != roff.counts) {
+    if ending
+        .result
+        .is_ok_and(|outcome| outcome.counts != roff.counts)
+    {
         let _ = println!(rt; "-- not the counts of roff alone");
     }
     if !roff.has_memory {

@@ -308,7 +308,8 @@ impl Counter {
 
     // Counts a call, and says whether it succeeds.
     fn takes(&mut self) -> bool
-        ensures { MatchBool result (self.new.failures ≡ self.old.failures) (Rose self.old.failures self.new.failures) }
+        ensures { MatchBool result (self.new.failures
+            ≡ self.old.failures) (Rose self.old.failures self.new.failures) }
     {
         self.calls = self.calls.saturating_add(1);
         if self.calls <= self.good {

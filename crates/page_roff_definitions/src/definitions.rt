@@ -193,7 +193,8 @@ fn do_define_string<O: NoteOut>(line: RequestLine<'_>, names: &mut Names, out: &
 // `as`
 fn do_append_string<O: NoteOut>(line: RequestLine<'_>, names: &mut Names, out: &mut O)
     requires { FitsRequest line }
-    ensures { Does O.left out.old out.new names.new (defining.as_request line.entry.rest_column line.entry.rest.now
+    ensures { Does O.left out.old out.new names.new
+        (defining.as_request line.entry.rest_column line.entry.rest.now
         (arguments line.entry.rest_column line.entry.rest.now) line.entry.place names.old) }
 {
     if let Some(name) = Arguments::new(line.rest, line.rest_column).next_argument() {

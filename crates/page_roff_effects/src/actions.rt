@@ -62,7 +62,8 @@ pub(crate) fn expand_line<O: NoteOut>(
     line: &mut Expansion,
     out: &mut O,
 )
-    ensures { Expands O.left out.old out.new line.new (laying.expanded (surroundings_of env.now) number text.now) }
+    ensures { Expands O.left out.old out.new line.new
+        (laying.expanded (surroundings_of env.now) number text.now) }
 {
     line.begin(number);
     line.expand_more(env, text, 0, out);
@@ -76,7 +77,8 @@ pub(crate) fn report_at<O: NoteOut>(
     detail: &[u8],
     out: &mut O,
 )
-    ensures { Came O.left out.old (message_about kind (record { line = line; column = column }) detail.now ∷ []) out.new }
+    ensures { Came O.left out.old (message_about kind
+        (record { line = line; column = column }) detail.now ∷ []) out.new }
 {
     out.report(&Note::about(kind, Place { line, column }, detail));
 }

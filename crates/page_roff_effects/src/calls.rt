@@ -50,7 +50,8 @@ fn append_unpaired(text: &mut Vec<u8>, quoted: &[u8])
 // Puts an argument at the end, with a line feed after it.
 fn append_argument(text: &mut Vec<u8>, argument: Argument<&[u8]>)
     requires { vec_len text.old + length argument.text.now + 1 ≤ vec_capacity text.old }
-    ensures items { text.new.items ≡ text.old.items ++ (argument_value (argument_seen argument.entry) ++ (10 ∷ [])) }
+    ensures items { text.new.items ≡ text.old.items
+        ++ (argument_value (argument_seen argument.entry) ++ (10 ∷ [])) }
     ensures capacity { vec_capacity text.old ≤ vec_capacity text.new }
 {
     if argument.is_quoted() && memchr(b'"', argument.text).is_some() {

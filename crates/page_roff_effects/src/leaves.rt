@@ -75,7 +75,8 @@ fn rest_of(text: &[u8], name_end: u32) -> &[u8]
 
 // Reports a call beyond the limits.
 fn report_refusals<O: NoteOut>(may_call: bool, fits: bool, place: Place, out: &mut O)
-    ensures { Came O.left out.old (leaves.depth_notes may_call place ++ leaves.size_notes fits place) out.new }
+    ensures { Came O.left out.old (leaves.depth_notes may_call place
+        ++ leaves.size_notes fits place) out.new }
 {
     if !may_call {
         report_at(NoteKind::Loop, place.line, place.column, b"CALLS", out);
@@ -88,7 +89,8 @@ fn report_refusals<O: NoteOut>(may_call: bool, fits: bool, place: Place, out: &m
 impl Actions {
     // Takes the line that is finished.
     fn take_finished(&mut self, form: Form, name_end: u32) -> ProductKind
-        ensures { Takes self.old (gives_line form self.old.finished.text name_end self.old.memory) result self.new }
+        ensures { Takes self.old (gives_line form self.old.finished.text name_end
+            self.old.memory) result self.new }
     {
         self.line
             .set(form, self.expansion.text(), self.number, name_end);
@@ -211,7 +213,8 @@ impl Actions {
     // Expands a text line, and takes it.
     fn text<O: NoteOut>(&mut self, text: &[u8], out: &mut O) -> ProductKind
         requires { length text.now ≤ LINE }
-        ensures { Gives O.left self.old out.old (leaves.text_outcome self.old.setting text.now self.old.memory)
+        ensures { Gives O.left self.old out.old
+            (leaves.text_outcome self.old.setting text.now self.old.memory)
             result self.new out.new }
     {
         if self.expand_or_keep(text, out) {
@@ -224,7 +227,8 @@ impl Actions {
     /// Does what a raw line says that heads nothing, where one more macro may run or not. What comes of it is lent from then on.
     pub fn leaf<O: NoteOut>(&mut self, may_call: bool, text: &[u8], out: &mut O) -> ProductKind
         requires { length text.now ≤ LINE }
-        ensures gives { Gives O.left self.old out.old (leaf_outcome self.old.setting may_call text.now self.old.memory)
+        ensures gives { Gives O.left self.old out.old
+            (leaf_outcome self.old.setting may_call text.now self.old.memory)
             result self.new out.new }
         ensures call { IfCalled result (IsCallable may_call self.new.call) }
     {
@@ -235,7 +239,8 @@ impl Actions {
     #[tactic(auto, unfolding(crate::specs::Leaves::leaf_outcome))]
     fn take_form<O: NoteOut>(&mut self, may_call: bool, text: &[u8], out: &mut O) -> ProductKind
         requires { length text.now ≤ LINE }
-        ensures { Gives O.left self.old out.old (leaf_outcome self.old.setting may_call text.now self.old.memory)
+        ensures { Gives O.left self.old out.old
+            (leaf_outcome self.old.setting may_call text.now self.old.memory)
             result self.new out.new }
     {
         if !begins_control(text) && plain_len(text) == text.len() {

@@ -198,7 +198,8 @@ impl Actions {
     /// The end line of a region comes, which is run or passed over.
     #[tactic(auto, unfolding(crate::specs::RegionLines::end_outcome))]
     pub fn end_region<O: NoteOut>(&mut self, region: &OpenRegion, is_run: bool, out: &mut O)
-        ensures { Does O.left self.old out.old (regions.end_outcome region.now is_run self.old.memory) self.new out.new }
+        ensures { Does O.left self.old out.old
+            (regions.end_outcome region.now is_run self.old.memory) self.new out.new }
     {
         if is_run {
             let place = Place {

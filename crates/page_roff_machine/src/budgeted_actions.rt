@@ -82,7 +82,8 @@ impl BudgetedActions {
         out: &mut O,
     ) -> Option<bool>
         requires { FitsBranch (branch_seen branch.now) }
-        ensures { Answers O.left self.old out.old (answer_in self.old (branch_seen branch.now) bit reached) result
+        ensures { Answers O.left self.old out.old
+            (answer_in self.old (branch_seen branch.now) bit reached) result
             self.new out.new }
     {
         if self.meet(reached, out) {
@@ -155,7 +156,8 @@ impl BudgetedActions {
     /// The end line of a region comes.
     pub(crate) fn end_region<O: NoteOut>(&mut self, is_page: bool, region: &OpenRegion, out: &mut O)
         requires { HasRoom is_page self.old.budget }
-        ensures { Makes O.left self.old out.old (IsAt is_page self.old) (ended_in self.old region.now) self.new
+        ensures { Makes O.left self.old out.old (IsAt is_page self.old)
+            (ended_in self.old region.now) self.new
             state_after out.new }
     {
         self.begin_line(is_page, out);
@@ -182,7 +184,8 @@ impl BudgetedActions {
 
     /// The innermost source ends, in an open region or not.
     pub(crate) fn finish<O: NoteOut>(&mut self, region: Option<&OpenRegion>, out: &mut O)
-        ensures { Does O.left self.old out.old (finished_in self.old (opened_seen region.entry)) self.new out.new }
+        ensures { Does O.left self.old out.old
+            (finished_in self.old (opened_seen region.entry)) self.new out.new }
     {
         let gave_up = self.budget.gave_up();
         self.actions.finish(region, gave_up, out);

@@ -211,7 +211,8 @@ impl Runner {
     fn run_on<O: NoteOut>(&mut self, out: &mut O) -> bool
         requires { IsMeasured self.old }
         ensures sound { IsSound self.new }
-        ensures advances { Advances O.left (machine_of self.old) out.old result (machine_of self.new) out.new }
+        ensures advances { Advances O.left (machine_of self.old) out.old result
+            (machine_of self.new) out.new }
     {
         loop {
             match self.step(out) {
@@ -226,7 +227,8 @@ impl Runner {
     pub(crate) fn run<O: NoteOut>(&mut self, out: &mut O) -> bool
         requires { IsSound self.old }
         ensures sound { IsSound self.new }
-        ensures advances { Advances O.left (machine_of self.old) out.old result (machine_of self.new) out.new }
+        ensures advances { Advances O.left (machine_of self.old) out.old result
+            (machine_of self.new) out.new }
     {
         match self.step(out) {
             Progress::More => self.run_on(out),

@@ -12,7 +12,8 @@ ghost use Rattle.page_roff_run.specs.Machine.{Running, at_page, rest_of, next, s
 
 /// What is still to come of running sources is what comes of them after one step more, from a line of the page down to its end.
 pub fn machine_law<S>()
-    ensures start { (l : Language S) (line : List ℕ) (at : At S) → rest_of l (at_page line at) ≡ run_page l (line ∷ []) at }
+    ensures start { (l : Language S) (line : List ℕ) (at : At S) →
+        rest_of l (at_page line at) ≡ run_page l (line ∷ []) at }
     ensures step { (l : Language S) (r q : Running S) → next l r ≡ Some q → rest_of l r ≡ rest_of l q }
     ensures end { (l : Language S) (r : Running S) → next l r ≡ None → rest_of l r ≡ stands_at r }
 {}
@@ -38,9 +39,11 @@ pub fn front_law<S>()
 /// Sources that are run end: each step leaves less work, where the bodies that it calls are bounded. It holds from the first step of
 /// a line on.
 pub fn measure_law<R>()
-    ensures falls { (e : Effects R) (huge : ℕ) (r q : Running (Budgeted R)) → HasMeasure r → HasBodyWithin huge r.under q
+    ensures falls { (e : Effects R) (huge : ℕ) (r q : Running (Budgeted R)) → HasMeasure r →
+        HasBodyWithin huge r.under q
         → next (language e) r ≡ Some q → (suc (measure huge q) ≤ measure huge r) × HasMeasure q }
-    ensures first { (e : Effects R) (r q : Running (Budgeted R)) → IsFirst r → next (language e) r ≡ Some q → HasMeasure q }
+    ensures first { (e : Effects R) (r q : Running (Budgeted R)) → IsFirst r →
+        next (language e) r ≡ Some q → HasMeasure q }
 {}
 
 /// What lines spend, as interpolations, lies within so much for each line that they take.

@@ -19,7 +19,8 @@ pub fn count_law()
     ensures taken { (e : Edge) (line : SourceLine) → (line_done e line).taken ≤ e.taken + (REREAD + 1) }
     ensures given { (e : Edge) (line : SourceLine)
         → line_count (line_given e line) + e.taken ≤ (line_done e line).taken }
-    ensures expansions { (e : Edge) (line : SourceLine) → (line_done e line).memory.expansions + EXPAND * e.taken
+    ensures expansions { (e : Edge) (line : SourceLine) →
+        (line_done e line).memory.expansions + EXPAND * e.taken
         ≤ EXPAND * (line_done e line).taken + e.memory.expansions }
 {}
 

@@ -39,8 +39,10 @@ impl Model for Roff {
 
 // Runs on up to the next finished line over a sink; whether there is one.
 fn advance<N: NoteSink>(machine: &mut PageMachine, notes: &mut N) -> Result<bool, Fault>
-    ensures tells { Tells N.gave N.within N.failed result notes.old (notes_before (given_of machine.old.edge)) notes.new }
-    ensures line { IfOk result (λ is_taken. next_line (given_of machine.old.edge) ≡ taken_if is_taken machine.new.line) }
+    ensures tells { Tells N.gave N.within N.failed result notes.old
+        (notes_before (given_of machine.old.edge)) notes.new }
+    ensures line { IfOk result (λ is_taken. next_line (given_of machine.old.edge)
+        ≡ taken_if is_taken machine.new.line) }
     ensures edge { machine.new.edge ≡ line_taken machine.old.edge }
     ensures same { N.loans notes.new ≡ N.loans notes.old }
 {
@@ -86,7 +88,8 @@ impl Roff {
         requires idle { IfSome self.old (λ e. e.to_come ≡ None) }
         requires line { IsLine line.now }
         requires count { IfSome self.old (λ e. e.source < 2 ^ 31) }
-        ensures { self.new ≡ option_map (λ e. line_begun e (record { text = line.now; number = number })) self.old }
+        ensures { self.new ≡ option_map
+            (λ e. line_begun e (record { text = line.now; number = number })) self.old }
     {
         if self.is_going {
             self.machine.begin(line, number);

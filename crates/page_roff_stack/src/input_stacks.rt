@@ -199,7 +199,8 @@ impl InputStack {
 
     /// Goes past a head without a block that is not run.
     pub fn pass_guard(&mut self)
-        ensures { self.new ≡ with_top (past (record self.old.top.spot { begun = true }) self.old.top) self.old }
+        ensures { self.new ≡ with_top (past
+            (record self.old.top.spot { begun = true }) self.old.top) self.old }
     {
         self.top.pass_guard();
     }
@@ -226,14 +227,16 @@ impl InputStack {
     /// Enters a block that is passed over.
     pub fn skip_block(&mut self)
         requires { is_part (next_of self.old) ≡ true }
-        ensures { self.new ≡ with_top (past (after_part (skip self.old.top.spot.levels)) self.old.top) self.old }
+        ensures { self.new ≡ with_top (past
+            (after_part (skip self.old.top.spot.levels)) self.old.top) self.old }
     {
         self.top.skip_block();
     }
 
     /// The innermost block ends: whether there was one.
     pub fn leave_block(&mut self) -> bool
-        ensures spot { self.new ≡ with_top (past (after_part (leave self.old.top.spot.levels)) self.old.top) self.old }
+        ensures spot { self.new ≡ with_top (past
+            (after_part (leave self.old.top.spot.levels)) self.old.top) self.old }
         ensures block { result ≡ has_block self.old.top.spot.levels }
     {
         self.top.leave_block()
@@ -242,7 +245,8 @@ impl InputStack {
     /// Goes past the head of a region, which opens, and is run or not.
     pub fn open_region(&mut self, is_run: bool)
         requires { is_part (next_of self.old) ≡ true }
-        ensures { self.new ≡ with_top (in_region (region_in is_run (next_of self.old)) self.old.top) self.old }
+        ensures { self.new ≡ with_top (in_region
+            (region_in is_run (next_of self.old)) self.old.top) self.old }
     {
         self.top.open_region(is_run);
     }
@@ -250,7 +254,8 @@ impl InputStack {
     /// A line begins.
     pub fn begin_line(&mut self)
         requires { is_line (next_of self.old) ≡ true }
-        ensures { self.new ≡ with_top (next_line None (first_atoms self.old.top.lines) self.old.top) self.old }
+        ensures { self.new ≡ with_top (next_line None
+            (first_atoms self.old.top.lines) self.old.top) self.old }
     {
         self.top.begin_line();
     }

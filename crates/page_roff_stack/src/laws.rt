@@ -7,5 +7,6 @@ ghost use Rattle.page_roff_stack.specs.Stacks.{Stack, running, next_of, step_of}
 
 /// What comes next says which step of the machine is made.
 pub fn stack_law<S>()
-    ensures { (l : Language S) (s : Stack) (state : S) → next l (running s state) ≡ step_of l (next_of s) s state }
+    ensures { (l : Language S) (s : Stack) (state : S) →
+        next l (running s state) ≡ step_of l (next_of s) s state }
 {}

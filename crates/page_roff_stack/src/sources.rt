@@ -79,7 +79,8 @@ fn line_len(lines: &[u8]) -> usize
 fn pass_line(text: &[u8], lines: &mut Span) -> Span
     requires { IsSpanIn lines.old text.now }
     ensures first { IsFirstLine (lines_in (span_text lines.old text.now)) (span_text result text.now) }
-    ensures rest { lines_in (span_text lines.new text.now) ≡ drop 1 (lines_in (span_text lines.old text.now)) }
+    ensures rest { lines_in (span_text lines.new text.now)
+        ≡ drop 1 (lines_in (span_text lines.old text.now)) }
     ensures spans { IsSpanIn result text.now × IsSpanIn lines.new text.now }
 {
     let line = Span {
@@ -290,7 +291,8 @@ impl Source {
 
     /// Goes past a head without a block that is run, and has this value.
     pub(crate) fn guard(&mut self, value: bool)
-        ensures { self.new ≡ past (guarded_by (first_branch self.old.parts) value self.old.spot.levels) self.old }
+        ensures { self.new ≡ past (guarded_by
+            (first_branch self.old.parts) value self.old.spot.levels) self.old }
     {
         let part = self.place.next_atom(self.line.of(&self.text));
         self.spot.guard(&branch_of(&part), value);

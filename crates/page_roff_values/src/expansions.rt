@@ -129,7 +129,8 @@ impl Expansion {
 
     // Gives a message at the end of what is finished.
     fn report<O: NoteOut>(&self, kind: NoteKind, detail: &[u8], out: &mut O)
-        ensures { Goes O.left out.old (laying.says kind detail.now self.now) out.new (laying.nothing self.now) }
+        ensures { Goes O.left out.old (laying.says kind detail.now self.now) out.new
+            (laying.nothing self.now) }
     {
         let place = Place {
             line: self.line,
@@ -140,7 +141,8 @@ impl Expansion {
 
     // Ends the line, with a message.
     fn report_end<O: NoteOut>(&mut self, kind: NoteKind, detail: &[u8], out: &mut O)
-        ensures { Goes O.left out.old (laying.ends kind detail.now self.old) out.new (laying.nothing self.new) }
+        ensures { Goes O.left out.old (laying.ends kind detail.now self.old) out.new
+            (laying.nothing self.new) }
     {
         self.report(kind, detail, out);
         self.ended = true;
@@ -181,7 +183,8 @@ impl Expansion {
 
     // Puts a width.
     fn put_units<O: NoteOut>(&mut self, units: u32, out: &mut O)
-        ensures { Goes O.left out.old (laying.put (decimal units) self.old) out.new (laying.nothing self.new) }
+        ensures { Goes O.left out.old (laying.put (decimal units) self.old) out.new
+            (laying.nothing self.new) }
     {
         let mut buffer = Buffer::new();
         self.put(buffer.format(units).as_bytes(), out);
@@ -300,7 +303,8 @@ impl Expansion {
         out: &mut O,
     )
         requires { length self.old.around.before + LINE * room ≤ LINE * NEST }
-        ensures { Goes O.left out.old (going_on (surroundings_of env.now) room (texts_of sources.old) self.old)
+        ensures { Goes O.left out.old (going_on (surroundings_of env.now) room
+            (texts_of sources.old) self.old)
             out.new (laying.nothing self.new) }
     {
         'parts: while self.is_going() {

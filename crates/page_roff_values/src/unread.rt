@@ -30,7 +30,8 @@ impl<'e> Unread<'e> {
     /// Reads the next part.
     pub(crate) fn next(&mut self, copy: bool) -> Part<&'e [u8]>
         requires { 0 < length self.old.text.now }
-        ensures { record { part = part_of result; rest = self.new.text.now } ≡ reading.seen copy self.old.text.now }
+        ensures { record { part = part_of result; rest = self.new.text.now }
+            ≡ reading.seen copy self.old.text.now }
     {
         let mut is_unclosed = self.is_unclosed;
         let seen = read(self.text, copy, &mut is_unclosed);

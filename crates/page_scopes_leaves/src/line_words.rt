@@ -65,8 +65,10 @@ pub fn give_line_word<O: PieceOut>(
     requires { FitsAt word.now.arg.column word.now.arg.text.now }
     ensures came { Came O.left out.old
         (lines.line_word line (word_seen word.now) context.old running.old).items out.new }
-    ensures context { context.new ≡ (lines.line_word line (word_seen word.now) context.old running.old).context }
-    ensures running { running.new ≡ (lines.line_word line (word_seen word.now) context.old running.old).running }
+    ensures context { context.new ≡ (lines.line_word line
+        (word_seen word.now) context.old running.old).context }
+    ensures running { running.new ≡ (lines.line_word line
+        (word_seen word.now) context.old running.old).running }
 {
     report_quote(out, line, word.arg.quoting, word.arg.column);
     give_phrase(out, line, &word_phrase(word), context, running);

@@ -54,7 +54,8 @@ pub fn give_tag<O: PieceOut>(
     running: &mut Running,
 )
     requires { ArgumentFits (word_seen word.now).arg }
-    ensures came { Came O.left out.old (tags.tag tag line (word_seen word.now) context.old running.old).items out.new }
+    ensures came { Came O.left out.old (tags.tag tag line
+        (word_seen word.now) context.old running.old).items out.new }
     ensures context { context.new ≡ (tags.tag tag line (word_seen word.now) context.old running.old).context }
     ensures running { running.new ≡ (tags.tag tag line (word_seen word.now) context.old running.old).running }
 {
