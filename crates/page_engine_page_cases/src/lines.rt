@@ -35,16 +35,16 @@ pub(crate) struct PageFeed<'a, 'b> {
 
 impl Feed for PageFeed<'_, '_> {
     fn line(&mut self, text: &[u8], number: u32) -> Result<(), Fault> {
-        feed(self.page, self.streams, text, number)
+        feed_page(self.page, self.streams, text, number)
     }
 
     fn end(&mut self) -> Result<(), Fault> {
-        end(self.page, self.streams)
+        end_page(self.page, self.streams)
     }
 }
 
 // Feeds a line to a page.
-fn feed(page: &mut Page, streams: &mut Streams, text: &[u8], number: u32) -> Result<(), Fault>
+fn feed_page(page: &mut Page, streams: &mut Streams, text: &[u8], number: u32) -> Result<(), Fault>
     requires { IsLine text.now }
 {
     page.feed_line(
@@ -58,7 +58,7 @@ fn feed(page: &mut Page, streams: &mut Streams, text: &[u8], number: u32) -> Res
 }
 
 // Ends a page.
-fn end(page: &mut Page, streams: &mut Streams) -> Result<(), Fault> {
+fn end_page(page: &mut Page, streams: &mut Streams) -> Result<(), Fault> {
     page.end(
         &mut TextRows::new(&mut streams.rows),
         &mut TextNotes::new(&mut streams.messages, FILE),
@@ -125,8 +125,8 @@ impl Lines {
 /// The fault of a further line and of a further end, where both have the same and nothing is written.
 pub(crate) fn fault_after(page: &mut Page, streams: &mut Streams) -> Option<Fault> {
     let calls = streams.calls();
-    let of_line = feed(page, streams, b".ZZ", 1).err()?;
-    let of_end = end(page, streams).err()?;
+    let of_line = feed_page(page, streams, b".ZZ", 1).err()?;
+    let of_end = end_page(page, streams).err()?;
     if of_line == of_end && calls == streams.calls() {
         Some(of_end)
     } else {
