@@ -94,7 +94,6 @@ fn leaf(sets: Sets, text: &[u8], start: usize) -> Leaf<&[u8]>
 }
 
 /// What a macro does, with arguments that begin after this many bytes.
-#[inline(never)]
 pub(crate) fn effect_deed(effect: Effect, text: &[u8], start: usize) -> Option<Deed<&[u8]>>
     requires short { length text.now ≤ LINE }
     requires within { start ≤ length text.now }

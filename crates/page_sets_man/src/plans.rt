@@ -3,7 +3,7 @@
 ghost use Rattle.std.specs.Prelude.{◌≡◌, ◌≤◌, length, option_map};
 ghost use Rattle.page_core_base.specs.LinesTaken.{line_seen};
 ghost use Rattle.page_sets_lines.specs.Events.{event_seen, deed_seen, TakesNext};
-ghost use Rattle.page_sets_lines.specs.ControlLines.{arguments_after, name_of};
+ghost use Rattle.page_sets_lines.specs.ControlLines.{arguments_after};
 ghost use Rattle.page_sets_lines.specs.PlainLines.{event_at};
 ghost use Rattle.page_sets_man.specs.Man as man;
 ghost use Rattle.page_sets_man.specs.Plans as plans;
@@ -96,16 +96,6 @@ fn quote_deed<'a>(quote: Quote) -> Deed<&'a [u8]>
     }
 }
 
-// The name of a control line.
-#[inline(never)]
-fn name_text(line: Taken<'_>) -> &[u8]
-    requires { length line.text.now ≤ LINE }
-    ensures { result.now ≡ name_of (line_seen line.entry) }
-{
-    let name = find_name(line);
-    &line.text[name.start..name.end]
-}
-
 // What comes first in a line.
 fn front_deed<'a>(front: Front, line: Taken<'a>, rest: usize) -> Option<Deed<&'a [u8]>>
     requires short { length line.text.now ≤ LINE }
@@ -115,11 +105,14 @@ fn front_deed<'a>(front: Front, line: Taken<'a>, rest: usize) -> Option<Deed<&'a
     match front {
         Front::Nothing => None,
         Front::Plain(plain) => Some(plain.deed(line.text)),
-        Front::Refused(kind) => Some(Deed::Note {
-            kind,
-            detail: name_text(line),
-            begins_body: false,
-        }),
+        Front::Refused(kind) => {
+            let name = find_name(line);
+            Some(Deed::Note {
+                kind,
+                detail: &line.text[name.start..name.end],
+                begins_body: false,
+            })
+        }
         Front::Effect(effect) => effect_deed(effect, line.text, rest),
     }
 }

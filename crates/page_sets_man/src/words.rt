@@ -178,7 +178,6 @@ fn argument_step<'a>(line: Taken<'a>, column: u32, words: NextWord, rest: usize)
 
 /// The next event of a macro's words, if there is one: its arguments begin after this many bytes, and its name stands in
 /// a column.
-#[inline(never)]
 pub(crate) fn word_step<'a>(
     line: Taken<'a>,
     column: u32,
