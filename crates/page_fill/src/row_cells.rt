@@ -106,8 +106,9 @@ impl RowCells {
     pub(crate) fn add_word(&mut self, blanks: u32, bytes: &[u8], font: Font) -> bool
         requires { length self.old + blanks + length bytes.now ≤ CELLS }
         ensures answer { result ≡ plain.is_printable_ascii bytes.now }
-        ensures cells { self.new ≡ (if result then self.old ++ replicate blanks sheet.blank
-            ++ shown.cells_of font bytes.now else self.old) }
+        ensures cells { self.new ≡ (if result
+            then self.old ++ replicate blanks sheet.blank ++ shown.cells_of font bytes.now
+            else self.old) }
     {
         let start = self.len + blanks as usize;
         put_blanks(&mut self.places, self.len, blanks as usize);
@@ -135,8 +136,8 @@ fn put_blanks(places: &mut [Cell], start: usize, count: usize)
 fn put_printable(places: &mut [Cell], start: usize, bytes: &[u8], font: Font) -> bool
     requires { start + length bytes.now ≤ length places.old }
     ensures answer { result ≡ plain.is_printable_ascii bytes.now }
-    ensures cells { result ≡ true → take (start + length bytes.now) places.new
-        ≡ take start places.old ++ shown.cells_of font bytes.now }
+    ensures cells { result ≡ true
+        → take (start + length bytes.now) places.new ≡ take start places.old ++ shown.cells_of font bytes.now }
     ensures before { (k : ℕ) → k ≤ start → take k places.new ≡ take k places.old }
     ensures len { length places.new ≡ length places.old }
 {

@@ -1,4 +1,4 @@
-use Rattle.std.proofs.Common.{◌≡◌, refl, arith, sym}
+use Rattle.std.proofs.Common.{refl, arith, sym}
 use Rattle.page_fill.proofs.PlainLemmas.{sound-word, taken-word}
 use Rattle.page_fill.proofs.sheets.OpenRow.add_word.Goals as goal
 

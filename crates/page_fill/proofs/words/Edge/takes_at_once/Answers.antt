@@ -1,4 +1,4 @@
-use Rattle.std.proofs.Common.{◌≡◌, sym, ◌∙◌, refl}
+use Rattle.std.proofs.Common.{sym, ◌∙◌, refl}
 use Rattle.page_fill.proofs.PlainLemmas.{characters_of-plain, text-word}
 use Rattle.page_fill.proofs.words.Edge.takes_at_once.Goals as goal
 
