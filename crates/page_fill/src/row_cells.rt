@@ -138,7 +138,7 @@ fn put_printable(places: &mut [Cell], start: usize, bytes: &[u8], font: Font) ->
     ensures answer { result ≡ plain.is_printable_ascii bytes.now }
     ensures cells { result ≡ true
         → take (start + length bytes.now) places.new
-            ≡ take start places.old ++ shown.cells_of font bytes.now }
+        ≡ take start places.old ++ shown.cells_of font bytes.now }
     ensures before { (k : ℕ) → k ≤ start → take k places.new ≡ take k places.old }
     ensures len { length places.new ≡ length places.old }
 {
