@@ -1,8 +1,7 @@
 use Rattle.std.proofs.Common.{◌≡◌, ◌<◌, ◌∷◌, true, length, ap, sym, ◌∙◌, arith, length-set}
 use Rattle.page_roff_run.specs.declared.TheConstants.{CALLS}
 use Rattle.page_roff_run.specs.Machine.{depth, is_some, entered}
-use Rattle.page_roff_values.specs.Arguments.{arguments_in}
-use Rattle.page_roff_stack.specs.Changes.{lines_in}
+use Rattle.page_roff_values.specs.Arguments.{arguments_in, lines_in}
 use Rattle.page_roff_stack.specs.InputStacks.{stack_of}
 use Rattle.page_roff_stack.specs.Stacks.{Stack, AreStacked, call_of}
 use Rattle.page_roff_stack.proofs.InputStackLemmas.{under_len, is_room, deeper}
