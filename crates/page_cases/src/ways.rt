@@ -72,7 +72,7 @@ fn step_of(places: usize) -> usize {
     (places / PLACES).saturating_add(1)
 }
 
-// A run that takes and gives so many bytes a call.
+// A run that takes and gives at most this count of bytes a call.
 fn run_by(alloc: Global, case: Case, read: usize, written: usize) -> Given {
     let rows = Store::new(alloc, written);
     let messages = Store::new(alloc, written);

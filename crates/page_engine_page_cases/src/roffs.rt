@@ -21,7 +21,7 @@ pub(crate) struct RoffEnding {
     pub(crate) has_memory: bool,
 }
 
-/// Runs roff alone over the lines of a page, and keeps its messages in memory for so many bytes. What is not roff's has its memory before
+/// Runs roff alone over the lines of a page, and keeps its messages in memory for a count of bytes. What is not roff's has its memory before
 /// roff is made, and wants more only after its end: so where an allocation is refused between the two, it is one of roff. Nothing, where
 /// that memory is refused.
 pub(crate) fn run_roff(

@@ -7,7 +7,7 @@ use std::io::{self, ErrorKind, Write};
 #[derive(Clone, Copy)]
 pub(crate) enum Fails {
     Never,
-    /// Past so many bytes, of which the last ones are written.
+    /// Past a count of bytes, of which the last ones are written.
     Past(usize),
     /// At the call of a number.
     At(usize),
@@ -26,7 +26,7 @@ pub(crate) struct Store {
 }
 
 impl Store {
-    /// An empty one with memory for so many bytes.
+    /// An empty one with memory for a count of bytes.
     pub(crate) fn new(alloc: Global, room: usize, fails: Fails) -> Result<Store, AllocError> {
         Ok(Store {
             kept: Vec::with_capacity(alloc, room)?,

@@ -24,7 +24,7 @@ pub(crate) struct Streams<'a> {
 }
 
 impl<'a> Streams<'a> {
-    /// Streams that fail so, with memory for so many bytes each.
+    /// Streams that fail so, with memory for a count of bytes each.
     pub(crate) fn new(
         alloc: Global,
         room: usize,

@@ -68,11 +68,11 @@ pub part_shorter : (line : List ℕ) → IsShorter line (part_of line).rest
 unfolding part_of
 part_shorter line = form_shorter line (form_of line) refl
 
--- the rest of a control line begins behind its control character
+-- the rest of a control line begins after its control character
 pub column_within : (line name rest : List ℕ) (column rest_column : ℕ) → form_of line ≡ Control name column rest rest_column → IsWithin rest_column line
 column_within line name rest column rest_column e =
     let h = rest_within line name rest column rest_column e in
-    record { behind = h.0; within = h.1 }
+    record { past = h.0; within = h.1 }
 
 -- ---- a line that begins with no control character heads nothing
 

@@ -158,7 +158,7 @@ FitsPart part = FitsAtom part.atom × FitsRest part.rest
 
 -- a column after the control character, in a line or at its end
 pub record IsWithin (column : ℕ) (line : List ℕ) : Type 0 where
-  pub behind : 2 ≤ column
+  pub past : 2 ≤ column
   pub within : column ≤ length line + 1
 
 -- the first of the parts that are still to be read, if there is one, and then the others

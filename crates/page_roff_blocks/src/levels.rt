@@ -147,7 +147,7 @@ impl Levels {
         }
     }
 
-    /// At most so many true blocks are open. Nothing is done: the array of their bits tells it.
+    /// The open true blocks are at most [`CONDS`]. Nothing is done: the array of their bits tells it.
     pub fn caps_law(&self)
         ensures { length self.now.outer ≤ CONDS }
     {

@@ -88,6 +88,7 @@ impl LinePlace {
             }
         }
     }
+
     /// Reads the next part of a line of at most [`LINE`] bytes, in which the place is, and goes past it.
     pub fn next_atom<'a>(&mut self, line: &'a [u8]) -> Option<Atom<&'a [u8]>>
         requires short { length line.now ≤ LINE }

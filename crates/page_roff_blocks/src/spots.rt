@@ -144,7 +144,7 @@ impl Spot {
         self.levels.leave()
     }
 
-    /// At most so many true blocks are open. Nothing is done: the levels tell it.
+    /// The open true blocks are within their limit. Nothing is done: the levels tell it.
     pub fn caps_law(&self)
         ensures { length self.now.levels.outer ≤ CONDS }
     {

@@ -98,7 +98,7 @@ with_body body m = record { definitions = m.definitions; body = body; number = m
 abbrev pub sum_of_counts : ℕ → ℕ → ℕ
 sum_of_counts a b = a + min b (2 ^ 64 - 1 - a)
 
--- so many interpolations more were made
+-- a count of interpolations more were made
 abbrev pub counted : ℕ → Memory → Memory
 counted count m =
     record {

@@ -31,7 +31,7 @@ state_in given b = budgeted b.budget (record { memory = b.actions.memory; out = 
 abbrev pub IsIn : Kind → BudgetedActions → Type 0
 IsIn kind b = b.actions.setting ≡ setting_of (output_of b) kind
 
--- it is the page that runs, or not; and a page has so many lines at most that no count is too large
+-- it is the page that runs, or not; and a page has few enough lines that no count is too large
 pub record IsAt (is_page_now : Bool) (b : BudgetedActions) (kind : Kind) : Type 0 where
   pub page : is_page kind ≡ is_page_now
   pub setting : IsIn kind b

@@ -172,7 +172,7 @@ impl BudgetedActions {
         !is_page && self.budget.gave_up()
     }
 
-    /// The end of a block comes where none is open. One that a macro leaves behind which was given up has no message.
+    /// The end of a block comes where none is open. One that is left of a macro which was given up has no message.
     pub(crate) fn report_unopened<O: NoteOut>(&mut self, is_page: bool, out: &mut O)
         ensures { Makes O.left self.old out.old (IsAt is_page self.old) (unopened_in self.old) self.new
             state_after out.new }

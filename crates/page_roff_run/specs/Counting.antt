@@ -16,7 +16,7 @@ budgeted b rest = record { left = b.left; gave_up = b.gave_up; taken = b.taken; 
 abbrev pub budget_of : {R : Type 0} → Budgeted R → Budget
 budget_of s = record { left = s.left; gave_up = s.gave_up; taken = s.taken }
 
--- a page has so many lines at most that no count is too large
+-- a page has few enough lines that no count is too large
 abbrev pub IsCounted : Budget → Type 0
 IsCounted b = b.left + b.taken ≤ 2 ^ 63
 

@@ -1,4 +1,4 @@
--- What the lines taken spend, as interpolations: so much each at most. Source: mandoc(1), "input stack limit".
+-- What the lines taken spend, as interpolations: the same number each at most. Source: mandoc(1), "input stack limit".
 use Rattle.std.specs.Prelude.{◌≡◌, ℕ, ◌+◌, ◌≤◌, Bool, true, false, List, Option}
 use Rattle.page_roff_heads.specs.declared.conditions.Condition.{Condition}
 use Rattle.page_roff_blocks.specs.declared.atoms.Head.{Head}
@@ -11,7 +11,7 @@ abbrev pub after_leaf : {R : Type 0} → Done R → R
 after_leaf (gives r) = r
 after_leaf (calls lines args r) = r
 
--- a condition, a leaf and a line of a region that is run spend so much at most, and all else nothing
+-- a condition, a leaf and a line of a region that is run spend a number at most, and all else nothing
 pub record Spends {R : Type 0} (spent : R → ℕ) (most : ℕ) (e : Effects R) : Type 0 where
   pub exhausts : (r : R) → spent (e.exhausts r) ≡ spent r
   pub tests : (kind : Kind) (condition : Condition (List ℕ)) (r : R) → spent (e.tests kind condition r).1 ≤ spent r + most

@@ -46,7 +46,7 @@ pub fn measure_law<R>()
         next (language e) r ≡ Some q → HasMeasure q }
 {}
 
-/// What lines spend, as interpolations, lies within so much for each line that they take.
+/// What lines spend, as interpolations, is at most the same number for each line that they take.
 pub fn spending_law<R>()
     ensures { (spent : R → ℕ) (most : ℕ) (e : Effects R) → Spends spent most e
         → (lines : List (List ℕ)) (at : At (Budgeted R))

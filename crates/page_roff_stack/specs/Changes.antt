@@ -87,7 +87,7 @@ abbrev pub AreShort : List (List ℕ) → Type 0
 AreShort [] = Unit {0}
 AreShort (line ∷ lines) = (length line ≤ LINE) × AreShort lines
 
--- lines are short enough; and so many blocks cannot be skipped that their count is too large
+-- lines are short enough, and few enough that the count of skipped blocks is not too large
 pub record IsBounded (f : Frame) : Type 0 where
   pub short : AreShort f.lines
   pub skips : f.spot.levels.skipped + work_in f < 2 ^ 63

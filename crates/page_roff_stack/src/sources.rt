@@ -118,7 +118,7 @@ fn region_of(part: &Option<Atom<&[u8]>>, is_run: bool) -> Option<OpenRegion>
 }
 
 impl Source {
-    // A source with nothing in it, and so much memory.
+    // A source with nothing in it, and memory for a count of bytes.
     fn with_room(alloc: Global, arguments: Option<usize>, room: usize) -> Result<Source, AllocError>
         requires room { room_for arguments ≤ room }
         requires none { AreArgumentsIn arguments [] }

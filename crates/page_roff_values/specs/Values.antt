@@ -80,7 +80,7 @@ character_end text zero = zero
 character_end text (suc n) =
     if nat_le 128 (get_or text (suc n) 0) && nat_lt (get_or text (suc n) 0) 192 then character_end text n else suc n
 
--- how many bytes of a text are kept where there is so much room: all, or up to a character's end
+-- how many bytes of a text are kept where there is room for a count of them: all, or up to a character's end
 abbrev pub kept : List ℕ → ℕ → ℕ
 kept text room = if nat_le (length text) room then length text else character_end text room
 

@@ -25,7 +25,7 @@ fn character_end(text: &[u8], room: usize) -> usize
     end
 }
 
-/// How many bytes of a text are kept where there is so much room: all, or up to a character's end.
+/// How many bytes of a text are kept where there is room for a count of them: all, or up to a character's end.
 pub(crate) fn kept(text: &[u8], room: usize) -> usize
     ensures value { result ≡ laying.kept text.now room }
     ensures within { result ≤ room }

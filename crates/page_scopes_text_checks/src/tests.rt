@@ -18,7 +18,7 @@ fn check_bytes(rt: &impl Abort, got: &[u8], wanted: &[u8]) {
     assert_eq!(rt; got, wanted);
 }
 
-// What a text gives after so many blanks, and then the blanks that are to follow it, with "c" where it ends in `\c` and "e" where it ends in a blank.
+// What a text gives after a count of blanks, and then the blanks that are to follow it, with "c" where it ends in `\c` and "e" where it ends in a blank.
 fn given_by(alloc: Global, style: TextStyle, gap: u32, is_after_word: bool, text: &str) -> Shown {
     let mut out = Shown::new(alloc, false);
     let mut pen = Pen {
