@@ -77,6 +77,6 @@ margin_begun columns c = record (flat c) {
 abbrev pub text_margin : Context → ℕ
 text_margin c = hold (pos c.margin +ℤ c.hang)
 
--- the words of a synopsis stand behind the command's name, which is its tag
+-- the words of a synopsis stand after the command's name, which is its tag
 abbrev pub syntax_begun : (at hang : ℕ) → Context → Context
 syntax_begun at hang c = record (flat c) { margin = hold (pos at +ℤ pos hang) }
