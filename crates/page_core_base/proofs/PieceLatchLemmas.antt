@@ -20,6 +20,15 @@ left_given k t {fault = None} (Err f) items rest none h g same =
     record { same_loan = h.same_loan; same_loans = same ∙ h.same_loans; came = UpTo-within (k f) t items rest h.came refl g }
 left_given k t {fault = Some f} r items rest none h g same = let no : ⊥ = cc in absurd no
 
+-- it took them, and there is still no fault
+pub left_taken : {S L : Type 0} {gave : S → List Item → S → Type 0} {broke : S → Fault → List Item → S → Type 0} {loans : S → L}
+    → ((f : Fault) → IsSink gave (λ s xs t. broke s f xs t)) → {plan : Planned S L} {name : GName} {s : S} (t : S) {fault : Option Fault}
+    (r : Result (Unit {0}) Fault) (items rest : List Item) → is_some fault ≡ false → result_err r ≡ None
+    → Left gave broke loans plan name s fault (items ++ rest)
+    → MatchResult r (λ _. gave s items t) (λ f. broke s f items t) → loans t ≡ loans s → Left gave broke loans plan name t fault rest
+left_taken k t {fault = None} r items rest none e h g same = rw e at (left_given k t r items rest none h g same)
+left_taken k t {fault = Some f} r items rest none e h g same = let no : ⊥ = cc in absurd no
+
 -- nothing is still to come, and the latch says what it holds
 pub left_done : {S L : Type 0} {gave : S → List Item → S → Type 0} {broke : S → Fault → List Item → S → Type 0} {loans : S → L}
     → {plan : Planned S L} {name : GName} {t : S} {fault : Option Fault} (r : Result (Unit {0}) Fault) → MatchResult r (λ _. fault ≡ None) (λ f. fault ≡ Some f)

@@ -66,8 +66,11 @@ impl<O: PieceSink> PieceOut for PieceLatch<'_, O> {
 
     #[inline(always)]
     fn give(&mut self, piece: Piece<&[u8]>) {
-        if self.fault.is_none() {
-            self.fault = self.out.piece(piece).err();
+        if self.fault.is_some() {
+            return;
+        }
+        if let Err(fault) = self.out.piece(piece) {
+            self.fault = Some(fault);
         }
     }
 

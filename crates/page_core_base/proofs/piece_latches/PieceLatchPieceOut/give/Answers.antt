@@ -1,7 +1,13 @@
-use Rattle.page_core_base.proofs.PieceLatchLemmas.{left_given}
+use Rattle.std.proofs.Common.{sym, ◌∙◌, rules}
+use Rattle.page_core_base.proofs.PieceLatchLemmas.{left_given, left_taken}
 use Rattle.page_core_base.proofs.piece_latches.PieceLatchPieceOut.give.Goals as goal
 
-pub returns-then-is_none : goal.returns-then-is_none
-returns-then-is_none g c = λ plan rest h.
-    let none = rw c.if-is_none.true at c.is_none.ensures in
-    rw c.err-self.ensures.value (left_given g.met.O.PieceSink.laws _ c.piece.result _ rest none h c.piece.ensures.gives c.piece.ensures.same)
+pub returns-in-Err : goal.returns-in-Err
+returns-in-Err g c = λ plan rest h.
+    let none = sym c.is_some.ensures ∙ c.if-is_some.false in
+    rw c.in-Err.is at (left_given g.met.O.PieceSink.laws _ c.piece.result _ rest none h c.piece.ensures.gives c.piece.ensures.same)
+
+pub returns-in_default : goal.returns-in_default
+returns-in_default g c = λ plan rest h.
+    let none = sym c.is_some.ensures ∙ c.if-is_some.false in
+    left_taken g.met.O.PieceSink.laws _ c.piece.result _ rest none (search rules) h c.piece.ensures.gives c.piece.ensures.same
