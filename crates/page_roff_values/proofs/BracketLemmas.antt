@@ -1,10 +1,10 @@
 -- What is known of the brackets in a text: helpers of proofs.
-use Rattle.std.proofs.Common.{◌≡◌, ℕ, zero, suc, ◌+◌, ◌<◌, ◌≤◌, Bool, true, false, not, ◌&&◌, ◌||◌, ◌==◌, List, [], ◌∷◌, length, get_or, drop, take, if◌then◌else◌, Option, None, Some, MatchOption, option_map, unwrap_or, position, refl, sym, ap, ◌∙◌, arith}
+use Rattle.std.proofs.Common.{◌≡◌, ℕ, zero, suc, ◌+◌, ◌<◌, Bool, true, false, not, ◌&&◌, ◌||◌, ◌==◌, List, [], ◌∷◌, length, get_or, drop, take, if◌then◌else◌, Option, None, Some, MatchOption, option_map, unwrap_or, position, refl, arith}
 use Rattle.std.proofs.lemmas.Bool.{eqb-true, le-ltb, lt-ltb}
 use Rattle.std.proofs.lemmas.List.Sums.{position_or_len_is}
 use Rattle.memchr.specs.Find.{IsFirstByte, is_byte}
 use Rattle.page_roff_values.specs.declared.parts.Call.{Call}
-use Rattle.page_roff_values.specs.declared.parts.Call.TheVariants.{String, Register, Argument, Width}
+use Rattle.page_roff_values.specs.declared.parts.Call.TheVariants.{String, Register, Width}
 use Rattle.page_roff_values.specs.Brackets.{has_bracket, IsKnown}
 use Rattle.page_roff_values.specs.Parts.{CutText, SeenText, copies, calls, cut, character_len, two_characters, bracketed, name_cut, content_len, width_cut, plain, after_plain, argument_call, call_cut, pair, is_doubled, escape, begins_escape, seen}
 

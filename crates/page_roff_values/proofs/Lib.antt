@@ -12,4 +12,5 @@ pub mod PlainTexts
 pub mod ReadLemmas
 pub mod TextLemmas
 pub mod ValueTexts
+pub mod VerbatimLemmas
 pub mod WidthLemmas

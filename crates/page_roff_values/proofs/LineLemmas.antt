@@ -115,7 +115,7 @@ less_if : (n : ℕ) (b : Bool) → nat_lt n n ≡ b → b ≡ false
 less_if n true e = let l : n < n = ltb-true n n e in absurd (omega arith)
 less_if n false e = refl
 
-put_all : (run : List ℕ) (s : Spot) → length run ≤ LINE - length s.text → put run s ≡ nothing (adds run s)
+pub put_all : (run : List ℕ) (s : Spot) → length run ≤ LINE - length s.text → put run s ≡ nothing (adds run s)
 unfolding put
 put_all run s h = rw (le-leb (length run) (LINE - length s.text) h, less_if (length run) (nat_lt (length run) (length run)) refl, take-length run) refl
 

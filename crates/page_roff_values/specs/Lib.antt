@@ -10,4 +10,5 @@ pub mod Rest
 pub mod Steps
 pub mod Texts
 pub mod Values
+pub mod Verbatim
 pub mod Views

@@ -15,6 +15,7 @@ use crate::environments::Environment;
 use crate::note_latches::NoteOut;
 use crate::parts::{Call, Part};
 use crate::sources::{NEST, Sources};
+use crate::verbatim::is_verbatim;
 use itoa::Buffer;
 use memchr::memchr;
 use page_core_base::{Note, NoteKind, Output, Place};
@@ -355,7 +356,7 @@ impl Expansion {
             out.new (laying.nothing (laying.taken result line text.now self.new)) }
     {
         self.begin(line);
-        if memchr(b'\\', text).is_none() {
+        if is_verbatim(text, env.copy) {
             return true;
         }
         self.expand_more(env, text, 0, out);

@@ -11,6 +11,7 @@ mod note_latches;
 mod parts;
 mod sources;
 mod unread;
+mod verbatim;
 
 pub use call_arguments::{ARGS, CallArguments};
 pub use environments::Environment;

@@ -161,8 +161,8 @@ fn read_width(text: &[u8]) -> Option<Cut<'_>>
     }
 }
 
-// Whether a backslash and this byte make one backslash.
-fn is_doubled(copy: bool, letter: u8) -> bool
+/// Whether a backslash and this byte make one backslash.
+pub(crate) fn is_doubled(copy: bool, letter: u8) -> bool
     ensures { result ≡ reading.is_doubled copy letter }
 {
     copy && letter == b'\\'

@@ -1,4 +1,4 @@
-use Rattle.std.proofs.Common.{◌≡◌, ◌≢◌, ◌+◌, ◌<◌, length, drop, get_or, ap, sym, ◌∙◌, add-zero, arith, length-drop}
+use Rattle.std.proofs.Common.{◌≡◌, ◌≢◌, ◌+◌, drop, get_or, ap, sym, ◌∙◌, add-zero, arith, length-drop}
 use Rattle.std.proofs.lemmas.List.{take_rest, drop-drop, get_or-drop}
 use Rattle.page_roff_forms.specs.Arguments.{quoted_len}
 use Rattle.page_roff_forms.proofs.quotes.quoted_len.Goals as goal

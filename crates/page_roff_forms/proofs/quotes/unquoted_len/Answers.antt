@@ -1,5 +1,3 @@
-use Rattle.std.proofs.Common.{◌+◌, drop, length, ap, ◌∙◌}
-use Rattle.page_roff_forms.specs.Arguments.{quoted_len}
 use Rattle.page_roff_forms.proofs.ArgumentLemmas.{quoted_to, quoted_some}
 use Rattle.page_roff_forms.proofs.quotes.unquoted_len.Goals as goal
 

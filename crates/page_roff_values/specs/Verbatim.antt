@@ -1,0 +1,18 @@
+-- Texts that are their own value: nothing in them is interpolated. Source: roff(7), "Escape sequences".
+use Rattle.std.specs.Prelude.{◌≡◌, ◌==◌, ◌||◌, ℕ, Bool, List, [], ◌∷◌, ◌++◌, Option, Some, None, option_map}
+use Rattle.page_roff_values.specs.declared.parts.Part.{Part}
+use Rattle.page_roff_values.specs.declared.parts.Part.TheVariants.{Copied, Called}
+use Rattle.page_roff_values.specs.Parts.{parts}
+
+-- the bytes of parts that are all copied
+abbrev pub copied_bytes : List (Part (List ℕ)) → Option (List ℕ)
+copied_bytes [] = Some []
+copied_bytes (Copied run ∷ rest) = option_map (λ bytes. run ++ bytes) (copied_bytes rest)
+copied_bytes (Called call ∷ rest) = None
+
+abbrev pub IsVerbatim : Bool → List ℕ → Type 0
+IsVerbatim copy text = copied_bytes (parts copy text) ≡ Some text
+
+-- a letter (* 42, n 110, $ 36, w 119) that may begin an interpolation after a backslash
+abbrev pub may_call : ℕ → Bool
+may_call letter = letter == 42 || (letter == 110 || (letter == 36 || letter == 119))
