@@ -10,6 +10,7 @@ pub mod CharacterLemmas
 pub mod ReportLemmas
 pub mod ChoiceLemmas
 pub mod PointLemmas
+pub mod PairLemmas
 pub mod PlainLemmas
 pub mod LineAgreement
 pub mod SequenceLemmas

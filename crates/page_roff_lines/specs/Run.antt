@@ -1,11 +1,12 @@
 -- A fast way of the code, which no public clause cites: a run of bytes that are read alike.
-use Rattle.std.specs.Prelude.{◌≡◌, ℕ, ◌+◌, ◌-◌, ◌<◌, Bool, true, false, ◌==◌, List, length, slice_index}
+use Rattle.std.specs.Prelude.{◌≡◌, ℕ, ◌+◌, ◌-◌, ◌<◌, ◌≤◌, Bool, true, false, not, ◌&&◌, ◌==◌, List, length, slice_index}
 use Rattle.memchr.specs.Find.{is_byte, is_byte2}
 use Rattle.page_roff_lines.specs.declared.Mode.{Mode}
 use Rattle.page_roff_lines.specs.declared.Mode.TheVariants.{Plain, Backslash, Comment, Dropped}
 use Rattle.page_roff_lines.specs.declared.Mark.{Mark}
 use Rattle.page_roff_lines.specs.declared.Mark.TheVariants.{Unread, First, Second, Absent, Present}
-use Rattle.page_roff_lines.specs.Bytes.{newline, carriage_return, backslash}
+use Rattle.page_roff_lines.specs.Bytes.{newline, carriage_return, backslash, quote, hash}
+use Rattle.page_roff_lines.specs.Characters.{is_printable}
 use Rattle.page_roff_lines.specs.Held.{extend}
 use Rattle.page_roff_lines.specs.Open.{Open}
 
@@ -28,6 +29,21 @@ is_settled Present = true
 pub record IsRun (o : Open) (run : List ℕ) : Type 0 where
   pub settled : is_settled o.mark ≡ true
   pub bytes : (k : ℕ) → k < length run → ends_run o.mode (slice_index run k) ≡ false
+
+-- the byte after a backslash stays with it, and begins no comment
+abbrev pub stays : ℕ → Bool
+stays b = is_printable b && (not (b == quote) && not (b == hash))
+
+-- a backslash and a byte that stays with it stand at the front of some bytes
+pub record BeginsPair (bytes : List ℕ) : Type 0 where
+  pub long : 2 ≤ length bytes
+  pub escapes : slice_index bytes 0 ≡ backslash
+  pub stays : stays (slice_index bytes 1) ≡ true
+
+-- a pair is read here as a run is
+pub record TakesPair (o : Open) : Type 0 where
+  pub settled : is_settled o.mark ≡ true
+  pub plain : o.mode ≡ Plain
 
 -- the line with a run more at its end
 abbrev pub put_run : Open → List ℕ → Open
