@@ -1,4 +1,5 @@
--- Texts that are their own value: nothing in them is interpolated. Source: roff(7), "Escape sequences".
+-- A fast way of the code, which no public clause cites: texts that are their own value, since nothing in them is interpolated.
+-- Source: roff(7), "Escape sequences".
 use Rattle.std.specs.Prelude.{◌≡◌, ◌==◌, ◌||◌, ℕ, Bool, List, [], ◌∷◌, ◌++◌, Option, Some, None, option_map}
 use Rattle.page_roff_values.specs.declared.parts.Part.{Part}
 use Rattle.page_roff_values.specs.declared.parts.Part.TheVariants.{Copied, Called}
