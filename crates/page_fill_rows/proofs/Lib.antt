@@ -1,0 +1,4 @@
+pub mod SheetLemmas
+pub mod CharacterLemmas
+pub mod PlainLemmas
+pub mod WrapLemmas
