@@ -2,3 +2,4 @@ pub mod SheetLemmas
 pub mod CharacterLemmas
 pub mod PlainLemmas
 pub mod WrapLemmas
+pub mod PlainLaw

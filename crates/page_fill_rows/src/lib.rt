@@ -5,6 +5,7 @@
 
 mod cell_widths;
 mod characters;
+mod laws;
 mod open_rows;
 mod row_cells;
 
@@ -16,4 +17,5 @@ pub const BLANK_ROWS: u32 = 100;
 
 pub use cell_widths::columns;
 pub use characters::{is_printable_ascii, put_character, put_characters, put_glyph, put_plain};
+pub use laws::plain_law;
 pub use open_rows::OpenRow;

@@ -66,7 +66,7 @@ impl Model for OpenRow {
 }
 
 impl OpenRow {
-    /// No open row, below one blank row.
+    /// No open row, below one blank row, on a page of this width in columns. It reserves all memory that it will ever hold.
     pub fn new(alloc: Global, width: u32) -> Result<OpenRow, AllocError>
         ensures { IfOk result (λ s. s ≡ sheet.fresh width) }
     {
@@ -444,9 +444,9 @@ impl OpenRow {
         }
     }
 
-    /// Puts a blank before the row's next word.
+    // Puts a blank before the row's next word.
     #[tactic(auto, unfolding(crate::specs::Sheets::space))]
-    pub(crate) fn put_space<O: RowOut>(&mut self, place: Place, out: &mut O)
+    fn put_space<O: RowOut>(&mut self, place: Place, out: &mut O)
         ensures { LaysOut O.left out.old (sheet.space self.old place) out.new self.new }
     {
         if self.row.is_empty() {
@@ -475,16 +475,16 @@ impl OpenRow {
         self.empty();
     }
 
-    /// A word begins after the row's cells.
-    pub(crate) fn open_word(&mut self)
+    // A word begins after the row's cells.
+    fn open_word(&mut self)
         ensures { self.new ≡ sheet.opens self.old }
     {
         self.gap = self.row.len();
         self.word = self.row.len();
     }
 
-    /// Puts blanks before the row's next word.
-    pub(crate) fn put_spaces<O: RowOut>(&mut self, count: u32, place: Place, out: &mut O)
+    // Puts blanks before the row's next word.
+    fn put_spaces<O: RowOut>(&mut self, count: u32, place: Place, out: &mut O)
         ensures { LaysOut O.left out.old (sheet.spaces self.old count place) out.new self.new }
     {
         for _ in 0..count {
