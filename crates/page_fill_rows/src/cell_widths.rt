@@ -21,7 +21,7 @@ pub(crate) fn cell_columns(cell: Cell) -> u32
     char_columns(cell.c)
 }
 
-/// The columns of cells.
+/// The columns of cells, at most as many as a row holds.
 pub fn columns(cells: &[Cell]) -> u32
     requires { length cells.now ≤ 4096 }
     ensures value { result ≡ sheet.columns cells.now }

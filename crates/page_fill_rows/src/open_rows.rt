@@ -152,7 +152,7 @@ impl OpenRow {
         self.has_heading = true;
     }
 
-    /// Sets the margin of the row that begins next, and of those after it.
+    /// Sets the margin of the row that begins next, and of those after it, in columns.
     pub fn set_margins(&mut self, first: u32, rest: u32)
         ensures { self.new ≡ record self.old { first = first; rest = rest } }
     {
@@ -375,7 +375,7 @@ impl OpenRow {
         }
     }
 
-    /// The row ends, and a word of bytes that are a column each begins the next one.
+    /// The row ends, and a word of bytes, printable ASCII that fits a row, begins the next one.
     pub fn wrap_plain<O: RowOut>(&mut self, bytes: &[u8], font: Font, out: &mut O)
         requires plain { plain.is_printable_ascii bytes.now ≡ true }
         requires room { length bytes.now ≤ CELLS }
@@ -389,7 +389,7 @@ impl OpenRow {
         self.add_plain(bytes, font);
     }
 
-    /// The row takes blanks, and after them a word of bytes, if these are a column each; says whether they are.
+    /// The row, which has a cell and room, takes blanks and after them a word of bytes, if these are printable ASCII; says whether they are.
     pub fn add_word(&mut self, blanks: u32, bytes: &[u8], font: Font) -> bool
         requires some { (length self.old.cells == 0) ≡ false }
         requires room { length self.old.cells + blanks + length bytes.now ≤ CELLS }
