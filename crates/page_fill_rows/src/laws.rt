@@ -14,7 +14,8 @@ ghost use Rattle.page_fill_rows.specs.Sheets.{Sheet};
 pub fn plain_law()
     ensures texts { (s : Sheet) (bytes : List ℕ) (font : Font) (place : Place)
         → plain.is_printable_ascii bytes ≡ true → 0 < length bytes → plain.has_room s (length bytes) ≡ true
-        → sheet.letters s (shown.cells_of font bytes) place ≡ nothing (plain.taken s (shown.cells_of font bytes)) }
+        → sheet.letters s (shown.cells_of font bytes) place
+        ≡ nothing (plain.taken s (shown.cells_of font bytes)) }
     ensures words { (s : Sheet) (blanks : ℕ) (bytes : List ℕ) (font : Font) (place : Place)
         → plain.is_printable_ascii bytes ≡ true → 0 < length bytes → 0 < blanks
         → plain.has_word_room s blanks (length bytes) ≡ true
