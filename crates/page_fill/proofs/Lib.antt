@@ -1,6 +1,3 @@
-pub mod SheetLemmas
-pub mod CharacterLemmas
-pub mod PlainLemmas
-pub mod WrapLemmas
 pub mod WordLemmas
+pub mod PlainWordLemmas
 pub mod CutLaw

@@ -12,8 +12,8 @@ use Rattle.page_core_base.specs.declared.pieces.TagForm.{TagForm}
 use Rattle.page_core_base.specs.declared.pieces.TagForm.TheVariants as forms
 use Rattle.page_core_base.specs.Messages.{Message, message_about}
 use Rattle.page_core_base.specs.Laid.{Laid, nothing, seq}
-use Rattle.page_fill.specs.Sheets.{Sheet, over, columns, letter, fixed_blanks, new_word, broken, empty_rows, fresh}
-use Rattle.page_fill.specs.Characters.{with_notes, cell_of, characters_of, characters, character, glyph}
+use Rattle.page_fill_rows.specs.Sheets.{Sheet, over, columns, letter, fixed_blanks, new_word, broken, empty_rows, fresh}
+use Rattle.page_fill_rows.specs.Characters.{with_notes, cell_of, characters_of, characters, character, glyph}
 use Rattle.page_fill.specs.declared.words.OpenTag.{OpenTag}
 use Rattle.page_fill.specs.declared.TheConstants.{HANG_MAX, TAB_STOP}
 pub use Rattle.page_fill.specs.declared.words.Edge.{Edge}

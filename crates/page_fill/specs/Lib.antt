@@ -1,6 +1,3 @@
-pub mod Sheets
-pub mod Room
-pub mod Characters
 pub mod Fill
-pub mod Plain
+pub mod PlainWords
 pub mod Caps

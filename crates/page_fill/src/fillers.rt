@@ -8,10 +8,10 @@ ghost use Rattle.page_core_base.specs.Pieces.{piece_of};
 ghost use Rattle.page_fill.specs.Caps.{FillFits};
 ghost use Rattle.page_fill.specs.Fill as fill;
 
-use crate::sheets::OpenRow;
 use crate::words::{Edge, NO_WORD};
 use page_core_base::{Cell, Fault, NoteSink, Piece, RowLatch, RowOut, RowSink, Settings};
 use page_core_limits::CELLS;
+use page_fill_rows::OpenRow;
 use std::alloc::Global;
 use std::marker::Model;
 

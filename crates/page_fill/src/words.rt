@@ -1,19 +1,20 @@
 //! Words, breaks and tags: what is held between two pieces.
 
-ghost use Rattle.std.specs.Prelude.{◌≡◌, ◌+◌, ◌-◌, ◌<◌, ◌≤◌, ◌==◌, not, true, false, [], ◌∷◌, length};
+ghost use Rattle.std.specs.Prelude.{◌≡◌, true, false, []};
 ghost use Rattle.std.specs.Str.{chars};
 ghost use Rattle.page_core_base.specs.Laid.{nothing};
 ghost use Rattle.page_core_base.specs.Latches.{CameRows, LaysOut};
 ghost use Rattle.page_core_base.specs.declared.places.Place.{Place};
-ghost use Rattle.page_fill.specs.Characters.{characters_of};
+ghost use Rattle.page_fill_rows.specs.Characters.{characters_of};
+ghost use Rattle.page_fill_rows.specs.Plain as plain;
 ghost use Rattle.page_fill.specs.Fill as fill;
-ghost use Rattle.page_fill.specs.Plain as plain;
+ghost use Rattle.page_fill.specs.PlainWords as plain_words;
 
-use crate::cell_widths::columns;
-use crate::characters::{is_printable_ascii, put_character, put_characters, put_glyph, put_plain};
-use crate::sheets::OpenRow;
 use crate::{HANG_MAX, TAB_STOP};
 use page_core_base::{Cell, Font, Note, NoteKind, Output, Place, RowOut, TagForm};
+use page_fill_rows::{
+    OpenRow, columns, is_printable_ascii, put_character, put_characters, put_glyph, put_plain,
+};
 
 /// The open word, and what waits before the next one.
 #[derive(Clone, Copy)]
@@ -170,7 +171,7 @@ impl Edge {
 
     // Whether the next word, with this count of cells of a column each, goes into the row after its blanks.
     fn takes_word(&self, count: usize) -> bool
-        ensures { result ≡ plain.takes_word self.now count }
+        ensures { result ≡ plain_words.takes_word self.now count }
     {
         let word = &self.word;
         !word.is_joined
@@ -181,13 +182,14 @@ impl Edge {
 
     // Whether the next word, with this count of cells of a column each, begins the next row after one blank.
     fn wraps_word(&self, count: usize) -> bool
-        ensures { result ≡ plain.wraps_word self.now count }
+        ensures { result ≡ plain_words.wraps_word self.now count }
     {
         let word = &self.word;
         !word.is_joined && !word.has_tab && word.blanks == 1 && self.sheet.ends_before(count)
     }
 
     /// Takes a word that the open row has room for after its blanks, if it is plain; says whether it did.
+    #[inline(always)]
     pub(crate) fn takes_at_once(&mut self, bytes: &[u8], font: Font) -> bool
         ensures taken { result ≡ true → (place : Place)
             → fill.text self.old (characters_of bytes.now) font place ≡ nothing self.new }

@@ -6,8 +6,8 @@ use Rattle.page_core_base.specs.declared.page_settings.Output.TheVariants.{Ascii
 use Rattle.page_core_base.specs.declared.pieces.Piece.{Piece}
 use Rattle.page_core_base.specs.declared.pieces.Piece.TheVariants.{Char, Blank, Glue, Para}
 use Rattle.page_core_base.specs.Rows.{row_of}
-use Rattle.page_fill.specs.Sheets.{letter, letters, space, spaces, broken, empty_rows, fresh}
-use Rattle.page_fill.specs.Characters.{character, cells_of}
+use Rattle.page_fill_rows.specs.Sheets.{letter, letters, space, spaces, broken, empty_rows, fresh}
+use Rattle.page_fill_rows.specs.Characters.{character, cells_of}
 use Rattle.page_fill.specs.declared.words.Edge.{Edge}
 use Rattle.page_fill.specs.Fill.{filled, laid, laid_piece, ended, paragraph, opening, one_character, no_word}
 

@@ -15,8 +15,8 @@ use Rattle.page_core_limits.specs.declared.TheConstants.{CELLS}
 use Rattle.page_core_tables.specs.Printed.{Printing, char_printed, glyph_printed}
 use Rattle.page_fill.specs.declared.words.OpenWord.{OpenWord}
 use Rattle.page_fill.specs.declared.words.Edge.{Edge}
-use Rattle.page_fill.specs.Sheets.{Sheet, over, blank, broken}
-use Rattle.page_fill.specs.Characters.{cell_of, cells_of, characters_of, unknown_notes}
+use Rattle.page_fill_rows.specs.Sheets.{Sheet, over, blank, broken}
+use Rattle.page_fill_rows.specs.Characters.{cell_of, cells_of, characters_of, unknown_notes}
 use Rattle.page_fill.specs.Fill.{laid, ended, tab_notes}
 use Rattle.page_fill.specs.Fill as fill
 use Rattle.page_fill_laws.specs.InWords.{Mark, told, opened, lettered, letters_of, printed_marks, character_marks, text_marks, tab_marks, blank_marks, opening_marks, after_cell, are_of_words, piece_marks, word_after, marks, is_sound}

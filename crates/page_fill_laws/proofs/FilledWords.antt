@@ -8,8 +8,8 @@ use Rattle.page_core_base.specs.declared.places.Place.{Place}
 use Rattle.page_core_base.specs.Messages.{Message}
 use Rattle.page_core_base.specs.Laid.{Laid, join, seq}
 use Rattle.page_core_limits.specs.declared.TheConstants.{CELLS}
-use Rattle.page_fill.specs.Sheets.{Sheet, over, blank, passes, letter, space, opens, counted, given, begins, emptied}
-use Rattle.page_fill.specs.Characters.{with_notes}
+use Rattle.page_fill_rows.specs.Sheets.{Sheet, over, blank, passes, letter, space, opens, counted, given, begins, emptied}
+use Rattle.page_fill_rows.specs.Characters.{with_notes}
 use Rattle.page_fill_laws.specs.InWords.{Mark, told, opened, spaced, lettered}
 use Rattle.page_fill_laws.specs.Filled.{Part, shown, noted, Word, Frame, Row, with_cells, closed, row_begun, row_ended, full_row_ended, first_word, Outcome, fits, too_wide, too_many, after_note, is_wide, outcome, started, by_rest, by_word, by_blanks, one_word, rest_of_word, filling}
 use Rattle.page_fill_laws.specs.PieceWords.{IsHeld, frame_of, open_row_of}

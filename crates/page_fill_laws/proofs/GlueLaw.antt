@@ -7,11 +7,11 @@ use Rattle.page_core_base.specs.declared.page_settings.Output.{Output}
 use Rattle.page_core_base.specs.declared.pieces.Piece.TheVariants.{Text, Blank, Glue}
 use Rattle.page_core_base.specs.declared.places.Place.{Place}
 use Rattle.page_core_base.specs.Laid.{Laid, nothing, join, seq, join_assoc}
-use Rattle.page_fill.specs.Sheets.{Sheet, over, new_word}
-use Rattle.page_fill.specs.Characters.{characters, character, with_notes}
+use Rattle.page_fill_rows.specs.Sheets.{Sheet, over, new_word}
+use Rattle.page_fill_rows.specs.Characters.{characters, character, with_notes}
 use Rattle.page_fill.specs.declared.words.Edge.{Edge}
 use Rattle.page_fill.specs.Fill.{laid, laid_piece, text, opening, on_sheet, begun_word, tells_tab, tab_notes, stands, blanks_wait, glued_word}
-use Rattle.page_fill.proofs.CharacterLemmas.{characters_of-text, chars-empty}
+use Rattle.page_fill_rows.proofs.CharacterLemmas.{characters_of-text, chars-empty}
 
 characters-append : (output : Output) (s : Sheet) (xs ys : List ℕ) (font : Font) (place : Place)
     → characters output s (xs ++ ys) font place ≡ seq (characters output s xs font place) (λ t. characters output t ys font place)

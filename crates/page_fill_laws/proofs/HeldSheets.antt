@@ -16,8 +16,8 @@ use Rattle.page_core_limits.specs.declared.TheConstants.{CELLS}
 use Rattle.page_core_tables.specs.Printed.{char_printed, glyph_printed}
 use Rattle.page_fill.specs.declared.words.OpenTag.{OpenTag}
 use Rattle.page_fill.specs.declared.words.Edge.{Edge}
-use Rattle.page_fill.specs.Sheets.{Sheet, blank, passes, letter, letters, space, spaces, new_word, opens, broken, empty_rows, fresh}
-use Rattle.page_fill.specs.Characters.{cells_of, cell_of, characters_of, character, characters, glyph}
+use Rattle.page_fill_rows.specs.Sheets.{Sheet, blank, passes, letter, letters, space, spaces, new_word, opens, broken, empty_rows, fresh}
+use Rattle.page_fill_rows.specs.Characters.{cells_of, cell_of, characters_of, character, characters, glyph}
 use Rattle.page_fill.specs.Fill.{laid_piece, text, one_character, one_glyph, tab, opening, ended, paragraph, spaced, row_ended, heading, tag_ended, after_tag, fits_hang, without_tag, stands, to_stop, missing_rows}
 use Rattle.page_fill_laws.specs.PieceWords.{IsHeld}
 

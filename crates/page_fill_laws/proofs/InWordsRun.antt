@@ -6,8 +6,8 @@ use Rattle.page_core_base.specs.declared.places.Place.{Place}
 use Rattle.page_core_base.specs.Messages.{Message}
 use Rattle.page_core_base.specs.Laid.{Laid, nothing, join, seq, join_assoc}
 use Rattle.page_core_limits.specs.declared.TheConstants.{CELLS}
-use Rattle.page_fill.specs.Sheets.{Sheet, blank, passes, letter, space, opens}
-use Rattle.page_fill.specs.Characters.{with_notes}
+use Rattle.page_fill_rows.specs.Sheets.{Sheet, blank, passes, letter, space, opens}
+use Rattle.page_fill_rows.specs.Characters.{with_notes}
 use Rattle.page_fill_laws.specs.InWords.{Mark, told, opened, spaced, lettered, told_by, offends, taken, ended_at, Found, none, here, after_messages, first_offending, rows_in_words}
 
 -- what one mark does

@@ -10,7 +10,7 @@ use Rattle.page_core_base.specs.declared.pieces.TagForm.{TagForm}
 use Rattle.page_core_base.specs.declared.pieces.TagForm.TheVariants as forms
 use Rattle.page_core_base.specs.Laid.{nothing}
 use Rattle.page_fill.specs.declared.words.OpenTag.{OpenTag}
-use Rattle.page_fill.specs.Characters.{characters_of}
+use Rattle.page_fill_rows.specs.Characters.{characters_of}
 use Rattle.page_fill.specs.declared.words.Edge.{Edge}
 use Rattle.page_fill.specs.Fill.{laid_piece, text, one_character, one_glyph, tab, opening, ended, paragraph, spaced, row_ended, heading, tag_ended, after_tag, fits_hang, without_tag}
 use Rattle.page_fill_laws.specs.InWords.{is_sound}

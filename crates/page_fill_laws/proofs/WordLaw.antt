@@ -10,8 +10,8 @@ use Rattle.page_core_base.specs.declared.cells.Cell.{Cell}
 use Rattle.page_core_base.specs.declared.places.Place.{Place}
 use Rattle.page_core_base.specs.Laid.{Laid, nothing, join, seq, join_assoc}
 use Rattle.page_core_limits.specs.declared.TheConstants.{CELLS}
-use Rattle.page_fill.specs.declared.TheConstants.{TAG_COLUMNS}
-use Rattle.page_fill.specs.Sheets.{Sheet, over, columns, cell_columns, blank, passes, counted, begins, given, gives, emptied, letter, letters, space, spaces, opens, new_word}
+use Rattle.page_fill_rows.specs.declared.TheConstants.{TAG_COLUMNS}
+use Rattle.page_fill_rows.specs.Sheets.{Sheet, over, columns, cell_columns, blank, passes, counted, begins, given, gives, emptied, letter, letters, space, spaces, opens, new_word}
 use Rattle.page_fill_laws.specs.Words.{tally, has_cell, tallied, fitting, with_word, word_wrapped, word_after_end, word_first}
 
 columns-cons : (c : Cell) (cs : List Cell) → columns (c ∷ cs) ≡ cell_columns c + columns cs

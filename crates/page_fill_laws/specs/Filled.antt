@@ -10,8 +10,8 @@ use Rattle.page_core_base.specs.Messages.{Message}
 use Rattle.page_core_base.specs.Rows.{row_of}
 use Rattle.page_core_base.specs.Laid.{Laid, nothing, seq}
 use Rattle.page_core_limits.specs.declared.TheConstants.{CELLS}
-use Rattle.page_fill.specs.Sheets.{columns, cell_columns, blank, cells_note}
-use Rattle.page_fill.specs.Characters.{with_notes}
+use Rattle.page_fill_rows.specs.Sheets.{columns, cell_columns, blank, cells_note}
+use Rattle.page_fill_rows.specs.Characters.{with_notes}
 
 -- ---- words
 

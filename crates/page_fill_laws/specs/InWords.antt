@@ -14,8 +14,8 @@ use Rattle.page_core_base.specs.Messages.{Message}
 use Rattle.page_core_base.specs.Laid.{Laid, nothing, seq}
 use Rattle.page_core_tables.specs.Printed.{Printing, char_printed, glyph_printed}
 use Rattle.page_core_limits.specs.declared.TheConstants.{CELLS}
-use Rattle.page_fill.specs.Sheets.{Sheet, over, blank, passes, counted, begins, emptied, gives, gives_full, wraps, splits, opens}
-use Rattle.page_fill.specs.Characters.{with_notes, cell_of, cells_of, characters_of, unknown_notes}
+use Rattle.page_fill_rows.specs.Sheets.{Sheet, over, blank, passes, counted, begins, emptied, gives, gives_full, wraps, splits, opens}
+use Rattle.page_fill_rows.specs.Characters.{with_notes, cell_of, cells_of, characters_of, unknown_notes}
 use Rattle.page_fill.specs.declared.words.Edge.{Edge}
 use Rattle.page_fill.specs.declared.words.OpenWord.{OpenWord}
 use Rattle.page_fill.specs.Fill.{tab_notes, begun_word, blanks_wait, opened_word, glued_word}

@@ -11,8 +11,8 @@ use Rattle.page_core_limits.specs.declared.TheConstants.{CELLS}
 use Rattle.page_core_tables.specs.Printed.{Printing, char_printed, glyph_printed}
 use Rattle.page_fill.specs.declared.words.OpenWord.{OpenWord}
 use Rattle.page_fill.specs.declared.words.Edge.{Edge}
-use Rattle.page_fill.specs.Sheets.{Sheet, blank}
-use Rattle.page_fill.specs.Characters.{cell_of, cells_of, characters_of, unknown_notes}
+use Rattle.page_fill_rows.specs.Sheets.{Sheet, blank}
+use Rattle.page_fill_rows.specs.Characters.{cell_of, cells_of, characters_of, unknown_notes}
 use Rattle.page_fill.specs.Fill.{tab_notes}
 use Rattle.page_fill_laws.specs.InWords.{after_cell, word_after}
 use Rattle.page_fill_laws.specs.Filled.{Part, shown, noted, Word, Frame, Row, rest_of_word, filling}

@@ -2,8 +2,8 @@
 use Rattle.std.specs.Prelude.{ℕ, ◌+◌, ◌-◌, min, Bool, true, List, [], ◌∷◌, ◌++◌, length, replicate}
 use Rattle.page_core_base.specs.declared.cells.Cell.{Cell}
 use Rattle.page_core_base.specs.Laid.{Laid}
-use Rattle.page_fill.specs.declared.TheConstants.{TAG_COLUMNS}
-use Rattle.page_fill.specs.Sheets.{Sheet, over, columns, cell_columns, blank, gives, begins}
+use Rattle.page_fill_rows.specs.declared.TheConstants.{TAG_COLUMNS}
+use Rattle.page_fill_rows.specs.Sheets.{Sheet, over, columns, cell_columns, blank, gives, begins}
 
 -- the columns of the open tag with more cells, and whether it has one
 abbrev pub tally : ℕ → List Cell → ℕ

@@ -1,7 +1,7 @@
 use Rattle.std.proofs.Common.{sym, ◌∙◌}
 use Rattle.std.proofs.lemmas.Str.{chars-nil}
-use Rattle.page_fill.proofs.CharacterLemmas.{characters_of-text, characters_of-none}
-use Rattle.page_fill.proofs.PlainLemmas.{characters_of-plain}
+use Rattle.page_fill_rows.proofs.CharacterLemmas.{characters_of-text, characters_of-none}
+use Rattle.page_fill_rows.proofs.PlainLemmas.{characters_of-plain}
 use Rattle.page_fill.proofs.words.Edge.bytes.Goals as goal
 
 pub returns-then-is_printable_ascii : goal.returns-then-is_printable_ascii

@@ -1,7 +1,6 @@
 use Rattle.std.proofs.Common.{append_assoc, sym, ap, ◌∙◌, refl}
 use Rattle.page_fill.specs.Fill.{on_sheet}
-use Rattle.page_fill.proofs.PlainLemmas.{text-plain}
-use Rattle.page_fill.proofs.WrapLemmas.{text-wrap}
+use Rattle.page_fill.proofs.PlainWordLemmas.{text-plain, text-wrap}
 use Rattle.page_fill.proofs.words.Edge.plain.Goals as goal
 
 pub returns-then-wraps_word : goal.returns-then-wraps_word

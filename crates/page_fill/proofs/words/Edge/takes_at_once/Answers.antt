@@ -1,5 +1,6 @@
 use Rattle.std.proofs.Common.{sym, ◌∙◌, refl}
-use Rattle.page_fill.proofs.PlainLemmas.{characters_of-plain, text-word}
+use Rattle.page_fill_rows.proofs.PlainLemmas.{characters_of-plain}
+use Rattle.page_fill.proofs.PlainWordLemmas.{text-word}
 use Rattle.page_fill.proofs.words.Edge.takes_at_once.Goals as goal
 
 pub returns-clause-taken : goal.returns-clause-taken

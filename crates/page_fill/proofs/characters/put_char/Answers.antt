@@ -1,6 +1,0 @@
-use Rattle.page_fill.specs.Characters.{cell_of}
-use Rattle.page_fill.proofs.SheetLemmas.{letters-one}
-use Rattle.page_fill.proofs.characters.put_char.Goals as goal
-
-pub returns : goal.returns
-returns g c = rw (letters-one c.args.row.now (cell_of c.args.font c.args.c) c.args.place) c.put_letter.ensures

@@ -1,0 +1,56 @@
+-- Characters one by one.
+use Rattle.std.proofs.Common.{◌≡◌, ℕ, ◌+◌, ◌<◌, ◌≤◌, IsUtf8, chars, encode_utf8, encode_utf8_all, ◌==◌, List, [], ◌∷◌, ◌++◌, length, get_or, drop, refl, ap, arith, inl, inr}
+use Rattle.std.proofs.lemmas.List.{drop_more, drop_all}
+use Rattle.std.proofs.lemmas.Bool.{cases_Bool}
+use Rattle.std.proofs.lemmas.Bool.Decides.{nat_tests}
+use Rattle.std.specs.Str.{is_utf8}
+use Rattle.std.proofs.lemmas.Str.{chars-nil, chars_past_char, encodes-chars, is_utf8-from_IsUtf8, IsUtf8-from_is_utf8}
+use Rattle.page_core_base.specs.declared.cells.Font.{Font}
+use Rattle.page_core_base.specs.declared.places.Place.{Place}
+use Rattle.page_core_base.specs.declared.page_settings.Output.{Output}
+use Rattle.page_core_base.specs.Laid.{join, nothing}
+use Rattle.page_fill_rows.specs.Sheets.{Sheet, letter, letters}
+use Rattle.page_fill_rows.specs.Characters.{cell_of, cells_of, character, characters, characters_of}
+
+pub chars_of_empty : (bytes : List ℕ) → length bytes ≡ 0 → chars bytes ≡ []
+chars_of_empty [] h = chars-nil
+chars_of_empty (b ∷ bs) h = absurd (omega arith)
+
+pub bytes-more : (s : Sheet) (bytes : List ℕ) (i : ℕ) (font : Font) (place : Place) (d : ℕ) → i < length bytes
+    → letters s (cells_of font (drop i bytes)) place
+    ≡ join (letter s (cell_of font (get_or bytes i d)) place) (letters (letter s (cell_of font (get_or bytes i d)) place).edge (cells_of font (drop (i + 1) bytes)) place)
+unfolding letters
+bytes-more s bytes i font place d h = rw (drop_more bytes i d h) refl
+
+pub bytes-done : (s : Sheet) (bytes : List ℕ) (i : ℕ) (font : Font) (place : Place) → length bytes ≤ i
+    → letters s (cells_of font (drop i bytes)) place ≡ nothing s
+unfolding letters
+bytes-done s bytes i font place h = rw (drop_all i bytes h) refl
+
+pub characters-more : (output : Output) (s : Sheet) (bytes rest : List ℕ) (c : ℕ) (font : Font) (place : Place) → IsUtf8 bytes → bytes ≡ encode_utf8 c ++ rest
+    → characters output s (chars bytes) font place
+    ≡ join (character output s c font place) (characters output (character output s c font place).edge (chars rest) font place)
+unfolding characters
+characters-more output s bytes rest c font place u h = rw (chars_past_char bytes rest c u h) refl
+
+pub characters-done : (output : Output) (s : Sheet) (bytes : List ℕ) (font : Font) (place : Place) → length bytes ≡ 0
+    → characters output s (chars bytes) font place ≡ nothing s
+unfolding characters
+characters-done output s bytes font place h = rw (chars_of_empty bytes h) refl
+
+-- ---- the characters of a text
+
+pub characters_of-text : (bytes : List ℕ) → IsUtf8 bytes → characters_of bytes ≡ chars bytes
+unfolding characters_of
+characters_of-text bytes u = rw (is_utf8-from_IsUtf8 bytes u) refl
+
+pub characters_of-none : (bytes : List ℕ) → ¬ (IsUtf8 bytes) → characters_of bytes ≡ []
+unfolding characters_of
+characters_of-none bytes u = elim (cases_Bool (is_utf8 bytes)) [ inl t ↦ absurd (u (IsUtf8-from_is_utf8 bytes t)) | inr f ↦ rw f refl ]
+
+pub chars-empty : (bytes : List ℕ) → IsUtf8 bytes → (length (chars bytes) == 0) ≡ (length bytes == 0)
+chars-empty [] u = rw chars-nil refl
+chars-empty (b ∷ bs) u = chars-some b bs (chars (b ∷ bs)) (encodes-chars (b ∷ bs) u) where
+  chars-some : (b : ℕ) (bs cs : List ℕ) → encode_utf8_all cs ≡ b ∷ bs → (length cs == 0) ≡ (length (b ∷ bs) == 0)
+  chars-some b bs [] h = absurd (let n = ap length h in omega (arith, n))
+  chars-some b bs (c ∷ cs) h = grind (arith, nat_tests)

@@ -1,0 +1,5 @@
+pub mod SheetLemmas
+pub mod CharacterLemmas
+pub mod PlainLemmas
+pub mod WrapLemmas
+pub mod PlainLaw

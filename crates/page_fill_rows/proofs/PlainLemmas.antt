@@ -1,0 +1,266 @@
+-- A plain text that the open row has room for.
+use Rattle.std.proofs.Common.{◌≡◌, ℕ, ◌+◌, ◌<◌, ◌≤◌, zero, suc, true, false, ◌==◌, List, [], ◌∷◌, ◌++◌, length, replicate, min, take, drop, set, get_or, append_assoc, append-nil, length-append, ◌||◌, length-drop, ◌-◌, nat_lt, ◌<◌, refl, ap, sym, ◌∙◌, arith}
+use Rattle.std.proofs.lemmas.Bool.Decides.{nat_tests}
+use Rattle.std.proofs.lemmas.List.{length-map, length-replicate, length-take-le, get_or-append_right, get_or-drop, take_more, drop_more, set_at}
+use Rattle.std.proofs.lemmas.List.Sums.{sum_by-append}
+use Rattle.unicode_width.specs.Width.{char_width}
+use Rattle.page_core_base.specs.declared.cells.Cell.{Cell}
+use Rattle.page_core_base.specs.declared.cells.Font.{Font}
+use Rattle.page_core_base.specs.declared.places.Place.{Place}
+use Rattle.page_core_base.specs.Laid.{nothing}
+use Rattle.page_core_tables.specs.Printed.{char_printed, known}
+use Rattle.page_fill_rows.specs.Sheets.{Sheet, cell_columns, columns, counted, passes, blank, letter, letters, space, spaces}
+use Rattle.page_core_limits.specs.declared.TheConstants.{CELLS}
+use Rattle.page_fill_rows.specs.declared.TheConstants.{TAG_COLUMNS}
+use Rattle.page_fill_rows.specs.Characters.{cell_of, cells_of, character, characters, characters_of}
+use Rattle.page_fill_rows.specs.Room.{IsSound}
+use Rattle.page_fill_rows.proofs.CharacterLemmas.{characters_of-text}
+use Rattle.page_core_base.specs.declared.page_settings.Output.{Output}
+use Rattle.std.proofs.lemmas.Str.{chars-IsAscii, IsUtf8-from_ascii}
+use Rattle.std.proofs.lemmas.Str.Ascii.{IsAscii-nil, IsAscii-cons}
+use Rattle.std.specs.Str.{IsAscii}
+use Rattle.page_fill_rows.specs.Plain.{is_printable, is_printable_ascii, has_room, taken, has_word_room, spaced_by}
+
+-- a plain byte has a column
+pub plain-columns : (font : Font) (b : ℕ) → is_printable b ≡ true → cell_columns (cell_of font b) ≡ 1
+unfolding char_width
+plain-columns font b h = grind (arith, nat_tests)
+
+pub first-plain : (b : ℕ) (bytes : List ℕ) → is_printable_ascii (b ∷ bytes) ≡ true → is_printable b ≡ true
+first-plain b bytes h = grind (arith, h)
+
+pub rest-plain : (b : ℕ) (bytes : List ℕ) → is_printable_ascii (b ∷ bytes) ≡ true → is_printable_ascii bytes ≡ true
+rest-plain b bytes h = grind (arith, h)
+
+-- ---- one cell
+
+not-passed : (s : Sheet) (cell : Cell) (n : ℕ) → cell_columns cell ≡ 1 → has_room s (suc n) ≡ true → passes (counted s cell) cell ≡ false
+not-passed s cell n one room = grind (arith, nat_tests, one, room)
+
+not-full : (s : Sheet) (n : ℕ) → has_room s (suc n) ≡ true → (length s.cells == CELLS) ≡ false
+not-full s n room = grind (arith, nat_tests, room)
+
+pub has-some : (cells : List Cell) (n : ℕ) → length cells ≡ suc n → (length cells == 0) ≡ false
+has-some cells n is = grind (arith, nat_tests, is)
+
+pub has-more : (cells : List Cell) (cell : Cell) → (length (cells ++ cell ∷ []) == 0) ≡ false
+has-more cells cell = has-some (cells ++ cell ∷ []) (length cells) (length-append cells (cell ∷ []) ∙ omega arith)
+
+letter-at : (s : Sheet) (cells : List Cell) (cell : Cell) (n : ℕ) (place : Place) → s.cells ≡ cells → cell_columns cell ≡ 1 → has_room s (suc n) ≡ true
+    → letter s cell place ≡ nothing (taken s (cell ∷ []))
+unfolding letter
+letter-at s [] cell n place is one room = rw (not-passed s cell n one room, not-full s n room, is, one) refl
+letter-at s (c ∷ cs) cell n place is one room = rw (not-passed s cell n one room, not-full s n room, has-some s.cells (length cs) (ap length is), one) refl
+
+pub letter-fits : (s : Sheet) (cell : Cell) (n : ℕ) (place : Place) → cell_columns cell ≡ 1 → has_room s (suc n) ≡ true
+    → letter s cell place ≡ nothing (taken s (cell ∷ []))
+letter-fits s cell n place one room = letter-at s s.cells cell n place refl one room
+
+-- ---- the others
+
+room-at : (s : Sheet) (cells : List Cell) (cell : Cell) (n : ℕ) → s.cells ≡ cells → cell_columns cell ≡ 1 → has_room s (suc n) ≡ true
+    → has_room (taken s (cell ∷ [])) n ≡ true
+room-at s [] cell n is one room = rw is (grind (arith, nat_tests, one, rw is at room))
+room-at s (c ∷ cs) cell n is one room =
+    let last : columns (cell ∷ []) ≡ 1 = omega (arith, one) in
+    let sum : columns (s.cells ++ cell ∷ []) ≡ columns s.cells + 1 = sum_by-append cell_columns s.cells (cell ∷ []) ∙ ap (λ k. columns s.cells + k) last in
+    rw (has-some s.cells (length cs) (ap length is), sum, length-append s.cells (cell ∷ [])) (grind (arith, nat_tests, room))
+
+-- room for the others
+pub room-less : (s : Sheet) (cell : Cell) (n : ℕ) → cell_columns cell ≡ 1 → has_room s (suc n) ≡ true → has_room (taken s (cell ∷ [])) n ≡ true
+room-less s cell n one room = room-at s s.cells cell n refl one room
+
+pub counts-more : (columns n : ℕ) → min (min (columns + 1) TAG_COLUMNS + suc n) TAG_COLUMNS ≡ min (columns + suc (suc n)) TAG_COLUMNS
+counts-more columns n = omega arith
+
+taken-at : (s : Sheet) (front : List Cell) (cell next : Cell) (cells : List Cell) → s.cells ≡ front
+    → taken (taken s (cell ∷ [])) (next ∷ cells) ≡ taken s (cell ∷ next ∷ cells)
+taken-at s [] cell next cells is =
+    rw (has-more s.cells cell, counts-more s.tag_columns (length cells), append_assoc s.cells (cell ∷ []) (next ∷ cells)) refl
+taken-at s (c ∷ cs) cell next cells is =
+    rw (has-more s.cells cell, has-some s.cells (length cs) (ap length is), counts-more s.tag_columns (length cells), append_assoc s.cells (cell ∷ []) (next ∷ cells)) refl
+
+pub taken-more : (s : Sheet) (cell next : Cell) (cells : List Cell) → taken (taken s (cell ∷ [])) (next ∷ cells) ≡ taken s (cell ∷ next ∷ cells)
+taken-more s cell next cells = taken-at s s.cells cell next cells refl
+
+-- ---- a text
+
+pub letters-fit : (s : Sheet) (b : ℕ) (bytes : List ℕ) (font : Font) (place : Place) → is_printable_ascii (b ∷ bytes) ≡ true → has_room s (length (b ∷ bytes)) ≡ true
+    → letters s (cells_of font (b ∷ bytes)) place ≡ nothing (taken s (cells_of font (b ∷ bytes)))
+unfolding letters
+letters-fit s b [] font place plain room =
+    rw (letter-fits s (cell_of font b) 0 place (plain-columns font b (first-plain b [] plain)) room) refl
+letters-fit s b (next ∷ bytes) font place plain room =
+    let one : cell_columns (cell_of font b) ≡ 1 = plain-columns font b (first-plain b (next ∷ bytes) plain) in
+    let less = room-less s (cell_of font b) (suc (length bytes)) one room in
+    let others = letters-fit (taken s (cell_of font b ∷ [])) next bytes font place (rest-plain b (next ∷ bytes) plain) less in
+    rw (letter-fits s (cell_of font b) (suc (length bytes)) place one room) (others ∙ ap nothing (taken-more s (cell_of font b) (cell_of font next) (cells_of font bytes)))
+
+-- a text with a byte
+pub letters-fits : (s : Sheet) (bytes : List ℕ) (font : Font) (place : Place) → (length bytes == 0) ≡ false → is_printable_ascii bytes ≡ true → has_room s (length bytes) ≡ true
+    → letters s (cells_of font bytes) place ≡ nothing (taken s (cells_of font bytes))
+letters-fits s [] font place some plain room = absurd (grind (arith, some))
+letters-fits s (b ∷ bytes) font place some plain room = letters-fit s b bytes font place plain room
+
+-- ---- its columns
+
+columns-plain : (font : Font) (bytes : List ℕ) → is_printable_ascii bytes ≡ true → columns (cells_of font bytes) ≡ length bytes
+columns-plain font [] plain = refl
+columns-plain font (b ∷ bytes) plain =
+    let one : cell_columns (cell_of font b) ≡ 1 = plain-columns font b (first-plain b bytes plain) in
+    let others : columns (cells_of font bytes) ≡ length bytes = columns-plain font bytes (rest-plain b bytes plain) in
+    let last : columns (cell_of font b ∷ []) ≡ 1 = omega (arith, one) in
+    sum_by-append cell_columns (cell_of font b ∷ []) (cells_of font bytes) ∙ omega (arith, last, others)
+
+-- a sound row with the cells of a plain text is sound
+pub sound-more : {blanks : ℕ} (cells : List Cell) (bytes : List ℕ) (font : Font) (count gap word tag tag-now : ℕ) → IsSound cells count gap word tag blanks
+    → is_printable_ascii bytes ≡ true → length cells + length bytes ≤ CELLS → tag-now ≤ TAG_COLUMNS
+    → IsSound (cells ++ cells_of font bytes) (count + length bytes) gap word tag-now blanks
+sound-more cells bytes font count gap word tag tag-now sound plain room tagged =
+    let len : length (cells ++ cells_of font bytes) ≡ length cells + length bytes = length-append cells (cells_of font bytes) ∙ ap (λ k. length cells + k) (length-map bytes (cell_of font)) in
+    let more : columns (cells ++ cells_of font bytes) ≡ columns cells + length bytes = sum_by-append cell_columns cells (cells_of font bytes) ∙ ap (λ k. columns cells + k) (columns-plain font bytes plain) in
+    record {
+      bounded = omega (arith, len, room);
+      counted = ap (λ k. k + length bytes) sound.counted ∙ sym more;
+      narrow = omega (arith, len, sound.narrow);
+      gap_within = sound.gap_within;
+      word_within = omega (arith, len, sound.word_within);
+      tag_within = tagged;
+      blanks_within = sound.blanks_within;
+    }
+
+-- ---- blanks and their cells
+
+pub blank-one : cell_columns blank ≡ 1
+unfolding char_width
+blank-one = refl
+
+columns-blanks : (n : ℕ) → columns (replicate n blank) ≡ n
+columns-blanks zero = refl
+columns-blanks (suc n) =
+    let first : columns (blank ∷ []) ≡ 1 = omega (arith, blank-one) in
+    let others = columns-blanks n in
+    sum_by-append cell_columns (blank ∷ []) (replicate n blank) ∙ omega (arith, first, others)
+
+has-front : (cells more : List Cell) → (length cells == 0) ≡ false → (length (cells ++ more) == 0) ≡ false
+has-front cells more some = let len = length-append cells more in grind (arith, nat_tests, some, len)
+
+-- blanks and cells count for the open tag one after another, or together
+counts-both : (columns blanks n : ℕ) → min (min (columns + blanks) TAG_COLUMNS + n) TAG_COLUMNS ≡ min (columns + (blanks + n)) TAG_COLUMNS
+counts-both columns blanks n = omega arith
+
+pub taken-word : (s : Sheet) (blanks : ℕ) (bytes : List ℕ) (font : Font) → (length s.cells == 0) ≡ false
+    → taken (spaced_by s blanks) (cells_of font bytes) ≡ record s {
+      cells = s.cells ++ replicate blanks blank ++ cells_of font bytes;
+      gap = length s.cells;
+      word = length s.cells + blanks;
+      tag_columns = min (s.tag_columns + (blanks + length bytes)) TAG_COLUMNS;
+      tag_begun = true;
+    }
+taken-word s blanks bytes font some =
+    rw (has-front s.cells (replicate blanks blank) some, length-map bytes (cell_of font), counts-both s.tag_columns blanks (length bytes)) refl
+
+-- a sound row with blanks and the cells of a plain text is sound
+pub sound-word : {held : ℕ} (cells : List Cell) (blanks : ℕ) (bytes : List ℕ) (font : Font) (count gap word tag tag-now : ℕ) → IsSound cells count gap word tag held
+    → is_printable_ascii bytes ≡ true → length cells + blanks + length bytes ≤ CELLS → tag-now ≤ TAG_COLUMNS
+    → IsSound (cells ++ replicate blanks blank ++ cells_of font bytes) (count + (blanks + length bytes)) (length cells) (length cells + blanks) tag-now held
+sound-word cells blanks bytes font count gap word tag tag-now sound plain room tagged =
+    let front = length-append cells (replicate blanks blank) in
+    let whole = length-append (cells ++ replicate blanks blank) (cells_of font bytes) in
+    let len : length (cells ++ replicate blanks blank ++ cells_of font bytes) ≡ length cells + (blanks + length bytes) = omega (arith, whole, front, length-replicate blanks blank, length-map bytes (cell_of font)) in
+    let wide = sum_by-append cell_columns cells (replicate blanks blank) in
+    let all = sum_by-append cell_columns (cells ++ replicate blanks blank) (cells_of font bytes) in
+    let sum : columns (cells ++ replicate blanks blank ++ cells_of font bytes) ≡ columns cells + (blanks + length bytes) = omega (arith, all, wide, columns-blanks blanks, columns-plain font bytes plain) in
+    record {
+      bounded = omega (arith, len, room);
+      counted = ap (λ k. k + (blanks + length bytes)) sound.counted ∙ sym sum;
+      narrow = omega (arith, len, sound.narrow);
+      gap_within = omega arith;
+      word_within = omega (arith, len);
+      tag_within = tagged;
+      blanks_within = sound.blanks_within;
+    }
+
+-- ---- its characters
+
+ascii-plain : (bytes : List ℕ) → is_printable_ascii bytes ≡ true → IsAscii bytes
+ascii-plain [] plain = IsAscii-nil
+ascii-plain (b ∷ bytes) plain =
+    let byte = first-plain b bytes plain in
+    let below : b < 128 = grind (arith, nat_tests, byte) in
+    IsAscii-cons b bytes below (ascii-plain bytes (rest-plain b bytes plain))
+
+pub characters_of-plain : (bytes : List ℕ) → is_printable_ascii bytes ≡ true → characters_of bytes ≡ bytes
+characters_of-plain bytes plain =
+    let ascii = ascii-plain bytes plain in
+    characters_of-text bytes (IsUtf8-from_ascii bytes ascii) ∙ chars-IsAscii bytes ascii
+
+-- a plain byte prints itself
+prints-itself : (output : Output) (b : ℕ) → is_printable b ≡ true → char_printed output b ≡ known (b ∷ [])
+prints-itself output b byte =
+    let ascii : nat_lt b 0x80 ≡ true = grind (arith, nat_tests, byte) in
+    let other : (b == 0x09 || b == 0xA0) ≡ false = grind (arith, nat_tests, byte) in
+    rw (other, ascii) refl
+
+pub characters-plain : (output : Output) (s : Sheet) (bytes : List ℕ) (font : Font) (place : Place) → is_printable_ascii bytes ≡ true
+    → characters output s bytes font place ≡ letters s (cells_of font bytes) place
+unfolding characters character letters
+characters-plain output s [] font place plain = refl
+characters-plain output s (b ∷ bytes) font place plain =
+    let others = characters-plain output (letter s (cell_of font b) place).edge bytes font place (rest-plain b bytes plain) in
+    rw (prints-itself output b (first-plain b bytes plain), append-nil (letter s (cell_of font b) place).rows, append-nil (letter s (cell_of font b) place).notes, others) refl
+
+-- ---- a word after blanks
+
+space-fits : (s : Sheet) (place : Place) → s.literal ≡ false → (length s.cells == 0) ≡ false → length s.cells < CELLS
+    → s.margin + columns s.cells + 1 ≤ s.width
+    → space s place ≡ nothing (record s { cells = s.cells ++ blank ∷ []; word = length s.cells + 1; tag_columns = min (s.tag_columns + 1) TAG_COLUMNS; tag_begun = true })
+unfolding space
+space-fits s place literal some room wide =
+    let full : (length s.cells == CELLS) ≡ false = grind (arith, nat_tests, room) in
+    let passed : passes s blank ≡ false = grind (arith, nat_tests, literal, wide, blank-one) in
+    rw (some, passed, full, blank-one) refl
+
+pub spaces-fit : (s : Sheet) (n : ℕ) (place : Place) → s.literal ≡ false → (length s.cells == 0) ≡ false → length s.cells + suc n ≤ CELLS
+    → s.margin + columns s.cells + suc n ≤ s.width
+    → spaces s (suc n) place ≡ nothing (record s {
+      cells = s.cells ++ replicate (suc n) blank;
+      word = length s.cells + suc n;
+      tag_columns = min (s.tag_columns + suc n) TAG_COLUMNS;
+      tag_begun = true;
+    })
+unfolding spaces
+spaces-fit s zero place literal some room wide = rw (space-fits s place literal some (omega (arith, room)) wide) refl
+spaces-fit s (suc n) place literal some room wide =
+    let t = record s { cells = s.cells ++ blank ∷ []; word = length s.cells + 1; tag_columns = min (s.tag_columns + 1) TAG_COLUMNS; tag_begun = true } in
+    let len = length-append s.cells (blank ∷ []) in
+    let last : columns (blank ∷ []) ≡ 1 = omega (arith, blank-one) in
+    let sum : columns (s.cells ++ blank ∷ []) ≡ columns s.cells + 1 = sum_by-append cell_columns s.cells (blank ∷ []) ∙ ap (λ k. columns s.cells + k) last in
+    let others = spaces-fit t n place literal (has-more s.cells blank) (omega (arith, len, room)) (omega (arith, sum, wide)) in
+    let word : length (s.cells ++ blank ∷ []) + suc n ≡ length s.cells + suc (suc n) = omega (arith, len) in
+    rw (space-fits s place literal some (omega (arith, room)) (omega (arith, wide)), others)
+    (rw (append_assoc s.cells (blank ∷ []) (replicate (suc n) blank), word, counts-more s.tag_columns n) refl)
+
+pub spaced-room : (s : Sheet) (blanks n : ℕ) → has_word_room s blanks n ≡ true → has_room (spaced_by s blanks) n ≡ true
+spaced-room s blanks n room =
+    let sum : columns (s.cells ++ replicate blanks blank) ≡ columns s.cells + blanks = sum_by-append cell_columns s.cells (replicate blanks blank) ∙ ap (λ k. columns s.cells + k) (columns-blanks blanks) in
+    let len : length (s.cells ++ replicate blanks blank) ≡ length s.cells + blanks = length-append s.cells (replicate blanks blank) ∙ ap (λ k. length s.cells + k) (length-replicate blanks blank) in
+    rw (sum, len) (grind (arith, nat_tests, room))
+
+-- ---- a word that goes on in the next row
+
+-- one more cell came to the front
+pub moved-more : (old now : List Cell) (start i : ℕ) (d : Cell) → start + i < length old → now ≡ take i (drop start old) ++ drop i old
+    → set now i (get_or now (start + i) d) ≡ take (i + 1) (drop start old) ++ drop (i + 1) old
+moved-more old now start i d within is =
+    let dropped = length-drop start old in
+    let room : i < length (drop start old) = omega (arith, dropped) in
+    let len : length (take i (drop start old)) ≡ i = length-take-le i (drop start old) (omega arith) in
+    let from : get_or now (start + i) d ≡ get_or old (start + i) d =
+    rw is (get_or-append_right (take i (drop start old)) (drop i old) i (start + i) d len (omega arith) ∙ (get_or-drop i old (start + i - i) d ∙ ap (λ k. get_or old k d) (omega arith))) in
+    let front : take (i + 1) (drop start old) ≡ take i (drop start old) ++ get_or old (start + i) d ∷ [] =
+    take_more (drop start old) i d room ∙ ap (λ x. take i (drop start old) ++ x ∷ []) (get_or-drop start old i d) in
+    let back : drop i old ≡ get_or old i d ∷ drop (i + 1) old = drop_more old i d (omega arith) in
+    rw (from, front, append_assoc (take i (drop start old)) (get_or old (start + i) d ∷ []) (drop (i + 1) old))
+    (ap (λ l. set l i (get_or old (start + i) d)) (is ∙ ap (λ l. take i (drop start old) ++ l) back)
+    ∙ set_at (take i (drop start old)) (get_or old i d) (drop (i + 1) old) (get_or old (start + i) d) i len)

@@ -1,0 +1,11 @@
+use Rattle.std.proofs.Common.{◌≡◌, drop}
+use Rattle.page_core_base.specs.Latches.{CameRowsUpTo}
+use Rattle.page_fill_rows.specs.Sheets as sheet
+use Rattle.page_fill_rows.specs.Characters as shown
+use Rattle.page_fill_rows.proofs.characters.put_bytes.Given as goal
+
+abbrev pub invariant-loop-byte : goal.invariant-loop-byte
+invariant-loop-byte g l =
+    CameRowsUpTo g.O.RowOut.left l.fn.out (sheet.letters l.fn.row (shown.cells_of l.font l.bytes) l.place)
+    (sheet.letters l.row (shown.cells_of l.font (drop l.byte-index l.bytes)) l.place) l.out
+    × ((sheet.letters l.row (shown.cells_of l.font (drop l.byte-index l.bytes)) l.place).edge ≡ (sheet.letters l.fn.row (shown.cells_of l.font l.bytes) l.place).edge)

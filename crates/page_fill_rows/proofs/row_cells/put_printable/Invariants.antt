@@ -1,0 +1,12 @@
+use Rattle.std.proofs.Common.{◌≡◌, ℕ, ◌+◌, ◌≤◌, ◌++◌, take, drop, length}
+use Rattle.page_fill_rows.specs.Characters as shown
+use Rattle.page_fill_rows.specs.Plain as plain
+use Rattle.page_fill_rows.proofs.row_cells.put_printable.Given as goal
+
+abbrev pub invariant-loop-byte : goal.invariant-loop-byte
+invariant-loop-byte l =
+    (plain.is_printable_ascii l.bytes ≡ plain.is_printable_ascii (drop l.byte-index l.bytes))
+    × (take l.end l.places ≡ take l.fn.start l.fn.places ++ shown.cells_of l.font (take l.byte-index l.bytes))
+    × ((k : ℕ) → k ≤ l.fn.start → take k l.places ≡ take k l.fn.places)
+    × (length l.places ≡ length l.fn.places)
+    × (l.end ≡ l.fn.start + l.byte-index)

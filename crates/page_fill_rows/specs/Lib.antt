@@ -1,0 +1,4 @@
+pub mod Sheets
+pub mod Room
+pub mod Characters
+pub mod Plain

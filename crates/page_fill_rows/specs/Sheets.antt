@@ -1,0 +1,167 @@
+-- The steps of filling, which page_fill_laws proves equal to the definition by words: the open row, cell by cell, and what stands at the end of the
+-- rows that were given.
+-- Source: roff(7), "Filling and adjusting"; mandoc(1), "ASCII Output".
+use Rattle.std.specs.Prelude.{ℕ, zero, suc, ◌+◌, Bool, true, false, not, ◌&&◌, ◌==◌, nat_lt, min, List, [], ◌∷◌, ◌++◌, length, take, drop, replicate, sum_by, if◌then◌else◌}
+use Rattle.page_core_base.specs.declared.cells.Cell.{Cell}
+use Rattle.page_core_base.specs.declared.cells.Font.TheVariants.{R}
+use Rattle.page_core_base.specs.declared.note_kinds.NoteKind.TheVariants.{Limit}
+use Rattle.page_core_base.specs.declared.places.Place.{Place}
+use Rattle.page_core_base.specs.Messages.{Message, message_about}
+use Rattle.page_core_base.specs.Rows.{row_of, is_blank_row}
+use Rattle.page_core_base.specs.Laid.{Laid, nothing, seq}
+use Rattle.page_core_tables.specs.Printed.{char_columns}
+use Rattle.page_core_limits.specs.Limits.{name_of}
+use Rattle.page_core_limits.specs.declared.Limit.TheVariants.{Cells}
+use Rattle.page_core_limits.specs.declared.TheConstants.{CELLS}
+use Rattle.page_fill_rows.specs.declared.TheConstants.{TAG_COLUMNS, BLANK_ROWS}
+
+-- the columns of a cell, and of cells
+abbrev pub cell_columns : Cell → ℕ
+cell_columns cell = char_columns cell.c
+
+abbrev pub columns : List Cell → ℕ
+columns cells = sum_by cell_columns cells
+
+-- the cell of a blank
+abbrev pub blank : Cell
+blank = record { c = 32; font = R }
+
+-- The open row, and what is known of the rows above it.
+pub record Sheet : Type 0 where
+  -- the columns of a row with its margin, and whether rows are kept as they are
+  pub width : ℕ
+  pub literal : Bool
+  -- the margin of the row that begins next, and of the rows after it
+  pub first : ℕ
+  pub rest : ℕ
+  -- the open row: its margin, its cells (none: no row is open), where the blanks before its last word begin, and where that word does
+  pub margin : ℕ
+  pub cells : List Cell
+  pub gap : ℕ
+  pub word : ℕ
+  -- how many blank rows stand at the end of the rows that were given, up to BLANK_ROWS, and whether a heading's row does
+  pub blank_rows : ℕ
+  pub heading : Bool
+  -- the columns of the open tag's cells, up to TAG_COLUMNS, and whether it has a cell
+  pub tag_columns : ℕ
+  pub tag_begun : Bool
+
+-- what is laid, under another edge
+abbrev pub over : {E F : Type 0} → Laid E → (E → F) → Laid F
+over l f = record { rows = l.rows; notes = l.notes; edge = f l.edge }
+
+abbrev pub cells_note : Place → Message
+cells_note place = message_about Limit place (name_of Cells)
+
+-- ---- rows
+
+-- the count of blank rows with more, as far as they are counted
+abbrev pub more_blank_rows : ℕ → ℕ → ℕ
+more_blank_rows count more = min (count + more) BLANK_ROWS
+
+-- a row of these cells was given
+abbrev pub given : Sheet → List Cell → Sheet
+given s cells = record s { blank_rows = (if is_blank_row (row_of s.margin cells) then more_blank_rows s.blank_rows 1 else 0); heading = false }
+
+abbrev pub gives : Sheet → List Cell → Laid Sheet
+gives s cells = record { rows = row_of s.margin cells ∷ []; notes = []; edge = given s cells }
+
+-- the same with a report that the row has too many cells
+abbrev pub gives_full : Sheet → List Cell → Place → Laid Sheet
+gives_full s cells place = record { rows = row_of s.margin cells ∷ []; notes = cells_note place ∷ []; edge = given s cells }
+
+-- a row of these cells begins
+abbrev pub begins : Sheet → List Cell → Sheet
+begins s cells = record s { margin = s.first; first = s.rest; cells = cells; gap = 0; word = 0 }
+
+-- no row is open
+abbrev pub emptied : Sheet → Sheet
+emptied s = record s { cells = []; gap = 0; word = 0 }
+
+-- the cell counts as one of the open tag's
+abbrev pub counted : Sheet → Cell → Sheet
+counted s cell = record s { tag_columns = min (s.tag_columns + cell_columns cell) TAG_COLUMNS; tag_begun = true }
+
+-- ---- a cell of a word, and a blank before a word
+
+-- margin and columns pass the width at the cell, and its word isn't the row's first
+abbrev pub passes : Sheet → Cell → Bool
+passes s cell = not s.literal && nat_lt 0 s.gap && nat_lt s.width (s.margin + columns s.cells + cell_columns cell)
+
+-- the row ends before its last word, which goes on in the next row with the cell
+abbrev pub wraps : Sheet → Cell → Laid Sheet
+wraps s cell = over (gives s (take s.gap s.cells)) (λ t. begins t (drop t.word t.cells ++ cell ∷ []))
+
+-- the full row ends, and the cell begins the next one
+abbrev pub splits : Sheet → Cell → Place → Laid Sheet
+splits s cell place = over (gives_full s s.cells place) (λ t. begins t (cell ∷ []))
+
+-- a cell of the row's last word: where it passes the width, the row ends before that word, which goes on in the next row
+unfoldable pub letter : Sheet → Cell → Place → Laid Sheet
+letter s cell place =
+    let t = counted s cell in
+    if passes t cell then wraps t cell
+    else if length t.cells == CELLS then splits t cell place
+    else if length t.cells == 0 then nothing (begins t (cell ∷ []))
+    else nothing (record t { cells = t.cells ++ cell ∷ [] })
+
+-- a blank before the row's next word, which is dropped with its like where the row ends or none is open
+unfoldable pub space : Sheet → Place → Laid Sheet
+space s place =
+    if length s.cells == 0 then nothing s
+    else if passes s blank then over (gives s (take s.gap s.cells)) emptied
+    else if length s.cells == CELLS then over (gives_full s (take s.gap s.cells) place) emptied
+    else let t = counted s blank in nothing (record t { cells = t.cells ++ blank ∷ []; word = length t.cells + 1 })
+
+-- ---- words
+
+-- a word begins after the row's cells
+abbrev pub opens : Sheet → Sheet
+opens s = record s { gap = length s.cells; word = length s.cells }
+
+unfoldable pub spaces : Sheet → ℕ → Place → Laid Sheet
+spaces s zero place = nothing s
+spaces s (suc n) place = seq (space s place) (λ t. spaces t n place)
+
+unfoldable pub letters : Sheet → List Cell → Place → Laid Sheet
+letters s [] place = nothing s
+letters s (cell ∷ cells) place = seq (letter s cell place) (λ t. letters t cells place)
+
+-- a count of blanks that are cells of the word
+abbrev pub fixed_blanks : Sheet → ℕ → Place → Laid Sheet
+fixed_blanks s n place = letters s (replicate n blank) place
+
+-- the blanks before a new word: they are cells of it where rows are kept as they are
+abbrev pub new_word : Sheet → ℕ → Bool → Place → Laid Sheet
+new_word s n stands place = if stands then fixed_blanks (opens s) n place else spaces (opens s) n place
+
+-- ---- breaks
+
+-- the open row ends, if there is one
+unfoldable pub broken : Sheet → Laid Sheet
+broken s = if length s.cells == 0 then nothing s else over (gives s s.cells) emptied
+
+-- a count of rows without cells
+unfoldable pub empty_rows : Sheet → ℕ → Laid Sheet
+empty_rows s n = record {
+  rows = replicate n (row_of 0 []);
+  notes = [];
+  edge = record s { blank_rows = more_blank_rows s.blank_rows n; heading = s.heading && n == 0 };
+}
+
+-- no row is open, below one blank row
+abbrev pub fresh : ℕ → Sheet
+fresh width = record {
+  width = width;
+  literal = false;
+  first = 0;
+  rest = 0;
+  margin = 0;
+  cells = [];
+  gap = 0;
+  word = 0;
+  blank_rows = 1;
+  heading = false;
+  tag_columns = 0;
+  tag_begun = false;
+}

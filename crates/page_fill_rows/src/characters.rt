@@ -1,0 +1,138 @@
+//! What characters and glyphs print (mandoc_char(7)).
+
+ghost use Rattle.std.specs.Prelude.{◌≡◌, [], ◌∷◌, true};
+ghost use Rattle.std.specs.Str.{chars};
+ghost use Rattle.page_core_base.specs.Latches.{LaysOut};
+ghost use Rattle.page_core_tables.specs.Printed.{printed_seen, unknown_text};
+ghost use Rattle.page_fill_rows.specs.Sheets as sheet;
+ghost use Rattle.page_fill_rows.specs.Characters as shown;
+ghost use Rattle.page_fill_rows.specs.Plain as plain;
+
+use crate::open_rows::OpenRow;
+use page_core_base::{Cell, Font, Note, NoteKind, Output, Place, RowOut};
+use page_core_tables::{Printed, printed_char, printed_glyph};
+
+/// Whether bytes are printable ASCII, of a column each.
+pub fn is_printable_ascii(bytes: &[u8]) -> bool
+    ensures { result ≡ plain.is_printable_ascii bytes.now }
+{
+    for byte in bytes {
+        if *byte < b' ' || b'~' < *byte {
+            return false;
+        }
+    }
+    true
+}
+
+/// Puts the characters of a plain text: all of them together if the row has room for them.
+pub fn put_plain<O: RowOut>(row: &mut OpenRow, bytes: &[u8], font: Font, place: Place, out: &mut O)
+    requires { plain.is_printable_ascii bytes.now ≡ true }
+    ensures { LaysOut O.left out.old (sheet.letters row.old
+        (shown.cells_of font bytes.now) place) out.new row.new }
+{
+    if !bytes.is_empty() && row.has_room(bytes.len()) {
+        row.add_plain(bytes, font);
+        return;
+    }
+    put_bytes(row, bytes, font, place, out);
+}
+
+// Puts cells of bytes, each a character.
+fn put_bytes<O: RowOut>(row: &mut OpenRow, bytes: &[u8], font: Font, place: Place, out: &mut O)
+    ensures { LaysOut O.left out.old (sheet.letters row.old
+        (shown.cells_of font bytes.now) place) out.new row.new }
+{
+    for byte in bytes {
+        let cell = Cell {
+            c: *byte as char,
+            font,
+        };
+        row.put_letter(cell, place, out);
+    }
+}
+
+// Reports that there is no glyph, and puts what stands for it.
+fn put_unknown<O: RowOut>(row: &mut OpenRow, detail: &[u8], font: Font, place: Place, out: &mut O)
+    ensures { LaysOut O.left out.old (shown.put row.old
+        (unknown_text detail.now) font place) out.new row.new }
+{
+    out.report(&Note::about(NoteKind::NoGlyph, place, detail));
+    put_bytes(row, b"<?>", font, place, out);
+}
+
+// Puts a cell of a character.
+fn put_char<O: RowOut>(row: &mut OpenRow, c: char, font: Font, place: Place, out: &mut O)
+    ensures { LaysOut O.left out.old (sheet.letters row.old (shown.cells_of font
+        (c ∷ [])) place) out.new row.new }
+{
+    row.put_letter(Cell { c, font }, place, out);
+}
+
+// Puts what is printed.
+fn put_printed<O: RowOut>(
+    row: &mut OpenRow,
+    printed: Printed<'_>,
+    font: Font,
+    place: Place,
+    out: &mut O,
+)
+    ensures { LaysOut O.left out.old (shown.put row.old
+        (printed_seen printed.entry) font place) out.new row.new }
+{
+    match printed {
+        Printed::Char(c) => put_char(row, c, font, place, out),
+        Printed::Spelling(text) => put_bytes(row, text.as_bytes(), font, place, out),
+        Printed::NoSpelling(c) => {
+            let mut buffer = [0; 4];
+            put_unknown(row, c.encode_utf8(&mut buffer).as_bytes(), font, place, out);
+        }
+        Printed::NoGlyph(name) => put_unknown(row, name, font, place, out),
+    }
+}
+
+/// Puts a character.
+#[tactic(auto, unfolding(crate::specs::Characters::character))]
+pub fn put_character<O: RowOut>(
+    row: &mut OpenRow,
+    output: Output,
+    c: char,
+    font: Font,
+    place: Place,
+    out: &mut O,
+)
+    ensures { LaysOut O.left out.old (shown.character output row.old c font place) out.new row.new }
+{
+    put_printed(row, printed_char(output, c), font, place, out);
+}
+
+/// Puts the characters of a text.
+pub fn put_characters<O: RowOut>(
+    row: &mut OpenRow,
+    output: Output,
+    text: &str,
+    font: Font,
+    place: Place,
+    out: &mut O,
+)
+    ensures { LaysOut O.left out.old (shown.characters output row.old
+        (chars text.now) font place) out.new row.new }
+{
+    for c in text.chars() {
+        put_character(row, output, c, font, place, out);
+    }
+}
+
+/// Puts the glyph of a name.
+#[tactic(auto, unfolding(crate::specs::Characters::glyph))]
+pub fn put_glyph<O: RowOut>(
+    row: &mut OpenRow,
+    output: Output,
+    name: &[u8],
+    font: Font,
+    place: Place,
+    out: &mut O,
+)
+    ensures { LaysOut O.left out.old (shown.glyph output row.old name.now font place) out.new row.new }
+{
+    put_printed(row, printed_glyph(output, name), font, place, out);
+}

@@ -1,0 +1,21 @@
+//! The open row, cell by cell, and what characters print in it (roff(7), "Filling and adjusting").
+//!
+//! An [`OpenRow`] takes cells and blanks, and gives each row to a sink as soon as no later cell can change it.
+#![tactic(auto)]
+
+mod cell_widths;
+mod characters;
+mod laws;
+mod open_rows;
+mod row_cells;
+
+/// The columns up to which those of a tag are counted. The greatest hang is 1,000 columns, so more of them make no difference.
+pub const TAG_COLUMNS: u32 = 1002;
+
+/// The count up to which blank rows at the end are counted. No macro asks for more, so more of them make no difference.
+pub const BLANK_ROWS: u32 = 100;
+
+pub use cell_widths::columns;
+pub use characters::{is_printable_ascii, put_character, put_characters, put_glyph, put_plain};
+pub use laws::plain_law;
+pub use open_rows::OpenRow;

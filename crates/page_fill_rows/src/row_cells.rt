@@ -1,0 +1,169 @@
+//! The cells of a row, in places that are reserved for good.
+
+ghost use Rattle.std.specs.Prelude.{◌≡◌, ℕ, ◌+◌, ◌-◌, ◌<◌, ◌≤◌, [], ◌∷◌, ◌++◌, ◌==◌, length, take, drop, replicate, IfOk, true, if◌then◌else◌};
+ghost use Rattle.page_fill_rows.specs.Characters as shown;
+ghost use Rattle.page_fill_rows.specs.Plain as plain;
+ghost use Rattle.page_fill_rows.specs.Sheets as sheet;
+
+use crate::cell_widths::BLANK;
+use page_core_base::{Cell, Font};
+use page_core_limits::CELLS;
+use std::alloc::{AllocError, Global};
+use std::marker::Model;
+use std::mem;
+
+/// The cells of a row, at most [`CELLS`].
+///
+/// All places stand from the start, so that a loop over the bytes of a word writes its cells and nothing else.
+#[derive(Drop)]
+pub(crate) struct RowCells {
+    // The row's cells come first; what stands after them means nothing.
+    places: Vec<Cell>,
+    len: usize,
+}
+
+impl Model for RowCells {
+    ghost use Rattle.std.specs.Prelude.{◌≡◌, ◌≤◌, List, length, take};
+    ghost use Rattle.page_core_base.specs.declared.cells.Cell.{Cell};
+    ghost use Rattle.page_core_limits.specs.declared.TheConstants.{CELLS};
+
+    ghost Value = { List Cell };
+
+    ghost view = { λ r. take r.len r.places.items };
+
+    ghost invariant = { λ r. (length r.places.items ≡ CELLS) × (r.len ≤ CELLS) };
+}
+
+impl RowCells {
+    /// No cells. It reserves all memory that it will ever hold.
+    pub(crate) fn new(alloc: Global) -> Result<RowCells, AllocError>
+        ensures { IfOk result (λ r. r ≡ []) }
+    {
+        let mut places = Vec::with_capacity(alloc, CELLS)?;
+        places.resize(CELLS, BLANK)?;
+        Ok(RowCells { places, len: 0 })
+    }
+
+    /// The cells.
+    pub(crate) fn as_slice(&self) -> &[Cell]
+        ensures cells { result.now ≡ self.now }
+        ensures bound { length result.now ≤ CELLS }
+    {
+        &self.places[..self.len]
+    }
+
+    /// How many cells there are.
+    pub(crate) fn len(&self) -> usize
+        ensures value { result ≡ length self.now }
+        ensures bound { result ≤ CELLS }
+    {
+        self.len
+    }
+
+    /// Whether there is no cell.
+    pub(crate) fn is_empty(&self) -> bool
+        ensures { result ≡ (length self.now == 0) }
+    {
+        self.len == 0
+    }
+
+    /// Takes all cells away.
+    pub(crate) fn clear(&mut self)
+        ensures { self.new ≡ [] }
+    {
+        self.len = 0;
+    }
+
+    /// Appends a cell.
+    pub(crate) fn push(&mut self, cell: Cell)
+        requires { length self.old < CELLS }
+        ensures { self.new ≡ self.old ++ cell ∷ [] }
+    {
+        self.places[self.len] = cell;
+        self.len += 1;
+    }
+
+    /// Takes the cells before a start away.
+    pub(crate) fn keep_from(&mut self, start: usize)
+        requires { start ≤ length self.old }
+        ensures { self.new ≡ drop start self.old }
+    {
+        move_to_front(&mut self.places, start, self.len);
+        self.len -= start;
+    }
+
+    /// Appends a cell of each byte.
+    pub(crate) fn add_plain(&mut self, bytes: &[u8], font: Font)
+        requires plain { plain.is_printable_ascii bytes.now ≡ true }
+        requires room { length self.old + length bytes.now ≤ CELLS }
+        ensures { self.new ≡ self.old ++ shown.cells_of font bytes.now }
+    {
+        let _is_plain = put_printable(&mut self.places, self.len, bytes, font);
+        self.len += bytes.len();
+    }
+
+    /// Appends blanks and a cell of each byte, if all bytes are printable ASCII, and says whether they are.
+    pub(crate) fn add_word(&mut self, blanks: u32, bytes: &[u8], font: Font) -> bool
+        requires { length self.old + blanks + length bytes.now ≤ CELLS }
+        ensures answer { result ≡ plain.is_printable_ascii bytes.now }
+        ensures cells { self.new ≡ (if result
+            then self.old ++ replicate blanks sheet.blank ++ shown.cells_of font bytes.now
+            else self.old) }
+    {
+        let start = self.len + blanks as usize;
+        put_blanks(&mut self.places, self.len, blanks as usize);
+        if !put_printable(&mut self.places, start, bytes, font) {
+            return false;
+        }
+        self.len = start + bytes.len();
+        true
+    }
+}
+
+// Puts a count of blanks at a start and after it.
+fn put_blanks(places: &mut [Cell], start: usize, count: usize)
+    requires { start + count ≤ length places.old }
+    ensures blanks { take (start + count) places.new ≡ take start places.old ++ replicate count sheet.blank }
+    ensures before { take start places.new ≡ take start places.old }
+    ensures len { length places.new ≡ length places.old }
+{
+    for i in 0..count {
+        places[start + i] = BLANK;
+    }
+}
+
+// Puts a cell of each byte at a start and after it, up to the first byte that is not printable ASCII, and says whether there is none.
+fn put_printable(places: &mut [Cell], start: usize, bytes: &[u8], font: Font) -> bool
+    requires { start + length bytes.now ≤ length places.old }
+    ensures answer { result ≡ plain.is_printable_ascii bytes.now }
+    ensures cells { result ≡ true
+        → take (start + length bytes.now) places.new
+        ≡ take start places.old ++ shown.cells_of font bytes.now }
+    ensures before { (k : ℕ) → k ≤ start → take k places.new ≡ take k places.old }
+    ensures len { length places.new ≡ length places.old }
+{
+    let mut end = start;
+    for byte in bytes {
+        if *byte < b' ' || b'~' < *byte {
+            return false;
+        }
+        let cell = Cell {
+            c: *byte as char,
+            font,
+        };
+        let _place = mem::replace(&mut places[end], cell);
+        end += 1;
+    }
+    true
+}
+
+// The cells from a start up to an end come to the front.
+fn move_to_front(places: &mut [Cell], start: usize, end: usize)
+    requires { (start ≤ end) × (end ≤ length places.old) }
+    ensures front { take (end - start) places.new ≡ drop start (take end places.old) }
+    ensures len { length places.new ≡ length places.old }
+{
+    for i in 0..end - start {
+        places[i] = places[start + i];
+    }
+}
