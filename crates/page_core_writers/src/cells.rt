@@ -32,11 +32,12 @@ fn is_plain(cell: Cell) -> bool
     cell.c.is_ascii() && matches!(cell.font, Font::R)
 }
 
-/// Whether each cell is printed as one byte.
-pub(crate) fn are_plain(cells: &[Cell]) -> bool
+// Whether each cell is printed as one byte.
+#[inline(always)]
+fn are_plain(cells: &[Cell]) -> bool
     ensures { result ≡ list_all plain.is_plain cells.now }
 {
-    // All cells are looked at: without a way out the compiler takes several at a time.
+    // All cells are looked at: one test of all costs less than a way out at each.
     let mut so_far = true;
     for cell in cells {
         so_far = so_far & is_plain(*cell);
@@ -53,8 +54,9 @@ fn plain_byte(cell: Cell) -> u8
     cell.c as u8
 }
 
-/// Writes plain cells from `start` on, and answers where they end.
-pub(crate) fn write_plain(bytes: &mut [u8], start: usize, cells: &[Cell]) -> usize
+// Writes plain cells from `start` on, and answers where they end.
+#[inline(always)]
+fn write_plain(bytes: &mut [u8], start: usize, cells: &[Cell]) -> usize
     requires plain { list_all plain.is_plain cells.now ≡ true }
     requires room { start + length cells.now ≤ length bytes.old }
     ensures front { take result bytes.new ≡ take start bytes.old ++ flat_map cell_bytes_of cells.now }
@@ -66,6 +68,19 @@ pub(crate) fn write_plain(bytes: &mut [u8], start: usize, cells: &[Cell]) -> usi
         end += 1;
     }
     end
+}
+
+/// Writes the bytes of a few cells from `start` on, and answers where they end: quickly where all of them are plain.
+#[inline(always)]
+pub(crate) fn write_group(bytes: &mut [u8], start: usize, cells: &[Cell]) -> usize
+    requires { start + 16 * length cells.now ≤ length bytes.old }
+    ensures front { take result bytes.new ≡ take start bytes.old ++ flat_map cell_bytes_of cells.now }
+    ensures end { result ≤ start + 16 * length cells.now }
+{
+    if are_plain(cells) {
+        return write_plain(bytes, start, cells);
+    }
+    write_cells(bytes, start, cells)
 }
 
 /// Writes the bytes of cells from `start` on, and answers where they end.
