@@ -86,6 +86,7 @@ pub(crate) fn write_group(bytes: &mut [u8], start: usize, cells: &[Cell]) -> usi
 }
 
 /// Writes the bytes of cells from `start` on, and answers where they end.
+#[inline(always)]
 pub(crate) fn write_cells(bytes: &mut [u8], start: usize, cells: &[Cell]) -> usize
     requires { start + 16 * length cells.now ≤ length bytes.old }
     ensures front { take result bytes.new ≡ take start bytes.old ++ flat_map cell_bytes_of cells.now }
