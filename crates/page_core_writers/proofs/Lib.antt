@@ -1,2 +1,3 @@
 pub mod GrowsLemmas
+pub mod PlainLemmas
 pub mod RowLemmas

@@ -3,14 +3,14 @@
 ghost use Rattle.std.specs.Prelude.{◌≡◌, ℕ, ◌+◌, ◌*◌, ◌≤◌, [], ◌∷◌, ◌++◌, length, take, true, encode_utf8};
 ghost use Rattle.std.specs.List.{flat_map, list_all};
 ghost use Rattle.page_core_base.specs.Rows.{trimmed};
-ghost use Rattle.page_core_writers.specs.PlainCells as plain;
+ghost use Rattle.page_core_writers.specs.PlainCells.{is_plain, is_roman};
 ghost use Rattle.page_core_writers.specs.RowBytes.{cell_bytes_of};
 
 use arrayvec::ArrayVec;
 use page_core_base::{Cell, Font};
 
-/// The bytes of a cell at most.
-pub(crate) const CELL_BYTES: usize = 16;
+// The bytes of a cell at most.
+const CELL_BYTES: usize = 16;
 
 /// The bytes that a cell is printed as: a backspace between a character and itself is bold, and between a low line and a character
 /// italic; a blank is never marked (mandoc(1), "ASCII Output").
@@ -24,38 +24,42 @@ pub fn cell_bytes(cell: Cell) -> ArrayVec<u8, 16>
     bytes
 }
 
-// Whether a cell is printed as one byte.
+// A number that is 0 for roman alone.
 #[inline(always)]
-fn is_plain(cell: Cell) -> bool
-    ensures { result ≡ plain.is_plain cell }
+fn font_bits(font: Font) -> u8
+    ensures { result ≡ 0 → is_roman font ≡ true }
 {
-    cell.c.is_ascii() && matches!(cell.font, Font::R)
+    font as u8
 }
 
-/// Whether each cell is printed as one byte.
-pub(crate) fn are_plain(cells: &[Cell]) -> bool
-    ensures { result ≡ list_all plain.is_plain cells.now }
+// Whether each cell is printed as one byte.
+#[inline(always)]
+fn are_plain(cells: &[Cell]) -> bool
+    ensures { result ≡ true → list_all is_plain cells.now ≡ true }
 {
-    // All cells are looked at: without a way out the compiler takes several at a time.
-    let mut so_far = true;
+    // All characters and all fonts are joined bit by bit: two tests at the end cost less than two at each cell.
+    let mut characters = 0u32;
+    let mut fonts = 0u8;
     for cell in cells {
-        so_far = so_far & is_plain(*cell);
+        characters |= cell.c as u32;
+        fonts |= font_bits(cell.font);
     }
-    so_far
+    fonts == 0 && characters < 128
 }
 
 // The byte that a plain cell is printed as.
 #[inline(always)]
 fn plain_byte(cell: Cell) -> u8
-    requires { plain.is_plain cell ≡ true }
+    requires { is_plain cell ≡ true }
     ensures { cell_bytes_of cell ≡ result ∷ [] }
 {
     cell.c as u8
 }
 
-/// Writes plain cells from `start` on, and answers where they end.
-pub(crate) fn write_plain(bytes: &mut [u8], start: usize, cells: &[Cell]) -> usize
-    requires plain { list_all plain.is_plain cells.now ≡ true }
+// Writes plain cells from `start` on, and answers where they end.
+#[inline(always)]
+fn write_plain(bytes: &mut [u8], start: usize, cells: &[Cell]) -> usize
+    requires plain { list_all is_plain cells.now ≡ true }
     requires room { start + length cells.now ≤ length bytes.old }
     ensures front { take result bytes.new ≡ take start bytes.old ++ flat_map cell_bytes_of cells.now }
     ensures end { result ≡ start + length cells.now }
@@ -68,7 +72,21 @@ pub(crate) fn write_plain(bytes: &mut [u8], start: usize, cells: &[Cell]) -> usi
     end
 }
 
+/// Writes the bytes of a few cells from `start` on, and answers where they end: quickly where all of them are plain.
+#[inline(always)]
+pub(crate) fn write_group(bytes: &mut [u8], start: usize, cells: &[Cell]) -> usize
+    requires { start + 16 * length cells.now ≤ length bytes.old }
+    ensures front { take result bytes.new ≡ take start bytes.old ++ flat_map cell_bytes_of cells.now }
+    ensures end { result ≤ start + 16 * length cells.now }
+{
+    if are_plain(cells) {
+        return write_plain(bytes, start, cells);
+    }
+    write_cells(bytes, start, cells)
+}
+
 /// Writes the bytes of cells from `start` on, and answers where they end.
+#[inline(always)]
 pub(crate) fn write_cells(bytes: &mut [u8], start: usize, cells: &[Cell]) -> usize
     requires { start + 16 * length cells.now ≤ length bytes.old }
     ensures front { take result bytes.new ≡ take start bytes.old ++ flat_map cell_bytes_of cells.now }

@@ -8,13 +8,16 @@ ghost use Rattle.page_core_writers.specs.Grows.{Adds, AddsInto, adds-sink, adds-
 ghost use Rattle.page_core_writers.specs.PlainCells.{is_plain};
 ghost use Rattle.page_core_writers.specs.RowBytes.{row_bytes, printed, cell_bytes_of};
 
-use crate::cells::{CELL_BYTES, are_plain, without_blanks_at_end, write_cells, write_plain};
+use crate::cells::{without_blanks_at_end, write_cells, write_group};
 use crate::writing::{BUFFER, put};
 use page_core_base::{Cell, Fault, RowSink};
 use std::io::Write;
 
 // The bytes of a row that may wait before more of its cells come.
 const WAITING: usize = 256;
+
+// The cells of a row that are written at a time: a number that the compiler knows, so that it needs no loop over them.
+const GROUP: usize = 8;
 
 /// Writes rows as bytes (mandoc(1), "ASCII Output").
 #[derive(Drop)]
@@ -68,48 +71,35 @@ fn room_after<W: Write>(out: &mut W, bytes: &[u8], end: usize) -> Option<usize>
     }
 }
 
-// Writes the bytes before a place, and then plain cells that have room and a line feed.
-fn put_plain<W: Write>(out: &mut W, bytes: &mut [u8; BUFFER], start: usize, cells: &[Cell]) -> bool
-    requires plain { list_all is_plain cells.now ≡ true }
-    requires room { start + length cells.now < 512 }
+// Writes the bytes before a place, and then fewer cells than a group and a line feed.
+fn put_end<W: Write>(out: &mut W, bytes: &mut [u8; BUFFER], start: usize, cells: &[Cell]) -> bool
+    requires few { length cells.now < 8 }
+    requires room { start ≤ 384 }
     ensures { Writes result (W.contents out.old) (W.contents out.new)
         (take start bytes.old ++ (flat_map cell_bytes_of cells.now ++ 10 ∷ [])) }
 {
-    let end = write_plain(bytes, start, cells);
+    let end = write_cells(bytes, start, cells);
     bytes[end] = b'\n';
     put(out, &bytes[..end + 1])
 }
 
-// Writes the bytes before a place, and then cells, a part of them after another, and a line feed.
-fn put_parts<W: Write>(out: &mut W, bytes: &mut [u8; BUFFER], start: usize, cells: &[Cell]) -> bool
+// Writes the bytes before a place, and then cells, a group of them after another, and a line feed.
+fn put_cells<W: Write>(out: &mut W, bytes: &mut [u8; BUFFER], start: usize, cells: &[Cell]) -> bool
     requires { start ≤ 256 }
     ensures { Writes result (W.contents out.old) (W.contents out.new)
         (take start bytes.old ++ (flat_map cell_bytes_of cells.now ++ 10 ∷ [])) }
 {
     let mut rest = cells;
     let mut end = start;
-    while !rest.is_empty() {
+    while rest.len() >= GROUP {
         let Some(room) = room_after(out, bytes, end) else {
             return false;
         };
-        let count = rest.len().min((BUFFER - 1 - room) / CELL_BYTES);
-        end = write_cells(bytes, room, &rest[..count]);
-        rest = &rest[count..];
+        let (group, later) = rest.split_at(GROUP);
+        end = write_group(bytes, room, group);
+        rest = later;
     }
-    bytes[end] = b'\n';
-    put(out, &bytes[..end + 1])
-}
-
-// Writes the bytes before a place, and then cells and a line feed.
-fn put_cells<W: Write>(out: &mut W, bytes: &mut [u8; BUFFER], start: usize, cells: &[Cell]) -> bool
-    requires { start ≤ 256 }
-    ensures { Writes result (W.contents out.old) (W.contents out.new)
-        (take start bytes.old ++ (flat_map cell_bytes_of cells.now ++ 10 ∷ [])) }
-{
-    if cells.len() < BUFFER - start && are_plain(cells) {
-        return put_plain(out, bytes, start, cells);
-    }
-    put_parts(out, bytes, start, cells)
+    put_end(out, bytes, end, rest)
 }
 
 // Writes a margin, cells and a line feed, or the line feed alone where there is no cell.
