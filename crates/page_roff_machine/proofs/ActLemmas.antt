@@ -28,18 +28,20 @@ use Rattle.page_roff_effects.specs.Effects.{effects}
 use Rattle.page_roff_effects.specs.States.{State, says}
 use Rattle.page_roff_stack.specs.declared.next.Next.{Next}
 use Rattle.page_roff_stack.specs.declared.next.Next.TheVariants.{Part, Line, RegionLine, SourceEnd, Nothing}
-use Rattle.page_roff_stack.specs.Changes.{is_page, first_atoms, past}
+use Rattle.page_roff_stack.specs.Changes.{is_page, next_line, first_atoms, past}
 use Rattle.page_roff_stack.specs.Stacks as stacks
-use Rattle.page_roff_stack.specs.Stacks.{Stack, running, with_top, next_around, next_in, next_of, is_part, is_line, is_source_end, is_nothing, step_in, step_of}
+use Rattle.page_roff_stack.specs.Stacks.{Stack, running, with_top, next_around, next_in, next_of, part_in, is_part, is_line, is_source_end, is_nothing, step_in, step_of}
 use Rattle.page_roff_stack.proofs.StackLemmas.{next_steps}
 use Rattle.page_roff_stack.proofs.StackLemmas.{line_there as stack_line_there}
 use Rattle.page_roff_machine.specs.declared.budgeted_actions.BudgetedActions.{BudgetedActions}
 use Rattle.page_roff_machine.specs.declared.movements.Movement.TheVariants as moves
+use Rattle.page_roff_machine.specs.declared.movements.Progress.TheVariants.{More}
 use Rattle.page_roff_machine.specs.declared.runners.Runner.{Runner}
 use Rattle.page_roff_machine.specs.Doing.{HasRoom, output_of, state_in, state_after, line_after, IsIn, IsAt, Makes, Does, Answers, parts_of, begun_in, answer_if, answer_after, answer_in, region_after, region_in, leaf_if, leaf_after, leaf_in, line_of, done_as, read_in, ended_in, finished_in}
-use Rattle.page_roff_machine.specs.Moving.{guard_spot, block_spot, refused, moved, ended, Decides}
-use Rattle.page_roff_machine.specs.Stepping.{IsSound}
+use Rattle.page_roff_machine.specs.Moving.{guard_spot, block_spot, refused, moved, ended, reached_with, Decides}
+use Rattle.page_roff_machine.specs.Stepping.{IsSound, Steps}
 use Rattle.page_roff_machine.proofs.DoingLemmas.{came_none}
+use Rattle.page_roff_machine.proofs.GoLemmas.{same_depth}
 
 -- ---- the meaning of parts, however many macros may run
 
@@ -149,6 +151,21 @@ is_the_line (Line line) e = refl
 is_the_line (RegionLine o line is_end) e = absurd (cc)
 is_the_line (SourceEnd region) e = absurd (cc)
 is_the_line Nothing e = absurd (cc)
+
+-- the part that comes next
+pub is_the_part : (x : Next (List ℕ) Opened) (part : Atom (List ℕ)) → Some part ≡ part_in x → Part part ≡ x
+is_the_part (Part first) part e = let k : part ≡ first = cc in ap (λ part. Part part) k
+is_the_part (Line line) part e = absurd (cc)
+is_the_part (RegionLine o line is_end) part e = absurd (cc)
+is_the_part (SourceEnd region) part e = absurd (cc)
+is_the_part Nothing part e = absurd (cc)
+
+pub is_nothing_next : (x : Next (List ℕ) Opened) → is_nothing x ≡ true → Nothing ≡ x
+is_nothing_next (Part part) e = absurd (cc)
+is_nothing_next (Line line) e = absurd (cc)
+is_nothing_next (RegionLine o line is_end) e = absurd (cc)
+is_nothing_next (SourceEnd region) e = absurd (cc)
+is_nothing_next Nothing e = refl
 
 pub line_there : (s : Stack) (line : List ℕ) → Line line ≡ next_of s → 0 < length s.top.lines
 line_there s line e = stack_line_there s.top.region s.top.parts s.top.lines s.under (ap is_line (sym e))
@@ -315,30 +332,32 @@ module _ {P S : Type 0} (left : P → S → List Message → Type 0) (old : Runn
         nothing = tt;
       }
 
-  pub decides_line : (line : List ℕ) (is_page_now : Bool)
+  pub begins : (line : List ℕ) (is_page_now : Bool) (stack : Stack)
       → Line line ≡ next_of old.stack → is_page_now ≡ is_page old.stack.top.kind
       → IsIn old.stack.top.kind old.doing
       → Makes left old.doing out (IsAt is_page_now old.doing) (begun_in old.doing) new state_after out_new
-      → Decides left old out moves.Line (record { stack = old.stack; doing = new }) out_new
-  unfolding moved step_in line_next meaning_at language meaning
-  decides_line line is_page_now e ep k a =
+      → stack ≡ with_top (next_line None (first_atoms old.stack.top.lines) old.stack.top) old.stack
+      → Steps left old out More (record { stack = stack; doing = new }) out_new
+  unfolding reached_with step_in line_next meaning_at language meaning
+  begins line is_page_now stack e ep k a es =
       let output = output_of old.doing in
       let s = old.stack in
       let state = state_in [] old.doing in
       let frame : List (Atom (List ℕ)) → Frame =
       λ parts. record { kind = s.top.kind; region = None; parts = parts; spot = at_line s.top.spot.levels; lines = drop 1 s.top.lines } in
       record {
-        stack = refl;
-        setting = a.setting;
+        output = ap (λ setting. setting.output) a.setting;
+        setting = rw (es, a.setting) k;
         notes = a.notes;
         came = a.came;
         step =
             step_next output s (Line line) state e
             ∙ ap (λ state. Some (running (with_top (frame (atoms line)) s) state)) (a.state s.top.kind (record { page = sym ep; setting = k }) [])
             ∙ ap (λ parts. Some (running (with_top (frame parts) s) (state_in (map says a.notes) new)))
-            (sym (line_first s.top.region s.top.parts s.top.lines s.under line e).0);
-        suits = ap is_line (sym e);
-        nothing = tt;
+            (sym (line_first s.top.region s.top.parts s.top.lines s.under line e).0)
+            ∙ ap (λ (stack : Stack). Some (running stack (state_in (map says a.notes) new))) (sym es);
+        body = same_depth s.under stack (ap (λ (stack : Stack). stack.under) es);
+        done = tt;
       }
 
   pub decides_region_line : (o : Opened) (line : List ℕ) (is_page_now : Bool) (result : ProductKind)

@@ -20,7 +20,7 @@ use Rattle.page_roff_effects.specs.Acting as acting
 use Rattle.page_roff_effects.specs.Acting.{Acting, with_arguments, IsCallable}
 use Rattle.page_roff_effects.specs.Effects.{effects, setting_of, block_outcome}
 use Rattle.page_roff_effects.specs.States.{State, Given, says, takes}
-use Rattle.page_roff_stack.specs.Changes.{past, in_region, next_line, first_atoms, is_page}
+use Rattle.page_roff_stack.specs.Changes.{past, in_region, next_line, is_page}
 use Rattle.page_roff_stack.specs.Stacks as stacks
 use Rattle.page_roff_stack.specs.Stacks.{Stack, running, with_top, call_of, next_of}
 use Rattle.page_roff_machine.specs.declared.budgeted_actions.BudgetedActions.{BudgetedActions}
@@ -55,7 +55,7 @@ within_huge : (bytes : List ℕ) → length bytes ≤ BODY → suc (weight (argu
 within_huge bytes h = let w = body_weight bytes in omega arith
 
 -- no macro was called
-same_depth : (under : List Frame) (s : Stack) → s.under ≡ under → IsBodyWithin under s
+pub same_depth : (under : List Frame) (s : Stack) → s.under ≡ under → IsBodyWithin under s
 same_depth under s e h = let k = ap length e in absurd (omega arith)
 
 -- ---- the arguments
@@ -166,13 +166,6 @@ pub shifts_region : (old new : Runner) (is_run : Bool)
 unfolding moved reached_with
 shifts_region old new is_run e k =
     shifts_to old new (moves.Region is_run) More (with_top (in_region (stacks.region_in is_run (next_of old.stack)) old.stack.top) old.stack) e refl refl k (λ given. refl)
-
-pub shifts_line : (old new : Runner)
-    → new ≡ record { stack = with_top (next_line None (first_atoms old.stack.top.lines) old.stack.top) old.stack; doing = old.doing }
-    → IsIn old.stack.top.kind old.doing → Shifts old moves.Line More new
-unfolding moved reached_with
-shifts_line old new e k =
-    shifts_to old new moves.Line More (with_top (next_line None (first_atoms old.stack.top.lines) old.stack.top) old.stack) e refl refl k (λ given. refl)
 
 pub shifts_region_end : (old new : Runner)
     → new ≡ record { stack = with_top (next_line None [] old.stack.top) old.stack; doing = old.doing }

@@ -23,7 +23,9 @@ use Rattle.page_roff_machine.specs.Giving.{notes_before, next_line, after_line}
 use Rattle.page_roff_machine.specs.Machines.{Machine, outcome_of, to_come, end_of, hushed, Advances}
 use Rattle.page_roff_machine.specs.Moving.{moved, reached_with, IsBodyWithin, IfDone, Suits, HUGE, Decides, Moves}
 use Rattle.page_roff_machine.specs.Stepping.{machine_of, IsMeasured, IsSound, Steps, Leads}
+use Rattle.page_roff_machine.proofs.ActLemmas.{is_nothing_next, decides_nothing}
 use Rattle.page_roff_machine.proofs.DoingLemmas.{came_both, said}
+use Rattle.page_roff_machine.proofs.GoLemmas.{moves_nothing}
 use Rattle.page_roff_machine.proofs.MachineLemmas.{notes_after, line_after, rest_after, outcome_step, outcome_end}
 
 -- what is left of a line, in steps
@@ -90,6 +92,11 @@ module _ {P S : Type 0} (left : P → S → List Message → Type 0) where
         let s = rw d.2 at a.suits in
         (d.0 ∙ n.0, ap (λ (notes : List Message). notes ++ b.notes) n.1 ∙ d.1, s)) b.done;
   }
+
+  -- nothing is left
+  pub stops : (old : Runner) (out : S) → IsIn old.stack.top.kind old.doing → is_nothing (next_of old.stack) ≡ true → Steps left old out Done old out
+  stops old out k e =
+      steps old old old out out out moves.Nothing Done (decides_nothing left old out (is_nothing_next (next_of old.stack) e)) (moves_nothing left old out k)
 
   pub decided : (old mid : Runner) (out out_mid : S) (movement : Movement) → IsIn old.stack.top.kind old.doing → Decides left old out movement mid out_mid
       → IsIn mid.stack.top.kind mid.doing × Suits movement mid.stack mid.doing

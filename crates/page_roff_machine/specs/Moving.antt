@@ -17,8 +17,8 @@ use Rattle.page_roff_effects.specs.declared.commands.ProductKind.TheVariants as 
 use Rattle.page_roff_effects.specs.Acting.{with_arguments, IsCallable, IfCalled}
 use Rattle.page_roff_effects.specs.Effects.{effects}
 use Rattle.page_roff_effects.specs.States.{State, Given, says, takes}
-use Rattle.page_roff_stack.specs.Changes.{past, in_region, next_line, first_atoms}
-use Rattle.page_roff_stack.specs.Stacks.{Stack, running, with_top, call_of, next_of, is_part, is_line, is_source_end, is_nothing, branch_in, region_in}
+use Rattle.page_roff_stack.specs.Changes.{past, in_region, next_line}
+use Rattle.page_roff_stack.specs.Stacks.{Stack, running, with_top, call_of, next_of, is_part, is_source_end, is_nothing, branch_in, region_in}
 use Rattle.page_roff_machine.specs.declared.budgeted_actions.BudgetedActions.{BudgetedActions}
 use Rattle.page_roff_machine.specs.declared.movements.Movement.{Movement}
 use Rattle.page_roff_machine.specs.declared.movements.Movement.TheVariants as moves
@@ -68,8 +68,6 @@ moved output moves.BlockEnd s given b =
     Some (running (with_top (past (after_part (leave s.top.spot.levels)) s.top) s) (unopened output s (state_in given b)))
 moved output (moves.Region is_run) s given b =
     Some (running (with_top (in_region (region_in is_run (next_of s)) s.top) s) (state_in given b))
-moved output moves.Line s given b =
-    Some (running (with_top (next_line None (first_atoms s.top.lines) s.top) s) (state_in given b))
 moved output (moves.RegionLine product) s given b =
     Some (running (with_top (next_line s.top.region [] s.top) s) (state_in (given ++ line_of product b.actions) b))
 moved output moves.RegionEnd s given b =
@@ -116,7 +114,6 @@ Suits (moves.Guard value) s b = is_part (next_of s) ≡ true
 Suits (moves.Block value column) s b = is_part (next_of s) ≡ true
 Suits moves.BlockEnd s b = Unit {0}
 Suits (moves.Region is_run) s b = is_part (next_of s) ≡ true
-Suits moves.Line s b = is_line (next_of s) ≡ true
 Suits (moves.RegionLine product) s b = Unit {0}
 Suits moves.RegionEnd s b = Unit {0}
 Suits moves.SourceEnd s b = is_source_end (next_of s) ≡ true
@@ -129,7 +126,6 @@ IfNothing (moves.Guard value) P = Unit {0}
 IfNothing (moves.Block value column) P = Unit {0}
 IfNothing moves.BlockEnd P = Unit {0}
 IfNothing (moves.Region is_run) P = Unit {0}
-IfNothing moves.Line P = Unit {0}
 IfNothing (moves.RegionLine product) P = Unit {0}
 IfNothing moves.RegionEnd P = Unit {0}
 IfNothing moves.SourceEnd P = Unit {0}

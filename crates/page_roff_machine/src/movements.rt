@@ -15,8 +15,6 @@ pub(crate) enum Movement {
     BlockEnd,
     /// Into a region, which is run or not.
     Region(bool),
-    /// Into a line.
-    Line,
     /// Past a line of a region, of which this came.
     RegionLine(ProductKind),
     /// Out of a region.

@@ -1,7 +1,7 @@
 //! The steps of the machine: what comes next is done, and the input stack moves on.
 
-ghost use Rattle.std.specs.Prelude.{◌≡◌, true};
-ghost use Rattle.page_roff_stack.specs.Stacks.{next_of, is_part, is_source_end};
+ghost use Rattle.std.specs.Prelude.{◌≡◌, true, false, None};
+ghost use Rattle.page_roff_stack.specs.Stacks.{next_of, part_in, is_part, is_line, is_source_end};
 ghost use Rattle.page_roff_machine.specs.Doing.{IsIn};
 ghost use Rattle.page_roff_machine.specs.Machines.{Advances};
 ghost use Rattle.page_roff_machine.specs.Moving.{Decides, Moves, Shifts, Suits, CanCall};
@@ -33,36 +33,53 @@ fn progress_of(product: ProductKind) -> Progress
 }
 
 impl Runner {
-    // Does what comes next, as far as the stack stays.
+    // A line begins.
+    fn begin_line<O: NoteOut>(&mut self, out: &mut O)
+        requires sound { IsSound self.old }
+        requires line { is_line (next_of self.old.stack) ≡ true }
+        ensures { Steps O.left self.old out.old Progress.More self.new out.new }
+    {
+        let is_page = self.stack.is_page();
+        self.doing.begin_line(is_page, out);
+        self.stack.begin_line();
+    }
+
+    // Does what comes next after the beginning of a line, as far as the stack stays.
     fn act<O: NoteOut>(&mut self, out: &mut O) -> Movement
-        requires { IsSound self.old }
+        requires sound { IsSound self.old }
+        requires begun { is_line (next_of self.old.stack) ≡ false }
         ensures { Decides O.left self.old out.old result self.new out.new }
     {
         let reached = self.stack.reached();
         let bit = self.stack.bit();
         let may_call = self.stack.may_call();
-        let is_page = self.stack.is_page();
-        if self.stack.begins_line() {
-            self.doing.begin_line(is_page, out);
-            return Movement::Line;
-        }
-        match self.stack.peek() {
-            Next::Part(Atom::Leaf(text)) => {
-                Movement::Leaf(self.doing.leaf(reached, may_call, text, out))
-            }
-            Next::Part(Atom::Guard(head)) => {
+        let Some(part) = self.stack.part() else {
+            return self.act_between_lines(out);
+        };
+        match &part {
+            Atom::Leaf(text) => Movement::Leaf(self.doing.leaf(reached, may_call, text, out)),
+            Atom::Guard(head) => {
                 Movement::Guard(self.doing.answer(reached, &head.branch, bit, out))
             }
-            Next::Part(Atom::Block(head)) => {
+            Atom::Block(head) => {
                 let value = self.doing.answer(reached, &head.branch, bit, out);
                 Movement::Block(value, head.column)
             }
-            Next::Part(Atom::End) => Movement::BlockEnd,
-            Next::Part(Atom::Region(head)) => {
-                Movement::Region(self.doing.open_region(reached, &head, out))
-            }
-            // That it comes was asked above, without its text.
-            Next::Line(_) => unreachable!(),
+            Atom::End => Movement::BlockEnd,
+            Atom::Region(head) => Movement::Region(self.doing.open_region(reached, head, out)),
+        }
+    }
+
+    // The same where it is no part of a line.
+    fn act_between_lines<O: NoteOut>(&mut self, out: &mut O) -> Movement
+        requires sound { IsSound self.old }
+        requires begun { is_line (next_of self.old.stack) ≡ false }
+        requires done { part_in (next_of self.old.stack) ≡ None }
+        ensures { Decides O.left self.old out.old result self.new out.new }
+    {
+        let is_page = self.stack.is_page();
+        match self.stack.peek() {
+            Next::Part(_) | Next::Line(_) => unreachable!(),
             Next::RegionLine {
                 region,
                 line: _,
@@ -95,6 +112,7 @@ impl Runner {
     }
 
     // Calls the macro that was taken last.
+    #[inline(never)]
     fn call(&mut self)
         requires { CanCall ProductKind.Call self.old.stack self.old.doing }
         ensures { self.new ≡ called self.old }
@@ -184,7 +202,6 @@ impl Runner {
             Movement::Block(value, column) => self.pass_block(value, column, out),
             Movement::BlockEnd => self.leave_block(out),
             Movement::Region(is_run) => self.stack.open_region(is_run),
-            Movement::Line => self.stack.begin_line(),
             Movement::RegionLine(product) => {
                 self.stack.pass_region_line();
                 return progress_of(product);
@@ -196,13 +213,30 @@ impl Runner {
         Progress::More
     }
 
-    // Makes one step.
-    fn step<O: NoteOut>(&mut self, out: &mut O) -> Progress
-        requires { IsSound self.old }
+    // Makes one step after the beginning of a line.
+    #[inline(never)]
+    fn step_on<O: NoteOut>(&mut self, out: &mut O) -> Progress
+        requires sound { IsSound self.old }
+        requires begun { is_line (next_of self.old.stack) ≡ false }
         ensures { Steps O.left self.old out.old result self.new out.new }
     {
         let movement = self.act(out);
         self.go(movement, out)
+    }
+
+    // Makes one step. The first and the last one of a source line are asked for first: each line has them.
+    fn step<O: NoteOut>(&mut self, out: &mut O) -> Progress
+        requires { IsSound self.old }
+        ensures { Steps O.left self.old out.old result self.new out.new }
+    {
+        if self.stack.begins_line() {
+            self.begin_line(out);
+            return Progress::More;
+        }
+        if self.stack.is_idle() {
+            return Progress::Done;
+        }
+        self.step_on(out)
     }
 }
 

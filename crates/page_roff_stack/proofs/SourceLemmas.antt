@@ -15,7 +15,7 @@ use Rattle.page_roff_run.specs.Measures.{weight, work_in}
 use Rattle.page_roff_stack.specs.declared.sources.Source.TheInside.{Inside}
 use Rattle.page_roff_stack.specs.declared.spans.Span.{Span}
 use Rattle.page_roff_values.specs.Arguments.{lines_in}
-use Rattle.page_roff_stack.specs.Changes.{past, first_branch, first_region, in_region, next_line, first_atoms, begins_next, begins_line, AreShort, IsBounded}
+use Rattle.page_roff_stack.specs.Changes.{past, first_branch, first_region, in_region, next_line, first_atoms, begins_next, begins_line, ends_with, is_over, AreShort, IsBounded}
 use Rattle.page_roff_stack.specs.Held.{span_text, IsSpanIn, IsFirstLine}
 use Rattle.page_roff_stack.specs.Sources.{frame_of, IsHeld}
 use Rattle.page_roff_stack.specs.Views.{parts_seen, IsNextLine}
@@ -312,3 +312,44 @@ begins_here a e p h =
     begins_outside a.region (frame_of a).parts (frame_of a).lines (nat_lt a.lines.start a.lines.end) e (end_parts (span_text a.line a.text.items) a.place p)
     (λ b. some_line (span_text a.lines a.text.items) (less_some a.lines.start a.lines.end n k b))
     (λ b. no_lines (span_text a.lines a.text.items) (less_none a.lines.start a.lines.end n k b))
+
+-- ---- whether nothing is left
+
+lines_left : (region : Option Opened) (parts : List (Atom (List ℕ))) (lines : List (List ℕ)) → 0 < length lines → false ≡ ends_with region parts lines
+lines_left None [] [] h = absurd (omega arith)
+lines_left None [] (line ∷ more) h = refl
+lines_left None (part ∷ more) lines h = refl
+lines_left (Some o) parts [] h = absurd (omega arith)
+lines_left (Some o) parts (line ∷ more) h = refl
+
+region_over : (region : Option Opened) (parts : List (Atom (List ℕ))) → is_some region ≡ true → true ≡ ends_with region parts []
+region_over None parts e = absurd (cc)
+region_over (Some o) parts e = refl
+
+line_over : (region : Option Opened) (parts : List (Atom (List ℕ))) (b : Bool) → is_some region ≡ false
+    → (b ≡ true → parts ≡ []) → (b ≡ false → 0 < length parts) → b ≡ ends_with region parts []
+line_over None [] true e none some = refl
+line_over None [] false e none some = absurd (let h = some refl in omega (arith, h))
+line_over None (part ∷ more) true e none some = let h = none refl in absurd (cc)
+line_over None (part ∷ more) false e none some = refl
+line_over (Some o) parts b e none some = absurd (cc)
+
+lines_none : (a : Inside) → a.lines.end ≤ a.lines.start → IsSpanIn a.lines a.text.items → (frame_of a).lines ≡ []
+lines_none a p h =
+    let k = span_len a.lines a.text.items h in
+    let n : length (span_text a.lines a.text.items) ≡ 0 = omega arith in
+    no_lines (span_text a.lines a.text.items) (grind (arith, nat_tests))
+
+pub lines_here : (a : Inside) → a.lines.start < a.lines.end → IsSpanIn a.lines a.text.items → false ≡ is_over (frame_of a)
+lines_here a p h =
+    let k = span_len a.lines a.text.items h in
+    let n : 0 < length (span_text a.lines a.text.items) = omega arith in
+    lines_left a.region (frame_of a).parts (frame_of a).lines (some_line (span_text a.lines a.text.items) (grind (arith, nat_tests)))
+
+pub over_region : (a : Inside) → is_some a.region ≡ true → a.lines.end ≤ a.lines.start → IsSpanIn a.lines a.text.items → true ≡ is_over (frame_of a)
+over_region a e p h = rw (lines_none a p h) (region_over a.region (frame_of a).parts e)
+
+pub over_line : (a : Inside) → is_some a.region ≡ false → a.lines.end ≤ a.lines.start → IsSpanIn a.lines a.text.items → is_at_end a.place ≡ is_over (frame_of a)
+over_line a e p h =
+    rw (lines_none a p h)
+    (line_over a.region (frame_of a).parts (is_at_end a.place) e (end_parts (span_text a.line a.text.items) a.place) (some_parts (span_text a.line a.text.items) a.place))

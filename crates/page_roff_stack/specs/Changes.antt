@@ -7,7 +7,6 @@ use Rattle.page_roff_blocks.specs.declared.atoms.Branch.{Branch}
 use Rattle.page_roff_blocks.specs.declared.atoms.Branch.TheVariants.{Else}
 use Rattle.page_roff_blocks.specs.Atoms.{atoms}
 use Rattle.page_roff_blocks.specs.Levels.{Opened, opened, Spot, at_line, outside}
-use Rattle.page_roff_values.specs.Arguments.{lines_in}
 use Rattle.page_roff_run.specs.Languages.{Kind, page, body}
 use Rattle.page_roff_run.specs.Machine.{Frame, at_part}
 use Rattle.page_roff_run.specs.Measures.{work_in}
@@ -25,6 +24,17 @@ begins_next (Some o) parts lines = false
 
 abbrev pub begins_line : Frame → Bool
 begins_line f = begins_next f.region f.parts f.lines
+
+-- whether nothing is left
+abbrev pub ends_with : Option Opened → List (Atom (List ℕ)) → List (List ℕ) → Bool
+ends_with None [] [] = true
+ends_with None [] (line ∷ more) = false
+ends_with None (part ∷ more) lines = false
+ends_with (Some o) parts [] = true
+ends_with (Some o) parts (line ∷ more) = false
+
+abbrev pub is_over : Frame → Bool
+is_over f = ends_with f.region f.parts f.lines
 
 -- a line of the page is to come
 abbrev pub page_line : List ℕ → Frame → Frame

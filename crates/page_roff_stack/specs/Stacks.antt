@@ -56,6 +56,14 @@ is_part (RegionLine o line is_end) = false
 is_part (SourceEnd region) = false
 is_part Nothing = false
 
+-- the part that comes next
+abbrev pub part_in : Next (List ℕ) Opened → Option (Atom (List ℕ))
+part_in (Part part) = Some part
+part_in (Line line) = None
+part_in (RegionLine o line is_end) = None
+part_in (SourceEnd region) = None
+part_in Nothing = None
+
 abbrev pub is_line : Next (List ℕ) Opened → Bool
 is_line (Part part) = false
 is_line (Line line) = true

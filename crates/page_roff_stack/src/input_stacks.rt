@@ -1,8 +1,9 @@
 //! The input stack (mandoc(1), "input stack limit exceeded, infinite loop?").
 
-ghost use Rattle.std.specs.Prelude.{◌≡◌, [], ◌∷◌, ◌≤◌, ◌<◌, ◌^◌, true, length, IfOk, IfSome, None, Some};
+ghost use Rattle.std.specs.Prelude.{◌≡◌, [], ◌∷◌, ◌≤◌, ◌<◌, ◌^◌, true, length, IfOk, IfSome, None, Some, option_map};
 ghost use Rattle.page_core_base.specs.Texts.{IsLine};
 ghost use Rattle.page_core_limits.specs.declared.TheConstants.{BODY};
+ghost use Rattle.page_roff_blocks.specs.Atoms.{atom_seen, FitsAtom};
 ghost use Rattle.page_roff_blocks.specs.Caps.{PlaceFits};
 ghost use Rattle.page_roff_blocks.specs.Levels.{after_part, guarded_by, way_of, enter, bit_after, skip, leave, has_block, reached, opened_seen};
 ghost use Rattle.page_roff_blocks.specs.Regions.{text_seen};
@@ -10,12 +11,12 @@ ghost use Rattle.page_roff_run.specs.Machine.{depth, is_some};
 ghost use Rattle.page_roff_values.specs.Arguments.{arguments_in, lines_in};
 ghost use Rattle.page_roff_values.specs.declared.call_arguments.TheConstants.{ARGS};
 ghost use Rattle.page_roff_stack.specs.Changes.{page_line, past, in_region, next_line, first_atoms, is_page};
-ghost use Rattle.page_roff_stack.specs.Stacks.{first_stack, with_top, call_of, next_around, next_of, is_part, is_line, is_source_end, is_nothing, branch_in, region_in};
+ghost use Rattle.page_roff_stack.specs.Stacks.{first_stack, with_top, call_of, next_around, next_of, part_in, is_part, is_line, is_source_end, is_nothing, branch_in, region_in};
 ghost use Rattle.page_roff_stack.specs.Views.{kind_of, next_seen, FitsNext};
 
 use crate::next::Next;
 use crate::sources::Source;
-use page_roff_blocks::{OpenRegion, Reached, Way};
+use page_roff_blocks::{Atom, OpenRegion, Reached, Way};
 use page_roff_run::CALLS;
 use std::alloc::{AllocError, Global};
 use std::marker::Model;
@@ -67,7 +68,7 @@ impl InputStack {
     pub fn is_idle(&self) -> bool
         ensures { result ≡ is_nothing (next_of self.now) }
     {
-        matches!(self.peek(), Next::Nothing)
+        self.depth == 0 && self.top.is_over()
     }
 
     // What comes next where nothing is left of the innermost source.
@@ -121,6 +122,18 @@ impl InputStack {
             Some(line) => Next::Line(line),
             None => self.next_around(None),
         }
+    }
+
+    /// The part of a line that comes next, if one does.
+    #[inline(always)]
+    pub fn part(&self) -> Option<Atom<&[u8]>>
+        ensures value { option_map atom_seen result ≡ part_in (next_of self.now) }
+        ensures fits { IfSome result (λ part. FitsAtom (atom_seen part)) }
+    {
+        if self.top.region().is_some() {
+            return None;
+        }
+        self.top.part()
     }
 
     /// Whether a line begins next, outside of regions.

@@ -12,7 +12,7 @@ ghost use Rattle.page_roff_run.specs.Languages.{page};
 ghost use Rattle.page_roff_run.specs.Machine.{entered};
 ghost use Rattle.page_roff_values.specs.Arguments.{arguments_in, lines_in};
 ghost use Rattle.page_roff_values.specs.declared.call_arguments.TheConstants.{ARGS};
-ghost use Rattle.page_roff_stack.specs.Changes.{first_frame, page_line, past, first_branch, first_region, in_region, next_line, first_atoms, is_page, begins_line, HasPart, HasLine};
+ghost use Rattle.page_roff_stack.specs.Changes.{first_frame, page_line, past, first_branch, first_region, in_region, next_line, first_atoms, is_page, begins_line, is_over, HasPart, HasLine};
 ghost use Rattle.page_roff_stack.specs.Held.{span_text, room_for, kind_in, AreArgumentsIn, IsSpanIn, IsFirstLine};
 ghost use Rattle.page_roff_stack.specs.Views.{parts_seen, kind_of, IsNextLine};
 
@@ -189,6 +189,7 @@ impl Source {
     }
 
     /// The part that comes next in the present line.
+    #[inline(always)]
     pub(crate) fn part(&self) -> Option<Atom<&[u8]>>
         ensures value { parts_seen result ≡ take 1 self.now.parts }
         ensures fits { IfSome result (λ part. FitsAtom (atom_seen part)) }
@@ -211,6 +212,19 @@ impl Source {
             return false;
         }
         self.lines.start < self.lines.end
+    }
+
+    /// Whether nothing is left, in a region or not.
+    pub(crate) fn is_over(&self) -> bool
+        ensures { result ≡ is_over self.now }
+    {
+        if self.lines.start < self.lines.end {
+            return false;
+        }
+        if self.region.is_some() {
+            return true;
+        }
+        self.place.is_at_end()
     }
 
     /// The line that comes next.

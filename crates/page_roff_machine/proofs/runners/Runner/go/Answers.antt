@@ -1,5 +1,5 @@
 use Rattle.std.proofs.Common.{ap}
-use Rattle.page_roff_machine.proofs.GoLemmas.{quiet, quiet_product, shifts_region, shifts_line, shifts_region_end, shifts_region_line, moves_nothing}
+use Rattle.page_roff_machine.proofs.GoLemmas.{quiet, quiet_product, shifts_region, shifts_region_end, shifts_region_line, moves_nothing}
 use Rattle.page_roff_machine.proofs.runners.Runner.go.Goals as goal
 
 pub returns-in-Leaf : goal.returns-in-Leaf
@@ -27,12 +27,6 @@ returns-in-Region g c =
     rw c.in-Region.is
     (quiet g.O.NoteOut.left c.args.self.now (record { stack = c.open_region.new.self; doing = c.args.self.now.doing }) c.args.out.now _ _
     (shifts_region c.args.self.now (record { stack = c.open_region.new.self; doing = c.args.self.now.doing }) c.in-Region.is_run (ap (λ stack. record { stack = stack; doing = c.args.self.now.doing }) c.open_region.ensures) c.requires.setting) tt)
-
-pub returns-in-Line : goal.returns-in-Line
-returns-in-Line g c =
-    rw c.in-Line.is
-    (quiet g.O.NoteOut.left c.args.self.now (record { stack = c.begin_line.new.self; doing = c.args.self.now.doing }) c.args.out.now _ _
-    (shifts_line c.args.self.now (record { stack = c.begin_line.new.self; doing = c.args.self.now.doing }) (ap (λ stack. record { stack = stack; doing = c.args.self.now.doing }) c.begin_line.ensures) c.requires.setting) tt)
 
 pub returns-in-RegionEnd : goal.returns-in-RegionEnd
 returns-in-RegionEnd g c =

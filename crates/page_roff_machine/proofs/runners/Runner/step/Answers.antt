@@ -1,12 +1,6 @@
-use Rattle.page_roff_machine.proofs.StepLemmas.{steps, decided}
+use Rattle.std.proofs.Common.{sym, ◌∙◌}
+use Rattle.page_roff_machine.proofs.StepLemmas.{stops}
 use Rattle.page_roff_machine.proofs.runners.Runner.step.Goals as goal
 
-pub returns : goal.returns
-returns g c =
-    steps g.O.NoteOut.left c.args.self.now c.act-movement.new.self c.go.new.self c.args.out.now c.act-movement.new.out c.go.new.out c.act-movement.result c.go.result
-    c.act-movement.ensures c.go.ensures
-
-pub go-requires : goal.go-requires
-go-requires g c =
-    let d = decided g.O.NoteOut.left c.args.self.now c.act-movement.new.self c.args.out.now c.act-movement.new.out c.act-movement.result c.requires.setting c.act-movement.ensures in
-    record { setting = d.0; suits = d.1 }
+pub returns-then-is_idle : goal.returns-then-is_idle
+returns-then-is_idle g c = stops g.O.NoteOut.left c.args.self.now c.args.out.now c.requires.setting (sym c.is_idle.ensures ∙ c.if-is_idle.true)

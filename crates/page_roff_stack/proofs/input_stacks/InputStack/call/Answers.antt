@@ -1,9 +1,8 @@
-use Rattle.std.proofs.Common.{◌≡◌, ◌<◌, ◌∷◌, true, length, ap, sym, ◌∙◌, arith, length-set}
-use Rattle.page_roff_run.specs.declared.TheConstants.{CALLS}
-use Rattle.page_roff_run.specs.Machine.{depth, is_some, entered}
+use Rattle.std.proofs.Common.{◌<◌, ◌∷◌, length, ap, ◌∙◌, arith, length-set}
+use Rattle.page_roff_run.specs.Machine.{depth, is_some}
 use Rattle.page_roff_values.specs.Arguments.{arguments_in, lines_in}
 use Rattle.page_roff_stack.specs.InputStacks.{stack_of}
-use Rattle.page_roff_stack.specs.Stacks.{Stack, AreStacked, call_of}
+use Rattle.page_roff_stack.specs.Stacks.{call_of}
 use Rattle.page_roff_stack.proofs.InputStackLemmas.{under_len, is_room, deeper}
 use Rattle.page_roff_stack.proofs.input_stacks.InputStack.call.Goals as goal
 
