@@ -15,7 +15,7 @@ use page_scopes_nodes::argument_word;
 use page_scopes_text::give_number;
 use page_scopes_tree::Act;
 use page_scopes_words::report;
-use page_sets_lines::{Closer, Deed, Join, Leaf, Opener};
+use page_sets_lines::{Closer, Deed, Event, Join, Leaf, Opener};
 
 // Whether a deed may begin the body.
 fn deed_begins(deed: &Deed<&[u8]>) -> bool
@@ -151,7 +151,7 @@ fn give_deed_standing<O: PieceOut>(
 #[tactic(auto, unfolding(crate::specs::Bodies::stands))]
 pub(crate) fn give_standing<O: PieceOut>(
     out: &mut O,
-    act: &Act<&[u8]>,
+    act: &Act<&Event<&[u8]>>,
     context: &mut Context,
     running: &mut Running,
 )

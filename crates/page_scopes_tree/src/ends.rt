@@ -12,7 +12,7 @@ use crate::numbers::basic_number;
 use crate::runs::{Run, run_len};
 use crate::{Act, Explicit, Label, SCOPES};
 use page_scopes_laws::Scope;
-use page_sets_lines::{Closer, Deed, Leaf, Opener};
+use page_sets_lines::{Closer, Deed, Event, Leaf, Opener};
 
 // All scopes up to one that was found and with it, and none where it does not come before an end.
 fn up_to(found: usize, end: usize) -> usize
@@ -129,7 +129,7 @@ fn deed_ends<B>(deed: &Deed<&[u8]>, scopes: &[Scope<Label, B>]) -> usize
 }
 
 /// How many of the innermost scopes an act ends.
-pub(crate) fn count_ended<B>(act: &Act<&[u8]>, scopes: &[Scope<Label, B>]) -> usize
+pub(crate) fn count_ended<B>(act: &Act<&Event<&[u8]>>, scopes: &[Scope<Label, B>]) -> usize
     requires { length scopes.now ≤ SCOPES }
     ensures { result ≡ ends.act_ends (act_seen act.now) (labels (reverse scopes.now)) }
 {

@@ -22,7 +22,7 @@ use page_sets_lines::Event;
 fn end_innermost<Y: Laying, O: PieceOut>(
     scopes: &mut Vec<Scope<Label, Y::Kept>>,
     state: &mut Y,
-    act: &Act<&[u8]>,
+    act: &Act<&Event<&[u8]>>,
     out: &mut O,
 )
     requires { 0 < vec_len scopes.old }
@@ -45,7 +45,7 @@ fn end_scopes<Y: Laying, O: PieceOut>(
     scopes: &mut Vec<Scope<Label, Y::Kept>>,
     state: &mut Y,
     count: usize,
-    act: &Act<&[u8]>,
+    act: &Act<&Event<&[u8]>>,
     out: &mut O,
 )
     requires { count ≤ vec_len scopes.old }
@@ -87,7 +87,7 @@ fn place_act<Y: Laying, O: PieceOut>(
     scopes: &mut Vec<Scope<Label, Y::Kept>>,
     state: &mut Y,
     count: usize,
-    act: &Act<&[u8]>,
+    act: &Act<&Event<&[u8]>>,
     out: &mut O,
 )
     requires depth { vec_len scopes.old ≤ SCOPES }
@@ -115,7 +115,7 @@ pub(crate) fn take_act<Y: Laying, O: PieceOut>(
     scopes: &mut Vec<Scope<Label, Y::Kept>>,
     skips: &mut bool,
     state: &mut Y,
-    act: &Act<&[u8]>,
+    act: &Act<&Event<&[u8]>>,
     out: &mut O,
 )
     requires depth { vec_len scopes.old ≤ SCOPES }

@@ -8,7 +8,7 @@ ghost use Rattle.page_sets_lines.specs.Events.{closer_seen, deed_seen, leaf_seen
 
 use crate::{Act, Explicit, Label, SCOPES};
 use page_scopes_laws::Scope;
-use page_sets_lines::{Closer, Deed, Leaf, Opener, Request};
+use page_sets_lines::{Closer, Deed, Event, Leaf, Opener, Request};
 
 /// Why an event is refused.
 #[derive(Clone, Copy, PartialEq, Eq)]
@@ -152,7 +152,11 @@ fn deed_fate<B>(deed: &Deed<&[u8]>, count: usize, remaining: &[Scope<Label, B>])
 }
 
 /// What becomes of an act that ended this many scopes and leaves these.
-pub(crate) fn fate_of<B>(act: &Act<&[u8]>, count: usize, remaining: &[Scope<Label, B>]) -> Fate
+pub(crate) fn fate_of<B>(
+    act: &Act<&Event<&[u8]>>,
+    count: usize,
+    remaining: &[Scope<Label, B>],
+) -> Fate
     requires { length remaining.now ≤ SCOPES }
     ensures { result ≡ standings.act_fate (act_seen act.now) count (labels (reverse remaining.now)) }
 {
@@ -185,7 +189,11 @@ fn deed_skips<B>(skips: bool, deed: &Deed<&[u8]>, remaining: &[Scope<Label, B>])
 }
 
 /// Whether the rest of the line is passed over after an act that leaves these scopes.
-pub(crate) fn skips_after<B>(skips: bool, act: &Act<&[u8]>, remaining: &[Scope<Label, B>]) -> bool
+pub(crate) fn skips_after<B>(
+    skips: bool,
+    act: &Act<&Event<&[u8]>>,
+    remaining: &[Scope<Label, B>],
+) -> bool
     requires { length remaining.now ≤ SCOPES }
     ensures { result ≡ standings.act_skips skips (act_seen act.now) (labels (reverse remaining.now)) }
 {
@@ -196,7 +204,7 @@ pub(crate) fn skips_after<B>(skips: bool, act: &Act<&[u8]>, remaining: &[Scope<L
 }
 
 /// Whether an act is passed over.
-pub(crate) fn is_passed_over(skips: bool, act: &Act<&[u8]>) -> bool
+pub(crate) fn is_passed_over(skips: bool, act: &Act<&Event<&[u8]>>) -> bool
     ensures { result ≡ standings.is_passed_over skips (act_seen act.now) }
 {
     match act {
