@@ -121,6 +121,7 @@ fn act_closer_name(act: &Act<&Event<&[u8]>>) -> &'static str
 }
 
 /// Gives the message of an act that is refused.
+#[inline(never)]
 pub(crate) fn report_obstacle<O: PieceOut>(
     out: &mut O,
     obstacle: Obstacle,

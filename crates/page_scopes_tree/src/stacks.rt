@@ -19,6 +19,7 @@ use page_scopes_laws::Scope;
 use page_sets_lines::Event;
 
 // An act ends the innermost scope.
+#[inline(never)]
 fn end_innermost<Y: Laying, O: PieceOut>(
     scopes: &mut Vec<Scope<Label, Y::Kept>>,
     state: &mut Y,
@@ -41,6 +42,7 @@ fn end_innermost<Y: Laying, O: PieceOut>(
 }
 
 // An act ends this many of the innermost scopes.
+#[inline(always)]
 fn end_scopes<Y: Laying, O: PieceOut>(
     scopes: &mut Vec<Scope<Label, Y::Kept>>,
     state: &mut Y,
@@ -62,6 +64,7 @@ fn end_scopes<Y: Laying, O: PieceOut>(
 }
 
 // A scope opens.
+#[inline(never)]
 fn open_scope<Y: Laying, O: PieceOut>(
     scopes: &mut Vec<Scope<Label, Y::Kept>>,
     state: &mut Y,
@@ -83,6 +86,7 @@ fn open_scope<Y: Laying, O: PieceOut>(
 }
 
 // The act itself, after it ended this many scopes.
+#[inline(always)]
 fn place_act<Y: Laying, O: PieceOut>(
     scopes: &mut Vec<Scope<Label, Y::Kept>>,
     state: &mut Y,
@@ -139,6 +143,7 @@ pub(crate) fn take_act<Y: Laying, O: PieceOut>(
 }
 
 /// An event comes.
+#[inline(always)]
 pub(crate) fn take_coming<Y: Laying, O: PieceOut>(
     scopes: &[Scope<Label, Y::Kept>],
     skips: bool,

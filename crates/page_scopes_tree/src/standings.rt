@@ -59,6 +59,7 @@ fn has_room<B>(remaining: &[Scope<Label, B>]) -> bool
 }
 
 // A scope opens where there is room.
+#[inline(never)]
 fn opened<B>(remaining: &[Scope<Label, B>], label: Label) -> Fate
     requires { length remaining.now ≤ SCOPES }
     ensures { result ≡ standings.opened (labels (reverse remaining.now)) label }
@@ -92,6 +93,7 @@ fn margin_obstacle(number: Option<&[u8]>) -> Obstacle
 }
 
 // What becomes of a closer.
+#[inline(never)]
 fn closer_fate(closer: &Closer<&[u8]>, count: usize) -> Fate
     ensures { result ≡ standings.closer_fate (closer_seen closer.now) count }
 {
@@ -121,6 +123,7 @@ fn is_dropped(request: &Request<&[u8]>) -> bool
 }
 
 // What becomes of a leaf.
+#[inline(always)]
 fn leaf_fate<B>(leaf: &Leaf<&[u8]>, remaining: &[Scope<Label, B>]) -> Fate
     requires { length remaining.now ≤ SCOPES }
     ensures { result ≡ standings.leaf_fate (leaf_seen leaf.now) (labels (reverse remaining.now)) }
@@ -138,6 +141,7 @@ fn leaf_fate<B>(leaf: &Leaf<&[u8]>, remaining: &[Scope<Label, B>]) -> Fate
 }
 
 // What becomes of a deed that ended this many scopes and leaves these.
+#[inline(always)]
 fn deed_fate<B>(deed: &Deed<&[u8]>, count: usize, remaining: &[Scope<Label, B>]) -> Fate
     requires { length remaining.now ≤ SCOPES }
     ensures { result ≡ standings.deed_fate (deed_seen deed.now) count (labels (reverse remaining.now)) }
@@ -152,6 +156,7 @@ fn deed_fate<B>(deed: &Deed<&[u8]>, count: usize, remaining: &[Scope<Label, B>])
 }
 
 /// What becomes of an act that ended this many scopes and leaves these.
+#[inline(always)]
 pub(crate) fn fate_of<B>(
     act: &Act<&Event<&[u8]>>,
     count: usize,
@@ -177,6 +182,7 @@ fn opens_paragraph(opener: &Opener<&[u8]>) -> bool
 }
 
 // Whether the rest of the line is passed over after a deed.
+#[inline(always)]
 fn deed_skips<B>(skips: bool, deed: &Deed<&[u8]>, remaining: &[Scope<Label, B>]) -> bool
     requires { length remaining.now ≤ SCOPES }
     ensures { result ≡ standings.deed_skips skips (deed_seen deed.now) (labels (reverse remaining.now)) }
@@ -189,6 +195,7 @@ fn deed_skips<B>(skips: bool, deed: &Deed<&[u8]>, remaining: &[Scope<Label, B>])
 }
 
 /// Whether the rest of the line is passed over after an act that leaves these scopes.
+#[inline(always)]
 pub(crate) fn skips_after<B>(
     skips: bool,
     act: &Act<&Event<&[u8]>>,
@@ -204,6 +211,7 @@ pub(crate) fn skips_after<B>(
 }
 
 /// Whether an act is passed over.
+#[inline(always)]
 pub(crate) fn is_passed_over(skips: bool, act: &Act<&Event<&[u8]>>) -> bool
     ensures { result ≡ standings.is_passed_over skips (act_seen act.now) }
 {
