@@ -171,6 +171,32 @@ pub(crate) fn fate_of<B>(
     }
 }
 
+// Whether a deed ends no scope and opens none, and stands as a leaf: a word, and the end of a line where the innermost
+// scope is no line scope.
+#[inline(always)]
+fn deed_stands_alone<B>(deed: &Deed<&[u8]>, scopes: &[Scope<Label, B>]) -> bool
+    requires { length scopes.now ≤ SCOPES }
+    ensures { result ≡ standings.deed_stands_alone (deed_seen deed.now) (labels (reverse scopes.now)) }
+{
+    match deed {
+        Deed::Word(_) => true,
+        Deed::End { .. } => !in_line_scope(scopes),
+        _ => false,
+    }
+}
+
+/// Whether an act ends no scope and opens none, and stands as a leaf, as most acts of a page do.
+#[inline(always)]
+pub(crate) fn stands_alone<B>(act: &Act<&Event<&[u8]>>, scopes: &[Scope<Label, B>]) -> bool
+    requires { length scopes.now ≤ SCOPES }
+    ensures { result ≡ standings.stands_alone (act_seen act.now) (labels (reverse scopes.now)) }
+{
+    match act {
+        Act::Event(event) => deed_stands_alone(&event.deed, scopes),
+        Act::PageEnd(_) => false,
+    }
+}
+
 // Whether an opener is of a paragraph.
 fn opens_paragraph(opener: &Opener<&[u8]>) -> bool
     ensures { result ≡ standings.opens_paragraph (opener_seen opener.now) }
