@@ -17,6 +17,7 @@ use Rattle.page_scopes_text.specs.Numbers.{number_notes}
 use Rattle.page_scopes_tree.specs.declared.acts.Act.{Act}
 use Rattle.page_scopes_tree.specs.declared.acts.Act.TheVariants as acts
 use Rattle.page_scopes_words.specs.Words.{at, says}
+use Rattle.page_sets_lines.specs.declared.events.Event.{Event}
 use Rattle.page_sets_lines.specs.declared.events.Deed.{Deed}
 use Rattle.page_sets_lines.specs.declared.events.Deed.TheVariants as deeds
 use Rattle.page_sets_lines.specs.declared.events.Join.TheVariants.{Glued}
@@ -113,6 +114,6 @@ deed_stands place deed c r = deed_outcome place deed c r
 abbrev pub page_ends : Context → Running → Outcome
 page_ends c r = record { items = shown pieces.Break ∷ []; context = c; running = row_ended r }
 
-unfoldable pub stands : Act (List ℕ) → Context → Running → Outcome
+unfoldable pub stands : Act (Event (List ℕ)) → Context → Running → Outcome
 stands (acts.Event event) c r = deed_stands event.place event.deed c r
 stands (acts.PageEnd line) c r = page_ends c r

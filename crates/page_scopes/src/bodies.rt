@@ -15,7 +15,7 @@ use page_scopes_nodes::argument_word;
 use page_scopes_text::give_number;
 use page_scopes_tree::Act;
 use page_scopes_words::report;
-use page_sets_lines::{Closer, Deed, Join, Leaf, Opener};
+use page_sets_lines::{Closer, Deed, Event, Join, Leaf, Opener};
 
 // Whether a deed may begin the body.
 fn deed_begins(deed: &Deed<&[u8]>) -> bool
@@ -44,6 +44,7 @@ fn is_section(deed: &Deed<&[u8]>) -> bool
 }
 
 // Gives the front of the body, which a deed begins.
+#[inline(never)]
 fn give_front<O: PieceOut>(out: &mut O, place: Place, deed: &Deed<&[u8]>, context: &Context)
     ensures { Came O.left out.old
         (bodies.front_items place (deed_seen deed.now) context.now) out.new }
@@ -60,6 +61,7 @@ fn give_front<O: PieceOut>(out: &mut O, place: Place, deed: &Deed<&[u8]>, contex
 }
 
 // Gives the messages of a closer's number.
+#[inline(always)]
 fn report_number<O: PieceOut>(out: &mut O, place: Place, deed: &Deed<&[u8]>)
     ensures { Came O.left out.old (bodies.deed_notes place (deed_seen deed.now)) out.new }
 {
@@ -70,6 +72,7 @@ fn report_number<O: PieceOut>(out: &mut O, place: Place, deed: &Deed<&[u8]>)
 
 /// Gives what comes before what an event ends: the front of the body, and the messages of a closer's number.
 #[tactic(auto, unfolding(crate::specs::Bodies::coming))]
+#[inline(always)]
 pub(crate) fn give_coming<O: PieceOut>(
     out: &mut O,
     place: Place,
@@ -92,6 +95,7 @@ pub(crate) fn give_coming<O: PieceOut>(
 }
 
 // Gives the suffix of a closer.
+#[inline(never)]
 fn give_suffix<O: PieceOut>(
     out: &mut O,
     line: u32,
@@ -121,6 +125,7 @@ fn is_early(leaf: &Leaf<&[u8]>, running: &Running) -> bool
 }
 
 // Gives a deed that opens nothing.
+#[inline(always)]
 fn give_deed_standing<O: PieceOut>(
     out: &mut O,
     place: Place,
@@ -149,9 +154,10 @@ fn give_deed_standing<O: PieceOut>(
 
 /// Gives an act that opens nothing.
 #[tactic(auto, unfolding(crate::specs::Bodies::stands))]
+#[inline(always)]
 pub(crate) fn give_standing<O: PieceOut>(
     out: &mut O,
-    act: &Act<&[u8]>,
+    act: &Act<&Event<&[u8]>>,
     context: &mut Context,
     running: &mut Running,
 )

@@ -71,7 +71,7 @@ impl OpenScopes {
         ensures came { Came O.left out.old (event_items self.old (event_seen event.now)) out.new }
         ensures edge { self.new ≡ event_after self.old (event_seen event.now) }
     {
-        self.stack.apply(*event, out);
+        self.stack.apply(event, out);
     }
 
     /// Ends the page on the line of a number: all scopes end, and the row.

@@ -14,6 +14,7 @@ use page_sets_lines::Deed;
 
 /// Gives a word, a leaf, a line as it is, a line's end, or a message; nothing of what opens or closes.
 #[tactic(auto, unfolding(crate::specs::Deeds::deed_outcome))]
+#[inline(always)]
 pub fn give_deed<O: PieceOut>(
     out: &mut O,
     place: Place,

@@ -94,6 +94,7 @@ fn give_further_tag<O: PieceOut>(out: &mut O, context: &mut Context, running: &m
 
 /// Gives what a leaf gives, in the context of a page's body.
 #[tactic(auto, unfolding(crate::specs::Leaves::leaf_outcome))]
+#[inline(never)]
 pub fn give_leaf<O: PieceOut>(
     out: &mut O,
     place: Place,

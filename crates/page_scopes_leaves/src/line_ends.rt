@@ -16,6 +16,7 @@ fn ends_row(context: &Context, running: &Running) -> bool
 }
 
 /// Ends a line: its row ends with it, where rows are kept.
+#[inline(always)]
 pub fn end_line<O: PieceOut>(out: &mut O, context: &Context, running: &mut Running)
     ensures came { Came O.left out.old (ends.line_end context.now running.old).items out.new }
     ensures running { running.new ≡ (ends.line_end context.now running.old).running }

@@ -174,6 +174,7 @@ fn pass_running(running: &mut Running, phrase: &Phrase<&[u8]>, context: &Context
 }
 
 /// Gives the words of a phrase on a line.
+#[inline(always)]
 pub fn give_phrase<O: PieceOut>(
     out: &mut O,
     line: u32,

@@ -6,6 +6,7 @@ use Rattle.std.proofs.lemmas.List.Sums.{prefix_len-le-length}
 use Rattle.page_core_numbers.specs.Expressions.{expression_of}
 use Rattle.page_core_numbers.specs.declared.scales.Scale.TheVariants.{Basic}
 use Rattle.page_scopes_laws.specs.Nestings.{as_node, as_nothing, IsSound}
+use Rattle.page_sets_lines.specs.declared.events.Event.{Event}
 use Rattle.page_sets_lines.specs.declared.events.Deed.{Deed}
 use Rattle.page_sets_lines.specs.declared.events.Deed.TheVariants as deeds
 use Rattle.page_sets_lines.specs.declared.leaves.Leaf.{Leaf}
@@ -87,7 +88,7 @@ deed-fits (deeds.Raw text) nodes = prefix_len-le-length is_line nodes
 deed-fits (deeds.End fills) nodes = either-fits fills (line_scopes nodes) 0 (length nodes) (prefix_len-le-length is_line nodes) (omega arith)
 deed-fits (deeds.Note kind detail begins_body) nodes = omega arith
 
-pub act-fits : (act : Act (List ℕ)) (nodes : List Label) → act_ends act nodes ≤ length nodes
+pub act-fits : (act : Act (Event (List ℕ))) (nodes : List Label) → act_ends act nodes ≤ length nodes
 act-fits (acts.Event event) nodes = deed-fits event.deed nodes
 act-fits (acts.PageEnd line) nodes = omega arith
 
@@ -156,18 +157,18 @@ deed-room (deeds.Raw text) n remaining h = absurd h
 deed-room (deeds.End fills) n remaining h = absurd h
 deed-room (deeds.Note kind detail begins_body) n remaining h = absurd h
 
-pub act-room : (act : Act (List ℕ)) (n : ℕ) (remaining : List Label) (label : Label) → act_fate act n remaining ≡ fates.Node label → length remaining < SCOPES
+pub act-room : (act : Act (Event (List ℕ))) (n : ℕ) (remaining : List Label) (label : Label) → act_fate act n remaining ≡ fates.Node label → length remaining < SCOPES
 unfolding Opens
 act-room (acts.Event event) n remaining label h = deed-room event.deed n remaining (rw h tt)
 act-room (acts.PageEnd line) n remaining label h = let no : ⊥ = cc in absurd no
 
-node-fate : (act : Act (List ℕ)) (fate : Fate) (label : Label) → standing_by act fate ≡ as_node label → fate ≡ fates.Node label
+node-fate : (act : Act (Event (List ℕ))) (fate : Fate) (label : Label) → standing_by act fate ≡ as_node label → fate ≡ fates.Node label
 node-fate act (fates.Node other) label h = cc
 node-fate act fates.Leaf label h = let no : ⊥ = cc in absurd no
 node-fate act (fates.Refused obstacle) label h = let no : ⊥ = cc in absurd no
 node-fate act fates.Nothing label h = let no : ⊥ = cc in absurd no
 
-placed-room : (test : Bool) (act : Act (List ℕ)) (n : ℕ) (remaining : List Label) (label : Label)
+placed-room : (test : Bool) (act : Act (Event (List ℕ))) (n : ℕ) (remaining : List Label) (label : Label)
     → (if test then as_nothing else standing_by act (act_fate act n remaining)) ≡ as_node label → length remaining < SCOPES
 placed-room true act n remaining label h = let no : ⊥ = cc in absurd no
 placed-room false act n remaining label h = act-room act n remaining label (node-fate act (act_fate act n remaining) label h)

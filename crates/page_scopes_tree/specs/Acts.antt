@@ -8,24 +8,24 @@ use Rattle.page_scopes_tree.specs.declared.acts.Act.{Act}
 use Rattle.page_scopes_tree.specs.declared.acts.Act.TheVariants as acts
 
 -- an act of the program, with what its texts hold
-abbrev pub act_seen : Act (Bor (List ℕ)) → Act (List ℕ)
-act_seen (acts.Event event) = acts.Event (event_seen event)
+abbrev pub act_seen : Act (Bor (Event (Bor (List ℕ)))) → Act (Event (List ℕ))
+act_seen (acts.Event event) = acts.Event (event_seen event.now)
 act_seen (acts.PageEnd line) = acts.PageEnd line
 
 -- the page's end stands at the first column of its line
-abbrev pub act_place : Act (List ℕ) → Place
+abbrev pub act_place : Act (Event (List ℕ)) → Place
 act_place (acts.Event event) = event.place
 act_place (acts.PageEnd line) = record { line = line; column = 1 }
 
 -- whether an act is taken where events are taken of which something holds
-abbrev pub TakesAct : (Event (List ℕ) → Type 0) → Act (List ℕ) → Type 0
+abbrev pub TakesAct : (Event (List ℕ) → Type 0) → Act (Event (List ℕ)) → Type 0
 TakesAct takes (acts.Event event) = takes event
 TakesAct takes (acts.PageEnd line) = Unit {0}
 
 -- An event comes first: it may begin the body, and its closer's number is read. Then it does what it does.
 pub data Step : Type 0 where
   comes : Event (List ℕ) → Step
-  does : Act (List ℕ) → Step
+  does : Act (Event (List ℕ)) → Step
 
 abbrev pub steps_of : Event (List ℕ) → List Step
 steps_of event = comes event ∷ does (acts.Event event) ∷ []

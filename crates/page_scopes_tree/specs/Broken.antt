@@ -6,6 +6,7 @@ use Rattle.page_core_base.specs.declared.note_kinds.NoteKind.{NoteKind}
 use Rattle.page_core_base.specs.declared.note_kinds.NoteKind.TheVariants as kinds
 use Rattle.page_core_base.specs.declared.places.Place.{Place}
 use Rattle.page_sets_lines.specs.MacroNames.{link_closer_name, line_opener_name}
+use Rattle.page_sets_lines.specs.declared.events.Event.{Event}
 use Rattle.page_sets_lines.specs.declared.events.Deed.{Deed}
 use Rattle.page_sets_lines.specs.declared.events.Deed.TheVariants as deeds
 use Rattle.page_sets_lines.specs.declared.leaves.Leaf.{Leaf}
@@ -67,7 +68,7 @@ abbrev pub page_end_broken : Label → Option NoteKind
 page_end_broken (labels.Explicit explicit) = Some kinds.MissingEnd
 page_end_broken _ = None
 
-abbrev pub broken : Act (List ℕ) → Label → Option NoteKind
+abbrev pub broken : Act (Event (List ℕ)) → Label → Option NoteKind
 broken (acts.Event event) label = deed_broken event.deed label
 broken (acts.PageEnd line) label = page_end_broken label
 
@@ -87,7 +88,7 @@ note_if None place detail = []
 note_if (Some kind) place detail = says kind place detail ∷ []
 
 -- the message of a scope that an act ends
-abbrev pub broken_notes : Act (List ℕ) → Label → List Item
+abbrev pub broken_notes : Act (Event (List ℕ)) → Label → List Item
 broken_notes act label = note_if (broken act label) (act_place act) (label_name label)
 
 -- ---- refused events
@@ -102,11 +103,11 @@ abbrev pub deed_closer_name : Deed (List ℕ) → List ℕ
 deed_closer_name (deeds.Close closer) = closer_name closer
 deed_closer_name _ = []
 
-abbrev pub act_closer_name : Act (List ℕ) → List ℕ
+abbrev pub act_closer_name : Act (Event (List ℕ)) → List ℕ
 act_closer_name (acts.Event event) = deed_closer_name event.deed
 act_closer_name (acts.PageEnd line) = []
 
-abbrev pub obstacle_notes : Obstacle → Act (List ℕ) → List Item
+abbrev pub obstacle_notes : Obstacle → Act (Event (List ℕ)) → List Item
 obstacle_notes Scopes act = says kinds.Limit (act_place act) (codes "SCOPES") ∷ []
 obstacle_notes NotOpen act = says kinds.NotOpen (act_place act) (act_closer_name act) ∷ []
 obstacle_notes FewerMargins act = says kinds.FewerRs (act_place act) [] ∷ []

@@ -4,6 +4,7 @@ use Rattle.std.specs.Option.{option_map}
 use Rattle.std.specs.List.{prefix_len}
 use Rattle.page_core_numbers.specs.Expressions.{expression_of}
 use Rattle.page_core_numbers.specs.declared.scales.Scale.TheVariants.{Basic}
+use Rattle.page_sets_lines.specs.declared.events.Event.{Event}
 use Rattle.page_sets_lines.specs.declared.events.Deed.{Deed}
 use Rattle.page_sets_lines.specs.declared.events.Deed.TheVariants as deeds
 use Rattle.page_sets_lines.specs.declared.leaves.Leaf.{Leaf}
@@ -96,6 +97,6 @@ deed_ends (deeds.End fills) nodes = if fills then line_scopes nodes else 0
 deed_ends (deeds.Note kind detail begins_body) nodes = 0
 
 -- the page's end ends all
-abbrev pub act_ends : Act (List ℕ) → List Label → ℕ
+abbrev pub act_ends : Act (Event (List ℕ)) → List Label → ℕ
 act_ends (acts.Event event) nodes = deed_ends event.deed nodes
 act_ends (acts.PageEnd line) nodes = length nodes

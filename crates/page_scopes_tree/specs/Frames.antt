@@ -21,17 +21,17 @@ pub record Tables (S B : Type 0) : Type 0 where
   pub begin_state : Label → Event (List ℕ) → S → S
   pub coming_items : Event (List ℕ) → S → List Item
   pub coming_state : Event (List ℕ) → S → S
-  pub leaf_items : Act (List ℕ) → S → List Item
-  pub leaf_state : Act (List ℕ) → S → S
+  pub leaf_items : Act (Event (List ℕ)) → S → List Item
+  pub leaf_state : Act (Event (List ℕ)) → S → S
   pub end_items : Label → B → Place → S → List Item
   pub end_state : Label → B → Place → S → S
 
-abbrev pub act_of : Step → Act (List ℕ)
+abbrev pub act_of : Step → Act (Event (List ℕ))
 act_of (comes event) = acts.Event event
 act_of (does act) = act
 
 -- the event of an act; the page's end opens nothing
-abbrev pub event_of : Act (List ℕ) → Event (List ℕ)
+abbrev pub event_of : Act (Event (List ℕ)) → Event (List ℕ)
 event_of (acts.Event event) = event
 event_of (acts.PageEnd line) = record { place = record { line = line; column = 1 }; deed = End false }
 
@@ -46,7 +46,7 @@ fact_state tables (standing act) s = tables.leaf_state act s
 fact_state tables (refused obstacle act) s = s
 
 -- what the end of a scope gives: its message, and then what the layout gives
-abbrev pub ending_items : {S B : Type 0} → Tables S B → Label → B → Act (List ℕ) → S → List Item
+abbrev pub ending_items : {S B : Type 0} → Tables S B → Label → B → Act (Event (List ℕ)) → S → List Item
 ending_items tables label before act s = broken_notes act label ++ tables.end_items label before (act_place act) s
 
 abbrev pub framed : {S B : Type 0} → Tables S B → Layout Label Step Fact S B Item

@@ -14,10 +14,10 @@ use Rattle.page_scopes_tree.specs.declared.standings.Obstacle.{Obstacle}
 -- what a leaf is: an event that comes, an act that opens and closes nothing, or one that is refused
 pub data Fact : Type 0 where
   coming : Event (List ℕ) → Fact
-  standing : Act (List ℕ) → Fact
-  refused : Obstacle → Act (List ℕ) → Fact
+  standing : Act (Event (List ℕ)) → Fact
+  refused : Obstacle → Act (Event (List ℕ)) → Fact
 
-abbrev pub standing_by : Act (List ℕ) → Fate → Standing Label Fact
+abbrev pub standing_by : Act (Event (List ℕ)) → Fate → Standing Label Fact
 standing_by act (fates.Node label) = as_node label
 standing_by act fates.Leaf = as_leaf (standing act)
 standing_by act (fates.Refused obstacle) = as_leaf (refused obstacle act)

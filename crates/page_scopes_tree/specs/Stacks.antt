@@ -4,6 +4,7 @@ use Rattle.std.specs.Global.{Vec}
 use Rattle.page_scopes_laws.specs.Layouts.{Edge, labels}
 use Rattle.page_scopes_laws.specs.Nestings.{Standing}
 use Rattle.page_scopes_laws.specs.declared.Scope.{Scope}
+use Rattle.page_sets_lines.specs.declared.events.Event.{Event}
 use Rattle.page_scopes_tree.specs.Nests.{Fact, standing_by}
 use Rattle.page_scopes_tree.specs.Standings.{act_fate}
 use Rattle.page_scopes_tree.specs.declared.acts.Act.{Act}
@@ -18,5 +19,5 @@ abbrev pub stack_edge : {S B : Type 0} → Bool → Vec (Scope Label B) → S �
 stack_edge skips scopes state = record { mode = skips; scopes = reverse scopes.items; state = state }
 
 -- what becomes of an act that ended this many scopes and leaves these
-abbrev pub stack_standing : {B : Type 0} → Act (List ℕ) → ℕ → Vec (Scope Label B) → Standing Label Fact
+abbrev pub stack_standing : {B : Type 0} → Act (Event (List ℕ)) → ℕ → Vec (Scope Label B) → Standing Label Fact
 stack_standing act count scopes = standing_by act (act_fate act count (labels (reverse scopes.items)))

@@ -1,5 +1,6 @@
 -- What becomes of an event itself, once it ended what it ends. Source: man(7), "MACRO OVERVIEW".
 use Rattle.std.specs.Prelude.{ℕ, zero, suc, Bool, true, false, ◌||◌, ◌&&◌, not, nat_lt, List, [], ◌∷◌, length, Option, None, Some, if◌then◌else◌}
+use Rattle.page_sets_lines.specs.declared.events.Event.{Event}
 use Rattle.page_sets_lines.specs.declared.events.Deed.{Deed}
 use Rattle.page_sets_lines.specs.declared.events.Deed.TheVariants as deeds
 use Rattle.page_sets_lines.specs.declared.leaves.Leaf.{Leaf}
@@ -87,9 +88,19 @@ deed_fate (deeds.Raw text) n remaining = fates.Leaf
 deed_fate (deeds.End fills) n remaining = fates.Leaf
 deed_fate (deeds.Note kind detail begins_body) n remaining = fates.Leaf
 
-abbrev pub act_fate : Act (List ℕ) → ℕ → List Label → Fate
+abbrev pub act_fate : Act (Event (List ℕ)) → ℕ → List Label → Fate
 act_fate (acts.Event event) n remaining = deed_fate event.deed n remaining
 act_fate (acts.PageEnd line) n remaining = fates.Leaf
+
+-- A word, and the end of a line where the innermost scope is no line scope: they end no scope and open none, and stand as leaves.
+abbrev pub deed_stands_alone : Deed (List ℕ) → List Label → Bool
+deed_stands_alone (deeds.Word word) nodes = true
+deed_stands_alone (deeds.End fills) nodes = not (in_line_scope nodes)
+deed_stands_alone _ nodes = false
+
+abbrev pub stands_alone : Act (Event (List ℕ)) → List Label → Bool
+stands_alone (acts.Event event) nodes = deed_stands_alone event.deed nodes
+stands_alone (acts.PageEnd line) nodes = false
 
 -- ---- what is passed over
 
@@ -107,7 +118,7 @@ deed_skips skips (deeds.End fills) remaining = false
 deed_skips skips (deeds.Open opener) remaining = skips || (opens_paragraph opener && not (has_room remaining))
 deed_skips skips _ remaining = skips
 
-abbrev pub act_skips : Bool → Act (List ℕ) → List Label → Bool
+abbrev pub act_skips : Bool → Act (Event (List ℕ)) → List Label → Bool
 act_skips skips (acts.Event event) remaining = deed_skips skips event.deed remaining
 act_skips skips (acts.PageEnd line) remaining = skips
 
@@ -116,6 +127,6 @@ abbrev pub ends_line : Deed (List ℕ) → Bool
 ends_line (deeds.End fills) = true
 ends_line _ = false
 
-abbrev pub is_passed_over : Bool → Act (List ℕ) → Bool
+abbrev pub is_passed_over : Bool → Act (Event (List ℕ)) → Bool
 is_passed_over skips (acts.Event event) = skips && not (ends_line event.deed)
 is_passed_over skips (acts.PageEnd line) = false

@@ -9,33 +9,33 @@ use page_core_base::Place;
 use page_sets_lines::{Deed, Event};
 use std::alloc::AllocError;
 
-/// What happens to the open scopes of a page; `W` is a text.
-pub enum Act<W> {
+/// What happens to the open scopes of a page; `E` is an event.
+pub enum Act<E> {
     /// An event of a line.
-    Event(Event<W>),
+    Event(E),
     /// The end of the page, on the line of this number.
     PageEnd(u32),
 }
 
-impl<W: Copy> Copy for Act<W> {}
+impl<E: Copy> Copy for Act<E> {}
 
-impl<W: Copy> Clone for Act<W> {
+impl<E: Copy> Clone for Act<E> {
     ghost is_clone = { λ x y. y ≡ x };
 
     ghost is_infallible = { λ _. Unit {0} };
 
-    fn clone(&self) -> Result<Act<W>, AllocError> {
+    fn clone(&self) -> Result<Act<E>, AllocError> {
         Ok(*self)
     }
 }
 
-impl<'a> Act<&'a [u8]> {
+impl<'a> Act<&Event<&'a [u8]>> {
     /// Its event; the end of the page is seen as the end of a line that fills nothing.
     pub(crate) fn event(&self) -> Event<&'a [u8]>
         ensures { event_seen result ≡ event_of (act_seen self.now) }
     {
         match *self {
-            Act::Event(event) => event,
+            Act::Event(event) => *event,
             Act::PageEnd(_) => Event {
                 place: self.place(),
                 deed: Deed::End { fills: false },

@@ -9,7 +9,7 @@ ghost use Rattle.page_sets_lines.specs.Events.{closer_seen, deed_seen, opener_se
 use crate::standings::Obstacle;
 use crate::{Act, Explicit, Label};
 use page_core_base::{Note, NoteKind, PieceOut, Place};
-use page_sets_lines::{Closer, Deed, Leaf, Opener};
+use page_sets_lines::{Closer, Deed, Event, Leaf, Opener};
 
 // Gives a message about a place.
 fn report<O: PieceOut>(out: &mut O, kind: NoteKind, place: Place, detail: &[u8])
@@ -74,7 +74,7 @@ fn deed_broken(deed: &Deed<&[u8]>, label: Label) -> Option<NoteKind>
 }
 
 // The message of a scope that an act ends.
-fn broken(act: &Act<&[u8]>, label: Label) -> Option<NoteKind>
+fn broken(act: &Act<&Event<&[u8]>>, label: Label) -> Option<NoteKind>
     ensures { result ≡ broken.broken (act_seen act.now) label }
 {
     match act {
@@ -87,7 +87,7 @@ fn broken(act: &Act<&[u8]>, label: Label) -> Option<NoteKind>
 }
 
 /// Gives the message of a scope that an act ends, if there is one.
-pub(crate) fn report_broken<O: PieceOut>(out: &mut O, act: &Act<&[u8]>, label: Label)
+pub(crate) fn report_broken<O: PieceOut>(out: &mut O, act: &Act<&Event<&[u8]>>, label: Label)
     ensures { Came O.left out.old (broken.broken_notes (act_seen act.now) label) out.new }
 {
     if let Some(kind) = broken(act, label) {
@@ -108,7 +108,7 @@ fn closer_name(closer: &Closer<&[u8]>) -> &'static str
 }
 
 // The name of the closer that an act is.
-fn act_closer_name(act: &Act<&[u8]>) -> &'static str
+fn act_closer_name(act: &Act<&Event<&[u8]>>) -> &'static str
     ensures { result.now ≡ broken.act_closer_name (act_seen act.now) }
 {
     match act {
@@ -121,7 +121,12 @@ fn act_closer_name(act: &Act<&[u8]>) -> &'static str
 }
 
 /// Gives the message of an act that is refused.
-pub(crate) fn report_obstacle<O: PieceOut>(out: &mut O, obstacle: Obstacle, act: &Act<&[u8]>)
+#[inline(never)]
+pub(crate) fn report_obstacle<O: PieceOut>(
+    out: &mut O,
+    obstacle: Obstacle,
+    act: &Act<&Event<&[u8]>>,
+)
     ensures { Came O.left out.old (broken.obstacle_notes obstacle (act_seen act.now)) out.new }
 {
     let place = act.place();

@@ -12,7 +12,7 @@ use crate::numbers::basic_number;
 use crate::runs::{Run, run_len};
 use crate::{Act, Explicit, Label, SCOPES};
 use page_scopes_laws::Scope;
-use page_sets_lines::{Closer, Deed, Leaf, Opener};
+use page_sets_lines::{Closer, Deed, Event, Leaf, Opener};
 
 // All scopes up to one that was found and with it, and none where it does not come before an end.
 fn up_to(found: usize, end: usize) -> usize
@@ -85,6 +85,7 @@ fn margin_ends<B>(number: Option<&[u8]>, scopes: &[Scope<Label, B>]) -> usize
 }
 
 // What an opener ends.
+#[inline(never)]
 fn opener_ends<B>(opener: &Opener<&[u8]>, scopes: &[Scope<Label, B>]) -> usize
     requires { length scopes.now ≤ SCOPES }
     ensures { result ≡ ends.opener_ends (opener_seen opener.now) (labels (reverse scopes.now)) }
@@ -101,6 +102,7 @@ fn opener_ends<B>(opener: &Opener<&[u8]>, scopes: &[Scope<Label, B>]) -> usize
 }
 
 // What a closer ends.
+#[inline(never)]
 fn closer_ends<B>(closer: &Closer<&[u8]>, scopes: &[Scope<Label, B>]) -> usize
     requires { length scopes.now ≤ SCOPES }
     ensures { result ≡ ends.closer_ends (closer_seen closer.now) (labels (reverse scopes.now)) }
@@ -114,6 +116,7 @@ fn closer_ends<B>(closer: &Closer<&[u8]>, scopes: &[Scope<Label, B>]) -> usize
 }
 
 // What an event ends.
+#[inline(always)]
 fn deed_ends<B>(deed: &Deed<&[u8]>, scopes: &[Scope<Label, B>]) -> usize
     requires { length scopes.now ≤ SCOPES }
     ensures { result ≡ ends.deed_ends (deed_seen deed.now) (labels (reverse scopes.now)) }
@@ -129,7 +132,8 @@ fn deed_ends<B>(deed: &Deed<&[u8]>, scopes: &[Scope<Label, B>]) -> usize
 }
 
 /// How many of the innermost scopes an act ends.
-pub(crate) fn count_ended<B>(act: &Act<&[u8]>, scopes: &[Scope<Label, B>]) -> usize
+#[inline(always)]
+pub(crate) fn count_ended<B>(act: &Act<&Event<&[u8]>>, scopes: &[Scope<Label, B>]) -> usize
     requires { length scopes.now ≤ SCOPES }
     ensures { result ≡ ends.act_ends (act_seen act.now) (labels (reverse scopes.now)) }
 {

@@ -39,7 +39,7 @@ pub trait Laying: Drop {
         ensures state { self.new ≡ tables.coming_state (event_seen event.now) self.old };
 
     /// An act stands that opens and closes nothing itself.
-    fn leaf<O: PieceOut>(&mut self, act: &Act<&[u8]>, out: &mut O)
+    fn leaf<O: PieceOut>(&mut self, act: &Act<&Event<&[u8]>>, out: &mut O)
         requires { TakesAct Takes (act_seen act.now) }
         ensures came { Came O.left out.old (tables.leaf_items (act_seen act.now) self.old) out.new }
         ensures state { self.new ≡ tables.leaf_state (act_seen act.now) self.old };

@@ -39,6 +39,7 @@ impl Run {
 }
 
 /// How many of the innermost scopes a run goes over.
+#[inline(always)]
 pub(crate) fn run_len<B>(run: Run, scopes: &[Scope<Label, B>]) -> usize
     ensures value { result ≡ prefix_len (run_takes run) (labels (reverse scopes.now)) }
     ensures within { result ≤ length scopes.now }

@@ -69,17 +69,17 @@ impl<Y: Laying> ScopeStack<Y> {
     }
 
     /// Takes an event, and gives what it settles.
-    pub fn apply<O: PieceOut>(&mut self, event: Event<&[u8]>, out: &mut O)
-        requires { Y.Takes (event_seen event) }
+    pub fn apply<O: PieceOut>(&mut self, event: &Event<&[u8]>, out: &mut O)
+        requires { Y.Takes (event_seen event.now) }
         ensures came { Came O.left out.old
-            (events_items Y.tables self.old (event_seen event.entry ∷ [])) out.new }
-        ensures edge { self.new ≡ events_edge Y.tables self.old (event_seen event.entry ∷ []) }
+            (events_items Y.tables self.old (event_seen event.now ∷ [])) out.new }
+        ensures edge { self.new ≡ events_edge Y.tables self.old (event_seen event.now ∷ []) }
     {
         take_coming(
             self.scopes.as_slice(),
             self.skips,
             &mut self.state,
-            &event,
+            event,
             out,
         );
         take_act(

@@ -1,28 +1,30 @@
 //! A stack of open scopes: each act ends the innermost of them, and opens one more or stands as a leaf (man(7)).
 
-ghost use Rattle.std.specs.Prelude.{◌≡◌, ◌≤◌, ◌<◌, ◌+◌, Bool, List, [], ◌∷◌, length, drop, reverse, vec_capacity, vec_len};
+ghost use Rattle.std.specs.Prelude.{◌≡◌, ◌≤◌, ◌<◌, ◌+◌, Bool, true, List, [], ◌∷◌, length, drop, reverse, vec_capacity, vec_len};
 ghost use Rattle.page_core_base.specs.Latches.{Came};
-ghost use Rattle.page_scopes_laws.specs.Layouts.{Edge};
+ghost use Rattle.page_scopes_laws.specs.Layouts.{Edge, labels};
 ghost use Rattle.page_scopes_laws.specs.Machines.{ended_items, ended_state, placed_items, placed_scopes, placed_state, step, step_items};
 ghost use Rattle.page_scopes_tree.specs.Acts.{TakesAct, act_seen, comes, does};
 ghost use Rattle.page_scopes_tree.specs.Frames.{framed};
 ghost use Rattle.page_scopes_tree.specs.Nests.{scopes_nesting};
+ghost use Rattle.page_scopes_tree.specs.Standings.{stands_alone};
 ghost use Rattle.page_scopes_tree.specs.Stacks.{Keeps, stack_edge, stack_standing};
 ghost use Rattle.page_sets_lines.specs.Events.{event_seen};
 
 use crate::broken::{report_broken, report_obstacle};
 use crate::ends::count_ended;
-use crate::standings::{Fate, fate_of, is_passed_over, skips_after};
+use crate::standings::{Fate, fate_of, is_passed_over, skips_after, stands_alone};
 use crate::{Act, Label, Laying, SCOPES};
 use page_core_base::PieceOut;
 use page_scopes_laws::Scope;
 use page_sets_lines::Event;
 
 // An act ends the innermost scope.
+#[inline(never)]
 fn end_innermost<Y: Laying, O: PieceOut>(
     scopes: &mut Vec<Scope<Label, Y::Kept>>,
     state: &mut Y,
-    act: &Act<&[u8]>,
+    act: &Act<&Event<&[u8]>>,
     out: &mut O,
 )
     requires { 0 < vec_len scopes.old }
@@ -41,11 +43,12 @@ fn end_innermost<Y: Laying, O: PieceOut>(
 }
 
 // An act ends this many of the innermost scopes.
+#[inline(always)]
 fn end_scopes<Y: Laying, O: PieceOut>(
     scopes: &mut Vec<Scope<Label, Y::Kept>>,
     state: &mut Y,
     count: usize,
-    act: &Act<&[u8]>,
+    act: &Act<&Event<&[u8]>>,
     out: &mut O,
 )
     requires { count ≤ vec_len scopes.old }
@@ -62,6 +65,7 @@ fn end_scopes<Y: Laying, O: PieceOut>(
 }
 
 // A scope opens.
+#[inline(never)]
 fn open_scope<Y: Laying, O: PieceOut>(
     scopes: &mut Vec<Scope<Label, Y::Kept>>,
     state: &mut Y,
@@ -83,11 +87,12 @@ fn open_scope<Y: Laying, O: PieceOut>(
 }
 
 // The act itself, after it ended this many scopes.
+#[inline(always)]
 fn place_act<Y: Laying, O: PieceOut>(
     scopes: &mut Vec<Scope<Label, Y::Kept>>,
     state: &mut Y,
     count: usize,
-    act: &Act<&[u8]>,
+    act: &Act<&Event<&[u8]>>,
     out: &mut O,
 )
     requires depth { vec_len scopes.old ≤ SCOPES }
@@ -110,12 +115,13 @@ fn place_act<Y: Laying, O: PieceOut>(
     }
 }
 
-/// An act ends what it ends, and then opens a scope or stands as a leaf.
-pub(crate) fn take_act<Y: Laying, O: PieceOut>(
+// An act ends what it ends, and then opens a scope or stands as a leaf.
+#[inline(never)]
+fn take_nesting<Y: Laying, O: PieceOut>(
     scopes: &mut Vec<Scope<Label, Y::Kept>>,
     skips: &mut bool,
     state: &mut Y,
-    act: &Act<&[u8]>,
+    act: &Act<&Event<&[u8]>>,
     out: &mut O,
 )
     requires depth { vec_len scopes.old ≤ SCOPES }
@@ -138,7 +144,61 @@ pub(crate) fn take_act<Y: Laying, O: PieceOut>(
     place_act(scopes, state, count, act, out);
 }
 
+// An act that stands alone, unless it is passed over.
+#[inline(always)]
+fn take_alone<Y: Laying, O: PieceOut>(
+    scopes: &[Scope<Label, Y::Kept>],
+    skips: &mut bool,
+    state: &mut Y,
+    act: &Act<&Event<&[u8]>>,
+    out: &mut O,
+)
+    requires depth { length scopes.now ≤ SCOPES }
+    requires takes { TakesAct Y.Takes (act_seen act.now) }
+    requires alone { stands_alone (act_seen act.now) (labels (reverse scopes.now)) ≡ true }
+    ensures came { Came O.left out.old (step_items scopes_nesting (framed Y.tables)
+        (record { mode = skips.old; scopes = reverse scopes.now; state = state.old })
+        (does (act_seen act.now))) out.new }
+    ensures edge { record { mode = skips.new; scopes = reverse scopes.now; state = state.new }
+        ≡ step scopes_nesting (framed Y.tables)
+        (record { mode = skips.old; scopes = reverse scopes.now; state = state.old })
+        (does (act_seen act.now)) }
+{
+    if !is_passed_over(*skips, act) {
+        *skips = skips_after(*skips, act, scopes);
+        state.leaf(act, out);
+    }
+}
+
+/// An act ends what it ends, and then opens a scope or stands as a leaf.
+#[inline(always)]
+pub(crate) fn take_act<Y: Laying, O: PieceOut>(
+    scopes: &mut Vec<Scope<Label, Y::Kept>>,
+    skips: &mut bool,
+    state: &mut Y,
+    act: &Act<&Event<&[u8]>>,
+    out: &mut O,
+)
+    requires depth { vec_len scopes.old ≤ SCOPES }
+    requires reserved { SCOPES ≤ vec_capacity scopes.old }
+    requires takes { TakesAct Y.Takes (act_seen act.now) }
+    ensures came { Came O.left out.old
+        (step_items scopes_nesting (framed Y.tables) (stack_edge skips.old scopes.old state.old)
+        (does (act_seen act.now))) out.new }
+    ensures edge { stack_edge skips.new scopes.new state.new
+        ≡ step scopes_nesting (framed Y.tables) (stack_edge skips.old scopes.old state.old)
+        (does (act_seen act.now)) }
+    ensures kept { vec_capacity scopes.new ≡ vec_capacity scopes.old }
+{
+    if stands_alone(act, scopes.as_slice()) {
+        take_alone(scopes.as_slice(), skips, state, act, out);
+    } else {
+        take_nesting(scopes, skips, state, act, out);
+    }
+}
+
 /// An event comes.
+#[inline(always)]
 pub(crate) fn take_coming<Y: Laying, O: PieceOut>(
     scopes: &[Scope<Label, Y::Kept>],
     skips: bool,

@@ -8,7 +8,7 @@ ghost use Rattle.page_sets_lines.specs.Events.{closer_seen, deed_seen, leaf_seen
 
 use crate::{Act, Explicit, Label, SCOPES};
 use page_scopes_laws::Scope;
-use page_sets_lines::{Closer, Deed, Leaf, Opener, Request};
+use page_sets_lines::{Closer, Deed, Event, Leaf, Opener, Request};
 
 /// Why an event is refused.
 #[derive(Clone, Copy, PartialEq, Eq)]
@@ -59,6 +59,7 @@ fn has_room<B>(remaining: &[Scope<Label, B>]) -> bool
 }
 
 // A scope opens where there is room.
+#[inline(never)]
 fn opened<B>(remaining: &[Scope<Label, B>], label: Label) -> Fate
     requires { length remaining.now ≤ SCOPES }
     ensures { result ≡ standings.opened (labels (reverse remaining.now)) label }
@@ -92,6 +93,7 @@ fn margin_obstacle(number: Option<&[u8]>) -> Obstacle
 }
 
 // What becomes of a closer.
+#[inline(never)]
 fn closer_fate(closer: &Closer<&[u8]>, count: usize) -> Fate
     ensures { result ≡ standings.closer_fate (closer_seen closer.now) count }
 {
@@ -121,6 +123,7 @@ fn is_dropped(request: &Request<&[u8]>) -> bool
 }
 
 // What becomes of a leaf.
+#[inline(always)]
 fn leaf_fate<B>(leaf: &Leaf<&[u8]>, remaining: &[Scope<Label, B>]) -> Fate
     requires { length remaining.now ≤ SCOPES }
     ensures { result ≡ standings.leaf_fate (leaf_seen leaf.now) (labels (reverse remaining.now)) }
@@ -138,6 +141,7 @@ fn leaf_fate<B>(leaf: &Leaf<&[u8]>, remaining: &[Scope<Label, B>]) -> Fate
 }
 
 // What becomes of a deed that ended this many scopes and leaves these.
+#[inline(always)]
 fn deed_fate<B>(deed: &Deed<&[u8]>, count: usize, remaining: &[Scope<Label, B>]) -> Fate
     requires { length remaining.now ≤ SCOPES }
     ensures { result ≡ standings.deed_fate (deed_seen deed.now) count (labels (reverse remaining.now)) }
@@ -152,13 +156,44 @@ fn deed_fate<B>(deed: &Deed<&[u8]>, count: usize, remaining: &[Scope<Label, B>])
 }
 
 /// What becomes of an act that ended this many scopes and leaves these.
-pub(crate) fn fate_of<B>(act: &Act<&[u8]>, count: usize, remaining: &[Scope<Label, B>]) -> Fate
+#[inline(always)]
+pub(crate) fn fate_of<B>(
+    act: &Act<&Event<&[u8]>>,
+    count: usize,
+    remaining: &[Scope<Label, B>],
+) -> Fate
     requires { length remaining.now ≤ SCOPES }
     ensures { result ≡ standings.act_fate (act_seen act.now) count (labels (reverse remaining.now)) }
 {
     match act {
         Act::Event(event) => deed_fate(&event.deed, count, remaining),
         Act::PageEnd(_) => Fate::Leaf,
+    }
+}
+
+// Whether a deed ends no scope and opens none, and stands as a leaf: a word, and the end of a line where the innermost
+// scope is no line scope.
+#[inline(always)]
+fn deed_stands_alone<B>(deed: &Deed<&[u8]>, scopes: &[Scope<Label, B>]) -> bool
+    requires { length scopes.now ≤ SCOPES }
+    ensures { result ≡ standings.deed_stands_alone (deed_seen deed.now) (labels (reverse scopes.now)) }
+{
+    match deed {
+        Deed::Word(_) => true,
+        Deed::End { .. } => !in_line_scope(scopes),
+        _ => false,
+    }
+}
+
+/// Whether an act ends no scope and opens none, and stands as a leaf, as most acts of a page do.
+#[inline(always)]
+pub(crate) fn stands_alone<B>(act: &Act<&Event<&[u8]>>, scopes: &[Scope<Label, B>]) -> bool
+    requires { length scopes.now ≤ SCOPES }
+    ensures { result ≡ standings.stands_alone (act_seen act.now) (labels (reverse scopes.now)) }
+{
+    match act {
+        Act::Event(event) => deed_stands_alone(&event.deed, scopes),
+        Act::PageEnd(_) => false,
     }
 }
 
@@ -173,6 +208,7 @@ fn opens_paragraph(opener: &Opener<&[u8]>) -> bool
 }
 
 // Whether the rest of the line is passed over after a deed.
+#[inline(always)]
 fn deed_skips<B>(skips: bool, deed: &Deed<&[u8]>, remaining: &[Scope<Label, B>]) -> bool
     requires { length remaining.now ≤ SCOPES }
     ensures { result ≡ standings.deed_skips skips (deed_seen deed.now) (labels (reverse remaining.now)) }
@@ -185,7 +221,12 @@ fn deed_skips<B>(skips: bool, deed: &Deed<&[u8]>, remaining: &[Scope<Label, B>])
 }
 
 /// Whether the rest of the line is passed over after an act that leaves these scopes.
-pub(crate) fn skips_after<B>(skips: bool, act: &Act<&[u8]>, remaining: &[Scope<Label, B>]) -> bool
+#[inline(always)]
+pub(crate) fn skips_after<B>(
+    skips: bool,
+    act: &Act<&Event<&[u8]>>,
+    remaining: &[Scope<Label, B>],
+) -> bool
     requires { length remaining.now ≤ SCOPES }
     ensures { result ≡ standings.act_skips skips (act_seen act.now) (labels (reverse remaining.now)) }
 {
@@ -196,7 +237,8 @@ pub(crate) fn skips_after<B>(skips: bool, act: &Act<&[u8]>, remaining: &[Scope<L
 }
 
 /// Whether an act is passed over.
-pub(crate) fn is_passed_over(skips: bool, act: &Act<&[u8]>) -> bool
+#[inline(always)]
+pub(crate) fn is_passed_over(skips: bool, act: &Act<&Event<&[u8]>>) -> bool
     ensures { result ≡ standings.is_passed_over skips (act_seen act.now) }
 {
     match act {

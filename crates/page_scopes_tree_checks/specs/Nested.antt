@@ -4,6 +4,7 @@ use Rattle.page_core_base.specs.Pieces.{Item, shown}
 use Rattle.page_core_base.specs.declared.cells.Font.TheVariants.{R}
 use Rattle.page_core_base.specs.declared.pieces.Piece.TheVariants.{Text, Break, Indent}
 use Rattle.page_core_base.specs.declared.places.Place.{Place}
+use Rattle.page_sets_lines.specs.declared.events.Event.{Event}
 use Rattle.page_sets_lines.specs.declared.events.Deed.{Deed}
 use Rattle.page_sets_lines.specs.declared.events.Deed.TheVariants as deeds
 use Rattle.page_sets_lines.specs.declared.leaves.Leaf.{Leaf}
@@ -27,7 +28,7 @@ deed_shown (deeds.Word word) place = shown (Text word.arg.text R place) ∷ []
 deed_shown (deeds.Leaf leaf) place = leaf_shown leaf
 deed_shown _ place = []
 
-abbrev pub act_shown : Act (List ℕ) → List Item
+abbrev pub act_shown : Act (Event (List ℕ)) → List Item
 act_shown (acts.Event event) = deed_shown event.deed event.place
 act_shown (acts.PageEnd line) = []
 

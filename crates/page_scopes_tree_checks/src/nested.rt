@@ -34,7 +34,7 @@ impl Laying for Nested {
 
     fn come<O: PieceOut>(&mut self, _event: &Event<&[u8]>, _out: &mut O) {}
 
-    fn leaf<O: PieceOut>(&mut self, act: &Act<&[u8]>, out: &mut O) {
+    fn leaf<O: PieceOut>(&mut self, act: &Act<&Event<&[u8]>>, out: &mut O) {
         if let Act::Event(event) = act {
             match event.deed {
                 Deed::Word(word) => out.give(Piece::Text {

@@ -133,7 +133,7 @@ fn apply_letter(scopes: &mut ScopeStack<Nested>, out: &mut Levels, letter: u8) {
         place: Place { line: 1, column: 2 },
         deed: deed(letter),
     };
-    scopes.apply(event, out);
+    scopes.apply(&event, out);
 }
 
 fn apply_letters(scopes: &mut ScopeStack<Nested>, out: &mut Levels, script: &str) {

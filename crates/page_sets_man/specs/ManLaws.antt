@@ -46,10 +46,12 @@ use Rattle.page_sets_man.specs.declared.plans.Quote.{Quote}
 use Rattle.page_sets_man.specs.declared.plans.Front.{Front}
 use Rattle.page_sets_man.specs.declared.plans.Front.TheVariants as fronts
 use Rattle.page_sets_man.specs.declared.plans.Plan.{Plan}
+use Rattle.page_sets_man.specs.declared.plans.LinePlan.{LinePlan}
+use Rattle.page_sets_man.specs.declared.plans.LinePlan.TheVariants as line_plans
 use Rattle.page_sets_man.specs.Rows.{quiet, structure_rows, words_rows, structure_row, words_row, request_row, either_row, row_of}
 use Rattle.page_sets_man.specs.Man.{opener, closer, leaf, effect_deed, line_scope, one_word, plain_words, alternating_words, option_words, section_words, reference_words, words_events, has_words, break_events, quote_at, missing_quote, quote_events, deed_events, scope_events, last_events, macro_events, lone_events, row_events, named_events, control_events, line_events, man_events}
 use Rattle.page_sets_man.specs.Steps.{section_text, next_events}
-use Rattle.page_sets_man.specs.Plans.{front_deed, end_events, plan_events, FitsPlan}
+use Rattle.page_sets_man.specs.Plans.{front_deed, end_events, plan_events, FitsPlan, line_plan_events, FitsLinePlan}
 
 -- ---- slices
 
@@ -129,7 +131,6 @@ effect_slices line (effects.Sets change) start h = sets_slices line change start
 front_slices : (line : Line) (front : Front) (start : ℕ) → start ≤ length line.text → HasSlicesIfGiven line.text (front_deed front line start)
 unfolding HasSlicesIfGiven
 front_slices line fronts.Nothing start h = tt
-front_slices line (fronts.Plain plain) start h = line_slices plain line.text
 front_slices line (fronts.Refused kind) start h = name_part line
 front_slices line (fronts.Effect effect) start h = effect_slices line.text effect start h
 
@@ -188,7 +189,7 @@ words_slices line number column (words.Alternating font other) from arguments h 
 words_slices line number column words.Option from arguments h = option_slices line number from arguments h
 words_slices line number column words.Reference from arguments h = reference_slices line number column from arguments h
 
-pub plan_slices : (line : Line) (plan : Plan) → FitsPlan line plan → AreSlices line.text (plan_events line plan)
+plan_slices : (line : Line) (plan : Plan) → FitsPlan line plan → AreSlices line.text (plan_events line plan)
 plan_slices line plan fits =
     let text = line.text in
     AreSlices-append text _ _
@@ -198,6 +199,12 @@ plan_slices line plan fits =
     (scope_slices text line.number plan.column plan.before.scope))))
     (AreSlices-append text _ _ (next_slices text line.number plan.column plan.words (plan.rest + 1) (arguments_after plan.rest text) (all_after text plan.rest))
     (AreSlices-append text _ _ (last_slices text line.number plan.column plan.after.last) (end_slices text line.number plan.after.end)))
+
+pub line_plan_slices : (line : Line) (plan : LinePlan) → FitsLinePlan line plan → AreSlices line.text (line_plan_events line plan)
+line_plan_slices line (line_plans.Plain plain) fits = (line_slices plain line.text, (tt, tt))
+line_plan_slices line (line_plans.End filled) fits = (tt, tt)
+line_plan_slices line line_plans.Nothing fits = tt
+line_plan_slices line (line_plans.Control plan) fits = plan_slices line plan fits
 
 macro_slices : (line : List ℕ) (number column start : ℕ) (row : Row) → start ≤ length line
     → AreSlices line (macro_events number column row (drop start line) (arguments_after start line))

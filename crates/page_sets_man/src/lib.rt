@@ -8,4 +8,4 @@ mod rows;
 mod words;
 
 pub use man_set::{Man, PAGE_INDENT};
-pub use plans::Plan;
+pub use plans::{LinePlan, Plan};

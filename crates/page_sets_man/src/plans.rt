@@ -7,7 +7,7 @@ ghost use Rattle.page_sets_lines.specs.ControlLines.{arguments_after};
 ghost use Rattle.page_sets_lines.specs.PlainLines.{event_at};
 ghost use Rattle.page_sets_man.specs.Man as man;
 ghost use Rattle.page_sets_man.specs.Plans as plans;
-ghost use Rattle.page_sets_man.specs.Plans.{events_seen, front_deed, before_events, after_events, plan_events, FitsPlan};
+ghost use Rattle.page_sets_man.specs.Plans.{events_seen, front_deed, before_events, after_events, plan_events, FitsPlan, line_plan_events, FitsLinePlan};
 
 use crate::effects::{effect_deed, line_scope};
 use crate::rows::{Alone, Effect, Last, Quotes, Row, Words, row_of};
@@ -31,8 +31,6 @@ pub(crate) struct Quote {
 #[derive(Clone, Copy)]
 pub(crate) enum Front {
     Nothing,
-    /// What a line is that is no control line.
-    Plain(PlainLine),
     /// A message about the macro's name.
     Refused(NoteKind),
     /// What a macro does.
@@ -59,7 +57,7 @@ pub(crate) struct After {
     pub(crate) end: Option<bool>,
 }
 
-/// What is still to come of a line's events.
+/// What is still to come of a control line's events.
 #[derive(Clone, Copy)]
 pub struct Plan {
     /// The column of the macro's name.
@@ -69,6 +67,19 @@ pub struct Plan {
     /// The bytes after which the arguments that are still to be read begin.
     pub(crate) rest: usize,
     pub(crate) after: After,
+}
+
+/// What is still to come of a line's events.
+#[derive(Clone, Copy)]
+pub enum LinePlan {
+    /// All of a line that is no control line.
+    Plain(PlainLine),
+    /// Its end, and whether it fills line scopes.
+    End(bool),
+    /// Nothing.
+    Nothing,
+    /// What a control line does.
+    Control(Plan),
 }
 
 // An event in a column of a line.
@@ -104,7 +115,6 @@ fn front_deed<'a>(front: Front, line: Taken<'a>, rest: usize) -> Option<Deed<&'a
 {
     match front {
         Front::Nothing => None,
-        Front::Plain(plain) => Some(plain.deed(line.text)),
         Front::Refused(kind) => {
             let name = find_name(line);
             Some(Deed::Note {
@@ -151,8 +161,8 @@ fn has_words(words: Words) -> bool
 }
 
 // The plan of a line that has no words but those of its front.
-fn front_plan(front: Front, fills: bool, column: u32, start: usize) -> Plan
-    ensures { result ≡ plans.front_plan front fills column start }
+fn front_plan(front: Front, column: u32, start: usize) -> Plan
+    ensures { result ≡ plans.front_plan front column start }
 {
     Plan {
         column,
@@ -167,7 +177,7 @@ fn front_plan(front: Front, fills: bool, column: u32, start: usize) -> Plan
         rest: start,
         after: After {
             last: Last::Nothing,
-            end: Some(fills),
+            end: Some(false),
         },
     }
 }
@@ -226,7 +236,7 @@ fn lone_plan(row: Row, text: &[u8], column: u32, start: usize) -> Plan
 {
     match row.alone {
         Alone::Same => macro_plan(row, text, column, start),
-        Alone::Empty => front_plan(Front::Refused(NoteKind::EmptyMacro), false, column, start),
+        Alone::Empty => front_plan(Front::Refused(NoteKind::EmptyMacro), column, start),
         Alone::Scope(opener) => scope_plan(opener, column, start),
     }
 }
@@ -240,11 +250,12 @@ fn row_plan(row: Option<Row>, text: &[u8], column: u32, start: usize) -> Plan
     match row {
         Some(row) if has_arguments(&text[start..]) => macro_plan(row, text, column, start),
         Some(row) => lone_plan(row, text, column, start),
-        None => front_plan(Front::Refused(NoteKind::UnknownMacro), false, column, start),
+        None => front_plan(Front::Refused(NoteKind::UnknownMacro), column, start),
     }
 }
 
 // The plan of a control line: an empty name does nothing.
+#[inline(never)]
 fn control_plan(line: Taken<'_>) -> Plan
     requires { length line.text.now ≤ LINE }
     ensures { result ≡ plans.control_plan (line_seen line.entry) }
@@ -252,22 +263,23 @@ fn control_plan(line: Taken<'_>) -> Plan
     let name = find_name(line);
     let column = name.start as u32 + 1;
     if name.is_empty() {
-        return front_plan(Front::Nothing, false, column, name.end);
+        return front_plan(Front::Nothing, column, name.end);
     }
     let row = row_of(&line.text[name.start..name.end]);
     row_plan(row, line.text, column, name.end)
 }
 
 /// The plan of a line.
+#[inline(always)]
 #[tactic(auto, unfolding(crate::specs::Man::man_events))]
-pub(crate) fn plan_of(line: Taken<'_>) -> Plan
+pub(crate) fn plan_of(line: Taken<'_>) -> LinePlan
     requires { length line.text.now ≤ LINE }
-    ensures fits { FitsPlan (line_seen line.entry) result }
-    ensures events { plan_events (line_seen line.entry) result ≡ man.man_events (line_seen line.entry) }
+    ensures fits { FitsLinePlan (line_seen line.entry) result }
+    ensures events { line_plan_events (line_seen line.entry) result ≡ man.man_events (line_seen line.entry) }
 {
     match PlainLine::of(line) {
-        Some(plain) => front_plan(Front::Plain(plain), plain.fills(), 1, 0),
-        None => control_plan(line),
+        Some(plain) => LinePlan::Plain(plain),
+        None => LinePlan::Control(control_plan(line)),
     }
 }
 
@@ -324,8 +336,9 @@ fn next_after<'a>(number: u32, column: u32, after: &mut After) -> Option<Event<&
     None
 }
 
-/// The next event of a line.
-pub(crate) fn next_event<'a>(line: Taken<'a>, plan: &mut Plan) -> Option<Event<&'a [u8]>>
+// The next event of a control line.
+#[inline(never)]
+fn next_of_control<'a>(line: Taken<'a>, plan: &mut Plan) -> Option<Event<&'a [u8]>>
     requires short { length line.text.now ≤ LINE }
     requires fits { FitsPlan (line_seen line) plan.old }
     ensures fits { FitsPlan (line_seen line.entry) plan.new }
@@ -341,4 +354,29 @@ pub(crate) fn next_event<'a>(line: Taken<'a>, plan: &mut Plan) -> Option<Event<&
         return Some(step.event);
     }
     next_after(line.line, plan.column, &mut plan.after)
+}
+
+/// The next event of a line.
+#[inline(always)]
+pub(crate) fn next_event<'a>(line: Taken<'a>, plan: &mut LinePlan) -> Option<Event<&'a [u8]>>
+    requires short { length line.text.now ≤ LINE }
+    requires fits { FitsLinePlan (line_seen line) plan.old }
+    ensures fits { FitsLinePlan (line_seen line.entry) plan.new }
+    ensures events { TakesNext (line_plan_events (line_seen line.entry) plan.old) result
+        (line_plan_events (line_seen line.entry) plan.new) }
+{
+    match plan {
+        LinePlan::Plain(plain) => {
+            let deed = plain.deed(line.text);
+            *plan = LinePlan::End(plain.fills());
+            Some(event_at(line.line, 1, deed))
+        }
+        LinePlan::End(fills) => {
+            let deed = Deed::End { fills: *fills };
+            *plan = LinePlan::Nothing;
+            Some(event_at(line.line, 1, deed))
+        }
+        LinePlan::Nothing => None,
+        LinePlan::Control(plan) => next_of_control(line, plan),
+    }
 }

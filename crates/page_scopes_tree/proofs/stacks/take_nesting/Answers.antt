@@ -3,7 +3,7 @@ use Rattle.page_scopes_laws.specs.Layouts.{labels}
 use Rattle.page_scopes_tree.proofs.FitLemmas.{act-fits}
 use Rattle.page_scopes_tree.proofs.MarginLemmas.{length-inner_labels}
 use Rattle.page_scopes_tree.specs.Acts.{act_seen}
-use Rattle.page_scopes_tree.proofs.stacks.take_act.Goals as goal
+use Rattle.page_scopes_tree.proofs.stacks.take_nesting.Goals as goal
 
 pub end_scopes-requires : goal.end_scopes-requires
 end_scopes-requires g c =
