@@ -202,9 +202,10 @@ pub fits_at : (m : Machine) (source : ℕ) (is_idle : Bool) → IsPageMachine m 
     → PlaceFits (place_of m) → MemoryFits m.actions.memory → RoffFits (edge_of m source is_idle)
 fits_at m source true p none f g =
     let e = sym (idle_stands m (p.idle refl)) in
-    let place = subst (λ (a : At (Budgeted State)). PlaceFits a.place) e f in
-    let memory = subst (λ (a : At (Budgeted State)). MemoryFits a.state.rest.memory) e g in
-    record { names = memory.names; region = place.region; body = memory.body; blocks = place.blocks }
+    record {
+      memory = subst (λ (a : At (Budgeted State)). MemoryFits a.state.rest.memory) e g;
+      place = subst (λ (a : At (Budgeted State)). PlaceFits a.place) e f;
+    }
 fits_at m source false p none f g = absurd (cc)
 
 pub end_notes_at : (m : Machine) (source : ℕ) (is_idle : Bool) → IsPageMachine m source is_idle → (edge_of m source is_idle).to_come ≡ None
