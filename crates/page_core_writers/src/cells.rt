@@ -27,7 +27,8 @@ pub fn cell_bytes(cell: Cell) -> ArrayVec<u8, 16>
 // A number that is 0 for roman alone.
 #[inline(always)]
 fn font_bits(font: Font) -> u8
-    ensures { result ≡ 0 → is_roman font ≡ true }
+    ensures zero { result ≡ 0 → is_roman font ≡ true }
+    ensures roman { is_roman font ≡ true → result ≡ 0 }
 {
     font as u8
 }
@@ -35,7 +36,7 @@ fn font_bits(font: Font) -> u8
 // Whether each cell is printed as one byte.
 #[inline(always)]
 fn are_plain(cells: &[Cell]) -> bool
-    ensures { result ≡ true → list_all is_plain cells.now ≡ true }
+    ensures { result ≡ list_all is_plain cells.now }
 {
     // All characters and all fonts are joined bit by bit: two tests at the end cost less than two at each cell.
     let mut characters = 0u32;
