@@ -70,6 +70,7 @@ impl Laying for LayoutState {
         );
     }
 
+    #[inline(always)]
     fn leaf<O: PieceOut>(&mut self, act: &Act<&Event<&[u8]>>, out: &mut O) {
         give_standing(out, act, &mut self.context, &mut self.running);
     }
