@@ -1,5 +1,5 @@
 -- The events of a line, one after another.
-use Rattle.std.proofs.Common.{◌≡◌, ℕ, ◌+◌, ◌≤◌, List, [], ◌∷◌, ◌++◌, length, arith, refl}
+use Rattle.std.proofs.Common.{◌≡◌, ℕ, ◌≤◌, List, [], ◌∷◌, ◌++◌, length, arith, refl}
 use Rattle.page_core_limits.specs.declared.TheConstants.{LINE}
 use Rattle.page_engine_body.specs.Bodies.{BodyEdge, IsShort, RestIsShort, event_after, event_items, events_after, events_items}
 use Rattle.page_scopes.proofs.SliceLemmas.{deed_fits}

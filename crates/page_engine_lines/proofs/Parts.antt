@@ -1,5 +1,5 @@
 -- What is given up to the next line, and then the rest.
-use Rattle.std.proofs.Common.{◌≡◌, ℕ, suc, ◌≤◌, List, [], ◌∷◌, ◌++◌, length, refl, ap, sym, ◌∙◌, append_assoc, append-nil, arith, Option, Some, None, MatchOption}
+use Rattle.std.proofs.Common.{◌≡◌, suc, ◌≤◌, List, [], ◌∷◌, ◌++◌, length, refl, ap, sym, ◌∙◌, append_assoc, append-nil, arith, Option, Some, None, MatchOption}
 use Rattle.std.specs.Prelude.{map}
 use Rattle.page_core_base.specs.Latches.{Came, CameUpTo}
 use Rattle.page_core_base.specs.LinesTaken.{Line}

@@ -1,5 +1,5 @@
 -- How many lines a source line gives and takes: helpers of proofs.
-use Rattle.std.proofs.Common.{◌≡◌, ℕ, zero, suc, ◌+◌, ◌*◌, ◌≤◌, ◌==◌, Bool, true, false, is_some, List, [], ◌∷◌, ◌++◌, map, length, Option, Some, None, refl, sym, ap, ◌∙◌, arith}
+use Rattle.std.proofs.Common.{◌≡◌, ℕ, ◌+◌, ◌*◌, ◌≤◌, Bool, true, false, List, [], ◌∷◌, ◌++◌, map, Option, Some, None, refl, ap, arith}
 use Rattle.page_core_base.specs.Messages.{Message}
 use Rattle.page_core_base.specs.declared.page_settings.Output.{Output}
 use Rattle.page_roff_heads.specs.declared.conditions.Condition.{Condition}
@@ -9,12 +9,11 @@ use Rattle.page_roff_values.specs.declared.expansions.TheConstants.{EXPAND}
 use Rattle.page_roff_run.specs.Languages.{Kind}
 use Rattle.page_roff_run.specs.Spending.{after_leaf, Spends}
 use Rattle.page_roff_run.specs.declared.TheConstants.{REREAD}
-use Rattle.page_roff_run.specs.Budgets.{language}
 use Rattle.page_roff_run.proofs.BudgetLemmas.{page_line_bound}
 use Rattle.page_roff_run.proofs.SpendLemmas.{page_spends}
 use Rattle.page_roff_effects.specs.Effects.{effects, answer_of, test_outcome, expansions_of, tested_after, done_by, done_after, budget_outcome, block_outcome, end_of_block_outcome, setting_of}
 use Rattle.page_roff_effects.specs.Leaves.{leaf_outcome}
-use Rattle.page_roff_effects.specs.RegionLines.{head_outcome, line_outcome, kind_outcome, end_outcome, finish_outcome}
+use Rattle.page_roff_effects.specs.RegionLines.{head_outcome, line_outcome, end_outcome, finish_outcome}
 use Rattle.page_roff_effects.specs.States.{Given, says, takes, State, Memory, Outcome, Product, no_product, line_product, call_product, lines_of, after}
 use Rattle.page_roff_effects.proofs.CountLemmas.{spends}
 use Rattle.page_roff_source.specs.Edges.{Edge, SourceLine, before_line, run_line, line_given, line_done, line_count}

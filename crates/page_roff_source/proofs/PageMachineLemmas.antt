@@ -1,20 +1,17 @@
 -- The machine that runs a page's lines is at the page's edge: helpers of proofs.
-use Rattle.std.proofs.Common.{◌≡◌, ℕ, ◌+◌, ◌*◌, ◌≤◌, ◌<◌, ◌^◌, Bool, true, false, not, if◌then◌else◌, List, [], ◌∷◌, length, Option, Some, None, refl, sym, ap, subst, ◌∙◌, arith}
+use Rattle.std.proofs.Common.{◌≡◌, ℕ, ◌+◌, ◌≤◌, ◌<◌, ◌^◌, Bool, true, false, not, if◌then◌else◌, List, [], ◌∷◌, length, Option, Some, None, refl, sym, ap, subst, ◌∙◌, arith}
 use Rattle.page_core_limits.specs.declared.TheConstants.{LINE}
 use Rattle.page_core_base.specs.LinesTaken.{Line}
 use Rattle.page_core_base.specs.Messages.{Message}
 use Rattle.page_core_base.specs.declared.page_settings.Output.{Output}
-use Rattle.page_roff_blocks.specs.declared.atoms.Atom.{Atom}
 use Rattle.page_roff_blocks.specs.Caps.{PlaceFits}
-use Rattle.page_roff_blocks.specs.Levels.{Opened, at_line, outside, first_place}
-use Rattle.page_roff_blocks.specs.Run.{Meaning, At}
+use Rattle.page_roff_blocks.specs.Levels.{at_line, outside, first_place}
+use Rattle.page_roff_blocks.specs.Run.{At}
 use Rattle.page_roff_run.specs.declared.TheConstants.{REREAD}
-use Rattle.page_roff_run.specs.Languages.{Language, run_page}
+use Rattle.page_roff_run.specs.Languages.{run_page}
 use Rattle.page_roff_run.specs.Counting.{Budget}
-use Rattle.page_roff_run.specs.Machine.{Frame, source_next, next, stands_at, depth}
-use Rattle.page_roff_run.specs.Machine as run
+use Rattle.page_roff_run.specs.Machine.{next}
 use Rattle.page_roff_run.specs.Budgets.{Budgeted}
-use Rattle.page_roff_run.proofs.MachineLemmas.{end_law}
 use Rattle.page_roff_stack.specs.Stacks.{is_nothing}
 use Rattle.page_roff_stack.specs.Stacks as stack
 use Rattle.page_roff_effects.specs.Acting.{first_memory}

@@ -7,7 +7,7 @@ use Rattle.page_roff_blocks.specs.Run.{Meaning, At, run_lines}
 use Rattle.page_roff_blocks.specs.Steps.{step_inside, step_from, step, step_lines}
 use Rattle.page_roff_blocks.proofs.FoldLemmas.{run_is_steps}
 use Rattle.page_roff_blocks.proofs.RoomLemmas.{atoms_room, step_room}
-use Rattle.page_roff_run.specs.Languages.{Language, page, meaning_at, run_page}
+use Rattle.page_roff_run.specs.Languages.{page, meaning_at, run_page}
 use Rattle.page_roff_run.specs.declared.TheConstants.{CALLS}
 use Rattle.page_roff_run.specs.Budgets.{language}
 use Rattle.page_roff_effects.specs.Effects.{effects}

@@ -1,5 +1,5 @@
 -- Roff over a sink of messages: its edge, as long as no message was refused and the page has not ended.
-use Rattle.std.specs.Prelude.{◌≡◌, ℕ, ◌<◌, ◌^◌, Bool, true, List, Option, Some, None, Result, MatchResult}
+use Rattle.std.specs.Prelude.{◌≡◌, ℕ, Bool, true, List, Option, Some, None, Result, MatchResult}
 use Rattle.page_core_base.specs.Fails.{Rose}
 use Rattle.page_core_base.specs.Messages.{Message}
 use Rattle.page_core_base.specs.declared.faults.Fault.{Fault}

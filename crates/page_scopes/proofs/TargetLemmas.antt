@@ -1,12 +1,12 @@
 -- Each open scope keeps a target within its limit: helpers of proofs.
-use Rattle.std.proofs.Common.{◌≡◌, ℕ, ◌≤◌, List, [], ◌∷◌, ◌++◌, length, take, Option, arith}
+use Rattle.std.proofs.Common.{ℕ, ◌≤◌, List, [], ◌∷◌, ◌++◌, length, take, Option, arith}
 use Rattle.std.specs.Prelude.{IfSome}
 use Rattle.std.specs.Str.Lossy.{utf8_valid_len}
 use Rattle.std.proofs.lemmas.List.{length-take}
 use Rattle.page_core_base.specs.Messages.{text_front}
 use Rattle.page_core_base.specs.Pieces.{Item}
 use Rattle.page_core_limits.specs.declared.TheConstants.{FIELD}
-use Rattle.page_scopes_laws.specs.Forests.{Ender, by_act, still_open, Forest, none, leaf, node, After, Rest, tree}
+use Rattle.page_scopes_laws.specs.Forests.{Ender, by_act, still_open, Forest, none, leaf, node, After, tree}
 use Rattle.page_scopes_laws.specs.Layouts.{Layout, scope_of, closing_state, after, if_open, open_in, open_outer, labels, edge}
 use Rattle.page_scopes_laws.specs.declared.Scope.{Scope}
 use Rattle.page_scopes_nodes.specs.Begins.{opener_target, kept_target}

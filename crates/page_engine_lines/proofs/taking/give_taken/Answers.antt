@@ -1,4 +1,3 @@
-use Rattle.std.proofs.Common.{rules}
 use Rattle.page_roff_source.specs.Edges.{given_of}
 use Rattle.page_core_base.specs.LinesTaken.{line_seen}
 use Rattle.page_engine_lines.specs.Given.{given_items, body_after}

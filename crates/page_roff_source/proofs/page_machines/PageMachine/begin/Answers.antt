@@ -1,6 +1,6 @@
-use Rattle.std.proofs.Common.{ap, ◌∙◌, subst}
+use Rattle.std.proofs.Common.{ap, ◌∙◌}
 use Rattle.page_roff_source.specs.PageMachines.{Running}
-use Rattle.page_roff_source.specs.Edges.{Edge, line_begun}
+use Rattle.page_roff_source.specs.Edges.{line_begun}
 use Rattle.page_roff_source.proofs.PageMachineLemmas.{none_in, few_in, begin_room, begin_edge, begin_invariant}
 use Rattle.page_roff_source.proofs.page_machines.PageMachine.begin.Goals as goal
 

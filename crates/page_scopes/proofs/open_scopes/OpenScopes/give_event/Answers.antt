@@ -1,4 +1,4 @@
-use Rattle.std.proofs.Common.{subst, sym, [], ◌∷◌}
+use Rattle.std.proofs.Common.{subst, sym}
 use Rattle.page_scopes.specs.Caps.{TargetsFit}
 use Rattle.page_scopes.specs.Edges.{PageEdge}
 use Rattle.page_scopes.proofs.TargetLemmas.{steps_fit}
