@@ -1,12 +1,12 @@
 -- The bytes of a page part by part, and what their lines settle.
-use Rattle.std.proofs.Common.{◌≡◌, ℕ, zero, suc, ◌+◌, ◌<◌, ◌≤◌, Bool, true, false, List, [], ◌∷◌, ◌++◌, length, take, refl, sym, ap, ◌∙◌, append-nil, arith, length-append}
+use Rattle.std.proofs.Common.{◌≡◌, ℕ, zero, suc, ◌+◌, ◌<◌, ◌≤◌, Bool, true, false, List, [], ◌∷◌, length, take, refl, arith}
 use Rattle.std.specs.Prelude.{if◌then◌else◌}
 use Rattle.page_core_base.specs.Messages.{Message}
 use Rattle.page_core_base.specs.Rows.{LaidRow}
 use Rattle.page_core_base.specs.Sinks.{IsSink}
 use Rattle.page_core_base.specs.Laid.{Gave}
 use Rattle.page_roff_lines.specs.Decoding.{Line}
-use Rattle.page_roff_lines.specs.Cutting.{Point, point_after, lines_within, line_of, line_at, next_point, point_at}
+use Rattle.page_roff_lines.specs.Cutting.{Point, point_after, lines_within, next_point, point_at}
 use Rattle.page_roff_lines.specs.Open.{open_after}
 use Rattle.page_roff_lines.proofs.OpenLaws.{open_after-consumed}
 use Rattle.page_engine_page.proofs.Lists.{settled_none, settled_one}

@@ -1,11 +1,11 @@
 -- A page has at most a line for each of its bytes, also with the line that is open.
-use Rattle.std.proofs.Common.{◌≡◌, ℕ, ◌+◌, ◌<◌, ◌≤◌, ◌-◌, ◌^◌, None, Bool, true, false, List, [], ◌∷◌, ◌++◌, length, refl, ap, ◌∙◌, sym, arith, length-append}
+use Rattle.std.proofs.Common.{◌≡◌, ℕ, ◌+◌, ◌<◌, ◌≤◌, ◌-◌, ◌^◌, None, Bool, true, false, List, [], ◌∷◌, length, refl, ap, ◌∙◌, sym, arith, length-append}
 use Rattle.std.specs.Prelude.{if◌then◌else◌, ◌==◌}
 use Rattle.std.proofs.lemmas.Bool.{lt-ltb}
 use Rattle.page_core_base.specs.declared.page_settings.Encoding.{Encoding}
 use Rattle.page_roff_lines.specs.Bytes.{newline}
 use Rattle.page_roff_lines.specs.Cutting.{Point, first_point, point_after, lines_within, last_line, line_of, line_at, next_point, point_at, end_point}
-use Rattle.page_roff_lines.specs.Open.{Open, first_open, restart, put, put_plain, put_pair, put_in, close, without_return, newline_in, put_newline, put_byte, count_byte, ends_mark, next_open, end_open}
+use Rattle.page_roff_lines.specs.Open.{Open, restart, put, put_plain, put_pair, put_in, close, without_return, newline_in, put_newline, put_byte, count_byte, ends_mark, next_open, end_open}
 use Rattle.page_roff_lines.specs.declared.Mode.{Mode}
 use Rattle.page_roff_lines.specs.declared.Mode.TheVariants.{Plain, Backslash, Comment, Dropped}
 use Rattle.page_engine_page.specs.Page.{Edge}

@@ -1,5 +1,5 @@
 -- Lists of lines: they may be cut anywhere, and what they count.
-use Rattle.std.proofs.Common.{◌≡◌, ℕ, ◌+◌, ◌*◌, ◌≤◌, List, [], ◌∷◌, ◌++◌, refl, sym, ap, ◌∙◌, append-nil}
+use Rattle.std.proofs.Common.{◌≡◌, ◌+◌, ◌*◌, ◌≤◌, List, [], ◌∷◌, ◌++◌, refl, sym, ap, ◌∙◌, append-nil}
 use Rattle.page_core_base.specs.Laid.{Laid, nothing, join, join_assoc}
 use Rattle.page_roff_lines.specs.Decoding.{Line}
 use Rattle.page_roff_run.specs.declared.TheConstants.{REREAD}

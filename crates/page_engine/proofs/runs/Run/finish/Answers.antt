@@ -1,4 +1,3 @@
-use Rattle.std.proofs.Common.{refl}
 use Rattle.std.proofs.lemmas.Result.{err_from_is_err_and}
 use Rattle.page_roff_lines.specs.Cutting.{last_line}
 use Rattle.page_core_base.proofs.SinkLemmas.{within-join}

@@ -1,4 +1,3 @@
-use Rattle.std.proofs.Common.{◌≡◌}
 use Rattle.page_roff_source.specs.Caps.{RoffFits}
 use Rattle.page_engine_body.specs.Caps.{BodyFits}
 use Rattle.page_fill.specs.Caps.{FillFits}
