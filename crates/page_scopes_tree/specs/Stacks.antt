@@ -1,13 +1,21 @@
 -- The code's own stack: a vector with the outermost scope first. Source: man(7).
-use Rattle.std.specs.Prelude.{◌≡◌, ℕ, Bool, List, reverse, vec_capacity}
+use Rattle.std.specs.Prelude.{◌≡◌, ℕ, Bool, true, false, not, List, reverse, vec_capacity}
 use Rattle.std.specs.Global.{Vec}
+use Rattle.page_core_base.specs.Latches.{Came}
+use Rattle.page_core_base.specs.Pieces.{Item}
 use Rattle.page_scopes_laws.specs.Layouts.{Edge, labels}
+use Rattle.page_scopes_laws.specs.Machines.{step, step_items}
 use Rattle.page_scopes_laws.specs.Nestings.{Standing}
 use Rattle.page_scopes_laws.specs.declared.Scope.{Scope}
+use Rattle.page_sets_lines.specs.declared.events.Deed.{Deed}
+use Rattle.page_sets_lines.specs.declared.events.Deed.TheVariants as deeds
 use Rattle.page_sets_lines.specs.declared.events.Event.{Event}
-use Rattle.page_scopes_tree.specs.Nests.{Fact, standing_by}
-use Rattle.page_scopes_tree.specs.Standings.{act_fate}
+use Rattle.page_scopes_tree.specs.Acts.{Step}
+use Rattle.page_scopes_tree.specs.Frames.{Tables, framed}
+use Rattle.page_scopes_tree.specs.Nests.{Fact, scopes_nesting, standing_by}
+use Rattle.page_scopes_tree.specs.Standings.{act_fate, in_line_scope}
 use Rattle.page_scopes_tree.specs.declared.acts.Act.{Act}
+use Rattle.page_scopes_tree.specs.declared.acts.Act.TheVariants as acts
 use Rattle.page_scopes_tree.specs.declared.labels.Label.{Label}
 
 -- the stack has these scopes now, the innermost first, and its room is as before
@@ -21,3 +29,19 @@ stack_edge skips scopes state = record { mode = skips; scopes = reverse scopes.i
 -- what becomes of an act that ended this many scopes and leaves these
 abbrev pub stack_standing : {B : Type 0} → Act (Event (List ℕ)) → ℕ → Vec (Scope Label B) → Standing Label Fact
 stack_standing act count scopes = standing_by act (act_fate act count (labels (reverse scopes.items)))
+
+-- A word, and the end of a line where the innermost scope is no line scope: they end no scope and open none, and stand as leaves.
+abbrev pub deed_stands_alone : Deed (List ℕ) → List Label → Bool
+deed_stands_alone (deeds.Word word) nodes = true
+deed_stands_alone (deeds.End fills) nodes = not (in_line_scope nodes)
+deed_stands_alone _ nodes = false
+
+abbrev pub stands_alone : Act (Event (List ℕ)) → List Label → Bool
+stands_alone (acts.Event event) nodes = deed_stands_alone event.deed nodes
+stands_alone (acts.PageEnd line) nodes = false
+
+-- a step was taken from an edge: what it settles came to a latch, and this edge is after it
+pub record Takes {P O S B : Type 0} (left : P → O → List Item → Type 0) (tables : Tables S B) (taken : Step) (before : Edge Bool Label S B) (out : O)
+    (after : Edge Bool Label S B) (next : O) : Type 0 where
+  pub came : Came left out (step_items scopes_nesting (framed tables) before taken) next
+  pub edge : after ≡ step scopes_nesting (framed tables) before taken

@@ -92,16 +92,6 @@ abbrev pub act_fate : Act (Event (List ℕ)) → ℕ → List Label → Fate
 act_fate (acts.Event event) n remaining = deed_fate event.deed n remaining
 act_fate (acts.PageEnd line) n remaining = fates.Leaf
 
--- A word, and the end of a line where the innermost scope is no line scope: they end no scope and open none, and stand as leaves.
-abbrev pub deed_stands_alone : Deed (List ℕ) → List Label → Bool
-deed_stands_alone (deeds.Word word) nodes = true
-deed_stands_alone (deeds.End fills) nodes = not (in_line_scope nodes)
-deed_stands_alone _ nodes = false
-
-abbrev pub stands_alone : Act (Event (List ℕ)) → List Label → Bool
-stands_alone (acts.Event event) nodes = deed_stands_alone event.deed nodes
-stands_alone (acts.PageEnd line) nodes = false
-
 -- ---- what is passed over
 
 -- a paragraph whose opener is refused passes over the rest of its line

@@ -7,8 +7,7 @@ ghost use Rattle.page_scopes_laws.specs.Machines.{ended_items, ended_state, plac
 ghost use Rattle.page_scopes_tree.specs.Acts.{TakesAct, act_seen, comes, does};
 ghost use Rattle.page_scopes_tree.specs.Frames.{framed};
 ghost use Rattle.page_scopes_tree.specs.Nests.{scopes_nesting};
-ghost use Rattle.page_scopes_tree.specs.Standings.{stands_alone};
-ghost use Rattle.page_scopes_tree.specs.Stacks.{Keeps, stack_edge, stack_standing};
+ghost use Rattle.page_scopes_tree.specs.Stacks.{Keeps, Takes, stack_edge, stack_standing, stands_alone};
 ghost use Rattle.page_sets_lines.specs.Events.{event_seen};
 
 use crate::broken::{report_broken, report_obstacle};
@@ -127,12 +126,8 @@ fn take_nesting<Y: Laying, O: PieceOut>(
     requires depth { vec_len scopes.old ≤ SCOPES }
     requires reserved { SCOPES ≤ vec_capacity scopes.old }
     requires takes { TakesAct Y.Takes (act_seen act.now) }
-    ensures came { Came O.left out.old
-        (step_items scopes_nesting (framed Y.tables) (stack_edge skips.old scopes.old state.old)
-        (does (act_seen act.now))) out.new }
-    ensures edge { stack_edge skips.new scopes.new state.new
-        ≡ step scopes_nesting (framed Y.tables) (stack_edge skips.old scopes.old state.old)
-        (does (act_seen act.now)) }
+    ensures takes { Takes O.left Y.tables (does (act_seen act.now)) (stack_edge skips.old scopes.old state.old)
+        out.old (stack_edge skips.new scopes.new state.new) out.new }
     ensures kept { vec_capacity scopes.new ≡ vec_capacity scopes.old }
 {
     if is_passed_over(*skips, act) {
@@ -156,13 +151,9 @@ fn take_alone<Y: Laying, O: PieceOut>(
     requires depth { length scopes.now ≤ SCOPES }
     requires takes { TakesAct Y.Takes (act_seen act.now) }
     requires alone { stands_alone (act_seen act.now) (labels (reverse scopes.now)) ≡ true }
-    ensures came { Came O.left out.old (step_items scopes_nesting (framed Y.tables)
-        (record { mode = skips.old; scopes = reverse scopes.now; state = state.old })
-        (does (act_seen act.now))) out.new }
-    ensures edge { record { mode = skips.new; scopes = reverse scopes.now; state = state.new }
-        ≡ step scopes_nesting (framed Y.tables)
-        (record { mode = skips.old; scopes = reverse scopes.now; state = state.old })
-        (does (act_seen act.now)) }
+    ensures { Takes O.left Y.tables (does (act_seen act.now))
+        (record { mode = skips.old; scopes = reverse scopes.now; state = state.old }) out.old
+        (record { mode = skips.new; scopes = reverse scopes.now; state = state.new }) out.new }
 {
     if !is_passed_over(*skips, act) {
         *skips = skips_after(*skips, act, scopes);
@@ -182,12 +173,8 @@ pub(crate) fn take_act<Y: Laying, O: PieceOut>(
     requires depth { vec_len scopes.old ≤ SCOPES }
     requires reserved { SCOPES ≤ vec_capacity scopes.old }
     requires takes { TakesAct Y.Takes (act_seen act.now) }
-    ensures came { Came O.left out.old
-        (step_items scopes_nesting (framed Y.tables) (stack_edge skips.old scopes.old state.old)
-        (does (act_seen act.now))) out.new }
-    ensures edge { stack_edge skips.new scopes.new state.new
-        ≡ step scopes_nesting (framed Y.tables) (stack_edge skips.old scopes.old state.old)
-        (does (act_seen act.now)) }
+    ensures takes { Takes O.left Y.tables (does (act_seen act.now)) (stack_edge skips.old scopes.old state.old)
+        out.old (stack_edge skips.new scopes.new state.new) out.new }
     ensures kept { vec_capacity scopes.new ≡ vec_capacity scopes.old }
 {
     if stands_alone(act, scopes.as_slice()) {

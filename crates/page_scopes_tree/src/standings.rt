@@ -3,6 +3,7 @@
 ghost use Rattle.std.specs.Prelude.{◌≡◌, ◌≤◌, length, reverse};
 ghost use Rattle.page_scopes_laws.specs.Layouts.{labels};
 ghost use Rattle.page_scopes_tree.specs.Acts.{act_seen};
+ghost use Rattle.page_scopes_tree.specs.Stacks as stacks;
 ghost use Rattle.page_scopes_tree.specs.Standings as standings;
 ghost use Rattle.page_sets_lines.specs.Events.{closer_seen, deed_seen, leaf_seen, opener_seen, request_seen, text_seen};
 
@@ -176,7 +177,7 @@ pub(crate) fn fate_of<B>(
 #[inline(always)]
 fn deed_stands_alone<B>(deed: &Deed<&[u8]>, scopes: &[Scope<Label, B>]) -> bool
     requires { length scopes.now ≤ SCOPES }
-    ensures { result ≡ standings.deed_stands_alone (deed_seen deed.now) (labels (reverse scopes.now)) }
+    ensures { result ≡ stacks.deed_stands_alone (deed_seen deed.now) (labels (reverse scopes.now)) }
 {
     match deed {
         Deed::Word(_) => true,
@@ -189,7 +190,7 @@ fn deed_stands_alone<B>(deed: &Deed<&[u8]>, scopes: &[Scope<Label, B>]) -> bool
 #[inline(always)]
 pub(crate) fn stands_alone<B>(act: &Act<&Event<&[u8]>>, scopes: &[Scope<Label, B>]) -> bool
     requires { length scopes.now ≤ SCOPES }
-    ensures { result ≡ standings.stands_alone (act_seen act.now) (labels (reverse scopes.now)) }
+    ensures { result ≡ stacks.stands_alone (act_seen act.now) (labels (reverse scopes.now)) }
 {
     match act {
         Act::Event(event) => deed_stands_alone(&event.deed, scopes),
