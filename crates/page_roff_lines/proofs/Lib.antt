@@ -1,6 +1,7 @@
 pub mod HeldLemmas
 pub mod ScanLemmas
 pub mod OpenLaws
+pub mod ReadLemmas
 pub mod RunLemmas
 pub mod Spots
 pub mod SpotReadings

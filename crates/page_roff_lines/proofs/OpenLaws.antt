@@ -1,7 +1,7 @@
 -- The page's bytes one by one, and cut anywhere.
 use Rattle.std.proofs.Common.{◌≡◌, ℕ, ◌+◌, ◌-◌, ◌<◌, ◌≤◌, Bool, true, false, cond, List, [], ◌∷◌, ◌++◌, length, take, drop, get_or, refl, sym, ap, ◌∙◌, append_assoc, append-nil, arith}
 use Rattle.std.specs.Prelude.{◌==◌}
-use Rattle.std.proofs.lemmas.List.{take_more, take_all, length-drop, length-take-le}
+use Rattle.std.proofs.lemmas.List.{take_more, take_all, length-drop}
 use Rattle.std.proofs.Math.Seq.{take-add}
 use Rattle.page_roff_lines.specs.declared.Mode.{Mode}
 use Rattle.page_roff_lines.specs.declared.Mode.TheVariants.{Plain, Backslash, Comment, Dropped}
@@ -121,16 +121,3 @@ byte-lines o p q xs j l h g e = rw (whole_lines-next o xs j l, e, ← h, ← g) 
 -- the bytes before it were read, and hold no end of a logical line
 abbrev pub IsReadTo : Open → Open → List ℕ → ℕ → Type 0
 IsReadTo o p xs i = (i ≤ length xs) × (p ≡ open_after o (take i xs)) × (whole_lines o (take i xs) ≡ [])
-
-pub read_more : (o p q : Open) (xs : List ℕ) (i n : ℕ) → IsReadTo o p xs i → n ≤ length (take (length xs - i) (drop i xs))
-    → q ≡ open_after p (take n (take (length xs - i) (drop i xs))) → whole_lines p (take n (take (length xs - i) (drop i xs))) ≡ []
-    → IsReadTo o q xs (i + n)
-read_more o p q xs i n h k g e =
-    let within = rw (rest_of xs i) at k in
-    (omega (arith, within, length-drop i xs, h.0), run-open_after o p q xs i n h.1 g, run-none o p xs i n h.1 h.2 e)
-
-pub read_room : (o p : Open) (xs : List ℕ) (i m : ℕ) → IsReadTo o p xs i → o.consumed + length xs < m
-    → p.consumed + length (take (length xs - i) (drop i xs)) < m
-read_room o p xs i m h k =
-    let consumed : p.consumed ≡ o.consumed + length (take i xs) = ap (λ o. o.consumed) h.1 ∙ open_after-consumed o (take i xs) in
-    rw (rest_of xs i) (omega (arith, consumed, length-take-le i xs h.0, length-drop i xs, h.0))

@@ -10,7 +10,7 @@ use Rattle.page_roff_lines.specs.Bytes.{newline, carriage_return, backslash, quo
 use Rattle.page_roff_lines.specs.Characters.{is_printable}
 use Rattle.page_roff_lines.specs.Held.{Held, nothing_held, extend}
 use Rattle.page_roff_lines.specs.Open.{Open, restart, next_open, put_byte, put_in, put_plain, put_pair, pair_mode, put, count_byte, ends_mark, mark_after, if_whole, whole_lines, open_after}
-use Rattle.page_roff_lines.specs.Run.{BeginsPair, TakesPair, is_settled, run_in, stays, with_run}
+use Rattle.page_roff_lines.specs.Run.{BeginsPair, ReadsText, is_settled, run_in, stays, with_run}
 use Rattle.page_roff_lines.proofs.RunLemmas.{any, extend-extend, open_after-restart, st, whole_lines-restart}
 
 -- what a byte is not that stays with a backslash
@@ -94,17 +94,17 @@ any-none true m t r g n p k a b e h s =
     whole_lines-restart true m t r g n p k a (backslash ∷ b ∷ []) ∙ rw e (pair-none nothing_held r g p p k a b h s)
 
 -- the first two of some bytes
-front_two : (bytes : List ℕ) → BeginsPair bytes → take 2 bytes ≡ backslash ∷ get_or bytes 1 0 ∷ []
+pub front_two : (bytes : List ℕ) → BeginsPair bytes → take 2 bytes ≡ backslash ∷ get_or bytes 1 0 ∷ []
 front_two [] h = absurd (omega (arith, h.long))
 front_two (b ∷ []) h = absurd (omega (arith, h.long))
 front_two (b ∷ c ∷ bs) h = ap (λ x. x ∷ c ∷ []) h.escapes
 
-pub open_after-pair : (o : Open) (bytes : List ℕ) → TakesPair o → BeginsPair bytes → open_after o (take 2 bytes) ≡ with_run (restart o) (take 2 bytes)
+pub open_after-pair : (o : Open) (bytes : List ℕ) → ReadsText o → BeginsPair bytes → open_after o (take 2 bytes) ≡ with_run (restart o) (take 2 bytes)
 open_after-pair o bytes t h =
     rw (front_two bytes h)
     (any-open_after o.whole o.mode o.text o.after_return o.begun o.number o.physical o.consumed o.mark (get_or bytes 1 0) t.plain t.settled (stays_is (get_or bytes 1 0) h.stays))
 
-pub whole_lines-pair : (o : Open) (bytes : List ℕ) → TakesPair o → BeginsPair bytes → whole_lines o (take 2 bytes) ≡ []
+pub whole_lines-pair : (o : Open) (bytes : List ℕ) → ReadsText o → BeginsPair bytes → whole_lines o (take 2 bytes) ≡ []
 whole_lines-pair o bytes t h =
     rw (front_two bytes h)
     (any-none o.whole o.mode o.text o.after_return o.begun o.number o.physical o.consumed o.mark (get_or bytes 1 0) t.plain t.settled (stays_is (get_or bytes 1 0) h.stays))

@@ -1,5 +1,5 @@
 -- A fast way of the code, which no public clause cites: a run of bytes that are read alike.
-use Rattle.std.specs.Prelude.{◌≡◌, ℕ, ◌+◌, ◌-◌, ◌<◌, ◌≤◌, Bool, true, false, not, ◌&&◌, ◌==◌, List, length, slice_index}
+use Rattle.std.specs.Prelude.{◌≡◌, ℕ, ◌+◌, ◌-◌, ◌<◌, ◌≤◌, Bool, true, false, not, ◌&&◌, ◌==◌, List, [], length, slice_index}
 use Rattle.memchr.specs.Find.{is_byte, is_byte2}
 use Rattle.page_roff_lines.specs.declared.Mode.{Mode}
 use Rattle.page_roff_lines.specs.declared.Mode.TheVariants.{Plain, Backslash, Comment, Dropped}
@@ -8,7 +8,7 @@ use Rattle.page_roff_lines.specs.declared.Mark.TheVariants.{Unread, First, Secon
 use Rattle.page_roff_lines.specs.Bytes.{newline, carriage_return, backslash, quote, hash}
 use Rattle.page_roff_lines.specs.Characters.{is_printable}
 use Rattle.page_roff_lines.specs.Held.{extend}
-use Rattle.page_roff_lines.specs.Open.{Open}
+use Rattle.page_roff_lines.specs.Open.{Open, open_after, restart, whole_lines}
 
 -- the byte ends a run
 abbrev pub ends_run : Mode → ℕ → Bool
@@ -40,8 +40,8 @@ pub record BeginsPair (bytes : List ℕ) : Type 0 where
   pub escapes : slice_index bytes 0 ≡ backslash
   pub stays : stays (slice_index bytes 1) ≡ true
 
--- a pair is read here as a run is
-pub record TakesPair (o : Open) : Type 0 where
+-- text and pairs are read here as they stand
+pub record ReadsText (o : Open) : Type 0 where
   pub settled : is_settled o.mark ≡ true
   pub plain : o.mode ≡ Plain
 
@@ -61,6 +61,15 @@ run_in Dropped o run = o
 
 abbrev pub with_run : Open → List ℕ → Open
 with_run o run = record (run_in o.mode o run) { consumed = o.consumed + length run }
+
+-- read at once, the bytes do to the open line what they do one by one, and end no line
+pub record IsRead (o : Open) (bytes : List ℕ) : Type 0 where
+  pub after : 0 < length bytes → open_after o bytes ≡ with_run (restart o) bytes
+  pub none : whole_lines o bytes ≡ []
+
+-- wherever text is read, the bytes may be read at once
+abbrev pub IsText : List ℕ → Type 0
+IsText bytes = (o : Open) → ReadsText o → IsRead o bytes
 
 -- a line feed here ends a line that is open, and takes nothing away
 pub record InText (o : Open) : Type 0 where

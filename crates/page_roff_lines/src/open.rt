@@ -3,12 +3,9 @@ ghost use Rattle.std.specs.Prelude.{◌≡◌, ◌+◌, ◌-◌, ◌^◌, ◌<�
 ghost use Rattle.std.specs.List.{list_all};
 ghost use Rattle.page_roff_lines.specs.Open.{pair_mode as spec_pair_mode};
 ghost use Rattle.page_roff_lines.specs.Characters.{is_printable};
-ghost use Rattle.page_roff_lines.specs.Run.{BeginsPair, stays as spec_stays};
 
-use crate::characters::is_printable;
-use crate::scanning::plain_run;
+use crate::scanning::{comment_run, paired_run};
 use crate::{HeldText, Mark, Mode};
-use memchr::memchr;
 use page_core_limits::LINE;
 use std::alloc::{AllocError, Global};
 use std::marker::Model;
@@ -21,9 +18,11 @@ const CARRIAGE_RETURN: u8 = b'\r';
 /// The backslash, which is read with the byte after it.
 pub(crate) const BACKSLASH: u8 = b'\\';
 
-const QUOTE: u8 = b'"';
+/// The quote, which begins a comment after a backslash.
+pub(crate) const QUOTE: u8 = b'"';
 
-const HASH: u8 = b'#';
+/// The hash, which begins a comment with its line feed after a backslash.
+pub(crate) const HASH: u8 = b'#';
 
 /// A logical line that is cut from the bytes of a page as they come.
 #[derive(Drop)]
@@ -110,27 +109,10 @@ fn pair_mode(byte: u8) -> Mode
     }
 }
 
-// Whether a byte stays with the backslash before it, and begins no comment with it.
-fn stays(byte: u8) -> bool
-    ensures { result ≡ spec_stays byte }
-{
-    is_printable(byte) && byte != QUOTE && byte != HASH
-}
-
-// Whether a backslash and a byte that stays with it stand at the front of a chunk.
-fn begins_pair(chunk: &[u8]) -> bool
-    ensures { result ≡ true → BeginsPair chunk.now }
-{
-    if chunk.len() < 2 || chunk[0] != BACKSLASH {
-        return false;
-    }
-    stays(chunk[1])
-}
-
 impl OpenLine {
     ghost use Rattle.page_roff_lines.specs.Open.{first_open, restart, put, put_plain, put_pair, put_in, without_return, newline_in, put_newline, put_byte, next_open, end_open, count_byte, close, ends_mark, open_after, whole_lines, kept_of, is_marked};
     ghost use Rattle.page_roff_lines.specs.Bytes.{newline};
-    ghost use Rattle.page_roff_lines.specs.Run.{IsRun, InText, TakesPair, with_run};
+    ghost use Rattle.page_roff_lines.specs.Run.{InText, IsRead, with_run};
 
     /// Before the first byte of a page, with the memory that it will ever hold.
     pub fn new(alloc: Global) -> Result<OpenLine, AllocError>
@@ -338,25 +320,23 @@ impl OpenLine {
         self.whole
     }
 
-    // How many bytes at the front of a chunk are read alike, and whether they are known to be printable.
+    // How many bytes at the front of a chunk are read at once, and whether they are known to be printable.
     fn run_len(&self, chunk: &[u8]) -> (usize, bool)
         ensures within { result.0 ≤ length chunk.now }
-        ensures run { 0 < result.0 → IsRun self.now (take result.0 chunk.now) }
+        ensures read { IsRead self.now (take result.0 chunk.now) }
         ensures printable { result.1 ≡ true → list_all is_printable (take result.0 chunk.now) ≡ true }
     {
         if !self.mark.is_settled() {
             return (0, false);
         }
         match self.mode {
-            Mode::Plain => plain_run(chunk),
-            Mode::Comment | Mode::Dropped => {
-                (memchr(NEWLINE, chunk).unwrap_or(chunk.len()), false)
-            }
+            Mode::Plain => paired_run(chunk),
+            Mode::Comment | Mode::Dropped => (comment_run(chunk), false),
             Mode::Backslash => (0, false),
         }
     }
 
-    // Appends bytes that are read alike, which may be known to be printable.
+    // Appends bytes that are read at once, which may be known to be printable.
     #[tactic(auto, unfolding(crate::specs::Run::run_in, crate::specs::Held::extend))]
     fn put_run(&mut self, run: &[u8], printable: bool)
         requires consumed { self.old.consumed + length run.now < 2 ^ 31 }
@@ -375,7 +355,7 @@ impl OpenLine {
         }
     }
 
-    // Reads the bytes at the front of a chunk that are read alike; how many they are.
+    // Reads the bytes at the front of a chunk that are read at once; how many they are.
     fn take_run(&mut self, chunk: &[u8]) -> usize
         requires { self.old.consumed + length chunk.now < 2 ^ 31 }
         ensures within { result ≤ length chunk.now }
@@ -388,46 +368,6 @@ impl OpenLine {
             self.put_run(&chunk[..len], printable);
         }
         len
-    }
-
-    // Whether a pair is read here as a run is.
-    fn takes_pair(&self) -> bool
-        ensures { result ≡ true → TakesPair self.now }
-    {
-        self.mark.is_settled() && matches!(self.mode, Mode::Plain)
-    }
-
-    // Reads the pair at the front of a chunk, a backslash and the byte that stays with it; how many bytes they are.
-    fn take_pair(&mut self, chunk: &[u8]) -> usize
-        requires { self.old.consumed + length chunk.now < 2 ^ 31 }
-        ensures within { result ≤ length chunk.now }
-        ensures after { self.new ≡ open_after self.old (take result chunk.now) }
-        ensures none { whole_lines self.old (take result chunk.now) ≡ [] }
-    {
-        if !self.takes_pair() || !begins_pair(chunk) {
-            return 0;
-        }
-        self.restart();
-        self.put_run(&chunk[..2], true);
-        2
-    }
-
-    // Reads the runs and pairs at the front of a chunk; how many bytes they are.
-    fn take_text(&mut self, chunk: &[u8]) -> usize
-        requires { self.old.consumed + length chunk.now < 2 ^ 31 }
-        ensures within { result ≤ length chunk.now }
-        ensures after { self.new ≡ open_after self.old (take result chunk.now) }
-        ensures none { whole_lines self.old (take result chunk.now) ≡ [] }
-    {
-        let mut at = 0;
-        loop {
-            at += self.take_run(&chunk[at..]);
-            let pair = self.take_pair(&chunk[at..]);
-            if pair == 0 {
-                return at;
-            }
-            at += pair;
-        }
     }
 
     /// Reads a chunk of the page up to the line feed that ends the logical line, or all of it; how many bytes it
@@ -445,7 +385,7 @@ impl OpenLine {
     {
         let mut at = 0;
         while at < chunk.len() {
-            at += self.take_text(&chunk[at..]);
+            at += self.take_run(&chunk[at..]);
             if at < chunk.len() {
                 let whole = self.take_byte(chunk[at]);
                 at += 1;

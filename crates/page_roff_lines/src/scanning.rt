@@ -3,13 +3,13 @@ ghost use Rattle.std.specs.Prelude.{◌≡◌, ℕ, ◌+◌, ◌<◌, ◌≤◌,
 ghost use Rattle.std.specs.List.{prefix_len, list_all};
 ghost use Rattle.std.specs.Simd.Lanes.{mask_l};
 ghost use Rattle.page_roff_lines.specs.Characters.{is_printable};
-ghost use Rattle.page_roff_lines.specs.Run.{ends_run as spec_ends_run};
+ghost use Rattle.page_roff_lines.specs.Run.{BeginsPair, IsText, ends_run as spec_ends_run, stays as spec_stays};
 ghost use Rattle.page_roff_lines.specs.Scan.{is_text as spec_is_text, is_stop};
 
 use crate::Mode;
 use crate::characters::is_printable;
-use crate::open::{BACKSLASH, NEWLINE};
-use memchr::memchr2;
+use crate::open::{BACKSLASH, HASH, NEWLINE, QUOTE};
+use memchr::{memchr, memchr2};
 use std::simd::prelude::*;
 
 // The bytes that are tested at a time.
@@ -85,9 +85,17 @@ fn run_len(chunk: &[u8]) -> usize
     memchr2(NEWLINE, BACKSLASH, chunk).unwrap_or(chunk.len())
 }
 
-/// How many bytes come before the first line feed or backslash, and whether they are known to be printable.
+/// How many bytes come before the first line feed.
+pub fn comment_run(chunk: &[u8]) -> usize
+    ensures within { result ≤ length chunk.now }
+    ensures run { (k : ℕ) → k < result → spec_ends_run Mode.Comment (slice_index chunk.now k) ≡ false }
+{
+    memchr(NEWLINE, chunk).unwrap_or(chunk.len())
+}
+
+// How many bytes come before the first line feed or backslash, and whether they are known to be printable.
 #[inline(always)]
-pub fn plain_run(chunk: &[u8]) -> (usize, bool)
+fn plain_run(chunk: &[u8]) -> (usize, bool)
     ensures within { result.0 ≤ length chunk.now }
     ensures run { (k : ℕ) → k < result.0 → spec_ends_run Mode.Plain (slice_index chunk.now k) ≡ false }
     ensures printable { result.1 ≡ true → list_all is_printable (take result.0 chunk.now) ≡ true }
@@ -97,4 +105,38 @@ pub fn plain_run(chunk: &[u8]) -> (usize, bool)
         return (len, true);
     }
     (len + run_len(&chunk[len..]), false)
+}
+
+// Whether a byte stays with the backslash before it, and begins no comment with it.
+fn stays(byte: u8) -> bool
+    ensures { result ≡ spec_stays byte }
+{
+    is_printable(byte) && byte != QUOTE && byte != HASH
+}
+
+// Whether a backslash and a byte that stays with it stand at the front of a chunk.
+fn begins_pair(chunk: &[u8]) -> bool
+    ensures { result ≡ true → BeginsPair chunk.now }
+{
+    if chunk.len() < 2 || chunk[0] != BACKSLASH {
+        return false;
+    }
+    stays(chunk[1])
+}
+
+/// How many bytes at the front of a chunk are read at once where text is read, backslashes with the bytes that stay with them among
+/// them, and whether they are known to be printable.
+pub fn paired_run(chunk: &[u8]) -> (usize, bool)
+    ensures within { result.0 ≤ length chunk.now }
+    ensures text { IsText (take result.0 chunk.now) }
+    ensures printable { result.1 ≡ true → list_all is_printable (take result.0 chunk.now) ≡ true }
+{
+    let (mut at, mut printable) = plain_run(chunk);
+    while begins_pair(&chunk[at..]) {
+        at += 2;
+        let (len, is_printable) = plain_run(&chunk[at..]);
+        at += len;
+        printable = printable && is_printable;
+    }
+    (at, printable)
 }

@@ -2,7 +2,6 @@ use Rattle.std.proofs.Common.{◌≡◌, take, refl, sym, ap, ◌∙◌, arith}
 use Rattle.std.proofs.lemmas.List.{length-take-le}
 use Rattle.page_roff_lines.specs.Open.{open_after, whole_lines}
 use Rattle.page_roff_lines.specs.Run.{with_run}
-use Rattle.page_roff_lines.proofs.RunLemmas.{open_after-run, whole_lines-run}
 use Rattle.page_roff_lines.proofs.open.OpenLine.take_run.Goals as goal
 
 pub put_run-requires-clause-consumed : goal.put_run-requires-clause-consumed
@@ -15,10 +14,10 @@ returns-then-len-gt0-clause-after c =
     let run = take c.run_len-len.result.0 c.args.chunk.now in
     let len = length-take-le c.run_len-len.result.0 c.args.chunk.now c.run_len-len.ensures.within in
     c.put_run.ensures ∙ ap (λ o. with_run o run) c.restart.ensures.restart
-    ∙ sym (open_after-run c.args.self.now run (omega (arith, len)) (c.run_len-len.ensures.run c.if-len-gt0.true))
+    ∙ sym (c.run_len-len.ensures.read.after (omega (arith, len)))
 
 pub returns-then-len-gt0-clause-none : goal.returns-then-len-gt0-clause-none
-returns-then-len-gt0-clause-none c = whole_lines-run c.args.self.now _ (c.run_len-len.ensures.run c.if-len-gt0.true)
+returns-then-len-gt0-clause-none c = c.run_len-len.ensures.read.none
 
 pub returns-else-len-gt0-clause-after : goal.returns-else-len-gt0-clause-after
 unfolding open_after

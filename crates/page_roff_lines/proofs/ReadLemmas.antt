@@ -1,0 +1,139 @@
+-- Runs and pairs, one after another, are read at once as one of them is.
+use Rattle.std.proofs.Common.{◌≡◌, ℕ, ◌+◌, ◌-◌, ◌<◌, ◌≤◌, Bool, true, false, List, [], ◌∷◌, ◌++◌, length, take, drop, get_or, slice_index, ◌⊎◌, inl, inr, refl, ap, ◌∙◌, append-nil, length-append, arith}
+use Rattle.std.specs.Prelude.{◌==◌, not, ◌&&◌}
+use Rattle.std.specs.List.{list_all}
+use Rattle.std.proofs.Math.Seq.{take-add}
+use Rattle.std.proofs.lemmas.List.{get_or-append-add, get_or-take, length-drop, length-take-le}
+use Rattle.page_roff_lines.specs.declared.Mode.{Mode}
+use Rattle.page_roff_lines.specs.declared.Mode.TheVariants.{Plain, Comment, Dropped}
+use Rattle.page_roff_lines.specs.declared.Mark.{Mark}
+use Rattle.page_roff_lines.specs.Bytes.{quote, hash}
+use Rattle.page_roff_lines.specs.Characters.{is_printable}
+use Rattle.page_roff_lines.specs.Held.{Held, nothing_held}
+use Rattle.page_roff_lines.specs.Open.{Open, open_after, restart, whole_lines}
+use Rattle.page_roff_lines.specs.Run.{BeginsPair, IsRead, IsRun, IsText, ends_run, is_settled, run_in, with_run}
+use Rattle.page_roff_lines.proofs.OpenLaws.{open_after-append, rest_of, whole_lines-append}
+use Rattle.page_roff_lines.proofs.PairLemmas.{front_two, open_after-pair, whole_lines-pair}
+use Rattle.page_roff_lines.proofs.RunLemmas.{any, extend-extend, last_of, open_after-restart, open_after-run, st, whole_lines-restart, whole_lines-run}
+use Rattle.page_roff_lines.proofs.ScanLemmas.{all-append, and_true}
+
+pub run-read : (o : Open) (run : List ℕ) → IsRun o run → IsRead o run
+run-read o run is = record { after = λ some. open_after-run o run some is; none = whole_lines-run o run is }
+
+pub none-read : (o : Open) → IsRead o []
+unfolding whole_lines
+none-read o = record { after = λ some. absurd (omega arith); none = refl }
+
+pub text-run : (bytes : List ℕ) → ((k : ℕ) → k < length bytes → ends_run Plain (slice_index bytes k) ≡ false) → IsText bytes
+text-run bytes h = λ o t. run-read o bytes record { settled = t.settled; bytes = λ k l. rw t.plain (h k l) }
+
+pub text-pair : (bytes : List ℕ) → BeginsPair bytes → IsText (take 2 bytes)
+text-pair bytes h = λ o t. record { after = λ _. open_after-pair o bytes t h; none = whole_lines-pair o bytes t h }
+
+last-append : (xs ys : List ℕ) → 0 < length ys → last_of (xs ++ ys) ≡ last_of ys
+last-append xs ys some =
+    let place : length (xs ++ ys) - 1 ≡ length xs + (length ys - 1) = omega (arith, length-append xs ys) in
+    rw place (get_or-append-add xs ys (length ys - 1) 0)
+
+-- one after the other, at a line that is not whole
+twice-st : (t : Held) (r g : Bool) (n p k : ℕ) (a : Mark) (xs ys : List ℕ) → 0 < length ys
+    → with_run (with_run (st Plain t r g n p k a) xs) ys ≡ with_run (st Plain t r g n p k a) (xs ++ ys)
+unfolding run_in
+twice-st t r g n p k a xs ys some =
+    let count : k + length (xs ++ ys) ≡ k + length xs + length ys = omega (arith, length-append xs ys) in
+    rw (extend-extend t xs ys, last-append xs ys some, count) refl
+
+append-st : (t : Held) (r g : Bool) (n p k : ℕ) (a : Mark) → is_settled a ≡ true → (xs ys : List ℕ) → IsText xs → IsText ys
+    → IsRead (st Plain t r g n p k a) (xs ++ ys)
+unfolding restart run_in
+append-st t r g n p k a s [] ys f h = h (st Plain t r g n p k a) record { settled = s; plain = refl }
+append-st t r g n p k a s (x ∷ xs) [] f h = rw (append-nil xs) (f (st Plain t r g n p k a) record { settled = s; plain = refl })
+append-st t r g n p k a s (x ∷ xs) (y ∷ ys) f h =
+    let o = st Plain t r g n p k a in
+    let u = with_run o (x ∷ xs) in
+    let above = f o record { settled = s; plain = refl } in
+    let below = h u record { settled = s; plain = refl } in
+    let first : open_after o (x ∷ xs) ≡ u = above.after (omega arith) in
+    record {
+      after = λ _. open_after-append o (x ∷ xs) (y ∷ ys) ∙ ap (λ q. open_after q (y ∷ ys)) first ∙ below.after (omega arith)
+        ∙ twice-st t r g n p k a (x ∷ xs) (y ∷ ys) (omega arith);
+      none = whole_lines-append o (x ∷ xs) (y ∷ ys) ∙ rw (above.none, first) below.none;
+    }
+
+-- the line after a whole one begins with the first byte
+restart-read : (w : Bool) (m : Mode) (t : Held) (r g : Bool) (n p k : ℕ) (a : Mark) (bytes : List ℕ)
+    → IsRead (restart (any w m t r g n p k a)) bytes → IsRead (any w m t r g n p k a) bytes
+unfolding restart
+restart-read false m t r g n p k a bytes h = h
+restart-read true m t r g n p k a [] h = none-read (any true m t r g n p k a)
+restart-read true m t r g n p k a (b ∷ bs) h =
+    record {
+      after = λ some. open_after-restart true m t r g n p k a b bs ∙ h.after some;
+      none = whole_lines-restart true m t r g n p k a (b ∷ bs) ∙ h.none;
+    }
+
+any-append : (w : Bool) (m : Mode) (t : Held) (r g : Bool) (n p k : ℕ) (a : Mark) → m ≡ Plain → is_settled a ≡ true
+    → (xs ys : List ℕ) → IsText xs → IsText ys → IsRead (any w m t r g n p k a) (xs ++ ys)
+unfolding restart
+any-append false m t r g n p k a e s xs ys f h = rw e (append-st t r g n p k a s xs ys f h)
+any-append true m t r g n p k a e s xs ys f h =
+    restart-read true m t r g n p k a (xs ++ ys) (rw e (append-st nothing_held r g p p k a s xs ys f h))
+
+text-append : (xs ys : List ℕ) → IsText xs → IsText ys → IsText (xs ++ ys)
+text-append xs ys f h = λ o t.
+    any-append o.whole o.mode o.text o.after_return o.begun o.number o.physical o.consumed o.mark t.plain t.settled xs ys f h
+
+-- text to a place of a chunk, and what is read after it
+pub text-more : (xs : List ℕ) (i n : ℕ) → IsText (take i xs) → IsText (take n (drop i xs)) → IsText (take (i + n) xs)
+text-more xs i n f h = rw (take-add i n xs) (text-append (take i xs) (take n (drop i xs)) f h)
+
+-- the front of a run
+pub run-front : (ys : List ℕ) (n : ℕ) → n ≤ length ys → ((k : ℕ) → k < n → ends_run Plain (slice_index ys k) ≡ false) → IsText (take n ys)
+run-front ys n le h =
+    let len = length-take-le n ys le in
+    text-run (take n ys) (λ k l. rw (get_or-take n ys k 0 (omega (arith, l, len))) (h k (omega (arith, l, len))))
+
+-- a pair more, and the run after it
+pub pair-more : (xs : List ℕ) (i n : ℕ) → i ≤ length xs → IsText (take i xs) → BeginsPair (take (length xs - i) (drop i xs))
+    → n ≤ length (take (length xs - (i + 2)) (drop (i + 2) xs))
+    → ((k : ℕ) → k < n → ends_run Plain (slice_index (take (length xs - (i + 2)) (drop (i + 2) xs)) k) ≡ false)
+    → (i + 2 + n ≤ length xs) × IsText (take (i + 2 + n) xs)
+pair-more xs i n le f pair within run =
+    let room = rw (rest_of xs (i + 2)) at within in
+    let pair_at = rw (rest_of xs i) at pair in
+    let long : i + 2 ≤ length xs = omega (arith, pair_at.long, length-drop i xs) in (
+      omega (arith, room, length-drop (i + 2) xs, long),
+      text-more xs (i + 2) n (text-more xs i 2 f (text-pair (drop i xs) pair_at))
+      (run-front (drop (i + 2) xs) n room (rw (rest_of xs (i + 2)) at run)),
+    )
+
+pair-printable : (bytes : List ℕ) → BeginsPair bytes → list_all is_printable (take 2 bytes) ≡ true
+pair-printable bytes h =
+    let b = get_or bytes 1 0 in
+    let is = and_true (is_printable b) (not (b == quote) && not (b == hash)) h.stays in
+    rw (front_two bytes h, is.0) refl
+
+pub printable-more : (xs : List ℕ) (i n : ℕ) → list_all is_printable (take i xs) ≡ true → BeginsPair (take (length xs - i) (drop i xs))
+    → list_all is_printable (take n (take (length xs - (i + 2)) (drop (i + 2) xs))) ≡ true
+    → list_all is_printable (take (i + 2 + n) xs) ≡ true
+printable-more xs i n above pair below =
+    let pair_at = rw (rest_of xs i) at pair in
+    let below_at = rw (rest_of xs (i + 2)) at below in
+    rw (take-add (i + 2) n xs, take-add i 2 xs)
+    (all-append is_printable (take i xs ++ take 2 (drop i xs)) (take n (drop (i + 2) xs))
+    (all-append is_printable (take i xs) (take 2 (drop i xs)) above (pair-printable (drop i xs) pair_at)) below_at)
+
+-- what comes before a line feed, in a comment or after one that drops its line feed
+pub comment-read : (o : Open) (ys : List ℕ) (n : ℕ) → is_settled o.mark ≡ true → (o.mode ≡ Comment) ⊎ (o.mode ≡ Dropped) → n ≤ length ys
+    → ((k : ℕ) → k < n → ends_run Comment (slice_index ys k) ≡ false) → IsRead o (take n ys)
+comment-read o ys n s mode le h =
+    let len = length-take-le n ys le in
+    run-read o (take n ys) record {
+      settled = s;
+      bytes = λ k l.
+        let same = get_or-take n ys k 0 (omega (arith, l, len)) in
+        elim mode [
+          | inl e ↦ rw (e, same) (h k (omega (arith, l, len)))
+          | inr e ↦ rw (e, same) (h k (omega (arith, l, len)))
+        ];
+    }
