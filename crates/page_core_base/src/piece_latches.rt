@@ -1,6 +1,6 @@
 //! The latch over a sink of pieces: what inner functions give to, so that they need not hand on its faults.
 
-ghost use Rattle.std.specs.Prelude.{◌≡◌, List, [], ◌∷◌, IsTrue, None, Some, MatchResult};
+ghost use Rattle.std.specs.Prelude.{◌≡◌, ◌≤◌, List, [], ◌∷◌, length, IsTrue, None, Some, MatchResult};
 ghost use Rattle.page_core_base.specs.Latches.{Came};
 ghost use Rattle.page_core_base.specs.Messages.{message_of};
 ghost use Rattle.page_core_base.specs.PiecePlans.{Planned, Left};
@@ -25,7 +25,8 @@ pub trait PieceOut {
     /// Takes the first words of a text, in which one blank stands before each, as far as they go into the open row and settle nothing;
     /// answers how many bytes of the text these are, which may be none. The blank before the first word stands at a place.
     fn give_words(&mut self, text: &[u8], font: Font, place: Place) -> usize
-        ensures { TakesWords text.now font place result (Came left) self.old self.new };
+        ensures takes { TakesWords text.now font place result (Came left) self.old self.new }
+        ensures within { result ≤ length text.now };
 
     /// Takes a message.
     fn report(&mut self, note: &Note)

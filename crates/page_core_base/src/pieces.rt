@@ -1,6 +1,6 @@
 //! Pieces: what a page's scopes give to be filled, in the order of the page.
 
-ghost use Rattle.std.specs.Prelude.{◌≡◌, List, [], ◌∷◌, MatchResult};
+ghost use Rattle.std.specs.Prelude.{◌≡◌, ◌≤◌, List, [], ◌∷◌, length, MatchResult};
 ghost use Rattle.page_core_base.specs.Sinks.{IsSink};
 ghost use Rattle.page_core_base.specs.Messages.{message_of};
 ghost use Rattle.page_core_base.specs.declared.faults.Fault.{Fault};
@@ -91,6 +91,7 @@ pub trait PieceSink {
     /// answers how many bytes of the text these are. The blank before the first word stands at a place.
     fn take_words(&mut self, text: &[u8], font: Font, place: Place) -> usize
         ensures takes { TakesWords text.now font place result gave self.old self.new }
+        ensures within { result ≤ length text.now }
         ensures same { loans self.new ≡ loans self.old };
 
     /// Takes a message. Its fault is [`Fault::WriteNotes`].

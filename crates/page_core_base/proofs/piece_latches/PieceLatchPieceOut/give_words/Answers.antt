@@ -4,12 +4,12 @@ use Rattle.page_core_base.proofs.PieceLatchLemmas.{left_taken}
 use Rattle.page_core_base.proofs.piece_latches.PieceLatchPieceOut.give_words.Goals as goal
 
 -- none of the words was taken
-pub returns-then-is_some : goal.returns-then-is_some
+pub returns-then-is_some-clause-takes : goal.returns-then-is_some-clause-takes
 unfolding blank_words word_items
-returns-then-is_some g c = λ words are bytes. (0, refl, λ plan rest h. h)
+returns-then-is_some-clause-takes g c = λ words are bytes. (0, refl, λ plan rest h. h)
 
-pub returns : goal.returns
-returns g c = λ words are bytes.
+pub returns-clause-takes : goal.returns-clause-takes
+returns-clause-takes g c = λ words are bytes.
     let none = sym c.is_some.ensures ∙ c.if-is_some.false in
     let took = c.take_words.ensures.takes words are bytes in (
       took.0,
