@@ -1,6 +1,7 @@
 pub mod Messages
 pub mod Rows
 pub mod Texts
+pub mod Words
 pub mod Checks
 pub mod Sinks
 pub mod Fails

@@ -1,12 +1,13 @@
 //! The latch over a sink of pieces: what inner functions give to, so that they need not hand on its faults.
 
-ghost use Rattle.std.specs.Prelude.{◌≡◌, List, [], ◌∷◌, IsTrue, None, Some, MatchResult};
+ghost use Rattle.std.specs.Prelude.{◌≡◌, ◌≤◌, List, [], ◌∷◌, length, IsTrue, None, Some, MatchResult};
 ghost use Rattle.page_core_base.specs.Latches.{Came};
 ghost use Rattle.page_core_base.specs.Messages.{message_of};
 ghost use Rattle.page_core_base.specs.PiecePlans.{Planned, Left};
 ghost use Rattle.page_core_base.specs.Pieces.{Item, shown, noted, piece_of};
+ghost use Rattle.page_core_base.specs.Words.{TakesWords};
 
-use crate::{Fault, Note, Piece, PieceSink};
+use crate::{Fault, Font, Note, Piece, PieceSink, Place};
 
 /// Takes pieces and messages, and never fails: after a fault of the sink below it takes nothing.
 pub trait PieceOut {
@@ -20,6 +21,12 @@ pub trait PieceOut {
     /// Takes a piece.
     fn give(&mut self, piece: Piece<&[u8]>)
         ensures { Came left self.old (shown (piece_of piece.entry) ∷ []) self.new };
+
+    /// Takes the first words of a text, in which one blank stands before each, as far as they go into the open row and settle nothing;
+    /// answers how many bytes of the text these are, which may be none. The blank before the first word stands at a place.
+    fn give_words(&mut self, text: &[u8], font: Font, place: Place) -> usize
+        ensures takes { TakesWords text.now font place result (Came left) self.old self.new }
+        ensures within { result ≤ length text.now };
 
     /// Takes a message.
     fn report(&mut self, note: &Note)
@@ -72,6 +79,14 @@ impl<O: PieceSink> PieceOut for PieceLatch<'_, O> {
         if let Err(fault) = self.out.piece(piece) {
             self.fault = Some(fault);
         }
+    }
+
+    #[inline(always)]
+    fn give_words(&mut self, text: &[u8], font: Font, place: Place) -> usize {
+        if self.fault.is_some() {
+            return 0;
+        }
+        self.out.take_words(text, font, place)
     }
 
     fn report(&mut self, note: &Note) {

@@ -1,10 +1,11 @@
 //! Pieces: what a page's scopes give to be filled, in the order of the page.
 
-ghost use Rattle.std.specs.Prelude.{◌≡◌, List, [], ◌∷◌, MatchResult};
+ghost use Rattle.std.specs.Prelude.{◌≡◌, ◌≤◌, List, [], ◌∷◌, length, MatchResult};
 ghost use Rattle.page_core_base.specs.Sinks.{IsSink};
 ghost use Rattle.page_core_base.specs.Messages.{message_of};
 ghost use Rattle.page_core_base.specs.declared.faults.Fault.{Fault};
 ghost use Rattle.page_core_base.specs.Pieces.{Item, shown, noted, piece_of};
+ghost use Rattle.page_core_base.specs.Words.{TakesWords};
 
 use crate::{Fault, Font, Note, Place};
 use std::alloc::AllocError;
@@ -84,6 +85,13 @@ pub trait PieceSink {
     fn piece(&mut self, piece: Piece<&[u8]>) -> Result<(), Fault>
         ensures gives { MatchResult result (λ _. gave self.old (shown (piece_of piece.entry) ∷ []) self.new)
             (λ fault. broke self.old fault (shown (piece_of piece.entry) ∷ []) self.new) }
+        ensures same { loans self.new ≡ loans self.old };
+
+    /// Takes the first words of a text, in which one blank stands before each, as far as they go into the open row and settle nothing;
+    /// answers how many bytes of the text these are. The blank before the first word stands at a place.
+    fn take_words(&mut self, text: &[u8], font: Font, place: Place) -> usize
+        ensures takes { TakesWords text.now font place result gave self.old self.new }
+        ensures within { result ≤ length text.now }
         ensures same { loans self.new ≡ loans self.old };
 
     /// Takes a message. Its fault is [`Fault::WriteNotes`].

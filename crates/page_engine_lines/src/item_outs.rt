@@ -5,7 +5,7 @@ ghost use Rattle.page_core_base.specs.Latches.{Came};
 ghost use Rattle.page_core_base.specs.Messages.{Message, message_of};
 ghost use Rattle.page_core_base.specs.Pieces.{Item, noted};
 
-use page_core_base::{Note, Piece, PieceOut};
+use page_core_base::{Font, Note, Piece, PieceOut, Place};
 use page_roff_values::NoteOut;
 
 /// Takes pieces and messages into a latch of pieces, for those who give messages alone too.
@@ -22,6 +22,11 @@ impl<L: PieceOut> PieceOut for ItemOut<L> {
     #[inline(always)]
     fn give(&mut self, piece: Piece<&[u8]>) {
         self.latch.give(piece);
+    }
+
+    #[inline(always)]
+    fn give_words(&mut self, text: &[u8], font: Font, place: Place) -> usize {
+        self.latch.give_words(text, font, place)
     }
 
     fn report(&mut self, note: &Note) {

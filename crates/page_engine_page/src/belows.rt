@@ -6,7 +6,7 @@ ghost use Rattle.page_engine_page.specs.Levels.{filter-sink};
 ghost use Rattle.page_engine_page.specs.Below.{BelowGave, BelowBroke, below-sink};
 
 use crate::filters::Filter;
-use page_core_base::{Fault, Note, NoteSink, Piece, PieceSink, RowSink};
+use page_core_base::{Fault, Font, Note, NoteSink, Piece, PieceSink, Place, RowSink};
 use page_fill::Filler;
 
 /// Fills pieces, and passes rows and messages on.
@@ -46,6 +46,11 @@ impl<R: RowSink, N: NoteSink> PieceSink for Below<'_, '_, '_, R, N> {
     #[tactic(auto, unfolding(crate::specs::Items::laid_items))]
     fn piece(&mut self, piece: Piece<&[u8]>) -> Result<(), Fault> {
         self.filler.piece(piece, self.rows, &mut self.notes)
+    }
+
+    #[inline(always)]
+    fn take_words(&mut self, text: &[u8], font: Font, _place: Place) -> usize {
+        self.filler.take_words(text, font)
     }
 
     #[tactic(auto, unfolding(crate::specs::Items::laid_items))]

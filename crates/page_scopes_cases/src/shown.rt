@@ -1,7 +1,7 @@
 //! Pieces and messages as text: those of a line, each after a blank. `<` is a word's text with a letter for its font, `_` blanks, and `!` a
 //! message with its column and detail.
 
-use page_core_base::{Font, Note, Piece, PieceOut};
+use page_core_base::{Font, Note, Piece, PieceOut, Place};
 use std::alloc::Global;
 
 /// Keeps a text of what it is given.
@@ -106,6 +106,11 @@ impl PieceOut for Shown {
             Piece::Column(column) => self.add_number(" Column ", column),
             _ => self.add(piece_name(&piece)),
         }
+    }
+
+    // Words come one by one.
+    fn give_words(&mut self, _text: &[u8], _font: Font, _place: Place) -> usize {
+        0
     }
 
     fn report(&mut self, note: &Note) {

@@ -1,6 +1,6 @@
 //! Margins of scopes that begin and end.
 
-use page_core_base::{Font, Note, Piece, PieceOut};
+use page_core_base::{Font, Note, Piece, PieceOut, Place};
 use page_scopes_layout::{Context, Setting, give_begin, give_end, margins_of, restored};
 use page_scopes_tree::{Explicit, Label};
 use page_sets_lines::{FontMacro, HeadingName, LineOpener, Link, TagName};
@@ -105,6 +105,11 @@ impl PieceOut for Letters {
         if let Piece::Indent { first, .. } = piece {
             self.add(&[b'0' + (first / 10 % 10) as u8, b'0' + (first % 10) as u8]);
         }
+    }
+
+    // Words come one by one.
+    fn give_words(&mut self, _text: &[u8], _font: Font, _place: Place) -> usize {
+        0
     }
 
     fn report(&mut self, _note: &Note) {

@@ -1,7 +1,7 @@
 //! A latch that keeps pieces and messages as a text.
 
 use crate::names::{font_mark, kind_name};
-use page_core_base::{Font, Note, Piece, PieceOut};
+use page_core_base::{Font, Note, Piece, PieceOut, Place};
 use std::alloc::Global;
 
 /// Keeps a text of what it is given.
@@ -109,6 +109,11 @@ impl PieceOut for Shown {
             }
             _ => self.add_other(piece),
         }
+    }
+
+    // Words come one by one.
+    fn give_words(&mut self, _text: &[u8], _font: Font, _place: Place) -> usize {
+        0
     }
 
     fn report(&mut self, note: &Note) {

@@ -1,8 +1,11 @@
 -- The words of a text, token by token.
-use Rattle.std.proofs.Common.{◌≡◌, ℕ, zero, ◌+◌, ◌<◌, ◌≤◌, ◌==◌, ◌&&◌, Bool, true, false, List, [], ◌∷◌, ◌++◌, length, take, drop, refl, ap, ◌∙◌, arith, sym, suc, length-drop, Option, None, Some, inl, inr}
-use Rattle.std.specs.List.{prefix_len}
+use Rattle.std.proofs.Common.{◌≡◌, ℕ, zero, ◌+◌, ◌<◌, ◌≤◌, ◌==◌, ◌&&◌, ◌||◌, cond, not, nat_lt, Bool, true, false, List, [], ◌∷◌, ◌++◌, length, take, drop, refl, ap, ◌∙◌, arith, sym, suc, length-drop, Option, None, Some, inl, inr}
+use Rattle.std.specs.List.{list_all, prefix_len}
 use Rattle.std.proofs.lemmas.List.Folds.{length-prefix_len}
 use Rattle.std.proofs.lemmas.Bool.{cases_Bool}
+use Rattle.std.proofs.lemmas.Bool.Decides.{nat_tests}
+use Rattle.std.proofs.lemmas.List.{take-append-drop}
+use Rattle.page_core_base.specs.Words.{is_word}
 use Rattle.page_core_base.specs.declared.places.Place.{Place}
 use Rattle.page_core_escapes.specs.Tokens.{TextToken, white, plain, quotes, escaped, begins_word, begins_white, is_space, is_white, prints_itself, token_at, token_len}
 use Rattle.page_core_escapes.specs.Escapes.{escape_of, read_escape}
@@ -144,12 +147,15 @@ plain_begins quoted (b ∷ bs) word e h k =
 
 -- the one token of a word, where no word goes on after it
 pub reads_plain : (quoted : Bool) (text word : List ℕ) → token_at quoted text ≡ plain word → 0 < length word → length word ≤ length text
+    → text ≡ word ++ drop (length word) text → is_word word ≡ true
     → begins_word (drop (length word) text) ≡ false → ReadsPlain quoted text word (drop (length word) text)
-reads_plain quoted text word e h k ends =
+reads_plain quoted text word e h k bytes is ends =
     let w = plain_begins quoted text word e h k in
     let len : length word ≡ token_len quoted text = rw e refl in
     record {
       len = omega (arith, length-drop (length word) text, k);
+      bytes = bytes;
+      is = is;
       only = ap (λ (t : Parted). t.word) (words_more quoted text (length word) w h len) ∙ rw (e, no_word quoted (drop (length word) text) ends) refl;
       ends = ends;
       others = others_same quoted text (length word) w h len;
@@ -168,9 +174,34 @@ plain_token quoted (b ∷ bs) h =
       ]
     ]
 
+-- what prints itself has no blank
+no_blank : (x y z : Bool) → not ((x || y) || z) ≡ true → not x ≡ true
+no_blank true y z h = h
+no_blank false y z h = refl
+
+front_without : (b : Bool) (q : ℕ → Bool) (x : ℕ) (xs : List ℕ) (n m : ℕ) → (b ≡ true → q x ≡ true) → suc n ≤ cond b (1 + m) 0
+    → (n ≤ m → list_all q (take n xs) ≡ true) → list_all q (take (suc n) (x ∷ xs)) ≡ true
+front_without true q x xs n m w h g = rw (w refl) (g (omega arith))
+front_without false q x xs n m w h g = absurd (omega arith)
+
+all_before : (p q : ℕ → Bool) → ((x : ℕ) → p x ≡ true → q x ≡ true) → (xs : List ℕ) (n : ℕ) → n ≤ prefix_len p xs → list_all q (take n xs) ≡ true
+all_before p q w xs zero h = refl
+all_before p q w [] (suc n) h = refl
+all_before p q w (x ∷ xs) (suc n) h = front_without (p x) q x xs n (prefix_len p xs) (w x) h (all_before p q w xs n)
+
+some_less : (n : ℕ) → 0 < n → nat_lt 0 n ≡ true
+some_less n h = grind (arith, nat_tests, h)
+
+-- some bytes that print themselves are a word
+plain_word : (quoted : Bool) (text : List ℕ) (n : ℕ) → n ≡ prefix_len (prints_itself quoted) text → 0 < length (take n text) → is_word (take n text) ≡ true
+plain_word quoted text n e some =
+    let front = all_before (prints_itself quoted) (λ b. not (b == 32)) (λ b h. no_blank (b == 32) (b == 9) (b == 92 || (quoted && b == 34)) h) text n (omega (arith, e)) in
+    rw (some_less (length (take n text)) some) front
+
 pub reads_front : (quoted : Bool) (text : List ℕ) (n : ℕ) → n ≡ prefix_len (prints_itself quoted) text → n ≤ length text → 0 < length (take n text)
     → begins_word (drop n text) ≡ false → ReadsPlain quoted text (take n text) (drop n text)
 reads_front quoted text n e k some ends =
     let len : length (take n text) ≡ n = rw e (length-prefix_len (prints_itself quoted) text) in
     let token : token_at quoted text ≡ plain (take n text) = rw e (plain_token quoted text (omega (arith, len, some, e))) in
-    rw len at (reads_plain quoted text (take n text) token some (omega (arith, len, k)) (rw len ends))
+    let bytes : text ≡ take n text ++ drop (length (take n text)) text = rw len (sym (take-append-drop n text)) in
+    rw len at (reads_plain quoted text (take n text) token some (omega (arith, len, k)) bytes (plain_word quoted text n e some) (rw len ends))

@@ -13,13 +13,10 @@ use Rattle.page_scopes_words.specs.Words.{at}
 use Rattle.page_scopes_text.proofs.PartedLemmas.{no_word, spaced_more}
 use Rattle.page_scopes_text.specs.Parted.{Parted, Spaced}
 use Rattle.page_scopes_text.specs.Reads.{ReadsBlankWord, ReadsPlain, resting}
+use Rattle.page_scopes_text.specs.Runs.{blank_word}
 use Rattle.page_scopes_text.specs.Texts.{others_after, others_items, spaced_after, spaced_items}
 use Rattle.page_scopes_text.specs.declared.pens.Pen.{Pen}
 use Rattle.page_scopes_text.specs.declared.pens.TextStyle.{TextStyle}
-
--- one blank, and a word that prints itself
-abbrev pub blank_word : List ℕ → Spaced
-blank_word word = record { white = 32 ∷ []; word = plain word ∷ [] }
 
 -- in rows that are filled such a word leaves another column, and nothing else
 after_blank_word : (style : TextStyle) (fonts : Setting Fonts) (column : ℕ) (word : List ℕ)
@@ -63,6 +60,8 @@ reads_blank_word quoted text word rest r =
     let parts = spaced_more quoted (32 ∷ text) 1 refl (omega arith) (sym one) in
     record {
       len = omega (arith, r.len);
+      bytes = ap (λ (bytes : List ℕ). 32 ∷ bytes) r.bytes;
+      is = r.is;
       front = ap (λ (t : Parted). t.others) parts ∙ rw (one, r.only, r.others) refl;
       ends = r.ends;
     }

@@ -1,5 +1,6 @@
 -- How the code's own reading of a text goes on from its front. Source: roff(7).
-use Rattle.std.specs.Prelude.{◌≡◌, ℕ, ◌≤◌, ◌<◌, ◌+◌, ◌^◌, Bool, true, false, List, [], ◌∷◌, length, drop}
+use Rattle.std.specs.Prelude.{◌≡◌, ℕ, ◌≤◌, ◌<◌, ◌+◌, ◌^◌, Bool, true, false, List, [], ◌∷◌, ◌++◌, length, drop}
+use Rattle.page_core_base.specs.Words.{is_word}
 use Rattle.page_core_escapes.specs.Tokens.{begins_word, plain, token_len}
 use Rattle.page_core_limits.specs.declared.TheConstants.{LINE}
 use Rattle.page_scopes_text.specs.Parted.{words_of}
@@ -45,6 +46,8 @@ resting fonts column = record {
 -- a word at a text's front was read, all of which prints itself
 pub record ReadsPlain (quoted : Bool) (text word rest : List ℕ) : Type 0 where
   pub len : length word + length rest ≡ length text
+  pub bytes : text ≡ word ++ rest
+  pub is : is_word word ≡ true
   pub only : (words_of quoted text).word ≡ plain word ∷ []
   pub ends : begins_word rest ≡ false
   pub others : (words_of quoted rest).others ≡ (words_of quoted text).others
@@ -52,5 +55,7 @@ pub record ReadsPlain (quoted : Bool) (text word rest : List ℕ) : Type 0 where
 -- the one blank at a text's front was read, and the word after it, all of which prints itself
 pub record ReadsBlankWord (quoted : Bool) (text word rest : List ℕ) : Type 0 where
   pub len : (1 + length word) + length rest ≡ length text
+  pub bytes : text ≡ 32 ∷ (word ++ rest)
+  pub is : is_word word ≡ true
   pub front : (words_of quoted text).others ≡ record { white = 32 ∷ []; word = plain word ∷ [] } ∷ (words_of quoted rest).others
   pub ends : begins_word rest ≡ false

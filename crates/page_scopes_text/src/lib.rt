@@ -3,6 +3,7 @@
 
 mod numbers;
 mod pens;
+mod runs;
 mod texts;
 mod tokens;
 mod words;

@@ -1,16 +1,16 @@
 //! Texts: words, and the white space between them (roff(7), "LANGUAGE SYNTAX").
 
-ghost use Rattle.std.specs.Prelude.{◌≡◌, ◌≤◌, ◌<◌, ◌+◌, ◌^◌, true, false, [], ◌∷◌, length, IfSome};
+ghost use Rattle.std.specs.Prelude.{◌≡◌, ◌≤◌, ◌<◌, ◌+◌, ◌^◌, true, false, length};
 ghost use Rattle.page_core_base.specs.Latches.{Came, CameUpTo};
-ghost use Rattle.page_core_base.specs.Pieces.{shown};
 ghost use Rattle.page_core_escapes.specs.Tokens.{begins_white, begins_word};
 ghost use Rattle.page_scopes_text.specs.Parted.{spaced_front, words_of};
-ghost use Rattle.page_scopes_text.specs.Reads.{Fits, ReadsBlankWord, ReadsSpaced, Within};
+ghost use Rattle.page_scopes_text.specs.Reads.{Fits, ReadsSpaced, Within};
 ghost use Rattle.page_scopes_text.specs.Texts as texts;
 ghost use Rattle.page_scopes_text.specs.Words.{body_after};
 
+use crate::runs::{give_run, run_len};
 use crate::tokens::give_blank_cells;
-use crate::words::{give_body, give_word, read_plain, report_word};
+use crate::words::{give_body, give_word, report_word};
 use crate::{Pen, TextStyle};
 use page_core_base::{Font, Piece, PieceOut, Place};
 use page_core_escapes::{begins_word, read_token};
@@ -60,35 +60,6 @@ fn give_spaced<'a, O: PieceOut>(
     }
 }
 
-// The word after the one blank at a text's front, and what is left after it, where all of the word prints itself.
-#[inline(always)]
-fn read_blank_word(quoted: bool, text: &[u8]) -> Option<(&[u8], &[u8])>
-    requires { length text.now ≤ LINE }
-    ensures { IfSome result (λ parts. ReadsBlankWord quoted text.now parts.0.now parts.1.now) }
-{
-    if text.is_empty() || text[0] != b' ' {
-        return None;
-    }
-    read_plain(quoted, &text[1..])
-}
-
-// Gives a blank, and a word that prints itself.
-#[inline(always)]
-fn give_blank_word<O: PieceOut>(out: &mut O, font: Font, place: Place, word: &[u8])
-    ensures { Came O.left out.old
-        (shown (Piece.Blank 1 false) ∷ (shown (Piece.Text word.now font place) ∷ [])) out.new }
-{
-    out.give(Piece::Blank {
-        count: 1,
-        has_tab: false,
-    });
-    out.give(Piece::Text {
-        text: word,
-        font,
-        place,
-    });
-}
-
 // Gives the words at a text's front that print themselves, with one blank before each: in rows that are filled they only move the pen's
 // column. What is left of the text.
 fn give_plain_words<'a, O: PieceOut>(
@@ -111,19 +82,13 @@ fn give_plain_words<'a, O: PieceOut>(
     if style.is_literal || !pen.is_resting() {
         return text;
     }
-    let font = pen.fonts.value.font;
-    let mut rest = text;
-    let mut column = pen.column;
-    while let Some((word, after)) = read_blank_word(style.is_quoted, rest) {
-        let place = Place {
-            line,
-            column: column + 1,
-        };
-        give_blank_word(out, font, place, word);
-        column = place.column + word.len() as u32;
-        rest = after;
-    }
-    pen.column = column;
+    let (run, rest) = text.split_at(run_len(style.is_quoted, text));
+    let place = Place {
+        line,
+        column: pen.column,
+    };
+    give_run(out, pen.fonts.value.font, place, run);
+    pen.column += run.len() as u32;
     rest
 }
 

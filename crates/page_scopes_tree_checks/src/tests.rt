@@ -1,7 +1,7 @@
 //! What events open and end, and what is reported.
 
 use crate::nested::Nested;
-use page_core_base::{Note, Piece, PieceOut, Place};
+use page_core_base::{Font, Note, Piece, PieceOut, Place};
 use page_roff_forms::{Argument, Quoting};
 use page_scopes_shown::Shown;
 use page_scopes_tree::{SCOPES, ScopeStack};
@@ -49,6 +49,11 @@ impl PieceOut for Levels {
             }
             _ => self.shown.add(b"."),
         }
+    }
+
+    // Words come one by one.
+    fn give_words(&mut self, _text: &[u8], _font: Font, _place: Place) -> usize {
+        0
     }
 
     fn report(&mut self, note: &Note) {

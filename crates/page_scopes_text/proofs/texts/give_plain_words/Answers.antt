@@ -1,26 +1,20 @@
-use Rattle.std.proofs.Common.{◌≡◌, List, false, ap, sym, ◌∙◌, arith, rules}
-use Rattle.page_scopes_text.proofs.PlainWordLemmas.{blank_word_after, blank_word_items}
-use Rattle.page_scopes_text.specs.Parted.{Spaced, words_of}
+use Rattle.std.proofs.Common.{◌≡◌, ◌-◌, false, length, rules, arith}
+use Rattle.page_scopes_text.proofs.RunLemmas.{run_came, run_pen}
 use Rattle.page_scopes_text.specs.Reads.{resting}
-use Rattle.page_scopes_text.specs.Texts.{others_after, others_items}
+use Rattle.page_scopes_text.specs.Runs.{BeginsRun}
 use Rattle.page_scopes_text.proofs.texts.give_plain_words.Goals as goal
 
-pub loop-word-preserved : goal.loop-word-preserved
-loop-word-preserved g c =
-    let l = c.loop-word in
-    let i = l.invariant in
-    let style = c.args.style in
-    let fonts = c.args.pen.now.fonts in
-    let literal : style.is_literal ≡ false = search rules in
-    let r = c.in-Some.ensures in
-    let word = c.in-Some.word.now in
-    let others = (words_of style.is_quoted c.in-Some.after.now).others in
-    let items = ap (λ (o : List Spaced). others_items style c.args.line (resting fonts l.column) o) r.front ∙ blank_word_items style c.args.line fonts l.column word others literal in
-    let pens = ap (λ (o : List Spaced). others_after style (resting fonts l.column) o) r.front ∙ blank_word_after style fonts l.column word others in
-    record {
-      came = λ plan rest k. c.give_blank_word.ensures plan _ (rw items at (i.came plan rest k));
-      pen = sym pens ∙ i.pen;
-      ends = r.ends;
-      column = omega (arith, r.len, i.column);
-      less = omega (arith, r.len, i.less);
-    }
+pub returns-clause-came : goal.returns-clause-came
+returns-clause-came g c =
+    let literal : c.args.style.is_literal ≡ false = search rules in
+    let rests : c.args.pen.now ≡ resting c.args.pen.now.fonts c.args.pen.now.column = c.is_resting.ensures (search rules) in
+    let begins : BeginsRun c.args.style.is_quoted c.args.text.now c.split_at.result.0.now c.split_at.result.1.now =
+    rw (c.split_at.ensures.front, c.split_at.ensures.back) c.run_len.ensures.run in
+    run_came g.O.PieceOut.left c.args.style c.args.line c.args.pen.now c.args.text.now c.split_at.result.0.now c.split_at.result.1.now _ _ literal rests begins c.give_run.ensures
+
+pub returns-clause-pen : goal.returns-clause-pen
+returns-clause-pen g c =
+    let rests : c.args.pen.now ≡ resting c.args.pen.now.fonts c.args.pen.now.column = c.is_resting.ensures (search rules) in
+    let begins : BeginsRun c.args.style.is_quoted c.args.text.now c.split_at.result.0.now c.split_at.result.1.now =
+    rw (c.split_at.ensures.front, c.split_at.ensures.back) c.run_len.ensures.run in
+    run_pen c.args.style c.args.pen.now c.args.text.now c.split_at.result.0.now c.split_at.result.1.now rests begins

@@ -3,7 +3,7 @@ use Rattle.std.proofs.lemmas.Bool.Decides.{nat_tests}
 use Rattle.std.proofs.lemmas.List.{take_rest}
 use Rattle.std.proofs.lemmas.Option.{IfSome_then}
 use Rattle.page_scopes_text.proofs.PlainWordLemmas.{reads_blank_text}
-use Rattle.page_scopes_text.proofs.texts.read_blank_word.Goals as goal
+use Rattle.page_scopes_text.proofs.runs.read_blank_word.Goals as goal
 
 pub returns : goal.returns
 returns c =

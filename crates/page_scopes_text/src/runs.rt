@@ -1,0 +1,103 @@
+//! Runs of words that print themselves, with one blank before each: most of a page (roff(7), "LANGUAGE SYNTAX").
+
+ghost use Rattle.std.specs.Prelude.{◌≡◌, ◌≤◌, ◌<◌, ◌+◌, ◌^◌, ℕ, List, false, true, [], ◌∷◌, ◌==◌, not, length, take, drop, IfSome, MatchOption};
+ghost use Rattle.std.specs.List.{list_all, prefix_len};
+ghost use Rattle.page_core_base.specs.Latches.{Came};
+ghost use Rattle.page_core_base.specs.Pieces.{shown};
+ghost use Rattle.page_core_base.specs.Words.{blank_words, is_word, word_items};
+ghost use Rattle.page_core_escapes.specs.Tokens.{begins_word};
+ghost use Rattle.page_scopes_text.specs.Reads.{ReadsBlankWord};
+ghost use Rattle.page_scopes_text.specs.Runs.{BeginsRun, BeginsWith};
+
+use crate::words::read_plain;
+use page_core_base::{Font, Piece, PieceOut, Place};
+use page_core_limits::LINE;
+
+// The word after the one blank at a text's front, and what is left after it, where all of the word prints itself.
+#[inline(always)]
+fn read_blank_word(quoted: bool, text: &[u8]) -> Option<(&[u8], &[u8])>
+    requires { length text.now ≤ LINE }
+    ensures { IfSome result (λ parts. ReadsBlankWord quoted text.now parts.0.now parts.1.now) }
+{
+    if text.is_empty() || text[0] != b' ' {
+        return None;
+    }
+    read_plain(quoted, &text[1..])
+}
+
+/// How many bytes at a text's front are words that print themselves, with one blank before each.
+#[inline(always)]
+pub(crate) fn run_len(quoted: bool, text: &[u8]) -> usize
+    requires short { length text.now ≤ LINE }
+    requires word { begins_word text.now ≡ false }
+    ensures within { result ≤ length text.now }
+    ensures run { BeginsRun quoted text.now (take result text.now) (drop result text.now) }
+{
+    let mut at = 0;
+    while let Some((word, _)) = read_blank_word(quoted, &text[at..]) {
+        at += 1 + word.len();
+    }
+    at
+}
+
+// Gives a blank, and a word that prints itself.
+#[inline(always)]
+fn give_blank_word<O: PieceOut>(out: &mut O, font: Font, place: Place, word: &[u8])
+    ensures { Came O.left out.old
+        (shown (Piece.Blank 1 false) ∷ (shown (Piece.Text word.now font place) ∷ [])) out.new }
+{
+    out.give(Piece::Blank {
+        count: 1,
+        has_tab: false,
+    });
+    out.give(Piece::Text {
+        text: word,
+        font,
+        place,
+    });
+}
+
+// How many bytes at a text's front are no blanks.
+fn word_len(text: &[u8]) -> usize
+    ensures value { result ≡ prefix_len (λ byte. not (byte == 32)) text.now }
+    ensures within { result ≤ length text.now }
+{
+    text.iter().take_while(|byte| **byte != b' ').count()
+}
+
+// The first of some words with a blank before each, and what is left after it.
+fn split_word(text: &[u8]) -> Option<(&[u8], &[u8])>
+    ensures first { (words : List (List ℕ)) → list_all is_word words ≡ true → text.now ≡ blank_words words
+        → MatchOption result (words ≡ []) (λ parts. BeginsWith words parts.0.now parts.1.now) }
+    ensures less { MatchOption result (length text.now ≡ 0)
+        (λ parts. (1 + length parts.0.now) + length parts.1.now ≡ length text.now) }
+{
+    if text.is_empty() {
+        return None;
+    }
+    let words = &text[1..];
+    Some(words.split_at(word_len(words)))
+}
+
+/// Gives words that print themselves, with a blank before each, of which the first stands at a place: as many at once as the row takes, and
+/// then one, after another.
+#[inline(always)]
+pub(crate) fn give_run<O: PieceOut>(out: &mut O, font: Font, place: Place, text: &[u8])
+    requires { place.column + length text.now < 2 ^ 32 }
+    ensures { (words : List (List ℕ)) → list_all is_word words ≡ true → text.now ≡ blank_words words
+        → Came O.left out.old (word_items font place words) out.new }
+{
+    let mut rest = text;
+    let mut place = place;
+    while !rest.is_empty() {
+        let taken = out.give_words(rest, font, place);
+        place.column += taken as u32;
+        rest = &rest[taken..];
+        if let Some((word, after)) = split_word(rest) {
+            place.column += 1;
+            give_blank_word(out, font, place, word);
+            place.column += word.len() as u32;
+            rest = after;
+        }
+    }
+}
