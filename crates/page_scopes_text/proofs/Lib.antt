@@ -1,3 +1,4 @@
 pub mod PartedLemmas
 pub mod TextLemmas
 pub mod PlainWordLemmas
+pub mod FontWordLemmas

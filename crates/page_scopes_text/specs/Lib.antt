@@ -3,3 +3,4 @@ pub mod Parted
 pub mod Words
 pub mod Texts
 pub mod Reads
+pub mod FontWords
