@@ -1,5 +1,4 @@
-use Rattle.std.proofs.Common.{◌≡◌, true, arith, sym, ◌∙◌}
-use Rattle.std.proofs.lemmas.Bool.Decides.{nat_tests}
+use Rattle.std.proofs.Common.{◌≡◌, true, sym, ◌∙◌}
 use Rattle.page_core_escapes.specs.Escapes.{face_seen}
 use Rattle.page_scopes_text.specs.Words.{is_known}
 use Rattle.page_scopes_text.proofs.FontWordLemmas.{reads_font}
