@@ -18,7 +18,7 @@ mod quoted;
 mod tokens;
 
 pub use meaning::{Escape, FontName, read_font};
-pub use tokens::{Token, begins_word, plain_len, read_token};
+pub use tokens::{Token, begins_word, plain_len, read_token, short_font};
 
 /// The escape at the front of a text, where a backslash is, and how many bytes it takes: roff(7),
 /// "Escape sequences". One that has no end takes the rest of the text. What it lends of

@@ -3,8 +3,8 @@
 ghost use Rattle.std.specs.Prelude.{◌≡◌, ◌≤◌, ◌<◌, length, map, not, slice_index, if◌then◌else◌, IfSome};
 ghost use Rattle.std.specs.List.{prefix_len};
 ghost use Rattle.std.specs.Simd.Lanes.{mask_l};
-ghost use Rattle.page_core_escapes.specs.Escapes.{face_seen};
-ghost use Rattle.page_core_escapes.specs.Steps.{ShortFont};
+ghost use Rattle.page_core_escapes.specs.Escapes.{face_seen, meaning_seen};
+ghost use Rattle.page_core_escapes.specs.Steps.{ShortEscape, ShortFont};
 ghost use Rattle.page_core_escapes.specs.Tokens.{is_white, begins_white, begins_word, begins_escape, begins_quote, prints_itself, is_space, token_at, token_bytes, token_seen};
 
 use crate::meaning::font_by_letter;
@@ -157,16 +157,51 @@ pub fn plain_len(quoted: bool, text: &[u8]) -> usize
         .count()
 }
 
-// The font that an escape of three bytes at a text's front asks for, as `\fB` does.
+// The roman font by the name that most pages with code give it.
 #[inline(always)]
-fn short_font(text: &[u8]) -> Option<FontName<'_>>
-    requires { slice_index text.now 0 ≡ 0x5C }
-    ensures { IfSome result (λ name. ShortFont text.now (face_seen name)) }
+fn code_font(text: &[u8]) -> Option<(FontName<'_>, usize)>
+    requires backslash { slice_index text.now 0 ≡ 0x5C }
+    requires letter { slice_index text.now 1 ≡ 0x66 }
+    ensures { IfSome result (λ found. ShortFont text.now (face_seen found.0) found.1) }
 {
-    if text.len() < 3 || text[1] != b'f' {
+    if text.len() < 5 || text[2] != b'(' || text[3] != b'C' || text[4] != b'W' {
         return None;
     }
-    font_by_letter(text[2])
+    Some((FontName::R, 5))
+}
+
+/// The font that an escape at a text's front asks for and how many bytes it takes, where few bytes tell it, as in `\fB`.
+#[inline(always)]
+pub fn short_font(text: &[u8]) -> Option<(FontName<'_>, usize)>
+    ensures { IfSome result (λ found. ShortFont text.now (face_seen found.0) found.1) }
+{
+    if text.len() < 3 || text[0] != b'\\' || text[1] != b'f' {
+        return None;
+    }
+    match font_by_letter(text[2]) {
+        Some(name) => Some((name, 3)),
+        None => code_font(text),
+    }
+}
+
+// What an escape at a text's front means and how many bytes it takes, where few bytes tell it: these are the most frequent ones.
+#[inline(always)]
+fn short_escape(text: &[u8]) -> Option<(Escape<'_>, usize)>
+    requires { slice_index text.now 0 ≡ 0x5C }
+    ensures { IfSome result (λ found. ShortEscape text.now (meaning_seen found.0) found.1) }
+{
+    if let Some((name, len)) = short_font(text) {
+        return Some((Escape::Font(name), len));
+    }
+    if text.len() < 2 {
+        return None;
+    }
+    match text[1] {
+        b'&' => Some((Escape::Nothing, 2)),
+        b'-' => Some((Escape::Char('-'), 2)),
+        b'e' => Some((Escape::Char('\\'), 2)),
+        _ => None,
+    }
 }
 
 /// The token at a text's front; `quoted` says whether it is that of a quoted argument.
@@ -182,10 +217,10 @@ pub fn read_token(quoted: bool, text: &[u8]) -> Token<'_>
         return Token::White(&text[..white_len(text)]);
     }
     if begins_escape(text) {
-        if let Some(name) = short_font(text) {
+        if let Some((meaning, len)) = short_escape(text) {
             return Token::Escaped {
-                bytes: &text[..3],
-                meaning: Escape::Font(name),
+                bytes: &text[..len],
+                meaning,
             };
         }
         let (meaning, len) = escape(text);

@@ -2,3 +2,4 @@ pub mod PartedLemmas
 pub mod TextLemmas
 pub mod PlainWordLemmas
 pub mod RunLemmas
+pub mod FontWordLemmas

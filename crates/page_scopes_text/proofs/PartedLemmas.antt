@@ -137,7 +137,7 @@ front_not_space quoted (b ∷ bs) h = word_token quoted b bs (not_white b bs h)
 
 -- ---- a word that prints itself
 
-plain_begins : (quoted : Bool) (text word : List ℕ) → token_at quoted text ≡ plain word → 0 < length word → length word ≤ length text → begins_word text ≡ true
+pub plain_begins : (quoted : Bool) (text word : List ℕ) → token_at quoted text ≡ plain word → 0 < length word → length word ≤ length text → begins_word text ≡ true
 plain_begins quoted [] word e h k = absurd (omega (arith, h, k))
 plain_begins quoted (b ∷ bs) word e h k =
     elim (cases_Bool (is_white b)) [ inl t ↦ absurd (never (sym (space_token quoted b bs t) ∙ ap is_space e)) | inr f ↦ rw f refl ]
@@ -162,7 +162,7 @@ reads_plain quoted text word e h k bytes is ends =
     }
 
 -- what prints itself at a text's front is its first token
-plain_token : (quoted : Bool) (text : List ℕ) → 0 < prefix_len (prints_itself quoted) text → token_at quoted text ≡ plain (take (prefix_len (prints_itself quoted) text) text)
+pub plain_token : (quoted : Bool) (text : List ℕ) → 0 < prefix_len (prints_itself quoted) text → token_at quoted text ≡ plain (take (prefix_len (prints_itself quoted) text) text)
 unfolding token_at
 plain_token quoted [] h = absurd (omega arith)
 plain_token quoted (b ∷ bs) h =

@@ -50,7 +50,7 @@ plain_begins quoted text word rest r = elim (cases_Bool (begins_word text)) [ in
     never : [] ≡ plain word ∷ [] → ⊥
     never e = cc
 
-blank_len : (quoted : Bool) (text : List ℕ) → begins_word text ≡ true → token_len quoted (32 ∷ text) ≡ 1
+pub blank_len : (quoted : Bool) (text : List ℕ) → begins_word text ≡ true → token_len quoted (32 ∷ text) ≡ 1
 unfolding token_at
 blank_len quoted text h = rw (no_white text h) refl
 

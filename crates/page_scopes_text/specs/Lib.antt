@@ -4,3 +4,4 @@ pub mod Words
 pub mod Texts
 pub mod Reads
 pub mod Runs
+pub mod FontWords

@@ -1,6 +1,7 @@
 //! Texts of a page as pieces and messages, word by word: blanks, fonts, rows that are kept as they are, and the messages of escapes (roff(7)).
 #![tactic(auto)]
 
+mod font_words;
 mod numbers;
 mod pens;
 mod runs;

@@ -1,16 +1,18 @@
 //! Texts: words, and the white space between them (roff(7), "LANGUAGE SYNTAX").
 
-ghost use Rattle.std.specs.Prelude.{◌≡◌, ◌≤◌, ◌<◌, ◌+◌, ◌^◌, true, false, length};
+ghost use Rattle.std.specs.Prelude.{◌≡◌, ◌≤◌, ◌<◌, ◌+◌, ◌^◌, true, false, length, IfSome};
 ghost use Rattle.page_core_base.specs.Latches.{Came, CameUpTo};
 ghost use Rattle.page_core_escapes.specs.Tokens.{begins_white, begins_word};
+ghost use Rattle.page_scopes_text.specs.FontWords.{ReadsBlankFontWord};
 ghost use Rattle.page_scopes_text.specs.Parted.{spaced_front, words_of};
 ghost use Rattle.page_scopes_text.specs.Reads.{Fits, ReadsSpaced, Within};
 ghost use Rattle.page_scopes_text.specs.Texts as texts;
 ghost use Rattle.page_scopes_text.specs.Words.{body_after};
 
+use crate::font_words::{FontWord, read_font_word};
 use crate::runs::{give_run, run_len};
 use crate::tokens::give_blank_cells;
-use crate::words::{give_body, give_word, report_word};
+use crate::words::{give_body, give_font_word, give_word, report_word};
 use crate::{Pen, TextStyle};
 use page_core_base::{Font, Piece, PieceOut, Place};
 use page_core_escapes::{begins_word, read_token};
@@ -60,6 +62,41 @@ fn give_spaced<'a, O: PieceOut>(
     }
 }
 
+// The word after the one blank at a text's front, and what is left after it, where the word has fonts of its own.
+#[inline(always)]
+fn read_blank_font_word(quoted: bool, text: &[u8]) -> Option<(FontWord<'_>, &[u8])>
+    ensures { IfSome result (λ parts. ReadsBlankFontWord quoted text.now parts.0 parts.1.now) }
+{
+    if text.is_empty() || text[0] != b' ' {
+        return None;
+    }
+    read_font_word(quoted, &text[1..])
+}
+
+// The same as `give_spaced`, with a look first whether one blank and a word in a font of its own stand at the text's front.
+#[inline(always)]
+fn give_next<'a, O: PieceOut>(
+    out: &mut O,
+    style: TextStyle,
+    line: u32,
+    pen: &mut Pen,
+    text: &'a [u8],
+) -> &'a [u8]
+    requires fits { Fits pen.old text.now }
+    requires white { begins_white text.now ≡ true }
+    ensures came { Came O.left out.old
+        (texts.spaced_items style line pen.old (spaced_front style.is_quoted text.now)) out.new }
+    ensures pen { pen.new ≡ texts.spaced_after style pen.old (spaced_front style.is_quoted text.now) }
+    ensures rest { ReadsSpaced style.is_quoted pen.old text.now pen.new result.now }
+{
+    if let Some((word, rest)) = read_blank_font_word(style.is_quoted, text) {
+        give_white(out, style, line, pen, b" ");
+        give_font_word(out, style, line, false, pen, &word);
+        return rest;
+    }
+    give_spaced(out, style, line, pen, text)
+}
+
 // Gives the words at a text's front that print themselves, with one blank before each: in rows that are filled they only move the pen's
 // column. What is left of the text.
 fn give_plain_words<'a, O: PieceOut>(
@@ -102,7 +139,7 @@ fn give_others<O: PieceOut>(out: &mut O, style: TextStyle, line: u32, pen: &mut 
 {
     let mut rest = give_plain_words(out, style, line, pen, text);
     while !rest.is_empty() {
-        let after = give_spaced(out, style, line, pen, rest);
+        let after = give_next(out, style, line, pen, rest);
         rest = give_plain_words(out, style, line, pen, after);
     }
 }

@@ -101,8 +101,8 @@ pub(crate) fn is_glue(token: &Token<'_>) -> bool
     }
 }
 
-// Whether a font is asked for that there is.
-fn is_known(name: FontName<'_>) -> bool
+/// Whether a font is asked for that there is.
+pub(crate) fn is_known(name: FontName<'_>) -> bool
     ensures { result ≡ words.is_known (face_seen name.entry) }
 {
     !matches!(name, FontName::Unknown(_))

@@ -2,11 +2,13 @@
 
 ghost use Rattle.std.specs.Prelude.{◌≡◌, ◌≤◌, ◌<◌, ◌+◌, ◌^◌, [], ◌∷◌, IfSome, length};
 ghost use Rattle.page_core_base.specs.Latches.{Came};
-ghost use Rattle.page_core_escapes.specs.Tokens.{plain};
+ghost use Rattle.page_core_escapes.specs.Tokens.{plain, token_seen};
+ghost use Rattle.page_scopes_text.specs.FontWords.{Silent, font_tokens, word_len};
 ghost use Rattle.page_scopes_text.specs.Parted.{words_of};
 ghost use Rattle.page_scopes_text.specs.Reads.{Fits, ReadsPlain, ReadsWord};
 ghost use Rattle.page_scopes_text.specs.Words as words;
 
+use crate::font_words::{FontWord, give_font_tokens, read_font_word};
 use crate::tokens::{give_blank_cells, give_token, report_token};
 use crate::{Pen, TextStyle};
 use page_core_base::{Font, Piece, PieceOut, Place};
@@ -50,6 +52,20 @@ fn give_tokens<'a, O: PieceOut>(
     rest
 }
 
+// Gives a text without characters, where a word printed nothing.
+#[inline(always)]
+fn give_empty<O: PieceOut>(out: &mut O, place: Place, has_cell: bool)
+    ensures { Came O.left out.old (words.empty_items has_cell place) out.new }
+{
+    if !has_cell {
+        out.give(Piece::Text {
+            text: b"",
+            font: Font::R,
+            place,
+        });
+    }
+}
+
 /// Gives what the word at a text's front prints; what is left of the text.
 pub(crate) fn give_body<'a, O: PieceOut>(
     out: &mut O,
@@ -67,15 +83,25 @@ pub(crate) fn give_body<'a, O: PieceOut>(
     let before = *pen;
     pen.begin_word();
     let rest = give_tokens(out, quoted, place, pen, text);
-    if !pen.has_cell {
-        out.give(Piece::Text {
-            text: b"",
-            font: Font::R,
-            place,
-        });
-    }
+    give_empty(out, place, pen.has_cell);
     pen.end_word(&before);
     rest
+}
+
+// Gives what a word in a font of its own prints.
+#[inline(always)]
+fn give_font_body<O: PieceOut>(out: &mut O, place: Place, pen: &mut Pen, word: &FontWord<'_>)
+    requires room { pen.old.column + word_len word.now < 2 ^ 32 }
+    requires before { Silent (token_seen word.now.before) }
+    requires after { Silent (token_seen word.now.after) }
+    ensures came { Came O.left out.old (words.body_items place pen.old (font_tokens word.now)) out.new }
+    ensures pen { pen.new ≡ words.body_after pen.old (font_tokens word.now) }
+{
+    let before = *pen;
+    pen.begin_word();
+    give_font_tokens(out, place, pen, word);
+    give_empty(out, place, pen.has_cell);
+    pen.end_word(&before);
 }
 
 // Gives the blanks before a word.
@@ -137,6 +163,32 @@ fn give_plain<O: PieceOut>(
     pen.pass_plain(word);
 }
 
+/// Gives a word in a font of its own, after the blanks before it.
+#[inline(always)]
+pub(crate) fn give_font_word<O: PieceOut>(
+    out: &mut O,
+    style: TextStyle,
+    line: u32,
+    has_tab: bool,
+    pen: &mut Pen,
+    word: &FontWord<'_>,
+)
+    requires room { pen.old.column + word_len word.now < 2 ^ 32 }
+    requires before { Silent (token_seen word.now.before) }
+    requires after { Silent (token_seen word.now.after) }
+    ensures came { Came O.left out.old
+        (words.word_items style line has_tab pen.old (font_tokens word.now)) out.new }
+    ensures pen { pen.new ≡ words.word_after style pen.old (font_tokens word.now) }
+{
+    let place = Place {
+        line,
+        column: pen.column,
+    };
+    give_gap(out, style, has_tab, place, pen);
+    pen.pass_gap(style);
+    give_font_body(out, place, pen, word);
+}
+
 // Gives the word at a text's front, its messages first; what is left of the text.
 fn give_told_word<'a, O: PieceOut>(
     out: &mut O,
@@ -152,6 +204,10 @@ fn give_told_word<'a, O: PieceOut>(
     ensures pen { pen.new ≡ words.word_after style pen.old (words_of style.is_quoted text.now).word }
     ensures rest { ReadsWord style.is_quoted pen.old text.now pen.new result.now }
 {
+    if let Some((word, rest)) = read_font_word(style.is_quoted, text) {
+        give_font_word(out, style, line, has_tab, pen, &word);
+        return rest;
+    }
     let place = Place {
         line,
         column: pen.column,

@@ -1,0 +1,176 @@
+-- Words of two escapes that ask for fonts, each before a text that prints itself.
+use Rattle.std.proofs.Common.{◌≡◌, ℕ, zero, suc, ◌+◌, ◌<◌, ◌≤◌, Bool, true, false, List, [], ◌∷◌, ◌++◌, length, take, drop, refl, ap, ◌∙◌, arith, sym, length-drop, append-nil, get_or, inl, inr}
+use Rattle.std.specs.List.{prefix_len}
+use Rattle.std.proofs.lemmas.List.Folds.{length-prefix_len}
+use Rattle.std.proofs.lemmas.List.{length-take-le}
+use Rattle.std.proofs.lemmas.Bool.{cases_Bool}
+use Rattle.page_core_base.specs.Pieces.{Item}
+use Rattle.page_core_base.specs.declared.places.Place.{Place}
+use Rattle.page_core_escapes.specs.Meanings as meanings
+use Rattle.page_core_escapes.specs.Meanings.{Face, face}
+use Rattle.page_core_escapes.specs.Steps.{ShortFont}
+use Rattle.page_core_escapes.specs.Tokens.{TextToken, plain, escaped, begins_word, prints_itself, token_at, token_len, token_seen}
+use Rattle.page_scopes_words.specs.Words.{face_notes}
+use Rattle.page_scopes_text.proofs.PartedLemmas.{no_word, plain_begins, plain_token, words_more}
+use Rattle.page_scopes_text.proofs.PlainWordLemmas.{blank_len}
+use Rattle.page_scopes_text.specs.FontWords.{ReadsBlankFontWord, ReadsFont, ReadsFontWord, ReadsPart, Silent, font_tokens, part_tokens, word_len}
+use Rattle.page_scopes_text.specs.Parted.{Parted}
+use Rattle.page_scopes_text.specs.Words.{is_known, pen_after, pen_through, tokens_items, word_notes}
+use Rattle.page_scopes_text.specs.declared.font_words.FontWord.{FontWord}
+use Rattle.page_scopes_text.specs.declared.pens.Pen.{Pen}
+
+-- ---- a part that prints itself
+
+part_some : (bytes : List ℕ) → 0 < length bytes → part_tokens bytes ≡ plain bytes ∷ []
+part_some [] h = absurd (omega (arith, h))
+part_some (b ∷ bs) h = refl
+
+some_part : (quoted : Bool) (text : List ℕ) (n : ℕ) → n ≡ prefix_len (prints_itself quoted) text → n ≤ length text → 0 < n → ReadsPart quoted text (take n text) (drop n text)
+some_part quoted text n e h some =
+    let len : length (take n text) ≡ n = rw e (length-prefix_len (prints_itself quoted) text) in
+    let token : token_at quoted text ≡ plain (take n text) = rw e (plain_token quoted text (omega (arith, some, e))) in
+    let word = plain_begins quoted text (take n text) token (omega (arith, len, some)) (omega (arith, len, h)) in
+    let is : n ≡ token_len quoted text = rw token (sym len) in
+    record {
+      len = omega (arith, len, length-drop n text, h);
+      words = words_more quoted text n word some is ∙ rw (token, part_some (take n text) (omega (arith, len, some))) refl;
+    }
+
+pub reads_part : (quoted : Bool) (text : List ℕ) (n : ℕ) → n ≡ prefix_len (prints_itself quoted) text → n ≤ length text → ReadsPart quoted text (take n text) (drop n text)
+reads_part quoted text zero e h = record { len = omega arith; words = refl }
+reads_part quoted text (suc n) e h = some_part quoted text (suc n) e h (omega arith)
+
+-- ---- an escape that asks for a font
+
+known_notes : (place : Place) (font : Face) → is_known font ≡ true → face_notes place font ≡ []
+known_notes place meanings.roman h = refl
+known_notes place meanings.italic h = refl
+known_notes place meanings.bold h = refl
+known_notes place meanings.bold_italic h = refl
+known_notes place meanings.former h = refl
+known_notes place (meanings.unknown name) h = absurd (never h)
+  where
+    never : false ≡ true → ⊥
+    never e = grind (arith, e)
+
+font_token : (text : List ℕ) (font : Face) (n : ℕ) → ShortFont text font n → (quoted : Bool) → token_at quoted text ≡ escaped (take n text) (face font)
+unfolding token_at
+font_token [] font n s quoted = absurd (omega (arith, s.escape.some, s.escape.within))
+font_token (b ∷ bs) font n s quoted =
+    let first : b ≡ 92 = s.backslash in
+    let is = rw first at s.escape.escape in
+    rw (first, is) refl
+
+font_begins : (text : List ℕ) (font : Face) (n : ℕ) → ShortFont text font n → begins_word text ≡ true
+font_begins [] font n s = absurd (omega (arith, s.escape.some, s.escape.within))
+font_begins (b ∷ bs) font n s = let first : b ≡ 92 = s.backslash in rw first refl
+
+pub reads_font : (text : List ℕ) (font : Face) (n : ℕ) → ShortFont text font n → is_known font ≡ true → ReadsFont text (escaped (take n text) (face font)) (drop n text)
+reads_font text font n s known =
+    let len : length (take n text) ≡ n = length-take-le n text s.escape.within in
+    record {
+      len = omega (arith, len, length-drop n text, s.escape.within);
+      words = λ quoted.
+          let token = font_token text font n s quoted in
+          let is : n ≡ token_len quoted text = rw token (sym len) in
+          words_more quoted text n (font_begins text font n s) s.escape.some is ∙ rw token refl;
+      silent = record { notes = λ place. known_notes place font known; items = λ f place. refl };
+    }
+
+-- ---- the whole word
+
+pub reads_font_word : (quoted : Bool) (text inner behind last rest : List ℕ) (word : FontWord) → ReadsFont text (token_seen word.before) inner
+    → ReadsPart quoted inner word.text.now behind → ReadsFont behind (token_seen word.after) last → ReadsPart quoted last word.tail.now rest
+    → begins_word rest ≡ false → ReadsFontWord quoted text word rest
+reads_font_word quoted text inner behind last rest word a b c d ends =
+    let front = token_seen word.before in
+    let part = part_tokens word.text.now in
+    let next = token_seen word.after in
+    let tail = part_tokens word.tail.now in
+    record {
+      len = omega (arith, a.len, b.len, c.len, d.len);
+      only =
+          ap (λ (t : Parted). t.word) (a.words quoted) ∙ ap (λ (t : Parted). front ∷ t.word) b.words ∙ ap (λ (t : Parted). front ∷ (part ++ t.word)) (c.words quoted)
+          ∙ ap (λ (t : Parted). front ∷ (part ++ (next ∷ t.word))) d.words
+          ∙ ap (λ (t : List TextToken). front ∷ (part ++ (next ∷ (tail ++ t)))) (no_word quoted rest ends)
+          ∙ ap (λ (t : List TextToken). front ∷ (part ++ (next ∷ t))) (append-nil tail);
+      ends = ends;
+      others = sym (ap (λ (t : Parted). t.others) (a.words quoted) ∙ ap (λ (t : Parted). t.others) b.words ∙ ap (λ (t : Parted). t.others) (c.words quoted) ∙ ap (λ (t : Parted). t.others) d.words);
+      before = a.silent;
+      after = c.silent;
+    }
+
+font_word_begins : (quoted : Bool) (text rest : List ℕ) (word : FontWord) → ReadsFontWord quoted text word rest → begins_word text ≡ true
+font_word_begins quoted text rest word r = elim (cases_Bool (begins_word text)) [ inl t ↦ t | inr f ↦ absurd (never (sym (no_word quoted text f) ∙ r.only)) ]
+  where
+    never : [] ≡ font_tokens word → ⊥
+    never e = cc
+
+pub reads_blank_font_word : (quoted : Bool) (text rest : List ℕ) (word : FontWord) → 0 < length text → get_or text 0 0 ≡ 32
+    → ReadsFontWord quoted (drop 1 text) word rest → ReadsBlankFontWord quoted text word rest
+reads_blank_font_word quoted [] rest word some e r = absurd (omega (arith, some))
+reads_blank_font_word quoted (b ∷ bs) rest word some e r =
+    let blank : b ≡ 32 = e in
+    let begins = font_word_begins quoted bs rest word r in
+    record {
+      len = omega (arith, r.len);
+      one = rw blank (sym (blank_len quoted bs begins));
+      blank = rw blank refl;
+      begins = begins;
+      only = r.only;
+      ends = r.ends;
+      others = r.others;
+      before = r.before;
+      after = r.after;
+    }
+
+-- ---- what it gives
+
+part_items : (place : Place) (pen : Pen) (bytes : List ℕ) (tokens : List TextToken)
+    → tokens_items place pen (part_tokens bytes ++ tokens)
+    ≡ tokens_items place pen (part_tokens bytes) ++ tokens_items place (pen_through pen (part_tokens bytes)) tokens
+part_items place pen [] tokens = refl
+part_items place pen (b ∷ bs) tokens = refl
+
+pub part_pen : (pen : Pen) (bytes : List ℕ) (tokens : List TextToken)
+    → pen_through pen (part_tokens bytes ++ tokens) ≡ pen_through (pen_through pen (part_tokens bytes)) tokens
+part_pen pen [] tokens = refl
+part_pen pen (b ∷ bs) tokens = refl
+
+part_notes : (place : Place) (bytes : List ℕ) (tokens : List TextToken) → word_notes place (part_tokens bytes ++ tokens) ≡ word_notes place tokens
+part_notes place [] tokens = refl
+part_notes place (b ∷ bs) tokens = refl
+
+part_column : (pen : Pen) (bytes : List ℕ) → (pen_through pen (part_tokens bytes)).column ≡ pen.column + length bytes
+part_column pen [] = omega arith
+part_column pen (b ∷ bs) = refl
+
+pub font_items : (place : Place) (pen : Pen) (word : FontWord) → Silent (token_seen word.before) → Silent (token_seen word.after)
+    → tokens_items place pen (font_tokens word)
+    ≡ tokens_items place (pen_after pen (token_seen word.before)) (part_tokens word.text.now)
+    ++ tokens_items place (pen_after (pen_through (pen_after pen (token_seen word.before)) (part_tokens word.text.now)) (token_seen word.after)) (part_tokens word.tail.now)
+font_items place pen word b a =
+    let inner = pen_after pen (token_seen word.before) in
+    let behind = pen_through inner (part_tokens word.text.now) in
+    let last = pen_after behind (token_seen word.after) in
+    let more = token_seen word.after ∷ part_tokens word.tail.now in
+    ap (λ (i : List Item). i ++ tokens_items place inner (part_tokens word.text.now ++ more)) (b.items pen.fonts.value.font place)
+    ∙ part_items place inner word.text.now more
+    ∙ ap (λ (i : List Item). tokens_items place inner (part_tokens word.text.now) ++ (i ++ tokens_items place last (part_tokens word.tail.now))) (a.items behind.fonts.value.font place)
+
+pub font_notes : (place : Place) (word : FontWord) → Silent (token_seen word.before) → Silent (token_seen word.after) → word_notes place (font_tokens word) ≡ []
+font_notes place word b a =
+    let tail = part_tokens word.tail.now in
+    ap (λ (i : List Item). i ++ word_notes place (part_tokens word.text.now ++ (token_seen word.after ∷ tail))) (b.notes place)
+    ∙ part_notes place word.text.now (token_seen word.after ∷ tail)
+    ∙ ap (λ (i : List Item). i ++ word_notes place tail) (a.notes place)
+    ∙ ap (word_notes place) (sym (append-nil tail))
+    ∙ part_notes place word.tail.now []
+
+pub font_column : (pen : Pen) (word : FontWord) → (pen_through pen (font_tokens word)).column ≡ pen.column + word_len word
+font_column pen word =
+    let inner = pen_after pen (token_seen word.before) in
+    let behind = pen_through inner (part_tokens word.text.now) in
+    let last = pen_after behind (token_seen word.after) in
+    let whole = ap (λ (p : Pen). p.column) (part_pen inner word.text.now (token_seen word.after ∷ part_tokens word.tail.now)) in
+    omega (arith, whole, part_column inner word.text.now, part_column last word.tail.now)
