@@ -22,7 +22,7 @@ use Rattle.page_roff_values.proofs.ReadLemmas.{escape_alone, escape_pair, parts_
 
 -- ---- what is read
 
-no_call : (copy : Bool) (letter : ℕ) (bs : List ℕ) → may_call letter ≡ false → call_cut copy letter bs ≡ None
+pub no_call : (copy : Bool) (letter : ℕ) (bs : List ℕ) → may_call letter ≡ false → call_cut copy letter bs ≡ None
 no_call copy letter bs h =
     let a = neither (letter == 42) (letter == 110 || (letter == 36 || letter == 119)) h in
     let b = neither (letter == 110) (letter == 36 || letter == 119) a.1 in

@@ -10,8 +10,8 @@ use std::simd::prelude::*;
 // The bytes that are tested at a time.
 const LANES: usize = 32;
 
-// Whether a letter after a backslash may begin an interpolation.
-fn may_call(letter: u8) -> bool
+/// Whether a letter after a backslash may begin an interpolation.
+pub(crate) fn may_call(letter: u8) -> bool
     ensures { result ≡ may_call letter }
 {
     matches!(letter, b'*' | b'n' | b'$' | b'w')
