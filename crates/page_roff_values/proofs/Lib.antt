@@ -3,6 +3,7 @@ pub mod BracketLemmas
 pub mod CallLemmas
 pub mod EndLemmas
 pub mod FollowLemmas
+pub mod FrontLemmas
 pub mod GoingLemmas
 pub mod LatchLemmas
 pub mod LayLemmas

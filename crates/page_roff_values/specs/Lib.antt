@@ -2,6 +2,7 @@ pub mod Arguments
 pub mod Brackets
 pub mod Environments
 pub mod Expansions
+pub mod Fronts
 pub mod Held
 pub mod Latches
 pub mod NotePlans

@@ -1,6 +1,7 @@
 -- What is still to be laid of the texts that are being read: the code's own steps.
-use Rattle.std.specs.Prelude.{◌≡◌, ℕ, suc, ◌+◌, ◌-◌, ◌*◌, ◌^◌, false, List, [], ◌∷◌, length, map, reverse, Bool, Option, MatchOption}
+use Rattle.std.specs.Prelude.{◌≡◌, ℕ, suc, ◌+◌, ◌-◌, ◌*◌, ◌^◌, ◌≤◌, false, List, [], ◌∷◌, length, map, reverse, Bool, Option, MatchOption}
 use Rattle.std.specs.Borrow.{Bor}
+use Rattle.page_core_limits.specs.declared.TheConstants.{LINE}
 use Rattle.page_roff_values.specs.declared.expansions.TheConstants.{EXPAND}
 use Rattle.page_roff_values.specs.declared.parts.Call.{Call}
 use Rattle.page_roff_values.specs.declared.parts.Part.{Part}
@@ -32,10 +33,10 @@ going_on env room ts s = seq (nothing s) (rest env room ts)
 abbrev pub calling : Surroundings → ℕ → Call (List ℕ) → List (List ℕ) → Spot → Laid
 calling env room call ts s = seq (call_at env (room_in room ts) call s) (rest env room ts)
 
--- a part was read, or nothing is left
-abbrev pub Reads : Bool → List (List ℕ) → Option (Part (Bor (List ℕ))) → List (List ℕ) → Type 0
-Reads copy ts result us =
-    (env : Surroundings) (room : ℕ) (s : Spot) → env.copy ≡ copy → s.ended ≡ false → MatchOption result
+-- a part was read, or nothing is left, where there is room for this many bytes
+abbrev pub Reads : Bool → ℕ → List (List ℕ) → Option (Part (Bor (List ℕ))) → List (List ℕ) → Type 0
+Reads copy fits ts result us =
+    (env : Surroundings) (room : ℕ) (s : Spot) → env.copy ≡ copy → s.ended ≡ false → fits ≤ LINE - length s.text → MatchOption result
     (rest env room ts s ≡ nothing s) (λ p. rest env room ts s ≡ seq (one env (room_in room us) (part_of p) s) (rest env room us))
 
 -- the bytes that are left of these texts, and their number

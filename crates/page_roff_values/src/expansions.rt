@@ -309,7 +309,7 @@ impl Expansion {
             out.new (laying.nothing self.new) }
     {
         'parts: while self.is_going() {
-            match sources.next(env.copy) {
+            match sources.next(env.copy, self.room()) {
                 None => return,
                 Some(Part::Copied(run)) => self.put(run, out),
                 Some(Part::Called(call)) => self.call(env, room, call, sources, out),

@@ -6,6 +6,7 @@ mod call_arguments;
 mod endings;
 mod environments;
 mod expansions;
+mod fronts;
 mod laws;
 mod note_latches;
 mod parts;

@@ -28,9 +28,10 @@ impl<'e> Sources<'e> {
         }
     }
 
-    /// The next part of the innermost text that isn't at its end.
-    pub(crate) fn next(&mut self, copy: bool) -> Option<Part<&'e [u8]>>
-        ensures reads { Reads copy (texts_of self.old) result (texts_of self.new) }
+    /// The next part of the innermost text that isn't at its end. Parts that are copied are one where they are no longer than `fits`, which is
+    /// at most the room that is left.
+    pub(crate) fn next(&mut self, copy: bool, fits: usize) -> Option<Part<&'e [u8]>>
+        ensures reads { Reads copy fits (texts_of self.old) result (texts_of self.new) }
         ensures falls { MatchOption result ℕ (λ p. size (texts_of self.new) < size (texts_of self.old)) }
     {
         while self.inner.text.is_empty() {
@@ -38,6 +39,10 @@ impl<'e> Sources<'e> {
                 None => return None,
                 Some(text) => self.inner = Unread::new(text),
             }
+        }
+        let front = self.inner.take_front(copy, fits);
+        if !front.is_empty() {
+            return Some(Part::Copied(front));
         }
         Some(self.inner.next(copy))
     }

@@ -1,10 +1,13 @@
 //! What is left of a text.
 
-ghost use Rattle.std.specs.Prelude.{◌≡◌, ◌<◌, length};
+ghost use Rattle.std.specs.Prelude.{◌≡◌, ◌<◌, ◌≤◌, length, take, drop};
 ghost use Rattle.page_roff_values.specs.Brackets.{IsKnown};
+ghost use Rattle.page_roff_values.specs.Fronts.{IsFront};
 ghost use Rattle.page_roff_values.specs.Parts as reading;
 ghost use Rattle.page_roff_values.specs.Views.{part_of};
 
+use crate::endings::after;
+use crate::fronts::front_len;
 use crate::parts::{Part, read};
 
 /// What is left of a text, and whether it is known that no bracket closes in it: then no name that lacks its bracket costs a search up to the
@@ -25,6 +28,20 @@ impl<'e> Unread<'e> {
             text,
             is_unclosed: false,
         }
+    }
+
+    /// Takes the bytes of the front that are copied as they are, up to this many.
+    pub(crate) fn take_front(&mut self, copy: bool, fits: usize) -> &'e [u8]
+        ensures value { result.now ≡ take (length result.now) self.old.text.now }
+        ensures rest { self.new.text.now ≡ drop (length result.now) self.old.text.now }
+        ensures front { IsFront copy (length result.now) self.old.text.now }
+        ensures within { length result.now ≤ length self.old.text.now }
+        ensures fits { length result.now ≤ fits }
+    {
+        let len = front_len(self.text, copy, fits);
+        let front = &self.text[..len];
+        self.text = after(self.text, len);
+        front
     }
 
     /// Reads the next part.

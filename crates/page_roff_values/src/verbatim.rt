@@ -1,50 +1,103 @@
 //! Texts that are their own value (roff(7), "Escape sequences").
 
-ghost use Rattle.std.specs.Prelude.{◌≡◌, ◌≤◌, length, take, drop, IsTrue};
-ghost use Rattle.page_roff_values.specs.Parts.{begins_escape, copies, seen};
-ghost use Rattle.page_roff_values.specs.Verbatim.{IsVerbatim, may_call};
+ghost use Rattle.std.specs.Prelude.{◌≡◌, ℕ, ◌+◌, ◌<◌, ◌≤◌, length, map, false, IsTrue};
+ghost use Rattle.std.specs.Simd.Lanes.{mask_l};
+ghost use Rattle.page_roff_values.specs.Verbatim.{IsFree, IsFreeFrom, IsVerbatim, is_backslash, may_call};
 
-use crate::endings::after;
-use crate::parts::is_doubled;
 use memchr::memchr;
+use std::simd::prelude::*;
 
-// Whether a letter after a backslash may begin an interpolation.
-fn may_call(letter: u8) -> bool
+// The bytes that are tested at a time.
+const LANES: usize = 32;
+
+/// Whether a letter after a backslash may begin an interpolation.
+pub(crate) fn may_call(letter: u8) -> bool
     ensures { result ≡ may_call letter }
 {
     matches!(letter, b'*' | b'n' | b'$' | b'w')
 }
 
-// Whether the backslash at a text's front and the character after it, one of ASCII, are copied.
-fn copies_pair(text: &[u8], copy: bool) -> bool
-    requires { IsTrue (begins_escape text.now) }
-    ensures pair { IsTrue result → copies (take 2 text.now) (drop 2 text.now) ≡ seen copy text.now }
-    ensures within { IsTrue result → 2 ≤ length text.now }
+// The backslashes of a vector, as the bits of a number.
+#[inline(always)]
+fn backslashes(bytes: u8x32) -> u64
+    ensures { result ≡ mask_l (map is_backslash bytes) }
 {
-    if text.len() < 2 {
-        return false;
-    }
-    let letter = text[1];
-    if may_call(letter) {
-        return false;
-    }
-    if is_doubled(copy, letter) {
-        return false;
-    }
-    letter < 0x80
+    bytes.simd_eq(u8x32::splat(b'\\')).to_bitmask()
 }
 
-/// Whether a text is seen to be its own value: then nothing of it has to be copied.
+// The letters of a vector that may begin an interpolation after a backslash, as the bits of a number.
+#[inline(always)]
+fn calling_letters(bytes: u8x32) -> u64
+    ensures { result ≡ mask_l (map may_call bytes) }
+{
+    let strings = bytes.simd_eq(u8x32::splat(b'*'));
+    let registers = bytes.simd_eq(u8x32::splat(b'n'));
+    let arguments = bytes.simd_eq(u8x32::splat(b'$'));
+    let widths = bytes.simd_eq(u8x32::splat(b'w'));
+    (strings | (registers | (arguments | widths))).to_bitmask()
+}
+
+// Whether an interpolation may begin at one of the `LANES` places from this one on.
+#[inline(always)]
+fn may_call_from(text: &[u8], at: usize) -> bool
+    requires { at + LANES < length text.now }
+    ensures { result ≡ false → IsFreeFrom at LANES text.now }
+{
+    let starts = backslashes(u8x32::from_slice(&text[at..]));
+    if starts == 0 {
+        return false;
+    }
+    starts & calling_letters(u8x32::from_slice(&text[at + 1..])) != 0
+}
+
+// Whether no interpolation begins in a text of more than `LANES` bytes. The last vector may overlap the one before.
+fn is_free_long(text: &[u8]) -> bool
+    requires { LANES < length text.now }
+    ensures { IsTrue result → IsFree text.now }
+{
+    let last = text.len() - LANES - 1;
+    let mut at = 0;
+    while at < last {
+        if may_call_from(text, at) {
+            return false;
+        }
+        at += LANES;
+    }
+    !may_call_from(text, last)
+}
+
+// Whether no interpolation begins in a text, a byte at a time.
+fn is_free_short(text: &[u8]) -> bool
+    ensures { IsTrue result → IsFree text.now }
+{
+    let mut at = 1;
+    while at < text.len() {
+        if text[at - 1] == b'\\' && may_call(text[at]) {
+            return false;
+        }
+        at += 1;
+    }
+    true
+}
+
+// Whether no interpolation begins in a text.
+fn is_free(text: &[u8]) -> bool
+    ensures { IsTrue result → IsFree text.now }
+{
+    if text.len() <= LANES {
+        is_free_short(text)
+    } else {
+        is_free_long(text)
+    }
+}
+
+/// Whether a text is seen to be its own value: then nothing of it has to be copied. In copy mode no backslash may stand in it.
 pub(crate) fn is_verbatim(text: &[u8], copy: bool) -> bool
     ensures { IsTrue result → IsVerbatim copy text.now }
 {
-    let mut rest = text;
-    while let Some(place) = memchr(b'\\', rest) {
-        let pair = after(rest, place);
-        if !copies_pair(pair, copy) {
-            return false;
-        }
-        rest = after(pair, 2);
+    if copy {
+        memchr(b'\\', text).is_none()
+    } else {
+        is_free(text)
     }
-    true
 }

@@ -253,7 +253,7 @@ run-returns-in-None g x c =
     let ts = texts_of c.parts.sources in
     let e = going s.ended (sym c.parts-test.true ∙ c.is_going.ensures) in
     goes_then g.O.NoteOut.left _ _ _ (seq (nothing c.args.self.now) (rest env room (texts_of c.args.sources.now))) (seq (nothing s) (rest env room ts)) (nothing s) c.parts.invariant.goes
-    (goes_same g.O.NoteOut.left _ (seq (nothing s) (rest env room ts)) (nothing s) (seq_nothing s (rest env room ts) e ∙ c.in-None.ensures.reads env room s refl e))
+    (goes_same g.O.NoteOut.left _ (seq (nothing s) (rest env room ts)) (nothing s) (seq_nothing s (rest env room ts) e ∙ c.in-None.ensures.reads env room s refl e (omega (arith, c.room.ensures))))
 
 pub run-parts-smaller-in-Some-Copied : goal.run-parts-smaller-in-Some-Copied
 run-parts-smaller-in-Some-Copied g x c =
@@ -269,7 +269,7 @@ run-parts-preserved-in-Some-Copied g x c =
     let us = texts_of c.next.new.self in
     let e = going s.ended (sym c.parts-test.true ∙ c.is_going.ensures) in
     let given = put c.in-Some-Copied.run'.now s in
-    let reads = rw c.in-Some-Copied.field-0-is at (c.in-Some-Copied.ensures.reads env room s refl e) in
+    let reads = rw c.in-Some-Copied.field-0-is at (c.in-Some-Copied.ensures.reads env room s refl e (omega (arith, c.room.ensures))) in
     record {
       goes = goes_then g.O.NoteOut.left _ _ _ (seq (nothing c.args.self.now) (rest env room (texts_of c.args.sources.now))) (seq (nothing s) (rest env room ts)) (seq (nothing c.put.new.self) (rest env room us)) c.parts.invariant.goes
           (goes_on g.O.NoteOut.left _ _ (seq (nothing s) (rest env room ts)) given c.put.new.self (rest env room us) (seq_nothing s (rest env room ts) e ∙ (reads ∙ seq_more given (rest env room us))) c.put.ensures);
@@ -292,7 +292,7 @@ run-parts-preserved g x c =
     let e = going s.ended (sym c.parts-test.true ∙ c.is_going.ensures) in
     let call = seq (call_at env (room_in room us) (call_of c.in-Some-Called.call) s) (rest env room us) in
     let last = seq (nothing c.call.new.self) (rest env room (texts_of c.call.new.sources)) in
-    let reads = rw c.in-Some-Called.field-0-is at (c.in-Some-Called.ensures.reads env room s refl e) in
+    let reads = rw c.in-Some-Called.field-0-is at (c.in-Some-Called.ensures.reads env room s refl e (omega (arith, c.room.ensures))) in
     record {
       goes = goes_then g.O.NoteOut.left _ _ _ (seq (nothing c.args.self.now) (rest env room (texts_of c.args.sources.now))) (seq (nothing s) (rest env room ts)) last c.parts.invariant.goes
           (goes_then g.O.NoteOut.left _ _ _ (seq (nothing s) (rest env room ts)) call last

@@ -1,6 +1,6 @@
 use Rattle.std.proofs.Common.{sym, ◌∙◌}
-use Rattle.page_roff_values.proofs.VerbatimLemmas.{letter_pair}
-use Rattle.page_roff_values.proofs.verbatim.copies_pair.Goals as goal
+use Rattle.page_roff_values.proofs.FrontLemmas.{letter_pair}
+use Rattle.page_roff_values.proofs.fronts.copies_pair.Goals as goal
 
 pub returns-clause-pair : goal.returns-clause-pair
 returns-clause-pair c = λ h.
