@@ -72,7 +72,7 @@ pub record IsReadTo (line : List ℕ) (i : ℕ) : Type 0 where
   pub size : length (without_comment line) ≡ i + length (without_comment (drop i line))
   pub stops : i < length line → (get_or line i 0 == 92) ≡ true
 
-plain_false : (b : Bool) → not b ≡ false → b ≡ true
+pub plain_false : (b : Bool) → not b ≡ false → b ≡ true
 plain_false true h = refl
 plain_false false h = sym h
 

@@ -1,3 +1,4 @@
 pub mod ArgumentLemmas
+pub mod ControlLemmas
 pub mod EndLemmas
 pub mod FormLemmas
