@@ -1,5 +1,5 @@
 -- Control lines, of which the comment stands after the name: helpers of proofs.
-use Rattle.std.proofs.Common.{◌≡◌, ℕ, zero, suc, ◌+◌, ◌<◌, ◌≤◌, ◌==◌, Bool, true, false, nat_lt, List, [], ◌∷◌, length, take, drop, if◌then◌else◌, cond, Some, refl, ap, ◌∙◌, inl, inr, arith}
+use Rattle.std.proofs.Common.{◌≡◌, ℕ, zero, suc, ◌+◌, ◌≤◌, ◌==◌, Bool, true, false, nat_lt, List, [], ◌∷◌, length, take, drop, if◌then◌else◌, cond, Some, refl, ap, ◌∙◌, inl, inr, arith}
 use Rattle.std.specs.List.{prefix_len}
 use Rattle.std.proofs.lemmas.Bool.{cases_Bool, eqb-true}
 use Rattle.std.proofs.lemmas.Bool.Decides.{nat_tests}
@@ -58,7 +58,7 @@ shorter p (x ∷ xs) h = shorter_step (p x) (is_plain x) _ _ (λ t. ap p (eqb-tr
 
 pub uncommented_control : (bytes : List ℕ) → control_line (without_comment bytes)
     ≡ Control (take (name_len bytes) (drop (name_start bytes) bytes)) (2 + name_start bytes)
-      (without_comment (drop (name_len bytes) (drop (name_start bytes) bytes))) (2 + name_start bytes + name_len bytes)
+    (without_comment (drop (name_len bytes) (drop (name_start bytes) bytes))) (2 + name_start bytes + name_len bytes)
 uncommented_control bytes =
     let s = counted is_white bytes refl in
     let d = dropped bytes (name_start bytes) (shorter is_white bytes refl) in

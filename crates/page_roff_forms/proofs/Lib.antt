@@ -2,3 +2,4 @@ pub mod ArgumentLemmas
 pub mod ControlLemmas
 pub mod EndLemmas
 pub mod FormLemmas
+pub mod PairLemmas
