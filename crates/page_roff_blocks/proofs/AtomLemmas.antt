@@ -1,7 +1,7 @@
 -- The parts of a line: each remainder is shorter than its line. Helpers of proofs.
 use Rattle.std.proofs.Common.{◌≡◌, ℕ, zero, suc, ◌+◌, ◌-◌, ◌<◌, ◌≤◌, ◌==◌, false, List, [], ◌∷◌, length, Option, Some, None, IfSome, refl, ap, ◌∙◌, inl, inr, arith, length-drop}
 use Rattle.std.proofs.lemmas.Bool.{cases_Bool}
-use Rattle.page_roff_forms.specs.LineForms.{form_of, has_word, begins_comment, without_comment, begins_control, uncommented_form}
+use Rattle.page_roff_forms.specs.LineForms.{form_of, name_of, has_word, begins_comment, without_comment, begins_control, uncommented_form}
 use Rattle.page_roff_forms.specs.declared.line_forms.LineForm.{LineForm}
 use Rattle.page_roff_forms.specs.declared.line_forms.LineForm.TheVariants.{Comment, BlankLine, Text, Control}
 use Rattle.page_roff_heads.specs.Heads.{conditional_of, guarded_of, block_end_of}
@@ -88,6 +88,31 @@ uncommented_plain raw (x ∷ y ∷ ys) h =
 pub plain_of : (line : List ℕ) → begins_control line ≡ false → part_of line ≡ plain_part line
 unfolding part_of
 plain_of line h = elim (cases_Bool (has_word line)) [ inl w ↦ rw w (uncommented_plain line line h) | inr w ↦ rw w refl ]
+
+-- ---- nor does a line without a name, or one of another name
+
+named_other : (line : List ℕ) (form : LineForm (List ℕ)) (name : List ℕ) → name_of form ≡ Some name → keyword_of name ≡ keywords.Other
+    → form_part line form ≡ plain_part line
+named_other line Comment name e k = refl
+named_other line BlankLine name e k = refl
+named_other line (Text text) name e k = refl
+named_other line (Control other column rest rest_column) name e k =
+    let same : other ≡ name = cc in
+    rw (same, k) refl
+
+pub plain_named : (line name : List ℕ) → name_of (form_of line) ≡ Some name → keyword_of name ≡ keywords.Other → part_of line ≡ plain_part line
+unfolding part_of
+plain_named line name e k = named_other line (form_of line) name e k
+
+nameless : (line : List ℕ) (form : LineForm (List ℕ)) → name_of form ≡ None → form_part line form ≡ plain_part line
+nameless line Comment e = refl
+nameless line BlankLine e = refl
+nameless line (Text text) e = refl
+nameless line (Control other column rest rest_column) e = let no : ⊥ = cc in absurd no
+
+pub plain_nameless : (line : List ℕ) → name_of (form_of line) ≡ None → part_of line ≡ plain_part line
+unfolding part_of
+plain_nameless line e = nameless line (form_of line) e
 
 -- ---- so many remainders are enough
 

@@ -14,7 +14,7 @@ ghost use Rattle.page_roff_blocks.specs.Regions.{text_seen};
 use crate::atoms::{Atom, Branch, Head};
 use crate::regions::{RegionKind, region_head};
 use page_core_limits::LINE;
-use page_roff_forms::{LineForm, begins_control, form_of};
+use page_roff_forms::{LineForm, begins_control, control_name, form_of};
 use page_roff_heads::{Conditional, Guarded, Placed, block_end, read_conditional, read_guarded};
 use std::alloc::AllocError;
 
@@ -223,15 +223,11 @@ pub(crate) fn part_of(line: &[u8]) -> Part<&[u8]>
 
 // Whether a line heads no conditional and no region.
 fn heads_nothing(line: &[u8]) -> bool
-    requires { length line.now ≤ LINE }
     ensures { result ≡ true → part_of line.now ≡ plain_part line.now }
 {
-    if !begins_control(line) {
-        return true;
-    }
-    match form_of(line) {
-        LineForm::Control { name, .. } => matches!(keyword_of(name), Keyword::Other),
-        LineForm::Comment | LineForm::BlankLine | LineForm::Text(_) => true,
+    match control_name(line) {
+        Some(name) => matches!(keyword_of(name), Keyword::Other),
+        None => true,
     }
 }
 

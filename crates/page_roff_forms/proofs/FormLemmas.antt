@@ -1,10 +1,10 @@
 -- Lines and their comments: helpers of proofs.
-use Rattle.std.proofs.Common.{◌≡◌, ℕ, suc, ◌+◌, ◌<◌, ◌≤◌, ◌==◌, Bool, true, false, not, List, [], ◌∷◌, length, take, drop, get_or, if◌then◌else◌, Option, Some, None, is_none, unwrap_or, refl, sym, ap, inl, inr, arith, length-drop}
+use Rattle.std.proofs.Common.{◌≡◌, ℕ, suc, ◌+◌, ◌<◌, ◌≤◌, ◌==◌, Bool, true, false, not, List, [], ◌∷◌, length, take, drop, get_or, Option, Some, None, unwrap_or, refl, sym, ap, inl, inr, arith, length-drop}
 use Rattle.std.proofs.lemmas.Bool.{cases_Bool}
 use Rattle.std.proofs.lemmas.List.{drop_more, drop-drop, get_or-drop}
 use Rattle.std.proofs.lemmas.List.Sums.{prefix_len_is, prefix_len_stops, prefix_len-le-length}
 use Rattle.std.specs.List.{prefix_len}
-use Rattle.memchr.specs.Find.{IsFirstByte, is_byte, is_byte2}
+use Rattle.memchr.specs.Find.{IsFirstByte, is_byte}
 use Rattle.page_roff_forms.specs.LineForms.{is_plain, begins_comment, without_comment}
 
 -- ---- the first backslash
@@ -18,28 +18,6 @@ plain_to text None h =
     sym (prefix_len_is is_plain text (length text) 0 (omega arith) (λ k l. other (get_or text k 0 == 92) (h k (omega arith) l)) (λ l. absurd (omega arith)))
 plain_to text (Some n) h =
     sym (prefix_len_is is_plain text n 0 (omega (arith, h.0.high)) (λ k l. other (get_or text k 0 == 92) (h.0.before k (omega arith) l)) (λ l. rw h.1 refl))
-
--- ---- a line without the bytes that begin a comment
-
-uncommented_if : (a b : Bool) (x y : ℕ) (bytes rest : List ℕ) → b ≡ false → rest ≡ bytes
-    → (if a then (if b then [] else x ∷ y ∷ rest) else x ∷ y ∷ bytes) ≡ x ∷ y ∷ bytes
-uncommented_if true b x y bytes rest e h = rw (e, h) refl
-uncommented_if false b x y bytes rest e h = refl
-
-unmarked : (line : List ℕ) → ((k : ℕ) → k < length line → begins_comment (get_or line k 0) ≡ false) → without_comment line ≡ line
-unmarked [] h = refl
-unmarked (x ∷ []) h = refl
-unmarked (x ∷ y ∷ ys) h =
-    rw (unmarked (y ∷ ys) (λ k l. h (suc k) (omega arith)))
-    (uncommented_if (x == 92) (begins_comment y) x y ys (without_comment ys) (h 1 (omega arith)) (unmarked ys (λ k l. h (suc (suc k)) (omega arith))))
-
-is_no : (b : Bool) → ¬ (b ≡ true) → b ≡ false
-is_no true h = absurd (h refl)
-is_no false h = refl
-
-pub without_marks : (line : List ℕ) (r : Option ℕ) → IsFirstByte (is_byte2 34 35) line r → is_none r ≡ true → without_comment line ≡ line
-without_marks line (Some k) h e = let no : ⊥ = cc in absurd no
-without_marks line None h e = unmarked line (λ k l. is_no (begins_comment (get_or line k 0)) (h k (omega arith) l))
 
 -- ---- the length of a line up to its comment
 
@@ -72,7 +50,7 @@ pub record IsReadTo (line : List ℕ) (i : ℕ) : Type 0 where
   pub size : length (without_comment line) ≡ i + length (without_comment (drop i line))
   pub stops : i < length line → (get_or line i 0 == 92) ≡ true
 
-plain_false : (b : Bool) → not b ≡ false → b ≡ true
+pub plain_false : (b : Bool) → not b ≡ false → b ≡ true
 plain_false true h = refl
 plain_false false h = sym h
 

@@ -1,3 +1,5 @@
 pub mod ArgumentLemmas
+pub mod ControlLemmas
 pub mod EndLemmas
 pub mod FormLemmas
+pub mod PairLemmas

@@ -1,3 +1,4 @@
 pub mod Ends
 pub mod LineForms
+pub mod Pairs
 pub mod Arguments

@@ -1,5 +1,5 @@
 -- The form of a raw line: a comment, a blank line, a text line or a control line. Source: roff(7), "LANGUAGE SYNTAX".
-use Rattle.std.specs.Prelude.{ℕ, ◌+◌, ◌≤◌, Bool, false, not, ◌==◌, nat_lt, ◌||◌, List, [], ◌∷◌, length, take, drop, if◌then◌else◌}
+use Rattle.std.specs.Prelude.{ℕ, ◌+◌, ◌≤◌, Bool, false, not, ◌==◌, nat_lt, ◌||◌, List, [], ◌∷◌, length, take, drop, if◌then◌else◌, Option, Some, None, option_map}
 use Rattle.std.specs.List.{prefix_len}
 use Rattle.std.specs.Borrow.{Bor}
 use Rattle.page_core_limits.specs.declared.TheConstants.{LINE}
@@ -60,6 +60,16 @@ uncommented_form (byte ∷ bytes) = if is_control byte then control_line bytes e
 -- the form of a line
 abbrev pub form_of : List ℕ → LineForm (List ℕ)
 form_of line = if has_word line then uncommented_form (without_comment line) else BlankLine
+
+-- the name of a control line; others have none
+abbrev pub name_of : LineForm (List ℕ) → Option (List ℕ)
+name_of Comment = None
+name_of BlankLine = None
+name_of (Text text) = None
+name_of (Control name column rest rest_column) = Some name
+
+abbrev pub name_seen : Option (Bor (List ℕ)) → Option (List ℕ)
+name_seen name = option_map (λ text. text.now) name
 
 -- a form of the program, with what its texts hold
 abbrev pub form_seen : LineForm (Bor (List ℕ)) → LineForm (List ℕ)

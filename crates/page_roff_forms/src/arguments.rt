@@ -4,7 +4,7 @@ ghost use Rattle.std.specs.Prelude.{◌≡◌, ◌≤◌, ◌+◌, length, IfSom
 ghost use Rattle.std.specs.List.{prefix_len};
 ghost use Rattle.page_roff_forms.specs.Arguments.{is_blank, arguments, has_arguments, ReadsFirst, ReadsNext};
 
-use crate::quotes::{Argument, argument_len, first_argument};
+use crate::quotes::{Argument, first_argument};
 use page_core_limits::LINE;
 use std::marker::Model;
 
@@ -58,8 +58,8 @@ pub fn read_argument(text: &[u8], column: u32) -> Option<(Argument<&[u8]>, usize
     if bytes.is_empty() {
         return None;
     }
-    let argument = first_argument(bytes, column + blanks as u32);
-    Some((argument, blanks + argument_len(bytes)))
+    let (argument, len) = first_argument(bytes, column + blanks as u32);
+    Some((argument, blanks + len))
 }
 
 impl<'a> Arguments<'a> {

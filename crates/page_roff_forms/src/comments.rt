@@ -1,10 +1,11 @@
 //! The bytes of a line before a backslash, and before its comment (roff(7), "Comments").
 
-ghost use Rattle.std.specs.Prelude.{◌≡◌, ◌≤◌, true, length, take};
+ghost use Rattle.std.specs.Prelude.{◌≡◌, ◌≤◌, length, take};
 ghost use Rattle.std.specs.List.{prefix_len};
 ghost use Rattle.page_roff_forms.specs.LineForms.{is_plain, begins_comment, without_comment};
 
-use memchr::{memchr, memchr2};
+use crate::pairs::lacks_pair;
+use memchr::memchr;
 
 /// The number of a text's bytes before its first backslash.
 pub fn plain_len(text: &[u8]) -> usize
@@ -21,22 +22,15 @@ pub fn begins_comment(byte: u8) -> bool
     byte == b'"' || byte == b'#'
 }
 
-// Whether a line has no byte that may begin a comment after a backslash. Most lines with backslashes have none.
-fn lacks_marks(line: &[u8]) -> bool
-    ensures { result ≡ true → without_comment line.now ≡ line.now }
-{
-    memchr2(b'"', b'#', line).is_none()
-}
-
 /// The number of a line's bytes up to its comment.
 pub fn uncommented_len(line: &[u8]) -> usize
     ensures value { take result line.now ≡ without_comment line.now }
     ensures within { result ≤ length line.now }
 {
-    let mut place = plain_len(line);
-    if place == line.len() || lacks_marks(line) {
+    if lacks_pair(line, b'"', b'#') {
         return line.len();
     }
+    let mut place = plain_len(line);
     while place + 1 < line.len() {
         if begins_comment(line[place + 1]) {
             return place;

@@ -5,10 +5,14 @@ mod arguments;
 mod comments;
 mod ends;
 mod line_forms;
+mod pairs;
 mod quotes;
 
 pub use arguments::{Arguments, has_arguments, read_argument};
 pub use comments::{begins_comment, plain_len, uncommented_len};
 pub use ends::kept_len;
-pub use line_forms::{LineForm, begins_control, form_of, has_word, is_white, white_len};
+pub use line_forms::{
+    LineForm, begins_control, control_name, form_of, has_word, is_white, white_len,
+};
+pub use pairs::lacks_pair;
 pub use quotes::{Argument, Quoting};

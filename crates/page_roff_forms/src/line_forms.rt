@@ -1,8 +1,8 @@
 //! The form of a raw line (roff(7), "LANGUAGE SYNTAX").
 
-ghost use Rattle.std.specs.Prelude.{◌≡◌, ◌≤◌, ◌<◌, length};
+ghost use Rattle.std.specs.Prelude.{◌≡◌, ◌≤◌, ◌<◌, false, length};
 ghost use Rattle.std.specs.List.{prefix_len};
-ghost use Rattle.page_roff_forms.specs.LineForms.{is_white, is_name, has_word, begins_control, without_comment, control_line, form_of, form_seen, FitsLine};
+ghost use Rattle.page_roff_forms.specs.LineForms.{is_white, is_name, has_word, begins_control, without_comment, control_line, form_of, form_seen, name_of, name_seen, FitsLine};
 
 use crate::comments::uncommented_len;
 use page_core_limits::LINE;
@@ -92,10 +92,10 @@ fn without_comment(line: &[u8]) -> &[u8]
     &line[..uncommented_len(line)]
 }
 
-// A control line, of which the bytes after the control character are given.
+// A control line, of which the bytes after the control character are given with their comment.
 fn control_line(bytes: &[u8]) -> LineForm<&[u8]>
     requires { length bytes.now < LINE }
-    ensures value { form_seen result ≡ control_line bytes.now }
+    ensures value { form_seen result ≡ control_line (without_comment bytes.now) }
     ensures fits { FitsLine (form_seen result) }
 {
     let white = white_len(bytes);
@@ -104,8 +104,26 @@ fn control_line(bytes: &[u8]) -> LineForm<&[u8]>
     LineForm::Control {
         name: &named[..len],
         column: 2 + white as u32,
-        rest: &named[len..],
+        rest: without_comment(&named[len..]),
         rest_column: 2 + white as u32 + len as u32,
+    }
+}
+
+// The form of a line that begins with no control character.
+fn text_form(line: &[u8]) -> LineForm<&[u8]>
+    requires short { length line.now ≤ LINE }
+    requires text { begins_control line.now ≡ false }
+    ensures value { form_seen result ≡ form_of line.now }
+    ensures fits { FitsLine (form_seen result) }
+{
+    if !has_word(line) {
+        return LineForm::BlankLine;
+    }
+    let body = without_comment(line);
+    if body.is_empty() {
+        LineForm::Comment
+    } else {
+        LineForm::Text(body)
     }
 }
 
@@ -115,18 +133,20 @@ pub fn form_of(line: &[u8]) -> LineForm<&[u8]>
     ensures value { form_seen result ≡ form_of line.now }
     ensures fits { FitsLine (form_seen result) }
 {
-    if !has_word(line) {
-        return LineForm::BlankLine;
+    if begins_control(line) {
+        return control_line(&line[1..]);
     }
-    let body = without_comment(line);
-    match body {
-        [] => LineForm::Comment,
-        [first, bytes @ ..] => {
-            if *first == b'.' || *first == b'\'' {
-                control_line(bytes)
-            } else {
-                LineForm::Text(body)
-            }
-        }
+    text_form(line)
+}
+
+/// The name of a control line. It is found without a look at the line's comment.
+pub fn control_name(line: &[u8]) -> Option<&[u8]>
+    ensures { name_seen result ≡ name_of (form_of line.now) }
+{
+    if !begins_control(line) {
+        return None;
     }
+    let bytes = &line[1..];
+    let named = &bytes[white_len(bytes)..];
+    Some(&named[..name_len(named)])
 }

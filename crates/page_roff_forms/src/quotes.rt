@@ -1,6 +1,6 @@
 //! The first argument of a text (roff(7), "Macro syntax").
 
-ghost use Rattle.std.specs.Prelude.{◌≡◌, ◌≢◌, ◌≤◌, ◌<◌, ◌+◌, ◌-◌, ◌^◌, length, drop, get_or};
+ghost use Rattle.std.specs.Prelude.{◌≡◌, ◌≢◌, ◌≤◌, ◌<◌, ◌+◌, ◌^◌, length, min, drop, get_or};
 ghost use Rattle.page_roff_forms.specs.Arguments.{argument_seen, is_quoted, bare_len, quoted_len, quoted_argument, begins_quoted, first_argument, argument_len};
 
 use memchr::memchr;
@@ -100,14 +100,16 @@ fn begins_quoted(text: &[u8]) -> bool
     }
 }
 
-// The argument whose first quote stands at a column, and whose bytes after it are given.
-fn quoted_argument(inner: &[u8], column: u32) -> Argument<&[u8]>
+// The argument whose first quote stands at a column, and whose bytes after it are given; and the number of its bytes
+// with its quotes.
+fn quoted_argument(inner: &[u8], column: u32) -> (Argument<&[u8]>, usize)
     requires { column + 1 + length inner.now < 2 ^ 32 }
-    ensures value { argument_seen result ≡ quoted_argument column inner.now }
-    ensures within { result.column + length result.text.now ≤ column + 1 + length inner.now }
+    ensures value { argument_seen result.0 ≡ quoted_argument column inner.now }
+    ensures len { result.1 ≡ min (length inner.now + 1) (quoted_len inner.now + 2) }
+    ensures within { result.0.column + length result.0.text.now ≤ column + 1 + length inner.now }
 {
     let len = quoted_len(inner);
-    Argument {
+    let argument = Argument {
         text: &inner[..len],
         column: column + 1,
         quoting: if len < inner.len() {
@@ -115,32 +117,27 @@ fn quoted_argument(inner: &[u8], column: u32) -> Argument<&[u8]>
         } else {
             Quoting::Unclosed
         },
-    }
+    };
+    (argument, (inner.len() + 1).min(len + 2))
 }
 
-/// The argument that a text begins with, of which the first byte stands at a column.
-pub(crate) fn first_argument(text: &[u8], column: u32) -> Argument<&[u8]>
+/// The argument that a text begins with, of which the first byte stands at a column, and the number of its bytes
+/// with its quotes.
+pub(crate) fn first_argument(text: &[u8], column: u32) -> (Argument<&[u8]>, usize)
     requires { column + length text.now < 2 ^ 32 }
-    ensures value { argument_seen result ≡ first_argument column text.now }
-    ensures within { result.column + length result.text.now ≤ column + length text.now }
+    ensures value { argument_seen result.0 ≡ first_argument column text.now }
+    ensures len { result.1 ≡ argument_len text.now }
+    ensures size { result.1 ≤ length text.now }
+    ensures within { result.0.column + length result.0.text.now ≤ column + length text.now }
 {
     if begins_quoted(text) {
         return quoted_argument(&text[1..], column);
     }
-    Argument {
-        text: &text[..bare_len(text)],
+    let len = bare_len(text);
+    let argument = Argument {
+        text: &text[..len],
         column,
         quoting: Quoting::Bare,
-    }
-}
-
-/// The number of bytes of that argument with its quotes.
-pub(crate) fn argument_len(text: &[u8]) -> usize
-    ensures value { result ≡ argument_len text.now }
-    ensures within { result ≤ length text.now }
-{
-    if begins_quoted(text) {
-        return text.len().min(quoted_len(&text[1..]) + 2);
-    }
-    bare_len(text)
+    };
+    (argument, len)
 }

@@ -1,12 +1,14 @@
 -- Texts that are read pairwise: helpers of proofs.
-use Rattle.std.proofs.Common.{◌≡◌, ◌≢◌, ℕ, zero, suc, ◌+◌, ◌<◌, ◌≤◌, ◌==◌, nat_eq, nat_lt, Bool, true, false, not, List, [], ◌∷◌, length, take, drop, get_or, if◌then◌else◌, Option, Some, None, is_none, refl, sym, ap, ◌∙◌, inl, inr, arith, length-drop}
+use Rattle.std.proofs.Common.{◌≡◌, ◌≢◌, ℕ, zero, suc, ◌+◌, ◌<◌, ◌≤◌, ◌==◌, nat_eq, nat_lt, Bool, true, false, not, List, [], ◌∷◌, length, take, drop, get_or, if◌then◌else◌, refl, sym, ap, ◌∙◌, inl, inr, arith, length-drop}
 use Rattle.std.specs.List.{starts_with}
 use Rattle.std.proofs.lemmas.Bool.Decides.{nat_tests}
 use Rattle.std.proofs.lemmas.List.{drop_more, drop_all, drop-drop, get_or-drop}
 use Rattle.std.proofs.lemmas.List.Sums.{prefix_len_stops, prefix_len-le-length}
 use Rattle.std.proofs.lemmas.Bool.{cases_Bool}
 use Rattle.std.specs.List.{prefix_len}
-use Rattle.memchr.specs.Find.{IsFirstByte, is_byte}
+use Rattle.std.specs.Prelude.{◌&&◌, ◌||◌}
+use Rattle.page_roff_forms.specs.Pairs.{LacksPair}
+use Rattle.page_roff_forms.proofs.PairLemmas.{lacks_later}
 use Rattle.page_roff_forms.specs.LineForms.{is_white, is_plain, begins_comment}
 use Rattle.page_roff_heads.specs.Delimiters.{delimiter_len, place_of, quoted_len, argument_len, expression_rest, expression_len}
 use Rattle.page_roff_heads.specs.Conditions.{longer, texts_after, texts_at}
@@ -208,26 +210,27 @@ read_all line i r h =
     let e = short_end (drop i line) (omega arith) in
     omega (arith, r.place, r.within)
 
--- ---- a line without a closing brace
+-- ---- a line without the pair that ends a block
 
-ends_if : (a b c : Bool) (n m k : ℕ) → b ≡ false → m ≡ n → k ≡ 1 + n → (if a then (if b then 0 else if c then 2 + n else 2 + m) else 1 + k) ≡ 2 + n
+either : (b : Bool) → (b || b) ≡ b
+either true = refl
+either false = refl
+
+ends_if : (a b c : Bool) (n m k : ℕ) → (a && b) ≡ false → m ≡ n → k ≡ 1 + n → (if a then (if b then 0 else if c then 2 + n else 2 + m) else 1 + k) ≡ 2 + n
 ends_if true b true n m k e h g = rw e refl
 ends_if true b false n m k e h g = rw (e, h) refl
 ends_if false b c n m k e h g = omega (arith, g)
 
-unbraced : (line : List ℕ) → ((k : ℕ) → k < length line → (get_or line k 0 == 125) ≡ false) → end_place line ≡ length line
-unbraced [] h = refl
-unbraced (x ∷ []) h = refl
-unbraced (x ∷ y ∷ ys) h =
-    let rest = unbraced ys (λ k l. h (suc (suc k)) (omega arith)) in
-    let more = unbraced (y ∷ ys) (λ k l. h (suc k) (omega arith)) in
-    ends_if (x == 92) (y == 125) (begins_comment y) (length ys) (end_place ys) (end_place (y ∷ ys)) (h 1 (omega arith)) rest (omega (arith, more))
+ends_no_block : (a b : Bool) → (a && (b || b)) ≡ false → (a && b) ≡ false
+ends_no_block a b h = rw either at h
+
+pub without_ends : (line : List ℕ) → LacksPair 125 125 line → end_place line ≡ length line
+without_ends [] h = refl
+without_ends (x ∷ []) h = refl
+without_ends (x ∷ y ∷ ys) h =
+    let t = lacks_later 125 125 x (y ∷ ys) h in
+    let rest = without_ends ys (lacks_later 125 125 y ys t) in
+    let more = without_ends (y ∷ ys) t in
+    ends_if (x == 92) (y == 125) (begins_comment y) (length ys) (end_place ys) (end_place (y ∷ ys)) (ends_no_block (x == 92) (y == 125) (h 0 (omega arith)))
+    rest (omega (arith, more))
     ∙ omega arith
-
-no_brace : (b : Bool) → ¬ (b ≡ true) → b ≡ false
-no_brace true h = absurd (h refl)
-no_brace false h = refl
-
-pub without_brace : (line : List ℕ) (r : Option ℕ) → IsFirstByte (is_byte 125) line r → is_none r ≡ true → end_place line ≡ length line
-without_brace line (Some k) h e = let no : ⊥ = cc in absurd no
-without_brace line None h e = unbraced line (λ k l. no_brace (get_or line k 0 == 125) (h k (omega arith) l))

@@ -1,13 +1,12 @@
 //! The heads of conditionals, and the ends of their blocks (roff(7), `if`, `ie`, `el` and `\}`).
 
-ghost use Rattle.std.specs.Prelude.{◌≡◌, ◌≤◌, ◌<◌, ◌+◌, true, length, IfSome};
+ghost use Rattle.std.specs.Prelude.{◌≡◌, ◌≤◌, ◌<◌, ◌+◌, length, IfSome};
 ghost use Rattle.page_roff_heads.specs.Heads.{guarded_of, guarded_seen, conditional_at, conditional_of, conditional_seen, end_place, block_end_of, block_end_seen, FitsGuarded, FitsConditional, FitsBlockEnd};
 
 use crate::conditions::{Condition, read_condition};
 use crate::texts::{Placed, begins_pair, blank_len, remainder};
-use memchr::memchr;
 use page_core_limits::LINE;
-use page_roff_forms::{begins_comment, plain_len, uncommented_len};
+use page_roff_forms::{begins_comment, lacks_pair, plain_len, uncommented_len};
 use std::alloc::AllocError;
 
 /// What the head of a conditional guards; `W` is a text.
@@ -118,23 +117,16 @@ pub fn read_conditional(rest: &[u8], column: u32) -> Conditional<&[u8]>
     conditional_at(&rest[blanks..], column + blanks as u32)
 }
 
-// Whether a line has no closing brace. Most lines with backslashes have none.
-fn lacks_brace(line: &[u8]) -> bool
-    ensures { result ≡ true → end_place line.now ≡ length line.now }
-{
-    memchr(b'}', line).is_none()
-}
-
 // The number of a line's bytes before its first `\}` outside its comment, or of all of them where there is none.
 fn end_place(line: &[u8]) -> usize
     ensures value { result ≡ end_place line.now }
     ensures fits { result < length line.now → result + 2 ≤ length line.now }
     ensures within { result ≤ length line.now }
 {
-    let mut place = plain_len(line);
-    if place == line.len() || lacks_brace(line) {
+    if lacks_pair(line, b'}', b'}') {
         return line.len();
     }
+    let mut place = plain_len(line);
     while place + 1 < line.len() {
         if line[place + 1] == b'}' {
             return place;

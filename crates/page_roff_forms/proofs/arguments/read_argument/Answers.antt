@@ -13,7 +13,7 @@ pub returns-clause-first : goal.returns-clause-first
 returns-clause-first c =
     let text = c.args.text.now in
     let b = c.blank_len-blanks.result in
-    let e = read_one c.args.column b c.argument_len.result text _ c.blank_len-blanks.ensures.value (take_rest text b)
-    (sym c.is_empty.ensures ∙ c.if-is_empty.false) c.argument_len.ensures.value in
-    let w = rw (take_rest text b) at c.argument_len.ensures.within in
-    (omega (arith, w, c.blank_len-blanks.ensures.within, length-drop b text), rw c.first_argument-argument.ensures.value e)
+    let e = read_one c.args.column b c.first_argument-len.result.1 text _ c.blank_len-blanks.ensures.value (take_rest text b)
+    (sym c.is_empty.ensures ∙ c.if-is_empty.false) c.first_argument-len.ensures.len in
+    let w = rw (take_rest text b) at c.first_argument-len.ensures.size in
+    (omega (arith, w, c.blank_len-blanks.ensures.within, length-drop b text), rw c.first_argument-len.ensures.value e)

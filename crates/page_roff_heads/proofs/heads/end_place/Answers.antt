@@ -1,9 +1,8 @@
-use Rattle.std.proofs.Common.{◌≤◌, ◌+◌, ◌∙◌, sym, length, arith}
+use Rattle.std.proofs.Common.{◌+◌, ◌∙◌, sym, arith}
 use Rattle.std.proofs.lemmas.Bool.Decides.{nat_tests}
 use Rattle.std.proofs.lemmas.List.{take_rest}
-use Rattle.page_roff_heads.proofs.Reading.{read_first, read_pair, read_comment, read_all}
+use Rattle.page_roff_heads.proofs.Reading.{read_first, read_pair, read_comment, read_all, without_ends}
 use Rattle.page_roff_heads.proofs.heads.end_place.Goals as goal
-use Rattle.page_roff_heads.proofs.heads.end_place.Goals.{then-place-line-via-then-place-line, then-place-line-via-else-place-line+then-lacks_brace}
 
 pub loop-place-init : goal.loop-place-init
 loop-place-init c = read_first c.args.line.now c.plain_len-place.result c.plain_len-place.ensures.value
@@ -22,13 +21,5 @@ returns-then-begins_comment-clause-value c =
 pub returns-clause-value : goal.returns-clause-value
 returns-clause-value c = sym (read_all c.args.line.now c.loop-place.place c.loop-place.invariant (omega (arith, c.loop-place-test.false)))
 
-pub returns-then-place-line-clause-value : goal.returns-then-place-line-clause-value
-returns-then-place-line-clause-value c =
-    let line = c.args.line.now in
-    let n = c.plain_len-place.result in
-    elim c.then-place-line.branch [
-      | then-place-line-via-then-place-line w ↦
-          let all : length line ≤ n = grind (arith, nat_tests, w.if-place-line.true) in
-          sym (read_all line n (read_first line n c.plain_len-place.ensures.value) (omega (arith, all)))
-      | then-place-line-via-else-place-line+then-lacks_brace w ↦ sym (w.lacks_brace.ensures w.if-lacks_brace.true)
-    ]
+pub returns-then-lacks_pair-clause-value : goal.returns-then-lacks_pair-clause-value
+returns-then-lacks_pair-clause-value c = sym (without_ends c.args.line.now (c.lacks_pair.ensures c.if-lacks_pair.true))
