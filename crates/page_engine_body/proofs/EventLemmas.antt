@@ -1,5 +1,5 @@
 -- The events of a line, one after another.
-use Rattle.std.proofs.Common.{◌≡◌, ℕ, ◌≤◌, List, [], ◌∷◌, ◌++◌, length, arith, refl}
+use Rattle.std.proofs.Common.{◌≡◌, ℕ, ◌≤◌, List, [], ◌∷◌, ◌++◌, length, ap, append-nil, arith, refl}
 use Rattle.page_core_limits.specs.declared.TheConstants.{LINE}
 use Rattle.page_engine_body.specs.Bodies.{BodyEdge, IsShort, RestIsShort, event_after, event_items, events_after, events_items}
 use Rattle.page_scopes.proofs.SliceLemmas.{deed_fits}
@@ -61,3 +61,15 @@ items_none b = refl
 pub after_none : (b : BodyEdge) → events_after b [] ≡ b
 unfolding events_after
 after_none b = refl
+
+-- two events and no more
+
+pub two_items : (b : BodyEdge) (first last : Event (List ℕ))
+    → events_items b (first ∷ last ∷ []) ≡ event_items b first ++ event_items (event_after b first) last
+unfolding events_items
+two_items b first last = ap (λ l. event_items b first ++ l) (append-nil (event_items (event_after b first) last))
+
+pub two_after : (b : BodyEdge) (first last : Event (List ℕ))
+    → events_after b (first ∷ last ∷ []) ≡ event_after (event_after b first) last
+unfolding events_after
+two_after b first last = refl

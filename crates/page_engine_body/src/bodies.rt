@@ -8,6 +8,7 @@ ghost use Rattle.page_engine_body.specs.Bodies.{IsShort};
 ghost use Rattle.page_engine_body.specs.Caps.{BodyFits};
 ghost use Rattle.page_sets_lines.specs.Events.{event_seen};
 ghost use Rattle.page_sets_lines.specs.Laws.{HasSlices};
+ghost use Rattle.page_sets_lines.specs.PlainLines.{event_at, line_end, plain_deed, plain_events};
 
 use crate::titles::give_title;
 use arrayvec::ArrayString;
@@ -20,6 +21,7 @@ use page_scopes::OpenScopes;
 use page_scopes_nodes::PageLayout;
 use page_scopes_words::report;
 use page_sets::{Deed, Event, Leaf, MacroSet};
+use page_sets_lines::PlainLine;
 use std::alloc::{AllocError, Global};
 use std::marker::Model;
 
@@ -80,6 +82,7 @@ impl Body {
 
     // Gives an event, and keeps what it leaves.
     #[tactic(auto, unfolding(crate::specs::Bodies::event_items, crate::specs::Bodies::event_after))]
+    #[inline(always)]
     fn give_event<O: PieceOut>(&mut self, out: &mut O, event: &Event<&[u8]>)
         requires { IsShort (event_seen event.now) }
         ensures came { Came O.left out.old (bodies.event_items self.old (event_seen event.now)) out.new }
@@ -101,6 +104,83 @@ impl Body {
         }
         self.give_begin(out, event);
         self.scopes.give_event(event, out);
+    }
+
+    // Gives what a line that is no control line does.
+    #[inline(always)]
+    fn give_plain_deed<O: PieceOut>(&mut self, out: &mut O, line: Taken<'_>, plain: PlainLine)
+        requires { length line.text.now ≤ LINE }
+        ensures came { let event = event_at line.entry.line 1 (plain_deed plain line.entry.text.now)
+            in Came O.left out.old (bodies.event_items self.old event) out.new }
+        ensures after { let event = event_at line.entry.line 1 (plain_deed plain line.entry.text.now)
+            in self.new ≡ bodies.event_after self.old event }
+    {
+        let event = Event {
+            place: Place {
+                line: line.line,
+                column: 1,
+            },
+            deed: plain.deed(line.text),
+        };
+        self.give_event(out, &event);
+    }
+
+    // Gives what a line does that is no text with a word, as few lines are.
+    #[inline(never)]
+    fn give_wordless<O: PieceOut>(&mut self, out: &mut O, line: Taken<'_>, plain: PlainLine)
+        requires { length line.text.now ≤ LINE }
+        ensures came { let event = event_at line.entry.line 1 (plain_deed plain line.entry.text.now)
+            in Came O.left out.old (bodies.event_items self.old event) out.new }
+        ensures after { let event = event_at line.entry.line 1 (plain_deed plain line.entry.text.now)
+            in self.new ≡ bodies.event_after self.old event }
+    {
+        self.give_plain_deed(out, line, plain);
+    }
+
+    // Gives what a line that is no control line does, at once where it is text with a word, as most lines are.
+    #[inline(always)]
+    fn give_own<O: PieceOut>(&mut self, out: &mut O, line: Taken<'_>, plain: PlainLine)
+        requires { length line.text.now ≤ LINE }
+        ensures came { let event = event_at line.entry.line 1 (plain_deed plain line.entry.text.now)
+            in Came O.left out.old (bodies.event_items self.old event) out.new }
+        ensures after { let event = event_at line.entry.line 1 (plain_deed plain line.entry.text.now)
+            in self.new ≡ bodies.event_after self.old event }
+    {
+        match plain {
+            PlainLine::Words => self.give_plain_deed(out, line, PlainLine::Words),
+            other => self.give_wordless(out, line, other),
+        }
+    }
+
+    // Gives a line's end.
+    #[inline(always)]
+    fn give_line_end<O: PieceOut>(&mut self, out: &mut O, number: u32, fills: bool)
+        ensures came { Came O.left out.old (bodies.event_items self.old (line_end number fills)) out.new }
+        ensures after { self.new ≡ bodies.event_after self.old (line_end number fills) }
+    {
+        let event = Event {
+            place: Place {
+                line: number,
+                column: 1,
+            },
+            deed: Deed::End { fills },
+        };
+        self.give_event(out, &event);
+    }
+
+    /// Gives the pieces and messages of a line that is no control line, and keeps what it leaves. All sets of macros give
+    /// the same events of it.
+    #[tactic(auto, using(crate::proofs::EventLemmas::two_items, crate::proofs::EventLemmas::two_after))]
+    #[inline(always)]
+    pub fn give_plain<O: PieceOut>(&mut self, line: Taken<'_>, plain: PlainLine, out: &mut O)
+        requires { length line.text.now ≤ LINE }
+        ensures came { Came O.left out.old
+            (bodies.events_items self.old (plain_events line.entry.line line.entry.text.now plain)) out.new }
+        ensures after { self.new
+            ≡ bodies.events_after self.old (plain_events line.entry.line line.entry.text.now plain) }
+    {
+        self.give_own(out, line, plain);
+        self.give_line_end(out, line.line, plain.fills());
     }
 
     /// Gives the pieces and messages of a finished line, and keeps what it leaves.

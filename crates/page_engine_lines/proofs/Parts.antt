@@ -10,6 +10,15 @@ use Rattle.page_roff_source.specs.Edges.{Edge, given_of, line_taken}
 use Rattle.page_roff_machine.specs.Giving.{notes_before, next_line, after_line}
 use Rattle.page_engine_body.specs.Bodies.{BodyEdge}
 use Rattle.page_engine_lines.specs.Given.{given_items, line_items, line_after, body_after}
+use Rattle.page_sets_lines.specs.declared.plain_lines.PlainLine.{PlainLine}
+use Rattle.page_sets_lines.specs.PlainLines.{plain_events, plain_line}
+use Rattle.page_sets_man.specs.Man.{line_events, man_events}
+
+-- a line that is no control line has the events that all sets of macros give of it
+pub plain_gives : (line : Line) (plain : PlainLine) → plain_line line.form line.text ≡ Some plain
+    → man_events line ≡ plain_events line.number line.text plain
+unfolding man_events
+plain_gives line plain h = ap (line_events line) h
 
 one_before : {A B : Type 0} (x : A) (o : Option B) (all front : List A) (rest : B → List A)
     → MatchOption o (all ≡ front) (λ b. all ≡ front ++ rest b) → MatchOption o (x ∷ all ≡ x ∷ front) (λ b. x ∷ all ≡ x ∷ (front ++ rest b))

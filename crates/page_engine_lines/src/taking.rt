@@ -2,18 +2,20 @@
 
 ghost use Rattle.std.specs.Prelude.{◌≡◌, ◌≤◌, length, None};
 ghost use Rattle.page_core_base.specs.Latches.{Came};
+ghost use Rattle.page_core_base.specs.LinesTaken.{line_seen};
 ghost use Rattle.page_roff_source.specs.Edges.{given_of};
 ghost use Rattle.page_engine_lines.specs.Lines as lines;
-ghost use Rattle.page_engine_lines.specs.Given.{given_items, body_after};
+ghost use Rattle.page_engine_lines.specs.Given.{given_items, body_after, line_after, line_items};
 
 use crate::item_outs::ItemOut;
-use page_core_base::{NoteKind, PieceOut, Place};
+use page_core_base::{NoteKind, PieceOut, Place, Taken};
 use page_core_limits::LINE;
 use page_engine_body::Body;
 use page_roff_forms::{is_white, kept_len};
 use page_roff_source::Processor;
 use page_scopes_words::report;
 use page_sets::Man;
+use page_sets_lines::PlainLine;
 
 /// Reports white space at a line's end.
 pub(crate) fn report_trailing<O: PieceOut>(out: &mut O, number: u32, text: &[u8])
@@ -35,6 +37,20 @@ pub(crate) fn report_trailing<O: PieceOut>(out: &mut O, number: u32, text: &[u8]
     }
 }
 
+// Gives the pieces and messages of a finished line, at once where it is no control line.
+#[inline(always)]
+fn give_finished<L: PieceOut>(body: &mut Body, line: Taken<'_>, out: &mut ItemOut<L>)
+    requires { length line.text.now ≤ LINE }
+    ensures came { Came L.left out.old.latch
+        (line_items body.old (line_seen line.entry)) out.new.latch }
+    ensures after { body.new ≡ line_after body.old (line_seen line.entry) }
+{
+    match PlainLine::of(line) {
+        Some(plain) => body.give_plain(line, plain, out),
+        None => body.give_line(&Man, line, out),
+    }
+}
+
 /// Takes what is still to come of a source line, and gives the pieces and messages of its finished lines.
 pub(crate) fn give_taken<L: PieceOut>(roff: &mut Processor, body: &mut Body, out: &mut ItemOut<L>)
     ensures came { Came L.left out.old.latch (given_items body.old (given_of roff.old)) out.new.latch }
@@ -42,6 +58,6 @@ pub(crate) fn give_taken<L: PieceOut>(roff: &mut Processor, body: &mut Body, out
     ensures roff { roff.new ≡ record roff.old { to_come = None } }
 {
     while let Some(taken) = roff.take_into(out) {
-        body.give_line(&Man, taken, out);
+        give_finished(body, taken, out);
     }
 }

@@ -49,6 +49,7 @@ impl Laying for LayoutState {
 
     ghost Takes = { λ event. DeedFits event.deed };
 
+    #[inline(always)]
     fn keep(&self, _label: Label, event: &Event<&[u8]>) -> Kept {
         Kept {
             context: self.context,
@@ -60,6 +61,7 @@ impl Laying for LayoutState {
         give_begun(out, &self.page, event, &mut self.context, &mut self.running);
     }
 
+    #[inline(always)]
     fn come<O: PieceOut>(&mut self, event: &Event<&[u8]>, out: &mut O) {
         give_coming(
             out,

@@ -59,6 +59,7 @@ impl OpenScopes {
     }
 
     /// Whether an event begins the body of the page.
+    #[inline(always)]
     pub fn begins_body(&self, event: &Event<&[u8]>) -> bool
         ensures { result ≡ begins_body self.now (event_seen event.now) }
     {
@@ -66,6 +67,7 @@ impl OpenScopes {
     }
 
     /// Takes an event of a line, and gives what it settles.
+    #[inline(always)]
     pub fn give_event<O: PieceOut>(&mut self, event: &Event<&[u8]>, out: &mut O)
         requires { DeedFits (deed_seen event.now.deed) }
         ensures came { Came O.left out.old (event_items self.old (event_seen event.now)) out.new }

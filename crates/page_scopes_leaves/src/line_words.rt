@@ -55,7 +55,7 @@ fn word_phrase<'a>(word: &Word<&'a [u8]>) -> Phrase<&'a [u8]>
 
 /// Gives a word of a line.
 #[tactic(auto, unfolding(crate::specs::LineWords::line_word))]
-#[inline(never)]
+#[inline(always)]
 pub fn give_line_word<O: PieceOut>(
     out: &mut O,
     line: u32,

@@ -99,6 +99,7 @@ fn opener_target(opener: &Opener<&[u8]>) -> Option<Target>
 }
 
 /// The target that the scope of a deed keeps up to its end.
+#[inline(always)]
 pub fn kept_target(deed: &Deed<&[u8]>) -> Option<Target>
     ensures { result ≡ begins.kept_target (deed_seen deed.now) }
 {

@@ -10,6 +10,8 @@ use Rattle.page_scopes_laws.specs.declared.Scope.{Scope}
 use Rattle.page_sets_lines.specs.declared.events.Deed.{Deed}
 use Rattle.page_sets_lines.specs.declared.events.Deed.TheVariants as deeds
 use Rattle.page_sets_lines.specs.declared.events.Event.{Event}
+use Rattle.page_sets_lines.specs.declared.openers.Closer.{Closer}
+use Rattle.page_sets_lines.specs.declared.openers.Closer.TheVariants as closers
 use Rattle.page_scopes_tree.specs.Acts.{Step}
 use Rattle.page_scopes_tree.specs.Frames.{Tables, framed}
 use Rattle.page_scopes_tree.specs.Nests.{Fact, scopes_nesting, standing_by}
@@ -39,6 +41,19 @@ deed_stands_alone _ nodes = false
 abbrev pub stands_alone : Act (Event (List ℕ)) → List Label → Bool
 stands_alone (acts.Event event) nodes = deed_stands_alone event.deed nodes
 stands_alone (acts.PageEnd line) nodes = false
+
+-- A break of line scopes where the innermost scope is none: it does nothing.
+abbrev pub closer_is_idle : Closer (List ℕ) → List Label → Bool
+closer_is_idle closers.Line nodes = not (in_line_scope nodes)
+closer_is_idle _ nodes = false
+
+abbrev pub deed_is_idle : Deed (List ℕ) → List Label → Bool
+deed_is_idle (deeds.Close closer) nodes = closer_is_idle closer nodes
+deed_is_idle _ nodes = false
+
+abbrev pub is_idle : Act (Event (List ℕ)) → List Label → Bool
+is_idle (acts.Event event) nodes = deed_is_idle event.deed nodes
+is_idle (acts.PageEnd line) nodes = false
 
 -- a step was taken from an edge: what it settles came to a latch, and this edge is after it
 pub record Takes {P O S B : Type 0} (left : P → O → List Item → Type 0) (tables : Tables S B) (taken : Step) (before : Edge Bool Label S B) (out : O)

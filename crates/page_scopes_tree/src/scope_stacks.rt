@@ -69,6 +69,7 @@ impl<Y: Laying> ScopeStack<Y> {
     }
 
     /// Takes an event, and gives what it settles.
+    #[inline(always)]
     pub fn apply<O: PieceOut>(&mut self, event: &Event<&[u8]>, out: &mut O)
         requires { Y.Takes (event_seen event.now) }
         ensures came { Came O.left out.old

@@ -7,12 +7,12 @@ ghost use Rattle.page_scopes_laws.specs.Machines.{ended_items, ended_state, plac
 ghost use Rattle.page_scopes_tree.specs.Acts.{TakesAct, act_seen, comes, does};
 ghost use Rattle.page_scopes_tree.specs.Frames.{framed};
 ghost use Rattle.page_scopes_tree.specs.Nests.{scopes_nesting};
-ghost use Rattle.page_scopes_tree.specs.Stacks.{Keeps, Takes, stack_edge, stack_standing, stands_alone};
+ghost use Rattle.page_scopes_tree.specs.Stacks.{Keeps, Takes, is_idle, stack_edge, stack_standing, stands_alone};
 ghost use Rattle.page_sets_lines.specs.Events.{event_seen};
 
 use crate::broken::{report_broken, report_obstacle};
 use crate::ends::count_ended;
-use crate::standings::{Fate, fate_of, is_passed_over, skips_after, stands_alone};
+use crate::standings::{Fate, fate_of, is_idle, is_passed_over, skips_after, stands_alone};
 use crate::{Act, Label, Laying, SCOPES};
 use page_core_base::PieceOut;
 use page_scopes_laws::Scope;
@@ -161,6 +161,21 @@ fn take_alone<Y: Laying, O: PieceOut>(
     }
 }
 
+// An act that does nothing.
+#[inline(always)]
+fn take_idle<Y: Laying, O: PieceOut>(
+    scopes: &[Scope<Label, Y::Kept>],
+    skips: bool,
+    state: &Y,
+    act: &Act<&Event<&[u8]>>,
+    out: &O,
+)
+    requires { is_idle (act_seen act.now) (labels (reverse scopes.now)) ≡ true }
+    ensures { Takes O.left Y.tables (does (act_seen act.now))
+        (record { mode = skips; scopes = reverse scopes.now; state = state.now }) out.now
+        (record { mode = skips; scopes = reverse scopes.now; state = state.now }) out.now }
+{}
+
 /// An act ends what it ends, and then opens a scope or stands as a leaf.
 #[inline(always)]
 pub(crate) fn take_act<Y: Laying, O: PieceOut>(
@@ -179,6 +194,8 @@ pub(crate) fn take_act<Y: Laying, O: PieceOut>(
 {
     if stands_alone(act, scopes.as_slice()) {
         take_alone(scopes.as_slice(), skips, state, act, out);
+    } else if is_idle(act, scopes.as_slice()) {
+        take_idle(scopes.as_slice(), *skips, state, act, out);
     } else {
         take_nesting(scopes, skips, state, act, out);
     }

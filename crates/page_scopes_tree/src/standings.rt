@@ -198,6 +198,30 @@ pub(crate) fn stands_alone<B>(act: &Act<&Event<&[u8]>>, scopes: &[Scope<Label, B
     }
 }
 
+// Whether a deed does nothing: a break of line scopes where the innermost scope is none.
+#[inline(always)]
+fn deed_is_idle<B>(deed: &Deed<&[u8]>, scopes: &[Scope<Label, B>]) -> bool
+    requires { length scopes.now ≤ SCOPES }
+    ensures { result ≡ stacks.deed_is_idle (deed_seen deed.now) (labels (reverse scopes.now)) }
+{
+    match deed {
+        Deed::Close(Closer::Line) => !in_line_scope(scopes),
+        _ => false,
+    }
+}
+
+/// Whether an act does nothing, as most breaks of line scopes do.
+#[inline(always)]
+pub(crate) fn is_idle<B>(act: &Act<&Event<&[u8]>>, scopes: &[Scope<Label, B>]) -> bool
+    requires { length scopes.now ≤ SCOPES }
+    ensures { result ≡ stacks.is_idle (act_seen act.now) (labels (reverse scopes.now)) }
+{
+    match act {
+        Act::Event(event) => deed_is_idle(&event.deed, scopes),
+        Act::PageEnd(_) => false,
+    }
+}
+
 // Whether an opener is of a paragraph.
 fn opens_paragraph(opener: &Opener<&[u8]>) -> bool
     ensures { result ≡ standings.opens_paragraph (opener_seen opener.now) }

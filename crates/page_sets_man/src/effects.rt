@@ -3,13 +3,14 @@
 ghost use Rattle.std.specs.Prelude.{◌≡◌, ◌≤◌, length, drop, option_map};
 ghost use Rattle.page_sets_lines.specs.Events.{deed_seen, opener_seen, closer_seen, leaf_seen, text_seen};
 ghost use Rattle.page_sets_lines.specs.ControlLines.{arguments_after, first_of, second_of, text_of};
+ghost use Rattle.page_sets_lines.specs.declared.openers.Opener.TheVariants as openers;
 ghost use Rattle.page_sets_man.specs.Man as man;
 
 use crate::rows::{Closes, Effect, Opens, Sets};
 use page_core_limits::LINE;
 use page_sets_lines::{
     Closer, Deed, HeadingName, Join, Leaf, LineOpener, Opener, OwnWord, Prologue, TagName,
-    first_of, second_of,
+    first_of, read_after,
 };
 
 // The text of the first argument that begins after this many bytes.
@@ -24,15 +25,22 @@ fn first_text(text: &[u8], start: usize) -> Option<&[u8]>
     }
 }
 
-// The text of the second.
-fn second_text(text: &[u8], start: usize) -> Option<&[u8]>
+// What `IP` opens: its tag is the first argument, and its hang the second.
+fn indented(text: &[u8], start: usize) -> Opener<&[u8]>
     requires short { length text.now ≤ LINE }
     requires within { start ≤ length text.now }
-    ensures { text_seen result ≡ text_of (second_of (arguments_after start text.now)) }
+    ensures { let arguments = arguments_after start text.now
+        in opener_seen result ≡ openers.Indented (first_of arguments) (text_of (second_of arguments)) }
 {
-    match second_of(text, start) {
-        Some(argument) => Some(argument.text),
-        None => None,
+    match read_after(text, start) {
+        Some((tag, end)) => Opener::Indented {
+            tag: Some(tag),
+            hang: first_text(text, end),
+        },
+        None => Opener::Indented {
+            tag: None,
+            hang: None,
+        },
     }
 }
 
@@ -47,10 +55,7 @@ fn opener(opens: Opens, text: &[u8], start: usize) -> Option<Opener<&[u8]>>
         Opens::Subsection => Some(Opener::Subsection),
         Opens::Paragraph(name) => Some(Opener::Paragraph(name)),
         Opens::Tagged => Some(Opener::Tagged(first_text(text, start))),
-        Opens::Indented => Some(Opener::Indented {
-            tag: first_of(text, start),
-            hang: second_text(text, start),
-        }),
+        Opens::Indented => Some(indented(text, start)),
         Opens::Hanging => Some(Opener::Hanging(first_text(text, start))),
         Opens::RelativeMargin => Some(Opener::RelativeMargin(first_text(text, start))),
         Opens::Target(link) => Some(Opener::Target(link, first_of(text, start)?)),

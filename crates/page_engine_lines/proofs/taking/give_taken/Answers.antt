@@ -16,9 +16,9 @@ loop-taken-preserved g c =
     let p = c.loop-taken.body in
     let i = c.loop-taken.invariant in
     let s = c.in-Some.ensures in (
-      items_taken g.L.PieceOut.left p e f line c.give_line.new.self (given_items c.args.body.now (given_of c.args.roff.now))
-          c.take_into.follows.holds-at-none s.line c.give_line.ensures.after i.0 s.came c.give_line.ensures.came,
-      body_taken p e line c.give_line.new.self f (body_after c.args.body.now (given_of c.args.roff.now)) c.take_into.follows.holds-at-none s.line c.give_line.ensures.after i.1,
+      items_taken g.L.PieceOut.left p e f line c.give_finished.new.body (given_items c.args.body.now (given_of c.args.roff.now))
+          c.take_into.follows.holds-at-none s.line c.give_finished.ensures.after i.0 s.came c.give_finished.ensures.came,
+      body_taken p e line c.give_finished.new.body f (body_after c.args.body.now (given_of c.args.roff.now)) c.take_into.follows.holds-at-none s.line c.give_finished.ensures.after i.1,
       same_but_taken c.args.roff.now e f c.take_into.follows.holds-at-none i.2,
     )
 
