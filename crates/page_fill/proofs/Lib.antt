@@ -1,3 +1,5 @@
 pub mod WordLemmas
 pub mod PlainWordLemmas
+pub mod WordRunLemmas
+pub mod TakenWordLemmas
 pub mod CutLaw

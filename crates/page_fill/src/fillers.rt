@@ -7,9 +7,10 @@ ghost use Rattle.page_core_base.specs.Latches.{LaysOut};
 ghost use Rattle.page_core_base.specs.Pieces.{piece_of};
 ghost use Rattle.page_fill.specs.Caps.{FillFits};
 ghost use Rattle.page_fill.specs.Fill as fill;
+ghost use Rattle.page_fill.specs.TakenWords.{TakesFirst};
 
 use crate::words::{Edge, NO_WORD};
-use page_core_base::{Cell, Fault, NoteSink, Piece, RowLatch, RowOut, RowSink, Settings};
+use page_core_base::{Cell, Fault, Font, NoteSink, Piece, RowLatch, RowOut, RowSink, Settings};
 use page_core_limits::CELLS;
 use page_fill_rows::OpenRow;
 use std::alloc::Global;
@@ -194,6 +195,18 @@ impl Filler {
         let result = fill_piece(&mut self.edge, piece, rows, notes);
         self.is_going = result.is_ok();
         result
+    }
+
+    /// Takes the first words of a text, in which one blank stands before each, as far as the open row has room for them; answers how many
+    /// bytes of the text these are. They settle nothing.
+    pub fn take_words(&mut self, text: &[u8], font: Font) -> usize
+        ensures words { (e : fill.Edge) → self.old ≡ Some e → TakesFirst text.now font result e self.new }
+        ensures closed { self.old ≡ None → (result ≡ 0) × (self.new ≡ None) }
+    {
+        match font {
+            Font::R if self.is_going => self.edge.take_words(text),
+            _ => 0,
+        }
     }
 
     /// The open row ends, if there is one. From then on the filler takes nothing.

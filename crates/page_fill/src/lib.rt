@@ -5,6 +5,7 @@
 
 mod fillers;
 mod laws;
+mod taken_words;
 mod words;
 
 /// The greatest hang of a tag, in columns.

@@ -1,19 +1,23 @@
 //! Words, breaks and tags: what is held between two pieces.
 
-ghost use Rattle.std.specs.Prelude.{◌≡◌, true, false, []};
+ghost use Rattle.std.specs.Prelude.{◌≡◌, true, false, [], Some};
 ghost use Rattle.std.specs.Str.{chars};
 ghost use Rattle.page_core_base.specs.Laid.{nothing};
 ghost use Rattle.page_core_base.specs.Latches.{CameRows, LaysOut};
+ghost use Rattle.page_core_base.specs.declared.cells.Font.TheVariants.{R};
 ghost use Rattle.page_core_base.specs.declared.places.Place.{Place};
 ghost use Rattle.page_fill_rows.specs.Characters.{characters_of};
 ghost use Rattle.page_fill_rows.specs.Plain as plain;
 ghost use Rattle.page_fill.specs.Fill as fill;
 ghost use Rattle.page_fill.specs.PlainWords as plain_words;
+ghost use Rattle.page_fill.specs.TakenWords.{TakesFirst};
 
+use crate::taken_words::whole_words;
 use crate::{HANG_MAX, TAB_STOP};
 use page_core_base::{Cell, Font, Note, NoteKind, Output, Place, RowOut, TagForm};
 use page_fill_rows::{
     OpenRow, columns, is_printable_ascii, put_character, put_characters, put_glyph, put_plain,
+    word_start,
 };
 
 /// The open word, and what waits before the next one.
@@ -204,6 +208,21 @@ impl Edge {
         }
         self.word = OpenWord::begun(false);
         true
+    }
+
+    /// Takes the first words of a text, in which one blank stands before each, as far as the row has room for them; answers how many bytes
+    /// of the text these are. They are roman, as the blanks are.
+    pub(crate) fn take_words(&mut self, text: &[u8]) -> usize
+        ensures { TakesFirst text.now R result self.old (Some self.new) }
+    {
+        let end = whole_words(text, self.sheet.free_cells());
+        let words = &text[..end];
+        let start = word_start(words);
+        if self.word.is_placed || start == 0 || !self.sheet.add_words(words, start) {
+            return 0;
+        }
+        self.word = OpenWord::begun(false);
+        end
     }
 
     // Takes a plain text.

@@ -1,5 +1,6 @@
 pub mod SheetLemmas
 pub mod CharacterLemmas
 pub mod PlainLemmas
+pub mod WordStartLemmas
 pub mod WrapLemmas
 pub mod PlainLaw

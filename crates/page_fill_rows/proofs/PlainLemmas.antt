@@ -104,7 +104,7 @@ letters-fits s (b ∷ bytes) font place some plain room = letters-fit s b bytes 
 
 -- ---- its columns
 
-columns-plain : (font : Font) (bytes : List ℕ) → is_printable_ascii bytes ≡ true → columns (cells_of font bytes) ≡ length bytes
+pub columns-plain : (font : Font) (bytes : List ℕ) → is_printable_ascii bytes ≡ true → columns (cells_of font bytes) ≡ length bytes
 columns-plain font [] plain = refl
 columns-plain font (b ∷ bytes) plain =
     let one : cell_columns (cell_of font b) ≡ 1 = plain-columns font b (first-plain b bytes plain) in

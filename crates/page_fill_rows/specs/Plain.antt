@@ -1,9 +1,11 @@
 -- A machine, which settles what the steps of Sheets settle (plain_law): the fast way for plain texts. They are bytes of printable ASCII, each a
 -- cell of one column, so that an open row with room for them takes them as a whole.
-use Rattle.std.specs.Prelude.{ℕ, ◌+◌, Bool, true, not, ◌&&◌, ◌||◌, ◌==◌, nat_le, nat_lt, min, List, [], ◌∷◌, ◌++◌, length, replicate, if◌then◌else◌}
+use Rattle.std.specs.Prelude.{ℕ, ◌+◌, Bool, true, not, ◌&&◌, ◌||◌, ◌==◌, ◌-◌, nat_le, nat_lt, min, List, [], ◌∷◌, ◌++◌, length, replicate, if◌then◌else◌}
 use Rattle.std.specs.List.{list_all}
 use Rattle.page_core_base.specs.declared.cells.Cell.{Cell}
+use Rattle.page_core_base.specs.declared.cells.Font.TheVariants.{R}
 use Rattle.page_core_base.specs.Laid.{Laid}
+use Rattle.page_fill_rows.specs.Characters.{cells_of}
 use Rattle.page_fill_rows.specs.Sheets.{Sheet, begins, columns, blank, counted, emptied, gives, opens, over, passes}
 use Rattle.page_core_limits.specs.declared.TheConstants.{CELLS}
 use Rattle.page_fill_rows.specs.declared.TheConstants.{TAG_COLUMNS}
@@ -73,3 +75,22 @@ blank_counted s = if passes (opens s) blank then opens s else counted (opens s) 
 -- the row ended before a word of a column a cell, which begins the next row
 abbrev pub wraps_plain : Sheet → List Cell → Laid Sheet
 wraps_plain s cells = over (gives (blank_counted s) s.cells) (λ t. taken (emptied t) cells)
+
+-- how many cells of a column each go into an open row that is filled, before it ends
+abbrev pub free_cells : Sheet → ℕ
+free_cells s = if s.literal || length s.cells == 0 then 0 else min (CELLS - length s.cells) (s.width - s.margin - columns s.cells)
+
+-- where the letters after the last blank begin; 0 where there is no blank
+unfoldable pub word_start : List ℕ → ℕ
+word_start [] = 0
+word_start (b ∷ bytes) = if not (word_start bytes == 0) then word_start bytes + 1 else if b == 32 then 1 else 0
+
+-- the row took roman words with a blank before each, one after another: the bytes of a text
+abbrev pub words_taken : Sheet → List ℕ → Sheet
+words_taken s text = record s {
+  cells = s.cells ++ cells_of R text;
+  gap = length s.cells + (word_start text - 1);
+  word = length s.cells + word_start text;
+  tag_columns = min (s.tag_columns + length text) TAG_COLUMNS;
+  tag_begun = true;
+}

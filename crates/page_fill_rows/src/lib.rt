@@ -7,6 +7,7 @@ mod cell_widths;
 mod characters;
 mod laws;
 mod open_rows;
+mod plain_texts;
 mod row_cells;
 
 /// The columns up to which those of a tag are counted. The greatest hang is 1,000 columns, so more of them make no difference.
@@ -19,3 +20,4 @@ pub use cell_widths::columns;
 pub use characters::{is_printable_ascii, put_character, put_characters, put_glyph, put_plain};
 pub use laws::plain_law;
 pub use open_rows::OpenRow;
+pub use plain_texts::word_start;

@@ -9,6 +9,7 @@ ghost use Rattle.page_fill_rows.specs.Plain as plain;
 ghost use Rattle.page_fill_rows.specs.Sheets as sheet;
 
 use crate::cell_widths::{BLANK, cell_columns, columns, is_blank};
+use crate::plain_texts::all_printable;
 use crate::row_cells::RowCells;
 use crate::{BLANK_ROWS, TAG_COLUMNS};
 use page_core_base::{Cell, Font, Note, NoteKind, Place, RowOut};
@@ -407,6 +408,43 @@ impl OpenRow {
         let count = blanks + bytes.len() as u32;
         self.columns += count;
         self.tag_columns = (self.tag_columns + count).min(TAG_COLUMNS);
+        self.has_tag_cell = true;
+        true
+    }
+
+    /// How many cells of a column each a filled row that has a cell takes before it ends.
+    pub fn free_cells(&self) -> usize
+        ensures value { result ≡ plain.free_cells self.now }
+        ensures bound { length self.now.cells + result ≤ CELLS }
+    {
+        if self.is_literal || self.row.is_empty() {
+            return 0;
+        }
+        let free = self
+            .width
+            .saturating_sub(self.margin)
+            .saturating_sub(self.columns);
+        (CELLS - self.row.len()).min(free as usize)
+    }
+
+    /// The row, which has a cell and room, takes roman words with a blank before each, where the last one starts at a place of the text;
+    /// takes nothing if the text is not printable ASCII, and says whether it is.
+    pub fn add_words(&mut self, text: &[u8], start: usize) -> bool
+        requires room { length self.old.cells + length text.now ≤ CELLS }
+        requires start { (start ≡ plain.word_start text.now) × (0 < start) }
+        ensures answer { result ≡ plain.is_printable_ascii text.now }
+        ensures words { result ≡ true → self.new ≡ plain.words_taken self.old text.now }
+        ensures same { result ≡ false → self.new ≡ self.old }
+    {
+        if !all_printable(text) {
+            return false;
+        }
+        self.word = self.row.len() + start;
+        self.gap = self.word - 1;
+        self.row.add_roman(text);
+        let count = text.len() as u32;
+        self.columns += count;
+        self.tag_columns = self.tag_columns.saturating_add(count).min(TAG_COLUMNS);
         self.has_tag_cell = true;
         true
     }

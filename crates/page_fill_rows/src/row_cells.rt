@@ -1,6 +1,7 @@
 //! The cells of a row, in places that are reserved for good.
 
 ghost use Rattle.std.specs.Prelude.{◌≡◌, ℕ, ◌+◌, ◌-◌, ◌<◌, ◌≤◌, [], ◌∷◌, ◌++◌, ◌==◌, length, take, drop, replicate, IfOk, true, if◌then◌else◌};
+ghost use Rattle.page_core_base.specs.declared.cells.Font.TheVariants.{R};
 ghost use Rattle.page_fill_rows.specs.Characters as shown;
 ghost use Rattle.page_fill_rows.specs.Plain as plain;
 ghost use Rattle.page_fill_rows.specs.Sheets as sheet;
@@ -118,6 +119,29 @@ impl RowCells {
         self.len = start + bytes.len();
         true
     }
+
+    /// Appends a roman cell of each byte.
+    pub(crate) fn add_roman(&mut self, bytes: &[u8])
+        requires { length self.old + length bytes.now ≤ CELLS }
+        ensures { self.new ≡ self.old ++ shown.cells_of R bytes.now }
+    {
+        put_roman(&mut self.places, self.len, bytes);
+        self.len += bytes.len();
+    }
+}
+
+// Puts a roman cell of each byte at a start and after it.
+fn put_roman(places: &mut [Cell], start: usize, bytes: &[u8])
+    requires { start + length bytes.now ≤ length places.old }
+    ensures cells { take (start + length bytes.now) places.new ≡ take start places.old ++ shown.cells_of R bytes.now }
+    ensures len { length places.new ≡ length places.old }
+{
+    for i in 0..bytes.len() {
+        places[start + i] = Cell {
+            c: bytes[i] as char,
+            font: Font::R,
+        };
+    }
 }
 
 // Puts a count of blanks at a start and after it.
@@ -127,6 +151,10 @@ fn put_blanks(places: &mut [Cell], start: usize, count: usize)
     ensures before { take start places.new ≡ take start places.old }
     ensures len { length places.new ≡ length places.old }
 {
+    if count == 1 {
+        places[start] = BLANK;
+        return;
+    }
     for i in 0..count {
         places[start + i] = BLANK;
     }

@@ -1,0 +1,81 @@
+-- Where the letters after the last blank begin.
+use Rattle.std.proofs.Common.{◌≡◌, ℕ, ◌+◌, ◌-◌, ◌<◌, ◌≤◌, true, false, ◌==◌, List, [], ◌∷◌, ◌++◌, length, get_or, take, refl, ap, ◌∙◌, arith}
+use Rattle.std.proofs.lemmas.Bool.Decides.{nat_tests}
+use Rattle.std.proofs.lemmas.List.{length-append, length-map, length-take-le, take_more}
+use Rattle.page_core_base.specs.declared.cells.Cell.{Cell}
+use Rattle.page_core_base.specs.declared.cells.Font.TheVariants.{R}
+use Rattle.page_core_limits.specs.declared.TheConstants.{CELLS}
+use Rattle.page_fill_rows.specs.declared.TheConstants.{TAG_COLUMNS}
+use Rattle.page_fill_rows.specs.Characters.{cell_of, cells_of}
+use Rattle.page_fill_rows.specs.Room.{IsSound}
+use Rattle.page_fill_rows.specs.Plain.{is_printable_ascii, word_start}
+use Rattle.page_fill_rows.proofs.PlainLemmas.{sound-more}
+
+pub start-append : (front back : List ℕ) → (word_start back == 0) ≡ false → word_start (front ++ back) ≡ length front + word_start back
+unfolding word_start
+start-append [] back some = omega arith
+start-append (b ∷ front) back some =
+    let others = start-append front back some in
+    let more : (length front + word_start back == 0) ≡ false = grind (arith, nat_tests, some) in
+    rw (others, more) (omega arith)
+
+pub start-none : (front back : List ℕ) → word_start back ≡ 0 → word_start (front ++ back) ≡ word_start front
+unfolding word_start
+start-none [] back none = none
+start-none (b ∷ front) back none = rw (start-none front back none) refl
+
+-- the bytes up to a place end with a byte
+last-byte : (bytes : List ℕ) (end : ℕ) → 0 < end → end ≤ length bytes → take end bytes ≡ take (end - 1) bytes ++ get_or bytes (end - 1) 0 ∷ []
+last-byte bytes end some within =
+    let is : end ≡ end - 1 + 1 = omega (arith, some) in
+    ap (λ n. take n bytes) is ∙ take_more bytes (end - 1) 0 (omega (arith, some, within))
+
+blank-last : (b : ℕ) → b ≡ 32 → word_start (b ∷ []) ≡ 1
+unfolding word_start
+blank-last b is = rw is refl
+
+letter-last : (b : ℕ) → (b == 32) ≡ false → word_start (b ∷ []) ≡ 0
+unfolding word_start
+letter-last b other = rw other refl
+
+-- a blank stands before a place
+pub start-at-blank : (bytes : List ℕ) (end : ℕ) → 0 < end → end ≤ length bytes → get_or bytes (end - 1) 0 ≡ 32 → word_start (take end bytes) ≡ end
+start-at-blank bytes end some within is =
+    let one = blank-last (get_or bytes (end - 1) 0) is in
+    let len : length (take (end - 1) bytes) ≡ end - 1 = length-take-le (end - 1) bytes (omega (arith, within)) in
+    rw (last-byte bytes end some within)
+    (start-append (take (end - 1) bytes) (get_or bytes (end - 1) 0 ∷ []) (grind (arith, nat_tests, one)) ∙ omega (arith, one, len, some))
+
+-- a letter stands before a place
+pub start-at-letter : (bytes : List ℕ) (end : ℕ) → 0 < end → end ≤ length bytes → (get_or bytes (end - 1) 0 == 32) ≡ false
+    → word_start (take end bytes) ≡ word_start (take (end - 1) bytes)
+start-at-letter bytes end some within other =
+    rw (last-byte bytes end some within)
+    (start-none (take (end - 1) bytes) (get_or bytes (end - 1) 0 ∷ []) (letter-last (get_or bytes (end - 1) 0) other))
+
+pub start-within : (bytes : List ℕ) → word_start bytes ≤ length bytes
+unfolding word_start
+start-within [] = omega arith
+start-within (b ∷ bytes) = let others = start-within bytes in grind (arith, nat_tests, others)
+
+pub start-of-none : word_start [] ≡ 0
+unfolding word_start
+start-of-none = refl
+
+-- a sound row with roman words is sound
+pub sound-words : {blanks : ℕ} (cells : List Cell) (text : List ℕ) (start count gap word tag tag-now : ℕ) → IsSound cells count gap word tag blanks
+    → is_printable_ascii text ≡ true → length cells + length text ≤ CELLS → tag-now ≤ TAG_COLUMNS → start ≡ word_start text
+    → IsSound (cells ++ cells_of R text) (count + length text) (length cells + start - 1) (length cells + start) tag-now blanks
+sound-words cells text start count gap word tag tag-now sound plain room tagged is =
+    let more = sound-more cells text R count gap word tag tag-now sound plain room tagged in
+    let within = start-within text in
+    let len : length (cells ++ cells_of R text) ≡ length cells + length text = length-append cells (cells_of R text) ∙ ap (λ n. length cells + n) (length-map text (cell_of R)) in
+    record {
+      bounded = more.bounded;
+      counted = more.counted;
+      narrow = more.narrow;
+      gap_within = omega arith;
+      word_within = omega (arith, len, within, is);
+      tag_within = tagged;
+      blanks_within = more.blanks_within;
+    }
