@@ -201,6 +201,7 @@ impl Filler {
     /// bytes of the text these are. They settle nothing.
     pub fn take_words(&mut self, text: &[u8], font: Font) -> usize
         ensures words { (e : fill.Edge) → self.old ≡ Some e → TakesFirst text.now font result e self.new }
+        ensures within { result ≤ length text.now }
         ensures closed { self.old ≡ None → (result ≡ 0) × (self.new ≡ None) }
     {
         match font {

@@ -213,7 +213,8 @@ impl Edge {
     /// Takes the first words of a text, in which one blank stands before each, as far as the row has room for them; answers how many bytes
     /// of the text these are. They are roman, as the blanks are.
     pub(crate) fn take_words(&mut self, text: &[u8]) -> usize
-        ensures { TakesFirst text.now R result self.old (Some self.new) }
+        ensures takes { TakesFirst text.now R result self.old (Some self.new) }
+        ensures within { result ≤ length text.now }
     {
         let end = whole_words(text, self.sheet.free_cells());
         let words = &text[..end];
