@@ -54,20 +54,22 @@ impl Runner {
         let reached = self.stack.reached();
         let bit = self.stack.bit();
         let may_call = self.stack.may_call();
-        let Some(part) = self.stack.part() else {
-            return self.act_between_lines(out);
-        };
-        match &part {
-            Atom::Leaf(text) => Movement::Leaf(self.doing.leaf(reached, may_call, text, out)),
-            Atom::Guard(head) => {
+        match self.stack.part() {
+            None => self.act_between_lines(out),
+            Some(Atom::Leaf(text)) => {
+                Movement::Leaf(self.doing.leaf(reached, may_call, text, out))
+            }
+            Some(Atom::Guard(head)) => {
                 Movement::Guard(self.doing.answer(reached, &head.branch, bit, out))
             }
-            Atom::Block(head) => {
+            Some(Atom::Block(head)) => {
                 let value = self.doing.answer(reached, &head.branch, bit, out);
                 Movement::Block(value, head.column)
             }
-            Atom::End => Movement::BlockEnd,
-            Atom::Region(head) => Movement::Region(self.doing.open_region(reached, head, out)),
+            Some(Atom::End) => Movement::BlockEnd,
+            Some(Atom::Region(head)) => {
+                Movement::Region(self.doing.open_region(reached, &head, out))
+            }
         }
     }
 
