@@ -243,7 +243,6 @@ module _ {P S : Type 0} (left : P → S → List Message → Type 0) (old : Runn
             ∙ ap (λ done. Some (leaf_next l may_call f s.under done)) (a.state s.top.kind k [])
             ∙ ap (λ may_call. Some (leaf_next l may_call f s.under (done_as result new (map says a.notes)))) em;
         suits = rw (← em) callable;
-        nothing = tt;
       }
 
   pub decides_guard : (h : Head (List ℕ)) (r : Reached) (bit : Bool) (result : Option Bool)
@@ -272,7 +271,6 @@ module _ {P S : Type 0} (left : P → S → List Message → Type 0) (old : Runn
             ∙ a.state s.top.kind k [])
             ∙ ap (λ x. to (guard_spot (stacks.branch_in x) result s.top.spot, state_in (map says a.notes) new)) e;
         suits = ap is_part (sym e);
-        nothing = tt;
       }
 
   pub decides_block : (h : Head (List ℕ)) (r : Reached) (bit : Bool) (result : Option Bool)
@@ -301,7 +299,6 @@ module _ {P S : Type 0} (left : P → S → List Message → Type 0) (old : Runn
             ∙ a.state s.top.kind k [])
             ∙ ap (λ x. to (block_spot (stacks.branch_in x) result s.top.spot, refused output result h.column s.top.spot (state_in (map says a.notes) new))) e;
         suits = ap is_part (sym e);
-        nothing = tt;
       }
 
   pub decides_region : (head : RegionHead (List ℕ)) (r : Reached) (result : Bool)
@@ -329,7 +326,6 @@ module _ {P S : Type 0} (left : P → S → List Message → Type 0) (old : Runn
             ∙ ap to (a.state s.top.kind k [])
             ∙ ap (λ x. Some (running (with_top (record { kind = s.top.kind; region = stacks.region_in result x; parts = []; spot = at_line s.top.spot.levels; lines = s.top.lines }) s) (state_in (map says a.notes) new))) e;
         suits = ap is_part (sym e);
-        nothing = tt;
       }
 
   pub begins : (line : List ℕ) (is_page_now : Bool) (stack : Stack)
@@ -383,7 +379,6 @@ module _ {P S : Type 0} (left : P → S → List Message → Type 0) (old : Runn
             ∙ ap (λ region. to region (state_in (map says a.notes ++ line_of result new.actions) new))
             (sym (region_first s.top.region s.top.parts s.top.lines s.under o line false e).0);
         suits = tt;
-        nothing = tt;
       }
 
   pub decides_region_end : (o : Opened) (line : List ℕ) (is_page_now : Bool)
@@ -407,7 +402,6 @@ module _ {P S : Type 0} (left : P → S → List Message → Type 0) (old : Runn
             step_next output s (RegionLine o line true) state e
             ∙ ap to (a.state s.top.kind (record { page = sym ep; setting = k }) []);
         suits = tt;
-        nothing = tt;
       }
 
   source_ended : (l : Language (Budgeted State)) (region : Option Opened) (under : List Frame) (s t : Budgeted State)
@@ -435,7 +429,6 @@ module _ {P S : Type 0} (left : P → S → List Message → Type 0) (old : Runn
             step_next output s (SourceEnd region) state e
             ∙ source_ended (language (effects output)) region s.under state (state_in (map says a.notes) new) (a.state s.top.kind k []);
         suits = ap is_source_end (sym e);
-        nothing = tt;
       }
 
 module _ {P S : Type 0} (left : P → S → List Message → Type 0) (old : Runner) (out : S) where
@@ -456,17 +449,4 @@ module _ {P S : Type 0} (left : P → S → List Message → Type 0) (old : Runn
             ∙ ap (λ (state : Budgeted State). Some (running (with_top (past (after_part (leave s.top.spot.levels)) s.top) s) state))
             (unopened_same output d s.top.kind (has_block s.top.spot.levels) state);
         suits = tt;
-        nothing = tt;
       }
-
-  pub decides_nothing : Nothing ≡ next_of old.stack → Decides left old out moves.Nothing old out
-  unfolding moved step_in
-  decides_nothing e = record {
-    stack = refl;
-    setting = refl;
-    notes = [];
-    came = came_none left out;
-    step = step_next (output_of old.doing) old.stack Nothing (state_in [] old.doing) e;
-    suits = ap is_nothing (sym e);
-    nothing = (refl, refl);
-  }

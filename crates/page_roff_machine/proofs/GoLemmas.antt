@@ -27,7 +27,7 @@ use Rattle.page_roff_machine.specs.declared.budgeted_actions.BudgetedActions.{Bu
 use Rattle.page_roff_machine.specs.declared.movements.Movement.{Movement}
 use Rattle.page_roff_machine.specs.declared.movements.Movement.TheVariants as moves
 use Rattle.page_roff_machine.specs.declared.movements.Progress.{Progress}
-use Rattle.page_roff_machine.specs.declared.movements.Progress.TheVariants.{More, Line, Done}
+use Rattle.page_roff_machine.specs.declared.movements.Progress.TheVariants.{More, Line}
 use Rattle.page_roff_machine.specs.declared.runners.Runner.{Runner}
 use Rattle.page_roff_machine.specs.Doing.{output_of, state_in, state_after, IsIn, IsAt, Makes, unopened_in}
 use Rattle.page_roff_machine.specs.Moving.{moved, ended, reached_with, progress_as, arguments_of, with_arguments_of, called, IsBodyWithin, IfDone, Shifts, Moves}
@@ -215,22 +215,19 @@ shifts_source_end old mid new ed eu e =
 
 -- ---- with a message
 
-abbrev no_notes : List Message
-no_notes = []
-
 module _ {P S : Type 0} (left : P → S → List Message → Type 0) where
   -- the stack moved on without one
   pub quiet : (old new : Runner) (out : S) (movement : Movement) (progress : Progress) → Shifts old movement progress new
-      → IfDone progress ((new ≡ old) × (no_notes ≡ []) × (movement ≡ moves.Nothing))
+      → IfDone progress ⊥
       → Moves left old out movement progress new out
-  quiet old new out movement progress h done = record {
+  quiet old new out movement progress h more = record {
     output = h.output;
     setting = h.setting;
     notes = [];
     came = came_none left out;
     step = λ given. h.step given ∙ ap (λ given. reached_with progress given new) (sym (append-nil given));
     body = h.body;
-    done = done;
+    more = more;
   }
 
   product_done : (product : ProductKind) (P : Type 0) → IfDone (progress_as product) P
@@ -241,18 +238,6 @@ module _ {P S : Type 0} (left : P → S → List Message → Type 0) where
   pub quiet_product : (old new : Runner) (out : S) (movement : Movement) (product : ProductKind) → Shifts old movement (progress_as product) new
       → Moves left old out movement (progress_as product) new out
   quiet_product old new out movement product h = quiet old new out movement (progress_as product) h (product_done product _)
-
-  pub moves_nothing : (old : Runner) (out : S) → IsIn old.stack.top.kind old.doing → Moves left old out moves.Nothing Done old out
-  unfolding moved reached_with
-  moves_nothing old out k = record {
-    output = refl;
-    setting = k;
-    notes = [];
-    came = came_none left out;
-    step = λ given. refl;
-    body = same_depth old.stack.under old.stack refl;
-    done = (refl, refl, refl);
-  }
 
   -- a block is skipped
   pub moves_skip : (old new : Runner) (out : S) (column : ℕ)
@@ -325,7 +310,7 @@ module _ {P S : Type 0} (left : P → S → List Message → Type 0) where
             entered_step old Exceeds value column given b (given ++ map says outcome.notes) ew
             (acted old.doing.budget old.doing.actions.memory b given outcome refl d.memory refl);
         body = same_depth old.stack.under (entered_block old Exceeds value) refl;
-        done = tt;
+        more = tt;
       }
 
   -- a block ends
@@ -354,5 +339,5 @@ module _ {P S : Type 0} (left : P → S → List Message → Type 0) where
         rw has (ap (λ state. Some (running (with_top (past (after_part (leave old.stack.top.spot.levels)) old.stack.top) old.stack) state))
         (a.state old.stack.top.kind (record { page = sym ep; setting = k }) given));
     body = same_depth old.stack.under (with_top (past (after_part (leave old.stack.top.spot.levels)) old.stack.top) old.stack) refl;
-    done = tt;
+    more = tt;
   }

@@ -12,9 +12,9 @@ use Rattle.page_roff_run.specs.Fronts.{over}
 use Rattle.page_roff_run.proofs.MeasureLemmas.{next_falls, first_falls}
 use Rattle.page_roff_effects.specs.Effects.{effects, in_front}
 use Rattle.page_roff_effects.specs.States.{State, Given, says, takes}
-use Rattle.page_roff_stack.specs.Stacks.{Stack, running, next_of, is_nothing}
+use Rattle.page_roff_stack.specs.declared.next.Next.TheVariants.{Nothing}
+use Rattle.page_roff_stack.specs.Stacks.{Stack, running, next_of, is_nothing, step_in}
 use Rattle.page_roff_machine.specs.declared.movements.Movement.{Movement}
-use Rattle.page_roff_machine.specs.declared.movements.Movement.TheVariants as moves
 use Rattle.page_roff_machine.specs.declared.movements.Progress.{Progress}
 use Rattle.page_roff_machine.specs.declared.movements.Progress.TheVariants.{More, Line, Done}
 use Rattle.page_roff_machine.specs.declared.runners.Runner.{Runner}
@@ -23,9 +23,9 @@ use Rattle.page_roff_machine.specs.Giving.{notes_before, next_line, after_line}
 use Rattle.page_roff_machine.specs.Machines.{Machine, outcome_of, to_come, end_of, hushed, Advances}
 use Rattle.page_roff_machine.specs.Moving.{moved, reached_with, IsBodyWithin, IfDone, Suits, HUGE, Decides, Moves}
 use Rattle.page_roff_machine.specs.Stepping.{machine_of, IsMeasured, IsSound, Steps, Leads}
-use Rattle.page_roff_machine.proofs.ActLemmas.{is_nothing_next, decides_nothing}
-use Rattle.page_roff_machine.proofs.DoingLemmas.{came_both, said}
-use Rattle.page_roff_machine.proofs.GoLemmas.{moves_nothing}
+use Rattle.page_roff_machine.proofs.ActLemmas.{step_next, is_nothing_next}
+use Rattle.page_roff_machine.proofs.DoingLemmas.{came_none, came_both, said}
+use Rattle.page_roff_machine.proofs.GoLemmas.{same_depth}
 use Rattle.page_roff_machine.proofs.MachineLemmas.{notes_after, line_after, rest_after, outcome_step, outcome_end}
 
 -- what is left of a line, in steps
@@ -84,19 +84,21 @@ module _ {P S : Type 0} (left : P → S → List Message → Type 0) where
         ∙ b.step (map says a.notes)
         ∙ ap (λ (given : List Given). reached_with progress given new) (said [] a.notes b.notes);
     body = λ h. b.body (h ∙ ap (λ (s : Stack). suc (length s.under)) (sym a.stack));
-    done =
-        if_done progress ((new ≡ mid) × (b.notes ≡ []) × (movement ≡ moves.Nothing))
-        ((new ≡ old) × (a.notes ++ b.notes ≡ []) × (is_nothing (next_of old.stack) ≡ true))
-        (λ d.
-        let n = rw d.2 at a.nothing in
-        let s = rw d.2 at a.suits in
-        (d.0 ∙ n.0, ap (λ (notes : List Message). notes ++ b.notes) n.1 ∙ d.1, s)) b.done;
+    done = if_done progress ⊥ ((new ≡ old) × (a.notes ++ b.notes ≡ []) × (is_nothing (next_of old.stack) ≡ true)) (λ none. absurd none) b.more;
   }
 
   -- nothing is left
   pub stops : (old : Runner) (out : S) → IsIn old.stack.top.kind old.doing → is_nothing (next_of old.stack) ≡ true → Steps left old out Done old out
-  stops old out k e =
-      steps old old old out out out moves.Nothing Done (decides_nothing left old out (is_nothing_next (next_of old.stack) e)) (moves_nothing left old out k)
+  unfolding step_in reached_with
+  stops old out k e = record {
+    output = refl;
+    setting = k;
+    notes = [];
+    came = came_none left out;
+    step = step_next (output_of old.doing) old.stack Nothing (state_in [] old.doing) (is_nothing_next (next_of old.stack) e);
+    body = same_depth old.stack.under old.stack refl;
+    done = (refl, refl, e);
+  }
 
   pub decided : (old mid : Runner) (out out_mid : S) (movement : Movement) → IsIn old.stack.top.kind old.doing → Decides left old out movement mid out_mid
       → IsIn mid.stack.top.kind mid.doing × Suits movement mid.stack mid.doing

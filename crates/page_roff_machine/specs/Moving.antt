@@ -18,7 +18,7 @@ use Rattle.page_roff_effects.specs.Acting.{with_arguments, IsCallable, IfCalled}
 use Rattle.page_roff_effects.specs.Effects.{effects}
 use Rattle.page_roff_effects.specs.States.{State, Given, says, takes}
 use Rattle.page_roff_stack.specs.Changes.{past, in_region, next_line}
-use Rattle.page_roff_stack.specs.Stacks.{Stack, running, with_top, call_of, next_of, is_part, is_source_end, is_nothing, branch_in, region_in}
+use Rattle.page_roff_stack.specs.Stacks.{Stack, running, with_top, call_of, next_of, is_part, is_source_end, branch_in, region_in}
 use Rattle.page_roff_machine.specs.declared.budgeted_actions.BudgetedActions.{BudgetedActions}
 use Rattle.page_roff_machine.specs.declared.movements.Movement.{Movement}
 use Rattle.page_roff_machine.specs.declared.movements.Movement.TheVariants as moves
@@ -73,7 +73,6 @@ moved output (moves.RegionLine product) s given b =
 moved output moves.RegionEnd s given b =
     Some (running (with_top (next_line None [] s.top) s) (state_in given b))
 moved output moves.SourceEnd s given b = ended s.under (state_in given b)
-moved output moves.Nothing s given b = None
 
 -- what came of a part, as a step
 abbrev pub progress_as : ProductKind → Progress
@@ -117,19 +116,6 @@ Suits (moves.Region is_run) s b = is_part (next_of s) ≡ true
 Suits (moves.RegionLine product) s b = Unit {0}
 Suits moves.RegionEnd s b = Unit {0}
 Suits moves.SourceEnd s b = is_source_end (next_of s) ≡ true
-Suits moves.Nothing s b = is_nothing (next_of s) ≡ true
-
--- where nothing is left, nothing is done
-abbrev pub IfNothing : Movement → Type 0 → Type 0
-IfNothing (moves.Leaf product) P = Unit {0}
-IfNothing (moves.Guard value) P = Unit {0}
-IfNothing (moves.Block value column) P = Unit {0}
-IfNothing moves.BlockEnd P = Unit {0}
-IfNothing (moves.Region is_run) P = Unit {0}
-IfNothing (moves.RegionLine product) P = Unit {0}
-IfNothing moves.RegionEnd P = Unit {0}
-IfNothing moves.SourceEnd P = Unit {0}
-IfNothing moves.Nothing P = P
 
 -- What comes next was done, as far as the stack stays: with this movement the step of the definition is made.
 pub record Decides {P S : Type 0} (left : P → S → List Message → Type 0) (old : Runner) (out : S)
@@ -141,7 +127,6 @@ pub record Decides {P S : Type 0} (left : P → S → List Message → Type 0) (
   pub step : next (language (effects (output_of old.doing))) (running old.stack (state_in [] old.doing))
       ≡ moved (output_of old.doing) result old.stack (map says notes) new.doing
   pub suits : Suits result old.stack new.doing
-  pub nothing : IfNothing result ((new ≡ old) × (notes ≡ []))
 
 -- ---- after a step
 
@@ -185,4 +170,4 @@ pub record Moves {P S : Type 0} (left : P → S → List Message → Type 0) (ol
       → moved (output_of old.doing) movement old.stack given old.doing
       ≡ reached_with result (given ++ map says notes) new
   pub body : IsBodyWithin old.stack.under new.stack
-  pub done : IfDone result ((new ≡ old) × (notes ≡ []) × (movement ≡ moves.Nothing))
+  pub more : IfDone result ⊥

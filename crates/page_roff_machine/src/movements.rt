@@ -21,8 +21,6 @@ pub(crate) enum Movement {
     RegionEnd,
     /// Back to the source around this one.
     SourceEnd,
-    /// Nothing is left.
-    Nothing,
 }
 
 /// What one step came to.

@@ -1,7 +1,7 @@
 //! The steps of the machine: what comes next is done, and the input stack moves on.
 
 ghost use Rattle.std.specs.Prelude.{◌≡◌, true, false, None};
-ghost use Rattle.page_roff_stack.specs.Stacks.{next_of, part_in, is_part, is_line, is_source_end};
+ghost use Rattle.page_roff_stack.specs.Stacks.{next_of, part_in, is_part, is_line, is_source_end, is_nothing};
 ghost use Rattle.page_roff_machine.specs.Doing.{IsIn};
 ghost use Rattle.page_roff_machine.specs.Machines.{Advances};
 ghost use Rattle.page_roff_machine.specs.Moving.{Decides, Moves, Shifts, Suits, CanCall};
@@ -48,25 +48,28 @@ impl Runner {
     fn act<O: NoteOut>(&mut self, out: &mut O) -> Movement
         requires sound { IsSound self.old }
         requires begun { is_line (next_of self.old.stack) ≡ false }
+        requires left { is_nothing (next_of self.old.stack) ≡ false }
         ensures { Decides O.left self.old out.old result self.new out.new }
     {
         let reached = self.stack.reached();
         let bit = self.stack.bit();
         let may_call = self.stack.may_call();
-        let Some(part) = self.stack.part() else {
-            return self.act_between_lines(out);
-        };
-        match &part {
-            Atom::Leaf(text) => Movement::Leaf(self.doing.leaf(reached, may_call, text, out)),
-            Atom::Guard(head) => {
+        match self.stack.part() {
+            None => self.act_between_lines(out),
+            Some(Atom::Leaf(text)) => {
+                Movement::Leaf(self.doing.leaf(reached, may_call, text, out))
+            }
+            Some(Atom::Guard(head)) => {
                 Movement::Guard(self.doing.answer(reached, &head.branch, bit, out))
             }
-            Atom::Block(head) => {
+            Some(Atom::Block(head)) => {
                 let value = self.doing.answer(reached, &head.branch, bit, out);
                 Movement::Block(value, head.column)
             }
-            Atom::End => Movement::BlockEnd,
-            Atom::Region(head) => Movement::Region(self.doing.open_region(reached, head, out)),
+            Some(Atom::End) => Movement::BlockEnd,
+            Some(Atom::Region(head)) => {
+                Movement::Region(self.doing.open_region(reached, &head, out))
+            }
         }
     }
 
@@ -74,12 +77,13 @@ impl Runner {
     fn act_between_lines<O: NoteOut>(&mut self, out: &mut O) -> Movement
         requires sound { IsSound self.old }
         requires begun { is_line (next_of self.old.stack) ≡ false }
+        requires left { is_nothing (next_of self.old.stack) ≡ false }
         requires done { part_in (next_of self.old.stack) ≡ None }
         ensures { Decides O.left self.old out.old result self.new out.new }
     {
         let is_page = self.stack.is_page();
         match self.stack.peek() {
-            Next::Part(_) | Next::Line(_) => unreachable!(),
+            Next::Part(_) | Next::Line(_) | Next::Nothing => unreachable!(),
             Next::RegionLine {
                 region,
                 line: _,
@@ -97,7 +101,6 @@ impl Runner {
                 self.doing.finish(region, out);
                 Movement::SourceEnd
             }
-            Next::Nothing => Movement::Nothing,
         }
     }
 
@@ -208,7 +211,6 @@ impl Runner {
             }
             Movement::RegionEnd => self.stack.end_region(),
             Movement::SourceEnd => self.end_source(),
-            Movement::Nothing => return Progress::Done,
         }
         Progress::More
     }
@@ -218,6 +220,7 @@ impl Runner {
     fn step_on<O: NoteOut>(&mut self, out: &mut O) -> Progress
         requires sound { IsSound self.old }
         requires begun { is_line (next_of self.old.stack) ≡ false }
+        requires left { is_nothing (next_of self.old.stack) ≡ false }
         ensures { Steps O.left self.old out.old result self.new out.new }
     {
         let movement = self.act(out);

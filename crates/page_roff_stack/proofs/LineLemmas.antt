@@ -10,7 +10,7 @@ use Rattle.page_roff_values.proofs.ArgumentLemmas.{last_of}
 use Rattle.page_roff_run.specs.Measures.{weight}
 use Rattle.page_roff_stack.specs.declared.spans.Span.{Span}
 use Rattle.page_roff_stack.specs.Changes.{AreShort}
-use Rattle.page_roff_stack.specs.Held.{span_text, IsSpanIn, IsFirstLine}
+use Rattle.page_roff_stack.specs.Held.{span_text, only_line, IsSpanIn, IsFirstLine}
 
 -- ---- a text without a line feed is one line, unless it is empty
 
@@ -23,6 +23,20 @@ one_line (byte ∷ bytes) n =
     let l = last_of text (omega arith) n in
     let none = drop_all (length text + 1) text (omega arith) in
     (rw l (take-length text), rw (none, l) refl)
+
+no_text : lines_in [] ≡ []
+unfolding arguments_in
+no_text = refl
+
+-- the only line of the page ends before the last byte
+pub whole_line : (text : List ℕ) (n : ℕ) → lines_in text ≡ only_line text → n ≡ length text - 1
+    → IsFirstLine (lines_in text) (take n text) × (lines_in (drop (n + 1) text) ≡ drop 1 (lines_in text))
+whole_line [] n h e = (rw no_text tt, rw (drop_all {X = ℕ} (n + 1) [] (omega arith), no_text) refl)
+whole_line (byte ∷ bytes) n h e =
+    let text = byte ∷ bytes in
+    let k : n ≡ length bytes = omega (arith, e) in
+    let none = drop_all (n + 1) text (omega (arith, k)) in
+    (rw (h, k) refl, rw (none, h, no_text) refl)
 
 -- ---- the lines of a body are no longer than the body, and their weight is bounded
 

@@ -1,5 +1,5 @@
 -- A source that begins: helpers of proofs.
-use Rattle.std.proofs.Common.{◌≡◌, ℕ, ◌+◌, ◌-◌, ◌<◌, ◌≤◌, ◌^◌, List, [], ◌∷◌, ◌++◌, length, take, drop, Option, Some, None, refl, ap, ◌∙◌, arith, length-append}
+use Rattle.std.proofs.Common.{◌≡◌, ℕ, suc, ◌+◌, ◌-◌, ◌<◌, ◌≤◌, ◌^◌, List, [], ◌∷◌, ◌++◌, length, take, drop, Option, Some, None, refl, sym, ap, ◌∙◌, arith, length-append}
 use Rattle.std.specs.Vec.{vec_capacity}
 use Rattle.std.proofs.Math.Seq.{take-append_seam}
 use Rattle.page_core_base.specs.Texts.{IsLine}
@@ -14,7 +14,7 @@ use Rattle.page_roff_values.specs.Arguments.{arguments_in, lines_in}
 use Rattle.page_roff_stack.specs.declared.sources.Source.TheInside.{Inside}
 use Rattle.page_roff_stack.specs.declared.spans.Span.{Span}
 use Rattle.page_roff_stack.specs.Changes.{IsBounded}
-use Rattle.page_roff_stack.specs.Held.{kind_in, room_for, AreArgumentsIn}
+use Rattle.page_roff_stack.specs.Held.{kind_in, room_for, only_line, AreArgumentsIn, AreLinesOf}
 use Rattle.page_roff_stack.specs.Sources.{frame_of, IsHeld}
 use Rattle.page_roff_stack.proofs.LineLemmas.{lines_short, lines_weight, page_line_in}
 
@@ -40,13 +40,15 @@ new_view a lines h =
     ap (λ text. frame (kind_in a.arguments a.text.items) a.region a.spot (lines_in text)) (ap (λ n. take n a.text.items) (let e : length lines - 0 ≡ length lines = omega arith in e) ∙ h.front)
     )
 
-pub new_held : (a : Inside) (lines : List ℕ) → IsNew a lines → IsBounded (frame_of a) → IsHeld a
-new_held a lines h b =
+pub new_held : (a : Inside) (lines : List ℕ) → IsNew a lines → AreLinesOf a.arguments lines → IsBounded (frame_of a) → IsHeld a
+new_held a lines h o b =
+    let e : length lines - 0 ≡ length lines = omega arith in
     record {
       line = rw h.line (omega arith, omega arith);
       short = rw h.line (omega arith);
       place = rw h.place tt;
       lines = rw h.lines_are (omega arith, h.within);
+      only = rw (h.lines_are, e, h.front) o;
       arguments = h.arguments;
       room = h.room;
       bounds = b;
@@ -77,12 +79,19 @@ line_view a line h n e =
     ∙ ap (λ arguments. frame (kind_in arguments a.text.items) a.region a.spot (lines_in (line ++ (10 ∷ [])))) e
     ∙ ap (λ lines. frame page a.region a.spot lines) (page_line_in 0 line h.plain)
 
+line_only : (line : List ℕ) → only_line (line ++ (10 ∷ [])) ≡ line ∷ []
+line_only [] = refl
+line_only (byte ∷ bytes) =
+    let n : length (bytes ++ (10 ∷ [])) ≡ suc (length bytes) = omega (arith, length-append bytes (10 ∷ [])) in
+    rw n (ap (λ text. text ∷ []) (take-append_seam (byte ∷ bytes) (10 ∷ [])))
+
 -- a line of the page is to come
 pub page_set : (a : Inside) (line : List ℕ) → IsLine line → IsNew a (line ++ (10 ∷ [])) → a.arguments ≡ None → a.spot.levels.skipped < 2 ^ 62
     → IsHeld a × (frame_of a ≡ frame page a.region a.spot (line ∷ []))
 page_set a line h n e s =
     let view = line_view a line h n e in
-    (new_held a (line ++ (10 ∷ [])) n (rw view (line_bounded a.region a.spot line h.bounded s)), view)
+    let only : AreLinesOf a.arguments (line ++ (10 ∷ [])) = rw e (page_line_in 0 line h.plain ∙ sym (line_only line)) in
+    (new_held a (line ++ (10 ∷ [])) n only (rw view (line_bounded a.region a.spot line h.bounded s)), view)
 
 -- ---- a macro
 
@@ -103,12 +112,17 @@ pub body_set : (a : Inside) (text args : List ℕ) → IsNew a text → a.argume
 unfolding entered
 body_set a text args n e d r s p =
     let view = body_view a text args n e d r s in
-    (new_held a text n (rw view (body_bounded (body (arguments_in args)) None text p)), view)
+    (new_held a text n (rw e tt) (rw view (body_bounded (body (arguments_in args)) None text p)), view)
 
 -- nothing has come
 empty_bounded : (kind : Kind) → IsBounded (frame kind None (at_line outside) [])
 unfolding work_in weight at_line outside
 empty_bounded kind = record { short = tt; skips = omega arith }
+
+empty_only : (arguments : Option ℕ) → AreLinesOf arguments []
+unfolding arguments_in
+empty_only None = refl
+empty_only (Some start) = tt
 
 pub empty_set : (a : Inside) → a.text.items ≡ [] → a.line ≡ span 0 0 → a.place ≡ line_end → a.lines ≡ span 0 0 → a.region ≡ None → a.spot ≡ at_line outside
     → AreArgumentsIn a.arguments [] → room_for a.arguments ≤ vec_capacity a.text
@@ -118,7 +132,7 @@ empty_set a t l p n r s h q =
     let new = new_of a [] [] t l p n (rw t h) q in
     let kind = kind_in a.arguments [] in
     let view : frame_of a ≡ frame kind None (at_line outside) [] = new_view a [] new ∙ rw (t, r, s) refl in
-    (new_held a [] new (rw view (empty_bounded kind)), view)
+    (new_held a [] new (empty_only a.arguments) (rw view (empty_bounded kind)), view)
 
 -- ---- the memory of a source
 

@@ -16,7 +16,7 @@ use Rattle.page_roff_stack.specs.declared.sources.Source.TheInside.{Inside}
 use Rattle.page_roff_stack.specs.declared.spans.Span.{Span}
 use Rattle.page_roff_values.specs.Arguments.{lines_in}
 use Rattle.page_roff_stack.specs.Changes.{past, first_branch, first_region, in_region, next_line, first_atoms, begins_next, begins_line, ends_with, is_over, AreShort, IsBounded}
-use Rattle.page_roff_stack.specs.Held.{span_text, IsSpanIn, IsFirstLine}
+use Rattle.page_roff_stack.specs.Held.{span_text, only_line, AreLinesOf, IsSpanIn, IsFirstLine}
 use Rattle.page_roff_stack.specs.Sources.{frame_of, IsHeld}
 use Rattle.page_roff_stack.specs.Views.{parts_seen, IsNextLine}
 use Rattle.page_roff_stack.proofs.LineLemmas.{span_len, some_line, no_lines}
@@ -78,6 +78,7 @@ past_held_by a text part place spot h r p =
       short = h.short;
       place = rw r.text_is at r.within;
       lines = h.lines;
+      only = h.only;
       arguments = h.arguments;
       room = h.room;
       bounds = rw (past_view a text part place spot r) (past_bounded (frame_of a) spot p h.bounds);
@@ -126,6 +127,7 @@ closed_held a place region spot e g h =
       short = h.short;
       place = rw e tt;
       lines = h.lines;
+      only = h.only;
       arguments = h.arguments;
       room = h.room;
       bounds = rw (closed_view a place region spot e g) (closed_bounded region (frame_of a) h.bounds);
@@ -175,18 +177,46 @@ pub record IsStart (text : List ℕ) (place : LinePlace) : Type 0 where
   pub parts : parts_at text place ≡ atoms text
   pub within : IsPlaceIn text place
 
+-- after the only line of the page nothing is left
+only_rest : (arguments : Option ℕ) (old new : List ℕ) → AreLinesOf arguments old → lines_in new ≡ drop 1 (lines_in old) → AreLinesOf arguments new
+only_rest None old new h e = none_left new (e ∙ ap (drop 1) h ∙ drop_only old)
+  where
+    drop_only : (text : List ℕ) → drop 1 (only_line text) ≡ []
+    drop_only [] = refl
+    drop_only (byte ∷ bytes) = refl
+
+    none_left : (text : List ℕ) → lines_in text ≡ [] → lines_in text ≡ only_line text
+    none_left [] e = e
+    none_left (byte ∷ bytes) e =
+        let n : 0 < length (byte ∷ bytes) = omega arith in
+        let p = some_line (byte ∷ bytes) (grind (arith, nat_tests)) in
+        absurd (omega (arith, p, ap length e))
+only_rest (Some start) old new h e = tt
+
+-- a line begins outside of regions
+pub outside_regions : (region : Option Opened) (parts : List (Atom (List ℕ))) (lines : List (List ℕ)) → begins_next region parts lines ≡ true
+    → (region ≡ None) × (0 < length lines)
+outside_regions None [] (line ∷ more) e = (refl, omega arith)
+outside_regions None [] [] e = cc
+outside_regions None (part ∷ more) lines e = cc
+outside_regions (Some o) parts lines e = cc
+
 -- a line begins
-pub begun_view : (a : Inside) (line : Span) (place : LinePlace) (lines : Span) (spot : Spot) → IsPassed a line lines → 0 < length (frame_of a).lines
-    → IsStart (span_text line a.text.items) place → spot ≡ at_line a.spot.levels → frame_of (lined a line place lines None spot) ≡ next_line None (first_atoms (frame_of a).lines) (frame_of a)
-begun_view a line place lines spot h p e g =
-    rw (e.parts, g, h.rest) (
+pub begun_view : (a : Inside) (line : Span) (place : LinePlace) (lines : Span) (spot : Spot) → IsPassed a line lines → begins_line (frame_of a) ≡ true
+    → IsStart (span_text line a.text.items) place → spot ≡ at_line a.spot.levels
+    → frame_of (lined a line place lines a.region spot) ≡ next_line None (first_atoms (frame_of a).lines) (frame_of a)
+begun_view a line place lines spot h b e g =
+    let outside = outside_regions a.region (frame_of a).parts (frame_of a).lines b in
+    let p = outside.1 in
+    rw (e.parts, g, h.rest, outside.0) (
     ap (λ parts. let f : Frame = record { kind = (frame_of a).kind; region = None; parts = parts; spot = at_line a.spot.levels; lines = drop 1 (frame_of a).lines } in f)
     (first_parts (frame_of a).lines (span_text line a.text.items) p h.first)
     )
 
-pub begun_held : (a : Inside) (line : Span) (place : LinePlace) (lines : Span) (spot : Spot) → IsPassed a line lines → 0 < length (frame_of a).lines
-    → IsStart (span_text line a.text.items) place → spot ≡ at_line a.spot.levels → IsHeld a → IsHeld (lined a line place lines None spot)
-begun_held a line place lines spot h p e g held =
+pub begun_held : (a : Inside) (line : Span) (place : LinePlace) (lines : Span) (spot : Spot) → IsPassed a line lines → begins_line (frame_of a) ≡ true
+    → IsStart (span_text line a.text.items) place → spot ≡ at_line a.spot.levels → IsHeld a → IsHeld (lined a line place lines a.region spot)
+begun_held a line place lines spot h b e g held =
+    let p = (outside_regions a.region (frame_of a).parts (frame_of a).lines b).1 in
     let text = a.text.items in
     let f = frame_of a in
     let l = span_len line text h.line_within in
@@ -196,9 +226,10 @@ begun_held a line place lines spot h p e g held =
       short = omega (arith, l, s, h.line_within.0);
       place = e.within;
       lines = h.lines_within;
+      only = only_rest a.arguments (span_text a.lines a.text.items) (span_text lines a.text.items) held.only h.rest;
       arguments = held.arguments;
       room = held.room;
-      bounds = rw (begun_view a line place lines spot h p e g) (next_bounded None (first_atoms f.lines) f (first_weight f.lines) held.bounds);
+      bounds = rw (begun_view a line place lines spot h b e g) (next_bounded None (first_atoms f.lines) f (first_weight f.lines) held.bounds);
     }
 
 -- a line in a region is passed
@@ -218,6 +249,7 @@ skipped_held a line place lines spot h e g held =
       short = held.short;
       place = rw e tt;
       lines = h.lines_within;
+      only = only_rest a.arguments (span_text a.lines a.text.items) (span_text lines a.text.items) held.only h.rest;
       arguments = held.arguments;
       room = held.room;
       bounds = rw (skipped_view a line place lines spot h e g) (next_bounded a.region [] f (omega (arith, rest_weight f.lines)) held.bounds);
@@ -232,6 +264,7 @@ ended_held a h =
       short = h.short;
       place = h.place;
       lines = h.lines;
+      only = h.only;
       arguments = h.arguments;
       room = h.room;
       bounds = record { short = h.bounds.short; skips = h.bounds.skips };

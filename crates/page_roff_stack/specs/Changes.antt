@@ -84,12 +84,9 @@ abbrev pub is_page : Kind → Bool
 is_page page = true
 is_page (body args) = false
 
--- a part comes next, or a line
+-- a part comes next
 abbrev pub HasPart : Frame → Type 0
 HasPart f = 0 < length f.parts
-
-abbrev pub HasLine : Frame → Type 0
-HasLine f = 0 < length f.lines
 
 -- ---- within bounds
 

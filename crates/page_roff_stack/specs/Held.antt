@@ -2,7 +2,7 @@
 use Rattle.std.specs.Prelude.{◌≡◌, ℕ, ◌+◌, ◌-◌, ◌≤◌, List, [], ◌∷◌, length, take, drop, Option, Some, None}
 use Rattle.page_core_limits.specs.declared.TheConstants.{LINE, BODY}
 use Rattle.page_roff_values.specs.declared.call_arguments.TheConstants.{ARGS}
-use Rattle.page_roff_values.specs.Arguments.{arguments_in}
+use Rattle.page_roff_values.specs.Arguments.{arguments_in, lines_in}
 use Rattle.page_roff_run.specs.Languages.{Kind, page, body}
 use Rattle.page_roff_stack.specs.declared.spans.Span.{Span}
 
@@ -20,6 +20,16 @@ kind_in (Some start) text = body (arguments_in (drop start text))
 abbrev pub AreArgumentsIn : Option ℕ → List ℕ → Type 0
 AreArgumentsIn None text = Unit {0}
 AreArgumentsIn (Some start) text = (start ≤ length text) × (length text ≤ start + ARGS)
+
+-- all of a text but its last byte is one line
+abbrev pub only_line : List ℕ → List (List ℕ)
+only_line [] = []
+only_line (byte ∷ bytes) = take (length bytes) (byte ∷ bytes) ∷ []
+
+-- a text holds the lines of a source: the page has one line at most, with a line feed at its end
+abbrev pub AreLinesOf : Option ℕ → List ℕ → Type 0
+AreLinesOf None text = lines_in text ≡ only_line text
+AreLinesOf (Some start) text = Unit {0}
 
 -- the memory that is wanted: for a line of the page with its end, or for a body and its arguments
 abbrev pub room_for : Option ℕ → ℕ

@@ -7,7 +7,7 @@ use Rattle.page_roff_run.specs.Machine.{Frame}
 use Rattle.page_roff_stack.specs.declared.sources.Source.TheInside.{Inside}
 use Rattle.page_roff_stack.specs.Changes.{IsBounded}
 use Rattle.page_roff_values.specs.Arguments.{lines_in}
-use Rattle.page_roff_stack.specs.Held.{span_text, IsSpanIn, kind_in, AreArgumentsIn, room_for}
+use Rattle.page_roff_stack.specs.Held.{span_text, IsSpanIn, kind_in, AreArgumentsIn, AreLinesOf, room_for}
 
 abbrev pub frame_of : Inside → Frame
 frame_of a = record {
@@ -23,6 +23,7 @@ pub record IsHeld (a : Inside) : Type 0 where
   pub short : a.line.end ≤ a.line.start + LINE
   pub place : IsPlaceIn (span_text a.line a.text.items) a.place
   pub lines : IsSpanIn a.lines a.text.items
+  pub only : AreLinesOf a.arguments (span_text a.lines a.text.items)
   pub arguments : AreArgumentsIn a.arguments a.text.items
   pub room : room_for a.arguments ≤ vec_capacity a.text
   pub bounds : IsBounded (frame_of a)

@@ -12,8 +12,8 @@ ghost use Rattle.page_roff_run.specs.Languages.{page};
 ghost use Rattle.page_roff_run.specs.Machine.{entered};
 ghost use Rattle.page_roff_values.specs.Arguments.{arguments_in, lines_in};
 ghost use Rattle.page_roff_values.specs.declared.call_arguments.TheConstants.{ARGS};
-ghost use Rattle.page_roff_stack.specs.Changes.{first_frame, page_line, past, first_branch, first_region, in_region, next_line, first_atoms, is_page, begins_line, is_over, HasPart, HasLine};
-ghost use Rattle.page_roff_stack.specs.Held.{span_text, room_for, kind_in, AreArgumentsIn, IsSpanIn, IsFirstLine};
+ghost use Rattle.page_roff_stack.specs.Changes.{first_frame, page_line, past, first_branch, first_region, in_region, next_line, first_atoms, is_page, begins_line, is_over, HasPart};
+ghost use Rattle.page_roff_stack.specs.Held.{span_text, room_for, kind_in, AreArgumentsIn, AreLinesOf, IsSpanIn, IsFirstLine};
 ghost use Rattle.page_roff_stack.specs.Views.{parts_seen, kind_of, IsNextLine};
 
 use crate::spans::{NOWHERE, Span};
@@ -63,8 +63,8 @@ fn append(text: &mut Vec<u8>, more: &[u8])
     }
 }
 
-// The bytes of the first line, without the line feed at its end.
-fn line_len(lines: &[u8]) -> usize
+// The bytes of the first line of a body, without the line feed at its end.
+fn body_line_len(lines: &[u8]) -> usize
     ensures first { IsFirstLine (lines_in lines.now) (take result lines.now) }
     ensures rest { lines_in (drop (result + 1) lines.now) ≡ drop 1 (lines_in lines.now) }
     ensures bound { result ≤ length lines.now }
@@ -75,9 +75,23 @@ fn line_len(lines: &[u8]) -> usize
     }
 }
 
-// Goes past the first of these lines, and answers where it is.
-fn pass_line(text: &[u8], lines: &mut Span) -> Span
-    requires { IsSpanIn lines.old text.now }
+// The bytes of the first line of a source, without the line feed at its end. A line of the page is the only one.
+fn line_len(arguments: Option<usize>, lines: &[u8]) -> usize
+    requires { AreLinesOf arguments lines.now }
+    ensures first { IsFirstLine (lines_in lines.now) (take result lines.now) }
+    ensures rest { lines_in (drop (result + 1) lines.now) ≡ drop 1 (lines_in lines.now) }
+    ensures bound { result ≤ length lines.now }
+{
+    match arguments {
+        None => lines.len().saturating_sub(1),
+        Some(_) => body_line_len(lines),
+    }
+}
+
+// Goes past the first of these lines of a source, and answers where it is.
+fn pass_line(arguments: Option<usize>, text: &[u8], lines: &mut Span) -> Span
+    requires within { IsSpanIn lines.old text.now }
+    requires lines { AreLinesOf arguments (span_text lines.old text.now) }
     ensures first { IsFirstLine (lines_in (span_text lines.old text.now)) (span_text result text.now) }
     ensures rest { lines_in (span_text lines.new text.now)
         ≡ drop 1 (lines_in (span_text lines.old text.now)) }
@@ -85,7 +99,7 @@ fn pass_line(text: &[u8], lines: &mut Span) -> Span
 {
     let line = Span {
         start: lines.start,
-        end: lines.start + line_len(lines.of(text)),
+        end: lines.start + line_len(arguments, lines.of(text)),
     };
     lines.start = if line.end < lines.end {
         line.end + 1
@@ -235,7 +249,7 @@ impl Source {
         if lines.is_empty() {
             return None;
         }
-        Some(&lines[..line_len(lines)])
+        Some(&lines[..line_len(self.arguments, lines)])
     }
 
     /// The open region.
@@ -353,12 +367,11 @@ impl Source {
 
     /// A line begins.
     pub(crate) fn begin_line(&mut self)
-        requires { HasLine self.old }
+        requires { begins_line self.old ≡ true }
         ensures { self.new ≡ next_line None (first_atoms self.old.lines) self.old }
     {
-        self.line = pass_line(&self.text, &mut self.lines);
+        self.line = pass_line(self.arguments, &self.text, &mut self.lines);
         self.place = LinePlace::start(self.line.of(&self.text));
-        self.region = None;
         self.spot.begin_line();
     }
 
@@ -366,7 +379,7 @@ impl Source {
     pub(crate) fn pass_region_line(&mut self)
         ensures { self.new ≡ next_line self.old.region [] self.old }
     {
-        let _line = pass_line(&self.text, &mut self.lines);
+        let _line = pass_line(self.arguments, &self.text, &mut self.lines);
         self.place = LinePlace::end();
         self.spot.begin_line();
     }

@@ -12,3 +12,6 @@ returns-clause-rest c =
       | then-line-lines w ↦ rw w.lines-is (sym (rest_before lines.start lines.end c.line_len.result text w.if-line-lines.true) ∙ rest)
       | else-line-lines w ↦ rw w.lines-is (sym (rest_none lines.start lines.end c.line_len.result text w.if-line-lines.false) ∙ rest)
     ]
+
+pub line_len-requires : goal.line_len-requires
+line_len-requires c = rw c.of.ensures c.requires.lines

@@ -1,4 +1,4 @@
-use Rattle.page_roff_machine.proofs.ActLemmas.{room, region_line_there, decides_region_line, decides_region_end, decides_source_end, decides_nothing}
+use Rattle.page_roff_machine.proofs.ActLemmas.{room, region_line_there, decides_region_line, decides_region_end, decides_source_end}
 use Rattle.page_roff_blocks.specs.Levels.{opened_seen}
 use Rattle.page_roff_machine.proofs.runners.Runner.act_between_lines.Goals as goal
 
@@ -28,6 +28,3 @@ pub returns-in-SourceEnd : goal.returns-in-SourceEnd
 returns-in-SourceEnd g c =
     decides_source_end g.O.NoteOut.left c.args.self.now c.finish.new.self c.args.out.now c.finish.new.out (opened_seen c.in-SourceEnd.region)
     c.in-SourceEnd.ensures.value c.requires.sound.setting c.finish.ensures
-
-pub returns-in-Nothing : goal.returns-in-Nothing
-returns-in-Nothing g c = decides_nothing g.O.NoteOut.left c.args.self.now c.args.out.now c.in-Nothing.ensures.value

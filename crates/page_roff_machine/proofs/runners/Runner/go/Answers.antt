@@ -1,5 +1,5 @@
 use Rattle.std.proofs.Common.{ap}
-use Rattle.page_roff_machine.proofs.GoLemmas.{quiet, quiet_product, shifts_region, shifts_region_end, shifts_region_line, moves_nothing}
+use Rattle.page_roff_machine.proofs.GoLemmas.{quiet, quiet_product, shifts_region, shifts_region_end, shifts_region_line}
 use Rattle.page_roff_machine.proofs.runners.Runner.go.Goals as goal
 
 pub returns-in-Leaf : goal.returns-in-Leaf
@@ -18,9 +18,6 @@ returns-in-RegionLine g c =
     (quiet_product g.O.NoteOut.left c.args.self.now (record { stack = c.pass_region_line.new.self; doing = c.args.self.now.doing }) c.args.out.now _ c.in-RegionLine.product
     (shifts_region_line c.args.self.now (record { stack = c.pass_region_line.new.self; doing = c.args.self.now.doing }) c.in-RegionLine.product
     (ap (λ stack. record { stack = stack; doing = c.args.self.now.doing }) c.pass_region_line.ensures) c.requires.setting))
-
-pub returns-in-Nothing : goal.returns-in-Nothing
-returns-in-Nothing g c = rw c.in-Nothing.is (moves_nothing g.O.NoteOut.left c.args.self.now c.args.out.now c.requires.setting)
 
 pub returns-in-Region : goal.returns-in-Region
 returns-in-Region g c =

@@ -1,6 +1,6 @@
-use Rattle.std.proofs.Common.{◌<◌, length, ap, ◌∙◌}
+use Rattle.std.proofs.Common.{◌≡◌, true, ap, ◌∙◌}
 use Rattle.std.specs.Prelude.{None}
-use Rattle.page_roff_stack.specs.Changes.{next_line, first_atoms}
+use Rattle.page_roff_stack.specs.Changes.{next_line, first_atoms, begins_line}
 use Rattle.page_roff_stack.specs.Held.{span_text}
 use Rattle.page_roff_stack.specs.Sources.{frame_of}
 use Rattle.page_roff_stack.proofs.SourceLemmas.{IsPassed, IsStart, begun_view, begun_held}
@@ -15,7 +15,7 @@ invariant_of-self c =
       line_within = rw c.deref.ensures.value at c.pass_line-self-inside.ensures.spans.0;
       lines_within = rw c.deref.ensures.value at c.pass_line-self-inside.ensures.spans.1;
     } in
-    let there : 0 < length (frame_of a).lines = rw (← c.self.view_is) at c.requires in
+    let there : begins_line (frame_of a) ≡ true = rw (← c.self.view_is) at c.requires in
     let line = c.pass_line-self-inside.result in
     let text = c.of.ensures ∙ ap (span_text line) c.deref-2.ensures.value in
     let start : IsStart (span_text line a.text.items) c.start-self-inside.result = record {
@@ -34,7 +34,7 @@ returns c =
       line_within = rw c.deref.ensures.value at c.pass_line-self-inside.ensures.spans.0;
       lines_within = rw c.deref.ensures.value at c.pass_line-self-inside.ensures.spans.1;
     } in
-    let there : 0 < length (frame_of a).lines = rw (← c.self.view_is) at c.requires in
+    let there : begins_line (frame_of a) ≡ true = rw (← c.self.view_is) at c.requires in
     let line = c.pass_line-self-inside.result in
     let text = c.of.ensures ∙ ap (span_text line) c.deref-2.ensures.value in
     let start : IsStart (span_text line a.text.items) c.start-self-inside.result = record {
@@ -44,3 +44,6 @@ returns c =
     begun_view a c.pass_line-self-inside.result c.start-self-inside.result c.pass_line-self-inside.new.lines c.begin_line.new.self
     passed there start c.begin_line.ensures
     ∙ ap (λ f. next_line None (first_atoms f.lines) f) c.self.view_is
+
+pub pass_line-self-inside-requires-clause-lines : goal.pass_line-self-inside-requires-clause-lines
+pass_line-self-inside-requires-clause-lines c = rw c.deref.ensures.value c.self.invariant.only

@@ -23,3 +23,8 @@ returns c =
     let same : lines_in lines ≡ c.args.self.now.lines = ap lines_in text ∙ ap (λ f. f.lines) c.self.view_is in
     let short : AreShort (lines_in lines) = rw (ap lines_in text) c.self.invariant.bounds.short in
     rw (← same) (next_line_is (lines_in lines) _ c.line_len.ensures.first short (some_line lines some))
+
+pub line_len-requires : goal.line_len-requires
+line_len-requires c =
+    let a = c.self.inside in
+    rw (c.of-lines.ensures, c.deref.ensures.value) c.self.invariant.only

@@ -27,3 +27,6 @@ returns c =
     skipped_view a c.pass_line-line.result c.end-self-inside.result c.pass_line-line.new.lines c.begin_line.new.self
     passed c.end-self-inside.ensures c.begin_line.ensures
     ∙ ap (λ f. next_line f.region [] f) c.self.view_is
+
+pub pass_line-line-requires-clause-lines : goal.pass_line-line-requires-clause-lines
+pass_line-line-requires-clause-lines c = rw c.deref.ensures.value c.self.invariant.only
