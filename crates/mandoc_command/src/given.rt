@@ -100,7 +100,8 @@ fn options_and_files<'a>(alloc: Global) -> Result<Vec<Arg<'a>>, AllocError>
     Ok(Vec::from_array(alloc, args)?)
 }
 
-// An option with one value.
+// An option with one value. It is made apart: in place of each call it would take a few kilobytes of the stack.
+#[inline(never)]
 fn option<'a>(alloc: Global, id: &'a str, letter: char) -> Arg<'a>
     ensures rule { rule_of result ≡ option_rule id.entry.now letter }
     ensures local { result.global ≡ false }

@@ -1,4 +1,5 @@
 pub mod Items
+pub mod TakenWords
 pub mod Feeds
 pub mod Cuts
 pub mod Phases

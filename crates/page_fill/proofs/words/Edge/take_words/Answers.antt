@@ -6,15 +6,15 @@ use Rattle.page_fill.proofs.TakenWordLemmas.{takes-none, takes-words}
 use Rattle.page_fill.proofs.words.Edge.take_words.Goals as goal
 use Rattle.page_fill.proofs.words.Edge.take_words.Goals.{then-self-via-then-self, then-self-via-else-self+then-start-eq0, then-self-via-else-self+else-start-eq0+then-not-add_words}
 
-pub returns-then-self : goal.returns-then-self
-returns-then-self c = elim c.then-self.branch [
+pub returns-then-self-clause-takes : goal.returns-then-self-clause-takes
+returns-then-self-clause-takes c = elim c.then-self.branch [
   | then-self-via-then-self w ↦ rw w.self-is (takes-none c.args.text.now R c.args.self.now)
   | then-self-via-else-self+then-start-eq0 w ↦ rw w.self-is (takes-none c.args.text.now R c.args.self.now)
   | then-self-via-else-self+else-start-eq0+then-not-add_words w ↦ rw (w.self-is, w.if-not-add_words.ensures.same refl) (takes-none c.args.text.now R c.args.self.now)
 ]
 
-pub returns : goal.returns
-returns c =
+pub returns-clause-takes : goal.returns-clause-takes
+returns-clause-takes c =
     let added = c.if-not-add_words.ensures in
     let end = c.whole_words-end.result in
     let whole = c.whole_words-end.ensures.value ∙ ap (whole_words c.args.text.now) c.free_cells.ensures.value in
