@@ -16,8 +16,8 @@ use crate::taken_words::whole_words;
 use crate::{HANG_MAX, TAB_STOP};
 use page_core_base::{Cell, Font, Note, NoteKind, Output, Place, RowOut, TagForm};
 use page_fill_rows::{
-    OpenRow, columns, is_printable_ascii, put_character, put_characters, put_glyph, put_plain,
-    word_start,
+    OpenRow, columns, is_printable_ascii, printable_len, put_character, put_characters, put_glyph,
+    put_plain, word_start,
 };
 
 /// The open word, and what waits before the next one.
@@ -215,12 +215,14 @@ impl Edge {
     pub(crate) fn take_words(&mut self, text: &[u8]) -> usize
         ensures { TakesFirst text.now R result self.old (Some self.new) }
     {
-        let end = whole_words(text, self.sheet.free_cells());
+        let room = self.sheet.free_cells().min(text.len());
+        let end = whole_words(text, printable_len(&text[..room]));
         let words = &text[..end];
         let start = word_start(words);
-        if self.word.is_placed || start == 0 || !self.sheet.add_words(words, start) {
+        if self.word.is_placed || start == 0 {
             return 0;
         }
+        self.sheet.add_words(words, start);
         self.word = OpenWord::begun(false);
         end
     }
