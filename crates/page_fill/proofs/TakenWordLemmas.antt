@@ -169,13 +169,13 @@ pub takes-none : (bytes : List ℕ) (font : Font) (e : Edge) → TakesFirst byte
 unfolding blank_words laid word_pieces
 takes-none bytes font e = λ place words all is. (0, e, refl, refl, refl)
 
-pub takes-words : (e : Edge) (text : List ℕ) (end : ℕ) → e.word.is_placed ≡ false → end ≡ whole_words text (free_cells e.sheet) → end ≤ free_cells e.sheet
+pub takes-words : (e : Edge) (text : List ℕ) (room end : ℕ) → e.word.is_placed ≡ false → end ≡ whole_words text room → end ≤ free_cells e.sheet
     → 0 < word_start (take end text) → is_printable_ascii (take end text) ≡ true
     → TakesFirst text R end e (Some (words_laid e (take end text)))
-takes-words e text end placed is within start plain = λ place words all text_is.
-    let whole = whole-words words (free_cells e.sheet) all in
+takes-words e text room end placed is within start plain = λ place words all text_is.
+    let whole = whole-words words room all in
     let front = take whole.0 words in
-    let len : end ≡ length (blank_words front) = is ∙ (ap (λ (bytes : List ℕ). whole_words bytes (free_cells e.sheet)) text_is ∙ whole.1) in
+    let len : end ≡ length (blank_words front) = is ∙ (ap (λ (bytes : List ℕ). whole_words bytes room) text_is ∙ whole.1) in
     let bytes : take end text ≡ blank_words front = rw (len, text_is) (front-words words whole.0) in
     let printable : is_printable_ascii (blank_words front) ≡ true = rw bytes at plain in
     let starts : 0 < word_start (blank_words front) = rw bytes at start in

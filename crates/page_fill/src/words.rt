@@ -1,6 +1,6 @@
 //! Words, breaks and tags: what is held between two pieces.
 
-ghost use Rattle.std.specs.Prelude.{◌≡◌, true, false, [], Some};
+ghost use Rattle.std.specs.Prelude.{◌≡◌, ◌≤◌, length, true, false, [], Some};
 ghost use Rattle.std.specs.Str.{chars};
 ghost use Rattle.page_core_base.specs.Laid.{nothing};
 ghost use Rattle.page_core_base.specs.Latches.{CameRows, LaysOut};
@@ -16,8 +16,8 @@ use crate::taken_words::whole_words;
 use crate::{HANG_MAX, TAB_STOP};
 use page_core_base::{Cell, Font, Note, NoteKind, Output, Place, RowOut, TagForm};
 use page_fill_rows::{
-    OpenRow, columns, is_printable_ascii, put_character, put_characters, put_glyph, put_plain,
-    word_start,
+    OpenRow, columns, is_printable_ascii, printable_len, put_character, put_characters, put_glyph,
+    put_plain, word_start,
 };
 
 /// The open word, and what waits before the next one.
@@ -216,12 +216,14 @@ impl Edge {
         ensures takes { TakesFirst text.now R result self.old (Some self.new) }
         ensures within { result ≤ length text.now }
     {
-        let end = whole_words(text, self.sheet.free_cells());
+        let room = self.sheet.free_cells().min(text.len());
+        let end = whole_words(text, printable_len(&text[..room]));
         let words = &text[..end];
         let start = word_start(words);
-        if self.word.is_placed || start == 0 || !self.sheet.add_words(words, start) {
+        if self.word.is_placed || start == 0 {
             return 0;
         }
+        self.sheet.add_words(words, start);
         self.word = OpenWord::begun(false);
         end
     }

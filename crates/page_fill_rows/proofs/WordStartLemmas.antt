@@ -1,7 +1,7 @@
 -- Where the letters after the last blank begin.
-use Rattle.std.proofs.Common.{◌≡◌, ℕ, ◌+◌, ◌-◌, ◌<◌, ◌≤◌, true, false, ◌==◌, List, [], ◌∷◌, ◌++◌, length, get_or, take, refl, ap, ◌∙◌, arith}
+use Rattle.std.proofs.Common.{◌≡◌, ℕ, zero, suc, ◌+◌, ◌-◌, ◌<◌, ◌≤◌, true, false, ◌==◌, List, [], ◌∷◌, ◌++◌, length, get_or, take, refl, sym, ap, ◌∙◌, arith}
 use Rattle.std.proofs.lemmas.Bool.Decides.{nat_tests}
-use Rattle.std.proofs.lemmas.List.{length-append, length-map, length-take-le, take_more}
+use Rattle.std.proofs.lemmas.List.{length-append, length-map, length-take-le, take-take, take_more}
 use Rattle.page_core_base.specs.declared.cells.Cell.{Cell}
 use Rattle.page_core_base.specs.declared.cells.Font.TheVariants.{R}
 use Rattle.page_core_limits.specs.declared.TheConstants.{CELLS}
@@ -9,7 +9,7 @@ use Rattle.page_fill_rows.specs.declared.TheConstants.{TAG_COLUMNS}
 use Rattle.page_fill_rows.specs.Characters.{cell_of, cells_of}
 use Rattle.page_fill_rows.specs.Room.{IsSound}
 use Rattle.page_fill_rows.specs.Plain.{is_printable_ascii, word_start}
-use Rattle.page_fill_rows.proofs.PlainLemmas.{sound-more}
+use Rattle.page_fill_rows.proofs.PlainLemmas.{first-plain, rest-plain, sound-more}
 
 pub start-append : (front back : List ℕ) → (word_start back == 0) ≡ false → word_start (front ++ back) ≡ length front + word_start back
 unfolding word_start
@@ -79,3 +79,17 @@ sound-words cells text start count gap word tag tag-now sound plain room tagged 
       tag_within = tagged;
       blanks_within = more.blanks_within;
     }
+
+-- ---- printable bytes
+
+-- a front of printable bytes
+pub printable-front : (bytes : List ℕ) (k : ℕ) → is_printable_ascii bytes ≡ true → is_printable_ascii (take k bytes) ≡ true
+printable-front [] zero plain = refl
+printable-front [] (suc k) plain = refl
+printable-front (b ∷ bytes) zero plain = refl
+printable-front (b ∷ bytes) (suc k) plain = rw (first-plain b bytes plain) (printable-front bytes k (rest-plain b bytes plain))
+
+-- as many bytes at the front as are printable, or fewer
+pub printable-fronts : (bytes : List ℕ) (k n : ℕ) → k ≤ n → is_printable_ascii (take n bytes) ≡ true → is_printable_ascii (take k bytes) ≡ true
+printable-fronts bytes k n less plain =
+    ap is_printable_ascii (sym (take-take k n bytes less)) ∙ printable-front (take n bytes) k plain

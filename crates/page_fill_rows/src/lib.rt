@@ -20,4 +20,4 @@ pub use cell_widths::columns;
 pub use characters::{is_printable_ascii, put_character, put_characters, put_glyph, put_plain};
 pub use laws::plain_law;
 pub use open_rows::OpenRow;
-pub use plain_texts::word_start;
+pub use plain_texts::{printable_len, word_start};

@@ -9,7 +9,6 @@ ghost use Rattle.page_fill_rows.specs.Plain as plain;
 ghost use Rattle.page_fill_rows.specs.Sheets as sheet;
 
 use crate::cell_widths::{BLANK, cell_columns, columns, is_blank};
-use crate::plain_texts::all_printable;
 use crate::row_cells::RowCells;
 use crate::{BLANK_ROWS, TAG_COLUMNS};
 use page_core_base::{Cell, Font, Note, NoteKind, Place, RowOut};
@@ -427,18 +426,13 @@ impl OpenRow {
         (CELLS - self.row.len()).min(free as usize)
     }
 
-    /// The row, which has a cell and room, takes roman words with a blank before each, where the last one starts at a place of the text;
-    /// takes nothing if the text is not printable ASCII, and says whether it is.
-    pub fn add_words(&mut self, text: &[u8], start: usize) -> bool
+    /// The row, which has a cell and room, takes roman words with a blank before each, where the last one starts at a place of the text.
+    pub fn add_words(&mut self, text: &[u8], start: usize)
+        requires plain { plain.is_printable_ascii text.now ≡ true }
         requires room { length self.old.cells + length text.now ≤ CELLS }
         requires start { (start ≡ plain.word_start text.now) × (0 < start) }
-        ensures answer { result ≡ plain.is_printable_ascii text.now }
-        ensures words { result ≡ true → self.new ≡ plain.words_taken self.old text.now }
-        ensures same { result ≡ false → self.new ≡ self.old }
+        ensures { self.new ≡ plain.words_taken self.old text.now }
     {
-        if !all_printable(text) {
-            return false;
-        }
         self.word = self.row.len() + start;
         self.gap = self.word - 1;
         self.row.add_roman(text);
@@ -446,7 +440,6 @@ impl OpenRow {
         self.columns += count;
         self.tag_columns = self.tag_columns.saturating_add(count).min(TAG_COLUMNS);
         self.has_tag_cell = true;
-        true
     }
 
     /// The row takes cells of bytes that are a column each.

@@ -1,10 +1,10 @@
 //! Texts whose bytes are read for the open row as a whole.
 
-ghost use Rattle.std.specs.Prelude.{◌≡◌, ◌≤◌, length};
+ghost use Rattle.std.specs.Prelude.{◌≡◌, ◌≤◌, ℕ, true, length, take};
 ghost use Rattle.page_fill_rows.specs.Plain as plain;
 
-/// Whether bytes are printable ASCII. All of them are read, in a loop that goes by many at once.
-pub(crate) fn all_printable(bytes: &[u8]) -> bool
+// Whether bytes are printable ASCII. All of them are read, in a loop that goes by many at once.
+fn all_printable(bytes: &[u8]) -> bool
     ensures { result ≡ plain.is_printable_ascii bytes.now }
 {
     let mut all = true;
@@ -12,6 +12,22 @@ pub(crate) fn all_printable(bytes: &[u8]) -> bool
         all &= b' ' <= *byte && *byte <= b'~';
     }
     all
+}
+
+/// How many bytes at the front of a text are printable ASCII.
+pub fn printable_len(bytes: &[u8]) -> usize
+    ensures front { (k : ℕ) → k ≤ result → plain.is_printable_ascii (take k bytes.now) ≡ true }
+    ensures within { result ≤ length bytes.now }
+{
+    if all_printable(bytes) {
+        return bytes.len();
+    }
+    for i in 0..bytes.len() {
+        if bytes[i] < b' ' || b'~' < bytes[i] {
+            return i;
+        }
+    }
+    bytes.len()
 }
 
 /// Where the letters after the last blank begin; 0 if there is no blank.

@@ -1,23 +1,25 @@
-use Rattle.std.proofs.Common.{◌<◌, ◌∙◌, refl, sym, ap, arith, take}
+use Rattle.std.proofs.Common.{◌≡◌, ◌<◌, ◌≤◌, ◌∙◌, sym, ap, arith, length, take, true}
+use Rattle.std.proofs.lemmas.List.{length-take-le, take-take}
 use Rattle.page_core_base.specs.declared.cells.Font.TheVariants.{R}
-use Rattle.page_fill_rows.specs.Plain.{word_start}
-use Rattle.page_fill.specs.TakenWords.{whole_words}
+use Rattle.page_fill_rows.specs.Plain.{free_cells, is_printable_ascii, word_start}
 use Rattle.page_fill.proofs.TakenWordLemmas.{takes-none, takes-words}
 use Rattle.page_fill.proofs.words.Edge.take_words.Goals as goal
-use Rattle.page_fill.proofs.words.Edge.take_words.Goals.{then-self-via-then-self, then-self-via-else-self+then-start-eq0, then-self-via-else-self+else-start-eq0+then-not-add_words}
 
 pub returns-then-self-clause-takes : goal.returns-then-self-clause-takes
-returns-then-self-clause-takes c = elim c.then-self.branch [
-  | then-self-via-then-self w ↦ rw w.self-is (takes-none c.args.text.now R c.args.self.now)
-  | then-self-via-else-self+then-start-eq0 w ↦ rw w.self-is (takes-none c.args.text.now R c.args.self.now)
-  | then-self-via-else-self+else-start-eq0+then-not-add_words w ↦ rw (w.self-is, w.if-not-add_words.ensures.same refl) (takes-none c.args.text.now R c.args.self.now)
-]
+returns-then-self-clause-takes c = takes-none c.args.text.now R c.args.self.now
 
 pub returns-clause-takes : goal.returns-clause-takes
 returns-clause-takes c =
-    let added = c.if-not-add_words.ensures in
+    let text = c.args.text.now in
+    let plain = c.printable_len.result in
     let end = c.whole_words-end.result in
-    let whole = c.whole_words-end.ensures.value ∙ ap (whole_words c.args.text.now) c.free_cells.ensures.value in
-    let start : 0 < word_start (take end c.args.text.now) = omega (arith, c.word_start-start.ensures.value, c.if-start-eq0.false) in
-    rw (added.words refl, c.begun-self.ensures)
-    (takes-words c.args.self.now c.args.text.now end c.if-self.false whole (omega (arith, c.whole_words-end.ensures.fits, c.free_cells.ensures.value)) start (sym added.answer))
+    let room = c.min-room.result in
+    let least : room ≤ length text = omega (arith, c.min-room.ensures) in
+    let len = length-take-le room text least in
+    let within : end ≤ room = omega (arith, c.whole_words-end.ensures.fits, c.printable_len.ensures.within, len) in
+    let fits : end ≤ free_cells c.args.self.now.sheet = omega (arith, within, c.min-room.ensures, c.free_cells.ensures.value) in
+    let start : 0 < word_start (take end text) = omega (arith, c.word_start-start.ensures.value, c.if-start-eq0.false) in
+    let front = take-take end room text within in
+    let printable : is_printable_ascii (take end text) ≡ true = ap is_printable_ascii (sym front) ∙ c.printable_len.ensures.front end c.whole_words-end.ensures.fits in
+    rw (c.add_words.ensures, c.begun-self.ensures)
+    (takes-words c.args.self.now text plain end c.if-self.false c.whole_words-end.ensures.value fits start printable)

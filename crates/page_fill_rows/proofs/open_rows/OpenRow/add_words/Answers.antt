@@ -1,4 +1,4 @@
-use Rattle.std.proofs.Common.{◌∙◌, arith, sym, ◌≤◌, ◌+◌, length, rules}
+use Rattle.std.proofs.Common.{arith, ◌≤◌, ◌+◌, length, rules}
 use Rattle.page_fill_rows.proofs.WordStartLemmas.{sound-words, start-within}
 use Rattle.page_fill_rows.proofs.open_rows.OpenRow.add_words.Goals as goal
 
@@ -11,4 +11,4 @@ pub invariant_of-self : goal.invariant_of-self
 invariant_of-self c =
     let room : length c.self.inside.row + length c.args.text.now ≤ 4096 = search rules in
     rw (c.add_roman.ensures, c.len.ensures.value)
-    (sound-words c.self.inside.row c.args.text.now c.args.start c.self.inside.columns c.self.inside.gap c.self.inside.word c.self.inside.tag_columns _ c.self.invariant (sym c.all_printable.ensures ∙ c.if-not-all_printable.false) room (omega arith) c.requires.start.0)
+    (sound-words c.self.inside.row c.args.text.now c.args.start c.self.inside.columns c.self.inside.gap c.self.inside.word c.self.inside.tag_columns _ c.self.invariant c.requires.plain room (omega arith) c.requires.start.0)
