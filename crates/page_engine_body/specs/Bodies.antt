@@ -14,10 +14,12 @@ use Rattle.page_scopes_leaves.specs.Fits.{DeedFits}
 use Rattle.page_scopes_words.specs.Words.{at, says}
 use Rattle.page_scopes.specs.Edges as scopes
 use Rattle.page_scopes.specs.Edges.{PageEdge}
+use Rattle.page_sets_lines.specs.PlainLines.{event_at, plain_deed}
 use Rattle.page_sets_lines.specs.declared.events.Deed.{Deed}
 use Rattle.page_sets_lines.specs.declared.events.Deed.TheVariants.{Leaf}
 use Rattle.page_sets_lines.specs.declared.events.Event.{Event}
 use Rattle.page_sets_lines.specs.declared.leaves.Leaf.TheVariants.{Prologue}
+use Rattle.page_sets_lines.specs.declared.plain_lines.PlainLine.{PlainLine}
 use Rattle.page_engine_body.specs.Titles.{title_items, title_fields}
 
 -- What decides the header and the footer: the measure of rows, the system that is the source of a page without one, and the fields.
@@ -123,3 +125,7 @@ start_of s indent = record {
   header = record { measure = measure_of s indent; os = s.os.bytes; fields = no_fields s.os.bytes };
   scopes = scopes.start_edge (record { indent = unwrap_or s.indent indent; output = s.output });
 }
+
+-- what a line that is no control line does, before it ends
+abbrev pub plain_event : ℕ → List ℕ → PlainLine → Event (List ℕ)
+plain_event number text line = event_at number 1 (plain_deed line text)

@@ -4,11 +4,11 @@ ghost use Rattle.std.specs.Prelude.{◌≡◌, ◌≤◌, length, OnOk, IfOk};
 ghost use Rattle.page_core_base.specs.Latches.{Came, Emits};
 ghost use Rattle.page_core_base.specs.LinesTaken.{line_seen};
 ghost use Rattle.page_engine_body.specs.Bodies as bodies;
-ghost use Rattle.page_engine_body.specs.Bodies.{IsShort};
+ghost use Rattle.page_engine_body.specs.Bodies.{IsShort, plain_event};
 ghost use Rattle.page_engine_body.specs.Caps.{BodyFits};
 ghost use Rattle.page_sets_lines.specs.Events.{event_seen};
 ghost use Rattle.page_sets_lines.specs.Laws.{HasSlices};
-ghost use Rattle.page_sets_lines.specs.PlainLines.{event_at, line_end, plain_deed, plain_events};
+ghost use Rattle.page_sets_lines.specs.PlainLines.{line_end, plain_events};
 
 use crate::titles::give_title;
 use arrayvec::ArrayString;
@@ -110,10 +110,9 @@ impl Body {
     #[inline(always)]
     fn give_plain_deed<O: PieceOut>(&mut self, out: &mut O, line: Taken<'_>, plain: PlainLine)
         requires { length line.text.now ≤ LINE }
-        ensures came { let event = event_at line.entry.line 1 (plain_deed plain line.entry.text.now)
-            in Came O.left out.old (bodies.event_items self.old event) out.new }
-        ensures after { let event = event_at line.entry.line 1 (plain_deed plain line.entry.text.now)
-            in self.new ≡ bodies.event_after self.old event }
+        ensures came { Came O.left out.old
+            (bodies.event_items self.old (plain_event line.entry.line line.entry.text.now plain)) out.new }
+        ensures after { self.new ≡ bodies.event_after self.old (plain_event line.entry.line line.entry.text.now plain) }
     {
         let event = Event {
             place: Place {
@@ -129,10 +128,9 @@ impl Body {
     #[inline(never)]
     fn give_wordless<O: PieceOut>(&mut self, out: &mut O, line: Taken<'_>, plain: PlainLine)
         requires { length line.text.now ≤ LINE }
-        ensures came { let event = event_at line.entry.line 1 (plain_deed plain line.entry.text.now)
-            in Came O.left out.old (bodies.event_items self.old event) out.new }
-        ensures after { let event = event_at line.entry.line 1 (plain_deed plain line.entry.text.now)
-            in self.new ≡ bodies.event_after self.old event }
+        ensures came { Came O.left out.old
+            (bodies.event_items self.old (plain_event line.entry.line line.entry.text.now plain)) out.new }
+        ensures after { self.new ≡ bodies.event_after self.old (plain_event line.entry.line line.entry.text.now plain) }
     {
         self.give_plain_deed(out, line, plain);
     }
@@ -141,10 +139,9 @@ impl Body {
     #[inline(always)]
     fn give_own<O: PieceOut>(&mut self, out: &mut O, line: Taken<'_>, plain: PlainLine)
         requires { length line.text.now ≤ LINE }
-        ensures came { let event = event_at line.entry.line 1 (plain_deed plain line.entry.text.now)
-            in Came O.left out.old (bodies.event_items self.old event) out.new }
-        ensures after { let event = event_at line.entry.line 1 (plain_deed plain line.entry.text.now)
-            in self.new ≡ bodies.event_after self.old event }
+        ensures came { Came O.left out.old
+            (bodies.event_items self.old (plain_event line.entry.line line.entry.text.now plain)) out.new }
+        ensures after { self.new ≡ bodies.event_after self.old (plain_event line.entry.line line.entry.text.now plain) }
     {
         match plain {
             PlainLine::Words => self.give_plain_deed(out, line, PlainLine::Words),

@@ -47,9 +47,9 @@ words_pass k l (Some e) now r n text font place taken took closed words are byte
       t.0,
       t.2,
       λ row is.
-        let items = word_items font place (take t.0 words) in
-        let here : laid_items row items ≡ nothing t.1 =
-        ap (λ (f : FillEdge). laid_items f items) (sym (same_edge e row is)) ∙ ap (laid_items e) (word_items-shown font place (take t.0 words))
-        ∙ laid_pieces e (word_pieces font place (take t.0 words)) ∙ t.4 in
-        passes_nothing k l (Some e) now r n row t.1 items t.3 here,
+          let items = word_items font place (take t.0 words) in
+          let here : laid_items row items ≡ nothing t.1 =
+          ap (λ (f : FillEdge). laid_items f items) (sym (same_edge e row is)) ∙ ap (laid_items e) (word_items-shown font place (take t.0 words))
+          ∙ laid_pieces e (word_pieces font place (take t.0 words)) ∙ t.4 in
+          passes_nothing k l (Some e) now r n row t.1 items t.3 here,
     )

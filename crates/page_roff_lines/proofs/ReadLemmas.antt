@@ -56,7 +56,7 @@ append-st t r g n p k a s (x ∷ xs) (y ∷ ys) f h =
     let first : open_after o (x ∷ xs) ≡ u = above.after (omega arith) in
     record {
       after = λ _. open_after-append o (x ∷ xs) (y ∷ ys) ∙ ap (λ q. open_after q (y ∷ ys)) first ∙ below.after (omega arith)
-        ∙ twice-st t r g n p k a (x ∷ xs) (y ∷ ys) (omega arith);
+          ∙ twice-st t r g n p k a (x ∷ xs) (y ∷ ys) (omega arith);
       none = whole_lines-append o (x ∷ xs) (y ∷ ys) ∙ rw (above.none, first) below.none;
     }
 
@@ -104,7 +104,7 @@ pair-more xs i n le f pair within run =
     let long : i + 2 ≤ length xs = omega (arith, pair_at.long, length-drop i xs) in (
       omega (arith, room, length-drop (i + 2) xs, long),
       text-more xs (i + 2) n (text-more xs i 2 f (text-pair (drop i xs) pair_at))
-      (run-front (drop (i + 2) xs) n room (rw (rest_of xs (i + 2)) at run)),
+          (run-front (drop (i + 2) xs) n room (rw (rest_of xs (i + 2)) at run)),
     )
 
 pair-printable : (bytes : List ℕ) → BeginsPair bytes → list_all is_printable (take 2 bytes) ≡ true
@@ -131,9 +131,9 @@ comment-read o ys n s mode le h =
     run-read o (take n ys) record {
       settled = s;
       bytes = λ k l.
-        let same = get_or-take n ys k 0 (omega (arith, l, len)) in
-        elim mode [
-          | inl e ↦ rw (e, same) (h k (omega (arith, l, len)))
-          | inr e ↦ rw (e, same) (h k (omega (arith, l, len)))
-        ];
+          let same = get_or-take n ys k 0 (omega (arith, l, len)) in
+          elim mode [
+            | inl e ↦ rw (e, same) (h k (omega (arith, l, len)))
+            | inr e ↦ rw (e, same) (h k (omega (arith, l, len)))
+          ];
     }

@@ -1,5 +1,5 @@
 -- Words of two escapes that ask for fonts, each before a text that prints itself.
-use Rattle.std.proofs.Common.{◌≡◌, ℕ, zero, suc, ◌+◌, ◌<◌, ◌≤◌, Bool, true, false, List, [], ◌∷◌, ◌++◌, length, take, drop, refl, ap, ◌∙◌, arith, sym, length-drop, append-nil, get_or, inl, inr}
+use Rattle.std.proofs.Common.{◌≡◌, ℕ, zero, suc, ◌<◌, ◌≤◌, Bool, true, false, List, [], ◌∷◌, ◌++◌, length, take, drop, refl, ap, ◌∙◌, arith, sym, length-drop, append-nil, get_or, inl, inr}
 use Rattle.std.specs.List.{prefix_len}
 use Rattle.std.proofs.lemmas.List.Folds.{length-prefix_len}
 use Rattle.std.proofs.lemmas.List.{length-take-le}
@@ -13,9 +13,9 @@ use Rattle.page_core_escapes.specs.Tokens.{TextToken, plain, escaped, begins_wor
 use Rattle.page_scopes_words.specs.Words.{face_notes}
 use Rattle.page_scopes_text.proofs.PartedLemmas.{no_word, plain_begins, plain_token, words_more}
 use Rattle.page_scopes_text.proofs.PlainWordLemmas.{blank_len}
-use Rattle.page_scopes_text.specs.FontWords.{ReadsBlankFontWord, ReadsFont, ReadsFontWord, ReadsPart, Silent, font_tokens, part_tokens, word_len}
+use Rattle.page_scopes_text.specs.FontWords.{ReadsBlankFontWord, ReadsFont, ReadsFontWord, ReadsPart, Silent, font_tokens, part_tokens}
 use Rattle.page_scopes_text.specs.Parted.{Parted}
-use Rattle.page_scopes_text.specs.Words.{is_known, pen_after, pen_through, tokens_items, word_notes}
+use Rattle.page_scopes_text.specs.Words.{is_known, pen_after, pen_through, tokens_items}
 use Rattle.page_scopes_text.specs.declared.font_words.FontWord.{FontWord}
 use Rattle.page_scopes_text.specs.declared.pens.Pen.{Pen}
 
@@ -79,10 +79,10 @@ reads_font text font n s known =
 
 -- ---- the whole word
 
-pub reads_font_word : (quoted : Bool) (text inner behind last rest : List ℕ) (word : FontWord) → ReadsFont text (token_seen word.before) inner
-    → ReadsPart quoted inner word.text.now behind → ReadsFont behind (token_seen word.after) last → ReadsPart quoted last word.tail.now rest
+pub reads_font_word : (quoted : Bool) (text inner later last rest : List ℕ) (word : FontWord) → ReadsFont text (token_seen word.before) inner
+    → ReadsPart quoted inner word.text.now later → ReadsFont later (token_seen word.after) last → ReadsPart quoted last word.tail.now rest
     → begins_word rest ≡ false → ReadsFontWord quoted text word rest
-reads_font_word quoted text inner behind last rest word a b c d ends =
+reads_font_word quoted text inner later last rest word a b c d ends =
     let front = token_seen word.before in
     let part = part_tokens word.text.now in
     let next = token_seen word.after in
@@ -137,40 +137,15 @@ pub part_pen : (pen : Pen) (bytes : List ℕ) (tokens : List TextToken)
 part_pen pen [] tokens = refl
 part_pen pen (b ∷ bs) tokens = refl
 
-part_notes : (place : Place) (bytes : List ℕ) (tokens : List TextToken) → word_notes place (part_tokens bytes ++ tokens) ≡ word_notes place tokens
-part_notes place [] tokens = refl
-part_notes place (b ∷ bs) tokens = refl
-
-part_column : (pen : Pen) (bytes : List ℕ) → (pen_through pen (part_tokens bytes)).column ≡ pen.column + length bytes
-part_column pen [] = omega arith
-part_column pen (b ∷ bs) = refl
-
 pub font_items : (place : Place) (pen : Pen) (word : FontWord) → Silent (token_seen word.before) → Silent (token_seen word.after)
     → tokens_items place pen (font_tokens word)
     ≡ tokens_items place (pen_after pen (token_seen word.before)) (part_tokens word.text.now)
     ++ tokens_items place (pen_after (pen_through (pen_after pen (token_seen word.before)) (part_tokens word.text.now)) (token_seen word.after)) (part_tokens word.tail.now)
 font_items place pen word b a =
     let inner = pen_after pen (token_seen word.before) in
-    let behind = pen_through inner (part_tokens word.text.now) in
-    let last = pen_after behind (token_seen word.after) in
+    let later = pen_through inner (part_tokens word.text.now) in
+    let last = pen_after later (token_seen word.after) in
     let more = token_seen word.after ∷ part_tokens word.tail.now in
     ap (λ (i : List Item). i ++ tokens_items place inner (part_tokens word.text.now ++ more)) (b.items pen.fonts.value.font place)
     ∙ part_items place inner word.text.now more
-    ∙ ap (λ (i : List Item). tokens_items place inner (part_tokens word.text.now) ++ (i ++ tokens_items place last (part_tokens word.tail.now))) (a.items behind.fonts.value.font place)
-
-pub font_notes : (place : Place) (word : FontWord) → Silent (token_seen word.before) → Silent (token_seen word.after) → word_notes place (font_tokens word) ≡ []
-font_notes place word b a =
-    let tail = part_tokens word.tail.now in
-    ap (λ (i : List Item). i ++ word_notes place (part_tokens word.text.now ++ (token_seen word.after ∷ tail))) (b.notes place)
-    ∙ part_notes place word.text.now (token_seen word.after ∷ tail)
-    ∙ ap (λ (i : List Item). i ++ word_notes place tail) (a.notes place)
-    ∙ ap (word_notes place) (sym (append-nil tail))
-    ∙ part_notes place word.tail.now []
-
-pub font_column : (pen : Pen) (word : FontWord) → (pen_through pen (font_tokens word)).column ≡ pen.column + word_len word
-font_column pen word =
-    let inner = pen_after pen (token_seen word.before) in
-    let behind = pen_through inner (part_tokens word.text.now) in
-    let last = pen_after behind (token_seen word.after) in
-    let whole = ap (λ (p : Pen). p.column) (part_pen inner word.text.now (token_seen word.after ∷ part_tokens word.tail.now)) in
-    omega (arith, whole, part_column inner word.text.now, part_column last word.tail.now)
+    ∙ ap (λ (i : List Item). tokens_items place inner (part_tokens word.text.now) ++ (i ++ tokens_items place last (part_tokens word.tail.now))) (a.items later.fonts.value.font place)

@@ -1,5 +1,5 @@
 -- Runs of words that print themselves, with one blank before each.
-use Rattle.std.proofs.Common.{◌≡◌, ℕ, zero, suc, ◌+◌, ◌<◌, ◌≤◌, Bool, true, false, not, ◌&&◌, cond, eqb, List, [], ◌∷◌, ◌++◌, length, map, take, drop, refl, ap, sym, ◌∙◌, append_assoc, append-nil, length-append, arith}
+use Rattle.std.proofs.Common.{◌≡◌, ℕ, suc, ◌+◌, ◌<◌, ◌≤◌, Bool, true, false, not, ◌&&◌, List, [], ◌∷◌, ◌++◌, length, map, take, drop, refl, ap, sym, ◌∙◌, append_assoc, append-nil, length-append, arith}
 use Rattle.std.specs.Prelude.{◌==◌, nat_lt}
 use Rattle.std.specs.List.{list_all, prefix_len}
 use Rattle.std.proofs.Math.Seq.{drop-append_seam, take-append_seam, take-add}
@@ -52,7 +52,7 @@ run_more quoted text run mid word rest words r w =
       are = rw (list_all-append is_word words (word ∷ []), r.are, w.is) refl;
       bytes = rw (blank_words-append words (word ∷ []), append-nil word) (ap (λ (bytes : List ℕ). bytes ++ (32 ∷ word)) r.bytes);
       others = r.others ∙ ap (λ (o : List Spaced). map blank_word words ++ o) w.front
-        ∙ rw (map-append blank_word words (word ∷ []), append_assoc (map blank_word words) (blank_word word ∷ []) (words_of quoted rest).others) refl;
+          ∙ rw (map-append blank_word words (word ∷ []), append_assoc (map blank_word words) (blank_word word ∷ []) (words_of quoted rest).others) refl;
       ends = w.ends;
     }
 
@@ -182,7 +182,7 @@ taken_of left font start items s place rest taken t others count are bytes came 
       l.0,
       l.1,
       λ plan more h.
-        given plan _ (rw (items_left font place others count taken k, append_assoc) at (came plan more h)),
+          given plan _ (rw (items_left font place others count taken k, append_assoc) at (came plan more h)),
     )
 
 pub comes_taken : {P S : Type 0} (left : P → S → List Item → Type 0) (font : Font) (start : S) (first : Place) (text : List ℕ) (s : S) (place : Place) (rest : List ℕ)
@@ -200,11 +200,11 @@ word_of : {P S : Type 0} (left : P → S → List Item → Type 0) (font : Font)
     → (later : List (List ℕ)) × (list_all is_word later ≡ true) × (after ≡ blank_words later)
     × CameUpTo left start items (word_items font (record place { column = place.column + 1 + length word }) later) t
 word_of left font start items s place word after t words others are came e bytes given = (
-      others,
-      are-tail word others (rw e at are),
-      bytes,
-      λ plan more h. given plan _ (rw (items_next font place words word others e) at (came plan more h)),
-    )
+  others,
+  are-tail word others (rw e at are),
+  bytes,
+  λ plan more h. given plan _ (rw (items_next font place words word others e) at (came plan more h)),
+)
 
 pub comes_word : {P S : Type 0} (left : P → S → List Item → Type 0) (font : Font) (start : S) (first : Place) (text : List ℕ) (s : S) (place : Place) (rest word after : List ℕ)
     (t : S) → Comes left font start first text s place rest
@@ -236,7 +236,7 @@ run_came left style line pen text run rest s t literal e begins gives = λ plan 
     let r = begins.1 in
     let others = (words_of style.is_quoted rest).others in
     let here : others_items style line pen (words_of style.is_quoted text).others
-        ≡ word_items pen.fonts.value.font (at line pen.column) words ++ others_items style line (resting pen.fonts (pen.column + length (blank_words words))) others =
+    ≡ word_items pen.fonts.value.font (at line pen.column) words ++ others_items style line (resting pen.fonts (pen.column + length (blank_words words))) others =
     ap (λ (p : Pen). others_items style line p (words_of style.is_quoted text).others) e
     ∙ ap (λ (o : List Spaced). others_items style line (resting pen.fonts pen.column) o) r.others
     ∙ run_items style line pen.fonts pen.column words others literal in

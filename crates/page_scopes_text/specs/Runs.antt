@@ -1,5 +1,5 @@
 -- Runs of words that print themselves, with one blank before each: a fast way of the code, which no public clause cites.
-use Rattle.std.specs.Prelude.{◌≡◌, ℕ, ◌+◌, Bool, true, false, List, [], ◌∷◌, ◌++◌, length, map}
+use Rattle.std.specs.Prelude.{◌≡◌, ℕ, Bool, true, false, List, [], ◌∷◌, ◌++◌, map}
 use Rattle.std.specs.List.{list_all}
 use Rattle.page_core_base.specs.Words.{blank_words, is_word}
 use Rattle.page_core_escapes.specs.Tokens.{begins_word, plain}

@@ -48,9 +48,9 @@ pub(crate) fn read_font_word(quoted: bool, text: &[u8]) -> Option<(FontWord<'_>,
     ensures { IfSome result (λ parts. ReadsFontWord quoted text.now parts.0 parts.1.now) }
 {
     let (before, inner) = split_font(text)?;
-    let (text, behind) = split_plain(quoted, inner);
-    let (after, behind) = split_font(behind)?;
-    let (tail, rest) = split_plain(quoted, behind);
+    let (text, middle) = split_plain(quoted, inner);
+    let (after, later) = split_font(middle)?;
+    let (tail, rest) = split_plain(quoted, later);
     if begins_word(rest) {
         return None;
     }

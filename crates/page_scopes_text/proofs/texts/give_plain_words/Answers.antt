@@ -1,4 +1,4 @@
-use Rattle.std.proofs.Common.{◌≡◌, ◌-◌, false, length, rules, arith}
+use Rattle.std.proofs.Common.{◌≡◌, false, rules}
 use Rattle.page_scopes_text.proofs.RunLemmas.{run_came, run_pen}
 use Rattle.page_scopes_text.specs.Reads.{resting}
 use Rattle.page_scopes_text.specs.Runs.{BeginsRun}
