@@ -203,6 +203,64 @@ fn scripts_give_rows(rt: HostRuntime) -> Result<(), Fail> {
     Ok(())
 }
 
+// Scripts, each with words that come after it, how many of their bytes are taken at once, and the rows with the words that are left.
+const TAKEN: [(&str, Font, &str, usize, &str); 9] = [
+    ("a", Font::R, " b c", 4, "a b c\n"),
+    ("a", Font::R, " bcd ef", 4, "a bcd\nef\n"),
+    ("a", Font::R, " b cdef", 2, "a b\ncdef\n"),
+    ("a", Font::R, " bcdefg", 0, "a\nbcdefg\n"),
+    // Up to a byte that is not printable ASCII.
+    ("a", Font::R, " b \u{4e00}", 2, "a b\n<?>\n"),
+    // The first word of a row, one that is placed, and rows that are kept come one by one; so does what is not roman.
+    ("", Font::R, " b c", 0, "b c\n"),
+    ("NaE", Font::R, " b", 0, "a   b\n"),
+    ("La", Font::R, " b c", 0, "a b c\n"),
+    ("a", Font::B, " b", 0, "a b\u{8}b\n"),
+];
+
+// The bytes of rows of 6 columns, for a script and words after it, of which this number of bytes is taken at once.
+fn filled_after(
+    rt: &impl Abort,
+    alloc: Global,
+    (script, font, words, count): (&str, Font, &str, usize),
+) -> Result<Vec<u8>, Fail> {
+    let mut out = Vec::new(alloc);
+    let mut messages = Vec::new(alloc);
+    let mut settings = Settings::new();
+    settings.width = 6;
+    let mut filler = Filler::new(alloc, &settings)?;
+    let mut rows = TextRows::new(&mut out);
+    let mut notes = TextNotes::new(&mut messages, "t");
+    for at in 0..script.len() {
+        filler.piece(scripted(script.as_bytes(), at), &mut rows, &mut notes)?;
+    }
+    let taken = filler.take_words(words.as_bytes(), font);
+    assert_eq!(rt; taken, count);
+    for word in words.as_bytes()[taken..]
+        .split(|byte| *byte == b' ')
+        .skip(1)
+    {
+        filler.piece(blank(1), &mut rows, &mut notes)?;
+        let piece = Piece::Text {
+            text: word,
+            font,
+            place: HERE,
+        };
+        filler.piece(piece, &mut rows, &mut notes)?;
+    }
+    filler.finish(&mut rows, &mut notes)?;
+    Ok(out)
+}
+
+#[test]
+fn words_with_room_are_taken_at_once(rt: HostRuntime) -> Result<(), Fail> {
+    for (script, font, words, count, rows) in TAKEN {
+        let out = filled_after(&rt, rt.alloc(), (script, font, words, count))?;
+        check_bytes(&rt, out.as_slice(), rows.as_bytes());
+    }
+    Ok(())
+}
+
 // The columns of a tag are counted over its rows: 7 here.
 #[test]
 fn wrapped_tags_count_all_their_rows(rt: HostRuntime) -> Result<(), Fail> {
