@@ -1,9 +1,11 @@
 #!/usr/bin/env python3
-"""Times ./mandoc on pages of paragraphs, plain and with fonts (usage: bench/pages.py [RUNS]).
+"""Times ./mandoc on pages of paragraphs, plain and with fonts, or on given pages (usage: bench/pages.py [RUNS [PAGE...]]).
 
-Each page is formatted RUNS times (default 5); the least time counts. Where a `mandoc` is on the PATH it is run in turn
+A PAGE may be compressed by gzip. Each page is formatted RUNS times (default 5); the least time counts. Where a `mandoc` is on the PATH it is run in turn
 with ours, and its time over ours is printed: above 1, ours is faster. Times hold for one machine in one run only.
 """
+import gzip
+import os
 import shutil
 import subprocess
 import sys
@@ -54,15 +56,32 @@ def peak_of(words, name):
             return next(int(line.split()[1]) for line in status if line.startswith("VmHWM"))
 
 
+def given_page(name):
+    """Returns the bytes of a page of man(7)."""
+    with open(name, "rb") as file:
+        text = file.read()
+    return gzip.decompress(text) if name.endswith(".gz") else text
+
+
+def pages(names):
+    """Gives each page with its name: those that were named, or else paragraphs of both kinds and all sizes."""
+    for name in names:
+        yield os.path.basename(name).removesuffix(".gz"), given_page(name)
+    if not names:
+        for kind in ("plain", "fonts"):
+            for size in SIZES:
+                yield kind, page(size, kind == "fonts").encode()
+
+
 def main():
     runs = int(sys.argv[1]) if len(sys.argv) > 1 else 5
     other = shutil.which("mandoc")
     print("         bytes     MB/s   peak kB" + (f"   time ratio  peak kB of {other}" if other else ""))
     with tempfile.TemporaryDirectory() as room:
-        for kind, size in [(kind, size) for kind in ("plain", "fonts") for size in SIZES]:
+        for kind, text in pages(sys.argv[2:]):
             name = f"{room}/page"
-            with open(name, "w") as file:
-                written = file.write(page(size, kind == "fonts"))
+            with open(name, "wb") as file:
+                written = file.write(text)
             ours, theirs = [], []
             for _ in range(runs):
                 ours.append(timed(["./mandoc"], name))
