@@ -2,7 +2,8 @@
 """Times ./mandoc on pages of paragraphs, plain and with fonts, or on given pages (usage: bench/pages.py [RUNS [PAGE...]]).
 
 A PAGE may be compressed by gzip. Each page is formatted RUNS times (default 5); the least time counts. Where a `mandoc` is on the PATH it is run in turn
-with ours, and its time over ours is printed: above 1, ours is faster. Times hold for one machine in one run only.
+with ours, and its time over ours is printed, above 1 ours is faster: the time that passes, in which the start of a process from this
+script has a part, and the time of the processor. Times hold for one machine in one run only.
 """
 import gzip
 import os
@@ -35,13 +36,18 @@ def page(size, has_fonts):
 
 
 def timed(words, name):
-    """Returns the seconds of one run."""
+    """Returns the seconds of one run, from the start of the process to its end, and those of the processor."""
+    streams = [
+        (os.POSIX_SPAWN_OPEN, 0, name, os.O_RDONLY, 0),
+        (os.POSIX_SPAWN_OPEN, 1, os.devnull, os.O_WRONLY, 0),
+    ]
     begun = time.perf_counter()
-    with open(name, "rb") as file:
-        status = subprocess.call(words, stdin=file, stdout=subprocess.DEVNULL)
+    run = os.posix_spawn(words[0], words, os.environ, file_actions=streams)
+    _, status, usage = os.wait4(run, 0)
+    seconds = time.perf_counter() - begun
     if status:
-        sys.exit(f"{' '.join(words)}: status {status}")
-    return time.perf_counter() - begun
+        sys.exit(f"{' '.join(words)}: status {os.waitstatus_to_exitcode(status)}")
+    return seconds, usage.ru_utime + usage.ru_stime
 
 
 def peak_of(words, name):
@@ -73,10 +79,15 @@ def pages(names):
                 yield kind, page(size, kind == "fonts").encode()
 
 
+def least(times):
+    """Returns the least of the seconds that passed, and the least of those of the processor."""
+    return [min(seconds) for seconds in zip(*times)]
+
+
 def main():
     runs = int(sys.argv[1]) if len(sys.argv) > 1 else 5
     other = shutil.which("mandoc")
-    print("         bytes     MB/s   peak kB" + (f"   time ratio  peak kB of {other}" if other else ""))
+    print("         bytes     MB/s   peak kB" + (f"   time ratio  processor  peak kB of {other}" if other else ""))
     with tempfile.TemporaryDirectory() as room:
         for kind, text in pages(sys.argv[2:]):
             name = f"{room}/page"
@@ -87,8 +98,12 @@ def main():
                 ours.append(timed(["./mandoc"], name))
                 if other:
                     theirs.append(timed([other, "-T", "ascii"], name))
-            line = f"{kind} {written:8} {written / min(ours) / 1e6:8.1f} {peak_of(['./mandoc'], name):9}"
-            print(line + (f" {min(theirs) / min(ours):12.2f} {peak_of([other, '-T', 'ascii'], name):14}" if other else ""))
+            passed, used = least(ours)
+            line = f"{kind} {written:8} {written / passed / 1e6:8.1f} {peak_of(['./mandoc'], name):9}"
+            if other:
+                other_passed, other_used = least(theirs)
+                line += f" {other_passed / passed:12.2f} {other_used / used:10.2f} {peak_of([other, '-T', 'ascii'], name):14}"
+            print(line)
 
 
 if __name__ == "__main__":
