@@ -49,8 +49,8 @@ def main():
             sys.exit("the lines are not as many as wc counts")
         ours, least = [], []
         for _ in range(runs):
-            least.append(timed(count, page))
-            ours.append(timed(program, page))
+            least.append(timed(count, page)[0])
+            ours.append(timed(program, page)[0])
         print(f"bytes {len(text) * BLOCKS}, lines {lines_by(count, page)}, the least of {runs} runs each")
         print(f"wc -l {min(least) * 1000:.1f} ms, cutting {min(ours) * 1000:.1f} ms, ratio {min(ours) / min(least):.2f}")
         print(f"peak {peak_of(program, small)} kB at {len(text)} bytes, {peak_of(program, page)} kB at {len(text) * BLOCKS} bytes")

@@ -42,7 +42,7 @@ def timed(words, name):
         (os.POSIX_SPAWN_OPEN, 1, os.devnull, os.O_WRONLY, 0),
     ]
     begun = time.perf_counter()
-    run = os.posix_spawn(words[0], words, os.environ, file_actions=streams)
+    run = os.posix_spawnp(words[0], words, os.environ, file_actions=streams)
     _, status, usage = os.wait4(run, 0)
     seconds = time.perf_counter() - begun
     if status:

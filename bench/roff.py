@@ -56,7 +56,7 @@ HOSTILE = [
 
 
 def least(words, name, runs):
-    return min(timed(words, name) for _ in range(runs))
+    return min(timed(words, name)[0] for _ in range(runs))
 
 
 def main():
