@@ -12,7 +12,8 @@ SOURCES := crates.txt $(shell find crates/*/src crates/*/specs crates/*/proofs 2
 PROGRAM := crates/mandoc_cli
 
 # What rt links the executable of: the program, and the kit's calls of the C library.
-LINKED := out/mandoc_cli.o $(dir $(shell rt doc))c/libos_c.a $(dir $(shell rt doc))c/liblibc_c.a
+KIT = $(dir $(shell rt doc))
+LINKED = out/mandoc_cli.o $(KIT)c/libos_c.a $(KIT)c/liblibc_c.a
 
 # Of what rt prints: each crate that is proved, with the seconds since the start, and what went wrong.
 PROGRESS := start=$$(date +%s); while IFS= read -r line; do \

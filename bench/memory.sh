@@ -3,9 +3,9 @@
 # asked for once a page is made. Takes a minute.
 set -eu
 cd "$(dirname "$0")/.."
-[ -x ./mandoc ] || make
 # Valgrind sees no allocations of a static executable, so this is the one that rt linked.
 program=crates/mandoc_cli/out/mandoc_cli
+[ -x "$program" ] || make
 room=$(mktemp -d)
 trap 'rm -rf "$room"' EXIT
 head='.TH PAGE 1 2026-11-22 Bench\n.SH NAME\npage \\- to count its allocations\n'
@@ -23,6 +23,6 @@ page blocks '.ie n \\{\\\n.B bold\n.\\}\n.el .I italic' 5000
 page scopes '.RS\n.TP\ntag\ntext of a paragraph' 5000
 page errors '.XX \\*[\n\\fZ \\[none]\n.RE' 5000
 for name in one text strings macros blocks scopes errors; do
-    count=$(valgrind $program -W base < "$room/$name" 2>&1 > /dev/null | sed -n 's/.*total heap usage: \(.*\) allocs.*/\1/p')
+    count=$(valgrind "$program" -W base < "$room/$name" 2>&1 > /dev/null | sed -n 's/.*total heap usage: \(.*\) allocs.*/\1/p')
     printf '%-8s %9d bytes  %s allocations\n' "$name" "$(wc -c < "$room/$name")" "$count"
 done
