@@ -9,6 +9,7 @@ ghost use Rattle.page_core_escapes.specs.Tokens.{begins_word};
 ghost use Rattle.page_scopes_text.specs.Runs.{BeginsRun, BeginsWith};
 
 use crate::run_ends::going_len;
+use crate::tokens::give_letters;
 use page_core_base::{Font, Piece, PieceOut, Place};
 use page_core_limits::LINE;
 
@@ -51,11 +52,7 @@ fn give_blank_word<O: PieceOut>(out: &mut O, font: Font, place: Place, word: &[u
         count: 1,
         has_tab: false,
     });
-    out.give(Piece::Text {
-        text: word,
-        font,
-        place,
-    });
+    give_letters(out, font, place, word);
 }
 
 // How many bytes at a text's front are no blanks.
