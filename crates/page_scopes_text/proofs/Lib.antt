@@ -2,4 +2,6 @@ pub mod PartedLemmas
 pub mod TextLemmas
 pub mod PlainWordLemmas
 pub mod RunLemmas
+pub mod RunEndLemmas
+pub mod RunWordLemmas
 pub mod FontWordLemmas

@@ -5,14 +5,15 @@ use Rattle.std.proofs.Math.Bool.{or-false}
 use Rattle.std.proofs.lemmas.Bool.{cases_Bool}
 use Rattle.page_core_base.specs.Pieces.{Item, shown}
 use Rattle.page_core_base.specs.declared.pieces.Piece.TheVariants.{Text, Blank}
+use Rattle.page_core_base.specs.Words.{is_word}
 use Rattle.page_core_escapes.specs.Tokens.{plain, begins_word, is_white, token_at, token_len}
 use Rattle.page_core_escapes.proofs.TokenLemmas.{not_white}
 use Rattle.page_scopes_layout.specs.declared.settings.Setting.{Setting}
 use Rattle.page_scopes_words.specs.declared.fonts.Fonts.{Fonts}
 use Rattle.page_scopes_words.specs.Words.{at}
 use Rattle.page_scopes_text.proofs.PartedLemmas.{no_word, spaced_more}
-use Rattle.page_scopes_text.specs.Parted.{Parted, Spaced}
-use Rattle.page_scopes_text.specs.Reads.{ReadsBlankWord, ReadsPlain, resting}
+use Rattle.page_scopes_text.specs.Parted.{Parted, Spaced, words_of}
+use Rattle.page_scopes_text.specs.Reads.{ReadsPlain, resting}
 use Rattle.page_scopes_text.specs.Runs.{blank_word}
 use Rattle.page_scopes_text.specs.Texts.{others_after, others_items, spaced_after, spaced_items}
 use Rattle.page_scopes_text.specs.declared.pens.Pen.{Pen}
@@ -39,6 +40,14 @@ pub blank_word_after : (style : TextStyle) (fonts : Setting Fonts) (column : ℕ
 blank_word_after style fonts column word others = ap (λ (p : Pen). others_after style p others) (after_blank_word style fonts column word)
 
 -- ---- one blank
+
+-- the one blank at a text's front was read, and the word after it, all of which prints itself
+pub record ReadsBlankWord (quoted : Bool) (text word rest : List ℕ) : Type 0 where
+  pub len : (1 + length word) + length rest ≡ length text
+  pub bytes : text ≡ 32 ∷ (word ++ rest)
+  pub is : is_word word ≡ true
+  pub front : (words_of quoted text).others ≡ record { white = 32 ∷ []; word = plain word ∷ [] } ∷ (words_of quoted rest).others
+  pub ends : begins_word rest ≡ false
 
 no_white : (text : List ℕ) → begins_word text ≡ true → prefix_len is_white text ≡ 0
 no_white [] h = refl

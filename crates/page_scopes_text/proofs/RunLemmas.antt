@@ -1,9 +1,9 @@
 -- Runs of words that print themselves, with one blank before each.
-use Rattle.std.proofs.Common.{◌≡◌, ℕ, suc, ◌+◌, ◌<◌, ◌≤◌, Bool, true, false, not, ◌&&◌, List, [], ◌∷◌, ◌++◌, length, map, take, drop, refl, ap, sym, ◌∙◌, append_assoc, append-nil, length-append, arith}
+use Rattle.std.proofs.Common.{◌≡◌, ℕ, suc, ◌+◌, ◌<◌, ◌≤◌, Bool, true, false, not, ◌&&◌, List, [], ◌∷◌, ◌++◌, length, map, take, drop, refl, ap, sym, ◌∙◌, append_assoc, length-append, arith}
 use Rattle.std.specs.Prelude.{◌==◌, nat_lt}
 use Rattle.std.specs.List.{list_all, prefix_len}
-use Rattle.std.proofs.Math.Seq.{drop-append_seam, take-append_seam, take-add}
-use Rattle.std.proofs.lemmas.List.{drop-drop, length-drop, map-append, take-append-drop}
+use Rattle.std.proofs.Math.Seq.{drop-append_seam, take-append_seam}
+use Rattle.std.proofs.lemmas.List.{take-append-drop}
 use Rattle.std.proofs.lemmas.List.Folds.{list_all-append}
 use Rattle.page_core_base.specs.Pieces.{Item, shown}
 use Rattle.page_core_base.specs.Latches.{Came, CameUpTo}
@@ -11,14 +11,13 @@ use Rattle.page_core_base.specs.Words.{TakesWords, blank_words, is_word, word_it
 use Rattle.page_core_base.specs.declared.cells.Font.{Font}
 use Rattle.page_core_base.specs.declared.pieces.Piece.TheVariants.{Text, Blank}
 use Rattle.page_core_base.specs.declared.places.Place.{Place}
-use Rattle.page_core_escapes.specs.Tokens.{begins_word}
 use Rattle.page_scopes_layout.specs.declared.settings.Setting.{Setting}
 use Rattle.page_scopes_words.specs.declared.fonts.Fonts.{Fonts}
 use Rattle.page_scopes_words.specs.Words.{at}
 use Rattle.page_scopes_text.proofs.PlainWordLemmas.{blank_word_after, blank_word_items, moved}
 use Rattle.page_scopes_text.specs.Parted.{Spaced, words_of}
-use Rattle.page_scopes_text.specs.Reads.{ReadsBlankWord, resting}
-use Rattle.page_scopes_text.specs.Runs.{BeginsRun, BeginsWith, RunOf, blank_word}
+use Rattle.page_scopes_text.specs.Reads.{resting}
+use Rattle.page_scopes_text.specs.Runs.{BeginsRun, BeginsWith, blank_word}
 use Rattle.page_scopes_text.specs.Texts.{others_after, others_items}
 use Rattle.page_scopes_text.specs.declared.pens.Pen.{Pen}
 use Rattle.page_scopes_text.specs.declared.pens.TextStyle.{TextStyle}
@@ -38,40 +37,7 @@ word_items-append font place (x ∷ xs) ys =
     let columns : place.column + (1 + length x) + length (blank_words xs) ≡ place.column + suc (length (x ++ blank_words xs)) = omega (arith, length-append x (blank_words xs)) in
     rw (word_items-append font (record place { column = place.column + (1 + length x) }) xs ys, columns) refl
 
--- ---- a run that is read
-
-pub no_run : (quoted : Bool) (text : List ℕ) → begins_word text ≡ false → RunOf quoted text [] text []
-unfolding blank_words
-no_run quoted text h = record { are = refl; bytes = refl; others = refl; ends = h }
-
-pub run_more : (quoted : Bool) (text run mid word rest : List ℕ) (words : List (List ℕ)) → RunOf quoted text run mid words → ReadsBlankWord quoted mid word rest
-    → RunOf quoted text (run ++ (32 ∷ word)) rest (words ++ (word ∷ []))
-unfolding blank_words
-run_more quoted text run mid word rest words r w =
-    record {
-      are = rw (list_all-append is_word words (word ∷ []), r.are, w.is) refl;
-      bytes = rw (blank_words-append words (word ∷ []), append-nil word) (ap (λ (bytes : List ℕ). bytes ++ (32 ∷ word)) r.bytes);
-      others = r.others ∙ ap (λ (o : List Spaced). map blank_word words ++ o) w.front
-          ∙ rw (map-append blank_word words (word ∷ []), append_assoc (map blank_word words) (blank_word word ∷ []) (words_of quoted rest).others) refl;
-      ends = w.ends;
-    }
-
--- the same at a place of a text
-pub run_to : (quoted : Bool) (text : List ℕ) (place : ℕ) (word rest : List ℕ) → place ≤ length text → BeginsRun quoted text (take place text) (drop place text)
-    → ReadsBlankWord quoted (drop place text) word rest
-    → (place + (1 + length word) ≤ length text)
-    × BeginsRun quoted text (take (place + (1 + length word)) text) (drop (place + (1 + length word)) text)
-run_to quoted text place word rest le r w =
-    let n = suc (length word) in
-    let same : 1 + length word ≡ n = omega arith in
-    let front : take n (drop place text) ≡ 32 ∷ word = rw w.bytes (take-append_seam (32 ∷ word) rest) in
-    let back : drop n (drop place text) ≡ rest = rw w.bytes (drop-append_seam (32 ∷ word) rest) in
-    let run : take (place + n) text ≡ take place text ++ (32 ∷ word) = take-add place n text ∙ ap (λ (bytes : List ℕ). take place text ++ bytes) front in
-    let left : drop (place + n) text ≡ rest = sym (drop-drop n place text) ∙ back in
-    let more = run_more quoted text (take place text) (drop place text) word rest r.0 r.1 w in
-    rw same (omega (arith, w.len, length-drop place text, le), (r.0 ++ (word ∷ []), rw (run, left) more))
-
--- ---- its pieces, and the pen after it
+-- ---- the pieces of a run, and the pen after it
 
 pub run_items : (style : TextStyle) (line : ℕ) (fonts : Setting Fonts) (column : ℕ) (words : List (List ℕ)) (others : List Spaced) → style.is_literal ≡ false
     → others_items style line (resting fonts column) (map blank_word words ++ others)

@@ -51,11 +51,3 @@ pub record ReadsPlain (quoted : Bool) (text word rest : List ℕ) : Type 0 where
   pub only : (words_of quoted text).word ≡ plain word ∷ []
   pub ends : begins_word rest ≡ false
   pub others : (words_of quoted rest).others ≡ (words_of quoted text).others
-
--- the one blank at a text's front was read, and the word after it, all of which prints itself
-pub record ReadsBlankWord (quoted : Bool) (text word rest : List ℕ) : Type 0 where
-  pub len : (1 + length word) + length rest ≡ length text
-  pub bytes : text ≡ 32 ∷ (word ++ rest)
-  pub is : is_word word ≡ true
-  pub front : (words_of quoted text).others ≡ record { white = 32 ∷ []; word = plain word ∷ [] } ∷ (words_of quoted rest).others
-  pub ends : begins_word rest ≡ false

@@ -1,5 +1,5 @@
 -- Runs of words that print themselves, with one blank before each: a fast way of the code, which no public clause cites.
-use Rattle.std.specs.Prelude.{◌≡◌, ℕ, Bool, true, false, List, [], ◌∷◌, ◌++◌, map}
+use Rattle.std.specs.Prelude.{◌≡◌, ℕ, suc, ◌≤◌, ◌<◌, ◌==◌, ◌&&◌, ◌||◌, Bool, true, false, List, [], ◌∷◌, ◌++◌, map, get_or}
 use Rattle.std.specs.List.{list_all}
 use Rattle.page_core_base.specs.Words.{blank_words, is_word}
 use Rattle.page_core_escapes.specs.Tokens.{begins_word, plain}
@@ -22,3 +22,15 @@ BeginsRun quoted text run rest = (words : List (List ℕ)) × RunOf quoted text 
 -- the first of some words, and what is left after it
 abbrev pub BeginsWith : List (List ℕ) → List ℕ → List ℕ → Type 0
 BeginsWith words word rest = (others : List (List ℕ)) × (words ≡ word ∷ others) × (rest ≡ blank_words others)
+
+-- Whether a run ends at a byte, by the one after it: a tab, a backslash, in a quoted argument a quote, or a blank before a blank.
+abbrev pub ends_run : Bool → ℕ → ℕ → Bool
+ends_run quoted byte next = (byte == 9 || (byte == 92 || (quoted && byte == 34))) || (byte == 32 && next == 32)
+
+-- the same at a place of a text, at whose end a blank is thought
+abbrev pub ends_run_at : Bool → List ℕ → ℕ → Bool
+ends_run_at quoted text place = ends_run quoted (get_or text place 32) (get_or text (suc place) 32)
+
+-- from one place up to another no run ends
+abbrev pub GoesOn : Bool → List ℕ → ℕ → ℕ → Type 0
+GoesOn quoted text from to = (k : ℕ) → from ≤ k → k < to → ends_run_at quoted text k ≡ false

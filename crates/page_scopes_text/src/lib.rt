@@ -4,6 +4,7 @@
 mod font_words;
 mod numbers;
 mod pens;
+mod run_ends;
 mod runs;
 mod texts;
 mod tokens;

@@ -1,28 +1,30 @@
 //! Runs of words that print themselves, with one blank before each: most of a page (roff(7), "LANGUAGE SYNTAX").
 
-ghost use Rattle.std.specs.Prelude.{◌≡◌, ◌≤◌, ◌<◌, ◌+◌, ◌^◌, ℕ, List, false, true, [], ◌∷◌, ◌==◌, not, length, take, drop, IfSome, MatchOption};
+ghost use Rattle.std.specs.Prelude.{◌≡◌, ◌≤◌, ◌<◌, ◌+◌, ◌^◌, ℕ, List, false, true, [], ◌∷◌, ◌==◌, not, length, take, drop, slice_index, MatchOption};
 ghost use Rattle.std.specs.List.{list_all, prefix_len};
 ghost use Rattle.page_core_base.specs.Latches.{Came};
 ghost use Rattle.page_core_base.specs.Pieces.{shown};
 ghost use Rattle.page_core_base.specs.Words.{blank_words, is_word, word_items};
 ghost use Rattle.page_core_escapes.specs.Tokens.{begins_word};
-ghost use Rattle.page_scopes_text.specs.Reads.{ReadsBlankWord};
 ghost use Rattle.page_scopes_text.specs.Runs.{BeginsRun, BeginsWith};
 
-use crate::words::read_plain;
+use crate::run_ends::going_len;
+use crate::tokens::give_letters;
 use page_core_base::{Font, Piece, PieceOut, Place};
 use page_core_limits::LINE;
 
-// The word after the one blank at a text's front, and what is left after it, where all of the word prints itself.
+// The last blank up to a place, or the text's front.
 #[inline(always)]
-fn read_blank_word(quoted: bool, text: &[u8]) -> Option<(&[u8], &[u8])>
-    requires { length text.now ≤ LINE }
-    ensures { IfSome result (λ parts. ReadsBlankWord quoted text.now parts.0.now parts.1.now) }
+fn blank_before(text: &[u8], place: usize) -> usize
+    requires { place < length text.now }
+    ensures within { result ≤ place }
+    ensures blank { 0 < result → slice_index text.now result ≡ 32 }
 {
-    if text.is_empty() || text[0] != b' ' {
-        return None;
+    let mut at = place;
+    while at > 0 && text[at] != b' ' {
+        at -= 1;
     }
-    read_plain(quoted, &text[1..])
+    at
 }
 
 /// How many bytes at a text's front are words that print themselves, with one blank before each.
@@ -33,11 +35,11 @@ pub(crate) fn run_len(quoted: bool, text: &[u8]) -> usize
     ensures within { result ≤ length text.now }
     ensures run { BeginsRun quoted text.now (take result text.now) (drop result text.now) }
 {
-    let mut at = 0;
-    while let Some((word, _)) = read_blank_word(quoted, &text[at..]) {
-        at += 1 + word.len();
+    let len = going_len(quoted, text);
+    if len == text.len() || text[len] == b' ' {
+        return len;
     }
-    at
+    blank_before(text, len)
 }
 
 // Gives a blank, and a word that prints itself.
@@ -50,11 +52,7 @@ fn give_blank_word<O: PieceOut>(out: &mut O, font: Font, place: Place, word: &[u
         count: 1,
         has_tab: false,
     });
-    out.give(Piece::Text {
-        text: word,
-        font,
-        place,
-    });
+    give_letters(out, font, place, word);
 }
 
 // How many bytes at a text's front are no blanks.

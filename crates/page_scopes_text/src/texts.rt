@@ -37,31 +37,6 @@ fn give_white<O: PieceOut>(out: &mut O, style: TextStyle, line: u32, pen: &mut P
     }
 }
 
-// Gives the white space at a text's front, and the word after it; what is left of the text.
-#[inline(always)]
-fn give_spaced<'a, O: PieceOut>(
-    out: &mut O,
-    style: TextStyle,
-    line: u32,
-    pen: &mut Pen,
-    text: &'a [u8],
-) -> &'a [u8]
-    requires fits { Fits pen.old text.now }
-    requires white { begins_white text.now ≡ true }
-    ensures came { Came O.left out.old
-        (texts.spaced_items style line pen.old (spaced_front style.is_quoted text.now)) out.new }
-    ensures pen { pen.new ≡ texts.spaced_after style pen.old (spaced_front style.is_quoted text.now) }
-    ensures rest { ReadsSpaced style.is_quoted pen.old text.now pen.new result.now }
-{
-    let (white, rest) = text.split_at(read_token(style.is_quoted, text).len());
-    give_white(out, style, line, pen, white);
-    if begins_word(rest) {
-        give_word(out, style, line, has_tab(white), pen, rest)
-    } else {
-        rest
-    }
-}
-
 // The word after the one blank at a text's front, and what is left after it, where the word has fonts of its own.
 #[inline(always)]
 fn read_blank_font_word(quoted: bool, text: &[u8]) -> Option<(FontWord<'_>, &[u8])>
@@ -73,9 +48,10 @@ fn read_blank_font_word(quoted: bool, text: &[u8]) -> Option<(FontWord<'_>, &[u8
     read_font_word(quoted, &text[1..])
 }
 
-// The same as `give_spaced`, with a look first whether one blank and a word in a font of its own stand at the text's front.
+// Gives the white space at a text's front, and the word after it; what is left of the text. The first look is for one blank and a word in a
+// font of its own.
 #[inline(always)]
-fn give_next<'a, O: PieceOut>(
+fn give_spaced<'a, O: PieceOut>(
     out: &mut O,
     style: TextStyle,
     line: u32,
@@ -94,7 +70,13 @@ fn give_next<'a, O: PieceOut>(
         give_font_word(out, style, line, false, pen, &word);
         return rest;
     }
-    give_spaced(out, style, line, pen, text)
+    let (white, rest) = text.split_at(read_token(style.is_quoted, text).len());
+    give_white(out, style, line, pen, white);
+    if begins_word(rest) {
+        give_word(out, style, line, has_tab(white), pen, rest)
+    } else {
+        rest
+    }
 }
 
 // Gives the words at a text's front that print themselves, with one blank before each: in rows that are filled they only move the pen's
@@ -139,7 +121,7 @@ fn give_others<O: PieceOut>(out: &mut O, style: TextStyle, line: u32, pen: &mut 
 {
     let mut rest = give_plain_words(out, style, line, pen, text);
     while !rest.is_empty() {
-        let after = give_next(out, style, line, pen, rest);
+        let after = give_spaced(out, style, line, pen, rest);
         rest = give_plain_words(out, style, line, pen, after);
     }
 }

@@ -1,7 +1,8 @@
 //! Tokens of words: their messages, what they print, and the fonts after them (roff(7), "ESCAPE SEQUENCES").
 
-ghost use Rattle.std.specs.Prelude.{◌≡◌, false};
+ghost use Rattle.std.specs.Prelude.{◌≡◌, false, [], ◌∷◌};
 ghost use Rattle.page_core_base.specs.Latches.{Came};
+ghost use Rattle.page_core_base.specs.Pieces.{shown};
 ghost use Rattle.page_core_escapes.specs.Escapes.{face_seen, meaning_seen};
 ghost use Rattle.page_core_escapes.specs.Tokens.{is_space, token_seen};
 ghost use Rattle.page_scopes_text.specs.Words as words;
@@ -30,16 +31,20 @@ pub fn report_token<O: PieceOut>(out: &mut O, place: Place, token: &Token<'_>)
     }
 }
 
+/// Gives bytes that print themselves.
+#[inline(always)]
+pub(crate) fn give_letters<O: PieceOut>(out: &mut O, font: Font, place: Place, text: &[u8])
+    ensures { Came O.left out.old (shown (Piece.Text text.now font place) ∷ []) out.new }
+{
+    out.give(Piece::Text { text, font, place });
+}
+
 /// Gives a count of blanks that are cells.
 pub fn give_blank_cells<O: PieceOut>(out: &mut O, count: u32, font: Font, place: Place)
     ensures { Came O.left out.old (words.blank_cells count font place) out.new }
 {
     for _i in 0..count {
-        out.give(Piece::Text {
-            text: b" ",
-            font,
-            place,
-        });
+        give_letters(out, font, place, b" ");
     }
 }
 

@@ -9,7 +9,7 @@ ghost use Rattle.page_scopes_text.specs.Reads.{Fits, ReadsPlain, ReadsWord};
 ghost use Rattle.page_scopes_text.specs.Words as words;
 
 use crate::font_words::{FontWord, give_font_tokens, read_font_word};
-use crate::tokens::{give_blank_cells, give_token, report_token};
+use crate::tokens::{give_blank_cells, give_letters, give_token, report_token};
 use crate::{Pen, TextStyle};
 use page_core_base::{Font, Piece, PieceOut, Place};
 use page_core_escapes::{begins_word, plain_len, read_token};
@@ -58,11 +58,7 @@ fn give_empty<O: PieceOut>(out: &mut O, place: Place, has_cell: bool)
     ensures { Came O.left out.old (words.empty_items has_cell place) out.new }
 {
     if !has_cell {
-        out.give(Piece::Text {
-            text: b"",
-            font: Font::R,
-            place,
-        });
+        give_letters(out, Font::R, place, b"");
     }
 }
 
@@ -155,11 +151,7 @@ fn give_plain<O: PieceOut>(
     };
     give_gap(out, style, has_tab, place, pen);
     pen.pass_gap(style);
-    out.give(Piece::Text {
-        text: word,
-        font: pen.fonts.value.font,
-        place,
-    });
+    give_letters(out, pen.fonts.value.font, place, word);
     pen.pass_plain(word);
 }
 

@@ -1,14 +1,20 @@
-use Rattle.std.proofs.Common.{[], arith}
-use Rattle.std.proofs.lemmas.List.{take_rest}
-use Rattle.page_scopes_text.proofs.RunLemmas.{no_run, run_to}
+use Rattle.std.proofs.Common.{arith}
+use Rattle.page_scopes_text.proofs.RunWordLemmas.{run_to_blank, run_to_end}
 use Rattle.page_scopes_text.proofs.runs.run_len.Goals as goal
+use Rattle.page_scopes_text.proofs.runs.run_len.Goals.{then-len-text-via-then-len-text, then-len-text-via-else-len-text+then-text-len-eq32}
 
-pub loop-word-init : goal.loop-word-init
-loop-word-init c = (omega arith, ([], no_run c.args.quoted c.args.text.now c.requires.word))
-
-pub loop-word-preserved : goal.loop-word-preserved
-loop-word-preserved c =
+pub returns-then-len-text-clause-run : goal.returns-then-len-text-clause-run
+returns-then-len-text-clause-run c =
+    let quoted = c.args.quoted in
     let text = c.args.text.now in
-    let at = c.loop-word.at in
-    let reads = rw (take_rest text at) at c.in-Some.ensures in
-    run_to c.args.quoted text at c.in-Some.word.now c.in-Some.field-0-1.now c.loop-word.invariant.0 c.loop-word.invariant.1 reads
+    let n = c.going_len-len.result in
+    let goes = c.going_len-len.ensures.goes in
+    elim c.then-len-text.branch [
+      | then-len-text-via-then-len-text w ↦ run_to_end quoted text n c.requires.word c.going_len-len.ensures.within (omega arith) goes
+      | then-len-text-via-else-len-text+then-text-len-eq32 w ↦ run_to_blank quoted text n n c.requires.word (omega arith) (λ _. w.if-text-len-eq32.true) (omega arith) goes
+    ]
+
+pub returns-clause-run : goal.returns-clause-run
+returns-clause-run c =
+    let before = c.blank_before.ensures in
+    run_to_blank c.args.quoted c.args.text.now c.blank_before.result c.going_len-len.result c.requires.word (omega arith) before.blank before.within c.going_len-len.ensures.goes

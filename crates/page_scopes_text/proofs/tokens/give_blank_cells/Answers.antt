@@ -10,7 +10,7 @@ loop-i-init g c = let all : c.args.count - 0 ≡ c.args.count = omega arith in �
 pub loop-i-preserved : goal.loop-i-preserved
 loop-i-preserved g c = λ plan rest h.
     let l = c.loop-i in
-    c.give.ensures plan _ (rw (one_less c.args.count l._i c.loop-i-test.true) at (l.invariant plan rest h))
+    c.give_letters.ensures plan _ (rw (one_less c.args.count l._i c.loop-i-test.true) at (l.invariant plan rest h))
 
 pub returns : goal.returns
 returns g c = λ plan rest h.
