@@ -18,6 +18,25 @@ use page_core_base::PieceOut;
 use page_scopes_laws::Scope;
 use page_sets_lines::Event;
 
+// Gives the end of the innermost scope, which an act ends.
+#[inline(always)]
+fn give_innermost<Y: Laying, O: PieceOut>(
+    scopes: &[Scope<Label, Y::Kept>],
+    state: &mut Y,
+    act: &Act<&Event<&[u8]>>,
+    out: &mut O,
+)
+    ensures came { Came O.left out.old
+        (ended_items (framed Y.tables) 1 (does (act_seen act.now)) (reverse scopes.now) state.old) out.new }
+    ensures state { state.new
+        ≡ ended_state (framed Y.tables) 1 (does (act_seen act.now)) (reverse scopes.now) state.old }
+{
+    if let Some(scope) = scopes.last() {
+        report_broken(out, act, scope.label);
+        state.end(scope.label, &scope.before, act.place(), out);
+    }
+}
+
 // An act ends the innermost scope.
 #[inline(never)]
 fn end_innermost<Y: Laying, O: PieceOut>(
@@ -35,10 +54,8 @@ fn end_innermost<Y: Laying, O: PieceOut>(
     ensures scopes { Keeps scopes.old scopes.new (drop 1 (reverse scopes.old.items)) }
     ensures len { vec_len scopes.new + 1 ≡ vec_len scopes.old }
 {
-    if let Some(scope) = scopes.pop() {
-        report_broken(out, act, scope.label);
-        state.end(scope.label, scope.before, act.place(), out);
-    }
+    give_innermost(scopes.as_slice(), state, act, out);
+    drop(scopes.pop());
 }
 
 // An act ends this many of the innermost scopes.
@@ -80,9 +97,8 @@ fn open_scope<Y: Laying, O: PieceOut>(
         (record { label = label; before = Y.tables.keep label (event_seen event.now) state.old }
         ∷ reverse scopes.old.items) }
 {
-    let before = state.keep(label, event);
+    state.keep(label, event, scopes);
     state.begin(label, event, out);
-    scopes.push_reserved(Scope { label, before });
 }
 
 // The act itself, after it ended this many scopes.
