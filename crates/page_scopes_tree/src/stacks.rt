@@ -101,6 +101,35 @@ fn open_scope<Y: Laying, O: PieceOut>(
     state.begin(label, event, out);
 }
 
+// An event itself, after it ended this many scopes.
+#[inline(always)]
+fn place_event<Y: Laying, O: PieceOut>(
+    scopes: &mut Vec<Scope<Label, Y::Kept>>,
+    state: &mut Y,
+    count: usize,
+    event: &Event<&[u8]>,
+    out: &mut O,
+)
+    requires depth { vec_len scopes.old ≤ SCOPES }
+    requires reserved { SCOPES ≤ vec_capacity scopes.old }
+    requires takes { Y.Takes (event_seen event.now) }
+    ensures came { let seen = Act.Event (event_seen event.now) in let st = stack_standing seen count scopes.old
+        in Came O.left out.old (placed_items (framed Y.tables) st (does seen) state.old) out.new }
+    ensures state { let seen = Act.Event (event_seen event.now) in let st = stack_standing seen count scopes.old
+        in state.new ≡ placed_state (framed Y.tables) st (does seen) state.old }
+    ensures scopes { let seen = Act.Event (event_seen event.now) in let st = stack_standing seen count scopes.old
+        in Keeps scopes.old scopes.new
+        (placed_scopes (framed Y.tables) st (does seen) (reverse scopes.old.items) state.old) }
+{
+    let act = Act::Event(event);
+    match fate_of(&act, count, scopes.as_slice()) {
+        Fate::Node(label) => open_scope(scopes, state, label, event, out),
+        Fate::Leaf => state.leaf(&act, out),
+        Fate::Refused(obstacle) => report_obstacle(out, obstacle, &act),
+        Fate::Nothing => {}
+    }
+}
+
 // The act itself, after it ended this many scopes.
 #[inline(always)]
 fn place_act<Y: Laying, O: PieceOut>(
@@ -122,11 +151,9 @@ fn place_act<Y: Laying, O: PieceOut>(
         in Keeps scopes.old scopes.new
         (placed_scopes (framed Y.tables) st (does (act_seen act.now)) (reverse scopes.old.items) state.old) }
 {
-    match fate_of(act, count, scopes.as_slice()) {
-        Fate::Node(label) => open_scope(scopes, state, label, &act.event(), out),
-        Fate::Leaf => state.leaf(act, out),
-        Fate::Refused(obstacle) => report_obstacle(out, obstacle, act),
-        Fate::Nothing => {}
+    match act {
+        Act::Event(event) => place_event(scopes, state, count, event, out),
+        Act::PageEnd(_) => state.leaf(act, out),
     }
 }
 
