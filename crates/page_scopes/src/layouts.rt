@@ -8,12 +8,12 @@ ghost use Rattle.page_scopes_tree.specs.Stacks.{Keeps};
 
 use crate::bodies::{give_coming, give_standing};
 use page_core_base::{PieceOut, Place};
+use page_roff_forms::Argument;
 use page_scopes_laws::Scope;
 use page_scopes_layout::Context;
 use page_scopes_leaves::Running;
 use page_scopes_nodes::{PageLayout, Target, give_begun, give_ended};
 use page_scopes_tree::{Act, Label, Laying};
-use page_roff_forms::Argument;
 use page_sets_lines::{Deed, Event, Opener};
 
 /// What scopes and other events are laid out by.
@@ -45,12 +45,7 @@ impl LayoutState {
 
     // Puts the scope of a link on the open ones. It stands apart, so that the others are put there without the room of a target.
     #[inline(never)]
-    fn keep_link(
-        &self,
-        label: Label,
-        target: Argument<&[u8]>,
-        scopes: &mut Vec<Scope<Label, Kept>>,
-    )
+    fn keep_link(&self, label: Label, target: Argument<&[u8]>, scopes: &mut Vec<Scope<Label, Kept>>)
         requires { vec_len scopes.old < vec_capacity scopes.old }
         ensures { Keeps scopes.old scopes.new
             (record { label = label; before = record { context = self.now.context; target = Some (target_of (argument_seen target.entry)) } }
