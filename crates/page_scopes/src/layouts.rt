@@ -1,15 +1,20 @@
 //! The layout of man(7).
 
-ghost use Rattle.std.specs.Prelude.{◌≡◌};
+ghost use Rattle.std.specs.Prelude.{◌≡◌, ◌<◌, ◌∷◌, reverse, vec_capacity, vec_len};
+ghost use Rattle.page_roff_forms.specs.Arguments.{argument_seen};
 ghost use Rattle.page_scopes.specs.Tables.{start};
+ghost use Rattle.page_scopes_nodes.specs.Targets.{target_of};
+ghost use Rattle.page_scopes_tree.specs.Stacks.{Keeps};
 
 use crate::bodies::{give_coming, give_standing};
 use page_core_base::{PieceOut, Place};
+use page_roff_forms::Argument;
+use page_scopes_laws::Scope;
 use page_scopes_layout::Context;
 use page_scopes_leaves::Running;
-use page_scopes_nodes::{PageLayout, Target, give_begun, give_ended, kept_target};
+use page_scopes_nodes::{PageLayout, Target, give_begun, give_ended};
 use page_scopes_tree::{Act, Label, Laying};
-use page_sets_lines::Event;
+use page_sets_lines::{Deed, Event, Opener};
 
 /// What scopes and other events are laid out by.
 #[derive(Drop)]
@@ -37,6 +42,23 @@ impl LayoutState {
             running: Running::start(),
         }
     }
+
+    // Puts the scope of a link on the open ones. It stands apart, so that the others are put there without the room of a target.
+    #[inline(never)]
+    fn keep_link(&self, label: Label, target: Argument<&[u8]>, scopes: &mut Vec<Scope<Label, Kept>>)
+        requires { vec_len scopes.old < vec_capacity scopes.old }
+        ensures { Keeps scopes.old scopes.new
+            (record { label = label; before = record { context = self.now.context; target = Some (target_of (argument_seen target.entry)) } }
+            ∷ reverse scopes.old.items) }
+    {
+        scopes.push_reserved(Scope {
+            label,
+            before: Kept {
+                context: self.context,
+                target: Some(Target::of(target)),
+            },
+        });
+    }
 }
 
 impl Laying for LayoutState {
@@ -50,10 +72,16 @@ impl Laying for LayoutState {
     ghost Takes = { λ event. DeedFits event.deed };
 
     #[inline(always)]
-    fn keep(&self, _label: Label, event: &Event<&[u8]>) -> Kept {
-        Kept {
-            context: self.context,
-            target: kept_target(&event.deed),
+    fn keep(&self, label: Label, event: &Event<&[u8]>, scopes: &mut Vec<Scope<Label, Kept>>) {
+        match event.deed {
+            Deed::Open(Opener::Target(_, target)) => self.keep_link(label, target, scopes),
+            _ => scopes.push_reserved(Scope {
+                label,
+                before: Kept {
+                    context: self.context,
+                    target: None,
+                },
+            }),
         }
     }
 
@@ -77,11 +105,11 @@ impl Laying for LayoutState {
         give_standing(out, act, &mut self.context, &mut self.running);
     }
 
-    fn end<O: PieceOut>(&mut self, label: Label, before: Kept, place: Place, out: &mut O) {
+    fn end<O: PieceOut>(&mut self, label: Label, before: &Kept, place: Place, out: &mut O) {
         give_ended(
             out,
             label,
-            before.context,
+            &before.context,
             &before.target,
             place,
             &mut self.context,

@@ -9,6 +9,7 @@ use page_scopes_words::{Fonts, ROMAN};
 
 impl Context {
     /// The context at the front of a scope: nothing is set in it yet.
+    #[inline(always)]
     pub fn entered(self) -> Context
         ensures { result ≡ begins.entered_context self }
     {
@@ -22,6 +23,7 @@ impl Context {
     }
 
     // Paragraphs and headings begin in R, without a shift.
+    #[inline(always)]
     fn reset(self) -> Context
         ensures { result ≡ begins.reset self }
     {
@@ -33,6 +35,7 @@ impl Context {
     }
 
     // No paragraph stands further in.
+    #[inline(always)]
     fn flat(self) -> Context
         ensures { result ≡ begins.flat self }
     {
@@ -44,6 +47,7 @@ impl Context {
     }
 
     /// A section or subsection begins, at the page's indent in columns.
+    #[inline(always)]
     pub fn section_begun(self, page_indent: u32) -> Context
         ensures { result ≡ begins.section_begun page_indent self }
     {
@@ -57,6 +61,7 @@ impl Context {
     }
 
     /// A heading begins, at a column.
+    #[inline(always)]
     pub fn heading_begun(self, column: u32) -> Context
         ensures { result ≡ begins.heading_begun column self }
     {
@@ -74,6 +79,7 @@ impl Context {
     }
 
     /// A plain paragraph begins.
+    #[inline(always)]
     pub fn paragraph_begun(self) -> Context
         ensures { result ≡ begins.paragraph_begun self }
     {
@@ -84,6 +90,7 @@ impl Context {
     }
 
     // An indent in columns prevails from here on, where one is given.
+    #[inline(always)]
     fn prevailing_from(self, columns: Option<i32>) -> Context
         ensures { result ≡ begins.prevailing_from columns self }
     {
@@ -94,6 +101,7 @@ impl Context {
     }
 
     /// A paragraph begins whose text stands this many columns, or the prevailing indent, further in.
+    #[inline(always)]
     pub fn indented_begun(self, columns: Option<i32>) -> Context
         ensures { result ≡ begins.indented_begun columns self }
     {
@@ -105,6 +113,7 @@ impl Context {
     }
 
     // The first row stands at the margin.
+    #[inline(always)]
     fn first_at_margin(self) -> Context
         ensures { result ≡ begins.first_at_margin self }
     {
@@ -116,6 +125,7 @@ impl Context {
     }
 
     /// The same, but the first row stands at the margin.
+    #[inline(always)]
     pub fn hanging_begun(self, columns: Option<i32>) -> Context
         ensures { result ≡ begins.hanging_begun columns self }
     {
@@ -123,6 +133,7 @@ impl Context {
     }
 
     /// A tag begins.
+    #[inline(always)]
     pub fn tag_begun(self) -> Context
         ensures { result ≡ begins.tag_begun self }
     {
@@ -133,6 +144,7 @@ impl Context {
     }
 
     /// The words of a font macro begin.
+    #[inline(always)]
     pub fn font_begun(self, font: Font) -> Context
         ensures { result ≡ begins.font_begun font self }
     {
@@ -149,6 +161,7 @@ impl Context {
     }
 
     /// A relative margin begins, this many columns, or the prevailing indent, further in.
+    #[inline(always)]
     pub fn margin_begun(self, columns: Option<i32>) -> Context
         ensures { result ≡ begins.margin_begun columns self }
     {
@@ -161,6 +174,7 @@ impl Context {
     }
 
     /// The margin, in columns, of the text of the open paragraph, without the shift of `in`.
+    #[inline(always)]
     pub fn text_margin(&self) -> u32
         ensures { result ≡ begins.text_margin self.now }
     {
@@ -168,6 +182,7 @@ impl Context {
     }
 
     /// A synopsis begins whose command's name stands at a margin, with a hang, in columns.
+    #[inline(always)]
     pub fn syntax_begun(self, at: u32, hang: u32) -> Context
         ensures { result ≡ begins.syntax_begun at hang self }
     {

@@ -62,6 +62,7 @@ impl Context {
 }
 
 // Whether the prevailing indent ends with a scope.
+#[inline(always)]
 fn owns_prevailing(label: Label) -> bool
     ensures { result ≡ contexts.owns_prevailing label }
 {
@@ -72,6 +73,7 @@ fn owns_prevailing(label: Label) -> bool
 }
 
 // Whether a scope leaves the fonts as they were before it.
+#[inline(always)]
 fn guards_fonts(label: Label) -> bool
     ensures { result ≡ contexts.guards_fonts label }
 {
@@ -82,6 +84,7 @@ fn guards_fonts(label: Label) -> bool
 }
 
 /// The context after a scope: that before it, but for what was set inside for good.
+#[inline(always)]
 pub fn restored(label: Label, before: Context, now: Context) -> Context
     ensures { result ≡ contexts.restored label before now }
 {

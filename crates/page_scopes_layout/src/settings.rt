@@ -25,6 +25,7 @@ impl<T: Copy> Clone for Setting<T> {
 
 impl<T: Copy> Setting<T> {
     /// A value that nothing has set yet.
+    #[inline(always)]
     pub fn at_first(value: T) -> Setting<T>
         ensures { result ≡ settings.at_first value }
     {
@@ -35,6 +36,7 @@ impl<T: Copy> Setting<T> {
     }
 
     /// The value, set to another one.
+    #[inline(always)]
     pub fn set_to(value: T) -> Setting<T>
         ensures { result ≡ settings.set_to value }
     {
@@ -45,6 +47,7 @@ impl<T: Copy> Setting<T> {
     }
 
     /// The value as a scope begins: nothing is set in it yet.
+    #[inline(always)]
     pub fn entered(self) -> Setting<T>
         ensures { result ≡ settings.entered self }
     {
@@ -55,6 +58,7 @@ impl<T: Copy> Setting<T> {
     }
 
     /// The value after a scope: that before it, unless another one was set inside.
+    #[inline(always)]
     pub fn after_scope(self, before: Setting<T>) -> Setting<T>
         ensures { result ≡ settings.after_scope before self }
     {

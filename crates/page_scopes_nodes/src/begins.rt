@@ -1,18 +1,18 @@
-//! What a scope begins with, of any event that opens one, and what it keeps (man(7)).
+//! What a scope begins with, of any event that opens one (man(7)).
 
 ghost use Rattle.std.specs.Prelude.{◌≡◌};
 ghost use Rattle.page_core_base.specs.Latches.{Came};
 ghost use Rattle.page_scopes_leaves.specs.Fits.{DeedFits};
 ghost use Rattle.page_scopes_nodes.specs.Begins as begins;
-ghost use Rattle.page_sets_lines.specs.Events.{deed_seen, event_seen, opener_seen};
+ghost use Rattle.page_sets_lines.specs.Events.{deed_seen, event_seen};
 
 use crate::openers::give_opened;
-use crate::{PageLayout, Target};
+use crate::PageLayout;
 use page_core_base::{Font, PieceOut};
 use page_scopes_layout::{Context, give_begin};
 use page_scopes_leaves::Running;
 use page_scopes_tree::Label;
-use page_sets_lines::{Deed, Event, FontMacro, HeadingName, LineOpener, Opener};
+use page_sets_lines::{Deed, Event, FontMacro, HeadingName, LineOpener};
 
 // The column of a heading.
 fn heading_column(name: HeadingName) -> u32
@@ -85,26 +85,5 @@ pub fn give_begun<O: PieceOut>(
         Deed::Open(opener) => give_opened(out, page, event.place, opener, context, running),
         Deed::LineScope(opener) => give_line_opened(out, *opener, context, running),
         _ => {}
-    }
-}
-
-// The target that the scope of an opener keeps.
-fn opener_target(opener: &Opener<&[u8]>) -> Option<Target>
-    ensures { result ≡ begins.opener_target (opener_seen opener.now) }
-{
-    match *opener {
-        Opener::Target(_, target) => Some(Target::of(target)),
-        _ => None,
-    }
-}
-
-/// The target that the scope of a deed keeps up to its end.
-#[inline(always)]
-pub fn kept_target(deed: &Deed<&[u8]>) -> Option<Target>
-    ensures { result ≡ begins.kept_target (deed_seen deed.now) }
-{
-    match deed {
-        Deed::Open(opener) => opener_target(opener),
-        _ => None,
     }
 }

@@ -49,15 +49,15 @@ fn pass_end(label: Label, running: &mut Running)
 fn give_left<O: PieceOut>(
     out: &mut O,
     label: Label,
-    before: Context,
+    before: &Context,
     context: &mut Context,
     running: &mut Running,
 )
-    ensures came { Came O.left out.old (ends.left label before context.old running.old).items out.new }
-    ensures context { context.new ≡ (ends.left label before context.old running.old).context }
-    ensures running { running.new ≡ (ends.left label before context.old running.old).running }
+    ensures came { Came O.left out.old (ends.left label before.now context.old running.old).items out.new }
+    ensures context { context.new ≡ (ends.left label before.now context.old running.old).context }
+    ensures running { running.new ≡ (ends.left label before.now context.old running.old).running }
 {
-    *context = restored(label, before, *context);
+    *context = restored(label, *before, *context);
     give_end(out, label, context);
     pass_end(label, running);
 }
@@ -67,18 +67,18 @@ fn give_left<O: PieceOut>(
 pub fn give_ended<O: PieceOut>(
     out: &mut O,
     label: Label,
-    before: Context,
+    before: &Context,
     target: &Option<Target>,
     place: Place,
     context: &mut Context,
     running: &mut Running,
 )
     ensures came { Came O.left out.old
-        (ends.ended label before target.now place context.old running.old).items out.new }
+        (ends.ended label before.now target.now place context.old running.old).items out.new }
     ensures context { context.new
-        ≡ (ends.ended label before target.now place context.old running.old).context }
+        ≡ (ends.ended label before.now target.now place context.old running.old).context }
     ensures running { running.new
-        ≡ (ends.ended label before target.now place context.old running.old).running }
+        ≡ (ends.ended label before.now target.now place context.old running.old).running }
 {
     give_last_word(out, place, target, context, running);
     give_left(out, label, before, context, running);

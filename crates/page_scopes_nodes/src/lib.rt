@@ -8,7 +8,7 @@ mod openers;
 mod page_layouts;
 mod targets;
 
-pub use begins::{give_begun, kept_target};
+pub use begins::give_begun;
 pub use ends::give_ended;
 pub use openers::argument_word;
 pub use page_layouts::PageLayout;

@@ -63,7 +63,7 @@ pub struct Target {
 
 impl Target {
     /// The target that an argument says.
-    pub(crate) fn of(argument: Argument<&[u8]>) -> Target
+    pub fn of(argument: Argument<&[u8]>) -> Target
         ensures { result ≡ targets.target_of (argument_seen argument.entry) }
     {
         Target {

@@ -1,14 +1,16 @@
 //! A layout: what scopes and leaves give, over a state (man(7)).
 
-ghost use Rattle.std.specs.Prelude.{◌≡◌, List, ℕ};
+ghost use Rattle.std.specs.Prelude.{◌≡◌, ◌<◌, List, ◌∷◌, ℕ, reverse, vec_capacity, vec_len};
 ghost use Rattle.page_core_base.specs.Latches.{Came};
 ghost use Rattle.page_scopes_tree.specs.Acts.{TakesAct, act_seen};
 ghost use Rattle.page_scopes_tree.specs.Frames.{Tables};
+ghost use Rattle.page_scopes_tree.specs.Stacks.{Keeps};
 ghost use Rattle.page_sets_lines.specs.Events.{event_seen};
 ghost use Rattle.page_sets_lines.specs.declared.events.Event.{Event};
 
 use crate::{Act, Label};
 use page_core_base::{PieceOut, Place};
+use page_scopes_laws::Scope;
 use page_sets_lines::Event;
 
 /// The state of a layout, which says what scopes and leaves give.
@@ -22,9 +24,12 @@ pub trait Laying: Drop {
     // the events that the layout takes
     ghost Takes: { Event (List ℕ) → Type 0 };
 
-    /// What a scope that an event opens keeps of the state.
-    fn keep(&self, label: Label, event: &Event<&[u8]>) -> Self::Kept
-        ensures { result ≡ tables.keep label (event_seen event.now) self.now };
+    /// Puts the scope that an event opens on the stack of those that are open, the outermost first, with what it keeps of the state.
+    fn keep(&self, label: Label, event: &Event<&[u8]>, scopes: &mut Vec<Scope<Label, Self::Kept>>)
+        requires { vec_len scopes.old < vec_capacity scopes.old }
+        ensures { Keeps scopes.old scopes.new
+            (record { label = label; before = tables.keep label (event_seen event.now) self.now }
+            ∷ reverse scopes.old.items) };
 
     /// A scope begins.
     fn begin<O: PieceOut>(&mut self, label: Label, event: &Event<&[u8]>, out: &mut O)
@@ -45,7 +50,7 @@ pub trait Laying: Drop {
         ensures state { self.new ≡ tables.leaf_state (act_seen act.now) self.old };
 
     /// A scope ends, with what it kept, at a place.
-    fn end<O: PieceOut>(&mut self, label: Label, before: Self::Kept, place: Place, out: &mut O)
-        ensures came { Came O.left out.old (tables.end_items label before place self.old) out.new }
-        ensures state { self.new ≡ tables.end_state label before place self.old };
+    fn end<O: PieceOut>(&mut self, label: Label, before: &Self::Kept, place: Place, out: &mut O)
+        ensures came { Came O.left out.old (tables.end_items label before.now place self.old) out.new }
+        ensures state { self.new ≡ tables.end_state label before.now place self.old };
 }

@@ -18,6 +18,25 @@ use page_core_base::PieceOut;
 use page_scopes_laws::Scope;
 use page_sets_lines::Event;
 
+// Gives the end of the innermost scope, which an act ends.
+#[inline(always)]
+fn give_innermost<Y: Laying, O: PieceOut>(
+    scopes: &[Scope<Label, Y::Kept>],
+    state: &mut Y,
+    act: &Act<&Event<&[u8]>>,
+    out: &mut O,
+)
+    ensures came { Came O.left out.old
+        (ended_items (framed Y.tables) 1 (does (act_seen act.now)) (reverse scopes.now) state.old) out.new }
+    ensures state { state.new
+        ≡ ended_state (framed Y.tables) 1 (does (act_seen act.now)) (reverse scopes.now) state.old }
+{
+    if let Some(scope) = scopes.last() {
+        report_broken(out, act, scope.label);
+        state.end(scope.label, &scope.before, act.place(), out);
+    }
+}
+
 // An act ends the innermost scope.
 #[inline(never)]
 fn end_innermost<Y: Laying, O: PieceOut>(
@@ -35,10 +54,8 @@ fn end_innermost<Y: Laying, O: PieceOut>(
     ensures scopes { Keeps scopes.old scopes.new (drop 1 (reverse scopes.old.items)) }
     ensures len { vec_len scopes.new + 1 ≡ vec_len scopes.old }
 {
-    if let Some(scope) = scopes.pop() {
-        report_broken(out, act, scope.label);
-        state.end(scope.label, scope.before, act.place(), out);
-    }
+    give_innermost(scopes.as_slice(), state, act, out);
+    drop(scopes.pop());
 }
 
 // An act ends this many of the innermost scopes.
@@ -80,9 +97,37 @@ fn open_scope<Y: Laying, O: PieceOut>(
         (record { label = label; before = Y.tables.keep label (event_seen event.now) state.old }
         ∷ reverse scopes.old.items) }
 {
-    let before = state.keep(label, event);
+    state.keep(label, event, scopes);
     state.begin(label, event, out);
-    scopes.push_reserved(Scope { label, before });
+}
+
+// An event itself, after it ended this many scopes.
+#[inline(always)]
+fn place_event<Y: Laying, O: PieceOut>(
+    scopes: &mut Vec<Scope<Label, Y::Kept>>,
+    state: &mut Y,
+    count: usize,
+    event: &Event<&[u8]>,
+    out: &mut O,
+)
+    requires depth { vec_len scopes.old ≤ SCOPES }
+    requires reserved { SCOPES ≤ vec_capacity scopes.old }
+    requires takes { Y.Takes (event_seen event.now) }
+    ensures came { let seen = Act.Event (event_seen event.now) in let st = stack_standing seen count scopes.old
+        in Came O.left out.old (placed_items (framed Y.tables) st (does seen) state.old) out.new }
+    ensures state { let seen = Act.Event (event_seen event.now) in let st = stack_standing seen count scopes.old
+        in state.new ≡ placed_state (framed Y.tables) st (does seen) state.old }
+    ensures scopes { let seen = Act.Event (event_seen event.now) in let st = stack_standing seen count scopes.old
+        in Keeps scopes.old scopes.new
+        (placed_scopes (framed Y.tables) st (does seen) (reverse scopes.old.items) state.old) }
+{
+    let act = Act::Event(event);
+    match fate_of(&act, count, scopes.as_slice()) {
+        Fate::Node(label) => open_scope(scopes, state, label, event, out),
+        Fate::Leaf => state.leaf(&act, out),
+        Fate::Refused(obstacle) => report_obstacle(out, obstacle, &act),
+        Fate::Nothing => {}
+    }
 }
 
 // The act itself, after it ended this many scopes.
@@ -106,11 +151,9 @@ fn place_act<Y: Laying, O: PieceOut>(
         in Keeps scopes.old scopes.new
         (placed_scopes (framed Y.tables) st (does (act_seen act.now)) (reverse scopes.old.items) state.old) }
 {
-    match fate_of(act, count, scopes.as_slice()) {
-        Fate::Node(label) => open_scope(scopes, state, label, &act.event(), out),
-        Fate::Leaf => state.leaf(act, out),
-        Fate::Refused(obstacle) => report_obstacle(out, obstacle, act),
-        Fate::Nothing => {}
+    match act {
+        Act::Event(event) => place_event(scopes, state, count, event, out),
+        Act::PageEnd(_) => state.leaf(act, out),
     }
 }
 

@@ -1,6 +1,7 @@
 //! A layout for tests: each scope stands four columns further in, and is shown by its name.
 
 use page_core_base::{Font, Piece, PieceOut, Place};
+use page_scopes_laws::Scope;
 use page_scopes_tree::{Act, Label, Laying};
 use page_sets_lines::{Deed, Event, Leaf};
 
@@ -19,8 +20,11 @@ impl Laying for Nested {
 
     ghost Takes = { λ event. Unit {0} };
 
-    fn keep(&self, _label: Label, _event: &Event<&[u8]>) -> u32 {
-        self.margin
+    fn keep(&self, label: Label, _event: &Event<&[u8]>, scopes: &mut Vec<Scope<Label, u32>>) {
+        scopes.push_reserved(Scope {
+            label,
+            before: self.margin,
+        });
     }
 
     fn begin<O: PieceOut>(&mut self, label: Label, event: &Event<&[u8]>, out: &mut O) {
@@ -48,11 +52,11 @@ impl Laying for Nested {
         }
     }
 
-    fn end<O: PieceOut>(&mut self, _label: Label, before: u32, _place: Place, out: &mut O) {
+    fn end<O: PieceOut>(&mut self, _label: Label, before: &u32, _place: Place, out: &mut O) {
         out.give(Piece::Indent {
-            first: before,
-            rest: before,
+            first: *before,
+            rest: *before,
         });
-        self.margin = before;
+        self.margin = *before;
     }
 }
