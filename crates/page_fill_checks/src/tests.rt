@@ -46,19 +46,17 @@ fn blank(count: u32) -> Piece<&'static [u8]> {
     }
 }
 
+fn tag(hang: u32, form: TagForm) -> Piece<&'static [u8]> {
+    Piece::Tag { hang, form }
+}
+
 // The piece that a byte of a script stands for; most letters are a text.
 fn scripted(script: &[u8], at: usize) -> Piece<&[u8]>
     requires { at < length script.now }
 {
     match script[at] {
-        b'_' => Piece::Blank {
-            count: 1,
-            has_tab: false,
-        },
-        b'=' => Piece::Blank {
-            count: 2,
-            has_tab: false,
-        },
+        b'_' => blank(1),
+        b'=' => blank(2),
         b'>' => Piece::Blank {
             count: 1,
             has_tab: true,
@@ -73,18 +71,9 @@ fn scripted(script: &[u8], at: usize) -> Piece<&[u8]>
         b'H' => Piece::Heading,
         b'L' => Piece::Literal(true),
         b'M' => Piece::Indent { first: 1, rest: 2 },
-        b'R' => Piece::Tag {
-            hang: 4,
-            form: TagForm::Row,
-        },
-        b'N' => Piece::Tag {
-            hang: 4,
-            form: TagForm::Hang,
-        },
-        b'I' => Piece::Tag {
-            hang: 4,
-            form: TagForm::Inset(2),
-        },
+        b'R' => tag(4, TagForm::Row),
+        b'N' => tag(4, TagForm::Hang),
+        b'I' => tag(4, TagForm::Inset(2)),
         b'E' => Piece::TagEnd,
         b'C' => Piece::Column(4),
         b'T' => Piece::Tab {
@@ -282,11 +271,7 @@ fn wrapped_tags_count_all_their_rows(rt: HostRuntime) -> Result<(), Fail> {
         let mut filler = Filler::new(alloc, &narrow_settings())?;
         let mut sink = TextRows::new(&mut out);
         let mut notes = TextNotes::new(&mut messages, "t");
-        let tag = Piece::Tag {
-            hang,
-            form: TagForm::Row,
-        };
-        filler.piece(tag, &mut sink, &mut notes)?;
+        filler.piece(tag(hang, TagForm::Row), &mut sink, &mut notes)?;
         for at in 0..9 {
             filler.piece(scripted(b"abc_defEg", at), &mut sink, &mut notes)?;
         }
