@@ -1,7 +1,8 @@
 -- The body of a page between its header and its footer: the events of each line, and the header before the event that begins the body.
 -- Source: man(7); mandoc(1), "ASCII Output" and "DIAGNOSTICS".
-use Rattle.std.specs.Prelude.{ℕ, ◌==◌, ◌≤◌, Bool, List, [], ◌∷◌, ◌++◌, length, if◌then◌else◌, unwrap_or}
+use Rattle.std.specs.Prelude.{◌≡◌, ℕ, ◌==◌, ◌≤◌, Bool, List, [], ◌∷◌, ◌++◌, length, if◌then◌else◌, unwrap_or}
 use Rattle.page_core_limits.specs.declared.TheConstants.{LINE}
+use Rattle.page_core_base.specs.Latches.{Came}
 use Rattle.page_core_base.specs.Pieces.{Item, shown}
 use Rattle.page_core_base.specs.declared.note_kinds.NoteKind.TheVariants.{NoBody}
 use Rattle.page_core_base.specs.declared.page_settings.Settings.{Settings}
@@ -94,9 +95,25 @@ unfoldable pub events_after : BodyEdge → List (Event (List ℕ)) → BodyEdge
 events_after b [] = b
 events_after b (event ∷ events) = events_after (event_after b event) events
 
+-- an event was given: its pieces and messages came to a latch, and the body is at the edge after it
+pub record GivesEvent {P O : Type 0} (left : P → O → List Item → Type 0) (event : Event (List ℕ)) (old : BodyEdge) (out : O)
+    (new : BodyEdge) (next : O) : Type 0 where
+  pub came : Came left out (event_items old event) next
+  pub after : new ≡ event_after old event
+
+-- events were given, one after another
+pub record GivesEvents {P O : Type 0} (left : P → O → List Item → Type 0) (events : List (Event (List ℕ))) (old : BodyEdge) (out : O)
+    (new : BodyEdge) (next : O) : Type 0 where
+  pub came : Came left out (events_items old events) next
+  pub after : new ≡ events_after old events
+
 -- the texts of an event stand in a line
 abbrev pub IsShort : Event (List ℕ) → Type 0
 IsShort event = DeedFits event.deed × RestIsShort event.deed
+
+-- what a line that is no control line does, before it ends
+abbrev pub plain_event : ℕ → List ℕ → PlainLine → Event (List ℕ)
+plain_event number text line = event_at number 1 (plain_deed line text)
 
 -- ---- the page's end, after the line of a number
 
@@ -125,7 +142,3 @@ start_of s indent = record {
   header = record { measure = measure_of s indent; os = s.os.bytes; fields = no_fields s.os.bytes };
   scopes = scopes.start_edge (record { indent = unwrap_or s.indent indent; output = s.output });
 }
-
--- what a line that is no control line does, before it ends
-abbrev pub plain_event : ℕ → List ℕ → PlainLine → Event (List ℕ)
-plain_event number text line = event_at number 1 (plain_deed line text)

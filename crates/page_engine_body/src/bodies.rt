@@ -4,7 +4,7 @@ ghost use Rattle.std.specs.Prelude.{◌≡◌, ◌≤◌, length, OnOk, IfOk};
 ghost use Rattle.page_core_base.specs.Latches.{Came, Emits};
 ghost use Rattle.page_core_base.specs.LinesTaken.{line_seen};
 ghost use Rattle.page_engine_body.specs.Bodies as bodies;
-ghost use Rattle.page_engine_body.specs.Bodies.{IsShort, plain_event};
+ghost use Rattle.page_engine_body.specs.Bodies.{GivesEvent, GivesEvents, IsShort, plain_event};
 ghost use Rattle.page_engine_body.specs.Caps.{BodyFits};
 ghost use Rattle.page_sets_lines.specs.Events.{event_seen};
 ghost use Rattle.page_sets_lines.specs.Laws.{HasSlices};
@@ -85,8 +85,7 @@ impl Body {
     #[inline(always)]
     fn give_event<O: PieceOut>(&mut self, out: &mut O, event: &Event<&[u8]>)
         requires { IsShort (event_seen event.now) }
-        ensures came { Came O.left out.old (bodies.event_items self.old (event_seen event.now)) out.new }
-        ensures after { self.new ≡ bodies.event_after self.old (event_seen event.now) }
+        ensures { GivesEvent O.left (event_seen event.now) self.old out.old self.new out.new }
     {
         if let Deed::Leaf(Leaf::Prologue(name, rest)) = event.deed {
             let os = self.os.as_str().as_bytes();
@@ -106,13 +105,12 @@ impl Body {
         self.scopes.give_event(event, out);
     }
 
-    // Gives what a line that is no control line does.
+    // Gives the event that a line which is no control line is, before it ends.
     #[inline(always)]
     fn give_plain_deed<O: PieceOut>(&mut self, out: &mut O, line: Taken<'_>, plain: PlainLine)
         requires { length line.text.now ≤ LINE }
-        ensures came { Came O.left out.old
-            (bodies.event_items self.old (plain_event line.entry.line line.entry.text.now plain)) out.new }
-        ensures after { self.new ≡ bodies.event_after self.old (plain_event line.entry.line line.entry.text.now plain) }
+        ensures { GivesEvent O.left (plain_event line.entry.line line.entry.text.now plain)
+            self.old out.old self.new out.new }
     {
         let event = Event {
             place: Place {
@@ -124,24 +122,22 @@ impl Body {
         self.give_event(out, &event);
     }
 
-    // Gives what a line does that is no text with a word, as few lines are.
+    // The same in a call of its own, for lines without a word: few lines are such.
     #[inline(never)]
     fn give_wordless<O: PieceOut>(&mut self, out: &mut O, line: Taken<'_>, plain: PlainLine)
         requires { length line.text.now ≤ LINE }
-        ensures came { Came O.left out.old
-            (bodies.event_items self.old (plain_event line.entry.line line.entry.text.now plain)) out.new }
-        ensures after { self.new ≡ bodies.event_after self.old (plain_event line.entry.line line.entry.text.now plain) }
+        ensures { GivesEvent O.left (plain_event line.entry.line line.entry.text.now plain)
+            self.old out.old self.new out.new }
     {
         self.give_plain_deed(out, line, plain);
     }
 
-    // Gives what a line that is no control line does, at once where it is text with a word, as most lines are.
+    // The same, in place of a call where the line is text with a word, as most lines are.
     #[inline(always)]
     fn give_own<O: PieceOut>(&mut self, out: &mut O, line: Taken<'_>, plain: PlainLine)
         requires { length line.text.now ≤ LINE }
-        ensures came { Came O.left out.old
-            (bodies.event_items self.old (plain_event line.entry.line line.entry.text.now plain)) out.new }
-        ensures after { self.new ≡ bodies.event_after self.old (plain_event line.entry.line line.entry.text.now plain) }
+        ensures { GivesEvent O.left (plain_event line.entry.line line.entry.text.now plain)
+            self.old out.old self.new out.new }
     {
         match plain {
             PlainLine::Words => self.give_plain_deed(out, line, PlainLine::Words),
@@ -152,8 +148,7 @@ impl Body {
     // Gives a line's end.
     #[inline(always)]
     fn give_line_end<O: PieceOut>(&mut self, out: &mut O, number: u32, fills: bool)
-        ensures came { Came O.left out.old (bodies.event_items self.old (line_end number fills)) out.new }
-        ensures after { self.new ≡ bodies.event_after self.old (line_end number fills) }
+        ensures { GivesEvent O.left (line_end number fills) self.old out.old self.new out.new }
     {
         let event = Event {
             place: Place {
@@ -167,14 +162,11 @@ impl Body {
 
     /// Gives the pieces and messages of a line that is no control line, and keeps what it leaves. All sets of macros give
     /// the same events of it.
-    #[tactic(auto, using(crate::proofs::EventLemmas::two_items, crate::proofs::EventLemmas::two_after))]
     #[inline(always)]
     pub fn give_plain<O: PieceOut>(&mut self, line: Taken<'_>, plain: PlainLine, out: &mut O)
         requires { length line.text.now ≤ LINE }
-        ensures came { Came O.left out.old
-            (bodies.events_items self.old (plain_events line.entry.line line.entry.text.now plain)) out.new }
-        ensures after { self.new
-            ≡ bodies.events_after self.old (plain_events line.entry.line line.entry.text.now plain) }
+        ensures { GivesEvents O.left (plain_events line.entry.line line.entry.text.now plain)
+            self.old out.old self.new out.new }
     {
         self.give_own(out, line, plain);
         self.give_line_end(out, line.line, plain.fills());
@@ -185,9 +177,7 @@ impl Body {
     where
         S::Place: Drop,
         requires { length taken.text.now ≤ LINE }
-        ensures came { Came O.left out.old
-            (bodies.events_items self.old (S.table set.now (line_seen taken.entry))) out.new }
-        ensures after { self.new ≡ bodies.events_after self.old (S.table set.now (line_seen taken.entry)) }
+        ensures { GivesEvents O.left (S.table set.now (line_seen taken.entry)) self.old out.old self.new out.new }
     {
         let mut place = set.start(taken);
         while let Some(event) = set.next(taken, &mut place) {

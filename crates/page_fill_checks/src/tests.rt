@@ -46,19 +46,17 @@ fn blank(count: u32) -> Piece<&'static [u8]> {
     }
 }
 
+fn tag(hang: u32, form: TagForm) -> Piece<&'static [u8]> {
+    Piece::Tag { hang, form }
+}
+
 // The piece that a byte of a script stands for; most letters are a text.
 fn scripted(script: &[u8], at: usize) -> Piece<&[u8]>
     requires { at < length script.now }
 {
     match script[at] {
-        b'_' => Piece::Blank {
-            count: 1,
-            has_tab: false,
-        },
-        b'=' => Piece::Blank {
-            count: 2,
-            has_tab: false,
-        },
+        b'_' => blank(1),
+        b'=' => blank(2),
         b'>' => Piece::Blank {
             count: 1,
             has_tab: true,
@@ -73,18 +71,9 @@ fn scripted(script: &[u8], at: usize) -> Piece<&[u8]>
         b'H' => Piece::Heading,
         b'L' => Piece::Literal(true),
         b'M' => Piece::Indent { first: 1, rest: 2 },
-        b'R' => Piece::Tag {
-            hang: 4,
-            form: TagForm::Row,
-        },
-        b'N' => Piece::Tag {
-            hang: 4,
-            form: TagForm::Hang,
-        },
-        b'I' => Piece::Tag {
-            hang: 4,
-            form: TagForm::Inset(2),
-        },
+        b'R' => tag(4, TagForm::Row),
+        b'N' => tag(4, TagForm::Hang),
+        b'I' => tag(4, TagForm::Inset(2)),
         b'E' => Piece::TagEnd,
         b'C' => Piece::Column(4),
         b'T' => Piece::Tab {
@@ -100,17 +89,61 @@ fn scripted(script: &[u8], at: usize) -> Piece<&[u8]>
     }
 }
 
-// The bytes of rows of 6 columns and of messages, for a script.
-fn filled(alloc: Global, script: &str) -> Result<(Vec<u8>, Vec<u8>), Fail> {
-    let mut out = Vec::new(alloc);
-    let mut messages = Vec::new(alloc);
+// Settings of rows of 6 columns.
+fn narrow_settings() -> Settings {
     let mut settings = Settings::new();
     settings.width = 6;
-    let mut filler = Filler::new(alloc, &settings)?;
+    settings
+}
+
+// Words with a blank before each that come after a script: their font, and how many of their bytes are taken at once.
+#[derive(Clone, Copy)]
+struct Words<'a> {
+    text: &'a str,
+    font: Font,
+    taken: usize,
+}
+
+// Gives words to a filler: what it takes of them at once, and the others one by one.
+fn give_words<R: RowSink, N: NoteSink>(
+    rt: &impl Abort,
+    filler: &mut Filler,
+    words: &Words<'_>,
+    rows: &mut R,
+    notes: &mut N,
+) -> Result<(), Fail> {
+    let taken = filler.take_words(words.text.as_bytes(), words.font);
+    assert_eq!(rt; taken, words.taken);
+    let left = &words.text.as_bytes()[taken..];
+    for word in left.split(|byte| *byte == b' ').skip(1) {
+        filler.piece(blank(1), rows, notes)?;
+        let piece = Piece::Text {
+            text: word,
+            font: words.font,
+            place: HERE,
+        };
+        filler.piece(piece, rows, notes)?;
+    }
+    Ok(())
+}
+
+// The bytes of rows of 6 columns and of messages, for a script and the words after it.
+fn filled(
+    rt: &impl Abort,
+    alloc: Global,
+    script: &str,
+    words: Option<Words<'_>>,
+) -> Result<(Vec<u8>, Vec<u8>), Fail> {
+    let mut out = Vec::new(alloc);
+    let mut messages = Vec::new(alloc);
+    let mut filler = Filler::new(alloc, &narrow_settings())?;
     let mut rows = TextRows::new(&mut out);
     let mut notes = TextNotes::new(&mut messages, "t");
     for at in 0..script.len() {
         filler.piece(scripted(script.as_bytes(), at), &mut rows, &mut notes)?;
+    }
+    if let Some(words) = &words {
+        give_words(rt, &mut filler, words, &mut rows, &mut notes)?;
     }
     filler.finish(&mut rows, &mut notes)?;
     Ok((out, messages))
@@ -187,12 +220,12 @@ const SCRIPTS: [(&str, &str); 55] = [
 fn scripts_give_rows(rt: HostRuntime) -> Result<(), Fail> {
     let alloc = rt.alloc();
     for (script, rows) in SCRIPTS {
-        let (out, notes) = filled(alloc, script)?;
+        let (out, notes) = filled(&rt, alloc, script, None)?;
         check_bytes(&rt, out.as_slice(), rows.as_bytes());
         check_bytes(&rt, notes.as_slice(), b"");
     }
     for (script, rows) in [("aTbT", "a b\n"), ("a>b", "a b\n"), ("a>bTc", "a b c\n")] {
-        let (out, notes) = filled(alloc, script)?;
+        let (out, notes) = filled(&rt, alloc, script, None)?;
         check_bytes(&rt, out.as_slice(), rows.as_bytes());
         check_bytes(
             &rt,
@@ -218,44 +251,11 @@ const TAKEN: [(&str, Font, &str, usize, &str); 9] = [
     ("a", Font::B, " b", 0, "a b\u{8}b\n"),
 ];
 
-// The bytes of rows of 6 columns, for a script and words after it, of which this number of bytes is taken at once.
-fn filled_after(
-    rt: &impl Abort,
-    alloc: Global,
-    (script, font, words, count): (&str, Font, &str, usize),
-) -> Result<Vec<u8>, Fail> {
-    let mut out = Vec::new(alloc);
-    let mut messages = Vec::new(alloc);
-    let mut settings = Settings::new();
-    settings.width = 6;
-    let mut filler = Filler::new(alloc, &settings)?;
-    let mut rows = TextRows::new(&mut out);
-    let mut notes = TextNotes::new(&mut messages, "t");
-    for at in 0..script.len() {
-        filler.piece(scripted(script.as_bytes(), at), &mut rows, &mut notes)?;
-    }
-    let taken = filler.take_words(words.as_bytes(), font);
-    assert_eq!(rt; taken, count);
-    for word in words.as_bytes()[taken..]
-        .split(|byte| *byte == b' ')
-        .skip(1)
-    {
-        filler.piece(blank(1), &mut rows, &mut notes)?;
-        let piece = Piece::Text {
-            text: word,
-            font,
-            place: HERE,
-        };
-        filler.piece(piece, &mut rows, &mut notes)?;
-    }
-    filler.finish(&mut rows, &mut notes)?;
-    Ok(out)
-}
-
 #[test]
 fn words_with_room_are_taken_at_once(rt: HostRuntime) -> Result<(), Fail> {
-    for (script, font, words, count, rows) in TAKEN {
-        let out = filled_after(&rt, rt.alloc(), (script, font, words, count))?;
+    for (script, font, text, taken, rows) in TAKEN {
+        let words = Words { text, font, taken };
+        let (out, _) = filled(&rt, rt.alloc(), script, Some(words))?;
         check_bytes(&rt, out.as_slice(), rows.as_bytes());
     }
     Ok(())
@@ -268,16 +268,10 @@ fn wrapped_tags_count_all_their_rows(rt: HostRuntime) -> Result<(), Fail> {
     for (hang, rows) in [(7, "abc\ndef\ng\n"), (8, "abc\ndef g\n")] {
         let mut out = Vec::new(alloc);
         let mut messages = Vec::new(alloc);
-        let mut settings = Settings::new();
-        settings.width = 6;
-        let mut filler = Filler::new(alloc, &settings)?;
+        let mut filler = Filler::new(alloc, &narrow_settings())?;
         let mut sink = TextRows::new(&mut out);
         let mut notes = TextNotes::new(&mut messages, "t");
-        let tag = Piece::Tag {
-            hang,
-            form: TagForm::Row,
-        };
-        filler.piece(tag, &mut sink, &mut notes)?;
+        filler.piece(tag(hang, TagForm::Row), &mut sink, &mut notes)?;
         for at in 0..9 {
             filler.piece(scripted(b"abc_defEg", at), &mut sink, &mut notes)?;
         }
@@ -484,8 +478,7 @@ fn run_to_fault(
 #[test]
 fn each_row_and_message_may_fail(rt: HostRuntime) -> Result<(), Fail> {
     let alloc = rt.alloc();
-    let mut settings = Settings::new();
-    settings.width = 6;
+    let settings = narrow_settings();
     for good in 0..7 {
         let mut filler = Filler::new(alloc, &settings)?;
         let mut rows = Counter::new(good);

@@ -27,15 +27,12 @@ loop-event-preserved g c =
       edge = l.invariant.edge ∙ after;
     })
 
-pub returns-clause-came : goal.returns-clause-came
-returns-clause-came g c = λ plan rest h.
+pub returns : goal.returns
+returns g c =
     let l = c.loop-event in
     let none = c.in_default.ensures.events in
     let items = ap (events_items l.self) none.0 ∙ items_none l.self in
-    rw items at (l.invariant.came plan rest h)
-
-pub returns-clause-after : goal.returns-clause-after
-returns-clause-after g c =
-    let l = c.loop-event in
-    let none = c.in_default.ensures.events in
-    sym (l.invariant.edge ∙ ap (events_after l.self) none.0 ∙ after_none l.self)
+    record {
+      came = λ plan rest h. rw items at (l.invariant.came plan rest h);
+      after = sym (l.invariant.edge ∙ ap (events_after l.self) none.0 ∙ after_none l.self);
+    }

@@ -1,12 +1,19 @@
-use Rattle.std.proofs.Common.{append_assoc}
-use Rattle.page_engine_body.proofs.EventLemmas.{two_items}
-use Rattle.page_sets_lines.specs.PlainLines.{event_at, line_end, fills, plain_deed}
+use Rattle.std.proofs.Common.{◌∙◌, append_assoc, sym}
+use Rattle.page_engine_body.proofs.EventLemmas.{two_after, two_items}
+use Rattle.page_engine_body.specs.Bodies.{plain_event}
+use Rattle.page_sets_lines.specs.PlainLines.{fills, line_end}
 use Rattle.page_engine_body.proofs.bodies.Body.give_plain.Goals as goal
 
-pub returns-clause-came : goal.returns-clause-came
-returns-clause-came g c = λ plan rest h.
+pub returns : goal.returns
+returns g c =
     let line = c.args.line in
-    let own = event_at line.line 1 (plain_deed c.args.plain line.text.now) in
-    let items = two_items c.args.self.now own (line_end line.line (fills c.args.plain)) in
-    let end = rw (c.fills.ensures, c.give_own.ensures.after) at (c.give_line_end.ensures.came plan rest) in
-    end (c.give_own.ensures.came plan _ (rw (items, append_assoc) at h))
+    let b = c.args.self.now in
+    let own = plain_event line.line line.text.now c.args.plain in
+    let end = line_end line.line (fills c.args.plain) in
+    let last = rw (c.fills.ensures, c.give_own.ensures.after) at c.give_line_end.ensures.after in
+    record {
+      came = λ plan rest h.
+          let came = rw (c.fills.ensures, c.give_own.ensures.after) at (c.give_line_end.ensures.came plan rest) in
+          came (c.give_own.ensures.came plan _ (rw (two_items b own end, append_assoc) at h));
+      after = last ∙ sym (two_after b own end);
+    }
