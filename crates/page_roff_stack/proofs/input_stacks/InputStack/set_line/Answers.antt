@@ -1,6 +1,4 @@
-use Rattle.std.proofs.Common.{◌≡◌, ◌+◌, ◌≤◌, [], length, ap, sym, ◌∙◌, arith}
-use Rattle.std.specs.Vec.{vec_capacity}
-use Rattle.page_core_limits.specs.declared.TheConstants.{LINE}
+use Rattle.std.proofs.Common.{[], ap, ◌∙◌, arith}
 use Rattle.page_roff_stack.specs.declared.input_stacks.InputStack.TheInside.{Inside}
 use Rattle.page_roff_stack.specs.Changes.{page_line}
 use Rattle.page_roff_stack.specs.InputStacks.{stack_of}

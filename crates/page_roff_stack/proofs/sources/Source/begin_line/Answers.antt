@@ -1,6 +1,5 @@
-use Rattle.std.proofs.Common.{◌≡◌, true, ap, ◌∙◌}
-use Rattle.std.specs.Prelude.{None}
-use Rattle.page_roff_stack.specs.Changes.{next_line, first_atoms, begins_line}
+use Rattle.std.proofs.Common.{◌≡◌, true}
+use Rattle.page_roff_stack.specs.Changes.{begins_line}
 use Rattle.page_roff_stack.specs.Held.{span_text}
 use Rattle.page_roff_stack.specs.Sources.{frame_of}
 use Rattle.page_roff_stack.proofs.SourceLemmas.{IsPassed, IsStart, begun_view, begun_held}

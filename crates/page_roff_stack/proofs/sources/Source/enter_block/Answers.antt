@@ -2,8 +2,7 @@ use Rattle.std.proofs.Common.{◌<◌, length, ap, ◌∙◌, arith}
 use Rattle.page_roff_blocks.specs.Atoms.{branch_seen}
 use Rattle.page_roff_blocks.specs.Levels.{after_part, enter, bit_after}
 use Rattle.page_roff_blocks.proofs.RoomLemmas.{enter_room}
-use Rattle.page_roff_stack.specs.Changes.{past, first_branch}
-use Rattle.page_roff_stack.specs.Held.{span_text}
+use Rattle.page_roff_stack.specs.Changes.{past}
 use Rattle.page_roff_stack.specs.Sources.{frame_of}
 use Rattle.page_roff_stack.proofs.SourceLemmas.{IsRead, past_view, deeper_held, read_branch}
 use Rattle.page_roff_stack.proofs.sources.Source.enter_block.Goals as goal

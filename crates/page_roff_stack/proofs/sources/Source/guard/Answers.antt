@@ -1,7 +1,6 @@
 use Rattle.std.proofs.Common.{ap, ◌∙◌, arith}
 use Rattle.page_roff_blocks.specs.Levels.{guarded_by}
-use Rattle.page_roff_stack.specs.Changes.{past, first_branch}
-use Rattle.page_roff_stack.specs.Held.{span_text}
+use Rattle.page_roff_stack.specs.Changes.{past}
 use Rattle.page_roff_stack.specs.Sources.{frame_of}
 use Rattle.page_roff_stack.proofs.SourceLemmas.{IsRead, past_view, past_held, read_branch}
 use Rattle.page_roff_stack.proofs.sources.Source.guard.Goals as goal

@@ -1,8 +1,7 @@
 use Rattle.std.proofs.Common.{ap, ◌∙◌, arith}
-use Rattle.page_roff_blocks.specs.Levels.{after_part, leave}
+use Rattle.page_roff_blocks.specs.Levels.{after_part}
 use Rattle.page_roff_blocks.proofs.RoomLemmas.{leave_room}
 use Rattle.page_roff_stack.specs.Changes.{past}
-use Rattle.page_roff_stack.specs.Held.{span_text}
 use Rattle.page_roff_stack.specs.Sources.{frame_of}
 use Rattle.page_roff_stack.proofs.SourceLemmas.{IsRead, past_view, past_held}
 use Rattle.page_roff_stack.proofs.sources.Source.leave_block.Goals as goal

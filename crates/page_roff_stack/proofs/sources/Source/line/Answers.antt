@@ -1,7 +1,6 @@
 use Rattle.std.proofs.Common.{◌≡◌, ◌==◌, true, false, length, ap, sym, ◌∙◌}
 use Rattle.page_roff_values.specs.Arguments.{lines_in}
 use Rattle.page_roff_stack.specs.Changes.{AreShort}
-use Rattle.page_roff_stack.specs.Held.{span_text}
 use Rattle.page_roff_stack.proofs.LineLemmas.{no_lines, some_line}
 use Rattle.page_roff_stack.proofs.SourceLemmas.{next_line_is}
 use Rattle.page_roff_stack.proofs.sources.Source.line.Goals as goal

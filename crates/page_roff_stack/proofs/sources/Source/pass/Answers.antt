@@ -1,7 +1,6 @@
 use Rattle.std.proofs.Common.{ap, ◌∙◌, arith}
 use Rattle.page_roff_blocks.specs.Levels.{after_part}
 use Rattle.page_roff_stack.specs.Changes.{past}
-use Rattle.page_roff_stack.specs.Held.{span_text}
 use Rattle.page_roff_stack.specs.Sources.{frame_of}
 use Rattle.page_roff_stack.proofs.SourceLemmas.{IsRead, past_view, past_held}
 use Rattle.page_roff_stack.proofs.sources.Source.pass.Goals as goal

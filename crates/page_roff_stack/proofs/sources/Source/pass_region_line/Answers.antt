@@ -1,5 +1,3 @@
-use Rattle.std.proofs.Common.{[], ap, ◌∙◌}
-use Rattle.page_roff_stack.specs.Changes.{next_line}
 use Rattle.page_roff_stack.proofs.SourceLemmas.{IsPassed, skipped_view, skipped_held}
 use Rattle.page_roff_stack.proofs.sources.Source.pass_region_line.Goals as goal
 

@@ -1,7 +1,6 @@
 use Rattle.std.proofs.Common.{◌<◌, length, ap, ◌∙◌, arith}
 use Rattle.page_roff_blocks.specs.Levels.{after_part, skip}
 use Rattle.page_roff_stack.specs.Changes.{past}
-use Rattle.page_roff_stack.specs.Held.{span_text}
 use Rattle.page_roff_stack.specs.Sources.{frame_of}
 use Rattle.page_roff_stack.proofs.SourceLemmas.{IsRead, past_view, deeper_held}
 use Rattle.page_roff_stack.proofs.sources.Source.skip_block.Goals as goal
