@@ -1,22 +1,41 @@
 -- The input stack as its innermost source changes: helpers of proofs.
-use Rattle.std.proofs.Common.{◌≡◌, ℕ, suc, ◌+◌, ◌-◌, ◌<◌, ◌≤◌, nat_lt, true, inl, inr, List, [], ◌∷◌, length, take, set, reverse, refl, ap, ◌∙◌, arith}
+use Rattle.std.proofs.Common.{◌≡◌, ℕ, suc, ◌+◌, ◌-◌, ◌<◌, ◌≤◌, nat_lt, ◌==◌, true, false, inl, inr, List, [], ◌∷◌, ◌++◌, length, take, reverse, refl, ap, sym, ◌∙◌, arith, length-append}
+use Rattle.std.specs.Vec.{vec_capacity}
+use Rattle.std.proofs.Math.Seq.{take-append_seam}
 use Rattle.std.proofs.lemmas.Bool.{cases_Bool}
 use Rattle.std.proofs.lemmas.Bool.Decides.{nat_tests}
-use Rattle.std.proofs.lemmas.List.{length-reverse, length-take-le, reverse-append, take_more_set}
+use Rattle.std.proofs.lemmas.List.{length-reverse, reverse-append}
 use Rattle.page_roff_blocks.specs.Levels.{Spot}
+use Rattle.page_core_limits.specs.declared.TheConstants.{LINE, BODY}
 use Rattle.page_roff_run.specs.declared.TheConstants.{CALLS}
-use Rattle.page_roff_run.specs.Machine.{Frame, at_part, depth, is_some}
+use Rattle.page_roff_run.specs.Machine.{Frame, at_part, depth, entered, is_some}
+use Rattle.page_roff_values.specs.declared.call_arguments.TheConstants.{ARGS}
+use Rattle.page_roff_stack.specs.declared.input_stacks.Caller.{Caller}
 use Rattle.page_roff_stack.specs.declared.input_stacks.InputStack.TheInside.{Inside}
-use Rattle.page_roff_stack.specs.Changes.{past}
-use Rattle.page_roff_stack.specs.InputStacks.{stack_of, IsStack}
+use Rattle.page_roff_stack.specs.declared.sources.Source.{Source}
+use Rattle.page_roff_stack.specs.Changes.{past, page_line, is_page}
+use Rattle.page_roff_stack.specs.InputStacks.{frames_in, stack_of, room_for, AreHeld, IsStack}
+use Rattle.page_roff_stack.specs.Sources.{frame_of, IsHeld}
+use Rattle.page_roff_stack.specs.Stacks.{Stack, call_of}
 
 pub past_kind : (spot : Spot) (f : Frame) → (past spot f).kind ≡ f.kind
 unfolding at_part
 past_kind spot f = refl
 
 -- the innermost source changes, but not what it is
-pub top_held : (a : Inside) (f : Frame) → f.kind ≡ a.top.kind → IsStack a → IsStack (record a { top = f })
-top_held a f e h = record { page = rw e h.page; calls = h.calls; deep = h.deep }
+pub top_held : (a : Inside) (top : Source) (text : List ℕ) → text ≡ a.text.items → IsHeld top text → (frame_of top text).kind ≡ (frame_of a.top text).kind → IsStack a
+    → IsStack (record a { top = top })
+top_held a top text t held kind h =
+    let same : (frame_of top a.text.items).kind ≡ (frame_of a.top a.text.items).kind = rw t at kind in
+    record {
+      page = rw same h.page;
+      top = rw t at held;
+      around = h.around;
+      fits = h.fits;
+      deep = h.deep;
+      room = h.room;
+      calls = h.calls;
+    }
 
 -- ---- whether one more macro may run
 
@@ -36,9 +55,30 @@ may_call_is under n e =
 
 -- ---- the sources around the innermost one
 
-pub under_len : (a : Inside) → IsStack a → length (stack_of a).under ≡ a.depth
-under_len a h =
-    length-reverse (take a.depth a.others.items) ∙ length-take-le a.depth a.others.items (omega (arith, h.calls, h.deep))
+frames_len : (text : List ℕ) (callers : List Caller) → length (frames_in text callers) ≡ length callers
+frames_len text [] = refl
+frames_len text (c ∷ cs) = ap suc (frames_len (take c.end text) cs)
+
+pub under_len : (a : Inside) → length (stack_of a).under ≡ length a.others.items
+under_len a = frames_len a.text.items (reverse a.others.items) ∙ length-reverse a.others.items
+
+empty_of : {X : Type 0} (xs : List X) → length xs ≡ 0 → xs ≡ []
+empty_of [] e = refl
+empty_of (x ∷ xs) e = absurd (omega (arith, e))
+
+pub none_around : (a : Inside) (n : ℕ) → n ≡ length a.others.items → (n == 0) ≡ true → (stack_of a).under ≡ []
+none_around a n e t =
+    let k : n ≡ 0 = grind (arith, nat_tests) in
+    empty_of (stack_of a).under (under_len a ∙ sym e ∙ k)
+
+pub some_around : (a : Inside) (n : ℕ) → n ≡ length a.others.items → (n == 0) ≡ false → 0 < length (stack_of a).under
+some_around a n e t =
+    let k : 0 < n = grind (arith, nat_tests) in
+    omega (arith, under_len a, e, k)
+
+-- no source is around
+pub others_none : (a : Inside) → (stack_of a).under ≡ [] → a.others.items ≡ []
+others_none a e = empty_of a.others.items (sym (under_len a) ∙ ap length e)
 
 pub is_room : (under : List Frame) → is_some (depth under) ≡ true → length under < CALLS
 unfolding depth is_some
@@ -52,5 +92,77 @@ is_room under h =
     ]
 
 -- one more is around
-pub deeper : (others : List Frame) (n : ℕ) (caller : Frame) → n < length others → reverse (take (n + 1) (set others n caller)) ≡ caller ∷ reverse (take n others)
-deeper others n caller h = ap reverse (take_more_set others n caller h) ∙ reverse-append (take n others) (caller ∷ [])
+around_one : (callers : List Caller) (caller : Caller) → reverse (callers ++ (caller ∷ [])) ≡ caller ∷ reverse callers
+around_one callers caller = reverse-append callers (caller ∷ [])
+
+-- the text goes on after that of the source that calls
+pub deeper : (callers : List Caller) (caller : Caller) (text more : List ℕ) → caller.end ≡ length text
+    → frames_in (text ++ more) (reverse (callers ++ (caller ∷ []))) ≡ frame_of caller.source text ∷ frames_in text (reverse callers)
+deeper callers caller text more e =
+    rw (around_one callers caller, e, take-append_seam text more) refl
+
+pub deeper_held : (callers : List Caller) (caller : Caller) (text more : List ℕ) → caller.end ≡ length text → length text ≤ room_for (length callers)
+    → IsHeld caller.source text → AreHeld text (reverse callers) → AreHeld (text ++ more) (reverse (callers ++ (caller ∷ [])))
+deeper_held callers caller text more e p held around =
+    rw (around_one callers caller, e, take-append_seam text more) (rw (length-reverse callers) p, held, around)
+
+-- ---- a line of the page
+
+pub line_set : (a b : Inside) (line : List ℕ) → b.others.items ≡ [] → CALLS ≤ vec_capacity b.others → IsHeld b.top b.text.items
+    → frame_of b.top b.text.items ≡ page_line line (frame_of a.top a.text.items) → length b.text.items ≤ LINE + 1 → room_for CALLS ≤ vec_capacity b.text
+    → let new : Stack = record { top = page_line line (frame_of a.top a.text.items); under = [] } in
+    IsStack b × (stack_of b ≡ new)
+line_set a b line none calls held frame fits room = (
+  record {
+    page = rw none (ap (λ f. is_page f.kind) frame);
+    top = held;
+    around = rw none tt;
+    fits = rw none fits;
+    deep = rw none (omega arith);
+    room = room;
+    calls = calls;
+  },
+  rw none (ap (λ f. let t : Stack = record { top = f; under = [] } in t) frame),
+)
+
+-- ---- a call
+
+pub may_be_called : (a : Inside) → is_some (depth (stack_of a).under) ≡ true → length a.others.items < CALLS
+may_be_called a h = omega (arith, is_room (stack_of a).under h, under_len a)
+
+pub call_room : (a : Inside) → length a.others.items < CALLS → IsStack a → length a.text.items + BODY + ARGS ≤ vec_capacity a.text
+call_room a p h = omega (arith, p, h.fits, h.room)
+
+-- one more source runs inside the innermost one, and its text comes after that of it
+pub record IsCalled (a b : Inside) (caller : Caller) (more : List ℕ) : Type 0 where
+  pub source : caller.source ≡ a.top
+  pub end : caller.end ≡ length a.text.items
+  pub others : b.others.items ≡ a.others.items ++ (caller ∷ [])
+  pub text : b.text.items ≡ a.text.items ++ more
+  pub short : length more ≤ BODY + ARGS
+  pub held : IsHeld b.top b.text.items
+  pub room : room_for CALLS ≤ vec_capacity b.text
+  pub calls : CALLS ≤ vec_capacity b.others
+
+called_under : (a b : Inside) (caller : Caller) (more : List ℕ) → IsCalled a b caller more → (stack_of b).under ≡ frame_of a.top a.text.items ∷ (stack_of a).under
+called_under a b caller more c =
+    rw (c.others, c.text) (deeper a.others.items caller a.text.items more c.end)
+    ∙ ap (λ source. frame_of source a.text.items ∷ (stack_of a).under) c.source
+
+pub called_stack : (a b : Inside) (caller : Caller) (more : List ℕ) (lines args : List (List ℕ)) → IsCalled a b caller more → frame_of b.top b.text.items ≡ entered lines args
+    → stack_of b ≡ call_of lines args (stack_of a)
+called_stack a b caller more lines args c frame = rw (frame, called_under a b caller more c) refl
+
+pub called_held : (a b : Inside) (caller : Caller) (more : List ℕ) → IsCalled a b caller more → length a.others.items < CALLS → IsStack a → IsStack b
+called_held a b caller more c p h =
+    let n = length-append a.others.items (caller ∷ []) in
+    let held : IsHeld caller.source a.text.items = rw c.source h.top in
+    record {
+      page = rw (called_under a b caller more c) h.page;
+      top = c.held;
+      around = rw (c.others, c.text) (deeper_held a.others.items caller a.text.items more c.end h.fits held h.around);
+      fits = omega (arith, ap length c.text, length-append a.text.items more, ap length c.others, n, c.short, h.fits);
+      deep = omega (arith, ap length c.others, n, p);
+      room = c.room;
+      calls = c.calls;
+    }

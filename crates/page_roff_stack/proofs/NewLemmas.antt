@@ -1,7 +1,6 @@
 -- A source that begins: helpers of proofs.
-use Rattle.std.proofs.Common.{◌≡◌, ℕ, suc, ◌+◌, ◌-◌, ◌<◌, ◌≤◌, ◌^◌, List, [], ◌∷◌, ◌++◌, length, take, drop, Option, Some, None, refl, sym, ap, ◌∙◌, arith, length-append}
-use Rattle.std.specs.Vec.{vec_capacity}
-use Rattle.std.proofs.Math.Seq.{take-append_seam}
+use Rattle.std.proofs.Common.{◌≡◌, ℕ, suc, ◌-◌, ◌<◌, ◌≤◌, ◌^◌, List, [], ◌∷◌, ◌++◌, length, take, drop, Option, Some, None, refl, sym, ap, ◌∙◌, append_assoc, arith, length-append}
+use Rattle.std.proofs.Math.Seq.{take-append_seam, drop-append_seam}
 use Rattle.page_core_base.specs.Texts.{IsLine}
 use Rattle.page_core_limits.specs.declared.TheConstants.{LINE, BODY}
 use Rattle.page_roff_blocks.specs.Levels.{Opened, Spot, at_line, outside}
@@ -9,12 +8,11 @@ use Rattle.page_roff_blocks.specs.LinePlaces.{line_end}
 use Rattle.page_roff_run.specs.Languages.{Kind, page, body}
 use Rattle.page_roff_run.specs.Machine.{Frame, entered}
 use Rattle.page_roff_run.specs.Measures.{weight, work_in}
-use Rattle.page_roff_values.specs.declared.call_arguments.TheConstants.{ARGS}
 use Rattle.page_roff_values.specs.Arguments.{arguments_in, lines_in}
-use Rattle.page_roff_stack.specs.declared.sources.Source.TheInside.{Inside}
+use Rattle.page_roff_stack.specs.declared.sources.Source.{Source}
 use Rattle.page_roff_stack.specs.declared.spans.Span.{Span}
 use Rattle.page_roff_stack.specs.Changes.{IsBounded}
-use Rattle.page_roff_stack.specs.Held.{kind_in, room_for, only_line, AreArgumentsIn, AreLinesOf}
+use Rattle.page_roff_stack.specs.Held.{kind_in, only_line, AreArgumentsIn, AreLinesOf}
 use Rattle.page_roff_stack.specs.Sources.{frame_of, IsHeld}
 use Rattle.page_roff_stack.proofs.LineLemmas.{lines_short, lines_weight, page_line_in}
 
@@ -24,47 +22,47 @@ span start end = record { start = start; end = end }
 abbrev pub frame : Kind → Option Opened → Spot → List (List ℕ) → Frame
 frame kind region spot lines = record { kind = kind; region = region; parts = []; spot = spot; lines = lines }
 
--- no line has begun, and these lines are to come
-pub record IsNew (a : Inside) (lines : List ℕ) : Type 0 where
+-- no line has begun, and these lines are to come, after what comes before them in the text
+pub record IsNew (a : Source) (all before lines : List ℕ) : Type 0 where
   pub line : a.line ≡ span 0 0
   pub place : a.place ≡ line_end
-  pub lines_are : a.lines ≡ span 0 (length lines)
-  pub front : take (length lines) a.text.items ≡ lines
-  pub within : length lines ≤ length a.text.items
-  pub arguments : AreArgumentsIn a.arguments a.text.items
-  pub room : room_for a.arguments ≤ vec_capacity a.text
+  pub lines_are : a.lines ≡ span (length before) (length (before ++ lines))
+  pub front : take (length lines) (drop (length before) all) ≡ lines
+  pub within : length (before ++ lines) ≤ length all
+  pub arguments : AreArgumentsIn a.arguments all
 
-pub new_view : (a : Inside) (lines : List ℕ) → IsNew a lines → frame_of a ≡ frame (kind_in a.arguments a.text.items) a.region a.spot (lines_in lines)
-new_view a lines h =
+length_after : (before lines : List ℕ) → length (before ++ lines) - length before ≡ length lines
+length_after before lines = omega (arith, length-append before lines)
+
+new_view : (a : Source) (all before lines : List ℕ) → IsNew a all before lines → frame_of a all ≡ frame (kind_in a.arguments all) a.region a.spot (lines_in lines)
+new_view a all before lines h =
     rw (h.place, h.lines_are) (
-    ap (λ text. frame (kind_in a.arguments a.text.items) a.region a.spot (lines_in text)) (ap (λ n. take n a.text.items) (let e : length lines - 0 ≡ length lines = omega arith in e) ∙ h.front)
+    ap (λ text. frame (kind_in a.arguments all) a.region a.spot (lines_in text)) (ap (λ n. take n (drop (length before) all)) (length_after before lines) ∙ h.front)
     )
 
-pub new_held : (a : Inside) (lines : List ℕ) → IsNew a lines → AreLinesOf a.arguments lines → IsBounded (frame_of a) → IsHeld a
-new_held a lines h o b =
-    let e : length lines - 0 ≡ length lines = omega arith in
+new_held : (a : Source) (all before lines : List ℕ) → IsNew a all before lines → AreLinesOf a.arguments lines → IsBounded (frame_of a all) → IsHeld a all
+new_held a all before lines h o b =
     record {
       line = rw h.line (omega arith, omega arith);
       short = rw h.line (omega arith);
       place = rw h.place tt;
-      lines = rw h.lines_are (omega arith, h.within);
-      only = rw (h.lines_are, e, h.front) o;
+      lines = rw h.lines_are (omega (arith, length-append before lines), h.within);
+      only = rw (h.lines_are, length_after before lines, h.front) o;
       arguments = h.arguments;
-      room = h.room;
       bounds = b;
     }
 
-pub new_of : (a : Inside) (lines more : List ℕ) → a.text.items ≡ lines ++ more → a.line ≡ span 0 0 → a.place ≡ line_end → a.lines ≡ span 0 (length lines)
-    → AreArgumentsIn a.arguments a.text.items → room_for a.arguments ≤ vec_capacity a.text → IsNew a lines
-new_of a lines more e l p n h r =
+pub new_of : (a : Source) (all before lines more : List ℕ) → all ≡ (before ++ lines) ++ more → a.line ≡ span 0 0 → a.place ≡ line_end
+    → a.lines ≡ span (length before) (length (before ++ lines)) → AreArgumentsIn a.arguments all → IsNew a all before lines
+new_of a all before lines more e l p n h =
     record {
       line = l;
       place = p;
       lines_are = n;
-      front = ap (λ text. take (length lines) text) e ∙ take-append_seam lines more;
-      within = omega (arith, ap length e, length-append lines more);
+      front = ap (λ text. take (length lines) (drop (length before) text)) (e ∙ append_assoc before lines more)
+          ∙ ap (λ text. take (length lines) text) (drop-append_seam before (lines ++ more)) ∙ take-append_seam lines more;
+      within = omega (arith, ap length e, length-append (before ++ lines) more);
       arguments = h;
-      room = r;
     }
 
 -- ---- a line of the page
@@ -73,10 +71,10 @@ line_bounded : (region : Option Opened) (spot : Spot) (line : List ℕ) → leng
 unfolding work_in weight
 line_bounded region spot line p s = record { short = (p, tt); skips = omega arith }
 
-line_view : (a : Inside) (line : List ℕ) → IsLine line → IsNew a (line ++ (10 ∷ [])) → a.arguments ≡ None → frame_of a ≡ frame page a.region a.spot (line ∷ [])
-line_view a line h n e =
-    new_view a (line ++ (10 ∷ [])) n
-    ∙ ap (λ arguments. frame (kind_in arguments a.text.items) a.region a.spot (lines_in (line ++ (10 ∷ [])))) e
+line_view : (a : Source) (all line : List ℕ) → IsLine line → IsNew a all [] (line ++ (10 ∷ [])) → a.arguments ≡ None → frame_of a all ≡ frame page a.region a.spot (line ∷ [])
+line_view a all line h n e =
+    new_view a all [] (line ++ (10 ∷ [])) n
+    ∙ ap (λ arguments. frame (kind_in arguments all) a.region a.spot (lines_in (line ++ (10 ∷ [])))) e
     ∙ ap (λ lines. frame page a.region a.spot lines) (page_line_in 0 line h.plain)
 
 line_only : (line : List ℕ) → only_line (line ++ (10 ∷ [])) ≡ line ∷ []
@@ -86,12 +84,12 @@ line_only (byte ∷ bytes) =
     rw n (ap (λ text. text ∷ []) (take-append_seam (byte ∷ bytes) (10 ∷ [])))
 
 -- a line of the page is to come
-pub page_set : (a : Inside) (line : List ℕ) → IsLine line → IsNew a (line ++ (10 ∷ [])) → a.arguments ≡ None → a.spot.levels.skipped < 2 ^ 62
-    → IsHeld a × (frame_of a ≡ frame page a.region a.spot (line ∷ []))
-page_set a line h n e s =
-    let view = line_view a line h n e in
+pub page_set : (a : Source) (all line : List ℕ) → IsLine line → IsNew a all [] (line ++ (10 ∷ [])) → a.arguments ≡ None → a.spot.levels.skipped < 2 ^ 62
+    → IsHeld a all × (frame_of a all ≡ frame page a.region a.spot (line ∷ []))
+page_set a all line h n e s =
+    let view = line_view a all line h n e in
     let only : AreLinesOf a.arguments (line ++ (10 ∷ [])) = rw e (page_line_in 0 line h.plain ∙ sym (line_only line)) in
-    (new_held a (line ++ (10 ∷ [])) n only (rw view (line_bounded a.region a.spot line h.bounded s)), view)
+    (new_held a all [] (line ++ (10 ∷ [])) n only (rw view (line_bounded a.region a.spot line h.bounded s)), view)
 
 -- ---- a macro
 
@@ -99,47 +97,39 @@ body_bounded : (kind : Kind) (region : Option Opened) (text : List ℕ) → leng
 unfolding work_in at_line outside
 body_bounded kind region text p = record { short = lines_short text (omega (arith, p)); skips = omega (arith, lines_weight text, p) }
 
-body_view : (a : Inside) (text args : List ℕ) → IsNew a text → a.arguments ≡ Some (length text) → drop (length text) a.text.items ≡ args → a.region ≡ None → a.spot ≡ at_line outside
-    → frame_of a ≡ entered (lines_in text) (arguments_in args)
+body_view : (a : Source) (all before text args : List ℕ) → IsNew a all before text → a.arguments ≡ Some (length (before ++ text)) → drop (length (before ++ text)) all ≡ args
+    → a.region ≡ None → a.spot ≡ at_line outside → frame_of a all ≡ entered (lines_in text) (arguments_in args)
 unfolding entered
-body_view a text args n e d r s =
-    new_view a text n
+body_view a all before text args n e d r s =
+    new_view a all before text n
     ∙ rw (e, d, r, s) refl
 
 -- a macro begins
-pub body_set : (a : Inside) (text args : List ℕ) → IsNew a text → a.arguments ≡ Some (length text) → drop (length text) a.text.items ≡ args → a.region ≡ None → a.spot ≡ at_line outside
-    → length text ≤ BODY → IsHeld a × (frame_of a ≡ entered (lines_in text) (arguments_in args))
+pub body_set : (a : Source) (all before text args : List ℕ) → IsNew a all before text → a.arguments ≡ Some (length (before ++ text)) → drop (length (before ++ text)) all ≡ args
+    → a.region ≡ None → a.spot ≡ at_line outside → length text ≤ BODY → IsHeld a all × (frame_of a all ≡ entered (lines_in text) (arguments_in args))
 unfolding entered
-body_set a text args n e d r s p =
-    let view = body_view a text args n e d r s in
-    (new_held a text n (rw e tt) (rw view (body_bounded (body (arguments_in args)) None text p)), view)
+body_set a all before text args n e d r s p =
+    let view = body_view a all before text args n e d r s in
+    (new_held a all before text n (rw e tt) (rw view (body_bounded (body (arguments_in args)) None text p)), view)
 
 -- nothing has come
 empty_bounded : (kind : Kind) → IsBounded (frame kind None (at_line outside) [])
 unfolding work_in weight at_line outside
 empty_bounded kind = record { short = tt; skips = omega arith }
 
-empty_only : (arguments : Option ℕ) → AreLinesOf arguments []
+empty_only : lines_in [] ≡ only_line []
 unfolding arguments_in
-empty_only None = refl
-empty_only (Some start) = tt
+empty_only = refl
 
-pub empty_set : (a : Inside) → a.text.items ≡ [] → a.line ≡ span 0 0 → a.place ≡ line_end → a.lines ≡ span 0 0 → a.region ≡ None → a.spot ≡ at_line outside
-    → AreArgumentsIn a.arguments [] → room_for a.arguments ≤ vec_capacity a.text
-    → IsHeld a × (frame_of a ≡ frame (kind_in a.arguments []) None (at_line outside) [])
+-- the page, before its first line
+pub empty_set : (a : Source) → a.arguments ≡ None → a.line ≡ span 0 0 → a.place ≡ line_end → a.lines ≡ span 0 0 → a.region ≡ None → a.spot ≡ at_line outside
+    → IsHeld a [] × (frame_of a [] ≡ frame page None (at_line outside) [])
 unfolding arguments_in
-empty_set a t l p n r s h q =
-    let new = new_of a [] [] t l p n (rw t h) q in
-    let kind = kind_in a.arguments [] in
-    let view : frame_of a ≡ frame kind None (at_line outside) [] = new_view a [] new ∙ rw (t, r, s) refl in
-    (new_held a [] new (empty_only a.arguments) (rw view (empty_bounded kind)), view)
-
--- ---- the memory of a source
+empty_set a e l p n r s =
+    let new = new_of a [] [] [] [] refl l p n (rw e tt) in
+    let view : frame_of a [] ≡ frame page None (at_line outside) [] = new_view a [] [] [] new ∙ rw (e, r, s) refl in
+    (new_held a [] [] [] new (rw e empty_only) (rw view (empty_bounded page)), view)
 
 pub page_none : (arguments : Option ℕ) (text : List ℕ) → kind_in arguments text ≡ page → arguments ≡ None
 page_none None text e = refl
 page_none (Some start) text e = cc
-
-pub room_enough : (arguments : Option ℕ) → BODY + ARGS ≤ room_for arguments
-room_enough None = omega arith
-room_enough (Some start) = omega arith

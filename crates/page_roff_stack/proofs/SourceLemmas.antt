@@ -12,7 +12,7 @@ use Rattle.page_roff_blocks.proofs.AtomLemmas.{atoms_cons}
 use Rattle.page_roff_blocks.proofs.RoomLemmas.{atoms_room}
 use Rattle.page_roff_run.specs.Machine.{Frame, at_part}
 use Rattle.page_roff_run.specs.Measures.{weight, work_in}
-use Rattle.page_roff_stack.specs.declared.sources.Source.TheInside.{Inside}
+use Rattle.page_roff_stack.specs.declared.sources.Source.{Source}
 use Rattle.page_roff_stack.specs.declared.spans.Span.{Span}
 use Rattle.page_roff_values.specs.Arguments.{lines_in}
 use Rattle.page_roff_stack.specs.Changes.{past, first_branch, first_region, in_region, next_line, first_atoms, begins_next, begins_line, ends_with, is_over, AreShort, IsBounded}
@@ -50,29 +50,29 @@ reads_region is_run old part new h = ap (first_region is_run) (reads_first old p
 -- ---- a part is passed
 
 -- in the present line, which is this text, a part was read up to this place
-pub record IsRead (a : Inside) (text : List ℕ) (part : Option (Atom (Bor (List ℕ)))) (place : LinePlace) : Type 0 where
-  pub text_is : text ≡ span_text a.line a.text.items
+pub record IsRead (a : Source) (all text : List ℕ) (part : Option (Atom (Bor (List ℕ)))) (place : LinePlace) : Type 0 where
+  pub text_is : text ≡ span_text a.line all
   pub next : ReadsNext (parts_at text a.place) part (parts_at text place)
   pub within : IsPlaceIn text place
 
-abbrev pub passed : Inside → LinePlace → Spot → Inside
+abbrev pub passed : Source → LinePlace → Spot → Source
 passed a place spot = record a { place = place; spot = spot }
 
-pub past_view : (a : Inside) (text : List ℕ) (part : Option (Atom (Bor (List ℕ)))) (place : LinePlace) (spot : Spot) → IsRead a text part place
-    → frame_of (passed a place spot) ≡ past spot (frame_of a)
+pub past_view : (a : Source) (all text : List ℕ) (part : Option (Atom (Bor (List ℕ)))) (place : LinePlace) (spot : Spot) → IsRead a all text part place
+    → frame_of (passed a place spot) all ≡ past spot (frame_of a all)
 unfolding at_part
-past_view a text part place spot h =
+past_view a all text part place spot h =
     let e = rw h.text_is at (reads_rest (parts_at text a.place) part (parts_at text place) h.next) in
-    ap (λ parts. let f : Frame = record { kind = (frame_of a).kind; region = a.region; parts = parts; spot = spot; lines = (frame_of a).lines } in f) e
+    ap (λ parts. let f : Frame = record { kind = (frame_of a all).kind; region = a.region; parts = parts; spot = spot; lines = (frame_of a all).lines } in f) e
 
 past_bounded : (f : Frame) (spot : Spot) → spot.levels.skipped + length (drop 1 f.parts) ≤ f.spot.levels.skipped + length f.parts → IsBounded f → IsBounded (past spot f)
 unfolding at_part work_in
 past_bounded f spot p h = record { short = h.short; skips = omega (arith, p, h.skips) }
 
-past_held_by : (a : Inside) (text : List ℕ) (part : Option (Atom (Bor (List ℕ)))) (place : LinePlace) (spot : Spot) → IsHeld a → IsRead a text part place
-    → spot.levels.skipped + length (drop 1 (frame_of a).parts) ≤ a.spot.levels.skipped + length (frame_of a).parts
-    → IsHeld (passed a place spot)
-past_held_by a text part place spot h r p =
+past_held_by : (a : Source) (all text : List ℕ) (part : Option (Atom (Bor (List ℕ)))) (place : LinePlace) (spot : Spot) → IsHeld a all → IsRead a all text part place
+    → spot.levels.skipped + length (drop 1 (frame_of a all).parts) ≤ a.spot.levels.skipped + length (frame_of a all).parts
+    → IsHeld (passed a place spot) all
+past_held_by a all text part place spot h r p =
     record {
       line = h.line;
       short = h.short;
@@ -80,48 +80,47 @@ past_held_by a text part place spot h r p =
       lines = h.lines;
       only = h.only;
       arguments = h.arguments;
-      room = h.room;
-      bounds = rw (past_view a text part place spot r) (past_bounded (frame_of a) spot p h.bounds);
+      bounds = rw (past_view a all text part place spot r) (past_bounded (frame_of a all) spot p h.bounds);
     }
 
 -- no block more is skipped
-pub past_held : (a : Inside) (text : List ℕ) (part : Option (Atom (Bor (List ℕ)))) (place : LinePlace) (spot : Spot) → IsHeld a → IsRead a text part place
-    → spot.levels.skipped ≤ a.spot.levels.skipped → IsHeld (passed a place spot)
-past_held a text part place spot h r p =
-    past_held_by a text part place spot h r (omega (arith, p, length-drop 1 (frame_of a).parts))
+pub past_held : (a : Source) (all text : List ℕ) (part : Option (Atom (Bor (List ℕ)))) (place : LinePlace) (spot : Spot) → IsHeld a all → IsRead a all text part place
+    → spot.levels.skipped ≤ a.spot.levels.skipped → IsHeld (passed a place spot) all
+past_held a all text part place spot h r p =
+    past_held_by a all text part place spot h r (omega (arith, p, length-drop 1 (frame_of a all).parts))
 
 -- one block more is skipped
-pub deeper_held : (a : Inside) (text : List ℕ) (part : Option (Atom (Bor (List ℕ)))) (place : LinePlace) (spot : Spot) → IsHeld a → IsRead a text part place
-    → spot.levels.skipped ≤ a.spot.levels.skipped + 1 → 0 < length (frame_of a).parts → IsHeld (passed a place spot)
-deeper_held a text part place spot h r p q =
-    past_held_by a text part place spot h r (omega (arith, p, q, length-drop 1 (frame_of a).parts))
+pub deeper_held : (a : Source) (all text : List ℕ) (part : Option (Atom (Bor (List ℕ)))) (place : LinePlace) (spot : Spot) → IsHeld a all → IsRead a all text part place
+    → spot.levels.skipped ≤ a.spot.levels.skipped + 1 → 0 < length (frame_of a all).parts → IsHeld (passed a place spot) all
+deeper_held a all text part place spot h r p q =
+    past_held_by a all text part place spot h r (omega (arith, p, q, length-drop 1 (frame_of a all).parts))
 
-pub read_branch : (a : Inside) (text : List ℕ) (part : Option (Atom (Bor (List ℕ)))) (place : LinePlace) → IsRead a text part place
-    → first_branch (parts_seen part) ≡ first_branch (frame_of a).parts
-read_branch a text part place h =
+pub read_branch : (a : Source) (all text : List ℕ) (part : Option (Atom (Bor (List ℕ)))) (place : LinePlace) → IsRead a all text part place
+    → first_branch (parts_seen part) ≡ first_branch (frame_of a all).parts
+read_branch a all text part place h =
     reads_branch (parts_at text a.place) part (parts_at text place) h.next ∙ ap (λ line. first_branch (parts_at line a.place)) h.text_is
 
-pub read_region : (is_run : Bool) (a : Inside) (text : List ℕ) (part : Option (Atom (Bor (List ℕ)))) (place : LinePlace) → IsRead a text part place
-    → first_region is_run (parts_seen part) ≡ first_region is_run (frame_of a).parts
-read_region is_run a text part place h =
+pub read_region : (is_run : Bool) (a : Source) (all text : List ℕ) (part : Option (Atom (Bor (List ℕ)))) (place : LinePlace) → IsRead a all text part place
+    → first_region is_run (parts_seen part) ≡ first_region is_run (frame_of a all).parts
+read_region is_run a all text part place h =
     reads_region is_run (parts_at text a.place) part (parts_at text place) h.next ∙ ap (λ line. first_region is_run (parts_at line a.place)) h.text_is
 
 -- ---- the rest of the present line is passed
 
-abbrev pub closed : Inside → LinePlace → Option Opened → Spot → Inside
+abbrev pub closed : Source → LinePlace → Option Opened → Spot → Source
 closed a place region spot = record a { place = place; region = region; spot = spot }
 
-pub closed_view : (a : Inside) (place : LinePlace) (region : Option Opened) (spot : Spot) → place ≡ line_end → spot ≡ at_line a.spot.levels
-    → frame_of (closed a place region spot) ≡ in_region region (frame_of a)
-closed_view a place region spot e g = rw (e, g) refl
+pub closed_view : (a : Source) (all : List ℕ) (place : LinePlace) (region : Option Opened) (spot : Spot) → place ≡ line_end → spot ≡ at_line a.spot.levels
+    → frame_of (closed a place region spot) all ≡ in_region region (frame_of a all)
+closed_view a all place region spot e g = rw (e, g) refl
 
 closed_bounded : (region : Option Opened) (f : Frame) → IsBounded f → IsBounded (in_region region f)
 unfolding work_in at_line
 closed_bounded region f h = record { short = h.short; skips = omega (arith, h.skips) }
 
-pub closed_held : (a : Inside) (place : LinePlace) (region : Option Opened) (spot : Spot) → place ≡ line_end → spot ≡ at_line a.spot.levels → IsHeld a
-    → IsHeld (closed a place region spot)
-closed_held a place region spot e g h =
+pub closed_held : (a : Source) (all : List ℕ) (place : LinePlace) (region : Option Opened) (spot : Spot) → place ≡ line_end → spot ≡ at_line a.spot.levels → IsHeld a all
+    → IsHeld (closed a place region spot) all
+closed_held a all place region spot e g h =
     record {
       line = h.line;
       short = h.short;
@@ -129,20 +128,19 @@ closed_held a place region spot e g h =
       lines = h.lines;
       only = h.only;
       arguments = h.arguments;
-      room = h.room;
-      bounds = rw (closed_view a place region spot e g) (closed_bounded region (frame_of a) h.bounds);
+      bounds = rw (closed_view a all place region spot e g) (closed_bounded region (frame_of a all) h.bounds);
     }
 
 -- ---- a line is passed
 
 -- the first line stands here, and those after it there
-pub record IsPassed (a : Inside) (line lines : Span) : Type 0 where
-  pub first : IsFirstLine (frame_of a).lines (span_text line a.text.items)
-  pub rest : lines_in (span_text lines a.text.items) ≡ drop 1 (frame_of a).lines
-  pub line_within : IsSpanIn line a.text.items
-  pub lines_within : IsSpanIn lines a.text.items
+pub record IsPassed (a : Source) (all : List ℕ) (line lines : Span) : Type 0 where
+  pub first : IsFirstLine (frame_of a all).lines (span_text line all)
+  pub rest : lines_in (span_text lines all) ≡ drop 1 (frame_of a all).lines
+  pub line_within : IsSpanIn line all
+  pub lines_within : IsSpanIn lines all
 
-abbrev pub lined : Inside → Span → LinePlace → Span → Option Opened → Spot → Inside
+abbrev pub lined : Source → Span → LinePlace → Span → Option Opened → Spot → Source
 lined a line place lines region spot = record a { line = line; place = place; lines = lines; region = region; spot = spot }
 
 first_parts : (lines : List (List ℕ)) (text : List ℕ) → 0 < length lines → IsFirstLine lines text → atoms text ≡ first_atoms lines
@@ -202,63 +200,60 @@ outside_regions None (part ∷ more) lines e = cc
 outside_regions (Some o) parts lines e = cc
 
 -- a line begins
-pub begun_view : (a : Inside) (line : Span) (place : LinePlace) (lines : Span) (spot : Spot) → IsPassed a line lines → begins_line (frame_of a) ≡ true
-    → IsStart (span_text line a.text.items) place → spot ≡ at_line a.spot.levels
-    → frame_of (lined a line place lines a.region spot) ≡ next_line None (first_atoms (frame_of a).lines) (frame_of a)
-begun_view a line place lines spot h b e g =
-    let outside = outside_regions a.region (frame_of a).parts (frame_of a).lines b in
+pub begun_view : (a : Source) (all : List ℕ) (line : Span) (place : LinePlace) (lines : Span) (spot : Spot) → IsPassed a all line lines → begins_line (frame_of a all) ≡ true
+    → IsStart (span_text line all) place → spot ≡ at_line a.spot.levels
+    → frame_of (lined a line place lines a.region spot) all ≡ next_line None (first_atoms (frame_of a all).lines) (frame_of a all)
+begun_view a all line place lines spot h b e g =
+    let outside = outside_regions a.region (frame_of a all).parts (frame_of a all).lines b in
     let p = outside.1 in
     rw (e.parts, g, h.rest, outside.0) (
-    ap (λ parts. let f : Frame = record { kind = (frame_of a).kind; region = None; parts = parts; spot = at_line a.spot.levels; lines = drop 1 (frame_of a).lines } in f)
-    (first_parts (frame_of a).lines (span_text line a.text.items) p h.first)
+    ap (λ parts. let f : Frame = record { kind = (frame_of a all).kind; region = None; parts = parts; spot = at_line a.spot.levels; lines = drop 1 (frame_of a all).lines } in f)
+    (first_parts (frame_of a all).lines (span_text line all) p h.first)
     )
 
-pub begun_held : (a : Inside) (line : Span) (place : LinePlace) (lines : Span) (spot : Spot) → IsPassed a line lines → begins_line (frame_of a) ≡ true
-    → IsStart (span_text line a.text.items) place → spot ≡ at_line a.spot.levels → IsHeld a → IsHeld (lined a line place lines a.region spot)
-begun_held a line place lines spot h b e g held =
-    let p = (outside_regions a.region (frame_of a).parts (frame_of a).lines b).1 in
-    let text = a.text.items in
-    let f = frame_of a in
-    let l = span_len line text h.line_within in
-    let s = first_short f.lines (span_text line text) p h.first held.bounds.short in
+pub begun_held : (a : Source) (all : List ℕ) (line : Span) (place : LinePlace) (lines : Span) (spot : Spot) → IsPassed a all line lines → begins_line (frame_of a all) ≡ true
+    → IsStart (span_text line all) place → spot ≡ at_line a.spot.levels → IsHeld a all → IsHeld (lined a line place lines a.region spot) all
+begun_held a all line place lines spot h b e g held =
+    let p = (outside_regions a.region (frame_of a all).parts (frame_of a all).lines b).1 in
+    let f = frame_of a all in
+    let l = span_len line all h.line_within in
+    let s = first_short f.lines (span_text line all) p h.first held.bounds.short in
     record {
       line = h.line_within;
       short = omega (arith, l, s, h.line_within.0);
       place = e.within;
       lines = h.lines_within;
-      only = only_rest a.arguments (span_text a.lines a.text.items) (span_text lines a.text.items) held.only h.rest;
+      only = only_rest a.arguments (span_text a.lines all) (span_text lines all) held.only h.rest;
       arguments = held.arguments;
-      room = held.room;
-      bounds = rw (begun_view a line place lines spot h b e g) (next_bounded None (first_atoms f.lines) f (first_weight f.lines) held.bounds);
+      bounds = rw (begun_view a all line place lines spot h b e g) (next_bounded None (first_atoms f.lines) f (first_weight f.lines) held.bounds);
     }
 
 -- a line in a region is passed
-abbrev pub skipped : Inside → LinePlace → Span → Spot → Inside
+abbrev pub skipped : Source → LinePlace → Span → Spot → Source
 skipped a place lines spot = record a { place = place; lines = lines; spot = spot }
 
-pub skipped_view : (a : Inside) (line : Span) (place : LinePlace) (lines : Span) (spot : Spot) → IsPassed a line lines → place ≡ line_end → spot ≡ at_line a.spot.levels
-    → frame_of (skipped a place lines spot) ≡ next_line a.region [] (frame_of a)
-skipped_view a line place lines spot h e g = rw (e, g, h.rest) refl
+pub skipped_view : (a : Source) (all : List ℕ) (line : Span) (place : LinePlace) (lines : Span) (spot : Spot) → IsPassed a all line lines → place ≡ line_end → spot ≡ at_line a.spot.levels
+    → frame_of (skipped a place lines spot) all ≡ next_line a.region [] (frame_of a all)
+skipped_view a all line place lines spot h e g = rw (e, g, h.rest) refl
 
-pub skipped_held : (a : Inside) (line : Span) (place : LinePlace) (lines : Span) (spot : Spot) → IsPassed a line lines → place ≡ line_end → spot ≡ at_line a.spot.levels
-    → IsHeld a → IsHeld (skipped a place lines spot)
-skipped_held a line place lines spot h e g held =
-    let f = frame_of a in
+pub skipped_held : (a : Source) (all : List ℕ) (line : Span) (place : LinePlace) (lines : Span) (spot : Spot) → IsPassed a all line lines → place ≡ line_end → spot ≡ at_line a.spot.levels
+    → IsHeld a all → IsHeld (skipped a place lines spot) all
+skipped_held a all line place lines spot h e g held =
+    let f = frame_of a all in
     record {
       line = held.line;
       short = held.short;
       place = rw e tt;
       lines = h.lines_within;
-      only = only_rest a.arguments (span_text a.lines a.text.items) (span_text lines a.text.items) held.only h.rest;
+      only = only_rest a.arguments (span_text a.lines all) (span_text lines all) held.only h.rest;
       arguments = held.arguments;
-      room = held.room;
-      bounds = rw (skipped_view a line place lines spot h e g) (next_bounded a.region [] f (omega (arith, rest_weight f.lines)) held.bounds);
+      bounds = rw (skipped_view a all line place lines spot h e g) (next_bounded a.region [] f (omega (arith, rest_weight f.lines)) held.bounds);
     }
 
 -- a region ends
-pub ended_held : (a : Inside) → IsHeld a → IsHeld (record a { region = None })
+pub ended_held : (a : Source) (all : List ℕ) → IsHeld a all → IsHeld (record a { region = None }) all
 unfolding work_in
-ended_held a h =
+ended_held a all h =
     record {
       line = h.line;
       short = h.short;
@@ -266,7 +261,6 @@ ended_held a h =
       lines = h.lines;
       only = h.only;
       arguments = h.arguments;
-      room = h.room;
       bounds = record { short = h.bounds.short; skips = h.bounds.skips };
     }
 
@@ -331,20 +325,20 @@ less_none start end n k t =
     let q : n ≡ 0 = omega arith in
     grind (arith, nat_tests)
 
-pub not_in_region : (a : Inside) → is_some a.region ≡ true → false ≡ begins_line (frame_of a)
-not_in_region a e = begins_region a.region (frame_of a).parts (frame_of a).lines e
+pub not_in_region : (a : Source) (all : List ℕ) → is_some a.region ≡ true → false ≡ begins_line (frame_of a all)
+not_in_region a all e = begins_region a.region (frame_of a all).parts (frame_of a all).lines e
 
-pub not_in_line : (a : Inside) → is_at_end a.place ≡ false → false ≡ begins_line (frame_of a)
-not_in_line a e = begins_part a.region (frame_of a).parts (frame_of a).lines (some_parts (span_text a.line a.text.items) a.place e)
+pub not_in_line : (a : Source) (all : List ℕ) → is_at_end a.place ≡ false → false ≡ begins_line (frame_of a all)
+not_in_line a all e = begins_part a.region (frame_of a all).parts (frame_of a all).lines (some_parts (span_text a.line all) a.place e)
 
-pub begins_here : (a : Inside) → is_some a.region ≡ false → is_at_end a.place ≡ true → IsSpanIn a.lines a.text.items
-    → nat_lt a.lines.start a.lines.end ≡ begins_line (frame_of a)
-begins_here a e p h =
-    let k = span_len a.lines a.text.items h in
-    let n = length (span_text a.lines a.text.items) in
-    begins_outside a.region (frame_of a).parts (frame_of a).lines (nat_lt a.lines.start a.lines.end) e (end_parts (span_text a.line a.text.items) a.place p)
-    (λ b. some_line (span_text a.lines a.text.items) (less_some a.lines.start a.lines.end n k b))
-    (λ b. no_lines (span_text a.lines a.text.items) (less_none a.lines.start a.lines.end n k b))
+pub begins_here : (a : Source) (all : List ℕ) → is_some a.region ≡ false → is_at_end a.place ≡ true → IsSpanIn a.lines all
+    → nat_lt a.lines.start a.lines.end ≡ begins_line (frame_of a all)
+begins_here a all e p h =
+    let k = span_len a.lines all h in
+    let n = length (span_text a.lines all) in
+    begins_outside a.region (frame_of a all).parts (frame_of a all).lines (nat_lt a.lines.start a.lines.end) e (end_parts (span_text a.line all) a.place p)
+    (λ b. some_line (span_text a.lines all) (less_some a.lines.start a.lines.end n k b))
+    (λ b. no_lines (span_text a.lines all) (less_none a.lines.start a.lines.end n k b))
 
 -- ---- whether nothing is left
 
@@ -367,22 +361,22 @@ line_over None (part ∷ more) true e none some = let h = none refl in absurd (c
 line_over None (part ∷ more) false e none some = refl
 line_over (Some o) parts b e none some = absurd (cc)
 
-lines_none : (a : Inside) → a.lines.end ≤ a.lines.start → IsSpanIn a.lines a.text.items → (frame_of a).lines ≡ []
-lines_none a p h =
-    let k = span_len a.lines a.text.items h in
-    let n : length (span_text a.lines a.text.items) ≡ 0 = omega arith in
-    no_lines (span_text a.lines a.text.items) (grind (arith, nat_tests))
+lines_none : (a : Source) (all : List ℕ) → a.lines.end ≤ a.lines.start → IsSpanIn a.lines all → (frame_of a all).lines ≡ []
+lines_none a all p h =
+    let k = span_len a.lines all h in
+    let n : length (span_text a.lines all) ≡ 0 = omega arith in
+    no_lines (span_text a.lines all) (grind (arith, nat_tests))
 
-pub lines_here : (a : Inside) → a.lines.start < a.lines.end → IsSpanIn a.lines a.text.items → false ≡ is_over (frame_of a)
-lines_here a p h =
-    let k = span_len a.lines a.text.items h in
-    let n : 0 < length (span_text a.lines a.text.items) = omega arith in
-    lines_left a.region (frame_of a).parts (frame_of a).lines (some_line (span_text a.lines a.text.items) (grind (arith, nat_tests)))
+pub lines_here : (a : Source) (all : List ℕ) → a.lines.start < a.lines.end → IsSpanIn a.lines all → false ≡ is_over (frame_of a all)
+lines_here a all p h =
+    let k = span_len a.lines all h in
+    let n : 0 < length (span_text a.lines all) = omega arith in
+    lines_left a.region (frame_of a all).parts (frame_of a all).lines (some_line (span_text a.lines all) (grind (arith, nat_tests)))
 
-pub over_region : (a : Inside) → is_some a.region ≡ true → a.lines.end ≤ a.lines.start → IsSpanIn a.lines a.text.items → true ≡ is_over (frame_of a)
-over_region a e p h = rw (lines_none a p h) (region_over a.region (frame_of a).parts e)
+pub over_region : (a : Source) (all : List ℕ) → is_some a.region ≡ true → a.lines.end ≤ a.lines.start → IsSpanIn a.lines all → true ≡ is_over (frame_of a all)
+over_region a all e p h = rw (lines_none a all p h) (region_over a.region (frame_of a all).parts e)
 
-pub over_line : (a : Inside) → is_some a.region ≡ false → a.lines.end ≤ a.lines.start → IsSpanIn a.lines a.text.items → is_at_end a.place ≡ is_over (frame_of a)
-over_line a e p h =
-    rw (lines_none a p h)
-    (line_over a.region (frame_of a).parts (is_at_end a.place) e (end_parts (span_text a.line a.text.items) a.place) (some_parts (span_text a.line a.text.items) a.place))
+pub over_line : (a : Source) (all : List ℕ) → is_some a.region ≡ false → a.lines.end ≤ a.lines.start → IsSpanIn a.lines all → is_at_end a.place ≡ is_over (frame_of a all)
+over_line a all e p h =
+    rw (lines_none a all p h)
+    (line_over a.region (frame_of a all).parts (is_at_end a.place) e (end_parts (span_text a.line all) a.place) (some_parts (span_text a.line all) a.place))

@@ -1,12 +1,13 @@
 -- What comes next in the sources that run: helpers of proofs.
-use Rattle.std.proofs.Common.{◌≡◌, ℕ, ◌<◌, Bool, true, List, [], ◌∷◌, length, Option, Some, None, refl, arith}
+use Rattle.std.proofs.Common.{◌≡◌, ℕ, ◌<◌, Bool, true, false, List, [], ◌∷◌, length, Option, Some, None, refl, arith}
 use Rattle.page_roff_blocks.specs.declared.atoms.Atom.{Atom}
 use Rattle.page_roff_blocks.specs.Levels.{Opened}
 use Rattle.page_roff_blocks.specs.Run.{Meaning}
 use Rattle.page_roff_run.specs.Languages.{Kind, Language, meaning_at}
 use Rattle.page_roff_run.specs.Machine as machine
 use Rattle.page_roff_run.specs.Machine.{Frame, depth}
-use Rattle.page_roff_stack.specs.Changes.{first_branch, first_region, is_page, begins_next}
+use Rattle.page_roff_stack.specs.declared.next.Next.TheVariants.{SourceEnd}
+use Rattle.page_roff_stack.specs.Changes.{first_branch, first_region, is_page, begins_next, ends_with}
 use Rattle.page_roff_stack.specs.Stacks.{Stack, running, next_around, next_in, next_of, is_part, is_line, is_source_end, is_nothing, branch_in, region_in, AreStacked, step_in, step_of}
 
 step_around : {S : Type 0} (l : Language S) (m : Meaning S) (region : Option Opened) (parts : List (Atom (List ℕ))) (lines : List (List ℕ)) (f : Frame) (under : List Frame) (s : S)
@@ -80,6 +81,28 @@ nothing_there None [] (line ∷ more) under e = cc
 nothing_there None [] [] under e = around_nothing None under e
 nothing_there (Some o) parts (line ∷ more) under e = cc
 nothing_there (Some o) parts [] under e = around_nothing (Some o) under e
+
+-- where no source is around the innermost one, the page's line is done once nothing is left of it
+pub alone_over : (region : Option Opened) (parts : List (Atom (List ℕ))) (lines : List (List ℕ)) (under : List Frame) → under ≡ []
+    → ends_with region parts lines ≡ is_nothing (next_in region parts lines under)
+alone_over None [] [] under e = rw e refl
+alone_over None [] (line ∷ more) under e = refl
+alone_over None (part ∷ more) lines under e = refl
+alone_over (Some o) parts [] under e = rw e refl
+alone_over (Some o) parts (line ∷ more) under e = refl
+
+pub something_around : (region : Option Opened) (parts : List (Atom (List ℕ))) (lines : List (List ℕ)) (under : List Frame) → 0 < length under
+    → false ≡ is_nothing (next_in region parts lines under)
+something_around region parts lines [] h = absurd (omega arith)
+something_around None [] [] (f ∷ fs) h = refl
+something_around None [] (line ∷ more) (f ∷ fs) h = refl
+something_around None (part ∷ more) lines (f ∷ fs) h = refl
+something_around (Some o) parts [] (f ∷ fs) h = refl
+something_around (Some o) parts (line ∷ more) (f ∷ fs) h = refl
+
+pub end_around : (region : Option Opened) (under : List Frame) → 0 < length under → SourceEnd region ≡ next_around region under
+end_around region [] h = absurd (omega arith)
+end_around region (f ∷ fs) h = refl
 
 -- all macros stand on the page
 pub page_alone : (kind : Kind) (under : List Frame) → under ≡ [] → AreStacked kind under → is_page kind ≡ true

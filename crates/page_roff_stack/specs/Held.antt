@@ -1,6 +1,5 @@
 -- How the code holds a source: places in its text.
 use Rattle.std.specs.Prelude.{◌≡◌, ℕ, ◌+◌, ◌-◌, ◌≤◌, List, [], ◌∷◌, length, take, drop, Option, Some, None}
-use Rattle.page_core_limits.specs.declared.TheConstants.{LINE, BODY}
 use Rattle.page_roff_values.specs.declared.call_arguments.TheConstants.{ARGS}
 use Rattle.page_roff_values.specs.Arguments.{arguments_in, lines_in}
 use Rattle.page_roff_run.specs.Languages.{Kind, page, body}
@@ -30,11 +29,6 @@ only_line (byte ∷ bytes) = take (length bytes) (byte ∷ bytes) ∷ []
 abbrev pub AreLinesOf : Option ℕ → List ℕ → Type 0
 AreLinesOf None text = lines_in text ≡ only_line text
 AreLinesOf (Some start) text = Unit {0}
-
--- the memory that is wanted: for a line of the page with its end, or for a body and its arguments
-abbrev pub room_for : Option ℕ → ℕ
-room_for None = LINE + 1
-room_for (Some start) = BODY + ARGS
 
 -- a text is the first of these lines, if there is one
 abbrev pub IsFirstLine : List (List ℕ) → List ℕ → Type 0

@@ -1,14 +1,37 @@
 -- The input stack, as the code holds it: the code's own form of it.
-use Rattle.std.specs.Prelude.{◌≡◌, ◌≤◌, length, take, reverse}
+use Rattle.std.specs.Prelude.{ℕ, ◌+◌, ◌*◌, ◌≤◌, List, [], ◌∷◌, length, take, reverse}
+use Rattle.std.specs.Vec.{vec_capacity}
+use Rattle.page_core_limits.specs.declared.TheConstants.{LINE, BODY}
 use Rattle.page_roff_run.specs.declared.TheConstants.{CALLS}
+use Rattle.page_roff_run.specs.Machine.{Frame}
+use Rattle.page_roff_values.specs.declared.call_arguments.TheConstants.{ARGS}
+use Rattle.page_roff_stack.specs.declared.input_stacks.Caller.{Caller}
 use Rattle.page_roff_stack.specs.declared.input_stacks.InputStack.TheInside.{Inside}
+use Rattle.page_roff_stack.specs.Sources.{frame_of, IsHeld}
 use Rattle.page_roff_stack.specs.Stacks.{Stack, AreStacked}
 
+-- the sources around, from the inside out: the text of each is where the text of the source inside it begins
+abbrev pub frames_in : List ℕ → List Caller → List Frame
+frames_in text [] = []
+frames_in text (c ∷ cs) = frame_of c.source (take c.end text) ∷ frames_in (take c.end text) cs
+
 abbrev pub stack_of : Inside → Stack
-stack_of a = record { top = a.top; under = reverse (take a.depth a.others.items) }
+stack_of a = record { top = frame_of a.top a.text.items; under = frames_in a.text.items (reverse a.others.items) }
+
+-- the memory that is wanted for the texts: for a line of the page with its end, and for a body and its arguments in each of so many macros
+abbrev pub room_for : ℕ → ℕ
+room_for calls = LINE + 1 + (BODY + ARGS) * calls
+
+abbrev pub AreHeld : List ℕ → List Caller → Type 0
+AreHeld text [] = Unit {0}
+AreHeld text (c ∷ cs) = (c.end ≤ room_for (length cs)) × IsHeld c.source (take c.end text) × AreHeld (take c.end text) cs
 
 -- there is room for each macro that may still be called, and the page is around all
 pub record IsStack (a : Inside) : Type 0 where
-  pub page : AreStacked a.top.kind (reverse (take a.depth a.others.items))
-  pub calls : length a.others.items ≡ CALLS
-  pub deep : a.depth ≤ CALLS
+  pub page : AreStacked (frame_of a.top a.text.items).kind (frames_in a.text.items (reverse a.others.items))
+  pub top : IsHeld a.top a.text.items
+  pub around : AreHeld a.text.items (reverse a.others.items)
+  pub fits : length a.text.items ≤ room_for (length a.others.items)
+  pub deep : length a.others.items ≤ CALLS
+  pub room : room_for CALLS ≤ vec_capacity a.text
+  pub calls : CALLS ≤ vec_capacity a.others

@@ -16,24 +16,35 @@ ghost use Rattle.page_roff_stack.specs.Views.{kind_of, next_seen, FitsNext};
 
 use crate::next::Next;
 use crate::sources::Source;
+use page_core_limits::{BODY, LINE};
 use page_roff_blocks::{Atom, OpenRegion, Reached, Way};
 use page_roff_run::CALLS;
+use page_roff_values::ARGS;
 use std::alloc::{AllocError, Global};
 use std::marker::Model;
 use std::mem;
+
+// A source around another, and where its text ends.
+#[derive(Drop)]
+struct Caller {
+    source: Source,
+    end: usize,
+}
 
 /// The sources that run, one inside another: the page, and the macros that it calls. Contracts see them without their state.
 ///
 /// [`InputStack::peek`] lends what comes next, and one of the changes then goes past it.
 #[derive(Drop)]
 pub struct InputStack {
+    // The texts of all of them, one after another. That of the innermost source is all of it, and begins with those of the sources around.
+    text: Vec<u8>,
     top: Source,
-    // The sources around it, from the page on, and then what macros can be run in that are still to be called. A call, and the end of
-    // one, exchange one of them for the innermost source.
-    others: Vec<Source>,
-    // How many sources are around it.
-    depth: usize,
+    // The sources around it, from the page on.
+    others: Vec<Caller>,
 }
+
+// The bytes of a line of the page with its end, and of a body and its arguments in each macro.
+const TEXT: usize = LINE + 1 + (BODY + ARGS) * CALLS;
 
 impl Model for InputStack {
     ghost use Rattle.page_roff_stack.specs.Stacks.{Stack};
@@ -52,15 +63,10 @@ impl InputStack {
     pub fn new(alloc: Global) -> Result<InputStack, AllocError>
         ensures { IfOk result (λ stack. stack ≡ first_stack) }
     {
-        let top = Source::page(alloc)?;
-        let mut others = Vec::with_capacity(alloc, CALLS)?;
-        for _ in 0..CALLS {
-            others.push_reserved(Source::body(alloc)?);
-        }
         Ok(InputStack {
-            top,
-            others,
-            depth: 0,
+            text: Vec::with_capacity(alloc, TEXT)?,
+            top: Source::page(),
+            others: Vec::with_capacity(alloc, CALLS)?,
         })
     }
 
@@ -68,14 +74,14 @@ impl InputStack {
     pub fn is_idle(&self) -> bool
         ensures { result ≡ is_nothing (next_of self.now) }
     {
-        self.depth == 0 && self.top.is_over()
+        self.others.is_empty() && self.top.is_over()
     }
 
     // What comes next where nothing is left of the innermost source.
     fn next_around<'a>(&self, region: Option<&'a OpenRegion>) -> Next<&'a [u8], &'a OpenRegion>
         ensures { next_seen result ≡ next_around (opened_seen region.entry) self.now.under }
     {
-        if self.depth == 0 {
+        if self.others.is_empty() {
             Next::Nothing
         } else {
             Next::SourceEnd(region)
@@ -99,7 +105,7 @@ impl InputStack {
         ensures value { next_seen result ≡ next_of self.now }
         ensures fits { FitsNext (next_seen result) }
     {
-        match self.top.line() {
+        match self.top.line(&self.text) {
             Some(line) => Next::RegionLine {
                 region,
                 line,
@@ -115,10 +121,10 @@ impl InputStack {
         ensures value { next_seen result ≡ next_of self.now }
         ensures fits { FitsNext (next_seen result) }
     {
-        if let Some(part) = self.top.part() {
+        if let Some(part) = self.top.part(&self.text) {
             return Next::Part(part);
         }
-        match self.top.line() {
+        match self.top.line(&self.text) {
             Some(line) => Next::Line(line),
             None => self.next_around(None),
         }
@@ -133,7 +139,7 @@ impl InputStack {
         if self.top.region().is_some() {
             return None;
         }
-        self.top.part()
+        self.top.part(&self.text)
     }
 
     /// Whether a line begins next, outside of regions.
@@ -168,7 +174,7 @@ impl InputStack {
     pub fn may_call(&self) -> bool
         ensures { result ≡ is_some (depth self.now.under) }
     {
-        self.depth < CALLS
+        self.others.len() < CALLS
     }
 
     /// Whether the innermost source is the page.
@@ -183,7 +189,7 @@ impl InputStack {
         ensures value { kind_of (text_seen result) ≡ self.now.top.kind }
         ensures short { IfSome result (λ packed. length packed.now ≤ ARGS) }
     {
-        self.top.arguments()
+        self.top.arguments(&self.text)
     }
 
     /// The open region of the innermost source.
@@ -200,14 +206,14 @@ impl InputStack {
         requires skips { self.old.top.spot.levels.skipped < 2 ^ 62 }
         ensures { self.new ≡ record { top = page_line line.now self.old.top; under = [] } }
     {
-        self.top.set_line(line);
+        self.top.set_line(&mut self.text, line);
     }
 
     /// Goes past a leaf.
     pub fn pass(&mut self)
         ensures { self.new ≡ with_top (past (after_part self.old.top.spot.levels) self.old.top) self.old }
     {
-        self.top.pass();
+        self.top.pass(&self.text);
     }
 
     /// Goes past a head without a block that is not run.
@@ -215,7 +221,7 @@ impl InputStack {
         ensures { self.new ≡ with_top (past
             (record self.old.top.spot { begun = true }) self.old.top) self.old }
     {
-        self.top.pass_guard();
+        self.top.pass_guard(&self.text);
     }
 
     /// Goes past a head without a block that is run, and has this value.
@@ -224,7 +230,7 @@ impl InputStack {
         ensures { self.new ≡ with_top
             (past (guarded_by (branch_in (next_of self.old)) value self.old.top.spot.levels) self.old.top) self.old }
     {
-        self.top.guard(value);
+        self.top.guard(&self.text, value);
     }
 
     /// Enters a block whose head is run, and has this value.
@@ -234,7 +240,7 @@ impl InputStack {
         ensures spot { self.new ≡ with_top (past (after_part (enter result
             (bit_after (branch_in (next_of self.old)) value self.old.top.spot.levels.bit) self.old.top.spot.levels)) self.old.top) self.old }
     {
-        self.top.enter_block(value)
+        self.top.enter_block(&self.text, value)
     }
 
     /// Enters a block that is passed over.
@@ -243,7 +249,7 @@ impl InputStack {
         ensures { self.new ≡ with_top (past
             (after_part (skip self.old.top.spot.levels)) self.old.top) self.old }
     {
-        self.top.skip_block();
+        self.top.skip_block(&self.text);
     }
 
     /// The innermost block ends: whether there was one.
@@ -252,7 +258,7 @@ impl InputStack {
             (after_part (leave self.old.top.spot.levels)) self.old.top) self.old }
         ensures block { result ≡ has_block self.old.top.spot.levels }
     {
-        self.top.leave_block()
+        self.top.leave_block(&self.text)
     }
 
     /// Goes past the head of a region, which opens, and is run or not.
@@ -261,7 +267,7 @@ impl InputStack {
         ensures { self.new ≡ with_top (in_region
             (region_in is_run (next_of self.old)) self.old.top) self.old }
     {
-        self.top.open_region(is_run);
+        self.top.open_region(&self.text, is_run);
     }
 
     /// A line begins.
@@ -270,21 +276,21 @@ impl InputStack {
         ensures { self.new ≡ with_top (next_line None
             (first_atoms self.old.top.lines) self.old.top) self.old }
     {
-        self.top.begin_line();
+        self.top.begin_line(&self.text);
     }
 
     /// Goes past a line in the open region.
     pub fn pass_region_line(&mut self)
         ensures { self.new ≡ with_top (next_line self.old.top.region [] self.old.top) self.old }
     {
-        self.top.pass_region_line();
+        self.top.pass_region_line(&self.text);
     }
 
     /// Goes past the end of the open region.
     pub fn end_region(&mut self)
         ensures { self.new ≡ with_top (next_line None [] self.old.top) self.old }
     {
-        self.top.end_region();
+        self.top.end_region(&self.text);
     }
 
     /// Calls a macro: a copy of its body runs, with arguments that have a line feed at the end of each.
@@ -294,9 +300,10 @@ impl InputStack {
         requires arguments { length arguments.now ≤ ARGS }
         ensures { self.new ≡ call_of (lines_in body.now) (arguments_in arguments.now) self.old }
     {
-        mem::swap(&mut self.top, &mut self.others[self.depth]);
-        self.depth += 1;
-        self.top.enter(body, arguments);
+        let end = self.text.len();
+        let callee = Source::enter(&mut self.text, body, arguments);
+        let source = mem::replace(&mut self.top, callee);
+        self.others.push_reserved(Caller { source, end });
     }
 
     /// The innermost macro ends.
@@ -304,8 +311,9 @@ impl InputStack {
         requires { is_source_end (next_of self.old) ≡ true }
         ensures { self.old.under ≡ self.new.top ∷ self.new.under }
     {
-        self.depth -= 1;
-        mem::swap(&mut self.top, &mut self.others[self.depth]);
+        let Caller { source, end } = self.others.pop().unwrap();
+        self.text.truncate(end);
+        self.top = source;
     }
 
     /// Where the innermost source stands is within its limits. Nothing is done: the source tells it.

@@ -1,6 +1,6 @@
 //! A source that is being run: a line of the page, or the body of a macro.
 
-ghost use Rattle.std.specs.Prelude.{◌≡◌, [], ◌+◌, ◌≤◌, ◌<◌, ◌^◌, ◌++◌, true, false, length, take, drop, IfOk, IfSome, None, Some};
+ghost use Rattle.std.specs.Prelude.{◌≡◌, ℕ, List, [], ◌+◌, ◌≤◌, ◌<◌, ◌^◌, ◌++◌, true, length, take, drop, IfSome, None};
 ghost use Rattle.std.specs.Vec.{vec_len, vec_capacity};
 ghost use Rattle.page_core_base.specs.Texts.{IsLine};
 ghost use Rattle.page_core_limits.specs.declared.TheConstants.{LINE, BODY};
@@ -13,7 +13,8 @@ ghost use Rattle.page_roff_run.specs.Machine.{entered};
 ghost use Rattle.page_roff_values.specs.Arguments.{arguments_in, lines_in};
 ghost use Rattle.page_roff_values.specs.declared.call_arguments.TheConstants.{ARGS};
 ghost use Rattle.page_roff_stack.specs.Changes.{first_frame, page_line, past, first_branch, first_region, in_region, next_line, first_atoms, is_page, begins_line, is_over, HasPart};
-ghost use Rattle.page_roff_stack.specs.Held.{span_text, room_for, kind_in, AreArgumentsIn, AreLinesOf, IsSpanIn, IsFirstLine};
+ghost use Rattle.page_roff_stack.specs.Held.{span_text, kind_in, AreLinesOf, IsSpanIn, IsFirstLine};
+ghost use Rattle.page_roff_stack.specs.Sources.{frame_of, IsHeld};
 ghost use Rattle.page_roff_stack.specs.Views.{parts_seen, kind_of, IsNextLine};
 
 use crate::spans::{NOWHERE, Span};
@@ -21,13 +22,11 @@ use memchr::memchr;
 use page_core_limits::{BODY, LINE};
 use page_roff_blocks::{Atom, Branch, LinePlace, OpenRegion, Reached, Spot, Way};
 use page_roff_values::ARGS;
-use std::alloc::{AllocError, Global};
-use std::marker::Model;
 
-/// A source that is being run. Its text holds its lines, each with a line feed at its end, and after them the arguments of a macro.
+/// A source that is being run, as places in a text, which each of its functions is given. The text holds its lines, each with a line feed at
+/// its end, and after them the arguments of a macro.
 #[derive(Drop)]
 pub(crate) struct Source {
-    text: Vec<u8>,
     // Where the arguments begin, in a macro.
     arguments: Option<usize>,
     // The present line, and the place in it.
@@ -37,18 +36,6 @@ pub(crate) struct Source {
     lines: Span,
     region: Option<OpenRegion>,
     spot: Spot,
-}
-
-impl Model for Source {
-    ghost use Rattle.page_roff_run.specs.Machine.{Frame};
-
-    ghost Value = { Frame };
-
-    ghost use Rattle.page_roff_stack.specs.Sources.{frame_of, IsHeld};
-
-    ghost view = { frame_of };
-
-    ghost invariant = { IsHeld };
 }
 
 // Puts bytes at the end, within what is reserved.
@@ -132,92 +119,85 @@ fn region_of(part: &Option<Atom<&[u8]>>, is_run: bool) -> Option<OpenRegion>
 }
 
 impl Source {
-    // A source with nothing in it, and memory for a count of bytes.
-    fn with_room(alloc: Global, arguments: Option<usize>, room: usize) -> Result<Source, AllocError>
-        requires room { room_for arguments ≤ room }
-        requires none { AreArgumentsIn arguments [] }
-        ensures { IfOk result (λ source. source ≡ record first_frame { kind = kind_in arguments [] }) }
+    /// The page, before its first line.
+    pub(crate) fn page() -> Source
+        ensures held { IsHeld result [] }
+        ensures frame { frame_of result [] ≡ first_frame }
     {
-        Ok(Source {
-            text: Vec::with_capacity(alloc, room)?,
-            arguments,
+        Source {
+            arguments: None,
             line: NOWHERE,
             place: LinePlace::end(),
             lines: NOWHERE,
             region: None,
             spot: Spot::new(),
-        })
+        }
     }
 
-    /// The page, before its first line. All memory is reserved here.
-    pub(crate) fn page(alloc: Global) -> Result<Source, AllocError>
-        ensures { IfOk result (λ source. source ≡ first_frame) }
-    {
-        Source::with_room(alloc, None, LINE + 1)
-    }
-
-    /// What a macro can be run in. All memory is reserved here.
-    pub(crate) fn body(alloc: Global) -> Result<Source, AllocError>
-        ensures { IfOk result (λ source. is_page source.kind ≡ false) }
-    {
-        Source::with_room(alloc, Some(0), BODY + ARGS)
-    }
-
-    /// A line of the page is to come.
-    pub(crate) fn set_line(&mut self, line: &[u8])
-        requires page { self.old.kind ≡ page }
+    /// A line of the page is to come, and is all of the text.
+    pub(crate) fn set_line(&mut self, text: &mut Vec<u8>, line: &[u8])
+        requires page { kind_in self.old.arguments text.old.items ≡ page }
         requires line { IsLine line.now }
         requires skips { self.old.spot.levels.skipped < 2 ^ 62 }
-        ensures { self.new ≡ page_line line.now self.old }
+        requires room { LINE + 1 ≤ vec_capacity text.old }
+        ensures held { IsHeld self.new text.new.items }
+        ensures frame { frame_of self.new text.new.items ≡ page_line line.now (frame_of self.old text.old.items) }
+        ensures fits { length text.new.items ≤ LINE + 1 }
+        ensures capacity { vec_capacity text.old ≤ vec_capacity text.new }
     {
-        self.text.clear();
-        append(&mut self.text, line);
-        append(&mut self.text, b"\n");
+        text.clear();
+        append(text, line);
+        append(text, b"\n");
         self.line = NOWHERE;
         self.place = LinePlace::end();
         self.lines = Span {
             start: 0,
-            end: self.text.len(),
+            end: text.len(),
         };
         self.spot.begin_line();
     }
 
-    /// A macro begins.
-    pub(crate) fn enter(&mut self, body: &[u8], arguments: &[u8])
+    /// A macro begins: its body and its arguments come to the end of the text.
+    pub(crate) fn enter(text: &mut Vec<u8>, body: &[u8], arguments: &[u8]) -> Source
         requires body { length body.now ≤ BODY }
         requires arguments { length arguments.now ≤ ARGS }
-        ensures { self.new ≡ entered (lines_in body.now) (arguments_in arguments.now) }
+        requires room { length text.old.items + BODY + ARGS ≤ vec_capacity text.old }
+        ensures held { IsHeld result text.new.items }
+        ensures frame { frame_of result text.new.items ≡ entered (lines_in body.now) (arguments_in arguments.now) }
+        ensures text { text.new.items ≡ text.old.items ++ (body.now ++ arguments.now) }
+        ensures capacity { vec_capacity text.old ≤ vec_capacity text.new }
     {
-        self.text.clear();
-        append(&mut self.text, body);
-        append(&mut self.text, arguments);
-        self.arguments = Some(body.len());
-        self.line = NOWHERE;
-        self.place = LinePlace::end();
-        self.lines = Span {
-            start: 0,
-            end: body.len(),
-        };
-        self.region = None;
-        self.spot = Spot::new();
+        let start = text.len();
+        append(text, body);
+        let end = text.len();
+        append(text, arguments);
+        Source {
+            arguments: Some(end),
+            line: NOWHERE,
+            place: LinePlace::end(),
+            lines: Span { start, end },
+            region: None,
+            spot: Spot::new(),
+        }
     }
 
     /// The part that comes next in the present line.
     #[inline(always)]
-    pub(crate) fn part(&self) -> Option<Atom<&[u8]>>
-        ensures value { parts_seen result ≡ take 1 self.now.parts }
+    pub(crate) fn part<'a>(&self, text: &'a [u8]) -> Option<Atom<&'a [u8]>>
+        requires { IsHeld self.now text.now }
+        ensures value { parts_seen result ≡ take 1 (frame_of self.now text.now).parts }
         ensures fits { IfSome result (λ part. FitsAtom (atom_seen part)) }
     {
         if self.place.is_at_end() {
             return None;
         }
         let mut place = self.place;
-        place.next_atom(self.line.of(&self.text))
+        place.next_atom(self.line.of(text))
     }
 
     /// Whether a line begins next, outside of regions.
     pub(crate) fn begins_line(&self) -> bool
-        ensures { result ≡ begins_line self.now }
+        ensures { (text : List ℕ) → IsHeld self.now text → result ≡ begins_line (frame_of self.now text) }
     {
         if self.region.is_some() {
             return false;
@@ -230,7 +210,7 @@ impl Source {
 
     /// Whether nothing is left, in a region or not.
     pub(crate) fn is_over(&self) -> bool
-        ensures { result ≡ is_over self.now }
+        ensures { (text : List ℕ) → IsHeld self.now text → result ≡ is_over (frame_of self.now text) }
     {
         if self.lines.start < self.lines.end {
             return false;
@@ -242,10 +222,11 @@ impl Source {
     }
 
     /// The line that comes next.
-    pub(crate) fn line(&self) -> Option<&[u8]>
-        ensures { IsNextLine self.now.lines (text_seen result) }
+    pub(crate) fn line<'a>(&self, text: &'a [u8]) -> Option<&'a [u8]>
+        requires { IsHeld self.now text.now }
+        ensures { IsNextLine (frame_of self.now text.now).lines (text_seen result) }
     {
-        let lines = self.lines.of(&self.text);
+        let lines = self.lines.of(text);
         if lines.is_empty() {
             return None;
         }
@@ -264,18 +245,19 @@ impl Source {
 
     /// Whether it is the page.
     pub(crate) fn is_page(&self) -> bool
-        ensures { result ≡ is_page self.now.kind }
+        ensures { (text : List ℕ) → result ≡ is_page (kind_in self.now.arguments text) }
     {
         self.arguments.is_none()
     }
 
     /// The arguments of a macro, each with a line feed at its end.
-    pub(crate) fn arguments(&self) -> Option<&[u8]>
-        ensures value { kind_of (text_seen result) ≡ self.now.kind }
+    pub(crate) fn arguments<'a>(&self, text: &'a [u8]) -> Option<&'a [u8]>
+        requires { IsHeld self.now text.now }
+        ensures value { kind_of (text_seen result) ≡ kind_in self.now.arguments text.now }
         ensures short { IfSome result (λ packed. length packed.now ≤ ARGS) }
     {
         match self.arguments {
-            Some(start) => Some(&self.text[start..]),
+            Some(start) => Some(&text[start..]),
             None => None,
         }
     }
@@ -302,94 +284,117 @@ impl Source {
     }
 
     /// Goes past a leaf.
-    pub(crate) fn pass(&mut self)
-        ensures { self.new ≡ past (after_part self.old.spot.levels) self.old }
+    pub(crate) fn pass(&mut self, text: &[u8])
+        requires { IsHeld self.old text.now }
+        ensures held { IsHeld self.new text.now }
+        ensures frame { frame_of self.new text.now ≡ past (after_part self.old.spot.levels) (frame_of self.old text.now) }
     {
-        let _part = self.place.next_atom(self.line.of(&self.text));
+        let _part = self.place.next_atom(self.line.of(text));
         self.spot.pass();
     }
 
     /// Goes past a head without a block that is not run.
-    pub(crate) fn pass_guard(&mut self)
-        ensures { self.new ≡ past (record self.old.spot { begun = true }) self.old }
+    pub(crate) fn pass_guard(&mut self, text: &[u8])
+        requires { IsHeld self.old text.now }
+        ensures held { IsHeld self.new text.now }
+        ensures frame { frame_of self.new text.now ≡ past (record self.old.spot { begun = true }) (frame_of self.old text.now) }
     {
-        let _part = self.place.next_atom(self.line.of(&self.text));
+        let _part = self.place.next_atom(self.line.of(text));
         self.spot.pass_guard();
     }
 
     /// Goes past a head without a block that is run, and has this value.
-    pub(crate) fn guard(&mut self, value: bool)
-        ensures { self.new ≡ past (guarded_by
-            (first_branch self.old.parts) value self.old.spot.levels) self.old }
+    pub(crate) fn guard(&mut self, text: &[u8], value: bool)
+        requires { IsHeld self.old text.now }
+        ensures held { IsHeld self.new text.now }
+        ensures frame { frame_of self.new text.now ≡ past (guarded_by
+            (first_branch (frame_of self.old text.now).parts) value self.old.spot.levels) (frame_of self.old text.now) }
     {
-        let part = self.place.next_atom(self.line.of(&self.text));
+        let part = self.place.next_atom(self.line.of(text));
         self.spot.guard(&branch_of(&part), value);
     }
 
     /// Enters a block whose head is run, and has this value.
-    pub(crate) fn enter_block(&mut self, value: bool) -> Way
-        requires { HasPart self.old }
+    pub(crate) fn enter_block(&mut self, text: &[u8], value: bool) -> Way
+        requires held { IsHeld self.old text.now }
+        requires part { HasPart (frame_of self.old text.now) }
         ensures way { result ≡ way_of value (length self.old.spot.levels.outer) }
-        ensures spot { self.new ≡ past (after_part
-            (enter result (bit_after (first_branch self.old.parts) value self.old.spot.levels.bit) self.old.spot.levels)) self.old }
+        ensures held { IsHeld self.new text.now }
+        ensures frame { frame_of self.new text.now ≡ past (after_part (enter result
+            (bit_after (first_branch (frame_of self.old text.now).parts) value self.old.spot.levels.bit) self.old.spot.levels))
+            (frame_of self.old text.now) }
     {
-        let part = self.place.next_atom(self.line.of(&self.text));
+        let part = self.place.next_atom(self.line.of(text));
         self.spot.enter(&branch_of(&part), value)
     }
 
     /// Enters a block that is passed over.
-    pub(crate) fn skip_block(&mut self)
-        requires { HasPart self.old }
-        ensures { self.new ≡ past (after_part (skip self.old.spot.levels)) self.old }
+    pub(crate) fn skip_block(&mut self, text: &[u8])
+        requires held { IsHeld self.old text.now }
+        requires part { HasPart (frame_of self.old text.now) }
+        ensures held { IsHeld self.new text.now }
+        ensures frame { frame_of self.new text.now ≡ past (after_part (skip self.old.spot.levels)) (frame_of self.old text.now) }
     {
-        let _part = self.place.next_atom(self.line.of(&self.text));
+        let _part = self.place.next_atom(self.line.of(text));
         self.spot.skip();
     }
 
     /// The innermost block ends: whether there was one.
-    pub(crate) fn leave_block(&mut self) -> bool
-        ensures spot { self.new ≡ past (after_part (leave self.old.spot.levels)) self.old }
+    pub(crate) fn leave_block(&mut self, text: &[u8]) -> bool
+        requires { IsHeld self.old text.now }
+        ensures held { IsHeld self.new text.now }
+        ensures frame { frame_of self.new text.now ≡ past (after_part (leave self.old.spot.levels)) (frame_of self.old text.now) }
         ensures block { result ≡ has_block self.old.spot.levels }
     {
-        let _part = self.place.next_atom(self.line.of(&self.text));
+        let _part = self.place.next_atom(self.line.of(text));
         self.spot.leave()
     }
 
     /// Goes past the head of a region, which opens.
-    pub(crate) fn open_region(&mut self, is_run: bool)
-        ensures { self.new ≡ in_region (first_region is_run self.old.parts) self.old }
+    pub(crate) fn open_region(&mut self, text: &[u8], is_run: bool)
+        requires { IsHeld self.old text.now }
+        ensures held { IsHeld self.new text.now }
+        ensures frame { frame_of self.new text.now ≡ in_region
+            (first_region is_run (frame_of self.old text.now).parts) (frame_of self.old text.now) }
     {
-        let part = self.place.next_atom(self.line.of(&self.text));
+        let part = self.place.next_atom(self.line.of(text));
         self.region = region_of(&part, is_run);
         self.place = LinePlace::end();
         self.spot.begin_line();
     }
 
     /// A line begins.
-    pub(crate) fn begin_line(&mut self)
-        requires { begins_line self.old ≡ true }
-        ensures { self.new ≡ next_line None (first_atoms self.old.lines) self.old }
+    pub(crate) fn begin_line(&mut self, text: &[u8])
+        requires held { IsHeld self.old text.now }
+        requires line { begins_line (frame_of self.old text.now) ≡ true }
+        ensures held { IsHeld self.new text.now }
+        ensures frame { frame_of self.new text.now ≡ next_line None
+            (first_atoms (frame_of self.old text.now).lines) (frame_of self.old text.now) }
     {
-        self.line = pass_line(self.arguments, &self.text, &mut self.lines);
-        self.place = LinePlace::start(self.line.of(&self.text));
+        self.line = pass_line(self.arguments, text, &mut self.lines);
+        self.place = LinePlace::start(self.line.of(text));
         self.spot.begin_line();
     }
 
     /// Goes past a line in the open region.
-    pub(crate) fn pass_region_line(&mut self)
-        ensures { self.new ≡ next_line self.old.region [] self.old }
+    pub(crate) fn pass_region_line(&mut self, text: &[u8])
+        requires { IsHeld self.old text.now }
+        ensures held { IsHeld self.new text.now }
+        ensures frame { frame_of self.new text.now ≡ next_line self.old.region [] (frame_of self.old text.now) }
     {
-        let _line = pass_line(self.arguments, &self.text, &mut self.lines);
+        let _line = pass_line(self.arguments, text, &mut self.lines);
         self.place = LinePlace::end();
         self.spot.begin_line();
     }
 
     /// Goes past the end of the open region.
-    pub(crate) fn end_region(&mut self)
-        ensures { self.new ≡ next_line None [] self.old }
+    pub(crate) fn end_region(&mut self, text: &[u8])
+        requires { IsHeld self.old text.now }
+        ensures held { IsHeld self.new text.now }
+        ensures frame { frame_of self.new text.now ≡ next_line None [] (frame_of self.old text.now) }
     {
         self.region = None;
-        self.pass_region_line();
+        self.pass_region_line(text);
     }
 
     /// Where it stands is within its limits. Nothing is done: the region and the levels tell it.

@@ -7,4 +7,5 @@ use Rattle.page_roff_stack.proofs.input_stacks.InputStack.begins_line.Goals as g
 pub returns : goal.returns
 returns c =
     let a = c.self.inside in
-    c.begins_line.ensures ∙ line_next a.top.region a.top.parts a.top.lines (stack_of a).under ∙ ap (λ s. is_line (next_of s)) c.self.view_is
+    let s = stack_of a in
+    c.begins_line.ensures a.text.items c.self.invariant.top ∙ line_next s.top.region s.top.parts s.top.lines s.under ∙ ap (λ s. is_line (next_of s)) c.self.view_is

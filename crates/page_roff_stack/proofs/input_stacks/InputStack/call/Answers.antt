@@ -1,33 +1,61 @@
-use Rattle.std.proofs.Common.{◌<◌, ◌∷◌, length, ap, ◌∙◌, arith, length-set}
-use Rattle.page_roff_run.specs.Machine.{depth, is_some}
+use Rattle.std.proofs.Common.{◌≡◌, ◌++◌, ap, ◌∙◌, arith, length-append}
+use Rattle.page_roff_run.specs.Machine.{depth, entered, is_some}
 use Rattle.page_roff_values.specs.Arguments.{arguments_in, lines_in}
-use Rattle.page_roff_stack.specs.InputStacks.{stack_of}
+use Rattle.page_roff_stack.specs.declared.input_stacks.Caller.{Caller}
+use Rattle.page_roff_stack.specs.declared.input_stacks.InputStack.TheInside.{Inside}
+use Rattle.page_roff_stack.specs.Sources.{frame_of}
 use Rattle.page_roff_stack.specs.Stacks.{call_of}
-use Rattle.page_roff_stack.proofs.InputStackLemmas.{under_len, is_room, deeper}
+use Rattle.page_roff_stack.proofs.InputStackLemmas.{may_be_called, call_room, IsCalled, called_stack, called_held}
 use Rattle.page_roff_stack.proofs.input_stacks.InputStack.call.Goals as goal
 
-pub index_mut-requires : goal.index_mut-requires
-index_mut-requires c =
+pub enter-callee-requires-clause-room : goal.enter-callee-requires-clause-room
+enter-callee-requires-clause-room c =
     let a = c.self.inside in
-    let room = is_room (stack_of a).under (ap (λ s. is_some (depth s.under)) c.self.view_is ∙ c.requires.room) in
-    omega (arith, room, under_len a c.self.invariant, c.self.invariant.calls, a.others.ok.0)
+    let there = may_be_called a (ap (λ s. is_some (depth s.under)) c.self.view_is ∙ c.requires.room) in
+    call_room a there c.self.invariant
+
+pub push_reserved-requires : goal.push_reserved-requires
+push_reserved-requires c =
+    let a = c.self.inside in
+    let there = may_be_called a (ap (λ s. is_some (depth s.under)) c.self.view_is ∙ c.requires.room) in
+    omega (arith, there, a.others.ok.0, c.self.invariant.calls)
 
 pub invariant_of-self : goal.invariant_of-self
 invariant_of-self c =
     let a = c.self.inside in
-    let room = is_room (stack_of a).under (ap (λ s. is_some (depth s.under)) c.self.view_is ∙ c.requires.room) in
-    let there : a.depth < length a.others.items = omega (arith, room, under_len a c.self.invariant, c.self.invariant.calls) in
-    let under = deeper a.others.items a.depth c.swap.new.y there in
-    record {
-      page = rw (under, c.swap.ensures.y_after) c.self.invariant.page;
-      calls = length-set a.others.items a.depth c.swap.new.y ∙ c.self.invariant.calls;
-      deep = omega (arith, there, c.self.invariant.calls);
-    }
+    let b : Inside = record { text = c.enter-callee.new.text; top = c.replace-source.new.dest; others = c.push_reserved.new.self } in
+    let caller : Caller = record { source = c.replace-source.result; end = c.len-end.result } in
+    let more = c.args.body.now ++ c.args.arguments.now in
+    let there = may_be_called a (ap (λ s. is_some (depth s.under)) c.self.view_is ∙ c.requires.room) in
+    let called : IsCalled a b caller more = record {
+      source = c.replace-source.ensures.value;
+      end = c.len-end.ensures ∙ a.text.ok.0;
+      others = c.push_reserved.ensures.items;
+      text = c.enter-callee.ensures.text;
+      short = omega (arith, length-append c.args.body.now c.args.arguments.now, c.requires.body, c.requires.arguments);
+      held = rw c.replace-source.ensures.after c.enter-callee.ensures.held;
+      room = omega (arith, c.enter-callee.ensures.capacity, c.self.invariant.room);
+      calls = omega (arith, c.push_reserved.ensures.capacity, c.self.invariant.calls);
+    } in
+    called_held a b caller more called there c.self.invariant
 
 pub returns : goal.returns
 returns c =
     let a = c.self.inside in
-    let room = is_room (stack_of a).under (ap (λ s. is_some (depth s.under)) c.self.view_is ∙ c.requires.room) in
-    let there : a.depth < length a.others.items = omega (arith, room, under_len a c.self.invariant, c.self.invariant.calls) in
-    let under = deeper a.others.items a.depth c.swap.new.y there ∙ ap (λ f. f ∷ (stack_of a).under) c.swap.ensures.y_after in
-    rw (under, c.enter.ensures) (ap (λ s. call_of (lines_in c.args.body.now) (arguments_in c.args.arguments.now) s) c.self.view_is)
+    let b : Inside = record { text = c.enter-callee.new.text; top = c.replace-source.new.dest; others = c.push_reserved.new.self } in
+    let caller : Caller = record { source = c.replace-source.result; end = c.len-end.result } in
+    let more = c.args.body.now ++ c.args.arguments.now in
+    let called : IsCalled a b caller more = record {
+      source = c.replace-source.ensures.value;
+      end = c.len-end.ensures ∙ a.text.ok.0;
+      others = c.push_reserved.ensures.items;
+      text = c.enter-callee.ensures.text;
+      short = omega (arith, length-append c.args.body.now c.args.arguments.now, c.requires.body, c.requires.arguments);
+      held = rw c.replace-source.ensures.after c.enter-callee.ensures.held;
+      room = omega (arith, c.enter-callee.ensures.capacity, c.self.invariant.room);
+      calls = omega (arith, c.push_reserved.ensures.capacity, c.self.invariant.calls);
+    } in
+    let lines = lines_in c.args.body.now in
+    let args = arguments_in c.args.arguments.now in
+    let frame : frame_of b.top b.text.items ≡ entered lines args = rw c.replace-source.ensures.after c.enter-callee.ensures.frame in
+    called_stack a b caller more lines args called frame ∙ ap (λ s. call_of lines args s) c.self.view_is

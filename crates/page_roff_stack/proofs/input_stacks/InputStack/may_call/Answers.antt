@@ -1,4 +1,4 @@
-use Rattle.std.proofs.Common.{ap, sym, ◌∙◌}
+use Rattle.std.proofs.Common.{ap, sym, ◌∙◌, vec_len}
 use Rattle.page_roff_run.specs.Machine.{depth, is_some}
 use Rattle.page_roff_stack.specs.InputStacks.{stack_of}
 use Rattle.page_roff_stack.proofs.InputStackLemmas.{may_call_is, under_len}
@@ -7,4 +7,4 @@ use Rattle.page_roff_stack.proofs.input_stacks.InputStack.may_call.Goals as goal
 pub returns : goal.returns
 returns c =
     let a = c.self.inside in
-    may_call_is (stack_of a).under a.depth (sym (under_len a c.self.invariant)) ∙ ap (λ s. is_some (depth s.under)) c.self.view_is
+    rw c.len.ensures (may_call_is (stack_of a).under (vec_len a.others) (a.others.ok.0 ∙ sym (under_len a)) ∙ ap (λ s. is_some (depth s.under)) c.self.view_is)

@@ -1,16 +1,14 @@
-use Rattle.std.proofs.Common.{ap, sym, ◌∙◌}
-use Rattle.page_roff_stack.specs.Changes.{is_over}
+use Rattle.std.proofs.Common.{sym, ◌∙◌}
 use Rattle.page_roff_stack.proofs.SourceLemmas.{lines_here, over_region, over_line}
 use Rattle.page_roff_stack.proofs.sources.Source.is_over.Goals as goal
 
 pub returns-then-self : goal.returns-then-self
-returns-then-self c = lines_here c.self.inside c.if-self.true c.self.invariant.lines ∙ ap is_over c.self.view_is
+returns-then-self c = λ text h. lines_here c.args.self.now text c.if-self.true h.lines
 
 pub returns-then-is_some : goal.returns-then-is_some
-returns-then-is_some c =
-    over_region c.self.inside (sym c.is_some.ensures ∙ c.if-is_some.true) c.if-self.false c.self.invariant.lines ∙ ap is_over c.self.view_is
+returns-then-is_some c = λ text h.
+    over_region c.args.self.now text (sym c.is_some.ensures ∙ c.if-is_some.true) c.if-self.false h.lines
 
 pub returns : goal.returns
-returns c =
-    c.is_at_end.ensures ∙ over_line c.self.inside (sym c.is_some.ensures ∙ c.if-is_some.false) c.if-self.false c.self.invariant.lines
-    ∙ ap is_over c.self.view_is
+returns c = λ text h.
+    c.is_at_end.ensures ∙ over_line c.args.self.now text (sym c.is_some.ensures ∙ c.if-is_some.false) c.if-self.false h.lines

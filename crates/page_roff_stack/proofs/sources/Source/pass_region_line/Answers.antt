@@ -1,32 +1,29 @@
-use Rattle.std.proofs.Common.{[], ap, ◌∙◌}
-use Rattle.page_roff_stack.specs.Changes.{next_line}
 use Rattle.page_roff_stack.proofs.SourceLemmas.{IsPassed, skipped_view, skipped_held}
 use Rattle.page_roff_stack.proofs.sources.Source.pass_region_line.Goals as goal
 
-pub invariant_of-self : goal.invariant_of-self
-invariant_of-self c =
-    let a = c.self.inside in
-    let passed : IsPassed a c.pass_line-line.result c.pass_line-line.new.lines = record {
-      first = rw c.deref.ensures.value at c.pass_line-line.ensures.first;
-      rest = rw c.deref.ensures.value at c.pass_line-line.ensures.rest;
-      line_within = rw c.deref.ensures.value at c.pass_line-line.ensures.spans.0;
-      lines_within = rw c.deref.ensures.value at c.pass_line-line.ensures.spans.1;
+pub returns-clause-held : goal.returns-clause-held
+returns-clause-held c =
+    let a = c.args.self.now in
+    let passed : IsPassed a c.args.text.now c.pass_line-line.result c.pass_line-line.new.lines = record {
+      first = c.pass_line-line.ensures.first;
+      rest = c.pass_line-line.ensures.rest;
+      line_within = c.pass_line-line.ensures.spans.0;
+      lines_within = c.pass_line-line.ensures.spans.1;
     } in
-    skipped_held a c.pass_line-line.result c.end-self-inside.result c.pass_line-line.new.lines c.begin_line.new.self
-    passed c.end-self-inside.ensures c.begin_line.ensures c.self.invariant
+    skipped_held a c.args.text.now c.pass_line-line.result c.end-self.result c.pass_line-line.new.lines c.begin_line.new.self
+    passed c.end-self.ensures c.begin_line.ensures c.requires
 
-pub returns : goal.returns
-returns c =
-    let a = c.self.inside in
-    let passed : IsPassed a c.pass_line-line.result c.pass_line-line.new.lines = record {
-      first = rw c.deref.ensures.value at c.pass_line-line.ensures.first;
-      rest = rw c.deref.ensures.value at c.pass_line-line.ensures.rest;
-      line_within = rw c.deref.ensures.value at c.pass_line-line.ensures.spans.0;
-      lines_within = rw c.deref.ensures.value at c.pass_line-line.ensures.spans.1;
+pub returns-clause-frame : goal.returns-clause-frame
+returns-clause-frame c =
+    let a = c.args.self.now in
+    let passed : IsPassed a c.args.text.now c.pass_line-line.result c.pass_line-line.new.lines = record {
+      first = c.pass_line-line.ensures.first;
+      rest = c.pass_line-line.ensures.rest;
+      line_within = c.pass_line-line.ensures.spans.0;
+      lines_within = c.pass_line-line.ensures.spans.1;
     } in
-    skipped_view a c.pass_line-line.result c.end-self-inside.result c.pass_line-line.new.lines c.begin_line.new.self
-    passed c.end-self-inside.ensures c.begin_line.ensures
-    ∙ ap (λ f. next_line f.region [] f) c.self.view_is
+    skipped_view a c.args.text.now c.pass_line-line.result c.end-self.result c.pass_line-line.new.lines c.begin_line.new.self
+    passed c.end-self.ensures c.begin_line.ensures
 
 pub pass_line-line-requires-clause-lines : goal.pass_line-line-requires-clause-lines
-pass_line-line-requires-clause-lines c = rw c.deref.ensures.value c.self.invariant.only
+pass_line-line-requires-clause-lines c = c.requires.only
