@@ -1,20 +1,17 @@
 //! The body of a page: the events of its lines, with the header before the event that begins it (man(7)).
 
-ghost use Rattle.std.specs.Prelude.{◌≡◌, ◌≤◌, length, OnOk, IfOk};
-ghost use Rattle.page_core_base.specs.Latches.{Came, Emits};
+ghost use Rattle.std.specs.Prelude.{◌≡◌, ◌≤◌, length, IfOk};
+ghost use Rattle.page_core_base.specs.Latches.{Came};
 ghost use Rattle.page_core_base.specs.LinesTaken.{line_seen};
 ghost use Rattle.page_engine_body.specs.Bodies as bodies;
 ghost use Rattle.page_engine_body.specs.Bodies.{GivesEvent, GivesEvents, IsShort, plain_event};
 ghost use Rattle.page_engine_body.specs.Caps.{BodyFits};
 ghost use Rattle.page_sets_lines.specs.Events.{event_seen};
-ghost use Rattle.page_sets_lines.specs.Laws.{HasSlices};
 ghost use Rattle.page_sets_lines.specs.PlainLines.{line_end, plain_events};
 
 use crate::titles::give_title;
 use arrayvec::ArrayString;
-use page_core_base::{
-    Fault, NoteKind, Piece, PieceLatch, PieceOut, PieceSink, Place, Settings, Taken,
-};
+use page_core_base::{NoteKind, Piece, PieceOut, Place, Settings, Taken};
 use page_core_limits::LINE;
 use page_engine_header::{Fields, Measure, give_footer_row, give_header};
 use page_scopes::OpenScopes;
@@ -107,7 +104,7 @@ impl Body {
 
     // Gives the event that a line which is no control line is, before it ends.
     #[inline(always)]
-    fn give_plain_deed<O: PieceOut>(&mut self, out: &mut O, line: Taken<'_>, plain: PlainLine)
+    fn give_plain_event<O: PieceOut>(&mut self, out: &mut O, line: Taken<'_>, plain: PlainLine)
         requires { length line.text.now ≤ LINE }
         ensures { GivesEvent O.left (plain_event line.entry.line line.entry.text.now plain)
             self.old out.old self.new out.new }
@@ -129,7 +126,7 @@ impl Body {
         ensures { GivesEvent O.left (plain_event line.entry.line line.entry.text.now plain)
             self.old out.old self.new out.new }
     {
-        self.give_plain_deed(out, line, plain);
+        self.give_plain_event(out, line, plain);
     }
 
     // The same, in place of a call where the line is text with a word, as most lines are.
@@ -140,7 +137,7 @@ impl Body {
             self.old out.old self.new out.new }
     {
         match plain {
-            PlainLine::Words => self.give_plain_deed(out, line, PlainLine::Words),
+            PlainLine::Words => self.give_plain_event(out, line, PlainLine::Words),
             other => self.give_wordless(out, line, other),
         }
     }
