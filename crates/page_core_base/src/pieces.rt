@@ -87,8 +87,8 @@ pub trait PieceSink {
             (λ fault. broke self.old fault (shown (piece_of piece.entry) ∷ []) self.new) }
         ensures same { loans self.new ≡ loans self.old };
 
-    /// Takes the first words of a text, in which one blank stands before each, as far as they go into the open row and settle nothing;
-    /// answers how many bytes of the text these are. The blank before the first word stands at a place.
+    /// Takes as many of the first words of a text, in which one blank stands before each, as it can take at once; answers how many bytes
+    /// these are, which may be none. The blank before the first word stands at a place. Of any other text nothing is promised.
     fn take_words(&mut self, text: &[u8], font: Font, place: Place) -> usize
         ensures takes { TakesWords text.now font place result gave self.old self.new }
         ensures within { result ≤ length text.now }
