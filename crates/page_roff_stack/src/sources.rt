@@ -388,6 +388,7 @@ impl Source {
     }
 
     /// Goes past the end of the open region.
+    #[tactic(auto, using(crate::proofs::SourceLemmas::ended_held))]
     pub(crate) fn end_region(&mut self, text: &[u8])
         requires { IsHeld self.old text.now }
         ensures held { IsHeld self.new text.now }
