@@ -174,7 +174,8 @@ impl Body {
     where
         S::Place: Drop,
         requires { length taken.text.now ≤ LINE }
-        ensures { GivesEvents O.left (S.table set.now (line_seen taken.entry)) self.old out.old self.new out.new }
+        ensures { GivesEvents O.left (S.table set.now (line_seen taken.entry))
+            self.old out.old self.new out.new }
     {
         let mut place = set.start(taken);
         while let Some(event) = set.next(taken, &mut place) {

@@ -383,7 +383,12 @@ impl RowSink for Counter {
 
     ghost loans = { λ _. tt };
 
-    ghost laws = { record { none = λ _. tt; more = λ _ _ _ _ _ _ _. tt; after = λ _ _ _ _ _ _ _. tt; before = λ _ _ _ _ _. tt } };
+    ghost laws = { record {
+      none = λ _. tt;
+      more = λ _ _ _ _ _ _ _. tt;
+      after = λ _ _ _ _ _ _ _. tt;
+      before = λ _ _ _ _ _. tt;
+    } };
 
     ghost whole = { λ _ _ _ _. tt };
 
@@ -410,7 +415,12 @@ impl NoteSink for Counter {
 
     ghost loans = { λ _. tt };
 
-    ghost laws = { record { none = λ _. tt; more = λ _ _ _ _ _ _ _. tt; after = λ _ _ _ _ _ _ _. tt; before = λ _ _ _ _ _. tt } };
+    ghost laws = { record {
+      none = λ _. tt;
+      more = λ _ _ _ _ _ _ _. tt;
+      after = λ _ _ _ _ _ _ _. tt;
+      before = λ _ _ _ _ _. tt;
+    } };
 
     ghost whole = { λ _ _ _ _. tt };
 
