@@ -9,7 +9,8 @@ use Rattle.page_core_escapes.specs.Extents.{character_len, name_len}
 use Rattle.page_core_escapes.specs.Lengths.{extent_len, escape_len_by, escape_len}
 use Rattle.page_core_escapes.specs.Letters.{letter_of}
 use Rattle.page_core_escapes.specs.Meanings.{Face, Meaning, character, nothing, face, face_of, meaning_of, roman, italic, bold, bold_italic, former}
-use Rattle.page_core_escapes.specs.Steps.{FontLetter, ShortEscape, ShortFont}
+use Rattle.page_core_escapes.specs.ShortEscapes.{ShortEscape, ShortFont}
+use Rattle.page_core_escapes.specs.Steps.{FontLetter}
 
 short_escape : (letter : ℕ) (rest : List ℕ) (font : Face) → FontLetter letter font → escape_of (92 ∷ 102 ∷ letter ∷ rest) ≡ (face font, 3)
 unfolding escape_of escape_len escape_len_by extent_len letter_of meaning_of
@@ -23,7 +24,7 @@ short_font (x ∷ y ∷ []) font h a b f = absurd (omega (arith, h))
 short_font (x ∷ y ∷ z ∷ rest) font h a b f =
     let first : x ≡ 92 = a in
     let second : y ≡ 102 = b in
-    record { backslash = a; escape = record { some = omega arith; within = h; escape = rw (first, second) (short_escape z rest font f) } }
+    record { backslash = a; escape = record { not_empty = omega arith; within = h; escape = rw (first, second) (short_escape z rest font f) } }
 
 -- a character of one byte
 alone_len : (letter : ℕ) (rest : List ℕ) → continuation_len letter ≡ 0 → character_len (letter ∷ rest) ≡ Some 1
@@ -51,7 +52,7 @@ code_font (x ∷ y ∷ z ∷ u ∷ v ∷ rest) h a b c d e =
     let third : z ≡ 40 = c in
     let fourth : u ≡ 67 = d in
     let fifth : v ≡ 87 = e in
-    record { backslash = a; escape = record { some = omega arith; within = h; escape = rw (first, second, third, fourth, fifth) (code_escape rest) } }
+    record { backslash = a; escape = record { not_empty = omega arith; within = h; escape = rw (first, second, third, fourth, fifth) (code_escape rest) } }
 
 -- escapes of a letter alone
 nothing_escape : (rest : List ℕ) → escape_of (92 ∷ 38 ∷ rest) ≡ (nothing, 2)
@@ -73,7 +74,7 @@ short letter meaning is (x ∷ []) h a b = absurd (omega (arith, h))
 short letter meaning is (x ∷ y ∷ rest) h a b =
     let first : x ≡ 92 = a in
     let second : y ≡ letter = b in
-    record { some = omega arith; within = h; escape = rw (first, second) (is rest) }
+    record { not_empty = omega arith; within = h; escape = rw (first, second) (is rest) }
 
 pub short_nothing : (text : List ℕ) → 2 ≤ length text → get_or text 0 0 ≡ 92 → get_or text 1 0 ≡ 38 → ShortEscape text nothing 2
 short_nothing text h a b = short 38 nothing nothing_escape text h a b

@@ -5,4 +5,5 @@ pub mod Lengths
 pub mod Steps
 pub mod Meanings
 pub mod Escapes
+pub mod ShortEscapes
 pub mod Tokens

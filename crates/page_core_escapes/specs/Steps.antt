@@ -1,15 +1,14 @@
--- Of the code's own steps: what is read next in a quoted argument, a byte, an escape, an argument inside it or the delimiter at its end; fonts that one
--- letter names; and escapes that few bytes tell. No public clause but that of `short_font` cites them.
-use Rattle.std.specs.Prelude.{ℕ, ◌≡◌, ◌+◌, ◌<◌, ◌≤◌, ◌==◌, nat_eq, slice_index, List, [], ◌∷◌, length, take, drop, if◌then◌else◌, Option, Some, None, option_map, option_and_then, unwrap_or}
+-- Of the code's own steps, which no public clause cites: what is read next in a quoted argument, a byte, an escape, an argument inside it
+-- or the delimiter at its end; and fonts that one letter names.
+use Rattle.std.specs.Prelude.{ℕ, ◌≡◌, ◌+◌, ◌<◌, ◌≤◌, ◌==◌, nat_eq, List, [], ◌∷◌, length, take, drop, if◌then◌else◌, Option, Some, None, option_map, option_and_then, unwrap_or}
 use Rattle.std.specs.List.{starts_with}
 use Rattle.page_core_escapes.specs.declared.extents.Extent.{Extent}
 use Rattle.page_core_escapes.specs.declared.extents.Extent.TheVariants.{Whole, QuotedFrom}
 use Rattle.page_core_escapes.specs.declared.quoted.Step.{Step}
 use Rattle.page_core_escapes.specs.declared.quoted.Step.TheVariants.{Passes, Opens, Closes}
 use Rattle.page_core_escapes.specs.Bytes.{backslash}
-use Rattle.page_core_escapes.specs.Escapes.{escape_of}
 use Rattle.page_core_escapes.specs.Extents.{character_len, extent_of, name_len}
-use Rattle.page_core_escapes.specs.Meanings.{Face, Meaning, bare_name, face, face_of}
+use Rattle.page_core_escapes.specs.Meanings.{Face, bare_name, face_of}
 
 -- the first character of a text, as it is written
 abbrev pub first_character : List ℕ → List ℕ
@@ -40,14 +39,3 @@ pub record FontLetter (letter : ℕ) (font : Face) : Type 0 where
   pub named : face_of (letter ∷ []) ≡ font
   pub bare : bare_name (letter ∷ []) ≡ letter ∷ []
   pub alone : (rest : List ℕ) → name_len (letter ∷ rest) ≡ Some 1
-
--- a few bytes at a text's front are an escape
-pub record ShortEscape (text : List ℕ) (meaning : Meaning) (len : ℕ) : Type 0 where
-  pub some : 0 < len
-  pub within : len ≤ length text
-  pub escape : escape_of text ≡ (meaning, len)
-
--- they are one that asks for a font
-pub record ShortFont (text : List ℕ) (font : Face) (len : ℕ) : Type 0 where
-  pub backslash : slice_index text 0 ≡ backslash
-  pub escape : ShortEscape text (face font) len

@@ -1,5 +1,5 @@
 //! How many bytes a quoted argument takes.
-ghost use Rattle.std.specs.Prelude.{◌≡◌, ◌+◌, ◌<◌, ◌≤◌, ℕ, length, drop, IfSome};
+ghost use Rattle.std.specs.Prelude.{◌≡◌, ◌+◌, ◌<◌, ◌≤◌, length, IfSome};
 ghost use Rattle.page_core_escapes.specs.Extents.{character_len};
 ghost use Rattle.page_core_escapes.specs.Lengths.{quoted_len, content_len};
 ghost use Rattle.page_core_escapes.specs.Steps.{first_character, opening_of, step_of, StepFits};

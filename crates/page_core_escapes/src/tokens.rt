@@ -4,7 +4,7 @@ ghost use Rattle.std.specs.Prelude.{◌≡◌, ◌≤◌, ◌<◌, length, map, 
 ghost use Rattle.std.specs.List.{prefix_len};
 ghost use Rattle.std.specs.Simd.Lanes.{mask_l};
 ghost use Rattle.page_core_escapes.specs.Escapes.{face_seen, meaning_seen};
-ghost use Rattle.page_core_escapes.specs.Steps.{ShortEscape, ShortFont};
+ghost use Rattle.page_core_escapes.specs.ShortEscapes.{ShortEscape, ShortFont};
 ghost use Rattle.page_core_escapes.specs.Tokens.{is_white, begins_white, begins_word, begins_escape, begins_quote, prints_itself, is_space, token_at, token_bytes, token_seen};
 
 use crate::meaning::font_by_letter;
@@ -157,7 +157,7 @@ pub fn plain_len(quoted: bool, text: &[u8]) -> usize
         .count()
 }
 
-// The roman font by the name that most pages with code give it.
+// The font of `\f(CW`, as most pages write code: it prints as roman.
 #[inline(always)]
 fn code_font(text: &[u8]) -> Option<(FontName<'_>, usize)>
     requires backslash { slice_index text.now 0 ≡ 0x5C }

@@ -8,7 +8,7 @@ use Rattle.std.proofs.lemmas.List.{length-map}
 use Rattle.std.proofs.lemmas.Simd.{length-chunk, length-zip2, get_or-chunk, mask_l-mod}
 use Rattle.std.proofs.lemmas.Bool.Decides.{nat_tests}
 use Rattle.page_roff_forms.specs.LineForms.{without_comment, begins_comment}
-use Rattle.page_roff_forms.specs.Pairs.{is_pair, pair_at, LacksPair}
+use Rattle.page_roff_forms.specs.Pairs.{is_pair, pair_at, LacksPair, LacksPairFrom}
 
 -- a line without the pairs that begin a comment
 
@@ -17,13 +17,13 @@ uncommented_if : (a b : Bool) (x y : ℕ) (bytes rest : List ℕ) → (a && b) �
 uncommented_if true b x y bytes rest e h = rw (e, h) refl
 uncommented_if false b x y bytes rest e h = refl
 
-shifted : (key other x : ℕ) (xs : List ℕ) (k : ℕ) → pair_at key other (x ∷ xs) (suc k) ≡ pair_at key other xs k
-shifted key other x xs k =
+shifted : (one other x : ℕ) (xs : List ℕ) (k : ℕ) → pair_at one other (x ∷ xs) (suc k) ≡ pair_at one other xs k
+shifted one other x xs k =
     let e : suc k + 1 ≡ suc (k + 1) = omega arith in
-    ap (λ n. is_pair key other (get_or xs k 0) (get_or (x ∷ xs) n 0)) e
+    ap (λ n. is_pair (get_or xs k 0) (get_or (x ∷ xs) n 0) one other) e
 
-pub lacks_later : (key other x : ℕ) (xs : List ℕ) → LacksPair key other (x ∷ xs) → LacksPair key other xs
-lacks_later key other x xs h = λ k l. sym (shifted key other x xs k) ∙ h (suc k) (omega arith)
+pub lacks_later : (one other x : ℕ) (xs : List ℕ) → LacksPair one other (x ∷ xs) → LacksPair one other xs
+lacks_later one other x xs h = λ k l. sym (shifted one other x xs k) ∙ h (suc k) (omega arith)
 
 pub without_pairs : (line : List ℕ) → LacksPair 34 35 line → without_comment line ≡ line
 without_pairs [] h = refl
@@ -53,50 +53,83 @@ others_unset : (b : Bool) (m : ℕ) → cond b 1 0 + 2 * m ≡ 0 → m ≡ 0
 others_unset true m h = omega arith
 others_unset false m h = omega arith
 
+both_unset : (b : Bool) (m : ℕ) → b ≡ false → m ≡ 0 → cond b 1 0 + 2 * m ≡ 0
+both_unset b m h e = rw (h, e) refl
+
 abbrev pub firsts : List ℕ → List ℕ
 firsts v = map (λ x. cond (eqb x 92) 255 0) v
 
 abbrev pub seconds : ℕ → ℕ → List ℕ → List ℕ
-seconds key other w = map (λ y. bit_or (cond (eqb y key) 255 0) (cond (eqb y other) 255 0)) w
+seconds one other w = map (λ y. bit_or (cond (eqb y one) 255 0) (cond (eqb y other) 255 0)) w
 
-pub none_set : (key other : ℕ) (v w : List ℕ) → length v ≡ length w → mask_l (map (top 7) (zip2 bit_and (firsts v) (seconds key other w))) ≡ 0
-    → (k : ℕ) → k < length v → is_pair key other (get_or v k 0) (get_or w k 0) ≡ false
-none_set key other [] w e h k l = absurd (omega arith)
-none_set key other (x ∷ v) [] e h k l = absurd (omega arith)
-none_set key other (x ∷ v) (y ∷ w) e h zero l =
-    let s = rw (lane (eqb x 92) (eqb y key) (eqb y other)) at h in
-    first_unset (is_pair key other x y) _ s
-none_set key other (x ∷ v) (y ∷ w) e h (suc k) l =
-    let s = rw (lane (eqb x 92) (eqb y key) (eqb y other)) at h in
-    none_set key other v w (omega arith) (others_unset (is_pair key other x y) _ s) k (omega arith)
+pub none_set : (one other : ℕ) (v w : List ℕ) → length v ≡ length w → mask_l (map (top 7) (zip2 bit_and (firsts v) (seconds one other w))) ≡ 0
+    → (k : ℕ) → k < length v → is_pair (get_or v k 0) (get_or w k 0) one other ≡ false
+none_set one other [] w e h k l = absurd (omega arith)
+none_set one other (x ∷ v) [] e h k l = absurd (omega arith)
+none_set one other (x ∷ v) (y ∷ w) e h zero l =
+    let s = rw (lane (eqb x 92) (eqb y one) (eqb y other)) at h in
+    first_unset (is_pair x y one other) _ s
+none_set one other (x ∷ v) (y ∷ w) e h (suc k) l =
+    let s = rw (lane (eqb x 92) (eqb y one) (eqb y other)) at h in
+    none_set one other v w (omega arith) (others_unset (is_pair x y one other) _ s) k (omega arith)
+
+all_unset : (one other : ℕ) (v w : List ℕ) → length v ≡ length w → ((k : ℕ) → k < length v → is_pair (get_or v k 0) (get_or w k 0) one other ≡ false)
+    → mask_l (map (top 7) (zip2 bit_and (firsts v) (seconds one other w))) ≡ 0
+all_unset one other [] w e h = refl
+all_unset one other (x ∷ v) [] e h = absurd (omega arith)
+all_unset one other (x ∷ v) (y ∷ w) e h =
+    let more = all_unset one other v w (omega arith) (λ k l. h (suc k) (omega arith)) in
+    rw (lane (eqb x 92) (eqb y one) (eqb y other)) (both_unset (is_pair x y one other) _ (h 0 (omega arith)) more)
 
 -- the lanes of a load of sixteen bytes, and of the load one byte after it
 
 no_bits : (n : ℕ) → not (n == 0) ≡ false → n ≡ 0
 no_bits n h = grind (arith, nat_tests)
 
-lanes_short : (key other : ℕ) (v w : List ℕ) → length v ≡ 16 → length w ≡ 16 → length (map (top 7) (zip2 bit_and (firsts v) (seconds key other w))) ≤ 64
-lanes_short key other v w e f =
-    let a = length-map (zip2 bit_and (firsts v) (seconds key other w)) (top 7) in
+bits_none : (n : ℕ) → n ≡ 0 → not (n == 0) ≡ false
+bits_none n h = rw h refl
+
+lanes_short : (one other : ℕ) (v w : List ℕ) → length v ≡ 16 → length w ≡ 16 → length (map (top 7) (zip2 bit_and (firsts v) (seconds one other w))) ≤ 64
+lanes_short one other v w e f =
+    let a = length-map (zip2 bit_and (firsts v) (seconds one other w)) (top 7) in
     let g : length (firsts v) ≡ 16 = length-map v (λ x. cond (eqb x 92) 255 0) ∙ e in
-    let h : length (seconds key other w) ≡ 16 = length-map w (λ y. bit_or (cond (eqb y key) 255 0) (cond (eqb y other) 255 0)) ∙ f in
-    let b = length-zip2 bit_and (firsts v) (seconds key other w) (g ∙ sym h) in
+    let h : length (seconds one other w) ≡ 16 = length-map w (λ y. bit_or (cond (eqb y one) 255 0) (cond (eqb y other) 255 0)) ∙ f in
+    let b = length-zip2 bit_and (firsts v) (seconds one other w) (g ∙ sym h) in
     omega (arith, a, b, g)
 
-pub no_pairs : (key other at : ℕ) (text z : List ℕ) → at + 16 < length text
-    → z ≡ zip2 bit_and (firsts (chunk at 16 text)) (seconds key other (chunk (at + 1) 16 text))
-    → not (mask_l (map (top 7) z) % 2 ^ 64 == 0) ≡ false
-    → (k : ℕ) → at ≤ k → k < at + 16 → pair_at key other text k ≡ false
-no_pairs key other at text z room e h k low high =
+pub no_pairs : (one other at : ℕ) (text z : List ℕ) → at + 16 < length text
+    → z ≡ zip2 bit_and (firsts (chunk at 16 text)) (seconds one other (chunk (at + 1) 16 text))
+    → not (mask_l (map (top 7) z) % 2 ^ 64 == 0) ≡ false → LacksPairFrom at 16 one other text
+no_pairs one other at text z room e h k low high =
     let v = chunk at 16 text in
     let w = chunk (at + 1) 16 text in
     let lv : length v ≡ 16 = length-chunk at 16 text (omega arith) in
     let lw : length w ≡ 16 = length-chunk (at + 1) 16 text (omega arith) in
-    let m = mask_l-mod (map (top 7) (zip2 bit_and (firsts v) (seconds key other w))) 64 (lanes_short key other v w lv lw) in
+    let m = mask_l-mod (map (top 7) (zip2 bit_and (firsts v) (seconds one other w))) 64 (lanes_short one other v w lv lw) in
     let n = sym m ∙ no_bits _ (rw e at h) in
-    let r = none_set key other v w (omega arith) n (k - at) (omega arith) in
+    let r = none_set one other v w (omega arith) n (k - at) (omega arith) in
     let a = get_or-chunk at 16 text (k - at) 0 (omega arith) in
     let b = get_or-chunk (at + 1) 16 text (k - at) 0 (omega arith) in
     let i : at + (k - at) ≡ k = omega arith in
     let j : at + 1 + (k - at) ≡ k + 1 = omega arith in
     rw (a, b, i, j) at r
+
+lacks_here : (one other at : ℕ) (text : List ℕ) (k : ℕ) → k < 16 → at + 16 < length text → LacksPairFrom at 16 one other text
+    → is_pair (get_or (chunk at 16 text) k 0) (get_or (chunk (at + 1) 16 text) k 0) one other ≡ false
+lacks_here one other at text k l room h =
+    let a = get_or-chunk at 16 text k 0 (omega arith) in
+    let b = get_or-chunk (at + 1) 16 text k 0 (omega arith) in
+    let j : at + 1 + k ≡ at + k + 1 = omega arith in
+    rw (a, b, j) (h (at + k) (omega arith) (omega arith))
+
+pub no_lanes : (one other at : ℕ) (text z : List ℕ) → at + 16 < length text
+    → z ≡ zip2 bit_and (firsts (chunk at 16 text)) (seconds one other (chunk (at + 1) 16 text))
+    → LacksPairFrom at 16 one other text → not (mask_l (map (top 7) z) % 2 ^ 64 == 0) ≡ false
+no_lanes one other at text z room e h =
+    let v = chunk at 16 text in
+    let w = chunk (at + 1) 16 text in
+    let lv : length v ≡ 16 = length-chunk at 16 text (omega arith) in
+    let lw : length w ≡ 16 = length-chunk (at + 1) 16 text (omega arith) in
+    let m = mask_l-mod (map (top 7) (zip2 bit_and (firsts v) (seconds one other w))) 64 (lanes_short one other v w lv lw) in
+    let none = all_unset one other v w (lv ∙ sym lw) (λ k l. lacks_here one other at text k (omega arith) room h) in
+    rw e (bits_none _ (m ∙ none))

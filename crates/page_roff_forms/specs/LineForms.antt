@@ -68,6 +68,7 @@ name_of BlankLine = None
 name_of (Text text) = None
 name_of (Control name column rest rest_column) = Some name
 
+-- a name of the program, with what its text holds
 abbrev pub name_seen : Option (Bor (List ℕ)) → Option (List ℕ)
 name_seen name = option_map (λ text. text.now) name
 

@@ -2,7 +2,8 @@
 
 ghost use Rattle.std.specs.Prelude.{◌≡◌, ◌≤◌, ◌<◌, false, length};
 ghost use Rattle.std.specs.List.{prefix_len};
-ghost use Rattle.page_roff_forms.specs.LineForms.{is_white, is_name, has_word, begins_control, without_comment, control_line, form_of, form_seen, name_of, name_seen, FitsLine};
+ghost use Rattle.page_roff_forms.specs.LineForms.{is_white, is_name, has_word, begins_control, without_comment, control_line, form_of, FitsLine};
+ghost use Rattle.page_roff_forms.specs.LineForms.{form_seen, name_of, name_seen};
 
 use crate::comments::uncommented_len;
 use page_core_limits::LINE;
@@ -139,7 +140,7 @@ pub fn form_of(line: &[u8]) -> LineForm<&[u8]>
     text_form(line)
 }
 
-/// The name of a control line. It is found without a look at the line's comment.
+/// The name of a control line; none of another line. No comment is looked for.
 pub fn control_name(line: &[u8]) -> Option<&[u8]>
     ensures { name_seen result ≡ name_of (form_of line.now) }
 {

@@ -1,6 +1,6 @@
 -- A run of bytes does to the open line what its bytes do one by one.
 use Rattle.std.proofs.Common.{zero, suc, add_assoc, ◌≡◌, ℕ, ◌+◌, ◌-◌, ◌<◌, Bool, true, false, List, [], ◌∷◌, ◌++◌, length, take, get_or, refl, ap, ◌∙◌, append_assoc, length-append, arith}
-use Rattle.std.specs.Prelude.{◌==◌, ◌||◌}
+use Rattle.std.specs.Prelude.{◌==◌, ◌||◌, slice_index}
 use Rattle.page_roff_lines.specs.declared.Mode.{Mode}
 use Rattle.page_roff_lines.specs.declared.Mode.TheVariants.{Plain, Backslash, Comment, Dropped}
 use Rattle.page_roff_lines.specs.declared.Mark.{Mark}
@@ -9,7 +9,12 @@ use Rattle.page_roff_lines.specs.Bytes.{newline, carriage_return, backslash}
 use Rattle.page_roff_lines.specs.Limit.{line_limit}
 use Rattle.page_roff_lines.specs.Held.{Held, nothing_held, extend}
 use Rattle.page_roff_lines.specs.Open.{Open, restart, next_open, put_byte, put_in, put_plain, put_newline, without_return, newline_in, close, put, count_byte, ends_mark, mark_after, if_whole, whole_lines, open_after}
-use Rattle.page_roff_lines.specs.Run.{IsRun, InText, ends_run, is_settled, run_in, with_run}
+use Rattle.page_roff_lines.specs.Run.{InText, ends_run, is_settled, run_in, with_run}
+
+-- no byte of the run ends it
+pub record IsRun (o : Open) (run : List ℕ) : Type 0 where
+  pub settled : is_settled o.mark ≡ true
+  pub bytes : (k : ℕ) → k < length run → ends_run o.mode (slice_index run k) ≡ false
 
 -- an open line that is not whole
 abbrev pub st : Mode → Held → Bool → Bool → ℕ → ℕ → ℕ → Mark → Open

@@ -25,11 +25,6 @@ is_settled Second = false
 is_settled Absent = true
 is_settled Present = true
 
--- no byte of the run ends it
-pub record IsRun (o : Open) (run : List ℕ) : Type 0 where
-  pub settled : is_settled o.mark ≡ true
-  pub bytes : (k : ℕ) → k < length run → ends_run o.mode (slice_index run k) ≡ false
-
 -- the byte after a backslash stays with it, and begins no comment
 abbrev pub stays : ℕ → Bool
 stays b = is_printable b && (not (b == quote) && not (b == hash))

@@ -1,5 +1,5 @@
 //! The first bytes of a text that grows and shrinks at its end.
-ghost use Rattle.std.specs.Prelude.{◌≡◌, ◌+◌, ◌^◌, ◌<◌, ◌≤◌, ◌∷◌, [], length, true, OnOk, IfOk};
+ghost use Rattle.std.specs.Prelude.{◌≡◌, ◌+◌, ◌^◌, ◌<◌, ◌≤◌, ◌∷◌, [], length, true, IfOk};
 ghost use Rattle.std.specs.List.{list_all};
 ghost use Rattle.page_roff_lines.specs.Characters.{is_printable};
 ghost use Rattle.page_roff_lines.specs.Held.{extend, shorten, nothing_held};

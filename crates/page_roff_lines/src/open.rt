@@ -1,5 +1,5 @@
 //! The open logical line of a page.
-ghost use Rattle.std.specs.Prelude.{◌≡◌, ◌+◌, ◌-◌, ◌^◌, ◌<◌, ◌≤◌, ◌∷◌, [], length, take, true, false, nat_lt, IfOk, IsTrue, if◌then◌else◌};
+ghost use Rattle.std.specs.Prelude.{◌≡◌, ◌+◌, ◌-◌, ◌^◌, ◌<◌, ◌≤◌, ◌∷◌, [], length, take, true, false, IfOk, if◌then◌else◌};
 ghost use Rattle.std.specs.List.{list_all};
 ghost use Rattle.page_roff_lines.specs.Open.{pair_mode as spec_pair_mode};
 ghost use Rattle.page_roff_lines.specs.Characters.{is_printable};

@@ -220,14 +220,14 @@ module _ {P S : Type 0} (left : P → S → List Message → Type 0) where
   pub quiet : (old new : Runner) (out : S) (movement : Movement) (progress : Progress) → Shifts old movement progress new
       → IfDone progress ⊥
       → Moves left old out movement progress new out
-  quiet old new out movement progress h more = record {
+  quiet old new out movement progress h not_done = record {
     output = h.output;
     setting = h.setting;
     notes = [];
     came = came_none left out;
     step = λ given. h.step given ∙ ap (λ given. reached_with progress given new) (sym (append-nil given));
     body = h.body;
-    more = more;
+    not_done = not_done;
   }
 
   product_done : (product : ProductKind) (P : Type 0) → IfDone (progress_as product) P
@@ -310,7 +310,7 @@ module _ {P S : Type 0} (left : P → S → List Message → Type 0) where
             entered_step old Exceeds value column given b (given ++ map says outcome.notes) ew
             (acted old.doing.budget old.doing.actions.memory b given outcome refl d.memory refl);
         body = same_depth old.stack.under (entered_block old Exceeds value) refl;
-        more = tt;
+        not_done = tt;
       }
 
   -- a block ends
@@ -339,5 +339,5 @@ module _ {P S : Type 0} (left : P → S → List Message → Type 0) where
         rw has (ap (λ state. Some (running (with_top (past (after_part (leave old.stack.top.spot.levels)) old.stack.top) old.stack) state))
         (a.state old.stack.top.kind (record { page = sym ep; setting = k }) given));
     body = same_depth old.stack.under (with_top (past (after_part (leave old.stack.top.spot.levels)) old.stack.top) old.stack) refl;
-    more = tt;
+    not_done = tt;
   }

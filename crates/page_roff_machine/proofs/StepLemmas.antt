@@ -84,7 +84,7 @@ module _ {P S : Type 0} (left : P → S → List Message → Type 0) where
         ∙ b.step (map says a.notes)
         ∙ ap (λ (given : List Given). reached_with progress given new) (said [] a.notes b.notes);
     body = λ h. b.body (h ∙ ap (λ (s : Stack). suc (length s.under)) (sym a.stack));
-    done = if_done progress ⊥ ((new ≡ old) × (a.notes ++ b.notes ≡ []) × (is_nothing (next_of old.stack) ≡ true)) (λ none. absurd none) b.more;
+    done = if_done progress ⊥ ((new ≡ old) × (a.notes ++ b.notes ≡ []) × (is_nothing (next_of old.stack) ≡ true)) (λ none. absurd none) b.not_done;
   }
 
   -- nothing is left

@@ -170,4 +170,5 @@ pub record Moves {P S : Type 0} (left : P → S → List Message → Type 0) (ol
       → moved (output_of old.doing) movement old.stack given old.doing
       ≡ reached_with result (given ++ map says notes) new
   pub body : IsBodyWithin old.stack.under new.stack
-  pub more : IfDone result ⊥
+  -- a step never tells that the source line is done
+  pub not_done : IfDone result ⊥

@@ -2,7 +2,6 @@
 
 ghost use Rattle.std.specs.Prelude.{◌≡◌, ◌≤◌, ◌&&◌, not, length};
 ghost use Rattle.page_core_limits.specs.declared.TheConstants.{LINE};
-ghost use Rattle.page_roff_heads.specs.Conditions.{FitsTest};
 ghost use Rattle.page_roff_blocks.specs.Atoms.{branch_seen, FitsBranch};
 ghost use Rattle.page_roff_blocks.specs.Regions.{region_seen};
 ghost use Rattle.page_roff_blocks.specs.Levels.{opened_seen};

@@ -18,6 +18,7 @@ IsVerbatim copy text = copied_bytes (parts copy text) ≡ Some text
 abbrev pub may_call : ℕ → Bool
 may_call letter = letter == 42 || (letter == 110 || (letter == 36 || letter == 119))
 
+-- a backslash (92)
 abbrev pub is_backslash : ℕ → Bool
 is_backslash b = b == 92
 

@@ -1,8 +1,6 @@
 //! What interpolations read: the names of a page, the arguments of the macro that runs, and the read-only number registers (roff(7)).
 
 ghost use Rattle.std.specs.Prelude.{◌≡◌};
-ghost use Rattle.page_roff_names.specs.Names.{Lends, string_of};
-ghost use Rattle.page_roff_values.specs.Arguments.{argument_of};
 ghost use Rattle.page_roff_values.specs.Environments.{surroundings_of, read_only, register_found, register_of};
 
 use crate::call_arguments::CallArguments;

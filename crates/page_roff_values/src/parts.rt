@@ -1,6 +1,6 @@
 //! What a text is made of (roff(7), "Escape sequences").
 
-ghost use Rattle.std.specs.Prelude.{◌≡◌, ℕ, ◌<◌, ◌≤◌, ◌+◌, ◌==◌, List, length, Some, None, IsTrue, MatchOption, option_map, position, IfSome, take, drop, get_or};
+ghost use Rattle.std.specs.Prelude.{◌≡◌, ◌<◌, ◌≤◌, ◌+◌, ◌==◌, length, Some, None, IsTrue, option_map, IfSome, take, drop, get_or};
 ghost use Rattle.page_roff_values.specs.Brackets.{IsKnown};
 ghost use Rattle.page_roff_values.specs.Parts as reading;
 ghost use Rattle.page_roff_values.specs.Views.{seen_of, cut_of, call_of};

@@ -1,6 +1,6 @@
 //! The texts that are being read.
 
-ghost use Rattle.std.specs.Prelude.{◌≡◌, ℕ, ◌<◌, ◌≤◌, ◌+◌, ◌^◌, nat_le, List, [], ◌∷◌, length, Option, Some, None, MatchOption};
+ghost use Rattle.std.specs.Prelude.{◌≡◌, ℕ, ◌<◌, ◌≤◌, ◌+◌, ◌^◌, [], ◌∷◌, length, Option, Some, None, MatchOption};
 ghost use Rattle.page_roff_values.specs.Rest.{texts_of, size, Reads};
 
 use crate::parts::Part;
@@ -28,8 +28,8 @@ impl<'e> Sources<'e> {
         }
     }
 
-    /// The next part of the innermost text that isn't at its end. Parts that are copied are one where they are no longer than `fits`, which is
-    /// at most the room that is left.
+    /// The next part of the innermost text that isn't at its end. Parts that are copied come as one as far as they have at most `fits` bytes;
+    /// there must be room for so many.
     pub(crate) fn next(&mut self, copy: bool, fits: usize) -> Option<Part<&'e [u8]>>
         ensures reads { Reads copy fits (texts_of self.old) result (texts_of self.new) }
         ensures falls { MatchOption result ℕ (λ p. size (texts_of self.new) < size (texts_of self.old)) }

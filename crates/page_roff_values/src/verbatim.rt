@@ -1,6 +1,6 @@
 //! Texts that are their own value (roff(7), "Escape sequences").
 
-ghost use Rattle.std.specs.Prelude.{◌≡◌, ℕ, ◌+◌, ◌<◌, ◌≤◌, length, map, false, IsTrue};
+ghost use Rattle.std.specs.Prelude.{◌≡◌, ◌+◌, ◌<◌, length, map, false, IsTrue};
 ghost use Rattle.std.specs.Simd.Lanes.{mask_l};
 ghost use Rattle.page_roff_values.specs.Verbatim.{IsFree, IsFreeFrom, IsVerbatim, is_backslash, may_call};
 

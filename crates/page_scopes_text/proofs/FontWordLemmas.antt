@@ -8,7 +8,7 @@ use Rattle.page_core_base.specs.Pieces.{Item}
 use Rattle.page_core_base.specs.declared.places.Place.{Place}
 use Rattle.page_core_escapes.specs.Meanings as meanings
 use Rattle.page_core_escapes.specs.Meanings.{Face, face}
-use Rattle.page_core_escapes.specs.Steps.{ShortFont}
+use Rattle.page_core_escapes.specs.ShortEscapes.{ShortFont}
 use Rattle.page_core_escapes.specs.Tokens.{TextToken, plain, escaped, begins_word, prints_itself, token_at, token_len, token_seen}
 use Rattle.page_scopes_words.specs.Words.{face_notes}
 use Rattle.page_scopes_text.proofs.PartedLemmas.{no_word, plain_begins, plain_token, words_more}
@@ -55,14 +55,14 @@ known_notes place (meanings.unknown name) h = absurd (never h)
 
 font_token : (text : List ℕ) (font : Face) (n : ℕ) → ShortFont text font n → (quoted : Bool) → token_at quoted text ≡ escaped (take n text) (face font)
 unfolding token_at
-font_token [] font n s quoted = absurd (omega (arith, s.escape.some, s.escape.within))
+font_token [] font n s quoted = absurd (omega (arith, s.escape.not_empty, s.escape.within))
 font_token (b ∷ bs) font n s quoted =
     let first : b ≡ 92 = s.backslash in
     let is = rw first at s.escape.escape in
     rw (first, is) refl
 
 font_begins : (text : List ℕ) (font : Face) (n : ℕ) → ShortFont text font n → begins_word text ≡ true
-font_begins [] font n s = absurd (omega (arith, s.escape.some, s.escape.within))
+font_begins [] font n s = absurd (omega (arith, s.escape.not_empty, s.escape.within))
 font_begins (b ∷ bs) font n s = let first : b ≡ 92 = s.backslash in rw first refl
 
 pub reads_font : (text : List ℕ) (font : Face) (n : ℕ) → ShortFont text font n → is_known font ≡ true → ReadsFont text (escaped (take n text) (face font)) (drop n text)
@@ -73,7 +73,7 @@ reads_font text font n s known =
       words = λ quoted.
           let token = font_token text font n s quoted in
           let is : n ≡ token_len quoted text = rw token (sym len) in
-          words_more quoted text n (font_begins text font n s) s.escape.some is ∙ rw token refl;
+          words_more quoted text n (font_begins text font n s) s.escape.not_empty is ∙ rw token refl;
       silent = record { notes = λ place. known_notes place font known; items = λ f place. refl };
     }
 

@@ -24,4 +24,4 @@ returns-clause-value c = front_of c.args.line.now _ (read_all c.args.line.now c.
 pub returns-then-lacks_pair-clause-value : goal.returns-then-lacks_pair-clause-value
 returns-then-lacks_pair-clause-value c =
     let line = c.args.line.now in
-    take-length line ∙ sym (without_pairs line (c.lacks_pair.ensures c.if-lacks_pair.true))
+    take-length line ∙ sym (without_pairs line (c.lacks_pair.ensures.0 c.if-lacks_pair.true))

@@ -4,7 +4,7 @@ use Rattle.page_roff_forms.proofs.pairs.lacks_pair.Given as goal
 
 -- no pair begins before this place
 abbrev pub invariant-loop-at : goal.invariant-loop-at
-invariant-loop-at l = (k : ℕ) → k < l.at → pair_at l.key l.other l.text k ≡ false
+invariant-loop-at l = (k : ℕ) → k < l.at → pair_at l.one l.other l.text k ≡ false
 
 abbrev pub decreases-loop-at : goal.decreases-loop-at
 decreases-loop-at l = length l.text - l.at

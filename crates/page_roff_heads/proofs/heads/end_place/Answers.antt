@@ -22,4 +22,4 @@ pub returns-clause-value : goal.returns-clause-value
 returns-clause-value c = sym (read_all c.args.line.now c.loop-place.place c.loop-place.invariant (omega (arith, c.loop-place-test.false)))
 
 pub returns-then-lacks_pair-clause-value : goal.returns-then-lacks_pair-clause-value
-returns-then-lacks_pair-clause-value c = sym (without_ends c.args.line.now (c.lacks_pair.ensures c.if-lacks_pair.true))
+returns-then-lacks_pair-clause-value c = sym (without_ends c.args.line.now (c.lacks_pair.ensures.0 c.if-lacks_pair.true))
