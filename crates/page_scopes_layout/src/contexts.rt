@@ -83,29 +83,36 @@ fn guards_fonts(label: Label) -> bool
     }
 }
 
+impl Context {
+    /// A scope ends: the context before it holds again, but for what was set inside for good.
+    #[inline(always)]
+    pub fn restore(&mut self, label: Label, before: &Context)
+        ensures { self.new ≡ contexts.restored label before.now self.old }
+    {
+        self.margin = before.margin;
+        self.hang = before.hang;
+        self.first = before.first;
+        self.has_row = before.has_row || self.has_row;
+        self.part = before.part;
+        if owns_prevailing(label) {
+            self.prevailing = before.prevailing;
+        }
+        if guards_fonts(label) {
+            self.fonts = before.fonts;
+        } else {
+            self.fonts.restore(&before.fonts);
+        }
+        self.is_literal.restore(&before.is_literal);
+        self.shift.restore(&before.shift);
+        self.distance.restore(&before.distance);
+    }
+}
+
 /// The context after a scope: that before it, but for what was set inside for good.
-#[inline(always)]
 pub fn restored(label: Label, before: Context, now: Context) -> Context
     ensures { result ≡ contexts.restored label before now }
 {
-    Context {
-        margin: before.margin,
-        hang: before.hang,
-        first: before.first,
-        has_row: before.has_row || now.has_row,
-        part: before.part,
-        prevailing: if owns_prevailing(label) {
-            before.prevailing
-        } else {
-            now.prevailing
-        },
-        fonts: if guards_fonts(label) {
-            before.fonts
-        } else {
-            now.fonts.after_scope(before.fonts)
-        },
-        is_literal: now.is_literal.after_scope(before.is_literal),
-        shift: now.shift.after_scope(before.shift),
-        distance: now.distance.after_scope(before.distance),
-    }
+    let mut context = now;
+    context.restore(label, &before);
+    context
 }

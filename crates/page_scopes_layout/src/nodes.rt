@@ -21,6 +21,7 @@ pub fn give_margins<O: PieceOut>(out: &mut O, context: &Context)
 }
 
 // Gives what a line scope begins with.
+#[inline(always)]
 fn give_line_begin<O: PieceOut>(out: &mut O, opener: LineOpener, context: &Context)
     ensures { Came O.left out.old (nodes.line_begin_items opener context.now) out.new }
 {
@@ -38,6 +39,7 @@ fn give_line_begin<O: PieceOut>(out: &mut O, opener: LineOpener, context: &Conte
 }
 
 /// Gives what a scope begins with, in the context of its front.
+#[inline(always)]
 pub fn give_begin<O: PieceOut>(out: &mut O, label: Label, context: &Context)
     ensures { Came O.left out.old (nodes.begin_items label context.now) out.new }
 {

@@ -57,11 +57,13 @@ impl<T: Copy> Setting<T> {
         }
     }
 
-    /// The value after a scope: that before it, unless another one was set inside.
+    /// A scope ends: the value before it holds again, unless another one was set inside.
     #[inline(always)]
-    pub fn after_scope(self, before: Setting<T>) -> Setting<T>
-        ensures { result ≡ settings.after_scope before self }
+    pub fn restore(&mut self, before: &Setting<T>)
+        ensures { self.new ≡ settings.after_scope before.now self.old }
     {
-        if self.is_set { self } else { before }
+        if !self.is_set {
+            *self = *before;
+        }
     }
 }

@@ -2,6 +2,7 @@
 
 ghost use Rattle.std.specs.Prelude.{◌≡◌};
 ghost use Rattle.page_core_base.specs.Latches.{Came};
+ghost use Rattle.page_scopes_layout.specs.Begins.{entered_context};
 ghost use Rattle.page_scopes_leaves.specs.Fits.{DeedFits};
 ghost use Rattle.page_scopes_nodes.specs.Begins as begins;
 ghost use Rattle.page_sets_lines.specs.Events.{deed_seen, event_seen};
@@ -35,14 +36,19 @@ fn font_of(font_macro: FontMacro) -> Font
     }
 }
 
-// The context of a line scope's front.
-fn line_context(opener: LineOpener, context: Context) -> Context
-    ensures { result ≡ begins.line_context opener context }
+// A line scope begins in the context of its front.
+#[inline(always)]
+fn enter_line(opener: LineOpener, context: &mut Context)
+    ensures { context.new ≡ begins.line_context opener (entered_context context.old) }
 {
     match opener {
-        LineOpener::Heading(name) => context.heading_begun(heading_column(name)),
-        LineOpener::Tag(_) => context.tag_begun(),
-        LineOpener::FontWords(font_macro) => context.font_begun(font_of(font_macro)),
+        LineOpener::Heading(name) => {
+            *context = context.entered().heading_begun(heading_column(name));
+        }
+        LineOpener::Tag(_) => *context = context.entered().tag_begun(),
+        LineOpener::FontWords(font_macro) => {
+            *context = context.entered().font_begun(font_of(font_macro));
+        }
     }
 }
 
@@ -57,7 +63,7 @@ fn give_line_opened<O: PieceOut>(
     ensures context { context.new ≡ (begins.line_opened opener context.old running.old).context }
     ensures running { running.new ≡ (begins.line_opened opener context.old running.old).running }
 {
-    *context = line_context(opener, context.entered());
+    enter_line(opener, context);
     give_begin(out, Label::Line(opener), context);
     if let LineOpener::Heading(_) = opener {
         running.gap = 1;

@@ -7,7 +7,7 @@ ghost use Rattle.page_scopes_nodes.specs.Ends as ends;
 use crate::Target;
 use crate::targets::give_target;
 use page_core_base::{PieceOut, Place};
-use page_scopes_layout::{Context, give_end, restored};
+use page_scopes_layout::{Context, give_end};
 use page_scopes_leaves::Running;
 use page_scopes_tree::{Explicit, Label};
 use page_sets_lines::LineOpener;
@@ -57,7 +57,7 @@ fn give_left<O: PieceOut>(
     ensures context { context.new ≡ (ends.left label before.now context.old running.old).context }
     ensures running { running.new ≡ (ends.left label before.now context.old running.old).running }
 {
-    *context = restored(label, *before, *context);
+    context.restore(label, before);
     give_end(out, label, context);
     pass_end(label, running);
 }

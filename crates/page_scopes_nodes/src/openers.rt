@@ -31,6 +31,7 @@ fn give_given<O: PieceOut>(out: &mut O, place: Place, number: Option<&[u8]>) -> 
 }
 
 // A scope begins in the context of its front, and the row ends.
+#[inline(always)]
 fn begin<O: PieceOut>(
     out: &mut O,
     label: Label,
