@@ -4,7 +4,6 @@ use Rattle.std.specs.List.{list_all, prefix_len}
 use Rattle.std.proofs.lemmas.List.Folds.{length-prefix_len}
 use Rattle.std.proofs.lemmas.Bool.{cases_Bool}
 use Rattle.std.proofs.lemmas.Bool.Decides.{nat_tests}
-use Rattle.std.proofs.lemmas.List.{take-append-drop}
 use Rattle.page_core_base.specs.Words.{is_word}
 use Rattle.page_core_base.specs.declared.places.Place.{Place}
 use Rattle.page_core_escapes.specs.Tokens.{TextToken, white, plain, quotes, escaped, begins_word, begins_white, is_space, is_white, prints_itself, token_at, token_len}
@@ -147,14 +146,12 @@ plain_begins quoted (b ∷ bs) word e h k =
 
 -- the one token of a word, where no word goes on after it
 pub reads_plain : (quoted : Bool) (text word : List ℕ) → token_at quoted text ≡ plain word → 0 < length word → length word ≤ length text
-    → text ≡ word ++ drop (length word) text → is_word word ≡ true
-    → begins_word (drop (length word) text) ≡ false → ReadsPlain quoted text word (drop (length word) text)
-reads_plain quoted text word e h k bytes is ends =
+    → is_word word ≡ true → begins_word (drop (length word) text) ≡ false → ReadsPlain quoted text word (drop (length word) text)
+reads_plain quoted text word e h k is ends =
     let w = plain_begins quoted text word e h k in
     let len : length word ≡ token_len quoted text = rw e refl in
     record {
       len = omega (arith, length-drop (length word) text, k);
-      bytes = bytes;
       is = is;
       only = ap (λ (t : Parted). t.word) (words_more quoted text (length word) w h len) ∙ rw (e, no_word quoted (drop (length word) text) ends) refl;
       ends = ends;
@@ -203,5 +200,4 @@ pub reads_front : (quoted : Bool) (text : List ℕ) (n : ℕ) → n ≡ prefix_l
 reads_front quoted text n e k some ends =
     let len : length (take n text) ≡ n = rw e (length-prefix_len (prints_itself quoted) text) in
     let token : token_at quoted text ≡ plain (take n text) = rw e (plain_token quoted text (omega (arith, len, some, e))) in
-    let bytes : text ≡ take n text ++ drop (length (take n text)) text = rw len (sym (take-append-drop n text)) in
-    rw len at (reads_plain quoted text (take n text) token some (omega (arith, len, k)) bytes (plain_word quoted text n e some) (rw len ends))
+    rw len at (reads_plain quoted text (take n text) token some (omega (arith, len, k)) (plain_word quoted text n e some) (rw len ends))

@@ -1,5 +1,5 @@
 -- Words that print themselves, with one blank before each.
-use Rattle.std.proofs.Common.{◌≡◌, ℕ, ◌+◌, ◌<◌, Bool, true, false, List, [], ◌∷◌, ◌++◌, length, drop, get_or, refl, ap, ◌∙◌, arith, sym, inl, inr}
+use Rattle.std.proofs.Common.{◌≡◌, ℕ, ◌+◌, Bool, true, false, List, [], ◌∷◌, ◌++◌, length, refl, ap, ◌∙◌, arith, sym, inl, inr}
 use Rattle.std.specs.List.{prefix_len}
 use Rattle.std.proofs.Math.Bool.{or-false}
 use Rattle.std.proofs.lemmas.Bool.{cases_Bool}
@@ -43,8 +43,6 @@ blank_word_after style fonts column word others = ap (λ (p : Pen). others_after
 
 -- the one blank at a text's front was read, and the word after it, all of which prints itself
 pub record ReadsBlankWord (quoted : Bool) (text word rest : List ℕ) : Type 0 where
-  pub len : (1 + length word) + length rest ≡ length text
-  pub bytes : text ≡ 32 ∷ (word ++ rest)
   pub is : is_word word ≡ true
   pub front : (words_of quoted text).others ≡ record { white = 32 ∷ []; word = plain word ∷ [] } ∷ (words_of quoted rest).others
   pub ends : begins_word rest ≡ false
@@ -63,22 +61,11 @@ pub blank_len : (quoted : Bool) (text : List ℕ) → begins_word text ≡ true 
 unfolding token_at
 blank_len quoted text h = rw (no_white text h) refl
 
-reads_blank_word : (quoted : Bool) (text word rest : List ℕ) → ReadsPlain quoted text word rest → ReadsBlankWord quoted (32 ∷ text) word rest
-reads_blank_word quoted text word rest r =
+pub reads_blank_word : (quoted : Bool) (byte : ℕ) (text word rest : List ℕ) → byte ≡ 32 → ReadsPlain quoted text word rest → ReadsBlankWord quoted (byte ∷ text) word rest
+reads_blank_word quoted byte text word rest e r =
     let one = blank_len quoted text (plain_begins quoted text word rest r) in
     let parts = spaced_more quoted (32 ∷ text) 1 refl (omega arith) (sym one) in
-    record {
-      len = omega (arith, r.len);
-      bytes = ap (λ (bytes : List ℕ). 32 ∷ bytes) r.bytes;
-      is = r.is;
-      front = ap (λ (t : Parted). t.others) parts ∙ rw (one, r.only, r.others) refl;
-      ends = r.ends;
-    }
-
-pub reads_blank_text : (quoted : Bool) (text word rest : List ℕ) → 0 < length text → get_or text 0 0 ≡ 32 → ReadsPlain quoted (drop 1 text) word rest
-    → ReadsBlankWord quoted text word rest
-reads_blank_text quoted [] word rest some e r = absurd (omega (arith, some))
-reads_blank_text quoted (b ∷ bs) word rest some e r = let blank : b ≡ 32 = e in rw blank (reads_blank_word quoted bs word rest r)
+    rw e (record { is = r.is; front = ap (λ (t : Parted). t.others) parts ∙ rw (one, r.only, r.others) refl; ends = r.ends })
 
 -- ---- a pen that rests
 

@@ -7,7 +7,7 @@ use Rattle.std.proofs.lemmas.List.Sums.{prefix_len-le-length}
 use Rattle.page_core_base.specs.Words.{blank_words}
 use Rattle.page_core_escapes.specs.Tokens.{begins_word, is_white, prints_itself}
 use Rattle.page_scopes_text.proofs.PartedLemmas.{reads_front}
-use Rattle.page_scopes_text.proofs.PlainWordLemmas.{ReadsBlankWord, reads_blank_text}
+use Rattle.page_scopes_text.proofs.PlainWordLemmas.{ReadsBlankWord, reads_blank_word}
 use Rattle.page_scopes_text.specs.Parted.{Spaced}
 use Rattle.page_scopes_text.specs.Runs.{BeginsRun, GoesOn, RunOf, blank_word, ends_run}
 
@@ -92,7 +92,7 @@ front_word quoted x xs n m is begins h e =
     let long : length (take m xs) ≡ m = length-take-le m xs (omega (arith, le, is)) in
     let some = word_some xs m last (after_blank quoted x (get_or xs 0 32) blank first) in
     let reads = reads_front quoted xs m is (omega (arith, le, is)) (omega (arith, some, long)) (word_ends xs m last) in
-    (blank, omega (arith, word.0, is), reads_blank_text quoted (x ∷ xs) (take m xs) (drop m xs) (omega arith) blank reads)
+    (blank, omega (arith, word.0, is), reads_blank_word quoted x xs (take m xs) (drop m xs) blank reads)
 
 -- ---- words, one after another
 

@@ -1,5 +1,5 @@
 -- How the code's own reading of a text goes on from its front. Source: roff(7).
-use Rattle.std.specs.Prelude.{◌≡◌, ℕ, ◌≤◌, ◌<◌, ◌+◌, ◌^◌, Bool, true, false, List, [], ◌∷◌, ◌++◌, length, drop}
+use Rattle.std.specs.Prelude.{◌≡◌, ℕ, ◌≤◌, ◌<◌, ◌+◌, ◌^◌, Bool, true, false, List, [], ◌∷◌, length, drop}
 use Rattle.page_core_base.specs.Words.{is_word}
 use Rattle.page_core_escapes.specs.Tokens.{begins_word, plain, token_len}
 use Rattle.page_core_limits.specs.declared.TheConstants.{LINE}
@@ -46,7 +46,6 @@ resting fonts column = record {
 -- a word at a text's front was read, all of which prints itself
 pub record ReadsPlain (quoted : Bool) (text word rest : List ℕ) : Type 0 where
   pub len : length word + length rest ≡ length text
-  pub bytes : text ≡ word ++ rest
   pub is : is_word word ≡ true
   pub only : (words_of quoted text).word ≡ plain word ∷ []
   pub ends : begins_word rest ≡ false
