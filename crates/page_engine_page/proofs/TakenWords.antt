@@ -6,12 +6,12 @@ use Rattle.page_core_base.specs.Messages.{Message}
 use Rattle.page_core_base.specs.Pieces.{Item, shown}
 use Rattle.page_core_base.specs.Rows.{LaidRow}
 use Rattle.page_core_base.specs.Sinks.{IsSink}
-use Rattle.page_core_base.specs.Words.{blank_words, is_word, word_items}
+use Rattle.page_core_base.specs.Words.{blank_words, is_word, word_items, word_pieces}
 use Rattle.page_core_base.specs.declared.cells.Font.{Font}
 use Rattle.page_core_base.specs.declared.pieces.Piece.{Piece}
 use Rattle.page_core_base.specs.declared.places.Place.{Place}
 use Rattle.page_fill.specs.Fill.{laid, laid_piece}
-use Rattle.page_fill.specs.TakenWords.{TakesFirst, word_items-shown, word_pieces}
+use Rattle.page_fill.specs.TakenWords.{TakesFirstWords}
 use Rattle.page_fill.specs.declared.words.Edge.{Edge as FillEdge}
 use Rattle.page_engine_page.specs.Below.{Passed}
 use Rattle.page_engine_page.specs.Items.{laid_items}
@@ -22,6 +22,10 @@ unfolding laid laid_items
 laid_pieces f [] = refl
 laid_pieces f (piece ∷ pieces) =
     ap (λ (l : Laid FillEdge). seq (laid_piece f piece) (λ _. l)) (laid_pieces (laid_piece f piece).edge pieces)
+
+words_laid : (f : FillEdge) (font : Font) (place : Place) (words : List (List ℕ)) → laid_items f (word_items font place words) ≡ laid f (word_pieces font place words)
+unfolding word_items
+words_laid f font place words = laid_pieces f (word_pieces font place words)
 
 same_edge : (e f : FillEdge) → Some e ≡ Some f → e ≡ f
 same_edge e f is = cc
@@ -35,7 +39,7 @@ passes_nothing k l old now r n row f items is e =
 
 pub words_pass : {R N : Type 0} {rg rw_ : R → List LaidRow → R → Type 0} {rf : R → ℕ} {ng nw : N → List Message → N → Type 0} {nf : N → ℕ}
     → IsSink rg rw_ → IsSink ng nw → (old now : Option FillEdge) (r : R) (n : N) (text : List ℕ) (font : Font) (place : Place) (taken : ℕ)
-    → ((e : FillEdge) → old ≡ Some e → TakesFirst text font taken e now) → (old ≡ None → (taken ≡ 0) × (now ≡ None))
+    → ((e : FillEdge) → old ≡ Some e → TakesFirstWords text font taken e now) → (old ≡ None → (taken ≡ 0) × (now ≡ None))
     → (words : List (List ℕ)) → list_all is_word words ≡ true → text ≡ blank_words words
     → (count : ℕ) × (taken ≡ length (blank_words (take count words)))
     × ((row : FillEdge) → old ≡ Some row → Passed rg rf ng nf old now r r n n (laid_items row (word_items font place (take count words))))
@@ -49,7 +53,6 @@ words_pass k l (Some e) now r n text font place taken took closed words are byte
       λ row is.
           let items = word_items font place (take t.0 words) in
           let here : laid_items row items ≡ nothing t.1 =
-          ap (λ (f : FillEdge). laid_items f items) (sym (same_edge e row is)) ∙ ap (laid_items e) (word_items-shown font place (take t.0 words))
-          ∙ laid_pieces e (word_pieces font place (take t.0 words)) ∙ t.4 in
+          ap (λ (f : FillEdge). laid_items f items) (sym (same_edge e row is)) ∙ words_laid e font place (take t.0 words) ∙ t.4 in
           passes_nothing k l (Some e) now r n row t.1 items t.3 here,
     )

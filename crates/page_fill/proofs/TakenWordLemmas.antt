@@ -1,9 +1,9 @@
 -- The first words of a text go into the open row together.
 use Rattle.std.proofs.Common.{◌≡◌, ℕ, ◌+◌, ◌-◌, ◌<◌, ◌≤◌, Bool, true, false, ◌&&◌, ◌==◌, min, List, [], ◌∷◌, ◌++◌, length, take, if◌then◌else◌, append-nil, append_assoc, length-append, Option, Some, None, refl, sym, ap, ◌∙◌, arith, inl, inr}
-use Rattle.std.specs.List.{list_all}
-use Rattle.std.proofs.lemmas.List.{map-append, length-map}
+use Rattle.std.specs.List.{list_all, prefix_len}
+use Rattle.std.proofs.lemmas.List.{map-append, length-map, length-take, take-take}
 use Rattle.std.proofs.lemmas.List.Folds.{list_all-append}
-use Rattle.std.proofs.lemmas.List.Sums.{sum_by-append}
+use Rattle.std.proofs.lemmas.List.Sums.{prefix_len-le-length, sum_by-append}
 use Rattle.std.proofs.lemmas.Bool.{cases_Bool}
 use Rattle.std.proofs.lemmas.Bool.Decides.{nat_tests}
 use Rattle.page_core_base.specs.declared.cells.Font.{Font}
@@ -12,16 +12,17 @@ use Rattle.page_core_base.specs.declared.pieces.Piece.{Piece}
 use Rattle.page_core_base.specs.declared.pieces.Piece.TheVariants.{Text, Blank}
 use Rattle.page_core_base.specs.declared.places.Place.{Place}
 use Rattle.page_core_base.specs.Laid.{nothing}
-use Rattle.page_core_base.specs.Words.{is_word, blank_words}
+use Rattle.page_core_base.specs.Words.{is_word, blank_words, word_pieces}
 use Rattle.page_core_limits.specs.declared.TheConstants.{CELLS}
 use Rattle.page_fill_rows.specs.declared.TheConstants.{TAG_COLUMNS}
 use Rattle.page_fill_rows.specs.Sheets.{Sheet, blank, cell_columns, columns}
 use Rattle.page_fill_rows.specs.Characters.{cell_of, cells_of}
 use Rattle.page_fill_rows.specs.Plain.{free_cells, has_word_room, is_printable, is_printable_ascii, spaced_by, taken, word_start, words_taken}
 use Rattle.page_fill_rows.proofs.PlainLemmas.{characters_of-plain, columns-plain, taken-word}
-use Rattle.page_fill_rows.proofs.WordStartLemmas.{start-append, start-within}
+use Rattle.page_fill_rows.proofs.WordStartLemmas.{printable-fronts, start-append, start-within}
 use Rattle.page_fill.specs.Fill.{Edge, begun_word, laid, laid_piece}
-use Rattle.page_fill.specs.TakenWords.{TakesFirst, whole_words, word_pieces}
+use Rattle.page_fill.specs.PlainWords.{whole_words}
+use Rattle.page_fill.specs.TakenWords.{TakesFirstWords}
 use Rattle.page_fill.proofs.PlainWordLemmas.{text-word}
 use Rattle.page_fill.proofs.WordRunLemmas.{front-words, is_letters, start-some, start-word, whole-words, word-letters, word-some, words-first, words-front, words-rest}
 
@@ -165,13 +166,22 @@ some-words e (word ∷ words) place placed all plain some within = words-laid e 
 
 -- ---- a text
 
-pub takes-none : (bytes : List ℕ) (font : Font) (e : Edge) → TakesFirst bytes font 0 e (Some e)
+-- as many bytes at the front of a text's front as are printable, or fewer
+pub front-plain : (text : List ℕ) (room count end : ℕ) → count ≡ prefix_len is_printable (take room text) → end ≤ count → is_printable_ascii (take end text) ≡ true
+front-plain text room count end is within =
+    let most = prefix_len-le-length is_printable (take room text) in
+    let len = length-take room text in
+    let less : end ≤ room = omega (arith, is, within, most, len) in
+    let some : end ≤ prefix_len is_printable (take room text) = omega (arith, is, within) in
+    ap is_printable_ascii (sym (take-take end room text less)) ∙ printable-fronts (take room text) end some
+
+pub takes-none : (bytes : List ℕ) (font : Font) (e : Edge) → TakesFirstWords bytes font 0 e (Some e)
 unfolding blank_words laid word_pieces
 takes-none bytes font e = λ place words all is. (0, e, refl, refl, refl)
 
 pub takes-words : (e : Edge) (text : List ℕ) (room end : ℕ) → e.word.is_placed ≡ false → end ≡ whole_words text room → end ≤ free_cells e.sheet
     → 0 < word_start (take end text) → is_printable_ascii (take end text) ≡ true
-    → TakesFirst text R end e (Some (words_laid e (take end text)))
+    → TakesFirstWords text R end e (Some (words_laid e (take end text)))
 takes-words e text room end placed is within start plain = λ place words all text_is.
     let whole = whole-words words room all in
     let front = take whole.0 words in
@@ -190,8 +200,8 @@ edge_or e None = e
 edge_or e (Some f) = f
 
 pub filler-takes : (text : List ℕ) (font : Font) (end : ℕ) (is_going : Bool) (e held next : Edge) → font ≡ R → is_going ≡ true
-    → (if is_going then Some held else None) ≡ Some e → TakesFirst text R end held (Some next)
-    → TakesFirst text font end e (if is_going then Some next else None)
+    → (if is_going then Some held else None) ≡ Some e → TakesFirstWords text R end held (Some next)
+    → TakesFirstWords text font end e (if is_going then Some next else None)
 filler-takes text font end is_going e held next roman goes is took =
     let same : held ≡ e = ap (edge_or held) (rw goes at is) in
     rw (roman, goes, ← same) took

@@ -7,7 +7,7 @@ ghost use Rattle.page_core_base.specs.Latches.{LaysOut};
 ghost use Rattle.page_core_base.specs.Pieces.{piece_of};
 ghost use Rattle.page_fill.specs.Caps.{FillFits};
 ghost use Rattle.page_fill.specs.Fill as fill;
-ghost use Rattle.page_fill.specs.TakenWords.{TakesFirst};
+ghost use Rattle.page_fill.specs.TakenWords.{TakesFirstWords};
 
 use crate::words::{Edge, NO_WORD};
 use page_core_base::{Cell, Fault, Font, NoteSink, Piece, RowLatch, RowOut, RowSink, Settings};
@@ -200,7 +200,7 @@ impl Filler {
     /// Takes the first words of a text, in which one blank stands before each, as far as the open row has room for them; answers how many
     /// bytes of the text these are. They settle nothing.
     pub fn take_words(&mut self, text: &[u8], font: Font) -> usize
-        ensures words { (e : fill.Edge) → self.old ≡ Some e → TakesFirst text.now font result e self.new }
+        ensures words { (e : fill.Edge) → self.old ≡ Some e → TakesFirstWords text.now font result e self.new }
         ensures within { result ≤ length text.now }
         ensures closed { self.old ≡ None → (result ≡ 0) × (self.new ≡ None) }
     {

@@ -1,13 +1,13 @@
 //! The first words of a text, which the open row takes at once.
 
 ghost use Rattle.std.specs.Prelude.{◌≡◌, ◌≤◌, length};
-ghost use Rattle.page_fill.specs.TakenWords as taken;
+ghost use Rattle.page_fill.specs.PlainWords as plain_words;
 
 use page_fill_rows::word_start;
 
 /// How many bytes of a text, in which a blank stands before each word, are whole words, among as many first bytes as there is room for.
 pub(crate) fn whole_words(text: &[u8], room: usize) -> usize
-    ensures value { result ≡ taken.whole_words text.now room }
+    ensures value { result ≡ plain_words.whole_words text.now room }
     ensures within { result ≤ length text.now }
     ensures fits { result ≤ room }
 {

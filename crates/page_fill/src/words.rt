@@ -10,7 +10,7 @@ ghost use Rattle.page_fill_rows.specs.Characters.{characters_of};
 ghost use Rattle.page_fill_rows.specs.Plain as plain;
 ghost use Rattle.page_fill.specs.Fill as fill;
 ghost use Rattle.page_fill.specs.PlainWords as plain_words;
-ghost use Rattle.page_fill.specs.TakenWords.{TakesFirst};
+ghost use Rattle.page_fill.specs.TakenWords.{TakesFirstWords};
 
 use crate::taken_words::whole_words;
 use crate::{HANG_MAX, TAB_STOP};
@@ -213,7 +213,7 @@ impl Edge {
     /// Takes the first words of a text, in which one blank stands before each, as far as the row has room for them; answers how many bytes
     /// of the text these are. They are roman, as the blanks are.
     pub(crate) fn take_words(&mut self, text: &[u8]) -> usize
-        ensures takes { TakesFirst text.now R result self.old (Some self.new) }
+        ensures takes { TakesFirstWords text.now R result self.old (Some self.new) }
         ensures within { result ≤ length text.now }
     {
         let room = self.sheet.free_cells().min(text.len());

@@ -411,7 +411,7 @@ impl OpenRow {
         true
     }
 
-    /// How many cells of a column each a filled row that has a cell takes before it ends.
+    /// How many cells of a column each a filled row that has a cell takes before it ends; 0 for any other row.
     pub fn free_cells(&self) -> usize
         ensures value { result ≡ plain.free_cells self.now }
         ensures bound { length self.now.cells + result ≤ CELLS }
@@ -426,7 +426,7 @@ impl OpenRow {
         (CELLS - self.row.len()).min(free as usize)
     }
 
-    /// The row, which has a cell and room, takes roman words with a blank before each, where the last one starts at a place of the text.
+    /// The row, which has room, takes roman words with a blank before each, where the last one starts at a place of the text.
     pub fn add_words(&mut self, text: &[u8], start: usize)
         requires plain { plain.is_printable_ascii text.now ≡ true }
         requires room { length self.old.cells + length text.now ≤ CELLS }

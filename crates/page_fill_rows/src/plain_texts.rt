@@ -1,9 +1,10 @@
 //! Texts whose bytes are read for the open row as a whole.
 
-ghost use Rattle.std.specs.Prelude.{◌≡◌, ◌≤◌, ℕ, true, length, take};
+ghost use Rattle.std.specs.Prelude.{◌≡◌, ◌≤◌, length};
+ghost use Rattle.std.specs.List.{prefix_len};
 ghost use Rattle.page_fill_rows.specs.Plain as plain;
 
-// Whether bytes are printable ASCII. All of them are read, in a loop that goes by many at once.
+// Whether bytes are printable ASCII. All of them are read, so that the compiler can test many at once.
 fn all_printable(bytes: &[u8]) -> bool
     ensures { result ≡ plain.is_printable_ascii bytes.now }
 {
@@ -16,7 +17,7 @@ fn all_printable(bytes: &[u8]) -> bool
 
 /// How many bytes at the front of a text are printable ASCII.
 pub fn printable_len(bytes: &[u8]) -> usize
-    ensures front { (k : ℕ) → k ≤ result → plain.is_printable_ascii (take k bytes.now) ≡ true }
+    ensures value { result ≡ prefix_len plain.is_printable bytes.now }
     ensures within { result ≤ length bytes.now }
 {
     if all_printable(bytes) {

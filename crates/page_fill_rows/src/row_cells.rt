@@ -133,7 +133,8 @@ impl RowCells {
 // Puts a roman cell of each byte at a start and after it.
 fn put_roman(places: &mut [Cell], start: usize, bytes: &[u8])
     requires { start + length bytes.now ≤ length places.old }
-    ensures cells { take (start + length bytes.now) places.new ≡ take start places.old ++ shown.cells_of R bytes.now }
+    ensures cells { take (start + length bytes.now) places.new
+        ≡ take start places.old ++ shown.cells_of R bytes.now }
     ensures len { length places.new ≡ length places.old }
 {
     for i in 0..bytes.len() {

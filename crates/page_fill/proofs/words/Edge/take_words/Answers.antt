@@ -1,12 +1,16 @@
-use Rattle.std.proofs.Common.{◌≡◌, ◌<◌, ◌≤◌, ◌∙◌, sym, ap, arith, length, take, true}
-use Rattle.std.proofs.lemmas.List.{length-take-le, take-take}
+use Rattle.std.proofs.Common.{◌<◌, ◌≤◌, arith, length, take}
+use Rattle.std.proofs.lemmas.List.{length-take-le}
 use Rattle.page_core_base.specs.declared.cells.Font.TheVariants.{R}
-use Rattle.page_fill_rows.specs.Plain.{free_cells, is_printable_ascii, word_start}
-use Rattle.page_fill.proofs.TakenWordLemmas.{takes-none, takes-words}
+use Rattle.page_fill_rows.specs.Plain.{free_cells, word_start}
+use Rattle.page_fill.proofs.TakenWordLemmas.{front-plain, takes-none, takes-words}
 use Rattle.page_fill.proofs.words.Edge.take_words.Goals as goal
 
 pub returns-then-self-clause-takes : goal.returns-then-self-clause-takes
 returns-then-self-clause-takes c = takes-none c.args.text.now R c.args.self.now
+
+pub add_words-requires-clause-plain : goal.add_words-requires-clause-plain
+add_words-requires-clause-plain c =
+    front-plain c.args.text.now c.min-room.result c.printable_len.result c.whole_words-end.result c.printable_len.ensures.value c.whole_words-end.ensures.fits
 
 pub returns-clause-takes : goal.returns-clause-takes
 returns-clause-takes c =
@@ -19,7 +23,6 @@ returns-clause-takes c =
     let within : end ≤ room = omega (arith, c.whole_words-end.ensures.fits, c.printable_len.ensures.within, len) in
     let fits : end ≤ free_cells c.args.self.now.sheet = omega (arith, within, c.min-room.ensures, c.free_cells.ensures.value) in
     let start : 0 < word_start (take end text) = omega (arith, c.word_start-start.ensures.value, c.if-start-eq0.false) in
-    let front = take-take end room text within in
-    let printable : is_printable_ascii (take end text) ≡ true = ap is_printable_ascii (sym front) ∙ c.printable_len.ensures.front end c.whole_words-end.ensures.fits in
+    let printable = front-plain text room plain end c.printable_len.ensures.value c.whole_words-end.ensures.fits in
     rw (c.add_words.ensures, c.begun-self.ensures)
     (takes-words c.args.self.now text plain end c.if-self.false c.whole_words-end.ensures.value fits start printable)
