@@ -1,4 +1,4 @@
--- The code's own stack: a vector with the outermost scope first. Source: man(7).
+-- The code's own stack, a vector with the outermost scope first, and the acts that end no scope and open none. Source: man(7).
 use Rattle.std.specs.Prelude.{◌≡◌, ℕ, Bool, true, false, not, List, reverse, vec_capacity}
 use Rattle.std.specs.Global.{Vec}
 use Rattle.page_core_base.specs.Latches.{Came}
@@ -56,7 +56,7 @@ is_idle (acts.Event event) nodes = deed_is_idle event.deed nodes
 is_idle (acts.PageEnd line) nodes = false
 
 -- a step was taken from an edge: what it settles came to a latch, and this edge is after it
-pub record Takes {P O S B : Type 0} (left : P → O → List Item → Type 0) (tables : Tables S B) (taken : Step) (before : Edge Bool Label S B) (out : O)
+pub record TakesStep {P O S B : Type 0} (left : P → O → List Item → Type 0) (tables : Tables S B) (taken : Step) (before : Edge Bool Label S B) (out : O)
     (after : Edge Bool Label S B) (next : O) : Type 0 where
   pub came : Came left out (step_items scopes_nesting (framed tables) before taken) next
   pub edge : after ≡ step scopes_nesting (framed tables) before taken

@@ -7,7 +7,7 @@ ghost use Rattle.page_scopes_laws.specs.Machines.{ended_items, ended_state, plac
 ghost use Rattle.page_scopes_tree.specs.Acts.{TakesAct, act_seen, comes, does};
 ghost use Rattle.page_scopes_tree.specs.Frames.{framed};
 ghost use Rattle.page_scopes_tree.specs.Nests.{scopes_nesting};
-ghost use Rattle.page_scopes_tree.specs.Stacks.{Keeps, Takes, is_idle, stack_edge, stack_standing, stands_alone};
+ghost use Rattle.page_scopes_tree.specs.Stacks.{Keeps, TakesStep, is_idle, stack_edge, stack_standing, stands_alone};
 ghost use Rattle.page_sets_lines.specs.Events.{event_seen};
 
 use crate::broken::{report_broken, report_obstacle};
@@ -169,8 +169,9 @@ fn take_nesting<Y: Laying, O: PieceOut>(
     requires depth { vec_len scopes.old ≤ SCOPES }
     requires reserved { SCOPES ≤ vec_capacity scopes.old }
     requires takes { TakesAct Y.Takes (act_seen act.now) }
-    ensures takes { Takes O.left Y.tables (does (act_seen act.now)) (stack_edge skips.old scopes.old state.old)
-        out.old (stack_edge skips.new scopes.new state.new) out.new }
+    ensures stepped { TakesStep O.left Y.tables (does (act_seen act.now))
+        (stack_edge skips.old scopes.old state.old) out.old
+        (stack_edge skips.new scopes.new state.new) out.new }
     ensures kept { vec_capacity scopes.new ≡ vec_capacity scopes.old }
 {
     if is_passed_over(*skips, act) {
@@ -194,7 +195,7 @@ fn take_alone<Y: Laying, O: PieceOut>(
     requires depth { length scopes.now ≤ SCOPES }
     requires takes { TakesAct Y.Takes (act_seen act.now) }
     requires alone { stands_alone (act_seen act.now) (labels (reverse scopes.now)) ≡ true }
-    ensures { Takes O.left Y.tables (does (act_seen act.now))
+    ensures { TakesStep O.left Y.tables (does (act_seen act.now))
         (record { mode = skips.old; scopes = reverse scopes.now; state = state.old }) out.old
         (record { mode = skips.new; scopes = reverse scopes.now; state = state.new }) out.new }
 {
@@ -204,7 +205,7 @@ fn take_alone<Y: Laying, O: PieceOut>(
     }
 }
 
-// An act that does nothing.
+// Nothing is done for an act that does nothing, and the edge stays.
 #[inline(always)]
 fn take_idle<Y: Laying, O: PieceOut>(
     scopes: &[Scope<Label, Y::Kept>],
@@ -214,7 +215,7 @@ fn take_idle<Y: Laying, O: PieceOut>(
     out: &O,
 )
     requires { is_idle (act_seen act.now) (labels (reverse scopes.now)) ≡ true }
-    ensures { Takes O.left Y.tables (does (act_seen act.now))
+    ensures { TakesStep O.left Y.tables (does (act_seen act.now))
         (record { mode = skips; scopes = reverse scopes.now; state = state.now }) out.now
         (record { mode = skips; scopes = reverse scopes.now; state = state.now }) out.now }
 {}
@@ -231,8 +232,9 @@ pub(crate) fn take_act<Y: Laying, O: PieceOut>(
     requires depth { vec_len scopes.old ≤ SCOPES }
     requires reserved { SCOPES ≤ vec_capacity scopes.old }
     requires takes { TakesAct Y.Takes (act_seen act.now) }
-    ensures takes { Takes O.left Y.tables (does (act_seen act.now)) (stack_edge skips.old scopes.old state.old)
-        out.old (stack_edge skips.new scopes.new state.new) out.new }
+    ensures stepped { TakesStep O.left Y.tables (does (act_seen act.now))
+        (stack_edge skips.old scopes.old state.old) out.old
+        (stack_edge skips.new scopes.new state.new) out.new }
     ensures kept { vec_capacity scopes.new ≡ vec_capacity scopes.old }
 {
     if stands_alone(act, scopes.as_slice()) {

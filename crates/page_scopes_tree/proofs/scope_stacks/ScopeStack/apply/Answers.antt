@@ -16,7 +16,7 @@ invariant_of-self g c =
     let room : SCOPES ≤ vec_capacity c.take_act.new.scopes = omega (arith, c.take_act.ensures.kept, c.self.invariant.1) in (
       scopes_fit (framed g.Y.Laying.tables) i.skips c.take_act.new.skips i.scopes c.take_act.new.scopes c.take_coming.new.state c.take_act.new.state
           (does (Event (event_seen c.args.event.now)))
-          c.self.invariant.0 c.take_act.ensures.takes.edge,
+          c.self.invariant.0 c.take_act.ensures.stepped.edge,
       room,
     )
 
@@ -27,13 +27,13 @@ returns-clause-came g c = λ plan rest h.
     let first = rw c.as_slice.ensures.value at c.take_coming.ensures.edge in
     let two = items_by_two scopes_nesting scopes-sound (framed g.Y.Laying.tables) c.args.self.now (stack_edge i.skips i.scopes i.state)
     (stack_edge i.skips i.scopes c.take_coming.new.state) (comes event) (does (Event event)) c.self.view_is first in
-    c.take_act.ensures.takes.came plan rest (c.take_coming.ensures.came plan _ (rw (two, append_assoc) at h))
+    c.take_act.ensures.stepped.came plan rest (c.take_coming.ensures.came plan _ (rw (two, append_assoc) at h))
 
 pub returns-clause-edge : goal.returns-clause-edge
 returns-clause-edge g c =
     let i = c.self.inside in
     let event = event_seen c.args.event.now in
     let first = rw c.as_slice.ensures.value at c.take_coming.ensures.edge in
-    c.take_act.ensures.takes.edge
+    c.take_act.ensures.stepped.edge
     ∙ sym (edge_by_two scopes_nesting scopes-sound (framed g.Y.Laying.tables) c.args.self.now (stack_edge i.skips i.scopes i.state)
     (stack_edge i.skips i.scopes c.take_coming.new.state) (comes event) (does (Event event)) c.self.view_is first)
