@@ -7,8 +7,8 @@ ghost use Rattle.page_scopes_leaves.specs.Fits.{DeedFits};
 ghost use Rattle.page_scopes_nodes.specs.Begins as begins;
 ghost use Rattle.page_sets_lines.specs.Events.{deed_seen, event_seen};
 
-use crate::openers::give_opened;
 use crate::PageLayout;
+use crate::openers::give_opened;
 use page_core_base::{Font, PieceOut};
 use page_scopes_layout::{Context, give_begin};
 use page_scopes_leaves::Running;
