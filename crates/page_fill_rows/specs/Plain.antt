@@ -1,5 +1,6 @@
--- A machine, which settles what the steps of Sheets settle (plain_law): the fast way for plain texts. They are bytes of printable ASCII, each a
--- cell of one column, so that an open row with room for them takes them as a whole.
+-- A machine, which settles what the steps of Sheets settle: the fast way for plain texts (plain_law), and for words that a row takes at once
+-- (`take_words` of page_fill). They are bytes of printable ASCII, each a cell of one column, so that an open row with room for them takes them as
+-- a whole.
 use Rattle.std.specs.Prelude.{ℕ, ◌+◌, Bool, true, not, ◌&&◌, ◌||◌, ◌==◌, ◌-◌, nat_le, nat_lt, min, List, [], ◌∷◌, ◌++◌, length, replicate, if◌then◌else◌}
 use Rattle.std.specs.List.{list_all}
 use Rattle.page_core_base.specs.declared.cells.Cell.{Cell}
