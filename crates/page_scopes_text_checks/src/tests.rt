@@ -65,7 +65,7 @@ const KEPT: TextStyle = TextStyle {
 };
 
 // Texts after a sentence, and what they give.
-const TEXTS: [(TextStyle, &str, &str); 18] = [
+const TEXTS: [(TextStyle, &str, &str); 22] = [
     (LINE, "a  b", "2[a]1[b] 1"),
     (LINE, "a\t b", "2[a]1t[b] 1"),
     (LINE, "a \\fBb\\fP c", "2[a]1B[b]1[c] 1"),
@@ -77,6 +77,26 @@ const TEXTS: [(TextStyle, &str, &str); 18] = [
     (LINE, "a\\h'2n'b", "2[a][ ][ ][b] 1"),
     (LINE, "a\\h'x'b", "!NotNumeric;2[a][b] 1"),
     (LINE, "a\\fQ b", "!UnknownFont Q;2[a]1[b] 1"),
+    (
+        LINE,
+        "a few words and  two blanks",
+        "2[a]1[few]1[words]1[and]1[two]1[blanks] 1",
+    ),
+    (
+        LINE,
+        "a few words and a\ttab",
+        "2[a]1[few]1[words]1[and]1[a]1t[tab] 1",
+    ),
+    (
+        LINE,
+        "a few words and one\\fBword\\fP ",
+        "2[a]1[few]1[words]1[and]1[one]B[word] 1e",
+    ),
+    (
+        QUOTED,
+        "a few words and a \"\"quote",
+        "2[a]1[few]1[words]1[and]1[a]1c[quote] 1",
+    ),
     (QUOTED, "", "2[] 1"),
     (QUOTED, "  ", " 2e"),
     (QUOTED, "a\"\"b ", "2[a]c[b] 1e"),
