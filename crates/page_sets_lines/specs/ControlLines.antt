@@ -50,6 +50,10 @@ is_unclosed Bare = false
 is_unclosed Closed = false
 is_unclosed Unclosed = true
 
+-- the byte around an argument (34)
+abbrev pub is_quote : ℕ → Bool
+is_quote byte = byte == 34
+
 -- the column of the quote that the last argument lacks at its end, unless it is one of this many at the front
 abbrev pub open_quote : ℕ → List (Argument (List ℕ)) → Option ℕ
 open_quote printed [] = None

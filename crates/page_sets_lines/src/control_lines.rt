@@ -1,9 +1,10 @@
 //! The name and the arguments of a finished control line (roff(7), "LANGUAGE SYNTAX").
 
 ghost use Rattle.std.specs.Prelude.{◌≡◌, ◌≤◌, ◌==◌, length};
+ghost use Rattle.std.specs.List.{list_any};
 ghost use Rattle.page_core_base.specs.LinesTaken.{line_seen};
 ghost use Rattle.page_sets_lines.specs.Events.{given_seen};
-ghost use Rattle.page_sets_lines.specs.ControlLines.{before_name, name_end, arguments_after, first_of, second_of, open_quote, ReadsAfter};
+ghost use Rattle.page_sets_lines.specs.ControlLines.{before_name, name_end, arguments_after, first_of, is_quote, open_quote, ReadsAfter};
 
 use page_core_base::Taken;
 use page_core_limits::LINE;
@@ -59,9 +60,17 @@ fn arguments_after(text: &[u8], start: usize) -> Arguments<'_>
     Arguments::new(&text[start..], start as u32 + 1)
 }
 
-/// The column of the quote of an argument that lacks its last one, unless the argument is one of the first, which are
-/// printed.
-pub fn open_quote(text: &[u8], start: usize, printed: usize) -> Option<u32>
+// Whether a quote stands in a text.
+#[inline(always)]
+fn has_quote(text: &[u8]) -> bool
+    ensures { result ≡ list_any is_quote text.now }
+{
+    text.iter().any(|byte| *byte == b'"')
+}
+
+// The column of the first quote of an argument that lacks its last one, but for this many arguments at the front.
+#[inline(never)]
+fn unclosed_quote(text: &[u8], start: usize, printed: usize) -> Option<u32>
     requires short { length text.now ≤ LINE }
     requires within { start ≤ length text.now }
     ensures { result ≡ open_quote printed (arguments_after start text.now) }
@@ -76,6 +85,21 @@ pub fn open_quote(text: &[u8], start: usize, printed: usize) -> Option<u32>
         }
     }
     None
+}
+
+/// The column of the quote of an argument that lacks its last one, unless the argument is one of the first, which are
+/// printed. The arguments are read only where a quote stands in them.
+#[inline(always)]
+pub fn open_quote(text: &[u8], start: usize, printed: usize) -> Option<u32>
+    requires short { length text.now ≤ LINE }
+    requires within { start ≤ length text.now }
+    ensures { result ≡ open_quote printed (arguments_after start text.now) }
+{
+    if has_quote(&text[start..]) {
+        unclosed_quote(text, start, printed)
+    } else {
+        None
+    }
 }
 
 /// Reads the first argument that begins after this many bytes, and says after how many the others begin.
@@ -96,15 +120,4 @@ pub fn first_of(text: &[u8], start: usize) -> Option<Argument<&[u8]>>
     ensures { given_seen result ≡ first_of (arguments_after start text.now) }
 {
     arguments_after(text, start).next_argument()
-}
-
-/// The second argument that begins after this many bytes.
-pub fn second_of(text: &[u8], start: usize) -> Option<Argument<&[u8]>>
-    requires short { length text.now ≤ LINE }
-    requires within { start ≤ length text.now }
-    ensures { given_seen result ≡ second_of (arguments_after start text.now) }
-{
-    let mut arguments = arguments_after(text, start);
-    arguments.next_argument()?;
-    arguments.next_argument()
 }

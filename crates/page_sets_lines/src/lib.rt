@@ -11,7 +11,7 @@ mod openers;
 mod plain_lines;
 mod requests;
 
-pub use control_lines::{NameSpan, find_name, first_of, open_quote, read_after, second_of};
+pub use control_lines::{NameSpan, find_name, first_of, open_quote, read_after};
 pub use events::{Deed, Event, Join, Role, Word};
 pub use leaves::{Leaf, Own, OwnWord, Request};
 pub use macro_names::{FontMacro, HeadingName, Link, ParagraphName, Prologue, TagName};
