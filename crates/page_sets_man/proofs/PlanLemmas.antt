@@ -19,13 +19,13 @@ use Rattle.page_sets_man.proofs.WordLemmas.{words_first}
 -- ---- where arguments begin
 
 lone_starts : (row : Row) (column start : ℕ) (text : List ℕ) (alone : Alone)
-    → ((lone_plan row column start text alone).before.start ≡ start) × ((lone_plan row column start text alone).later.rest ≡ start)
+    → ((lone_plan row column start text alone).before.start ≡ start) × ((lone_plan row column start text alone).rest ≡ start)
 lone_starts row column start text Same = (refl, refl)
 lone_starts row column start text Empty = (refl, refl)
 lone_starts row column start text (Scope opener) = (refl, refl)
 
 row_starts : (column start : ℕ) (text : List ℕ) (row : Option Row)
-    → ((row_plan column start text row).before.start ≡ start) × ((row_plan column start text row).later.rest ≡ start)
+    → ((row_plan column start text row).before.start ≡ start) × ((row_plan column start text row).rest ≡ start)
 row_starts column start text None = (refl, refl)
 row_starts column start text (Some row) =
     elim (cases_Bool (has_arguments (drop start text))) [

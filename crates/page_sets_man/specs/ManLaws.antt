@@ -51,7 +51,7 @@ use Rattle.page_sets_man.specs.declared.plans.LinePlan.TheVariants as line_plans
 use Rattle.page_sets_man.specs.Rows.{quiet, structure_rows, words_rows, structure_row, words_row, request_row, either_row, row_of}
 use Rattle.page_sets_man.specs.Man.{opener, closer, leaf, effect_deed, line_scope, one_word, plain_words, alternating_words, option_words, section_words, reference_words, words_events, has_words, break_events, quote_at, missing_quote, quote_events, deed_events, scope_events, last_events, macro_events, lone_events, row_events, named_events, control_events, line_events, man_events}
 use Rattle.page_sets_man.specs.Steps.{section_text, next_events}
-use Rattle.page_sets_man.specs.Plans.{front_deed, unless_over, plan_events, FitsPlan, line_plan_events, FitsLinePlan}
+use Rattle.page_sets_man.specs.Plans.{front_deed, plan_events, FitsPlan, line_plan_events, FitsLinePlan}
 
 -- ---- slices
 
@@ -185,22 +185,18 @@ words_slices line number column (words.Alternating font other) from arguments h 
 words_slices line number column words.Option from arguments h = option_slices line number from arguments h
 words_slices line number column words.Reference from arguments h = reference_slices line number column from arguments h
 
-unless_over_slices : (line : List ℕ) (over : Bool) (events : List (Event (List ℕ))) → AreSlices line events → AreSlices line (unless_over over events)
-unless_over_slices line true events h = tt
-unless_over_slices line false events h = h
-
 plan_slices : (line : Line) (plan : Plan) → FitsPlan line plan → AreSlices line.text (plan_events line plan)
 plan_slices line plan fits =
     let text = line.text in
-    let later = plan.later in
-    unless_over_slices text later.over _
+    AreSlices-append text _ _
     (AreSlices-append text _ _
     (AreSlices-append text _ _ (break_slices text line.number plan.column plan.before.breaks)
     (AreSlices-append text _ _ (quote_slices text line.number plan.before.quote)
-    (deed_slices text line.number plan.column _ (front_slices line plan.before.front plan.before.start fits.0))))
-    (AreSlices-append text _ _ (scope_slices text line.number plan.column later.scope)
-    (AreSlices-append text _ _ (next_slices text line.number plan.column later.words (later.rest + 1) (arguments_after later.rest text) (all_after text later.rest))
-    (AreSlices-append text _ _ (last_slices text line.number plan.column later.last) (tt, tt)))))
+    (AreSlices-append text _ _ (deed_slices text line.number plan.column _ (front_slices line plan.before.front plan.before.start fits.0))
+    (scope_slices text line.number plan.column plan.before.scope))))
+    (AreSlices-append text _ _ (next_slices text line.number plan.column plan.words (plan.rest + 1) (arguments_after plan.rest text) (all_after text plan.rest))
+    (last_slices text line.number plan.column plan.last)))
+    (tt, tt)
 
 pub line_plan_slices : (line : Line) (plan : LinePlan) → FitsLinePlan line plan → AreSlices line.text (line_plan_events line plan)
 line_plan_slices line (line_plans.Plain plain) fits = (line_slices plain line.text, (tt, tt))

@@ -1,5 +1,5 @@
 -- What is still to come of a line's events: the code's own steps.
-use Rattle.std.specs.Prelude.{ℕ, Bool, true, ◌+◌, ◌≤◌, ◌&&◌, if◌then◌else◌, false, List, [], ◌∷◌, ◌++◌, length, drop, Option, None, Some}
+use Rattle.std.specs.Prelude.{ℕ, ◌+◌, ◌≤◌, ◌&&◌, if◌then◌else◌, false, List, [], ◌∷◌, ◌++◌, length, drop, Option, None, Some}
 use Rattle.page_core_base.specs.declared.note_kinds.NoteKind.TheVariants.{UnknownMacro, EmptyMacro}
 use Rattle.page_roff_forms.specs.Arguments.{has_arguments}
 use Rattle.page_sets_lines.specs.declared.openers.LineOpener.{LineOpener}
@@ -17,7 +17,6 @@ use Rattle.page_sets_man.specs.declared.rows.Row.{Row}
 use Rattle.page_sets_man.specs.declared.plans.Front.{Front}
 use Rattle.page_sets_man.specs.declared.plans.Front.TheVariants as fronts
 use Rattle.page_sets_man.specs.declared.plans.Before.{Before}
-use Rattle.page_sets_man.specs.declared.plans.Later.{Later}
 use Rattle.page_sets_man.specs.declared.plans.Plan.{Plan}
 use Rattle.page_sets_man.specs.declared.plans.LinePlan.{LinePlan}
 use Rattle.page_sets_man.specs.declared.plans.LinePlan.TheVariants as line_plans
@@ -34,33 +33,22 @@ front_deed (fronts.Effect effect) line rest = effect_deed effect (drop rest line
 abbrev pub before_events : Line → ℕ → Before → List (Event (List ℕ))
 before_events line column before =
     break_events line.number column before.breaks
-    ++ (quote_events line.number before.quote ++ deed_events line.number column (front_deed before.front line before.start))
+    ++ (quote_events line.number before.quote
+    ++ (deed_events line.number column (front_deed before.front line before.start) ++ scope_events line.number column before.scope))
 
--- what comes later: from what comes last on, from the words on, and from the scope on
-abbrev pub last_of : ℕ → ℕ → Later → List (Event (List ℕ))
-last_of number column later = last_events number column later.last ++ line_end number later.fills ∷ []
+-- what a plan of a control line gives before the line's end
+abbrev pub own_events : Line → Plan → List (Event (List ℕ))
+own_events line plan =
+    before_events line plan.column plan.before
+    ++ (words_from line plan.column plan.words plan.rest ++ last_events line.number plan.column plan.last)
 
-abbrev pub words_of : Line → ℕ → Later → List (Event (List ℕ))
-words_of line column later = words_from line column later.words later.rest ++ last_of line.number column later
-
-abbrev pub later_of : Line → ℕ → Later → List (Event (List ℕ))
-later_of line column later = scope_events line.number column later.scope ++ words_of line column later
-
--- nothing, once the line's end was given
-abbrev pub unless_over : Bool → List (Event (List ℕ)) → List (Event (List ℕ))
-unless_over true events = []
-unless_over false events = events
-
--- all that a plan of a control line gives whose end is still to come, and that any gives
-abbrev pub all_events : Line → Plan → List (Event (List ℕ))
-all_events line plan = before_events line plan.column plan.before ++ later_of line plan.column plan.later
-
+-- all that it gives
 abbrev pub plan_events : Line → Plan → List (Event (List ℕ))
-plan_events line plan = unless_over plan.later.over (all_events line plan)
+plan_events line plan = own_events line plan ++ line_end line.number plan.fills ∷ []
 
 -- its arguments lie within the line
 abbrev pub FitsPlan : Line → Plan → Type 0
-FitsPlan line plan = (plan.before.start ≤ length line.text) × (plan.later.rest ≤ length line.text)
+FitsPlan line plan = (plan.before.start ≤ length line.text) × (plan.rest ≤ length line.text)
 
 -- the same of any line
 abbrev pub line_plan_events : Line → LinePlan → List (Event (List ℕ))
@@ -80,15 +68,21 @@ FitsLinePlan line (line_plans.Control plan) = FitsPlan line plan
 abbrev pub front_plan : Front → ℕ → ℕ → Plan
 front_plan front column start = record {
   column = column;
-  before = record { breaks = false; quote = None; front = front; start = start };
-  later = record { scope = None; words = words.Nothing; rest = start; last = lasts.Nothing; fills = false; over = false };
+  before = record { breaks = false; quote = None; front = front; scope = None; start = start };
+  words = words.Nothing;
+  rest = start;
+  last = lasts.Nothing;
+  fills = false;
 }
 
 abbrev pub scope_plan : LineOpener → ℕ → ℕ → Plan
 scope_plan opener column start = record {
   column = column;
-  before = record { breaks = false; quote = None; front = fronts.Nothing; start = start };
-  later = record { scope = Some opener; words = words.Nothing; rest = start; last = lasts.Nothing; fills = false; over = false };
+  before = record { breaks = false; quote = None; front = fronts.Nothing; scope = Some opener; start = start };
+  words = words.Nothing;
+  rest = start;
+  last = lasts.Nothing;
+  fills = false;
 }
 
 abbrev pub macro_plan : Row → ℕ → ℕ → List ℕ → Plan
@@ -98,16 +92,13 @@ macro_plan row column start text = record {
     breaks = row.breaks;
     quote = missing_quote row.quotes (arguments_after start text);
     front = fronts.Effect row.effect;
+    scope = line_scope row.effect;
     start = start;
   };
-  later = record {
-    scope = line_scope row.effect;
-    words = first_word row.words;
-    rest = start;
-    last = row.last;
-    fills = has_words row.words && has_arguments (drop start text);
-    over = false;
-  };
+  words = first_word row.words;
+  rest = start;
+  last = row.last;
+  fills = has_words row.words && has_arguments (drop start text);
 }
 
 abbrev pub lone_plan : Row → ℕ → ℕ → List ℕ → Alone → Plan

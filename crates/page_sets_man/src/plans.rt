@@ -1,29 +1,22 @@
 //! What is still to come of a line's events.
 
-ghost use Rattle.std.specs.Prelude.{◌≡◌, ◌≤◌, ℕ, true, List, ◌∷◌, ◌++◌, length, option_map};
-ghost use Rattle.page_core_base.specs.LinesTaken.{line_seen};
-ghost use Rattle.page_sets_lines.specs.declared.events.Event.{Event};
+ghost use Rattle.std.specs.Prelude.{◌≡◌, ◌≤◌, true, [], length, option_map};
+ghost use Rattle.page_core_base.specs.LinesTaken.{Line, line_seen};
 ghost use Rattle.page_sets_lines.specs.Events.{event_seen, deed_seen, TakesNext};
 ghost use Rattle.page_sets_lines.specs.ControlLines.{arguments_after};
-ghost use Rattle.page_sets_lines.specs.PlainLines.{event_at, line_end, plain_deed};
-ghost use Rattle.page_sets_lines.specs.declared.openers.Closer.TheVariants as closers;
-ghost use Rattle.page_sets_lines.specs.declared.leaves.Leaf.TheVariants as leaves;
-ghost use Rattle.page_sets_lines.specs.declared.events.Deed.TheVariants as deeds;
-ghost use Rattle.page_sets_man.specs.declared.words.NextWord.TheVariants as words;
-ghost use Rattle.page_sets_man.specs.Steps.{takes_argument};
+ghost use Rattle.page_sets_lines.specs.PlainLines.{event_at};
 ghost use Rattle.page_sets_man.specs.Man as man;
 ghost use Rattle.page_sets_man.specs.Plans as plans;
-ghost use Rattle.page_sets_man.specs.Plans.{front_deed, unless_over, last_of, words_of, later_of, all_events, plan_events, FitsPlan, line_plan_events, FitsLinePlan};
+ghost use Rattle.page_sets_man.specs.Plans.{front_deed, before_events, own_events, FitsPlan, line_plan_events, FitsLinePlan};
 
 use crate::effects::{effect_deed, line_scope};
 use crate::rows::{Alone, Effect, Last, Quotes, Row, Words, row_of};
-use crate::words::{NextWord, argument_word, mark};
+use crate::words::{NextWord, mark, next_word};
 use page_core_base::{NoteKind, Place, Taken};
 use page_core_limits::LINE;
 use page_roff_forms::has_arguments;
 use page_sets_lines::{
-    Closer, Deed, Event, Join, Leaf, LineOpener, Own, PlainLine, find_name, first_of, open_quote,
-    read_after,
+    Closer, Deed, Event, Join, Leaf, LineOpener, PlainLine, find_name, open_quote,
 };
 
 /// The quote of an argument that lacks its last one: its column, and whether its message may begin the body of the
@@ -44,38 +37,30 @@ pub(crate) enum Front {
     Effect(Effect),
 }
 
-/// What comes first in a control line, in the order of the fields.
+/// What is still to come before a line's words, in the order of the fields.
 #[derive(Clone, Copy)]
 pub(crate) struct Before {
     /// The end of the line scopes that are open.
     pub(crate) breaks: bool,
     pub(crate) quote: Option<Quote>,
     pub(crate) front: Front,
+    pub(crate) scope: Option<LineOpener>,
     /// The bytes after which the macro's arguments begin.
     pub(crate) start: usize,
 }
 
-/// What comes after that, in the order of the fields, and last the line's end.
+/// What is still to come of a control line's events, before its end.
 #[derive(Clone, Copy)]
-pub(crate) struct Later {
-    pub(crate) scope: Option<LineOpener>,
+pub struct Plan {
+    /// The column of the macro's name.
+    pub(crate) column: u32,
+    pub(crate) before: Before,
     pub(crate) words: NextWord,
     /// The bytes after which the arguments that are still to be read begin.
     pub(crate) rest: usize,
     pub(crate) last: Last,
     /// Whether the line's end fills line scopes.
     pub(crate) fills: bool,
-    /// Whether the line's end was given.
-    pub(crate) over: bool,
-}
-
-/// What is still to come of a control line's events.
-#[derive(Clone, Copy)]
-pub struct Plan {
-    /// The column of the macro's name.
-    pub(crate) column: u32,
-    pub(crate) before: Before,
-    pub(crate) later: Later,
 }
 
 /// What is still to come of a line's events.
@@ -114,60 +99,6 @@ fn quote_deed<'a>(quote: Quote) -> Deed<&'a [u8]>
         detail,
         begins_body: quote.begins_body,
     }
-}
-
-// The end of the line scopes that are open. As each event, it is made in a function of its own, so that the others are not
-// mixed with it, field by field.
-#[inline(never)]
-fn break_event<'a>(number: u32, column: u32) -> Option<Event<&'a [u8]>>
-    ensures { (rest : List (Event (List ℕ))) →
-        TakesNext (event_at number column (deeds.Close closers.Line) ∷ rest) result rest }
-{
-    Some(event_at(number, column, Deed::Close(Closer::Line)))
-}
-
-// A missing last quote.
-#[inline(never)]
-fn quote_event<'a>(number: u32, quote: Quote) -> Option<Event<&'a [u8]>>
-    ensures { (rest : List (Event (List ℕ))) →
-        TakesNext (event_at number quote.column (man.quote_deed quote) ∷ rest) result rest }
-{
-    Some(event_at(number, quote.column, quote_deed(quote)))
-}
-
-// A scope over a line.
-#[inline(never)]
-fn scope_event<'a>(number: u32, column: u32, opener: LineOpener) -> Option<Event<&'a [u8]>>
-    ensures { (rest : List (Event (List ℕ))) →
-        TakesNext (event_at number column (deeds.LineScope opener) ∷ rest) result rest }
-{
-    Some(event_at(number, column, Deed::LineScope(opener)))
-}
-
-// The end of the font of a macro.
-#[inline(never)]
-fn font_end<'a>(number: u32, column: u32) -> Option<Event<&'a [u8]>>
-    ensures { (rest : List (Event (List ℕ))) →
-        TakesNext (event_at number column (deeds.Leaf (leaves.Fonts None)) ∷ rest) result rest }
-{
-    Some(event_at(number, column, Deed::Leaf(Leaf::Fonts(None))))
-}
-
-// The end of a line.
-#[inline(never)]
-fn end_event<'a>(number: u32, fills: bool) -> Option<Event<&'a [u8]>>
-    ensures { (rest : List (Event (List ℕ))) → TakesNext (line_end number fills ∷ rest) result rest }
-{
-    Some(event_at(number, 1, Deed::End { fills }))
-}
-
-// What a line does that is no control line.
-#[inline(never)]
-fn plain_event<'a>(line: Taken<'a>, plain: PlainLine) -> Option<Event<&'a [u8]>>
-    ensures { (rest : List (Event (List ℕ))) →
-        TakesNext (event_at line.entry.line 1 (plain_deed plain line.entry.text.now) ∷ rest) result rest }
-{
-    Some(event_at(line.line, 1, plain.deed(line.text)))
 }
 
 // What comes first in a line.
@@ -233,16 +164,13 @@ fn front_plan(front: Front, column: u32, start: usize) -> Plan
             breaks: false,
             quote: None,
             front,
+            scope: None,
             start,
         },
-        later: Later {
-            scope: None,
-            words: NextWord::Nothing,
-            rest: start,
-            last: Last::Nothing,
-            fills: false,
-            over: false,
-        },
+        words: NextWord::Nothing,
+        rest: start,
+        last: Last::Nothing,
+        fills: false,
     }
 }
 
@@ -256,16 +184,13 @@ fn scope_plan(opener: LineOpener, column: u32, start: usize) -> Plan
             breaks: false,
             quote: None,
             front: Front::Nothing,
+            scope: Some(opener),
             start,
         },
-        later: Later {
-            scope: Some(opener),
-            words: NextWord::Nothing,
-            rest: start,
-            last: Last::Nothing,
-            fills: false,
-            over: false,
-        },
+        words: NextWord::Nothing,
+        rest: start,
+        last: Last::Nothing,
+        fills: false,
     }
 }
 
@@ -281,16 +206,13 @@ fn macro_plan(row: Row, text: &[u8], column: u32, start: usize) -> Plan
             breaks: row.breaks,
             quote: missing_quote(row.quotes, text, start),
             front: Front::Effect(row.effect),
+            scope: line_scope(row.effect),
             start,
         },
-        later: Later {
-            scope: line_scope(row.effect),
-            words: NextWord::first(row.words),
-            rest: start,
-            last: row.last,
-            fills: has_words(row.words) && has_arguments(&text[start..]),
-            over: false,
-        },
+        words: NextWord::first(row.words),
+        rest: start,
+        last: row.last,
+        fills: has_words(row.words) && has_arguments(&text[start..]),
     }
 }
 
@@ -349,166 +271,80 @@ pub(crate) fn plan_of(line: Taken<'_>) -> LinePlan
     }
 }
 
-// What comes last in a line, and its end.
-fn next_last<'a>(number: u32, column: u32, later: &mut Later) -> Option<Event<&'a [u8]>>
-    ensures same { (later.new.scope ≡ later.old.scope) × (later.new.words ≡ later.old.words)
-        × (later.new.rest ≡ later.old.rest) }
-    ensures events { TakesNext (last_of number column later.old) result
-        (unless_over later.new.over (last_of number column later.new)) }
+// The next event before a line's words.
+fn next_before<'a>(line: Taken<'a>, column: u32, before: &mut Before) -> Option<Event<&'a [u8]>>
+    requires short { length line.text.now ≤ LINE }
+    requires within { before.old.start ≤ length line.text.now }
+    ensures start { before.new.start ≡ before.old.start }
+    ensures events { TakesNext (before_events (line_seen line.entry) column before.old) result
+        (before_events (line_seen line.entry) column before.new) }
 {
-    match later.last {
-        Last::Nothing => {
-            later.over = true;
-            end_event(number, later.fills)
-        }
+    if before.breaks {
+        before.breaks = false;
+        return Some(event_at(line.line, column, Deed::Close(Closer::Line)));
+    }
+    if let Some(quote) = before.quote {
+        before.quote = None;
+        return Some(event_at(line.line, quote.column, quote_deed(quote)));
+    }
+    if let Some(deed) = front_deed(before.front, line, before.start) {
+        before.front = Front::Nothing;
+        return Some(event_at(line.line, column, deed));
+    }
+    if let Some(opener) = before.scope {
+        before.scope = None;
+        return Some(event_at(line.line, column, Deed::LineScope(opener)));
+    }
+    None
+}
+
+// The next event after a line's words, before the line's end.
+fn next_last<'a>(number: u32, column: u32, last: &mut Last) -> Option<Event<&'a [u8]>>
+    ensures { TakesNext (man.last_events number column last.old) result (man.last_events number column last.new) }
+{
+    match *last {
+        Last::Nothing => None,
         Last::FontEnds => {
-            later.last = Last::Nothing;
-            later.over = false;
-            font_end(number, column)
+            *last = Last::Nothing;
+            Some(event_at(number, column, Deed::Leaf(Leaf::Fonts(None))))
         }
         Last::Mark(own) => {
-            later.last = Last::Nothing;
-            later.over = false;
-            mark(number, column, own, Join::Glued, Join::Apart)
+            *last = Last::Nothing;
+            Some(mark(number, column, own, Join::Glued, Join::Apart))
         }
     }
 }
 
-// The next argument as a word, or what comes after the last one.
-#[inline(never)]
-#[tactic(auto, using(crate::proofs::WordLemmas::word_first, crate::proofs::WordLemmas::word_none))]
-fn next_argument<'a>(line: Taken<'a>, column: u32, later: &mut Later) -> Option<Event<&'a [u8]>>
-    requires short { length line.text.now ≤ LINE }
-    requires within { later.old.rest ≤ length line.text.now }
-    requires argument { takes_argument later.old.words ≡ true }
-    ensures within { later.new.rest ≤ length line.entry.text.now }
-    ensures scope { later.new.scope ≡ later.old.scope }
-    ensures events { TakesNext (words_of (line_seen line.entry) column later.old) result
-        (unless_over later.new.over (words_of (line_seen line.entry) column later.new)) }
-{
-    match read_after(line.text, later.rest) {
-        Some((argument, end)) => {
-            let words = later.words;
-            later.words = words.after();
-            later.rest = end;
-            later.over = false;
-            Some(argument_word(line.line, words.font(), words.join(), argument))
-        }
-        None => next_last(line.line, column, later),
-    }
-}
-
-// The first mark of a section, or what comes after the words where there is none.
-#[inline(never)]
-fn next_section<'a>(line: Taken<'a>, column: u32, later: &mut Later) -> Option<Event<&'a [u8]>>
-    requires short { length line.text.now ≤ LINE }
-    requires within { later.old.rest ≤ length line.text.now }
-    requires section { later.old.words ≡ words.SectionBegin }
-    ensures within { later.new.rest ≤ length line.entry.text.now }
-    ensures scope { later.new.scope ≡ later.old.scope }
-    ensures events { TakesNext (words_of (line_seen line.entry) column later.old) result
-        (unless_over later.new.over (words_of (line_seen line.entry) column later.new)) }
-{
-    match first_of(line.text, later.rest) {
-        Some(_) => {
-            later.words = NextWord::Section;
-            later.over = false;
-            mark(line.line, column, Own::Round, Join::Glued, Join::Glued)
-        }
-        None => next_last(line.line, column, later),
-    }
-}
-
-// The next word, or what comes after the last one.
-fn next_word<'a>(line: Taken<'a>, column: u32, later: &mut Later) -> Option<Event<&'a [u8]>>
-    requires short { length line.text.now ≤ LINE }
-    requires within { later.old.rest ≤ length line.text.now }
-    ensures within { later.new.rest ≤ length line.entry.text.now }
-    ensures scope { later.new.scope ≡ later.old.scope }
-    ensures events { TakesNext (words_of (line_seen line.entry) column later.old) result
-        (unless_over later.new.over (words_of (line_seen line.entry) column later.new)) }
-{
-    match later.words {
-        NextWord::Nothing => next_last(line.line, column, later),
-        NextWord::SectionBegin => next_section(line, column, later),
-        NextWord::SectionEnd => {
-            later.words = NextWord::Suffix;
-            later.over = false;
-            mark(line.line, column, Own::Unround, Join::Glued, Join::Apart)
-        }
-        _ => next_argument(line, column, later),
-    }
-}
-
-// What comes after the first events of a control line.
-fn next_later<'a>(line: Taken<'a>, column: u32, later: &mut Later) -> Option<Event<&'a [u8]>>
-    requires short { length line.text.now ≤ LINE }
-    requires within { later.old.rest ≤ length line.text.now }
-    ensures within { later.new.rest ≤ length line.entry.text.now }
-    ensures events { TakesNext (later_of (line_seen line.entry) column later.old) result
-        (unless_over later.new.over (later_of (line_seen line.entry) column later.new)) }
-{
-    match later.scope {
-        Some(opener) => {
-            later.scope = None;
-            later.over = false;
-            scope_event(line.line, column, opener)
-        }
-        None => next_word(line, column, later),
-    }
-}
-
-// The next event of a control line from what comes first on.
-#[inline(never)]
-fn next_front<'a>(
-    front: Front,
-    line: Taken<'a>,
-    column: u32,
-    start: usize,
-    later: &mut Later,
-) -> Option<Event<&'a [u8]>>
-    requires short { length line.text.now ≤ LINE }
-    requires start { start ≤ length line.text.now }
-    requires within { later.old.rest ≤ length line.text.now }
-    ensures within { later.new.rest ≤ length line.entry.text.now }
-    ensures events { TakesNext (man.deed_events line.entry.line column (front_deed front (line_seen line.entry) start)
-        ++ later_of (line_seen line.entry) column later.old) result
-        (unless_over later.new.over (later_of (line_seen line.entry) column later.new)) }
-{
-    match front_deed(front, line, start) {
-        Some(deed) => {
-            later.over = false;
-            Some(event_at(line.line, column, deed))
-        }
-        None => next_later(line, column, later),
-    }
-}
-
-// The next event of a control line that is not over.
+// The next event of a control line, before its end.
 #[inline(never)]
 fn next_of_control<'a>(line: Taken<'a>, plan: &mut Plan) -> Option<Event<&'a [u8]>>
     requires short { length line.text.now ≤ LINE }
     requires fits { FitsPlan (line_seen line) plan.old }
     ensures fits { FitsPlan (line_seen line.entry) plan.new }
-    ensures events { TakesNext (all_events (line_seen line.entry) plan.old) result
-        (plan_events (line_seen line.entry) plan.new) }
+    ensures fills { plan.new.fills ≡ plan.old.fills }
+    ensures events { TakesNext (own_events (line_seen line.entry) plan.old) result
+        (own_events (line_seen line.entry) plan.new) }
 {
-    if plan.before.breaks {
-        plan.before.breaks = false;
-        plan.later.over = false;
-        return break_event(line.line, plan.column);
+    if let Some(event) = next_before(line, plan.column, &mut plan.before) {
+        return Some(event);
     }
-    if let Some(quote) = plan.before.quote {
-        plan.before.quote = None;
-        plan.later.over = false;
-        return quote_event(line.line, quote);
+    if let Some(event) = next_word(line, plan.column, &mut plan.words, &mut plan.rest) {
+        return Some(event);
     }
-    let front = plan.before.front;
-    plan.before.front = Front::Nothing;
-    match front {
-        Front::Nothing => next_later(line, plan.column, &mut plan.later),
-        front => next_front(front, line, plan.column, plan.before.start, &mut plan.later),
-    }
+    next_last(line.line, plan.column, &mut plan.last)
+}
+
+// Whether nothing of a control line comes before its end, as far as that shows without reading its arguments.
+#[inline(always)]
+fn is_done(plan: &Plan) -> bool
+    ensures { (line : Line) → result ≡ true → own_events line plan.now ≡ [] }
+{
+    !plan.before.breaks
+        && matches!(plan.before.quote, None)
+        && matches!(plan.before.front, Front::Nothing)
+        && matches!(plan.before.scope, None)
+        && matches!(plan.words, NextWord::Nothing)
+        && matches!(plan.last, Last::Nothing)
 }
 
 /// The next event of a line.
@@ -522,22 +358,26 @@ pub(crate) fn next_event<'a>(line: Taken<'a>, plan: &mut LinePlan) -> Option<Eve
 {
     match plan {
         LinePlan::Plain(plain) => {
-            let given = *plain;
-            *plan = LinePlan::End(given.fills());
-            plain_event(line, given)
+            let deed = plain.deed(line.text);
+            *plan = LinePlan::End(plain.fills());
+            Some(event_at(line.line, 1, deed))
         }
         LinePlan::End(fills) => {
-            let fills = *fills;
+            let deed = Deed::End { fills: *fills };
             *plan = LinePlan::Nothing;
-            end_event(line.line, fills)
+            Some(event_at(line.line, 1, deed))
         }
         LinePlan::Nothing => None,
         LinePlan::Control(control) => {
-            if control.later.over {
-                None
-            } else {
-                next_of_control(line, control)
+            let fills = control.fills;
+            if let Some(event) = next_of_control(line, control) {
+                if is_done(control) {
+                    *plan = LinePlan::End(fills);
+                }
+                return Some(event);
             }
+            *plan = LinePlan::Nothing;
+            Some(event_at(line.line, 1, Deed::End { fills }))
         }
     }
 }

@@ -1,16 +1,17 @@
 //! The words of a macro, one after another (man(7), "MACRO REFERENCE").
 
-ghost use Rattle.std.specs.Prelude.{◌≡◌, ℕ, List, ◌∷◌};
+ghost use Rattle.std.specs.Prelude.{◌≡◌, ◌≤◌, ℕ, true, length};
+ghost use Rattle.page_core_base.specs.LinesTaken.{line_seen};
 ghost use Rattle.page_roff_forms.specs.Arguments.{argument_seen};
-ghost use Rattle.page_sets_lines.specs.declared.events.Event.{Event};
 ghost use Rattle.page_sets_lines.specs.Events.{event_seen, TakesNext};
 ghost use Rattle.page_sets_man.specs.Man as man;
-ghost use Rattle.page_sets_man.specs.Steps.{first_word, font_of, join_of, word_after};
+ghost use Rattle.page_sets_man.specs.Steps.{first_word, takes_argument, font_of, join_of, word_after, words_from};
 
 use crate::rows::Words;
-use page_core_base::{Font, Place};
+use page_core_base::{Font, Place, Taken};
+use page_core_limits::LINE;
 use page_roff_forms::Argument;
-use page_sets_lines::{Deed, Event, Join, Leaf, Own, OwnWord, Role, Word};
+use page_sets_lines::{Deed, Event, Join, Leaf, Own, OwnWord, Role, Word, first_of, read_after};
 
 /// What comes next of a macro's words.
 #[derive(Clone, Copy)]
@@ -58,8 +59,8 @@ impl NextWord {
         }
     }
 
-    /// The font of the next argument, if it has one of its own.
-    pub(crate) fn font(self) -> Option<Font>
+    // The font of the next argument, if it has one of its own.
+    fn font(self) -> Option<Font>
         ensures { result ≡ font_of self }
     {
         match self {
@@ -70,8 +71,8 @@ impl NextWord {
         }
     }
 
-    /// How it stands beside the word before it.
-    pub(crate) fn join(self) -> Join
+    // How it stands beside the word before it.
+    fn join(self) -> Join
         ensures { result ≡ join_of self }
     {
         match self {
@@ -81,8 +82,8 @@ impl NextWord {
         }
     }
 
-    /// What comes after it.
-    pub(crate) fn after(self) -> NextWord
+    // What comes after it.
+    fn after(self) -> NextWord
         ensures { result ≡ word_after self }
     {
         match self {
@@ -100,8 +101,8 @@ impl NextWord {
     }
 }
 
-/// An argument as a word.
-pub(crate) fn argument_word(
+// An argument as a word.
+fn argument_word(
     number: u32,
     font: Option<Font>,
     before: Join,
@@ -125,18 +126,16 @@ pub(crate) fn argument_word(
 }
 
 /// A mark of a macro's own.
-#[inline(never)]
 pub(crate) fn mark<'a>(
     number: u32,
     column: u32,
     own: Own,
     before: Join,
     after: Join,
-) -> Option<Event<&'a [u8]>>
-    ensures { (rest : List (Event (List ℕ))) →
-        TakesNext (man.mark number column own before after ∷ rest) result rest }
+) -> Event<&'a [u8]>
+    ensures { event_seen result ≡ man.mark number column own before after }
 {
-    Some(Event {
+    Event {
         place: Place {
             line: number,
             column,
@@ -147,5 +146,56 @@ pub(crate) fn mark<'a>(
             before,
             after,
         })),
-    })
+    }
+}
+
+// The next argument as a word, if there is one.
+#[tactic(auto, using(crate::proofs::WordLemmas::word_first, crate::proofs::WordLemmas::word_none))]
+fn next_argument<'a>(
+    line: Taken<'a>,
+    words: &mut NextWord,
+    rest: &mut usize,
+) -> Option<Event<&'a [u8]>>
+    requires short { length line.text.now ≤ LINE }
+    requires within { rest.old ≤ length line.text.now }
+    requires argument { takes_argument words.old ≡ true }
+    ensures within { rest.new ≤ length line.entry.text.now }
+    ensures events { (column : ℕ) → TakesNext (words_from (line_seen line.entry) column words.old rest.old) result
+        (words_from (line_seen line.entry) column words.new rest.new) }
+{
+    let (argument, end) = read_after(line.text, *rest)?;
+    let event = argument_word(line.line, words.font(), words.join(), argument);
+    *words = words.after();
+    *rest = end;
+    Some(event)
+}
+
+/// The next event of a macro's words, if there is one: its arguments begin after this many bytes, and its name stands in
+/// a column.
+#[inline(never)]
+pub(crate) fn next_word<'a>(
+    line: Taken<'a>,
+    column: u32,
+    words: &mut NextWord,
+    rest: &mut usize,
+) -> Option<Event<&'a [u8]>>
+    requires short { length line.text.now ≤ LINE }
+    requires within { rest.old ≤ length line.text.now }
+    ensures within { rest.new ≤ length line.entry.text.now }
+    ensures events { TakesNext (words_from (line_seen line.entry) column words.old rest.old) result
+        (words_from (line_seen line.entry) column words.new rest.new) }
+{
+    match *words {
+        NextWord::Nothing => None,
+        NextWord::SectionBegin => {
+            first_of(line.text, *rest)?;
+            *words = NextWord::Section;
+            Some(mark(line.line, column, Own::Round, Join::Glued, Join::Glued))
+        }
+        NextWord::SectionEnd => {
+            *words = NextWord::Suffix;
+            Some(mark(line.line, column, Own::Unround, Join::Glued, Join::Apart))
+        }
+        _ => next_argument(line, words, rest),
+    }
 }
