@@ -51,7 +51,7 @@ use Rattle.page_sets_man.specs.declared.plans.LinePlan.TheVariants as line_plans
 use Rattle.page_sets_man.specs.Rows.{quiet, structure_rows, words_rows, structure_row, words_row, request_row, either_row, row_of}
 use Rattle.page_sets_man.specs.Man.{opener, closer, leaf, effect_deed, line_scope, one_word, plain_words, alternating_words, option_words, section_words, reference_words, words_events, has_words, break_events, quote_at, missing_quote, quote_events, deed_events, scope_events, last_events, macro_events, lone_events, row_events, named_events, control_events, line_events, man_events}
 use Rattle.page_sets_man.specs.Steps.{section_text, next_events}
-use Rattle.page_sets_man.specs.Plans.{front_deed, plan_events, FitsPlan, line_plan_events, FitsLinePlan}
+use Rattle.page_sets_man.specs.Plans.{front_deed, end_events, plan_events, FitsPlan, line_plan_events, FitsLinePlan}
 
 -- ---- slices
 
@@ -71,6 +71,10 @@ last_slices : (line : List ℕ) (number column : ℕ) (last : Last) → AreSlice
 last_slices line number column lasts.Nothing = tt
 last_slices line number column lasts.FontEnds = (tt, tt)
 last_slices line number column (lasts.Mark own) = (tt, tt)
+
+end_slices : (line : List ℕ) (number : ℕ) (end : Option Bool) → AreSlices line (end_events number end)
+end_slices line number None = tt
+end_slices line number (Some filled) = (tt, tt)
 
 -- what may be there, and then has slices
 HasSlicesIfGiven : List ℕ → Option (Deed (List ℕ)) → Type 0
@@ -189,14 +193,12 @@ plan_slices : (line : Line) (plan : Plan) → FitsPlan line plan → AreSlices l
 plan_slices line plan fits =
     let text = line.text in
     AreSlices-append text _ _
-    (AreSlices-append text _ _
     (AreSlices-append text _ _ (break_slices text line.number plan.column plan.before.breaks)
     (AreSlices-append text _ _ (quote_slices text line.number plan.before.quote)
     (AreSlices-append text _ _ (deed_slices text line.number plan.column _ (front_slices line plan.before.front plan.before.start fits.0))
     (scope_slices text line.number plan.column plan.before.scope))))
     (AreSlices-append text _ _ (next_slices text line.number plan.column plan.words (plan.rest + 1) (arguments_after plan.rest text) (all_after text plan.rest))
-    (last_slices text line.number plan.column plan.last)))
-    (tt, tt)
+    (AreSlices-append text _ _ (last_slices text line.number plan.column plan.after.last) (end_slices text line.number plan.after.end)))
 
 pub line_plan_slices : (line : Line) (plan : LinePlan) → FitsLinePlan line plan → AreSlices line.text (line_plan_events line plan)
 line_plan_slices line (line_plans.Plain plain) fits = (line_slices plain line.text, (tt, tt))

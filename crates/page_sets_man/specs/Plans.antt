@@ -1,11 +1,13 @@
 -- What is still to come of a line's events: the code's own steps.
-use Rattle.std.specs.Prelude.{ℕ, ◌+◌, ◌≤◌, ◌&&◌, if◌then◌else◌, false, List, [], ◌∷◌, ◌++◌, length, drop, Option, None, Some}
+use Rattle.std.specs.Prelude.{ℕ, ◌+◌, ◌≤◌, Bool, ◌&&◌, if◌then◌else◌, false, List, [], ◌∷◌, ◌++◌, length, drop, Option, None, Some}
+use Rattle.std.specs.Borrow.{Bor}
 use Rattle.page_core_base.specs.declared.note_kinds.NoteKind.TheVariants.{UnknownMacro, EmptyMacro}
 use Rattle.page_roff_forms.specs.Arguments.{has_arguments}
 use Rattle.page_sets_lines.specs.declared.openers.LineOpener.{LineOpener}
 use Rattle.page_sets_lines.specs.declared.events.Deed.{Deed}
 use Rattle.page_sets_lines.specs.declared.events.Deed.TheVariants as deeds
 use Rattle.page_sets_lines.specs.declared.events.Event.{Event}
+use Rattle.page_sets_lines.specs.Events.{event_seen}
 use Rattle.page_core_base.specs.LinesTaken.{Line}
 use Rattle.page_sets_lines.specs.ControlLines.{before_name, name_end, name_of, is_nameless, arguments_after}
 use Rattle.page_sets_lines.specs.PlainLines.{plain_events, line_end}
@@ -17,11 +19,12 @@ use Rattle.page_sets_man.specs.declared.rows.Row.{Row}
 use Rattle.page_sets_man.specs.declared.plans.Front.{Front}
 use Rattle.page_sets_man.specs.declared.plans.Front.TheVariants as fronts
 use Rattle.page_sets_man.specs.declared.plans.Before.{Before}
+use Rattle.page_sets_man.specs.declared.plans.After.{After}
 use Rattle.page_sets_man.specs.declared.plans.Plan.{Plan}
 use Rattle.page_sets_man.specs.declared.plans.LinePlan.{LinePlan}
 use Rattle.page_sets_man.specs.declared.plans.LinePlan.TheVariants as line_plans
 use Rattle.page_sets_man.specs.Rows.{row_of}
-use Rattle.page_sets_man.specs.Steps.{first_word, words_from}
+use Rattle.page_sets_man.specs.Steps.{first_word, next_events}
 use Rattle.page_sets_man.specs.Man.{effect_deed, missing_quote, line_scope, has_words, break_events, quote_events, deed_events, scope_events, last_events}
 
 -- what comes first, after a break and a missing quote
@@ -36,15 +39,19 @@ before_events line column before =
     ++ (quote_events line.number before.quote
     ++ (deed_events line.number column (front_deed before.front line before.start) ++ scope_events line.number column before.scope))
 
--- what a plan of a control line gives before the line's end
-abbrev pub own_events : Line → Plan → List (Event (List ℕ))
-own_events line plan =
-    before_events line plan.column plan.before
-    ++ (words_from line plan.column plan.words plan.rest ++ last_events line.number plan.column plan.last)
+abbrev pub end_events : ℕ → Option Bool → List (Event (List ℕ))
+end_events number None = []
+end_events number (Some filled) = line_end number filled ∷ []
 
--- all that it gives
+abbrev pub after_events : ℕ → ℕ → After → List (Event (List ℕ))
+after_events number column after = last_events number column after.last ++ end_events number after.end
+
+-- all that a plan of a control line gives
 abbrev pub plan_events : Line → Plan → List (Event (List ℕ))
-plan_events line plan = own_events line plan ++ line_end line.number plan.fills ∷ []
+plan_events line plan =
+    before_events line plan.column plan.before
+    ++ (next_events line.number plan.column plan.words (arguments_after plan.rest line.text)
+    ++ after_events line.number plan.column plan.after)
 
 -- its arguments lie within the line
 abbrev pub FitsPlan : Line → Plan → Type 0
@@ -63,6 +70,11 @@ FitsLinePlan line (line_plans.End filled) = Unit {0}
 FitsLinePlan line line_plans.Nothing = Unit {0}
 FitsLinePlan line (line_plans.Control plan) = FitsPlan line plan
 
+-- an event that may be there, as a list
+abbrev pub events_seen : Option (Event (Bor (List ℕ))) → List (Event (List ℕ))
+events_seen None = []
+events_seen (Some event) = event_seen event ∷ []
+
 -- ---- the plan of a line
 
 abbrev pub front_plan : Front → ℕ → ℕ → Plan
@@ -71,8 +83,7 @@ front_plan front column start = record {
   before = record { breaks = false; quote = None; front = front; scope = None; start = start };
   words = words.Nothing;
   rest = start;
-  last = lasts.Nothing;
-  fills = false;
+  after = record { last = lasts.Nothing; end = Some false };
 }
 
 abbrev pub scope_plan : LineOpener → ℕ → ℕ → Plan
@@ -81,8 +92,7 @@ scope_plan opener column start = record {
   before = record { breaks = false; quote = None; front = fronts.Nothing; scope = Some opener; start = start };
   words = words.Nothing;
   rest = start;
-  last = lasts.Nothing;
-  fills = false;
+  after = record { last = lasts.Nothing; end = Some false };
 }
 
 abbrev pub macro_plan : Row → ℕ → ℕ → List ℕ → Plan
@@ -97,8 +107,7 @@ macro_plan row column start text = record {
   };
   words = first_word row.words;
   rest = start;
-  last = row.last;
-  fills = has_words row.words && has_arguments (drop start text);
+  after = record { last = row.last; end = Some (has_words row.words && has_arguments (drop start text)) };
 }
 
 abbrev pub lone_plan : Row → ℕ → ℕ → List ℕ → Alone → Plan

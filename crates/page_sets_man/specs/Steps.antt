@@ -1,5 +1,5 @@
 -- The words of a macro, one after another: the code's own steps.
-use Rattle.std.specs.Prelude.{ℕ, Bool, true, false, List, [], ◌∷◌, Option, None, Some}
+use Rattle.std.specs.Prelude.{◌≡◌, ℕ, ◌≤◌, Bool, true, false, List, [], ◌∷◌, length, Option, None, Some, MatchOption}
 use Rattle.page_core_base.specs.declared.cells.Font.{Font}
 use Rattle.page_core_base.specs.declared.cells.Font.TheVariants as fonts
 use Rattle.page_core_base.specs.LinesTaken.{Line}
@@ -8,11 +8,13 @@ use Rattle.page_sets_lines.specs.declared.leaves.Own.TheVariants.{Unround}
 use Rattle.page_sets_lines.specs.declared.events.Join.{Join}
 use Rattle.page_sets_lines.specs.declared.events.Join.TheVariants.{Apart, Glued}
 use Rattle.page_sets_lines.specs.declared.events.Event.{Event}
+use Rattle.page_sets_lines.specs.Events.{event_seen}
 use Rattle.page_sets_lines.specs.ControlLines.{arguments_after}
 use Rattle.page_sets_man.specs.declared.rows.Words.{Words}
 use Rattle.page_sets_man.specs.declared.rows.Words.TheVariants as words
 use Rattle.page_sets_man.specs.declared.words.NextWord.{NextWord}
 use Rattle.page_sets_man.specs.declared.words.NextWord.TheVariants as next
+use Rattle.page_sets_man.specs.declared.words.Step.{Step}
 use Rattle.page_sets_man.specs.Man.{argument_word, mark, plain_words, alternating_words, one_word, option_words, section_words, reference_words}
 
 abbrev pub first_word : Words → NextWord
@@ -93,6 +95,10 @@ word_after next.Section = next.SectionEnd
 word_after next.SectionEnd = next.Nothing
 word_after next.Suffix = next.Nothing
 
--- the events of the words whose arguments begin after this many bytes
-abbrev pub words_from : Line → ℕ → NextWord → ℕ → List (Event (List ℕ))
-words_from line column words rest = next_events line.number column words (arguments_after rest line.text)
+-- a step gives the first event of the words whose arguments begin after this many bytes, if there is one, and says what is left
+abbrev pub StepsWords : Line → ℕ → NextWord → ℕ → Option Step → Type 0
+StepsWords line column words rest result =
+    MatchOption result (next_events line.number column words (arguments_after rest line.text) ≡ [])
+    (λ step. (step.rest ≤ length line.text)
+    × (next_events line.number column words (arguments_after rest line.text)
+    ≡ event_seen step.event ∷ next_events line.number column step.words (arguments_after step.rest line.text)))

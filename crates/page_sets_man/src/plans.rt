@@ -1,17 +1,17 @@
 //! What is still to come of a line's events.
 
-ghost use Rattle.std.specs.Prelude.{◌≡◌, ◌≤◌, true, [], length, option_map};
-ghost use Rattle.page_core_base.specs.LinesTaken.{Line, line_seen};
+ghost use Rattle.std.specs.Prelude.{◌≡◌, ◌≤◌, length, option_map};
+ghost use Rattle.page_core_base.specs.LinesTaken.{line_seen};
 ghost use Rattle.page_sets_lines.specs.Events.{event_seen, deed_seen, TakesNext};
 ghost use Rattle.page_sets_lines.specs.ControlLines.{arguments_after};
 ghost use Rattle.page_sets_lines.specs.PlainLines.{event_at};
 ghost use Rattle.page_sets_man.specs.Man as man;
 ghost use Rattle.page_sets_man.specs.Plans as plans;
-ghost use Rattle.page_sets_man.specs.Plans.{front_deed, before_events, own_events, FitsPlan, line_plan_events, FitsLinePlan};
+ghost use Rattle.page_sets_man.specs.Plans.{events_seen, front_deed, before_events, after_events, plan_events, FitsPlan, line_plan_events, FitsLinePlan};
 
 use crate::effects::{effect_deed, line_scope};
 use crate::rows::{Alone, Effect, Last, Quotes, Row, Words, row_of};
-use crate::words::{NextWord, mark, next_word};
+use crate::words::{NextWord, mark, word_step};
 use page_core_base::{NoteKind, Place, Taken};
 use page_core_limits::LINE;
 use page_roff_forms::has_arguments;
@@ -49,7 +49,15 @@ pub(crate) struct Before {
     pub(crate) start: usize,
 }
 
-/// What is still to come of a control line's events, before its end.
+/// What is still to come after them.
+#[derive(Clone, Copy)]
+pub(crate) struct After {
+    pub(crate) last: Last,
+    /// The line's end, and whether it fills line scopes.
+    pub(crate) end: Option<bool>,
+}
+
+/// What is still to come of a control line's events.
 #[derive(Clone, Copy)]
 pub struct Plan {
     /// The column of the macro's name.
@@ -58,9 +66,7 @@ pub struct Plan {
     pub(crate) words: NextWord,
     /// The bytes after which the arguments that are still to be read begin.
     pub(crate) rest: usize,
-    pub(crate) last: Last,
-    /// Whether the line's end fills line scopes.
-    pub(crate) fills: bool,
+    pub(crate) after: After,
 }
 
 /// What is still to come of a line's events.
@@ -169,8 +175,10 @@ fn front_plan(front: Front, column: u32, start: usize) -> Plan
         },
         words: NextWord::Nothing,
         rest: start,
-        last: Last::Nothing,
-        fills: false,
+        after: After {
+            last: Last::Nothing,
+            end: Some(false),
+        },
     }
 }
 
@@ -189,8 +197,10 @@ fn scope_plan(opener: LineOpener, column: u32, start: usize) -> Plan
         },
         words: NextWord::Nothing,
         rest: start,
-        last: Last::Nothing,
-        fills: false,
+        after: After {
+            last: Last::Nothing,
+            end: Some(false),
+        },
     }
 }
 
@@ -211,8 +221,10 @@ fn macro_plan(row: Row, text: &[u8], column: u32, start: usize) -> Plan
         },
         words: NextWord::first(row.words),
         rest: start,
-        last: row.last,
-        fills: has_words(row.words) && has_arguments(&text[start..]),
+        after: After {
+            last: row.last,
+            end: Some(has_words(row.words) && has_arguments(&text[start..])),
+        },
     }
 }
 
@@ -298,53 +310,50 @@ fn next_before<'a>(line: Taken<'a>, column: u32, before: &mut Before) -> Option<
     None
 }
 
-// The next event after a line's words, before the line's end.
-fn next_last<'a>(number: u32, column: u32, last: &mut Last) -> Option<Event<&'a [u8]>>
-    ensures { TakesNext (man.last_events number column last.old) result (man.last_events number column last.new) }
+// What comes after a macro's words, but the line's end.
+fn last_event<'a>(number: u32, column: u32, last: Last) -> Option<Event<&'a [u8]>>
+    ensures { events_seen result ≡ man.last_events number column last }
 {
-    match *last {
+    match last {
         Last::Nothing => None,
-        Last::FontEnds => {
-            *last = Last::Nothing;
-            Some(event_at(number, column, Deed::Leaf(Leaf::Fonts(None))))
-        }
-        Last::Mark(own) => {
-            *last = Last::Nothing;
-            Some(mark(number, column, own, Join::Glued, Join::Apart))
-        }
+        Last::FontEnds => Some(event_at(number, column, Deed::Leaf(Leaf::Fonts(None)))),
+        Last::Mark(own) => Some(mark(number, column, own, Join::Glued, Join::Apart)),
     }
 }
 
-// The next event of a control line, before its end.
+// The next event after a line's words.
+fn next_after<'a>(number: u32, column: u32, after: &mut After) -> Option<Event<&'a [u8]>>
+    ensures { TakesNext (after_events number column after.old) result (after_events number column after.new) }
+{
+    if let Some(event) = last_event(number, column, after.last) {
+        after.last = Last::Nothing;
+        return Some(event);
+    }
+    if let Some(fills) = after.end {
+        after.end = None;
+        return Some(event_at(number, 1, Deed::End { fills }));
+    }
+    None
+}
+
+// The next event of a control line.
 #[inline(never)]
 fn next_of_control<'a>(line: Taken<'a>, plan: &mut Plan) -> Option<Event<&'a [u8]>>
     requires short { length line.text.now ≤ LINE }
     requires fits { FitsPlan (line_seen line) plan.old }
     ensures fits { FitsPlan (line_seen line.entry) plan.new }
-    ensures fills { plan.new.fills ≡ plan.old.fills }
-    ensures events { TakesNext (own_events (line_seen line.entry) plan.old) result
-        (own_events (line_seen line.entry) plan.new) }
+    ensures events { TakesNext (plan_events (line_seen line.entry) plan.old) result
+        (plan_events (line_seen line.entry) plan.new) }
 {
     if let Some(event) = next_before(line, plan.column, &mut plan.before) {
         return Some(event);
     }
-    if let Some(event) = next_word(line, plan.column, &mut plan.words, &mut plan.rest) {
-        return Some(event);
+    if let Some(step) = word_step(line, plan.column, plan.words, plan.rest) {
+        plan.words = step.words;
+        plan.rest = step.rest;
+        return Some(step.event);
     }
-    next_last(line.line, plan.column, &mut plan.last)
-}
-
-// Whether nothing of a control line comes before its end, as far as that shows without reading its arguments.
-#[inline(always)]
-fn is_done(plan: &Plan) -> bool
-    ensures { (line : Line) → result ≡ true → own_events line plan.now ≡ [] }
-{
-    !plan.before.breaks
-        && matches!(plan.before.quote, None)
-        && matches!(plan.before.front, Front::Nothing)
-        && matches!(plan.before.scope, None)
-        && matches!(plan.words, NextWord::Nothing)
-        && matches!(plan.last, Last::Nothing)
+    next_after(line.line, plan.column, &mut plan.after)
 }
 
 /// The next event of a line.
@@ -368,16 +377,6 @@ pub(crate) fn next_event<'a>(line: Taken<'a>, plan: &mut LinePlan) -> Option<Eve
             Some(event_at(line.line, 1, deed))
         }
         LinePlan::Nothing => None,
-        LinePlan::Control(control) => {
-            let fills = control.fills;
-            if let Some(event) = next_of_control(line, control) {
-                if is_done(control) {
-                    *plan = LinePlan::End(fills);
-                }
-                return Some(event);
-            }
-            *plan = LinePlan::Nothing;
-            Some(event_at(line.line, 1, Deed::End { fills }))
-        }
+        LinePlan::Control(plan) => next_of_control(line, plan),
     }
 }

@@ -1,11 +1,11 @@
 //! The words of a macro, one after another (man(7), "MACRO REFERENCE").
 
-ghost use Rattle.std.specs.Prelude.{◌≡◌, ◌≤◌, ℕ, true, length};
+ghost use Rattle.std.specs.Prelude.{◌≡◌, ◌≤◌, true, length};
 ghost use Rattle.page_core_base.specs.LinesTaken.{line_seen};
 ghost use Rattle.page_roff_forms.specs.Arguments.{argument_seen};
-ghost use Rattle.page_sets_lines.specs.Events.{event_seen, TakesNext};
+ghost use Rattle.page_sets_lines.specs.Events.{event_seen};
 ghost use Rattle.page_sets_man.specs.Man as man;
-ghost use Rattle.page_sets_man.specs.Steps.{first_word, takes_argument, font_of, join_of, word_after, words_from};
+ghost use Rattle.page_sets_man.specs.Steps.{first_word, takes_argument, font_of, join_of, word_after, StepsWords};
 
 use crate::rows::Words;
 use page_core_base::{Font, Place, Taken};
@@ -39,6 +39,15 @@ pub(crate) enum NextWord {
     SectionEnd,
     /// The suffix of `MR`.
     Suffix,
+}
+
+/// The next event of a macro's words, what comes after it, and after how many bytes the arguments begin that are still
+/// to be read.
+#[derive(Drop)]
+pub(crate) struct Step<'a> {
+    pub(crate) event: Event<&'a [u8]>,
+    pub(crate) words: NextWord,
+    pub(crate) rest: usize,
 }
 
 impl NextWord {
@@ -151,51 +160,49 @@ pub(crate) fn mark<'a>(
 
 // The next argument as a word, if there is one.
 #[tactic(auto, using(crate::proofs::WordLemmas::word_first, crate::proofs::WordLemmas::word_none))]
-fn next_argument<'a>(
-    line: Taken<'a>,
-    words: &mut NextWord,
-    rest: &mut usize,
-) -> Option<Event<&'a [u8]>>
+fn argument_step<'a>(line: Taken<'a>, column: u32, words: NextWord, rest: usize) -> Option<Step<'a>>
     requires short { length line.text.now ≤ LINE }
-    requires within { rest.old ≤ length line.text.now }
-    requires argument { takes_argument words.old ≡ true }
-    ensures within { rest.new ≤ length line.entry.text.now }
-    ensures events { (column : ℕ) → TakesNext (words_from (line_seen line.entry) column words.old rest.old) result
-        (words_from (line_seen line.entry) column words.new rest.new) }
+    requires within { rest ≤ length line.text.now }
+    requires argument { takes_argument words ≡ true }
+    ensures { StepsWords (line_seen line.entry) column words rest result }
 {
-    let (argument, end) = read_after(line.text, *rest)?;
-    let event = argument_word(line.line, words.font(), words.join(), argument);
-    *words = words.after();
-    *rest = end;
-    Some(event)
+    match read_after(line.text, rest) {
+        Some((argument, end)) => Some(Step {
+            event: argument_word(line.line, words.font(), words.join(), argument),
+            words: words.after(),
+            rest: end,
+        }),
+        None => None,
+    }
 }
 
 /// The next event of a macro's words, if there is one: its arguments begin after this many bytes, and its name stands in
 /// a column.
-#[inline(never)]
-pub(crate) fn next_word<'a>(
+pub(crate) fn word_step<'a>(
     line: Taken<'a>,
     column: u32,
-    words: &mut NextWord,
-    rest: &mut usize,
-) -> Option<Event<&'a [u8]>>
+    words: NextWord,
+    rest: usize,
+) -> Option<Step<'a>>
     requires short { length line.text.now ≤ LINE }
-    requires within { rest.old ≤ length line.text.now }
-    ensures within { rest.new ≤ length line.entry.text.now }
-    ensures events { TakesNext (words_from (line_seen line.entry) column words.old rest.old) result
-        (words_from (line_seen line.entry) column words.new rest.new) }
+    requires within { rest ≤ length line.text.now }
+    ensures { StepsWords (line_seen line.entry) column words rest result }
 {
-    match *words {
+    match words {
         NextWord::Nothing => None,
         NextWord::SectionBegin => {
-            first_of(line.text, *rest)?;
-            *words = NextWord::Section;
-            Some(mark(line.line, column, Own::Round, Join::Glued, Join::Glued))
+            first_of(line.text, rest)?;
+            Some(Step {
+                event: mark(line.line, column, Own::Round, Join::Glued, Join::Glued),
+                words: NextWord::Section,
+                rest,
+            })
         }
-        NextWord::SectionEnd => {
-            *words = NextWord::Suffix;
-            Some(mark(line.line, column, Own::Unround, Join::Glued, Join::Apart))
-        }
-        _ => next_argument(line, words, rest),
+        NextWord::SectionEnd => Some(Step {
+            event: mark(line.line, column, Own::Unround, Join::Glued, Join::Apart),
+            words: NextWord::Suffix,
+            rest,
+        }),
+        _ => argument_step(line, column, words, rest),
     }
 }
