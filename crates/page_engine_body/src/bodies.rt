@@ -102,7 +102,7 @@ impl Body {
         self.scopes.give_event(event, out);
     }
 
-    // Gives the event that a line which is no control line is, before it ends.
+    // Gives the event of a line that is no control line, before its end.
     #[inline(always)]
     fn give_plain_event<O: PieceOut>(&mut self, out: &mut O, line: Taken<'_>, plain: PlainLine)
         requires { length line.text.now ≤ LINE }
@@ -119,7 +119,7 @@ impl Body {
         self.give_event(out, &event);
     }
 
-    // The same in a call of its own, for lines without a word: few lines are such.
+    // The same as a call, for lines without a word, which are few.
     #[inline(never)]
     fn give_wordless<O: PieceOut>(&mut self, out: &mut O, line: Taken<'_>, plain: PlainLine)
         requires { length line.text.now ≤ LINE }
@@ -129,7 +129,7 @@ impl Body {
         self.give_plain_event(out, line, plain);
     }
 
-    // The same, in place of a call where the line is text with a word, as most lines are.
+    // The same, without a call where the line is text with a word, as most lines are.
     #[inline(always)]
     fn give_own<O: PieceOut>(&mut self, out: &mut O, line: Taken<'_>, plain: PlainLine)
         requires { length line.text.now ≤ LINE }

@@ -10,7 +10,7 @@ use Rattle.page_roff_stack.specs.declared.input_stacks.InputStack.TheInside.{Ins
 use Rattle.page_roff_stack.specs.Sources.{frame_of, IsHeld}
 use Rattle.page_roff_stack.specs.Stacks.{Stack, AreStacked}
 
--- the sources around, from the inside out: the text of each is where the text of the source inside it begins
+-- the sources around, from the inside out: the text of each is what comes before the source inside it
 abbrev pub frames_in : List ℕ → List Caller → List Frame
 frames_in text [] = []
 frames_in text (c ∷ cs) = frame_of c.source (take c.end text) ∷ frames_in (take c.end text) cs
@@ -18,10 +18,11 @@ frames_in text (c ∷ cs) = frame_of c.source (take c.end text) ∷ frames_in (t
 abbrev pub stack_of : Inside → Stack
 stack_of a = record { top = frame_of a.top a.text.items; under = frames_in a.text.items (reverse a.others.items) }
 
--- the memory that is wanted for the texts: for a line of the page with its end, and for a body and its arguments in each of so many macros
+-- the memory that is wanted for the texts: for a line of the page with its end, and for the bodies and arguments of a number of macros
 abbrev pub room_for : ℕ → ℕ
 room_for calls = LINE + 1 + (BODY + ARGS) * calls
 
+-- each of them lies in its text, after which there is room for the macros inside it
 abbrev pub AreHeld : List ℕ → List Caller → Type 0
 AreHeld text [] = Unit {0}
 AreHeld text (c ∷ cs) = (c.end ≤ room_for (length cs)) × IsHeld c.source (take c.end text) × AreHeld (take c.end text) cs

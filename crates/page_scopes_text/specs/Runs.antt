@@ -9,7 +9,7 @@ use Rattle.page_scopes_text.specs.Parted.{Spaced, words_of}
 abbrev pub blank_word : List ℕ → Spaced
 blank_word word = record { white = 32 ∷ []; word = plain word ∷ [] }
 
--- a text begins with a run of words, which is a run of them as its bytes
+-- a text begins with these bytes, which are these words with a blank before each, and no word goes on after them
 pub record RunOf (quoted : Bool) (text run rest : List ℕ) (words : List (List ℕ)) : Type 0 where
   pub are : list_all is_word words ≡ true
   pub bytes : run ≡ blank_words words
@@ -23,11 +23,11 @@ BeginsRun quoted text run rest = (words : List (List ℕ)) × RunOf quoted text 
 abbrev pub BeginsWith : List (List ℕ) → List ℕ → List ℕ → Type 0
 BeginsWith words word rest = (others : List (List ℕ)) × (words ≡ word ∷ others) × (rest ≡ blank_words others)
 
--- Whether a run ends at a byte, by the one after it: a tab, a backslash, in a quoted argument a quote, or a blank before a blank.
+-- whether a run ends at a byte, by the one after it: a tab, a backslash, in a quoted argument a quote, or a blank before a blank
 abbrev pub ends_run : Bool → ℕ → ℕ → Bool
 ends_run quoted byte next = (byte == 9 || (byte == 92 || (quoted && byte == 34))) || (byte == 32 && next == 32)
 
--- the same at a place of a text, at whose end a blank is thought
+-- the same at a place of a text; after its end a blank is taken to stand
 abbrev pub ends_run_at : Bool → List ℕ → ℕ → Bool
 ends_run_at quoted text place = ends_run quoted (get_or text place 32) (get_or text (suc place) 32)
 
