@@ -22,7 +22,7 @@ stack_of a = record { top = frame_of a.top a.text.items; under = frames_in a.tex
 abbrev pub room_for : ℕ → ℕ
 room_for calls = LINE + 1 + (BODY + ARGS) * calls
 
--- each of them lies in its text, after which there is room for the macros inside it
+-- each of them lies in its text, which takes no more than the room for it and for those around it
 abbrev pub AreHeld : List ℕ → List Caller → Type 0
 AreHeld text [] = Unit {0}
 AreHeld text (c ∷ cs) = (c.end ≤ room_for (length cs)) × IsHeld c.source (take c.end text) × AreHeld (take c.end text) cs

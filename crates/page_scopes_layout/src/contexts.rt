@@ -107,12 +107,3 @@ impl Context {
         self.distance.restore(&before.distance);
     }
 }
-
-/// The context after a scope: that before it, but for what was set inside for good.
-pub fn restored(label: Label, before: Context, now: Context) -> Context
-    ensures { result ≡ contexts.restored label before now }
-{
-    let mut context = now;
-    context.restore(label, &before);
-    context
-}

@@ -7,7 +7,7 @@ mod margins;
 mod nodes;
 mod settings;
 
-pub use contexts::{Context, PagePart, restored};
+pub use contexts::{Context, PagePart};
 pub use margins::{Margins, hold, margins_of};
 pub use nodes::{give_begin, give_end, give_margins};
 pub use settings::Setting;

@@ -1,7 +1,7 @@
 //! Margins of scopes that begin and end.
 
 use page_core_base::{Font, Note, Piece, PieceOut, Place};
-use page_scopes_layout::{Context, Setting, give_begin, give_end, margins_of, restored};
+use page_scopes_layout::{Context, Setting, give_begin, give_end, margins_of};
 use page_scopes_tree::{Explicit, Label};
 use page_sets_lines::{FontMacro, HeadingName, LineOpener, Link, TagName};
 use std::alloc::Global;
@@ -45,6 +45,13 @@ fn held_margins(rt: HostRuntime) -> Result<(), Fail> {
     check_margins(&rt, &outside.entered().margin_begun(Some(10)), 10, 10);
     check_margins(&rt, &outside.entered().margin_begun(Some(2000)), 1000, 1000);
     Ok(())
+}
+
+// The context after a scope.
+fn restored(label: Label, before: Context, inside: Context) -> Context {
+    let mut context = inside;
+    context.restore(label, &before);
+    context
 }
 
 #[test]
