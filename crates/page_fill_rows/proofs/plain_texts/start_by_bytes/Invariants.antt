@@ -1,6 +1,6 @@
 use Rattle.std.proofs.Common.{◌≡◌, ◌≤◌, length, take}
 use Rattle.page_fill_rows.specs.Plain as plain
-use Rattle.page_fill_rows.proofs.plain_texts.word_start.Given as goal
+use Rattle.page_fill_rows.proofs.plain_texts.start_by_bytes.Given as goal
 
 abbrev pub invariant-loop-start : goal.invariant-loop-start
 invariant-loop-start l = (l.start ≤ length l.bytes) × (plain.word_start l.bytes ≡ plain.word_start (take l.start l.bytes))
