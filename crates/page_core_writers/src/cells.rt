@@ -1,6 +1,6 @@
 //! The bytes of cells (mandoc(1), "ASCII Output").
 
-ghost use Rattle.std.specs.Prelude.{◌≡◌, ℕ, ◌+◌, ◌*◌, ◌≤◌, [], ◌∷◌, ◌++◌, length, take, true, encode_utf8};
+ghost use Rattle.std.specs.Prelude.{◌≡◌, ℕ, ◌+◌, ◌*◌, ◌<◌, ◌≤◌, [], ◌∷◌, ◌++◌, length, take, true, encode_utf8};
 ghost use Rattle.std.specs.List.{flat_map, list_all};
 ghost use Rattle.page_core_base.specs.Rows.{trimmed};
 ghost use Rattle.page_core_writers.specs.PlainCells.{is_plain, is_roman};
@@ -11,6 +11,9 @@ use page_core_base::{Cell, Font};
 
 // The bytes of a cell at most.
 const CELL_BYTES: usize = 16;
+
+// What stands between a character and its mark.
+const BACKSPACE: u8 = 8;
 
 /// The bytes that a cell is printed as: a backspace between a character and itself is bold, and between a low line and a character
 /// italic; a blank is never marked (mandoc(1), "ASCII Output").
@@ -95,15 +98,34 @@ pub(crate) fn write_cells(bytes: &mut [u8], start: usize, cells: &[Cell]) -> usi
 {
     let mut end = start;
     for cell in cells {
-        end = match cell.font {
-            Font::R if cell.c.is_ascii() => {
-                bytes[end] = cell.c as u8;
-                end + 1
-            }
-            _ => write_cell(bytes, end, *cell),
+        end = if cell.c.is_ascii() {
+            write_ascii(bytes, end, *cell)
+        } else {
+            write_cell(bytes, end, *cell)
         };
     }
     end
+}
+
+// Writes the bytes of a cell of ASCII. Each byte that such a cell may have is written, and the next cell begins after those that it has: where
+// fonts change within a row, that costs less than branches for them.
+#[inline(always)]
+fn write_ascii(bytes: &mut [u8], start: usize, cell: Cell) -> usize
+    requires ascii { cell.c < 128 }
+    requires room { start + 16 ≤ length bytes.old }
+    ensures front { take result bytes.new ≡ take start bytes.old ++ cell_bytes_of cell }
+    ensures end { result ≤ start + 16 }
+{
+    let is_marked = cell.c != ' ';
+    let is_italic = is_marked & matches!(cell.font, Font::I | Font::BI);
+    let is_bold = is_marked & matches!(cell.font, Font::B | Font::BI);
+    bytes[start] = b'_';
+    bytes[start + 1] = BACKSPACE;
+    let start = start + 2 * usize::from(is_italic);
+    bytes[start] = cell.c as u8;
+    bytes[start + 1] = BACKSPACE;
+    bytes[start + 2] = cell.c as u8;
+    start + 1 + 2 * usize::from(is_bold)
 }
 
 // Writes the bytes of a cell.
@@ -137,7 +159,7 @@ fn write_low_line(bytes: &mut [u8], start: usize) -> usize
     ensures end { result ≡ start + 2 }
 {
     bytes[start] = b'_';
-    bytes[start + 1] = 8;
+    bytes[start + 1] = BACKSPACE;
     start + 2
 }
 
@@ -148,7 +170,7 @@ fn write_twice(bytes: &mut [u8], start: usize, c: char) -> usize
     ensures end { result ≤ start + 9 }
 {
     let middle = write_char(bytes, start, c);
-    bytes[middle] = 8;
+    bytes[middle] = BACKSPACE;
     write_char(bytes, middle + 1, c)
 }
 
