@@ -59,26 +59,26 @@ frames_len : (text : List ℕ) (callers : List Caller) → length (frames_in tex
 frames_len text [] = refl
 frames_len text (c ∷ cs) = ap suc (frames_len (take c.end text) cs)
 
-pub under_len : (a : Inside) → length (stack_of a).under ≡ length a.others.items
-under_len a = frames_len a.text.items (reverse a.others.items) ∙ length-reverse a.others.items
+pub under_len : (a : Inside) → length (stack_of a).under ≡ length a.callers.items
+under_len a = frames_len a.text.items (reverse a.callers.items) ∙ length-reverse a.callers.items
 
 empty_of : {X : Type 0} (xs : List X) → length xs ≡ 0 → xs ≡ []
 empty_of [] e = refl
 empty_of (x ∷ xs) e = absurd (omega (arith, e))
 
-pub none_around : (a : Inside) (n : ℕ) → n ≡ length a.others.items → (n == 0) ≡ true → (stack_of a).under ≡ []
+pub none_around : (a : Inside) (n : ℕ) → n ≡ length a.callers.items → (n == 0) ≡ true → (stack_of a).under ≡ []
 none_around a n e t =
     let k : n ≡ 0 = grind (arith, nat_tests) in
     empty_of (stack_of a).under (under_len a ∙ sym e ∙ k)
 
-pub some_around : (a : Inside) (n : ℕ) → n ≡ length a.others.items → (n == 0) ≡ false → 0 < length (stack_of a).under
+pub some_around : (a : Inside) (n : ℕ) → n ≡ length a.callers.items → (n == 0) ≡ false → 0 < length (stack_of a).under
 some_around a n e t =
     let k : 0 < n = grind (arith, nat_tests) in
     omega (arith, under_len a, e, k)
 
 -- no source is around
-pub others_none : (a : Inside) → (stack_of a).under ≡ [] → a.others.items ≡ []
-others_none a e = empty_of a.others.items (sym (under_len a) ∙ ap length e)
+pub callers_none : (a : Inside) → (stack_of a).under ≡ [] → a.callers.items ≡ []
+callers_none a e = empty_of a.callers.items (sym (under_len a) ∙ ap length e)
 
 pub is_room : (under : List Frame) → is_some (depth under) ≡ true → length under < CALLS
 unfolding depth is_some
@@ -108,7 +108,7 @@ deeper_held callers caller text more e p held around =
 
 -- ---- a line of the page
 
-pub line_set : (a b : Inside) (line : List ℕ) → b.others.items ≡ [] → CALLS ≤ vec_capacity b.others → IsHeld b.top b.text.items
+pub line_set : (a b : Inside) (line : List ℕ) → b.callers.items ≡ [] → CALLS ≤ vec_capacity b.callers → IsHeld b.top b.text.items
     → frame_of b.top b.text.items ≡ page_line line (frame_of a.top a.text.items) → length b.text.items ≤ LINE + 1 → room_for CALLS ≤ vec_capacity b.text
     → let new : Stack = record { top = page_line line (frame_of a.top a.text.items); under = [] } in
     IsStack b × (stack_of b ≡ new)
@@ -127,42 +127,42 @@ line_set a b line none calls held frame fits room = (
 
 -- ---- a call
 
-pub may_be_called : (a : Inside) → is_some (depth (stack_of a).under) ≡ true → length a.others.items < CALLS
+pub may_be_called : (a : Inside) → is_some (depth (stack_of a).under) ≡ true → length a.callers.items < CALLS
 may_be_called a h = omega (arith, is_room (stack_of a).under h, under_len a)
 
-pub call_room : (a : Inside) → length a.others.items < CALLS → IsStack a → length a.text.items + BODY + ARGS ≤ vec_capacity a.text
+pub call_room : (a : Inside) → length a.callers.items < CALLS → IsStack a → length a.text.items + BODY + ARGS ≤ vec_capacity a.text
 call_room a p h = omega (arith, p, h.fits, h.room)
 
 -- one more source runs inside the innermost one, and its text comes after that of it
 pub record IsCalled (a b : Inside) (caller : Caller) (more : List ℕ) : Type 0 where
   pub source : caller.source ≡ a.top
   pub end : caller.end ≡ length a.text.items
-  pub others : b.others.items ≡ a.others.items ++ (caller ∷ [])
+  pub callers : b.callers.items ≡ a.callers.items ++ (caller ∷ [])
   pub text : b.text.items ≡ a.text.items ++ more
   pub short : length more ≤ BODY + ARGS
   pub held : IsHeld b.top b.text.items
   pub room : room_for CALLS ≤ vec_capacity b.text
-  pub calls : CALLS ≤ vec_capacity b.others
+  pub calls : CALLS ≤ vec_capacity b.callers
 
 called_under : (a b : Inside) (caller : Caller) (more : List ℕ) → IsCalled a b caller more → (stack_of b).under ≡ frame_of a.top a.text.items ∷ (stack_of a).under
 called_under a b caller more c =
-    rw (c.others, c.text) (deeper a.others.items caller a.text.items more c.end)
+    rw (c.callers, c.text) (deeper a.callers.items caller a.text.items more c.end)
     ∙ ap (λ source. frame_of source a.text.items ∷ (stack_of a).under) c.source
 
 pub called_stack : (a b : Inside) (caller : Caller) (more : List ℕ) (lines args : List (List ℕ)) → IsCalled a b caller more → frame_of b.top b.text.items ≡ entered lines args
     → stack_of b ≡ call_of lines args (stack_of a)
 called_stack a b caller more lines args c frame = rw (frame, called_under a b caller more c) refl
 
-pub called_held : (a b : Inside) (caller : Caller) (more : List ℕ) → IsCalled a b caller more → length a.others.items < CALLS → IsStack a → IsStack b
+pub called_held : (a b : Inside) (caller : Caller) (more : List ℕ) → IsCalled a b caller more → length a.callers.items < CALLS → IsStack a → IsStack b
 called_held a b caller more c p h =
-    let n = length-append a.others.items (caller ∷ []) in
+    let n = length-append a.callers.items (caller ∷ []) in
     let held : IsHeld caller.source a.text.items = rw c.source h.top in
     record {
       page = rw (called_under a b caller more c) h.page;
       top = c.held;
-      around = rw (c.others, c.text) (deeper_held a.others.items caller a.text.items more c.end h.fits held h.around);
-      fits = omega (arith, ap length c.text, length-append a.text.items more, ap length c.others, n, c.short, h.fits);
-      deep = omega (arith, ap length c.others, n, p);
+      around = rw (c.callers, c.text) (deeper_held a.callers.items caller a.text.items more c.end h.fits held h.around);
+      fits = omega (arith, ap length c.text, length-append a.text.items more, ap length c.callers, n, c.short, h.fits);
+      deep = omega (arith, ap length c.callers, n, p);
       room = c.room;
       calls = c.calls;
     }

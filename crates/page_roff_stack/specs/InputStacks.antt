@@ -16,7 +16,7 @@ frames_in text [] = []
 frames_in text (c ∷ cs) = frame_of c.source (take c.end text) ∷ frames_in (take c.end text) cs
 
 abbrev pub stack_of : Inside → Stack
-stack_of a = record { top = frame_of a.top a.text.items; under = frames_in a.text.items (reverse a.others.items) }
+stack_of a = record { top = frame_of a.top a.text.items; under = frames_in a.text.items (reverse a.callers.items) }
 
 -- the memory that is wanted for the texts: for a line of the page with its end, and for the bodies and arguments of a number of macros
 abbrev pub room_for : ℕ → ℕ
@@ -29,10 +29,10 @@ AreHeld text (c ∷ cs) = (c.end ≤ room_for (length cs)) × IsHeld c.source (t
 
 -- there is room for each macro that may still be called, and the page is around all
 pub record IsStack (a : Inside) : Type 0 where
-  pub page : AreStacked (frame_of a.top a.text.items).kind (frames_in a.text.items (reverse a.others.items))
+  pub page : AreStacked (frame_of a.top a.text.items).kind (frames_in a.text.items (reverse a.callers.items))
   pub top : IsHeld a.top a.text.items
-  pub around : AreHeld a.text.items (reverse a.others.items)
-  pub fits : length a.text.items ≤ room_for (length a.others.items)
-  pub deep : length a.others.items ≤ CALLS
+  pub around : AreHeld a.text.items (reverse a.callers.items)
+  pub fits : length a.text.items ≤ room_for (length a.callers.items)
+  pub deep : length a.callers.items ≤ CALLS
   pub room : room_for CALLS ≤ vec_capacity a.text
-  pub calls : CALLS ≤ vec_capacity a.others
+  pub calls : CALLS ≤ vec_capacity a.callers

@@ -40,7 +40,7 @@ pub struct InputStack {
     text: Vec<u8>,
     top: Source,
     // The sources around it, from the page on.
-    others: Vec<Caller>,
+    callers: Vec<Caller>,
 }
 
 // The bytes of a line of the page with its end, and of a body and its arguments in each macro.
@@ -66,7 +66,7 @@ impl InputStack {
         Ok(InputStack {
             text: Vec::with_capacity(alloc, TEXT)?,
             top: Source::page(),
-            others: Vec::with_capacity(alloc, CALLS)?,
+            callers: Vec::with_capacity(alloc, CALLS)?,
         })
     }
 
@@ -74,14 +74,14 @@ impl InputStack {
     pub fn is_idle(&self) -> bool
         ensures { result ≡ is_nothing (next_of self.now) }
     {
-        self.others.is_empty() && self.top.is_over()
+        self.callers.is_empty() && self.top.is_over()
     }
 
     // What comes next where nothing is left of the innermost source.
     fn next_around<'a>(&self, region: Option<&'a OpenRegion>) -> Next<&'a [u8], &'a OpenRegion>
         ensures { next_seen result ≡ next_around (opened_seen region.entry) self.now.under }
     {
-        if self.others.is_empty() {
+        if self.callers.is_empty() {
             Next::Nothing
         } else {
             Next::SourceEnd(region)
@@ -174,7 +174,7 @@ impl InputStack {
     pub fn may_call(&self) -> bool
         ensures { result ≡ is_some (depth self.now.under) }
     {
-        self.others.len() < CALLS
+        self.callers.len() < CALLS
     }
 
     /// Whether the innermost source is the page.
@@ -303,7 +303,7 @@ impl InputStack {
         let end = self.text.len();
         let callee = Source::enter(&mut self.text, body, arguments);
         let source = mem::replace(&mut self.top, callee);
-        self.others.push_reserved(Caller { source, end });
+        self.callers.push_reserved(Caller { source, end });
     }
 
     /// The innermost macro ends.
@@ -311,7 +311,7 @@ impl InputStack {
         requires { is_source_end (next_of self.old) ≡ true }
         ensures { self.old.under ≡ self.new.top ∷ self.new.under }
     {
-        let Caller { source, end } = self.others.pop().unwrap();
+        let Caller { source, end } = self.callers.pop().unwrap();
         self.text.truncate(end);
         self.top = source;
     }

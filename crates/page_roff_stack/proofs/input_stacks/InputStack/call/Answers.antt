@@ -18,19 +18,19 @@ pub push_reserved-requires : goal.push_reserved-requires
 push_reserved-requires c =
     let a = c.self.inside in
     let there = may_be_called a (ap (λ s. is_some (depth s.under)) c.self.view_is ∙ c.requires.room) in
-    omega (arith, there, a.others.ok.0, c.self.invariant.calls)
+    omega (arith, there, a.callers.ok.0, c.self.invariant.calls)
 
 pub invariant_of-self : goal.invariant_of-self
 invariant_of-self c =
     let a = c.self.inside in
-    let b : Inside = record { text = c.enter-callee.new.text; top = c.replace-source.new.dest; others = c.push_reserved.new.self } in
+    let b : Inside = record { text = c.enter-callee.new.text; top = c.replace-source.new.dest; callers = c.push_reserved.new.self } in
     let caller : Caller = record { source = c.replace-source.result; end = c.len-end.result } in
     let more = c.args.body.now ++ c.args.arguments.now in
     let there = may_be_called a (ap (λ s. is_some (depth s.under)) c.self.view_is ∙ c.requires.room) in
     let called : IsCalled a b caller more = record {
       source = c.replace-source.ensures.value;
       end = c.len-end.ensures ∙ a.text.ok.0;
-      others = c.push_reserved.ensures.items;
+      callers = c.push_reserved.ensures.items;
       text = c.enter-callee.ensures.text;
       short = omega (arith, length-append c.args.body.now c.args.arguments.now, c.requires.body, c.requires.arguments);
       held = rw c.replace-source.ensures.after c.enter-callee.ensures.held;
@@ -42,13 +42,13 @@ invariant_of-self c =
 pub returns : goal.returns
 returns c =
     let a = c.self.inside in
-    let b : Inside = record { text = c.enter-callee.new.text; top = c.replace-source.new.dest; others = c.push_reserved.new.self } in
+    let b : Inside = record { text = c.enter-callee.new.text; top = c.replace-source.new.dest; callers = c.push_reserved.new.self } in
     let caller : Caller = record { source = c.replace-source.result; end = c.len-end.result } in
     let more = c.args.body.now ++ c.args.arguments.now in
     let called : IsCalled a b caller more = record {
       source = c.replace-source.ensures.value;
       end = c.len-end.ensures ∙ a.text.ok.0;
-      others = c.push_reserved.ensures.items;
+      callers = c.push_reserved.ensures.items;
       text = c.enter-callee.ensures.text;
       short = omega (arith, length-append c.args.body.now c.args.arguments.now, c.requires.body, c.requires.arguments);
       held = rw c.replace-source.ensures.after c.enter-callee.ensures.held;

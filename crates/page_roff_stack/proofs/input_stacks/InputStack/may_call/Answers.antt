@@ -7,4 +7,4 @@ use Rattle.page_roff_stack.proofs.input_stacks.InputStack.may_call.Goals as goal
 pub returns : goal.returns
 returns c =
     let a = c.self.inside in
-    rw c.len.ensures (may_call_is (stack_of a).under (vec_len a.others) (a.others.ok.0 ∙ sym (under_len a)) ∙ ap (λ s. is_some (depth s.under)) c.self.view_is)
+    rw c.len.ensures (may_call_is (stack_of a).under (vec_len a.callers) (a.callers.ok.0 ∙ sym (under_len a)) ∙ ap (λ s. is_some (depth s.under)) c.self.view_is)

@@ -10,5 +10,5 @@ pub returns-else-is_empty : goal.returns-else-is_empty
 returns-else-is_empty c =
     let a = c.self.inside in
     let region = opened_seen c.args.region in
-    let some = some_around a (vec_len a.others) a.others.ok.0 (sym c.is_empty.ensures ∙ c.if-is_empty.false) in
+    let some = some_around a (vec_len a.callers) a.callers.ok.0 (sym c.is_empty.ensures ∙ c.if-is_empty.false) in
     end_around region (stack_of a).under some ∙ ap (λ s. next_around region s.under) c.self.view_is
