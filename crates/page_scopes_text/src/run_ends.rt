@@ -1,6 +1,6 @@
 //! How far a text goes on as words that print themselves, with one blank before each, many bytes at a time (roff(7), "LANGUAGE SYNTAX").
 
-ghost use Rattle.std.specs.Prelude.{◌≡◌, ◌≤◌, ◌<◌, ◌+◌, length, if◌then◌else◌};
+ghost use Rattle.std.specs.Prelude.{◌≡◌, ◌≤◌, ◌<◌, ◌+◌, length, if◌then◌else◌, true};
 ghost use Rattle.std.specs.Simd.Lanes.{mask_l, zip2};
 ghost use Rattle.page_scopes_text.specs.Runs.{GoesOn, ends_run, ends_run_at};
 
@@ -83,6 +83,7 @@ fn ends_at(quoted: bool, text: &[u8], at: usize) -> bool
 pub(crate) fn going_len(quoted: bool, text: &[u8]) -> usize
     ensures within { result ≤ length text.now }
     ensures goes { GoesOn quoted text.now 0 result }
+    ensures ends { result < length text.now → ends_run_at quoted text.now result ≡ true }
 {
     let mut at = 0;
     if text.len() > LANES {
