@@ -1,5 +1,5 @@
 -- The arguments of requests for definitions. Source: roff(7), "Macro syntax" and "ds".
-use Rattle.std.specs.Prelude.{ℕ, ◌+◌, ◌-◌, ◌==◌, List, [], ◌∷◌, ◌++◌, length, drop, if◌then◌else◌}
+use Rattle.std.specs.Prelude.{ℕ, ◌+◌, ◌-◌, ◌==◌, List, [], ◌∷◌, length, drop, if◌then◌else◌}
 use Rattle.std.specs.List.{flat_map, prefix_len}
 use Rattle.page_core_base.specs.Messages.{Message, message_about}
 use Rattle.page_core_base.specs.declared.note_kinds.NoteKind.TheVariants.{Unterminated}

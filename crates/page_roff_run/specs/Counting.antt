@@ -1,5 +1,5 @@
 -- The budget of a source line by itself, as the code counts it. Source: mandoc(1), "input stack limit exceeded, infinite loop?".
-use Rattle.std.specs.Prelude.{◌≡◌, ℕ, zero, suc, ◌+◌, ◌≤◌, ◌^◌, Bool, true, false, if◌then◌else◌}
+use Rattle.std.specs.Prelude.{ℕ, zero, suc, ◌+◌, ◌≤◌, ◌^◌, Bool, true, false}
 use Rattle.page_roff_run.specs.declared.TheConstants.{REREAD}
 use Rattle.page_roff_run.specs.Budgets.{Budgeted}
 

@@ -2,7 +2,7 @@
 use Rattle.std.specs.Prelude.{◌≡◌, ℕ, suc, ◌+◌, ◌*◌, ◌≤◌, Bool, true, false, List, [], ◌∷◌, length}
 use Rattle.page_roff_blocks.specs.declared.atoms.Atom.{Atom}
 use Rattle.page_roff_blocks.specs.Levels.{Spot}
-use Rattle.page_roff_run.specs.Languages.{Kind, page}
+use Rattle.page_roff_run.specs.Languages.{page}
 use Rattle.page_roff_run.specs.Machine.{Frame, Running}
 use Rattle.page_roff_run.specs.Budgets.{Budgeted}
 
