@@ -21,7 +21,7 @@ pub fn cell_bytes(cell: Cell) -> ArrayVec<u8, 16>
     ensures { result.items ≡ cell_bytes_of cell }
 {
     let mut places = [0u8; CELL_BYTES];
-    let end = write_cell(&mut places, 0, cell);
+    let end = write_cells(&mut places, 0, &[cell]);
     let mut bytes = ArrayVec::new();
     let _fits = bytes.try_extend_from_slice(&places[..end]);
     bytes
@@ -101,7 +101,7 @@ pub(crate) fn write_cells(bytes: &mut [u8], start: usize, cells: &[Cell]) -> usi
         end = if cell.c.is_ascii() {
             write_ascii(bytes, end, *cell)
         } else {
-            write_cell(bytes, end, *cell)
+            write_wide(bytes, end, *cell)
         };
     }
     end
@@ -128,16 +128,13 @@ fn write_ascii(bytes: &mut [u8], start: usize, cell: Cell) -> usize
     start + 1 + 2 * usize::from(is_bold)
 }
 
-// Writes the bytes of a cell.
-fn write_cell(bytes: &mut [u8], start: usize, cell: Cell) -> usize
-    requires { start + 16 ≤ length bytes.old }
+// Writes the bytes of a cell that is not of ASCII.
+fn write_wide(bytes: &mut [u8], start: usize, cell: Cell) -> usize
+    requires wide { 128 ≤ cell.c }
+    requires room { start + 16 ≤ length bytes.old }
     ensures front { take result bytes.new ≡ take start bytes.old ++ cell_bytes_of cell }
     ensures end { result ≤ start + 16 }
 {
-    if cell.c == ' ' {
-        bytes[start] = b' ';
-        return start + 1;
-    }
     match cell.font {
         Font::R => write_char(bytes, start, cell.c),
         Font::B => write_twice(bytes, start, cell.c),
@@ -174,22 +171,9 @@ fn write_twice(bytes: &mut [u8], start: usize, c: char) -> usize
     write_char(bytes, middle + 1, c)
 }
 
-// Writes a character.
-fn write_char(bytes: &mut [u8], start: usize, c: char) -> usize
-    requires { start + 4 ≤ length bytes.old }
-    ensures front { take result bytes.new ≡ take start bytes.old ++ encode_utf8 c }
-    ensures end { result ≤ start + 4 }
-{
-    if !c.is_ascii() {
-        return write_wide(bytes, start, c);
-    }
-    bytes[start] = c as u8;
-    start + 1
-}
-
 // Writes a character of any number of bytes.
 #[inline(never)]
-fn write_wide(bytes: &mut [u8], start: usize, c: char) -> usize
+fn write_char(bytes: &mut [u8], start: usize, c: char) -> usize
     requires { start + 4 ≤ length bytes.old }
     ensures front { take result bytes.new ≡ take start bytes.old ++ encode_utf8 c }
     ensures end { result ≤ start + 4 }

@@ -39,7 +39,7 @@ fn groups_printable<const GROUP: usize>(bytes: &[u8]) -> bool
     are_printable(&bytes[last..])
 }
 
-// Whether bytes are printable ASCII.
+// The same, in the largest groups that have room in the text.
 #[inline(always)]
 fn all_printable(bytes: &[u8]) -> bool
     ensures { result ≡ plain.is_printable_ascii bytes.now }
