@@ -133,7 +133,9 @@ impl Run {
         self.page.end(rows, notes)
     }
 
-    // Reads all there is, in chunks of any size, and gives the rows and messages of the page.
+    // Reads all there is, in chunks of any size, and gives the rows and messages of the page. As a call it takes the place on the machine's stack
+    // that the making of the run had, whose pages are there already.
+    #[inline(never)]
     fn read_all<S: Source, R: RowSink, N: NoteSink>(
         &mut self,
         source: &mut S,
