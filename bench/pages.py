@@ -1,9 +1,9 @@
 #!/usr/bin/env python3
 """Times ./mandoc on pages of paragraphs, plain and with fonts, or on given pages (usage: bench/pages.py [RUNS [PAGE...]]).
 
-A PAGE may be compressed by gzip. Each page is formatted RUNS times (default 5); the least time counts. Where a `mandoc` is on the PATH it is run in turn
-with ours, and its time over ours is printed, above 1 ours is faster: the time that passes, in which the start of a process from this
-script has a part, and the time of the processor. Times hold for one machine in one run only.
+A PAGE may be compressed by gzip. Each page is formatted RUNS times (default 5), by start.c. Where a `mandoc` is on the PATH it is run in turn
+with ours, and its time over ours is printed, above 1 ours is faster: the time that passes and the time of the processor, the least of all runs
+and the median. Times hold for one machine in one run only.
 """
 import gzip
 import os
@@ -35,8 +35,25 @@ def page(size, has_fonts):
     return "\n".join(lines) + "\n"
 
 
+def starter(room):
+    """Returns the program that starts others and takes their times, made anew in a folder."""
+    made = f"{room}/start"
+    source = os.path.join(os.path.dirname(os.path.abspath(__file__)), "start.c")
+    subprocess.run([os.environ.get("CC", "cc"), "-O2", "-o", made, source], check=True)
+    return made
+
+
+def times_in_turn(starter, runs, name, commands):
+    """Returns, for each of these commands, the least and the median milliseconds that passed, and those of the processor."""
+    words = [starter, str(runs), name]
+    for command in commands:
+        words += (["--"] if words[3:] else []) + command
+    run = subprocess.run(words, stdout=subprocess.PIPE, text=True, check=True)
+    return [[float(number) for number in line.split()] for line in run.stdout.splitlines()]
+
+
 def timed(words, name):
-    """Returns the seconds of one run, from the start of the process to its end, and those of the processor."""
+    """Returns the seconds of one run, from its start by this script to its end, and those of the processor, for runs that take longer."""
     streams = [
         (os.POSIX_SPAWN_OPEN, 0, name, os.O_RDONLY, 0),
         (os.POSIX_SPAWN_OPEN, 1, os.devnull, os.O_WRONLY, 0),
@@ -79,30 +96,22 @@ def pages(names):
                 yield kind, page(size, kind == "fonts").encode()
 
 
-def least(times):
-    """Returns the least of the seconds that passed, and the least of those of the processor."""
-    return [min(seconds) for seconds in zip(*times)]
-
-
 def main():
     runs = int(sys.argv[1]) if len(sys.argv) > 1 else 5
     other = shutil.which("mandoc")
-    print("         bytes     MB/s   peak kB" + (f"   time ratio  processor  peak kB of {other}" if other else ""))
+    print("         bytes     MB/s   peak kB" + (f"   least: time, processor   median: time, processor   peak kB of {other}" if other else ""))
     with tempfile.TemporaryDirectory() as room:
+        start = starter(room)
         for kind, text in pages(sys.argv[2:]):
             name = f"{room}/page"
             with open(name, "wb") as file:
                 written = file.write(text)
-            ours, theirs = [], []
-            for _ in range(runs):
-                ours.append(timed(["./mandoc"], name))
-                if other:
-                    theirs.append(timed([other, "-T", "ascii"], name))
-            passed, used = least(ours)
-            line = f"{kind} {written:8} {written / passed / 1e6:8.1f} {peak_of(['./mandoc'], name):9}"
-            if other:
-                other_passed, other_used = least(theirs)
-                line += f" {other_passed / passed:12.2f} {other_used / used:10.2f} {peak_of([other, '-T', 'ascii'], name):14}"
+            ours, *others = times_in_turn(start, runs, name, [["./mandoc"]] + ([[other, "-T", "ascii"]] if other else []))
+            line = f"{kind} {written:8} {written / ours[0] / 1e3:8.1f} {peak_of(['./mandoc'], name):9}"
+            for theirs in others:
+                passed, median, used, median_used = (their / our for their, our in zip(theirs, ours))
+                line += f" {passed:13.2f} {used:10.2f} {median:14.2f} {median_used:10.2f}"
+                line += f" {peak_of([other, '-T', 'ascii'], name):14}"
             print(line)
 
 
