@@ -1,4 +1,4 @@
--- A plain text, a plain word that goes into the open row, and one before which the open row ends.
+-- A plain text, one that goes on with the last word of the open row, a plain word that goes into that row, and one before which the row ends.
 use Rattle.std.proofs.Common.{◌≡◌, ℕ, suc, ◌+◌, ◌-◌, ◌≤◌, true, false, ◌==◌, List, [], ◌∷◌, length, append-nil, refl, ap, ◌∙◌, arith}
 use Rattle.std.proofs.lemmas.Bool.Decides.{nat_tests}
 use Rattle.page_core_base.specs.declared.cells.Font.{Font}
@@ -6,11 +6,11 @@ use Rattle.page_core_base.specs.declared.places.Place.{Place}
 use Rattle.page_core_base.specs.Laid.{nothing, join}
 use Rattle.page_core_limits.specs.declared.TheConstants.{CELLS}
 use Rattle.page_fill_rows.specs.Sheets.{columns, letters, opens, over, space, spaces}
-use Rattle.page_fill_rows.specs.Characters.{cells_of}
-use Rattle.page_fill_rows.specs.Plain.{ends_before, has_word_room, is_printable_ascii, spaced_by, taken, wraps_plain}
+use Rattle.page_fill_rows.specs.Characters.{cells_of, character, characters}
+use Rattle.page_fill_rows.specs.Plain.{ends_before, has_part_room, has_room, has_word_room, is_printable_ascii, spaced_by, taken, wraps_plain}
 use Rattle.page_fill_rows.proofs.PlainLemmas.{characters-plain, letters-fits, spaced-room, spaces-fit}
 use Rattle.page_fill_rows.proofs.WrapLemmas.{both-plain}
-use Rattle.page_fill.specs.Fill.{Edge, text, opening, on_sheet, begun_word, stands}
+use Rattle.page_fill.specs.Fill.{Edge, text, one_character, opening, on_sheet, begun_word, stands}
 use Rattle.page_fill.specs.PlainWords.{takes_word, wraps_word}
 
 pub text-plain : (e : Edge) (bytes : List ℕ) (font : Font) (place : Place) → is_printable_ascii bytes ≡ true → (length bytes == 0) ≡ false
@@ -19,6 +19,24 @@ pub text-plain : (e : Edge) (bytes : List ℕ) (font : Font) (place : Place) →
 unfolding text
 text-plain e bytes font place plain some =
     rw (some, characters-plain (opening e place).edge.output (opening e place).edge.sheet bytes font place plain) refl
+
+-- ---- a text that goes on with the row's last word
+
+pub text-part : (e : Edge) (bytes : List ℕ) (font : Font) (place : Place) → is_printable_ascii bytes ≡ true → (length bytes == 0) ≡ false
+    → e.word.is_joined ≡ true → has_part_room e.sheet (length bytes) ≡ true
+    → text e bytes font place ≡ nothing (on_sheet e (taken e.sheet (cells_of font bytes)))
+unfolding opening
+text-part e bytes font place plain some joined room =
+    let fits : has_room e.sheet (length bytes) ≡ true = grind (arith, room) in
+    rw (text-plain e bytes font place plain some, joined, letters-fits e.sheet bytes font place some plain fits) refl
+
+-- ---- a character
+
+pub character-text : (e : Edge) (c : ℕ) (font : Font) (place : Place) → one_character e c font place ≡ text e (c ∷ []) font place
+unfolding one_character text characters
+character-text e c font place =
+    let f = (opening e place).edge in
+    rw (append-nil (character f.output f.sheet c font place).rows, append-nil (character f.output f.sheet c font place).notes) refl
 
 -- ---- a word after blanks
 

@@ -42,7 +42,7 @@ fn take_piece<O: RowOut>(edge: &mut Edge, piece: Piece<&[u8]>, out: &mut O)
     }
 }
 
-// Takes a blank, or a plain word that the open row has room for, and says whether it was one of these, which settle nothing. Most of a page
+// Takes a blank, or a plain text that the open row has room for, and says whether it was one of these, which settle nothing. Most of a page
 // is made of them.
 #[inline(always)]
 #[tactic(auto, unfolding(crate::specs::Fill::laid_piece))]
@@ -56,6 +56,7 @@ fn takes_at_once(edge: &mut Edge, piece: Piece<&[u8]>) -> bool
             true
         }
         Piece::Text { text, font, .. } => edge.takes_at_once(text, font),
+        Piece::Char { c, font, .. } => edge.takes_character(c, font),
         _ => false,
     }
 }

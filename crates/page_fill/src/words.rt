@@ -1,6 +1,6 @@
 //! Words, breaks and tags: what is held between two pieces.
 
-ghost use Rattle.std.specs.Prelude.{◌≡◌, ◌≤◌, length, true, false, [], Some};
+ghost use Rattle.std.specs.Prelude.{◌≡◌, ◌≤◌, ◌==◌, length, true, false, [], Some};
 ghost use Rattle.std.specs.Str.{chars};
 ghost use Rattle.page_core_base.specs.Laid.{nothing};
 ghost use Rattle.page_core_base.specs.Latches.{CameRows, LaysOut};
@@ -192,15 +192,16 @@ impl Edge {
         !word.is_joined && !word.has_tab && word.blanks == 1 && self.sheet.ends_before(count)
     }
 
-    /// Takes a word that the open row has room for after its blanks, if it is plain; says whether it did.
+    // Takes a word that the open row has room for after its blanks, if it is plain; says whether it did.
     #[inline(always)]
-    pub(crate) fn takes_at_once(&mut self, bytes: &[u8], font: Font) -> bool
+    fn takes_new_word(&mut self, bytes: &[u8], font: Font) -> bool
+        requires { (length bytes.now == 0) ≡ false }
         ensures taken { result ≡ true → (place : Place)
             → fill.text self.old (characters_of bytes.now) font place ≡ nothing self.new }
         ensures same { result ≡ false → self.new ≡ self.old }
     {
         let blanks = self.word.blanks;
-        if bytes.is_empty() || !self.takes_word(bytes.len()) {
+        if !self.takes_word(bytes.len()) {
             return false;
         }
         if !self.sheet.add_word(blanks, bytes, font) {
@@ -208,6 +209,46 @@ impl Edge {
         }
         self.word = OpenWord::begun(false);
         true
+    }
+
+    // Takes a text that goes on with the row's last word, if it is plain and the row has room for it; says whether it did. It is a call, so that
+    // what gives pieces stays small.
+    #[inline(never)]
+    fn takes_part(&mut self, bytes: &[u8], font: Font) -> bool
+        requires some { (length bytes.now == 0) ≡ false }
+        requires joined { self.old.word.is_joined ≡ true }
+        ensures taken { result ≡ true → (place : Place)
+            → fill.text self.old (characters_of bytes.now) font place ≡ nothing self.new }
+        ensures same { result ≡ false → self.new ≡ self.old }
+    {
+        self.sheet.has_part_room(bytes.len()) && self.sheet.add_part(bytes, font)
+    }
+
+    /// Takes a text that is a word or goes on with one, if it is plain and the open row has room for it; says whether it did.
+    #[inline(always)]
+    pub(crate) fn takes_at_once(&mut self, bytes: &[u8], font: Font) -> bool
+        ensures taken { result ≡ true → (place : Place)
+            → fill.text self.old (characters_of bytes.now) font place ≡ nothing self.new }
+        ensures same { result ≡ false → self.new ≡ self.old }
+    {
+        if bytes.is_empty() {
+            return false;
+        }
+        if self.word.is_joined {
+            self.takes_part(bytes, font)
+        } else {
+            self.takes_new_word(bytes, font)
+        }
+    }
+
+    /// The same of a character.
+    #[inline(never)]
+    pub(crate) fn takes_character(&mut self, c: char, font: Font) -> bool
+        ensures taken { result ≡ true → (place : Place)
+            → fill.one_character self.old c font place ≡ nothing self.new }
+        ensures same { result ≡ false → self.new ≡ self.old }
+    {
+        c.is_ascii() && self.takes_at_once(&[c as u8], font)
     }
 
     /// Takes the first words of a text, in which one blank stands before each, as far as the row has room for them; answers how many bytes

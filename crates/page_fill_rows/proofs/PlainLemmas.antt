@@ -190,10 +190,14 @@ ascii-plain (b ∷ bytes) plain =
     let below : b < 128 = grind (arith, nat_tests, byte) in
     IsAscii-cons b bytes below (ascii-plain bytes (rest-plain b bytes plain))
 
+characters_of-ascii : (bytes : List ℕ) → IsAscii bytes → characters_of bytes ≡ bytes
+characters_of-ascii bytes ascii = characters_of-text bytes (IsUtf8-from_ascii bytes ascii) ∙ chars-IsAscii bytes ascii
+
 pub characters_of-plain : (bytes : List ℕ) → is_printable_ascii bytes ≡ true → characters_of bytes ≡ bytes
-characters_of-plain bytes plain =
-    let ascii = ascii-plain bytes plain in
-    characters_of-text bytes (IsUtf8-from_ascii bytes ascii) ∙ chars-IsAscii bytes ascii
+characters_of-plain bytes plain = characters_of-ascii bytes (ascii-plain bytes plain)
+
+pub characters_of-letter : (c : ℕ) → c < 128 → characters_of (c ∷ []) ≡ c ∷ []
+characters_of-letter c below = characters_of-ascii (c ∷ []) (IsAscii-cons c [] below IsAscii-nil)
 
 -- a plain byte prints itself
 prints-itself : (output : Output) (b : ℕ) → is_printable b ≡ true → char_printed output b ≡ known (b ∷ [])

@@ -24,6 +24,10 @@ has_room s count =
     nat_le (length s.cells + count) CELLS
     && (s.literal || (s.gap == 0 || nat_le (s.margin + columns s.cells + count) s.width))
 
+-- the same of a row that has a cell
+abbrev pub has_part_room : Sheet → ℕ → Bool
+has_part_room s count = not (length s.cells == 0) && has_room s count
+
 -- an open row that is filled has room for blanks and this count of cells of a column each after them
 abbrev pub has_word_room : Sheet → ℕ → ℕ → Bool
 has_word_room s blanks count =

@@ -335,6 +335,13 @@ impl OpenRow {
         self.is_literal || self.gap == 0 || columns <= u64::from(self.width)
     }
 
+    /// Whether the row has a cell, and takes this count of cells of a column each after it before it ends.
+    pub fn has_part_room(&self, count: usize) -> bool
+        ensures { result ≡ plain.has_part_room self.now count }
+    {
+        !self.row.is_empty() && self.has_room(count)
+    }
+
     /// Whether a filled row takes blanks and this count of cells of a column each after them before it ends.
     pub fn has_word_room(&self, blanks: u32, count: usize) -> bool
         ensures { result ≡ plain.has_word_room self.now blanks count }
@@ -407,6 +414,24 @@ impl OpenRow {
         let count = blanks + bytes.len() as u32;
         self.columns += count;
         self.tag_columns = (self.tag_columns + count).min(TAG_COLUMNS);
+        self.has_tag_cell = true;
+        true
+    }
+
+    /// The row, which has a cell and room, takes more bytes of its last word, if these are printable ASCII; says whether they are.
+    pub fn add_part(&mut self, bytes: &[u8], font: Font) -> bool
+        requires some { (length self.old.cells == 0) ≡ false }
+        requires room { length self.old.cells + length bytes.now ≤ CELLS }
+        ensures answer { result ≡ plain.is_printable_ascii bytes.now }
+        ensures part { result ≡ true → self.new ≡ plain.taken self.old (shown.cells_of font bytes.now) }
+        ensures same { result ≡ false → self.new ≡ self.old }
+    {
+        if !self.row.add_word(0, bytes, font) {
+            return false;
+        }
+        let count = bytes.len() as u32;
+        self.columns += count;
+        self.tag_columns = self.tag_columns.saturating_add(count).min(TAG_COLUMNS);
         self.has_tag_cell = true;
         true
     }
