@@ -1,18 +1,23 @@
 -- The parts of a line: each remainder is shorter than its line. Helpers of proofs.
-use Rattle.std.proofs.Common.{◌≡◌, ℕ, zero, suc, ◌+◌, ◌-◌, ◌<◌, ◌≤◌, ◌==◌, false, List, [], ◌∷◌, length, Option, Some, None, IfSome, refl, ap, ◌∙◌, inl, inr, arith, length-drop}
+use Rattle.std.proofs.Common.{◌≡◌, ℕ, zero, suc, ◌+◌, ◌-◌, ◌<◌, ◌≤◌, ◌==◌, nat_lt, true, false, List, [], ◌∷◌, length, take, drop, Option, Some, None, IfSome, refl, sym, ap, ◌∙◌, inl, inr, arith, length-drop}
 use Rattle.std.proofs.lemmas.Bool.{cases_Bool}
-use Rattle.page_roff_forms.specs.LineForms.{form_of, name_of, has_word, begins_comment, without_comment, begins_control, uncommented_form}
+use Rattle.std.proofs.lemmas.Bool.Decides.{nat_tests}
+use Rattle.std.proofs.lemmas.List.{length-take-le}
+use Rattle.std.proofs.lemmas.List.Sums.{prefix_len-le-length}
+use Rattle.page_roff_forms.specs.LineForms.{form_of, name_of, name_start, name_len, is_control, is_name, is_white, has_word, begins_comment, without_comment, begins_control, control_line, uncommented_form}
 use Rattle.page_roff_forms.specs.declared.line_forms.LineForm.{LineForm}
 use Rattle.page_roff_forms.specs.declared.line_forms.LineForm.TheVariants.{Comment, BlankLine, Text, Control}
+use Rattle.page_roff_forms.proofs.ControlLemmas.{uncommented_control}
 use Rattle.page_roff_heads.specs.Heads.{conditional_of, guarded_of, block_end_of}
 use Rattle.page_roff_heads.specs.declared.heads.BlockEnd.{BlockEnd}
 use Rattle.page_roff_heads.specs.declared.texts.Placed.{Placed}
 use Rattle.page_roff_heads.proofs.Within.{conditional_within, guarded_within, end_shorter, rest_within}
 use Rattle.page_roff_heads.proofs.Within as remainders
 use Rattle.page_roff_blocks.specs.declared.atoms.Atom.TheVariants.{Leaf}
+use Rattle.page_roff_blocks.specs.declared.parts.Columns.{Columns}
 use Rattle.page_roff_blocks.specs.declared.parts.Keyword.{Keyword}
 use Rattle.page_roff_blocks.specs.declared.parts.Keyword.TheVariants as keywords
-use Rattle.page_roff_blocks.specs.Atoms.{rest_text, end_part, cut_part, plain_part, raw_rest, keyword_of, keyword_part, form_part, part_of, with_part, parts, atoms, atoms_left, IsWithin}
+use Rattle.page_roff_blocks.specs.Atoms.{rest_text, end_part, cut_part, plain_part, raw_rest, keyword_of, keyword_part, form_part, part_of, with_part, parts, atoms, atoms_left, IsWithin, columns_of, named_part}
 
 -- what is left of a line is shorter than the line
 abbrev pub IsShorter : List ℕ → Option (List ℕ) → Type 0
@@ -68,28 +73,96 @@ pub part_shorter : (line : List ℕ) → IsShorter line (part_of line).rest
 unfolding part_of
 part_shorter line = form_shorter line (form_of line) refl
 
--- the rest of a control line begins after its control character
-pub column_within : (line name rest : List ℕ) (column rest_column : ℕ) → form_of line ≡ Control name column rest rest_column → IsWithin rest_column line
-column_within line name rest column rest_column e =
-    let h = rest_within line name rest column rest_column e in
-    record { past = h.0; within = h.1 }
+-- ---- the columns of a control line, by its name
 
--- ---- a line that begins with no control character heads nothing
-
-uncommented_plain : (raw line : List ℕ) → begins_control line ≡ false → form_part raw (uncommented_form (without_comment line)) ≡ plain_part raw
-uncommented_plain raw [] h = refl
-uncommented_plain raw (x ∷ []) h = rw h refl
-uncommented_plain raw (x ∷ y ∷ ys) h =
+uncommented_nameless : (line : List ℕ) → begins_control line ≡ false → name_of (uncommented_form (without_comment line)) ≡ None
+uncommented_nameless [] h = refl
+uncommented_nameless (x ∷ []) h = rw h refl
+uncommented_nameless (x ∷ y ∷ ys) h =
     elim (cases_Bool (x == 92)) [
       | inl t ↦ elim (cases_Bool (begins_comment y)) [ inl c ↦ rw (t, c) refl | inr c ↦ rw (t, c, h) refl ]
       | inr t ↦ rw (t, h) refl
     ]
 
-pub plain_of : (line : List ℕ) → begins_control line ≡ false → part_of line ≡ plain_part line
-unfolding part_of
-plain_of line h = elim (cases_Bool (has_word line)) [ inl w ↦ rw w (uncommented_plain line line h) | inr w ↦ rw w refl ]
+unnamed : (line : List ℕ) → begins_control line ≡ false → name_of (form_of line) ≡ None
+unnamed line h = elim (cases_Bool (has_word line)) [ inl w ↦ rw w (uncommented_nameless line h) | inr w ↦ rw w refl ]
 
--- ---- nor does a line without a name, or one of another name
+-- a line with a name begins with a control character
+begins_named : (line name : List ℕ) → name_of (form_of line) ≡ Some name → begins_control line ≡ true
+begins_named line name e =
+    elim (cases_Bool (begins_control line)) [
+      | inl t ↦ t
+      | inr t ↦ let n = unnamed line t in let no : ⊥ = cc in absurd no
+    ]
+
+no_white : (x : ℕ) → is_control x ≡ true → is_white x ≡ false
+no_white x h = grind (arith, nat_tests)
+
+no_slash : (x : ℕ) → is_control x ≡ true → (x == 92) ≡ false
+no_slash x h = grind (arith, nat_tests)
+
+some_word : (x : ℕ) (xs : List ℕ) → is_white x ≡ false → has_word (x ∷ xs) ≡ true
+some_word x xs h = let t : nat_lt 0 (length (x ∷ xs)) ≡ true = grind (arith, nat_tests) in rw h t
+
+control_form : (x : ℕ) (bytes : List ℕ) → is_control x ≡ true → form_of (x ∷ bytes) ≡ control_line (without_comment bytes)
+control_form x [] h = rw (no_white x h, h) refl
+control_form x (y ∷ ys) h = rw (some_word x (y ∷ ys) (no_white x h), no_slash x h, h) refl
+
+form_after : (line : List ℕ) → begins_control line ≡ true → form_of line ≡ control_line (without_comment (drop 1 line))
+form_after [] h = let no : ⊥ = cc in absurd no
+form_after (x ∷ bytes) h = control_form x bytes h
+
+columns_at : ℕ → ℕ → Option Columns
+columns_at start len = Some (record { name = 2 + start; rest = 2 + start + len })
+
+pub columns_named : (line name : List ℕ) → name_of (form_of line) ≡ Some name
+    → columns_of (form_of line) ≡ Some (record { name = 2 + name_start (drop 1 line); rest = 2 + name_start (drop 1 line) + length name })
+unfolding columns_at
+columns_named line name e =
+    let bytes = drop 1 line in
+    let named = drop (name_start bytes) bytes in
+    let f = form_after line (begins_named line name e) ∙ uncommented_control bytes in
+    let some : Some (take (name_len bytes) named) ≡ Some name = sym (ap name_of f) ∙ e in
+    let same : take (name_len bytes) named ≡ name = cc in
+    let within : name_len bytes ≤ length named = prefix_len-le-length is_name named in
+    let len : length name ≡ name_len bytes = sym (ap length same) ∙ length-take-le (name_len bytes) named within in
+    ap columns_of f ∙ ap (columns_at (name_start bytes)) (sym len)
+
+-- the rest of a control line begins after its control character
+form_within : (line : List ℕ) (form : LineForm (List ℕ)) (columns : Columns) → form_of line ≡ form → columns_of form ≡ Some columns → IsWithin columns.rest line
+form_within line Comment columns e h = let no : ⊥ = cc in absurd no
+form_within line BlankLine columns e h = let no : ⊥ = cc in absurd no
+form_within line (Text text) columns e h = let no : ⊥ = cc in absurd no
+form_within line (Control name column rest rest_column) columns e h =
+    let w = rest_within line name rest column rest_column e in
+    let same : record { name = column; rest = rest_column } ≡ columns = cc in
+    let r : rest_column ≡ columns.rest = ap (λ (c : Columns). c.rest) same in
+    record { past = rw (sym r) w.0; within = rw (sym r) w.1 }
+
+pub columns_within : (line : List ℕ) (columns : Columns) → columns_of (form_of line) ≡ Some columns → IsWithin columns.rest line
+columns_within line columns h = form_within line (form_of line) columns refl h
+
+-- so many columns are in a line
+pub named_within : (line name : List ℕ) → name_of (form_of line) ≡ Some name → 1 + name_start (drop 1 line) + length name ≤ length line
+named_within line name e =
+    let w = columns_within line (record { name = 2 + name_start (drop 1 line); rest = 2 + name_start (drop 1 line) + length name }) (columns_named line name e) in
+    omega (arith, w.within)
+
+-- ---- the first part of a control line, by what it heads
+
+part_in : (line : List ℕ) (form : LineForm (List ℕ)) (name : List ℕ) → name_of form ≡ Some name → form_part line form ≡ named_part (keyword_of name) line form
+part_in line Comment name e = refl
+part_in line BlankLine name e = refl
+part_in line (Text text) name e = refl
+part_in line (Control other column rest rest_column) name e =
+    let same : other ≡ name = cc in
+    rw same refl
+
+pub part_named : (line name : List ℕ) → name_of (form_of line) ≡ Some name → part_of line ≡ named_part (keyword_of name) line (form_of line)
+unfolding part_of
+part_named line name e = part_in line (form_of line) name e
+
+-- ---- a line without a name heads nothing, nor does one of another name
 
 named_other : (line : List ℕ) (form : LineForm (List ℕ)) (name : List ℕ) → name_of form ≡ Some name → keyword_of name ≡ keywords.Other
     → form_part line form ≡ plain_part line

@@ -18,6 +18,7 @@ use Rattle.page_roff_blocks.specs.declared.atoms.Atom.TheVariants.{Leaf, Guard, 
 use Rattle.page_roff_blocks.specs.declared.atoms.Branch.{Branch}
 use Rattle.page_roff_blocks.specs.declared.atoms.Branch.TheVariants.{If, IfElse, Else}
 use Rattle.page_roff_blocks.specs.declared.atoms.Head.{Head}
+use Rattle.page_roff_blocks.specs.declared.parts.Columns.{Columns}
 use Rattle.page_roff_blocks.specs.declared.parts.Keyword.{Keyword}
 use Rattle.page_roff_blocks.specs.declared.parts.Keyword.TheVariants as keywords
 use Rattle.page_roff_blocks.specs.declared.parts.Part.{Part}
@@ -115,6 +116,20 @@ atoms line = parts (suc (length line)) (Some line)
 abbrev pub atoms_left : Option (List ℕ) → List (Atom (List ℕ))
 atoms_left None = []
 atoms_left (Some line) = atoms line
+
+-- ---- of the program: a control line's columns, and its first part by what it heads
+
+abbrev pub columns_of : LineForm (List ℕ) → Option Columns
+columns_of Comment = None
+columns_of BlankLine = None
+columns_of (Text text) = None
+columns_of (Control name column rest rest_column) = Some (record { name = column; rest = rest_column })
+
+abbrev pub named_part : Keyword → List ℕ → LineForm (List ℕ) → Part (List ℕ)
+named_part keyword line Comment = plain_part line
+named_part keyword line BlankLine = plain_part line
+named_part keyword line (Text text) = plain_part line
+named_part keyword line (Control name column rest rest_column) = keyword_part keyword line column rest rest_column
 
 -- ---- of the program, with what its texts hold
 

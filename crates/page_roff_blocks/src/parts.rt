@@ -1,20 +1,21 @@
 //! The first part of a raw line (roff(7), "if", "ie", "el").
 
-ghost use Rattle.std.specs.Prelude.{◌≡◌, ◌≤◌, ◌+◌, true, [], ◌∷◌, length};
+ghost use Rattle.std.specs.Prelude.{◌≡◌, ◌≤◌, ◌+◌, true, [], ◌∷◌, length, Some};
 ghost use Rattle.page_core_limits.specs.declared.TheConstants.{LINE};
-ghost use Rattle.page_roff_forms.specs.LineForms.{FitsLine};
-ghost use Rattle.page_roff_forms.specs.declared.line_forms.LineForm.TheVariants.{Control};
+ghost use Rattle.page_roff_forms.specs.LineForms.{form_of, name_of};
 ghost use Rattle.page_roff_heads.specs.Heads.{conditional_of, guarded_of, guarded_seen, FitsGuarded};
 ghost use Rattle.page_roff_heads.specs.Texts.{remainder_seen};
 ghost use Rattle.page_roff_blocks.specs.declared.atoms.Atom.TheVariants.{Leaf};
 ghost use Rattle.page_roff_blocks.specs.declared.atoms.Branch.TheVariants.{If, IfElse};
-ghost use Rattle.page_roff_blocks.specs.Atoms.{keyword_of, rest_text, head_part, head_seen, conditional_part, else_part, end_part, keyword_part, plain_part, part_of, part_seen, atoms, IsWithin, FitsBranch, FitsRest, FitsPart};
+ghost use Rattle.page_roff_blocks.specs.Atoms.{keyword_of, rest_text, head_part, head_seen, conditional_part, else_part, end_part, plain_part, part_of, part_seen, atoms, IsWithin, FitsBranch, FitsRest, FitsPart};
+ghost use Rattle.page_roff_blocks.specs.Atoms.{columns_of, named_part};
+ghost use Rattle.page_roff_blocks.specs.declared.parts.Keyword.TheVariants as keywords;
 ghost use Rattle.page_roff_blocks.specs.Regions.{text_seen};
 
 use crate::atoms::{Atom, Branch, Head};
 use crate::regions::{RegionKind, region_head};
 use page_core_limits::LINE;
-use page_roff_forms::{LineForm, begins_control, control_name, form_of};
+use page_roff_forms::{LineForm, control_name, form_of, white_len};
 use page_roff_heads::{Conditional, Guarded, Placed, block_end, read_conditional, read_guarded};
 use std::alloc::AllocError;
 
@@ -26,6 +27,13 @@ pub(crate) enum Keyword {
     Else,
     Region(RegionKind),
     Other,
+}
+
+// The columns of a control line's name and of its rest.
+#[derive(Clone, Copy)]
+pub(crate) struct Columns {
+    name: u32,
+    rest: u32,
 }
 
 // The first part of a line; `W` is a text.
@@ -134,31 +142,55 @@ fn plain_part(line: &[u8]) -> Part<&[u8]>
     }
 }
 
-// The first part of a control line that heads this: the column of its name and the rest, also from the
-// column on, with its comment.
-fn keyword_part<'a>(
-    keyword: Keyword,
-    line: &'a [u8],
-    column: u32,
-    rest: &'a [u8],
-    rest_column: u32,
-) -> Part<&'a [u8]>
-    requires line { length line.now ≤ LINE }
-    requires rest { FitsLine (Control [] column rest.now rest_column) }
-    requires column { IsWithin rest_column line.now }
-    ensures value { part_seen result ≡ keyword_part keyword line.now column rest.now rest_column }
+// The columns of a control line of this name. No comment is looked for.
+fn columns_of(line: &[u8], name: &[u8]) -> Columns
+    requires short { length line.now ≤ LINE }
+    requires named { name_of (form_of line.now) ≡ Some name.now }
+    ensures value { columns_of (form_of line.now) ≡ Some result }
+    ensures within { IsWithin result.rest line.now }
+{
+    let column = 2 + white_len(&line[1..]) as u32;
+    Columns {
+        name: column,
+        rest: column + name.len() as u32,
+    }
+}
+
+// The first part of a control line that heads a region.
+fn region_part(kind: RegionKind, line: &[u8]) -> Part<&[u8]>
+    requires { length line.now ≤ LINE }
+    ensures value { part_seen result ≡ named_part (keywords.Region kind) line.now (form_of line.now) }
     ensures fits { FitsPart (part_seen result) }
 {
-    let raw_rest = &line[rest_column as usize - 1..];
-    match keyword {
-        Keyword::If => if_part(raw_rest, column, rest_column),
-        Keyword::IfElse => if_else_part(raw_rest, column, rest_column),
-        Keyword::Else => else_part(raw_rest, column, rest_column),
-        Keyword::Region(kind) => Part {
+    match form_of(line) {
+        LineForm::Control {
+            column,
+            rest,
+            rest_column,
+            ..
+        } => Part {
             atom: Atom::Region(region_head(kind, column, rest, rest_column)),
             is_end: false,
             rest: None,
         },
+        LineForm::Comment | LineForm::BlankLine | LineForm::Text(_) => plain_part(line),
+    }
+}
+
+// The first part of a control line with these columns that heads this.
+fn keyword_part(keyword: Keyword, line: &[u8], columns: Columns) -> Part<&[u8]>
+    requires line { length line.now ≤ LINE }
+    requires columns { columns_of (form_of line.now) ≡ Some columns }
+    requires within { IsWithin columns.rest line.now }
+    ensures value { part_seen result ≡ named_part keyword line.now (form_of line.now) }
+    ensures fits { FitsPart (part_seen result) }
+{
+    let raw_rest = &line[columns.rest as usize - 1..];
+    match keyword {
+        Keyword::If => if_part(raw_rest, columns.name, columns.rest),
+        Keyword::IfElse => if_else_part(raw_rest, columns.name, columns.rest),
+        Keyword::Else => else_part(raw_rest, columns.name, columns.rest),
+        Keyword::Region(kind) => region_part(kind, line),
         Keyword::Other => plain_part(line),
     }
 }
@@ -200,24 +232,15 @@ fn else_part(raw_rest: &[u8], column: u32, rest_column: u32) -> Part<&[u8]>
     head_part(Head { column, branch }, read_guarded(raw_rest, rest_column))
 }
 
-// The first part of a line.
-#[tactic(auto, unfolding(crate::specs::Atoms::part_of))]
+// The first part of a line. Only the head of a region is parted from its comment.
 pub(crate) fn part_of(line: &[u8]) -> Part<&[u8]>
     requires { length line.now ≤ LINE }
     ensures value { part_seen result ≡ part_of line.now }
     ensures fits { FitsPart (part_seen result) }
 {
-    if !begins_control(line) {
-        return plain_part(line);
-    }
-    match form_of(line) {
-        LineForm::Control {
-            name,
-            column,
-            rest,
-            rest_column,
-        } => keyword_part(keyword_of(name), line, column, rest, rest_column),
-        LineForm::Comment | LineForm::BlankLine | LineForm::Text(_) => plain_part(line),
+    match control_name(line) {
+        Some(name) => keyword_part(keyword_of(name), line, columns_of(line, name)),
+        None => plain_part(line),
     }
 }
 

@@ -2,7 +2,7 @@
 
 ghost use Rattle.std.specs.Prelude.{◌≡◌, ◌≤◌, ◌<◌, ◌+◌, ◌^◌, length};
 ghost use Rattle.std.specs.List.{prefix_len};
-ghost use Rattle.page_roff_forms.specs.LineForms.{is_name};
+ghost use Rattle.page_roff_forms.specs.LineForms.{is_name, without_comment};
 ghost use Rattle.page_roff_heads.specs.Conditions as written;
 ghost use Rattle.page_roff_heads.specs.Conditions.{read_seen, test_seen, condition_seen, FitsTest};
 ghost use Rattle.page_roff_heads.specs.declared.conditions.Kind.TheVariants as kinds;
@@ -13,7 +13,7 @@ use crate::delimiters::{delimiter_len, place_of};
 use crate::expressions::expression_len;
 use crate::texts::{Placed, blank_len};
 use page_core_limits::LINE;
-use page_roff_forms::is_white;
+use page_roff_forms::{is_white, uncommented_len};
 use std::alloc::AllocError;
 
 /// What a condition asks; `W` is a text.
@@ -272,9 +272,19 @@ fn read_test(text: &[u8], column: u32) -> TestRead<&[u8]>
     }
 }
 
-/// The condition at a text's front, and how many bytes it takes. Its first byte stands at a column.
+// Whether a text begins with a letter that is always true or always false: what follows decides nothing.
+fn begins_letter(text: &[u8]) -> bool
+    ensures { result ≡ written.begins_letter text.now }
+{
+    match text {
+        [] => false,
+        [first, ..] => matches!(kind_of(*first), Kind::True | Kind::False),
+    }
+}
+
+// The condition at a text's front, and how many bytes it takes. Its first byte stands at a column.
 #[tactic(auto, unfolding(crate::specs::Conditions::condition_of, crate::specs::Conditions::condition_len))]
-pub(crate) fn read_condition(text: &[u8], column: u32) -> (Condition<&[u8]>, usize)
+fn read_condition(text: &[u8], column: u32) -> (Condition<&[u8]>, usize)
     requires short { length text.now ≤ LINE }
     requires room { column + length text.now ≤ LINE + 1 }
     ensures value { condition_seen result.0 ≡ written.condition_of column text.now }
@@ -290,4 +300,21 @@ pub(crate) fn read_condition(text: &[u8], column: u32) -> (Condition<&[u8]>, usi
         test: read.test,
     };
     (condition, turns + read.len)
+}
+
+/// The condition at the front of a text that may have a comment, before which it ends, and how many bytes
+/// it takes. Its first byte stands at a column. After a letter that is always true or false, no comment is
+/// looked for.
+pub(crate) fn read_before_comment(text: &[u8], column: u32) -> (Condition<&[u8]>, usize)
+    requires short { length text.now ≤ LINE }
+    requires room { column + length text.now ≤ LINE + 1 }
+    ensures value { condition_seen result.0 ≡ written.condition_of column (without_comment text.now) }
+    ensures len { result.1 ≡ written.condition_len column (without_comment text.now) }
+    ensures within { result.1 ≤ length text.now }
+    ensures fits { FitsTest (test_seen result.0.test) }
+{
+    if begins_letter(text) {
+        return read_condition(&text[..1], column);
+    }
+    read_condition(&text[..uncommented_len(text)], column)
 }

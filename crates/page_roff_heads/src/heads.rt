@@ -3,10 +3,10 @@
 ghost use Rattle.std.specs.Prelude.{◌≡◌, ◌≤◌, ◌<◌, ◌+◌, length, IfSome};
 ghost use Rattle.page_roff_heads.specs.Heads.{guarded_of, guarded_seen, conditional_at, conditional_of, conditional_seen, end_place, block_end_of, block_end_seen, FitsGuarded, FitsConditional, FitsBlockEnd};
 
-use crate::conditions::{Condition, read_condition};
+use crate::conditions::{Condition, read_before_comment};
 use crate::texts::{Placed, begins_pair, blank_len, remainder};
 use page_core_limits::LINE;
-use page_roff_forms::{begins_comment, lacks_pair, plain_len, uncommented_len};
+use page_roff_forms::{begins_comment, lacks_pair, plain_len};
 use std::alloc::AllocError;
 
 /// What the head of a conditional guards; `W` is a text.
@@ -97,7 +97,7 @@ fn conditional_at(text: &[u8], column: u32) -> Conditional<&[u8]>
     ensures value { conditional_seen result ≡ conditional_at column text.now }
     ensures fits { FitsConditional (conditional_seen result) }
 {
-    let (condition, len) = read_condition(&text[..uncommented_len(text)], column);
+    let (condition, len) = read_before_comment(text, column);
     Conditional {
         condition,
         guarded: read_guarded(&text[len..], column + len as u32),

@@ -1,22 +1,19 @@
 use Rattle.std.proofs.Common.{◌∙◌, ap, sym}
-use Rattle.page_roff_blocks.specs.Atoms.{keyword_part, form_part, part_of}
-use Rattle.page_roff_blocks.proofs.AtomLemmas.{column_within, plain_of}
+use Rattle.page_roff_forms.specs.LineForms.{form_of, name_seen}
+use Rattle.page_roff_blocks.specs.Atoms.{named_part}
+use Rattle.page_roff_blocks.proofs.AtomLemmas.{part_named, plain_nameless}
 use Rattle.page_roff_blocks.proofs.parts.part_of.Goals as goal
 
-pub keyword_part-requires-clause-column : goal.keyword_part-requires-clause-column
-keyword_part-requires-clause-column c =
-    let k = c.in-Control in
-    column_within c.args.line.now k.name.now k.rest.now k.column k.rest_column (sym k.ensures.value)
+pub columns_of-requires-clause-named : goal.columns_of-requires-clause-named
+columns_of-requires-clause-named c = sym c.control_name.ensures ∙ ap name_seen c.in-Some.is
 
-pub returns-in-Control-clause-value : goal.returns-in-Control-clause-value
-unfolding part_of
-returns-in-Control-clause-value c =
-    let k = c.in-Control in
+pub returns-in-Some-clause-value : goal.returns-in-Some-clause-value
+returns-in-Some-clause-value c =
     let line = c.args.line.now in
     c.keyword_part.ensures.value
-    ∙ ap (λ word. keyword_part word line k.column k.rest.now k.rest_column) c.keyword_of.ensures
-    ∙ ap (form_part line) k.ensures.value
+    ∙ ap (λ word. named_part word line (form_of line)) c.keyword_of.ensures
+    ∙ sym (part_named line c.in-Some.name.now (sym c.control_name.ensures ∙ ap name_seen c.in-Some.is))
 
-pub returns-then-not-begins_control-clause-value : goal.returns-then-not-begins_control-clause-value
-returns-then-not-begins_control-clause-value c =
-    c.plain_part.ensures.value ∙ sym (plain_of c.args.line.now (sym c.begins_control.ensures ∙ c.if-not-begins_control.true))
+pub returns-in-None-clause-value : goal.returns-in-None-clause-value
+returns-in-None-clause-value c =
+    c.plain_part.ensures.value ∙ sym (plain_nameless c.args.line.now (sym c.control_name.ensures ∙ ap name_seen c.in-None.is))
