@@ -171,7 +171,7 @@ no_end line h =
 -- what is left of it is one part, if it heads nothing
 pub uncut_leaf : (n : ℕ) (line : List ℕ) → LacksPair 125 125 line
     → let text = take (length line - n) (drop n line) in
-    part_of text ≡ plain_part text → parts_at line (record { is_uncut = true; is_end = false; rest = Some n }) ≡ Leaf text ∷ []
+    part_of text ≡ plain_part text → parts_at line (record { is_whole = true; is_end = false; rest = Some n }) ≡ Leaf text ∷ []
 uncut_leaf n line h e =
     let k : part_of (drop n line) ≡ plain_part (drop n line) = rw (to_end n line) at e in
     rw (to_end n line) (sym (atoms_cons (drop n line)) ∙ one_leaf (drop n line) k (no_end (drop n line) (lacks_after n line h)))
@@ -182,11 +182,11 @@ not_true false h = refl
 
 -- nothing but the end of a line without a block's end is left after a part
 pub after_parts : (line : List ℕ) (is_end : Bool) (rest : Option (List ℕ)) → IsEndOf line rest → is_end ≡ false
-    → parts_at line (record { is_uncut = is_some (place_after line rest); is_end = is_end; rest = place_after line rest }) ≡ ends_first is_end (atoms_left rest)
+    → parts_at line (record { is_whole = is_some (place_after line rest); is_end = is_end; rest = place_after line rest }) ≡ ends_first is_end (atoms_left rest)
 after_parts line is_end None h e = refl
 after_parts line is_end (Some text) h e = rw e (sym (ap atoms h.1 ∙ atoms_cons (drop (length line - length text) line)))
 
 -- before the first part
-pub start_parts : (w : Bool) (line : List ℕ) → parts_at line (record { is_uncut = w; is_end = false; rest = Some 0 }) ≡ atoms line
+pub start_parts : (w : Bool) (line : List ℕ) → parts_at line (record { is_whole = w; is_end = false; rest = Some 0 }) ≡ atoms line
 start_parts true line = sym (atoms_cons line)
 start_parts false line = refl

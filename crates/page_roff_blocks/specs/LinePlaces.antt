@@ -9,10 +9,10 @@ use Rattle.page_roff_forms.specs.Pairs.{LacksPair}
 
 -- after the last part
 abbrev pub line_end : LinePlace
-line_end = record { is_uncut = false; is_end = false; rest = None }
+line_end = record { is_whole = false; is_end = false; rest = None }
 
 abbrev pub is_at_end : LinePlace → Bool
-is_at_end place = not place.is_uncut && (not place.is_end && is_none place.rest)
+is_at_end place = not place.is_whole && (not place.is_end && is_none place.rest)
 
 -- what is left of a line from a place on
 abbrev pub rest_at : List ℕ → Option ℕ → Option (List ℕ)
@@ -31,7 +31,7 @@ parts_from false line is_end rest = ends_first is_end (atoms_left (rest_at line 
 
 -- the parts of a line after a place in it
 abbrev pub parts_at : List ℕ → LinePlace → List (Atom (List ℕ))
-parts_at line place = parts_from place.is_uncut line place.is_end place.rest
+parts_at line place = parts_from place.is_whole line place.is_end place.rest
 
 -- it lies in a line
 abbrev pub IsRestIn : List ℕ → Option ℕ → Type 0
@@ -52,7 +52,7 @@ IsLeftIn true line rest = IsUncutIn line rest
 IsLeftIn false line rest = IsRestIn line rest
 
 abbrev pub IsPlaceIn : List ℕ → LinePlace → Type 0
-IsPlaceIn line place = IsLeftIn place.is_uncut line place.rest
+IsPlaceIn line place = IsLeftIn place.is_whole line place.rest
 
 -- a text is the end of a line
 abbrev pub IsEndOf : List ℕ → Option (List ℕ) → Type 0

@@ -15,7 +15,7 @@ use page_roff_forms::lacks_pair;
 #[derive(Clone, Copy)]
 pub struct LinePlace {
     // Whether something is left of the line that no end of a block cuts.
-    is_uncut: bool,
+    is_whole: bool,
     // Whether the end of a block comes next.
     is_end: bool,
     // Where what is left of the line after that begins, if anything is left; none where all of the line comes
@@ -44,7 +44,7 @@ fn after_part(line: &[u8], part: Part<&[u8]>, is_uncut: bool) -> LinePlace
 {
     let rest = place_after(line, part.rest);
     LinePlace {
-        is_uncut: is_uncut && !part.is_end && rest.is_some(),
+        is_whole: is_uncut && !part.is_end && rest.is_some(),
         is_end: part.is_end,
         rest,
     }
@@ -59,13 +59,13 @@ impl LinePlace {
     {
         if is_leaf(line) {
             return LinePlace {
-                is_uncut: true,
+                is_whole: true,
                 is_end: false,
                 rest: None,
             };
         }
         LinePlace {
-            is_uncut: lacks_pair(line, b'}', b'}'),
+            is_whole: lacks_pair(line, b'}', b'}'),
             is_end: false,
             rest: Some(0),
         }
@@ -76,7 +76,7 @@ impl LinePlace {
         ensures { result ≡ line_end }
     {
         LinePlace {
-            is_uncut: false,
+            is_whole: false,
             is_end: false,
             rest: None,
         }
@@ -86,15 +86,15 @@ impl LinePlace {
     pub fn is_at_end(&self) -> bool
         ensures { result ≡ is_at_end self.now }
     {
-        !self.is_uncut && !self.is_end && self.rest.is_none()
+        !self.is_whole && !self.is_end && self.rest.is_none()
     }
 
     // Reads the next part of what is left of a line that no end of a block cuts, and goes past it. No end is
     // looked for again.
-    fn next_uncut<'a>(&mut self, line: &'a [u8]) -> Atom<&'a [u8]>
+    fn next_of_whole<'a>(&mut self, line: &'a [u8]) -> Atom<&'a [u8]>
         requires short { length line.now ≤ LINE }
         requires within { IsPlaceIn line.now self.old }
-        requires uncut { self.old.is_uncut ≡ true }
+        requires whole { self.old.is_whole ≡ true }
         ensures next { parts_at line.now self.old ≡ atom_seen result ∷ parts_at line.now self.new }
         ensures within { IsPlaceIn line.now self.new }
         ensures fits { FitsAtom (atom_seen result) }
@@ -119,7 +119,7 @@ impl LinePlace {
     fn next_of_several<'a>(&mut self, line: &'a [u8]) -> Option<Atom<&'a [u8]>>
         requires short { length line.now ≤ LINE }
         requires within { IsPlaceIn line.now self.old }
-        requires several { self.old.is_uncut ≡ false }
+        requires several { self.old.is_whole ≡ false }
         ensures next { ReadsNext (parts_at line.now self.old) result (parts_at line.now self.new) }
         ensures within { IsPlaceIn line.now self.new }
         ensures fits { IfSome result (λ atom. FitsAtom (atom_seen atom)) }
@@ -146,8 +146,8 @@ impl LinePlace {
         ensures within { IsPlaceIn line.now self.new }
         ensures fits { IfSome result (λ atom. FitsAtom (atom_seen atom)) }
     {
-        if self.is_uncut {
-            return Some(self.next_uncut(line));
+        if self.is_whole {
+            return Some(self.next_of_whole(line));
         }
         self.next_of_several(line)
     }

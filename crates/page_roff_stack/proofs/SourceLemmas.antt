@@ -274,20 +274,20 @@ next_line_is (line ∷ lines) text h s p = (h, rw h s.0)
 
 -- no part comes after the last place
 pub end_parts : (text : List ℕ) (place : LinePlace) → is_at_end place ≡ true → parts_at text place ≡ []
-end_parts text place e = at_parts text place.is_uncut place.is_end place.rest e
+end_parts text place e = at_parts text place.is_whole place.is_end place.rest e
   where
-    at_parts : (text : List ℕ) (is_uncut is_end : Bool) (rest : Option ℕ) → (not is_uncut && (not is_end && is_none rest)) ≡ true
-        → parts_at text (record { is_uncut = is_uncut; is_end = is_end; rest = rest }) ≡ []
+    at_parts : (text : List ℕ) (is_whole is_end : Bool) (rest : Option ℕ) → (not is_whole && (not is_end && is_none rest)) ≡ true
+        → parts_at text (record { is_whole = is_whole; is_end = is_end; rest = rest }) ≡ []
     at_parts text true is_end rest e = absurd (cc)
     at_parts text false true rest e = absurd (cc)
     at_parts text false false None e = refl
     at_parts text false false (Some start) e = absurd (cc)
 
 pub some_parts : (text : List ℕ) (place : LinePlace) → is_at_end place ≡ false → 0 < length (parts_at text place)
-some_parts text place e = at_parts text place.is_uncut place.is_end place.rest e
+some_parts text place e = at_parts text place.is_whole place.is_end place.rest e
   where
-    at_parts : (text : List ℕ) (is_uncut is_end : Bool) (rest : Option ℕ) → (not is_uncut && (not is_end && is_none rest)) ≡ false
-        → 0 < length (parts_at text (record { is_uncut = is_uncut; is_end = is_end; rest = rest }))
+    at_parts : (text : List ℕ) (is_whole is_end : Bool) (rest : Option ℕ) → (not is_whole && (not is_end && is_none rest)) ≡ false
+        → 0 < length (parts_at text (record { is_whole = is_whole; is_end = is_end; rest = rest }))
     at_parts text true is_end rest e = omega arith
     at_parts text false true rest e = omega arith
     at_parts text false false None e = absurd (cc)
