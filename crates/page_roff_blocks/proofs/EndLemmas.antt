@@ -1,5 +1,5 @@
 -- What is left of a line after a part is the end of that line: helpers of proofs.
-use Rattle.std.proofs.Common.{◌≡◌, ℕ, zero, suc, ◌+◌, ◌-◌, ◌≤◌, nat_lt, Bool, true, false, not, is_some, List, [], ◌∷◌, length, take, drop, Option, Some, None, refl, sym, ap, ◌∙◌, arith, inl, inr, length-drop}
+use Rattle.std.proofs.Common.{◌≡◌, ℕ, ◌+◌, ◌-◌, ◌≤◌, nat_lt, false, List, ◌∷◌, length, take, drop, Option, Some, None, refl, sym, ap, ◌∙◌, arith, inl, inr, length-drop}
 use Rattle.std.proofs.lemmas.Bool.{cases_Bool}
 use Rattle.std.proofs.lemmas.Bool.Decides.{nat_tests}
 use Rattle.std.proofs.lemmas.List.{drop-drop, drop_all, take_all}
@@ -12,13 +12,9 @@ use Rattle.page_roff_heads.specs.Texts.{blank_len, after_blanks, begins_pair, is
 use Rattle.page_roff_heads.specs.declared.texts.Placed.{Placed}
 use Rattle.page_roff_blocks.specs.declared.parts.Keyword.{Keyword}
 use Rattle.page_roff_blocks.specs.declared.parts.Keyword.TheVariants as keywords
-use Rattle.page_roff_blocks.specs.declared.atoms.Atom.TheVariants.{Leaf}
-use Rattle.page_roff_blocks.specs.Atoms.{rest_text, plain_part, raw_rest, keyword_of, keyword_part, form_part, part_of, ends_first, atoms, atoms_left}
+use Rattle.page_roff_blocks.specs.Atoms.{rest_text, plain_part, raw_rest, keyword_of, keyword_part, form_part, part_of, with_part, atoms, atoms_left}
 use Rattle.page_roff_blocks.specs.LinePlaces.{IsEndOf, IsRestIn, rest_at, parts_at, place_after}
-use Rattle.page_roff_blocks.proofs.AtomLemmas.{end_rest, atoms_cons, one_leaf}
-use Rattle.page_roff_forms.specs.Pairs.{LacksPair}
-use Rattle.page_roff_forms.proofs.PairLemmas.{lacks_later}
-use Rattle.page_roff_heads.proofs.Reading.{without_ends}
+use Rattle.page_roff_blocks.proofs.AtomLemmas.{end_rest, atoms_cons}
 
 -- a text is what a line ends with
 Ends : List ℕ → List ℕ → Type 0
@@ -152,41 +148,8 @@ slice_ends n line p = rw (to_end n line) (end_further n line (part_of (drop n li
 
 pub slice_parts : (n : ℕ) (line : List ℕ) → n ≤ length line
     → let part = part_of (take (length line - n) (drop n line)) in
-    atoms (drop n line) ≡ part.atom ∷ ends_first part.is_end (atoms_left part.rest)
-slice_parts n line p = rw (to_end n line) (atoms_cons (drop n line))
-
--- ---- a line in which no block ends
-
-lacks_after : (n : ℕ) (line : List ℕ) → LacksPair 125 125 line → LacksPair 125 125 (drop n line)
-lacks_after zero line h = h
-lacks_after (suc n) [] h = h
-lacks_after (suc n) (x ∷ xs) h = lacks_after n xs (lacks_later 125 125 x xs h)
-
-no_end : (line : List ℕ) → LacksPair 125 125 line → block_end_of line ≡ None
-unfolding block_end_of
-no_end line h =
-    let t : nat_lt (length line) (length line) ≡ false = grind (arith, nat_tests) in
-    rw (without_ends line h, t) refl
-
--- what is left of it is one part, if it heads nothing
-pub uncut_leaf : (n : ℕ) (line : List ℕ) → LacksPair 125 125 line
-    → let text = take (length line - n) (drop n line) in
-    part_of text ≡ plain_part text → parts_at line (record { is_whole = true; is_end = false; rest = Some n }) ≡ Leaf text ∷ []
-uncut_leaf n line h e =
-    let k : part_of (drop n line) ≡ plain_part (drop n line) = rw (to_end n line) at e in
-    rw (to_end n line) (sym (atoms_cons (drop n line)) ∙ one_leaf (drop n line) k (no_end (drop n line) (lacks_after n line h)))
-
-pub not_true : (b : Bool) → not b ≡ true → b ≡ false
-not_true true h = sym h
-not_true false h = refl
-
--- nothing but the end of a line without a block's end is left after a part
-pub after_parts : (line : List ℕ) (is_end : Bool) (rest : Option (List ℕ)) → IsEndOf line rest → is_end ≡ false
-    → parts_at line (record { is_whole = is_some (place_after line rest); is_end = is_end; rest = place_after line rest }) ≡ ends_first is_end (atoms_left rest)
-after_parts line is_end None h e = refl
-after_parts line is_end (Some text) h e = rw e (sym (ap atoms h.1 ∙ atoms_cons (drop (length line - length text) line)))
-
--- before the first part
-pub start_parts : (w : Bool) (line : List ℕ) → parts_at line (record { is_whole = w; is_end = false; rest = Some 0 }) ≡ atoms line
-start_parts true line = sym (atoms_cons line)
-start_parts false line = refl
+    atoms (drop n line) ≡ part.atom ∷ parts_at line (record { is_whole = false; is_end = part.is_end; rest = place_after line part.rest })
+slice_parts n line p =
+    let part = part_of (drop n line) in
+    let found = rest_found line part.rest (end_further n line part.rest p (rest_ends (drop n line))) in
+    rw (to_end n line) (atoms_cons (drop n line) ∙ sym (ap (λ rest. with_part part (atoms_left rest)) found))

@@ -244,8 +244,8 @@ pub(crate) fn part_of(line: &[u8]) -> Part<&[u8]>
     }
 }
 
-/// Whether a line heads no conditional and no region.
-pub(crate) fn heads_nothing(line: &[u8]) -> bool
+// Whether a line heads no conditional and no region.
+fn heads_nothing(line: &[u8]) -> bool
     ensures { result ≡ true → part_of line.now ≡ plain_part line.now }
 {
     match control_name(line) {
