@@ -41,8 +41,9 @@ mandoc: $(SOURCES)
 	@cp $(PROGRAM)/out/mandoc $@
 	@echo "./mandoc is built."
 
-# The whole gate; its last line is 'N passed, M failed'.
+# The whole gate: what the documents say of the code, and then all proofs, tests and runs. Its last line is 'N passed, M failed'.
 check:
+	@docs/check
 	@rt ci
 
 install: mandoc

@@ -1,5 +1,5 @@
 #!/usr/bin/env python3
-"""Refuses each allocation in turn to runs over the pages of page_engine_page_cases (usage: bench/refusals.py PROGRAM).
+"""Refuses each allocation in turn to runs over the pages of page_engine_cases (usage: bench/refusals.py PROGRAM).
 
 The program feeds a page line by line, first to a page and then to roff alone. What is not theirs has its memory before they are made; after
 the end of each the program makes one allocation of its own. So where an allocation is refused, there is either no page, or no roff, or the one
@@ -78,7 +78,7 @@ def fault_of(program, library, page):
 
 def main():
     program = os.path.abspath(sys.argv[1])
-    cases = os.path.join(os.path.dirname(os.path.abspath(__file__)), "../crates/page_engine_page_cases/stdin")
+    cases = os.path.join(os.path.dirname(os.path.abspath(__file__)), "../crates/page_engine_cases/stdin")
     with open(cases, "rb") as file:
         pages = re.split(rb"(?m)^(?=== )", file.read())[1:]
     tried, bad = 0, 0

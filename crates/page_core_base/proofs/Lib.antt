@@ -2,3 +2,4 @@ pub mod SinkLemmas
 pub mod PieceLatchLemmas
 pub mod RowLatchLemmas
 pub mod TextLemmas
+pub mod WordPartLemmas

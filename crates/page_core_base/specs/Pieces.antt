@@ -3,7 +3,7 @@ use Rattle.std.specs.Prelude.{ℕ, List}
 use Rattle.std.specs.Borrow.{Bor}
 use Rattle.page_core_base.specs.Messages.{Message}
 use Rattle.page_core_base.specs.declared.pieces.Piece.{Piece}
-use Rattle.page_core_base.specs.declared.pieces.Piece.TheVariants.{Text, Glyph, Char, Tab, Blank, Glue, Break, RowEnd, Para, Space, Indent, Literal, Tag, TagEnd, Heading, Column}
+use Rattle.page_core_base.specs.declared.pieces.Piece.TheVariants.{Text, Glyph, Char, Tab, Blank, Glue, Split, Break, RowEnd, Para, Space, Indent, Literal, Tag, TagEnd, Heading, Column}
 
 -- a piece or a message: their order is one
 pub data Item : Type 0 where
@@ -18,6 +18,7 @@ piece_of (Char c font place) = Char c font place
 piece_of (Tab font place) = Tab font place
 piece_of (Blank count has_tab) = Blank count has_tab
 piece_of Glue = Glue
+piece_of Split = Split
 piece_of Break = Break
 piece_of RowEnd = RowEnd
 piece_of (Para n) = Para n

@@ -1,9 +1,11 @@
--- Words of a text, each after one blank, as the pieces that they are.
-use Rattle.std.specs.Prelude.{◌≡◌, ℕ, ◌+◌, Bool, true, false, not, ◌&&◌, ◌==◌, nat_lt, List, [], ◌∷◌, ◌++◌, length, map, take}
+-- Words of a text, each after one blank, as the pieces that they are, and the parts of a word between which a row may end.
+-- Source: roff(7), "Filling and adjusting".
+use Rattle.std.specs.Prelude.{◌≡◌, ℕ, ◌+◌, Bool, true, false, not, ◌&&◌, ◌==◌, nat_lt, List, [], ◌∷◌, ◌++◌, length, map, take, if◌then◌else◌}
+use Rattle.std.specs.Char.{is_ascii_alphabetic}
 use Rattle.std.specs.List.{list_all}
 use Rattle.page_core_base.specs.declared.cells.Font.{Font}
 use Rattle.page_core_base.specs.declared.pieces.Piece.{Piece}
-use Rattle.page_core_base.specs.declared.pieces.Piece.TheVariants.{Text, Blank}
+use Rattle.page_core_base.specs.declared.pieces.Piece.TheVariants.{Text, Blank, Split}
 use Rattle.page_core_base.specs.declared.places.Place.{Place}
 use Rattle.page_core_base.specs.Pieces.{Item, shown}
 
@@ -16,12 +18,55 @@ unfoldable pub blank_words : List (List ℕ) → List ℕ
 blank_words [] = []
 blank_words (word ∷ words) = 32 ∷ (word ++ blank_words words)
 
+-- ---- the parts of a word
+
+abbrev pub begins_letter : List ℕ → Bool
+begins_letter [] = false
+begins_letter (b ∷ bytes) = is_ascii_alphabetic b
+
+abbrev pub hyphen : ℕ
+hyphen = 45
+
+-- a byte goes into the first part
+abbrev pub in_first : ℕ → List (List ℕ) → List (List ℕ)
+in_first b [] = (b ∷ []) ∷ []
+in_first b (part ∷ parts) = (b ∷ part) ∷ parts
+
+-- between a byte before it and bytes after it, a part ends after a byte: a hyphen between two letters
+abbrev pub ends_part : ℕ → ℕ → List ℕ → Bool
+ends_part before b bytes = is_ascii_alphabetic before && (b == hyphen && begins_letter bytes)
+
+-- the parts of bytes that stand after another one
+unfoldable pub parts_after : ℕ → List ℕ → List (List ℕ)
+parts_after before [] = []
+parts_after before (b ∷ bytes) = if ends_part before b bytes then (b ∷ []) ∷ parts_after b bytes else in_first b (parts_after b bytes)
+
+-- the parts of a word, whose first byte stands after no letter
+abbrev pub parts_of : List ℕ → List (List ℕ)
+parts_of word = parts_after hyphen word
+
+-- where the last of some parts begins
+abbrev pub last_start : List (List ℕ) → ℕ
+last_start [] = 0
+last_start (part ∷ parts) = if length parts == 0 then 0 else length part + last_start parts
+
+-- parts after another one, and parts: the row may end between them
+abbrev pub later_pieces : Font → Place → List (List ℕ) → List (Piece (List ℕ))
+later_pieces font place [] = []
+later_pieces font place (part ∷ parts) = Split ∷ (Text part font place ∷ later_pieces font place parts)
+
+abbrev pub part_pieces : Font → Place → List (List ℕ) → List (Piece (List ℕ))
+part_pieces font place [] = []
+part_pieces font place (part ∷ parts) = Text part font place ∷ later_pieces font place parts
+
+-- ---- words
+
 -- the pieces of words, where the blank before the first one stands at a place
 unfoldable pub word_pieces : Font → Place → List (List ℕ) → List (Piece (List ℕ))
 word_pieces font place [] = []
 word_pieces font place (word ∷ words) =
     let next : Place = record place { column = place.column + 1 } in
-    Blank 1 false ∷ (Text word font next ∷ word_pieces font (record place { column = place.column + (1 + length word) }) words)
+    Blank 1 false ∷ (part_pieces font next (parts_of word) ++ word_pieces font (record place { column = place.column + (1 + length word) }) words)
 
 -- these pieces, with no message between them
 unfoldable pub word_items : Font → Place → List (List ℕ) → List Item

@@ -1,5 +1,10 @@
 //! What the layers of the formatter share: messages and their levels, settings, faults, cells, what is filled, the traits of the
 //! sinks that take rows, messages and pieces, and the latches through which inner functions give to them.
+//!
+//! It stands below every layer: what one gives and the next one takes is a type of this crate.
+//!
+//! Read first: `Piece` and `PieceSink` in `pieces.rt`; then `RowSink`, `NoteSink`, and `PieceLatch` for how inner
+//! functions give.
 #![tactic(auto)]
 
 mod cells;
@@ -15,6 +20,7 @@ mod places;
 mod row_latches;
 mod row_sinks;
 mod texts;
+mod word_parts;
 
 pub use cells::{Cell, Font};
 pub use faults::Fault;
@@ -29,3 +35,4 @@ pub use places::Place;
 pub use row_latches::{RowLatch, RowOut};
 pub use row_sinks::RowSink;
 pub use texts::is_line;
+pub use word_parts::{first_part_len, last_part_start};

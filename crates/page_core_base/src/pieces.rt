@@ -35,6 +35,8 @@ pub enum Piece<W> {
     Blank { count: u32, has_tab: bool },
     /// The next text goes on with the open word, without the blanks that wait.
     Glue,
+    /// The open word may be parted here, without a blank: the row may end before what follows.
+    Split,
     /// The row ends.
     Break,
     /// The row of a line that is kept as it is ends; a blank row where it has no cell.

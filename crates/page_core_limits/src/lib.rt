@@ -1,4 +1,8 @@
 //! The limits of a page: each with its value, and the name that its message shows.
+//!
+//! It stands below the layers of a page, which take their limits from here.
+//!
+//! Read first: the constants, and `Limit::name`.
 #![tactic(auto)]
 
 ghost use Rattle.std.specs.Prelude.{◌≡◌};

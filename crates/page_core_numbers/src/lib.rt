@@ -1,5 +1,8 @@
-//! Numbers of requests and escapes, and the columns of a finished text: roff(7), "Scaling Widths" and "Numerical expressions". Layers
-//! above read with these what a request, a macro or an escape is given.
+//! Numbers of requests and escapes, and the columns of a finished text: roff(7), "Scaling Widths" and "Numerical expressions".
+//!
+//! It stands below roff and the scopes, which read with it what a request, a macro or an escape is given.
+//!
+//! Read first: `number` below, with `specs/Expressions.antt`; then `columns` in `text_columns.rt`.
 #![tactic(auto)]
 
 ghost use Rattle.std.specs.Prelude.{◌≡◌, ◌+◌, length, IfOk, MatchResult};

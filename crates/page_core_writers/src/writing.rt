@@ -71,8 +71,9 @@ fn send<W: Write>(out: &mut W, unsent: &mut Unsent) -> bool
     true
 }
 
-/// Writes texts one after another.
-pub(crate) fn put_all<W: Write>(out: &mut W, texts: &[&[u8]]) -> bool
+/// Writes texts one after another, and says whether that succeeded; else a front of them was written. Short ones are collected to be written
+/// at once. A write of 0 bytes is a failure.
+pub fn put_all<W: Write>(out: &mut W, texts: &[&[u8]]) -> bool
     ensures { Writes result (W.contents out.old) (W.contents out.new)
         (flat_map (λ text. text.now) texts.now) }
 {

@@ -8,10 +8,10 @@ use Rattle.page_core_base.specs.Laid.{Laid, Gave, join, join_assoc}
 use Rattle.page_core_base.proofs.SinkLemmas.{within-join}
 use Rattle.page_roff_lines.specs.Cutting.{Point, point_after, lines_within, last_line, lines_from}
 use Rattle.page_roff_lines.proofs.PointLemmas.{lines_within-append}
-use Rattle.page_engine_page.specs.Page.{Edge, settled, page, ended}
+use Rattle.page_engine.specs.Page.{Edge, settled, page, ended}
 use Rattle.page_engine.specs.Runs.{page_from, settled_from}
 use Rattle.page_engine.specs.Sources.{SourceState, HasGiven, counted}
-use Rattle.page_engine_page.proofs.Lists.{settled-append}
+use Rattle.page_engine.proofs.Lists.{settled-append}
 
 pub consumes_none : (a : Option (List ℕ)) → Consumes a a []
 consumes_none None = tt

@@ -9,9 +9,9 @@ use Rattle.page_roff_lines.specs.Decoding.{Line}
 use Rattle.page_roff_lines.specs.Cutting.{Point, point_after, lines_within, next_point, point_at}
 use Rattle.page_roff_lines.specs.Open.{open_after}
 use Rattle.page_roff_lines.proofs.OpenLaws.{open_after-consumed}
-use Rattle.page_engine_page.proofs.Lists.{settled_none, settled_one}
-use Rattle.page_engine_page.specs.States.{PageState, IsOpenAt}
-use Rattle.page_engine_page.specs.Page.{Edge, settled, settled_line}
+use Rattle.page_engine.proofs.Lists.{settled_none, settled_one}
+use Rattle.page_engine.specs.States.{PageState, IsOpenAt}
+use Rattle.page_engine.specs.Page.{Edge, settled, settled_line}
 
 -- ---- a part of the bytes
 

@@ -1,3 +1,9 @@
+pub mod Items
+pub mod TakenWords
+pub mod Feeds
+pub mod Cuts
+pub mod Phases
+pub mod Lists
 pub mod Cutting
 pub mod LineCounts
 pub mod BytesRead

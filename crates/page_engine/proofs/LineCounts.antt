@@ -8,9 +8,9 @@ use Rattle.page_roff_lines.specs.Cutting.{Point, first_point, point_after, lines
 use Rattle.page_roff_lines.specs.Open.{Open, restart, put, put_plain, put_pair, put_in, close, without_return, newline_in, put_newline, put_byte, count_byte, ends_mark, next_open, end_open}
 use Rattle.page_roff_lines.specs.declared.Mode.{Mode}
 use Rattle.page_roff_lines.specs.declared.Mode.TheVariants.{Plain, Backslash, Comment, Dropped}
-use Rattle.page_engine_page.specs.Page.{Edge}
+use Rattle.page_engine.specs.Page.{Edge}
 use Rattle.page_engine.proofs.Cutting.{at_most}
-use Rattle.page_engine_page.specs.States.{PageState, IsOpenAt, line_fault}
+use Rattle.page_engine.specs.States.{PageState, IsOpenAt, line_fault}
 
 -- ---- a line that is whole has not begun again
 

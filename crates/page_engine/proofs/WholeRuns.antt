@@ -13,12 +13,12 @@ use Rattle.page_roff_lines.specs.Cutting.{Point, first_point, lines_from, last_l
 use Rattle.page_roff_lines.proofs.LineAgreement.{lines-one_by_one}
 use Rattle.page_engine.specs.declared.runs.Outcome.{Outcome}
 use Rattle.page_engine.specs.declared.runs.Run.{Run}
-use Rattle.page_engine_page.specs.States.{IsOpenAt, CannotStart, Ends}
-use Rattle.page_engine_page.specs.Page.{Edge, counts_at, page, start, settled, ended}
+use Rattle.page_engine.specs.States.{IsOpenAt, CannotStart, Ends}
+use Rattle.page_engine.specs.Page.{Edge, counts_at, page, start, settled, ended}
 use Rattle.page_engine.specs.Sources.{SourceState}
-use Rattle.page_engine_page.specs.Streams.{Streams, Sinks, AllCame}
+use Rattle.page_engine.specs.Streams.{Streams, Sinks, AllCame}
 use Rattle.page_engine.specs.Runs.{RunsOver, Stopped, HasCause, Broken, whole_page, page_from, settled_from}
-use Rattle.page_engine_page.specs.Below.{cause_later}
+use Rattle.page_engine.specs.PageSinks.{cause_later}
 use Rattle.page_roff_source.specs.declared.counts.Counts.{Counts}
 use Rattle.page_engine.specs.Steps.{source_lines, TookLast, Finished, Finishes, Through, EndedWell, StoppedFrom, ReadsAll}
 use Rattle.page_engine.proofs.BytesRead.{given_none, both_gave, both_within, page_last, lines_last}

@@ -1,3 +1,10 @@
+pub mod Levels
+pub mod Page
+pub mod PageSinks
+pub mod Layers
+pub mod Streams
+pub mod States
+pub mod Within
 pub mod Shown
 pub mod Sources
 pub mod Readings

@@ -10,9 +10,9 @@ use Rattle.page_roff_lines.specs.Decoding.{lines}
 use Rattle.page_roff_lines.specs.Cutting.{Point, first_point, point_after, lines_within, last_line, lines_from}
 use Rattle.page_core_base.specs.Checks.{IsGood, IsFirst}
 use Rattle.page_engine.specs.declared.runs.Outcome.{Outcome}
-use Rattle.page_engine_page.specs.Page.{Edge, counts_at, settled, page, start}
+use Rattle.page_engine.specs.Page.{Edge, counts_at, settled, page, start}
 use Rattle.page_engine.specs.Sources.{SourceState, HasGiven}
-use Rattle.page_engine_page.specs.Streams.{Streams, Sinks, AllCame, FrontCame}
+use Rattle.page_engine.specs.Streams.{Streams, Sinks, AllCame, FrontCame}
 
 -- from an edge and a point between two bytes: the page of the bytes to come, and what their lines settle
 abbrev pub page_from : Edge → Point → List ℕ → Laid Edge

@@ -41,12 +41,18 @@ pub shown-sink : {S R : Type 0} (rg rw_ : R → List LaidRow → R → Type 0) �
 shown-sink rg rw_ k below silent = record {
   none = λ s. (rw shown_rows-nil (k.none (below s)), refl);
   more = λ s t u xs ys g h. (
-    rw shown_rows-append (k.more (below s) (below t) (below u) (shown_rows (silent s) xs) (shown_rows (silent s) ys) g.0 (rw g.1 at h.0)),
+    rw shown_rows-append
+        (k.more (below s) (below t) (below u) (shown_rows (silent s) xs) (shown_rows (silent s) ys)
+        g.0 (rw g.1 at h.0)),
     h.1 ∙ g.1,
   );
   after = λ s t u xs ys g h.
-      rw shown_rows-append (k.after (below s) (below t) (below u) (shown_rows (silent s) xs) (shown_rows (silent s) ys) g.0 (rw g.1 at h));
-  before = λ s t xs ys h. rw shown_rows-append (k.before (below s) (below t) (shown_rows (silent s) xs) (shown_rows (silent s) ys) h);
+      rw shown_rows-append
+      (k.after (below s) (below t) (below u) (shown_rows (silent s) xs) (shown_rows (silent s) ys)
+      g.0 (rw g.1 at h));
+  before = λ s t xs ys h.
+      rw shown_rows-append
+      (k.before (below s) (below t) (shown_rows (silent s) xs) (shown_rows (silent s) ys) h);
 }
 
 pub shown-whole : {S R : Type 0} (rg rw_ : R → List LaidRow → R → Type 0) → ((s t : R) (xs : List LaidRow)

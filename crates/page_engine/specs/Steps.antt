@@ -7,10 +7,10 @@ use Rattle.page_core_base.specs.declared.faults.Fault.TheVariants.{Memory, Read,
 use Rattle.page_core_base.specs.declared.page_settings.Settings.{Settings as PageSettings}
 use Rattle.page_roff_lines.specs.Cutting.{Point, first_point, point_after, lines_within, last_line, lines_from}
 use Rattle.page_engine.specs.declared.runs.Run.{Run}
-use Rattle.page_engine_page.specs.States.{PageState, IsOpenAt}
-use Rattle.page_engine_page.specs.Page.{Edge, counts_at, settled, page, start}
+use Rattle.page_engine.specs.States.{PageState, IsOpenAt}
+use Rattle.page_engine.specs.Page.{Edge, counts_at, settled, page, start}
 use Rattle.page_engine.specs.Sources.{SourceState, HasGiven}
-use Rattle.page_engine_page.specs.Streams.{Sinks, AllCame, Came, Front}
+use Rattle.page_engine.specs.Streams.{Sinks, AllCame, Came, Front}
 use Rattle.page_engine.specs.Runs.{page_from, settled_from, Broken, IsTooLong}
 
 -- ---- bytes that are taken
@@ -32,8 +32,8 @@ pub record Moved (run run' : Run) (bytes : List ℕ) : Type 0 where
   pub lines_taken : source_lines run' ≡ source_lines run + length (lines_within run.cutter.point bytes)
 
 -- what the whole lines of these bytes settle came, and the page is at the edge after them
-pub record Settled {R N : Type 0} (k : Sinks R N) (here : PageState) (r r' : R) (n n' : N) (e : Edge) (p : Point)
-    (bytes : List ℕ) : Type 0 where
+pub record Settled {R N : Type 0} (k : Sinks R N) (here : PageState) (r r' : R) (n n' : N) (e : Edge)
+    (p : Point) (bytes : List ℕ) : Type 0 where
   pub came : Came k r r' n n' (settled_from e p bytes)
   pub at : IsOpenAt here (settled_from e p bytes).edge
 
@@ -91,7 +91,8 @@ abbrev pub TakesLast : {R N : Type 0} → Result (Unit {0}) Fault → Sinks R N 
     → Type 0
 TakesLast res k run run' r r' n n' = MatchResult res
     (λ _. TookLast k run run' r r' n n')
-    (λ fault. (e : Edge) → IsOpenAt run.page e → Front k r r' n n' (settled e (last_line run.cutter.point)) fault)
+    (λ fault. (e : Edge) → IsOpenAt run.page e
+    → Front k r r' n n' (settled e (last_line run.cutter.point)) fault)
 
 -- and then the end
 pub record Finished {R N : Type 0} (k : Sinks R N) (run run' : Run) (r r' : R) (n n' : N) : Type 0 where
@@ -107,7 +108,8 @@ abbrev pub Finishes : {R N : Type 0} → Result (Unit {0}) Fault → Sinks R N �
     → Type 0
 Finishes res k run run' r r' n n' = MatchResult res
     (λ _. Finished k run run' r r' n n')
-    (λ fault. (e : Edge) → IsOpenAt run.page e → Front k r r' n n' (page e (last_line run.cutter.point)) fault)
+    (λ fault. (e : Edge) → IsOpenAt run.page e
+    → Front k r r' n n' (page e (last_line run.cutter.point)) fault)
 
 -- ---- all bytes of a source
 

@@ -1,10 +1,22 @@
-//! A page from its bytes to its rows and messages.
+//! A page from its bytes to its rows and messages, and the page itself, whose lines come one by one.
+//!
+//! It stands above all layers: each line goes through roff and the macros (`page_engine_lines`), and what they give is filled (`page_fill`). Below it
+//! are the lines of the bytes (`page_roff_lines`), above it the program.
+//!
+//! Read first `run_page` and `run_sinks` in `runs.rt`, with `specs/Runs.antt`; then `pages.rt`, with `specs/Page.antt` and `specs/States.antt`.
 #![tactic(auto)]
 
+mod laws;
+mod layers;
+mod level_filters;
+mod page_sinks;
+mod pages;
 mod runs;
 mod shown;
 mod sources;
 
+pub use laws::{count_law, cut_law};
 pub use page_roff_source::Counts;
+pub use pages::{LINES, Page, Phase};
 pub use runs::{BYTES, Outcome, READS, run_page, run_sinks};
 pub use sources::{Counted, Reading, Source};

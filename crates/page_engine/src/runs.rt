@@ -3,19 +3,19 @@
 ghost use Rattle.std.specs.Prelude.{◌≡◌, ◌<◌, ◌≤◌, ◌^◌, ℕ, List, false, length, IfOk, IfErr};
 ghost use Rattle.std.specs.Io.KnownBytes.{Consumes};
 ghost use Rattle.page_core_base.specs.Checks.{IsGood};
-ghost use Rattle.page_engine_page.specs.Page.{Edge};
-ghost use Rattle.page_engine_page.specs.States.{IsOpenAt, CannotStart};
+ghost use Rattle.page_engine.specs.Page.{Edge};
+ghost use Rattle.page_engine.specs.States.{IsOpenAt, CannotStart};
 ghost use Rattle.page_engine.specs.Shown.{is_silent};
-ghost use Rattle.page_engine_page.specs.Streams.{streams, sinks};
+ghost use Rattle.page_engine.specs.Streams.{streams, sinks};
 ghost use Rattle.page_engine.specs.Written.{WritesRows, WritesRowsInto, WritesNotes, WritesNotesInto};
 ghost use Rattle.page_engine.specs.Runs.{Runs, RunsOver};
 ghost use Rattle.page_engine.specs.Steps.{CanTake, TakesPart, TakesChunk, TakesLast, Finishes, StartsAt, IsFresh, ReadsAll};
 
+use crate::pages::Page;
 use crate::shown::{Shown, is_silent};
 use crate::sources::{Counted, Reading, Source};
 use page_core_base::{Fault, Level, NoteSink, RowSink, Settings};
 use page_core_writers::{TextNotes, TextRows};
-use page_engine_page::Page;
 use page_roff_lines::Cutter;
 use page_roff_source::Counts;
 use std::alloc::Global;
@@ -133,8 +133,8 @@ impl Run {
         self.page.end(rows, notes)
     }
 
-    // Reads all there is, in chunks of any size, and gives the rows and messages of the page. As a call it takes the place on the machine's stack
-    // that the making of the run had, whose pages are there already.
+    // Reads all there is, in chunks of any size, and gives the rows and messages of the page. It is a call of its own, so that it reuses the
+    // stack pages that `Run::new` touched.
     #[inline(never)]
     fn read_all<S: Source, R: RowSink, N: NoteSink>(
         &mut self,

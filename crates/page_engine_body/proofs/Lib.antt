@@ -1,1 +1,2 @@
 pub mod EventLemmas
+pub mod TreeLemmas

@@ -1,3 +1,4 @@
 pub mod Bodies
 pub mod Caps
 pub mod Titles
+pub mod Trees

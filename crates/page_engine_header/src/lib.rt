@@ -1,4 +1,8 @@
 //! The header and the footer of a page: the fields of its title, what they print, and where (man(7), `TH`).
+//!
+//! It stands below the body of a page (`page_engine_body`), which gives the header before its first event and the footer at its end.
+//!
+//! Read first: `Fields` in `fields.rt` with `specs/Fields.antt`, and `give_header` in `headers.rt` with `specs/Header.antt`.
 #![tactic(auto)]
 
 mod fields;

@@ -19,7 +19,7 @@ pub record LinesEdge : Type 0 where
   pub body : BodyEdge
 
 abbrev pub source_line : List ℕ → ℕ → SourceLine
-source_line text number = record { text = text; number = number }
+source_line text number = record { text = text; number = number; notes = [] }
 
 -- white space at a line's end
 abbrev pub trailing_notes : ℕ → List ℕ → List Item

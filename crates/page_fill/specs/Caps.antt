@@ -1,11 +1,22 @@
--- How much a filler holds between two pieces. Source: mandoc(1), "DIAGNOSTICS".
-use Rattle.std.specs.Prelude.{◌≤◌, length}
+-- How much a filler holds between two pieces, and what each edge that a page comes to keeps. Source: mandoc(1), "DIAGNOSTICS".
+use Rattle.std.specs.Prelude.{◌≤◌, Bool, not, ◌&&◌, length}
 use Rattle.page_core_limits.specs.declared.TheConstants.{CELLS}
 use Rattle.page_fill_rows.specs.declared.TheConstants.{TAG_COLUMNS, BLANK_ROWS}
-use Rattle.page_fill.specs.Fill.{Edge}
+use Rattle.page_fill_rows.specs.Sheets.{Sheet}
+use Rattle.page_fill.specs.Fill.{Edge, OpenWord}
 
 -- the cells of the open row, the columns of the open tag, and the blank rows at the end, as far as both are counted
 pub record FillFits (e : Edge) : Type 0 where
   pub open_row : length e.sheet.cells ≤ CELLS
   pub tag : e.sheet.tag_columns ≤ TAG_COLUMNS
   pub blank_rows : e.sheet.blank_rows ≤ BLANK_ROWS
+
+-- the places of the open row's last word lie within the row, which has at most CELLS cells: so it is at each edge that a page comes to
+pub record IsHeld (s : Sheet) : Type 0 where
+  pub gap_within : s.gap ≤ s.word
+  pub word_within : s.word ≤ length s.cells
+  pub bounded : length s.cells ≤ CELLS
+
+-- a word that goes on with the row's last one is not placed: no edge that a page comes to has another
+abbrev pub is_sound : OpenWord → Bool
+is_sound w = not (w.is_joined && w.is_placed)

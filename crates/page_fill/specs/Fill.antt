@@ -1,4 +1,5 @@
--- Filling: how pieces become rows, with the messages between them. A start is what is held between two pieces; from it and a list of
+-- The steps of filling: how pieces become rows, with the messages between them. Trust needs no reading of them, since `words_law` of
+-- page_fill_laws says that they lay what the definition in words does. A start is what is held between two pieces; from it and a list of
 -- pieces follow the rows and messages that are settled, and what is held then. Source: roff(7), "Filling and adjusting"; mandoc(1).
 use Rattle.std.specs.Prelude.{ℕ, ◌+◌, ◌-◌, ◌%◌, Bool, true, false, not, ◌&&◌, ◌||◌, ◌==◌, nat_lt, nat_le, min, List, [], ◌∷◌, length, Option, None, Some, if◌then◌else◌}
 use Rattle.page_core_base.specs.declared.cells.Cell.{Cell}
@@ -6,13 +7,13 @@ use Rattle.page_core_base.specs.declared.cells.Font.{Font}
 use Rattle.page_core_base.specs.declared.note_kinds.NoteKind.TheVariants as notes
 use Rattle.page_core_base.specs.declared.page_settings.Settings.{Settings}
 use Rattle.page_core_base.specs.declared.pieces.Piece.{Piece}
-use Rattle.page_core_base.specs.declared.pieces.Piece.TheVariants.{Text, Glyph, Char, Tab, Blank, Glue, Break, RowEnd, Para, Space, Indent, Literal, Tag, TagEnd, Heading, Column}
+use Rattle.page_core_base.specs.declared.pieces.Piece.TheVariants.{Text, Glyph, Char, Tab, Blank, Glue, Split, Break, RowEnd, Para, Space, Indent, Literal, Tag, TagEnd, Heading, Column}
 use Rattle.page_core_base.specs.declared.places.Place.{Place}
 use Rattle.page_core_base.specs.declared.pieces.TagForm.{TagForm}
 use Rattle.page_core_base.specs.declared.pieces.TagForm.TheVariants as forms
 use Rattle.page_core_base.specs.Messages.{Message, message_about}
 use Rattle.page_core_base.specs.Laid.{Laid, nothing, seq}
-use Rattle.page_fill_rows.specs.Sheets.{Sheet, over, columns, letter, fixed_blanks, new_word, broken, empty_rows, fresh}
+use Rattle.page_fill_rows.specs.Sheets.{Sheet, over, columns, letter, fixed_blanks, new_word, opens, broken, empty_rows, fresh}
 use Rattle.page_fill_rows.specs.Characters.{with_notes, cell_of, characters_of, characters, character, glyph}
 use Rattle.page_fill.specs.declared.words.OpenTag.{OpenTag}
 use Rattle.page_fill.specs.declared.TheConstants.{HANG_MAX, TAB_STOP}
@@ -44,6 +45,10 @@ abbrev pub glued_word : OpenWord → OpenWord
 glued_word w =
     if w.is_open then w
     else record { is_joined = true; is_open = true; is_placed = false; blanks = 0; has_tab = false; is_told = w.is_told }
+
+-- where rows are filled, the row's last word is parted after its cells: what follows is one that goes on without a blank
+abbrev pub parted : Edge → Edge
+parted e = if e.word.is_joined && not e.sheet.literal then record e { sheet = opens e.sheet } else e
 
 -- a new word is placed after a count of blanks
 abbrev pub placed_word : ℕ → OpenWord
@@ -174,6 +179,7 @@ laid_piece e (Char c font place) = one_character e c font place
 laid_piece e (Tab font place) = tab e font place
 laid_piece e (Blank count has_tab) = nothing (record e { word = blanks_wait e.word count has_tab })
 laid_piece e Glue = nothing (record e { word = glued_word e.word })
+laid_piece e Split = nothing (parted e)
 laid_piece e Break = ended e
 laid_piece e RowEnd = row_ended e
 laid_piece e (Para n) = paragraph e n

@@ -2,3 +2,4 @@ pub mod Fill
 pub mod PlainWords
 pub mod TakenWords
 pub mod Caps
+pub mod Items

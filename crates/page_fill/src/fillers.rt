@@ -27,6 +27,7 @@ fn take_piece<O: RowOut>(edge: &mut Edge, piece: Piece<&[u8]>, out: &mut O)
         Piece::Glyph { name, font, place } => edge.glyph(name, font, place, out),
         Piece::Char { c, font, place } => edge.character(c, font, place, out),
         Piece::Tab { font, place } => edge.tab(font, place, out),
+        Piece::Split => edge.part_word(),
         Piece::Break => edge.end_row(out),
         Piece::RowEnd => edge.end_line(out),
         Piece::Para(count) => edge.paragraph(count, out),

@@ -14,7 +14,7 @@ ghost use Rattle.page_fill.specs.TakenWords.{TakesFirstWords};
 
 use crate::taken_words::whole_words;
 use crate::{HANG_MAX, TAB_STOP};
-use page_core_base::{Cell, Font, Note, NoteKind, Output, Place, RowOut, TagForm};
+use page_core_base::{Cell, Font, Note, NoteKind, Output, Place, RowOut, TagForm, last_part_start};
 use page_fill_rows::{
     OpenRow, columns, is_printable_ascii, printable_len, put_character, put_characters, put_glyph,
     put_plain, word_start,
@@ -265,6 +265,7 @@ impl Edge {
             return 0;
         }
         self.sheet.add_words(words, start);
+        self.sheet.part_word(last_part_start(&words[start..]));
         self.word = OpenWord::begun(false);
         end
     }
@@ -422,6 +423,15 @@ impl Edge {
             TagForm::Row | TagForm::Hang if fits => self.word = OpenWord::placed(hang - taken),
             TagForm::Row => return self.end_row(out),
             TagForm::Hang => self.word = OpenWord::placed(1),
+        }
+    }
+
+    /// The row's last word is parted after its cells.
+    pub(crate) fn part_word(&mut self)
+        ensures { self.new ≡ fill.parted self.old }
+    {
+        if self.word.is_joined && !self.sheet.is_literal() {
+            self.sheet.open_word();
         }
     }
 

@@ -62,6 +62,7 @@ fn scripted(script: &[u8], at: usize) -> Piece<&[u8]>
             has_tab: true,
         },
         b'+' => Piece::Glue,
+        b'-' => Piece::Split,
         b'/' => Piece::Break,
         b'|' => Piece::RowEnd,
         b'O' => Piece::Para(0),
@@ -150,7 +151,7 @@ fn filled(
 }
 
 // Scripts, each with the rows that it gives, without a message.
-const SCRIPTS: [(&str, &str); 55] = [
+const SCRIPTS: [(&str, &str); 63] = [
     // Words fill rows.
     ("ab_cde", "ab cde\n"),
     ("ab_cdef", "ab\ncdef\n"),
@@ -168,6 +169,15 @@ const SCRIPTS: [(&str, &str); 55] = [
     ("ab_cd_+ef", "ab\ncdef\n"),
     ("a_.+b", "a b\n"),
     ("a+/b", "a\nb\n"),
+    // A row may end between two parts of a word, where rows are filled.
+    ("ab_c-de", "ab cde\n"),
+    ("ab_cd-ef", "ab cd\nef\n"),
+    ("ab_cdef-g", "ab\ncdefg\n"),
+    ("abc-de-fg", "abcde\nfg\n"),
+    ("ab_cd+-ef", "ab cd\nef\n"),
+    ("ab_-cdef", "ab\ncdef\n"),
+    ("-a", "a\n"),
+    ("Labcd-efg", "abcdefg\n"),
     // Breaks give blank rows.
     ("Pa", "a\n"),
     ("Qa", "\na\n"),
@@ -256,6 +266,26 @@ fn words_with_room_are_taken_at_once(rt: HostRuntime) -> Result<(), Fail> {
     for (script, font, text, taken, rows) in TAKEN {
         let words = Words { text, font, taken };
         let (out, _) = filled(&rt, rt.alloc(), script, Some(words))?;
+        check_bytes(&rt, out.as_slice(), rows.as_bytes());
+    }
+    Ok(())
+}
+
+// The last word that is taken at once goes on after its last part.
+#[test]
+fn last_word_taken_is_parted(rt: HostRuntime) -> Result<(), Fail> {
+    let alloc = rt.alloc();
+    for (more, rows) in [("", "a bc-d\n"), ("e", "a bc-\nde\n")] {
+        let mut out = Vec::new(alloc);
+        let mut messages = Vec::new(alloc);
+        let mut filler = Filler::new(alloc, &narrow_settings())?;
+        let mut sink = TextRows::new(&mut out);
+        let mut notes = TextNotes::new(&mut messages, "t");
+        filler.piece(text("a"), &mut sink, &mut notes)?;
+        let taken = filler.take_words(" bc-d".as_bytes(), Font::R);
+        assert_eq!(rt; taken, 5);
+        filler.piece(text(more), &mut sink, &mut notes)?;
+        filler.finish(&mut sink, &mut notes)?;
         check_bytes(&rt, out.as_slice(), rows.as_bytes());
     }
     Ok(())

@@ -1,34 +1,38 @@
 -- The words of pieces are their marks, and so pieces fill rows as their words do.
-use Rattle.std.proofs.Common.{◌≡◌, ℕ, ◌≤◌, ◌==◌, Bool, true, false, not, ◌&&◌, ◌||◌, List, [], ◌∷◌, ◌++◌, length, map, replicate, inl, inr, refl, sym, subst, ap, ◌∙◌, append_assoc, arith, lit≤}
+use Rattle.std.proofs.Common.{◌≡◌, ℕ, ◌==◌, Bool, true, false, not, ◌&&◌, ◌||◌, List, [], ◌∷◌, ◌++◌, length, map, replicate, inl, inr, refl, sym, subst, ap, ◌∙◌, append_assoc}
 use Rattle.std.specs.Prelude.{if◌then◌else◌}
-use Rattle.std.proofs.lemmas.Bool.{cases_Bool}
+use Rattle.std.proofs.lemmas.Bool.{cases_Bool, and_parts}
 use Rattle.std.proofs.lemmas.List.{map-append}
 use Rattle.page_core_base.specs.declared.cells.Cell.{Cell}
 use Rattle.page_core_base.specs.declared.cells.Font.{Font}
 use Rattle.page_core_base.specs.declared.page_settings.Output.{Output}
 use Rattle.page_core_base.specs.declared.pieces.Piece.{Piece}
-use Rattle.page_core_base.specs.declared.pieces.Piece.TheVariants.{Text, Glyph, Char, Tab, Blank, Glue, Break, RowEnd, Para, Space, Indent, Literal, Tag, TagEnd, Heading, Column}
+use Rattle.page_core_base.specs.declared.pieces.Piece.TheVariants.{Text, Glyph, Char, Tab, Blank, Glue, Split, Break, RowEnd, Para, Space, Indent, Literal, Tag, TagEnd, Heading, Column}
 use Rattle.page_core_base.specs.declared.places.Place.{Place}
 use Rattle.page_core_base.specs.Messages.{Message}
+use Rattle.page_core_base.specs.Rows.{LaidRow, is_blank_row}
 use Rattle.page_core_base.specs.Laid.{Laid, join, seq}
+use Rattle.page_core_base.specs.Pieces.{Item}
+use Rattle.page_core_base.specs.Pieces as items
 use Rattle.page_core_limits.specs.declared.TheConstants.{CELLS}
 use Rattle.page_core_tables.specs.Printed.{Printing, char_printed, glyph_printed}
 use Rattle.page_fill.specs.declared.words.OpenWord.{OpenWord}
 use Rattle.page_fill.specs.declared.words.Edge.{Edge}
-use Rattle.page_fill_rows.specs.Sheets.{Sheet, over, blank, broken}
-use Rattle.page_fill_rows.specs.Characters.{cell_of, cells_of, characters_of, unknown_notes}
-use Rattle.page_fill.specs.Fill.{laid, ended, tab_notes}
-use Rattle.page_fill.specs.Fill as fill
-use Rattle.page_fill_laws.specs.InWords.{Mark, told, opened, lettered, letters_of, printed_marks, character_marks, text_marks, tab_marks, blank_marks, opening_marks, after_cell, are_of_words, piece_marks, word_after, marks, is_sound}
-use Rattle.page_fill_laws.specs.Filled.{Part, shown, noted, Word, Row, filling, at_break, filled}
-use Rattle.page_fill_laws.specs.PieceWords.{cell_parts, printed_parts, text_parts, tab_parts, Words, and_then, words_from, words_of, frame_of, open_row_of, words_between, going_on, IsHeld}
-use Rattle.page_fill_laws.proofs.InWordsRun.{run, run-append}
-use Rattle.page_fill_laws.proofs.InWordsPieces.{AreStanding, laid-run}
-use Rattle.page_fill_laws.proofs.FilledWords.{mark_of, marks_of, word_marks, words_marks, first-run, first-bounded, run-frame, filling-run, rest-run, rest-bounded}
+use Rattle.page_fill_rows.specs.Sheets.{Sheet, over, blank, passes, letter, space, more_blank_rows}
+use Rattle.page_fill_rows.specs.Characters.{cell_of, cells_of, characters_of, unknown_notes, with_notes}
+use Rattle.page_fill.specs.Fill.{laid_piece, tab_notes}
+use Rattle.page_fill.specs.Items.{laid_items}
+use Rattle.page_fill_laws.specs.InWords.{Mark, told, opened, spaced, lettered, letters_of, printed_marks, character_marks, text_marks, tab_marks, blank_marks, opening_marks, is_of_words, piece_marks}
+use Rattle.page_fill_laws.specs.Filled.{Part, shown, noted, Row, filling}
+use Rattle.page_fill.specs.Caps.{IsHeld, is_sound}
+use Rattle.page_fill_laws.specs.PieceWords.{cell_parts, printed_parts, text_parts, tab_parts, Words, and_then, words_from, words_of, word_after_items, frame_of, open_row_of, blank_rows_after, heading_after, with_row, next_edge, going_on, words_laid, after_cell, word_after}
+use Rattle.page_fill_laws.proofs.InWordsRun.{step, run, run-append}
+use Rattle.page_fill_laws.proofs.InWordsPieces.{AreStanding, with_word, piece-run, stands-after, sound-after, run-literal}
+use Rattle.page_fill_laws.proofs.FilledWords.{mark_of, marks_of, word_marks, words_marks, run-held, run-frame, filling-run, rest-run}
 
 -- ---- marks of parts
 
-cell-marks : (place : Place) (cells : List Cell) → letters_of place cells ≡ marks_of (cell_parts place cells)
+pub cell-marks : (place : Place) (cells : List Cell) → letters_of place cells ≡ marks_of (cell_parts place cells)
 cell-marks place [] = refl
 cell-marks place (cell ∷ cells) = ap (λ ms. lettered cell place ∷ ms) (cell-marks place cells)
 
@@ -70,7 +74,7 @@ word-of-marks : (stands : Bool) (notes : List Message) (n : ℕ) (place : Place)
 word-of-marks true notes n place parts = ap (λ ms. map told notes ++ (opened ∷ ms)) (blanks-marks n place parts)
 word-of-marks false notes n place parts = refl
 
-and-then-marks : (literal empty : Bool) (w : OpenWord) (place : Place) (ms : List Mark) (parts : List Part) (rest : Words) → ms ≡ marks_of parts
+pub and-then-marks : (literal empty : Bool) (w : OpenWord) (place : Place) (ms : List Mark) (parts : List Part) (rest : Words) → ms ≡ marks_of parts
     → (opening_marks literal empty w place ++ ms) ++ all_marks rest ≡ all_marks (and_then literal empty w place parts rest)
 and-then-marks literal empty w place ms parts rest is = elim (cases_Bool w.is_joined) [
   | inl j ↦
@@ -108,6 +112,7 @@ piece-words output literal empty w (Tab font place) rest =
     and-then-marks literal empty w place (tab_marks (not is_told) place ++ lettered (cell_of font 32) place ∷ []) (tab_parts is_told font place) rest (tab-part-marks is_told font place)
 piece-words output literal empty w (Blank count has_tab) rest = refl
 piece-words output literal empty w Glue rest = refl
+piece-words output literal empty w Split rest = elim (cases_Bool (w.is_joined && not literal)) [ inl b ↦ rw b refl | inr b ↦ rw b refl ]
 piece-words output literal empty w Break rest = refl
 piece-words output literal empty w RowEnd rest = refl
 piece-words output literal empty w (Para n) rest = refl
@@ -119,71 +124,101 @@ piece-words output literal empty w TagEnd rest = refl
 piece-words output literal empty w Heading rest = refl
 piece-words output literal empty w (Column n) rest = refl
 
-pub pieces-words : (output : Output) (literal empty : Bool) (w : OpenWord) (ps : List (Piece (List ℕ))) → marks output literal empty w ps ≡ all_marks (words_of output literal empty w ps)
-unfolding marks words_of
-pieces-words output literal empty w [] = refl
-pieces-words output literal empty w (p ∷ ps) =
-    let next = word_after literal w p in
-    ap (λ ms. piece_marks output literal empty w p ++ ms) (pieces-words output literal empty next ps)
-    ∙ piece-words output literal empty w p (words_of output literal empty next ps)
+-- ---- rows at the end
 
--- ---- from an edge without an open row
+blank_rows-append : (n : ℕ) (xs ys : List LaidRow) → blank_rows_after (blank_rows_after n xs) ys ≡ blank_rows_after n (xs ++ ys)
+blank_rows-append n [] ys = refl
+blank_rows-append n (x ∷ xs) ys = blank_rows-append (if is_blank_row x then more_blank_rows n 1 else 0) xs ys
 
-abbrev open_row : Edge → Row
-open_row f = open_row_of f.sheet
+heading-append : (b : Bool) (xs ys : List LaidRow) → heading_after (heading_after b xs) ys ≡ heading_after b (xs ++ ys)
+heading-append b [] ys = refl
+heading-append b (x ∷ xs) ys = heading-append false xs ys
 
-marks-words : (s : Sheet) (words : Words) → s.cells ≡ [] → s.gap ≡ 0 → (first : Word) → first.notes ≡ [] → first.parts ≡ words.first
-    → over (run s (all_marks words)) open_row_of ≡ filling (frame_of s) (open_row_of s) (first ∷ words.later)
-unfolding filling
-marks-words s words none start first notes parts =
+-- ---- the whole sheet, by its open row and the rows that were given
+
+with_row-twice : (s : Sheet) (a b : Row) (xs ys : List LaidRow) → with_row (with_row s a xs) b ys ≡ with_row s b (xs ++ ys)
+with_row-twice s a b xs ys = rw (blank_rows-append s.blank_rows xs ys, heading-append s.heading xs ys) refl
+
+step-row : (s : Sheet) (m : Mark) → (step s m).edge ≡ with_row s (open_row_of (step s m).edge) (step s m).rows
+unfolding letter space
+step-row s (told m) = refl
+step-row s opened = refl
+step-row s (spaced place) = elim (cases_Bool (length s.cells == 0)) [
+  | inl z ↦ rw z refl
+  | inr z ↦ elim (cases_Bool (passes s blank)) [
+    | inl p ↦ rw (z, p) refl
+    | inr p ↦ elim (cases_Bool (length s.cells == CELLS)) [ inl q ↦ rw (z, p, q) refl | inr q ↦ rw (z, p, q) refl ]
+  ]
+]
+step-row s (lettered cell place) = elim (cases_Bool (passes s cell)) [
+  | inl p ↦ rw p refl
+  | inr p ↦ elim (cases_Bool (length s.cells == CELLS)) [
+    | inl q ↦ rw (p, q) refl
+    | inr q ↦ elim (cases_Bool (length s.cells == 0)) [ inl z ↦ rw (p, q, z) refl | inr z ↦ rw (p, q, z) refl ]
+  ]
+]
+
+run-row : (s : Sheet) (ms : List Mark) → (run s ms).edge ≡ with_row s (open_row_of (run s ms).edge) (run s ms).rows
+unfolding run
+run-row s [] = refl
+run-row s (m ∷ ms) =
+    let x = step s m in
+    let y = run x.edge ms in
+    run-row x.edge ms
+    ∙ (ap (λ (t : Sheet). with_row t (open_row_of y.edge) y.rows) (step-row s m)
+    ∙ with_row-twice s (open_row_of x.edge) (open_row_of y.edge) x.rows y.rows)
+
+-- ---- words from an edge
+
+words-run : (s : Sheet) (words : Words) → IsHeld s → over (run s (all_marks words)) open_row_of ≡ going_on s words
+words-run s words h =
     let x = run s (marks_of words.first) in
-    let row = first-run s words.first start in
-    let none-bound : length s.cells ≤ CELLS = rw none (lit≤ tt) in
-    let bound : length x.edge.cells ≤ CELLS =
-    subst (λ (r : Row). length r.cells ≤ CELLS) (sym (ap (λ l. l.edge) row)) (first-bounded (frame_of s) (open_row_of s) words.first none-bound) in
-    let empty : (length s.cells == 0) ≡ true = rw none refl in
-    rw (notes, empty, parts)
-    (ap (λ l. over l open_row_of) (run-append s (marks_of words.first) (words_marks words.later))
-    ∙ (ap (λ l. join (over x open_row_of) l) (filling-run x.edge words.later bound)
+    ap (λ l. over l open_row_of) (run-append s (marks_of words.first) (words_marks words.later))
+    ∙ (ap (λ l. join (over x open_row_of) l) (filling-run x.edge words.later (run-held s (marks_of words.first) h))
     ∙ (ap (λ f. join (over x open_row_of) (filling f (open_row_of x.edge) words.later)) (run-frame s (marks_of words.first))
-    ∙ ap (λ l. seq l (λ r. filling (frame_of s) r words.later)) row)))
+    ∙ ap (λ l. seq l (λ r. filling (frame_of s) r words.later)) (rest-run s words.first h)))
 
-break-row : (e : Edge) → over (ended e) open_row ≡ at_break (open_row e)
-unfolding ended broken
-break-row e = elim (cases_Bool (length e.sheet.cells == 0)) [ inl z ↦ rw z refl | inr z ↦ rw z refl ]
+-- what marks do is what the words do on the whole edge
+pub edge-run : (e : Edge) (w : OpenWord) (words : Words) → IsHeld e.sheet
+    → over (run e.sheet (all_marks words)) (with_word e w) ≡ next_edge e w (going_on e.sheet words)
+edge-run e w words h =
+    let x = run e.sheet (all_marks words) in
+    ap (λ (t : Sheet). over (record { rows = x.rows; notes = x.notes; edge = t }) (with_word e w)) (run-row e.sheet (all_marks words))
+    ∙ ap (next_edge e w) (words-run e.sheet words h)
 
-pub between-breaks : (e : Edge) (ps : List (Piece (List ℕ))) → e.sheet.cells ≡ [] → e.sheet.gap ≡ 0 → is_sound e.word ≡ true → are_of_words e.sheet.literal ps ≡ true
-    → over (fill.filled e ps) open_row ≡ filled (frame_of e.sheet) (open_row_of e.sheet) (words_between e ps)
-between-breaks e ps none start sound words =
-    let standing : AreStanding e true = rw none refl in
-    let all = words_of e.output e.sheet.literal true e.word ps in
-    let l = laid e ps in
-    let rows : over l open_row ≡ filling (frame_of e.sheet) (open_row_of e.sheet) (words_between e ps) =
-    ap (λ (m : Laid Edge). over m open_row) (laid-run e e.sheet.literal true ps refl sound standing words)
-    ∙ (ap (λ ms. over (run e.sheet ms) open_row_of) (pieces-words e.output e.sheet.literal true e.word ps)
-    ∙ marks-words e.sheet all none start (record { notes = []; blanks = 0; place = record { line = 0; column = 0 }; parts = all.first }) refl refl) in
-    ap (λ m. join (over l open_row) m) (break-row l.edge) ∙ ap (λ m. seq m at_break) rows
+-- ---- items
 
-pub between-breaks-held : (e : Edge) (ps : List (Piece (List ℕ))) → e.sheet.cells ≡ [] → IsHeld e.sheet → is_sound e.word ≡ true → are_of_words e.sheet.literal ps ≡ true
-    → over (fill.filled e ps) open_row ≡ filled (frame_of e.sheet) (open_row_of e.sheet) (words_between e ps)
-between-breaks-held e ps none h sound words =
-    let len : length e.sheet.cells ≡ 0 = ap length none in
-    let start : e.sheet.gap ≡ 0 = omega (arith, len, h.gap_within, h.word_within) in
-    between-breaks e ps none start sound words
+-- all of them are of words
+abbrev pub are_items_of_words : Bool → List Item → Bool
+are_items_of_words literal [] = true
+are_items_of_words literal (items.noted m ∷ more) = are_items_of_words literal more
+are_items_of_words literal (items.shown p ∷ more) = is_of_words literal p && are_items_of_words literal more
 
--- ---- from any edge
+pub items-run : (e : Edge) (literal empty : Bool) (list : List Item) → e.sheet.literal ≡ literal → is_sound e.word ≡ true → AreStanding e empty → are_items_of_words literal list ≡ true
+    → laid_items e list ≡ over (run e.sheet (all_marks (words_of e.output literal empty e.word list))) (with_word e (word_after_items literal e.word list))
+unfolding laid_items words_of word_after_items run
+items-run e literal empty [] same h stand k = refl
+items-run e literal empty (items.noted m ∷ more) same h stand k = ap (λ (l : Laid Edge). with_notes (m ∷ []) l) (items-run e literal empty more same h stand k)
+items-run e literal empty (items.shown p ∷ more) same h stand k =
+    let parts = and_parts (is_of_words literal p) (are_items_of_words literal more) k in
+    let ms = piece_marks e.output literal empty e.word p in
+    let x = run e.sheet (piece_marks e.output literal empty e.word p) in
+    let w = word_after literal e.word p in
+    let rest = words_of e.output literal empty (word_after literal e.word p) more in
+    let Runs : Bool → Type 0 = λ b. laid_piece e p ≡ over (run e.sheet (piece_marks e.output b empty e.word p)) (with_word e (word_after b e.word p)) in
+    let Fits : Bool → Type 0 = λ b. is_of_words b p ≡ true in
+    let Stands : Bool → Type 0 = λ b. AreStanding (with_word e (word_after b e.word p) (run e.sheet (piece_marks e.output b empty e.word p)).edge) empty in
+    let first = subst Runs same (piece-run e empty p stand (subst Fits (sym same) parts.0)) in
+    let still = subst Stands same (stands-after e empty p h stand) in
+    let later = items-run (with_word e w x.edge) literal empty more (run-literal e.sheet ms ∙ same) (sound-after literal e.word p h) still parts.1 in
+    ap (λ (l : Laid Edge). seq l (λ f. laid_items f more)) first
+    ∙ (ap (λ (l : Laid Edge). join (over x (with_word e w)) l) later
+    ∙ (ap (λ l. over l (with_word e (word_after_items literal w more))) (sym (run-append e.sheet ms (all_marks rest)))
+    ∙ ap (λ l. over (run e.sheet l) (with_word e (word_after_items literal w more))) (piece-words e.output literal empty e.word p rest)))
 
-pub from-any-edge : (e : Edge) (ps : List (Piece (List ℕ))) → IsHeld e.sheet → is_sound e.word ≡ true → are_of_words e.sheet.literal ps ≡ true
-    → over (laid e ps) open_row ≡ going_on e ps
-from-any-edge e ps h sound words =
-    let s = e.sheet in
-    let all = words_of e.output s.literal (length s.cells == 0) e.word ps in
-    let x = run s (marks_of all.first) in
-    let row = rest-run s all.first h in
-    let bound : length x.edge.cells ≤ CELLS = subst (λ (r : Row). length r.cells ≤ CELLS) (sym (ap (λ l. l.edge) row)) (rest-bounded s all.first h) in
-    ap (λ (m : Laid Edge). over m open_row) (laid-run e s.literal (length s.cells == 0) ps refl sound refl words)
-    ∙ (ap (λ ms. over (run s ms) open_row_of) (pieces-words e.output s.literal (length s.cells == 0) e.word ps)
-    ∙ (ap (λ l. over l open_row_of) (run-append s (marks_of all.first) (words_marks all.later))
-    ∙ (ap (λ l. join (over x open_row_of) l) (filling-run x.edge all.later bound)
-    ∙ (ap (λ f. join (over x open_row_of) (filling f (open_row_of x.edge) all.later)) (run-frame s (marks_of all.first))
-    ∙ ap (λ l. seq l (λ r. filling (frame_of s) r all.later)) row))))
+pub words-law : (e : Edge) (list : List Item) → IsHeld e.sheet → is_sound e.word ≡ true → are_items_of_words e.sheet.literal list ≡ true → laid_items e list ≡ words_laid e list
+unfolding words_laid
+words-law e list h sound k =
+    let literal = e.sheet.literal in
+    let empty = length e.sheet.cells == 0 in
+    items-run e literal empty list refl sound refl k ∙ edge-run e (word_after_items literal e.word list) (words_of e.output literal empty e.word list) h

@@ -23,7 +23,7 @@ characters-append output s (c ∷ cs) ys font place =
     ∙ sym (join_assoc x (characters output x.edge cs font place) (characters output (characters output x.edge cs font place).edge ys font place))
 
 -- a text that begins a word
-first-text : (e : Edge) (xs : List ℕ) (font : Font) (place : Place) → (length xs == 0) ≡ false
+pub first-text : (e : Edge) (xs : List ℕ) (font : Font) (place : Place) → (length xs == 0) ≡ false
     → text e xs font place ≡ seq (opening e place) (λ f. over (characters f.output f.sheet xs font place) (on_sheet f))
 unfolding text
 first-text e xs font place some = rw some refl
@@ -48,7 +48,7 @@ unfolding opening
 opening-new e place new = rw new refl
 
 -- a text that begins a word, as rows of a sheet
-new-text : (e : Edge) (xs : List ℕ) (font : Font) (place : Place) → e.word.is_joined ≡ false → (length xs == 0) ≡ false
+pub new-text : (e : Edge) (xs : List ℕ) (font : Font) (place : Place) → e.word.is_joined ≡ false → (length xs == 0) ≡ false
     → text e xs font place ≡ over (seq (begun_sheet e place) (λ s. characters e.output s xs font place)) (going e (tells_tab e))
 new-text e xs font place new some =
     first-text e xs font place some ∙ ap (λ (l : Laid Edge). seq l (λ f. over (characters f.output f.sheet xs font place) (on_sheet f))) (opening-new e place new)
@@ -64,7 +64,7 @@ two-texts e xs ys font place new some more =
     ∙ (ap (λ l. over l (going e told)) (join_assoc b x (characters e.output x.edge ys font place) ∙ ap (λ (l : Laid Sheet). join b l) (sym (characters-append e.output b.edge xs ys font place)))
     ∙ sym (new-text e (xs ++ ys) font place new more)))
 
-seq-nothing : (l : Laid Edge) → seq l (λ f. nothing f) ≡ l
+pub seq-nothing : (l : Laid Edge) → seq l (λ f. nothing f) ≡ l
 seq-nothing l = rw (append-nil l.rows, append-nil l.notes) refl
 
 -- what comes after the first text: blanks that wait, glue and the second text

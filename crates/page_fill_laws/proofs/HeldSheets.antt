@@ -1,5 +1,5 @@
 -- The places of the open row's last word lie within the row, at each edge that a page comes to.
-use Rattle.std.proofs.Common.{◌≡◌, ℕ, zero, suc, ◌+◌, ◌-◌, ◌<◌, ◌==◌, nat_lt, Bool, true, false, List, [], ◌∷◌, ◌++◌, length, drop, replicate, Option, None, Some, inl, inr, refl, arith, length-append, length-drop, lit≤}
+use Rattle.std.proofs.Common.{◌≡◌, ℕ, zero, suc, ◌+◌, ◌-◌, ◌<◌, ◌==◌, nat_lt, Bool, true, false, not, ◌&&◌, List, [], ◌∷◌, ◌++◌, length, drop, replicate, Option, None, Some, inl, inr, refl, arith, length-append, length-drop, lit≤}
 use Rattle.std.specs.Prelude.{if◌then◌else◌}
 use Rattle.std.proofs.lemmas.Bool.{cases_Bool}
 use Rattle.std.proofs.lemmas.Bool.Decides.{nat_tests}
@@ -7,7 +7,7 @@ use Rattle.page_core_base.specs.declared.cells.Cell.{Cell}
 use Rattle.page_core_base.specs.declared.cells.Font.{Font}
 use Rattle.page_core_base.specs.declared.page_settings.Output.{Output}
 use Rattle.page_core_base.specs.declared.pieces.Piece.{Piece}
-use Rattle.page_core_base.specs.declared.pieces.Piece.TheVariants.{Text, Glyph, Char, Tab, Blank, Glue, Break, RowEnd, Para, Space, Indent, Literal, Tag, TagEnd, Heading, Column}
+use Rattle.page_core_base.specs.declared.pieces.Piece.TheVariants.{Text, Glyph, Char, Tab, Blank, Glue, Split, Break, RowEnd, Para, Space, Indent, Literal, Tag, TagEnd, Heading, Column}
 use Rattle.page_core_base.specs.declared.pieces.TagForm.{TagForm}
 use Rattle.page_core_base.specs.declared.pieces.TagForm.TheVariants as forms
 use Rattle.page_core_base.specs.declared.places.Place.{Place}
@@ -19,9 +19,9 @@ use Rattle.page_fill.specs.declared.words.Edge.{Edge}
 use Rattle.page_fill_rows.specs.Sheets.{Sheet, blank, passes, letter, letters, space, spaces, new_word, opens, broken, empty_rows, fresh}
 use Rattle.page_fill_rows.specs.Characters.{cells_of, cell_of, characters_of, character, characters, glyph}
 use Rattle.page_fill.specs.Fill.{laid_piece, text, one_character, one_glyph, tab, opening, ended, paragraph, spaced, row_ended, heading, tag_ended, after_tag, fits_hang, without_tag, stands, to_stop, missing_rows}
-use Rattle.page_fill_laws.specs.PieceWords.{IsHeld}
+use Rattle.page_fill.specs.Caps.{IsHeld}
 
-letter-held : (s : Sheet) (cell : Cell) (place : Place) → IsHeld s → IsHeld (letter s cell place).edge
+pub letter-held : (s : Sheet) (cell : Cell) (place : Place) → IsHeld s → IsHeld (letter s cell place).edge
 unfolding letter
 letter-held s cell place h = elim (cases_Bool (passes s cell)) [
   | inl p ↦
@@ -41,7 +41,7 @@ letter-held s cell place h = elim (cases_Bool (passes s cell)) [
   ]
 ]
 
-space-held : (s : Sheet) (place : Place) → IsHeld s → IsHeld (space s place).edge
+pub space-held : (s : Sheet) (place : Place) → IsHeld s → IsHeld (space s place).edge
 unfolding space
 space-held s place h = elim (cases_Bool (length s.cells == 0)) [
   | inl z ↦ rw z h
@@ -57,7 +57,7 @@ space-held s place h = elim (cases_Bool (length s.cells == 0)) [
   ]
 ]
 
-letters-held : (s : Sheet) (cells : List Cell) (place : Place) → IsHeld s → IsHeld (letters s cells place).edge
+pub letters-held : (s : Sheet) (cells : List Cell) (place : Place) → IsHeld s → IsHeld (letters s cells place).edge
 unfolding letters
 letters-held s [] place h = h
 letters-held s (cell ∷ cells) place h = letters-held (letter s cell place).edge cells place (letter-held s cell place h)
@@ -67,14 +67,14 @@ unfolding spaces
 spaces-held s zero place h = h
 spaces-held s (suc n) place h = spaces-held (space s place).edge n place (space-held s place h)
 
-opens-held : (s : Sheet) → IsHeld s → IsHeld (opens s)
+pub opens-held : (s : Sheet) → IsHeld s → IsHeld (opens s)
 opens-held s h = record { gap_within = omega arith; word_within = omega arith; bounded = h.bounded }
 
 new-word-held : (s : Sheet) (n : ℕ) (stands : Bool) (place : Place) → IsHeld s → IsHeld (new_word s n stands place).edge
 new-word-held s n true place h = letters-held (opens s) (replicate n blank) place (opens-held s h)
 new-word-held s n false place h = spaces-held (opens s) n place (opens-held s h)
 
-opening-held : (e : Edge) (place : Place) → IsHeld e.sheet → IsHeld (opening e place).edge.sheet
+pub opening-held : (e : Edge) (place : Place) → IsHeld e.sheet → IsHeld (opening e place).edge.sheet
 unfolding opening
 opening-held e place h = elim (cases_Bool e.word.is_joined) [
   | inl j ↦ rw j h
@@ -159,6 +159,7 @@ piece-held e (Char c font place) h = character-held (opening e place).edge.outpu
 piece-held e (Tab font place) h = tab-held e font place h
 piece-held e (Blank count has_tab) h = h
 piece-held e Glue h = h
+piece-held e Split h = elim (cases_Bool (e.word.is_joined && not e.sheet.literal)) [ inl b ↦ rw b (opens-held e.sheet h) | inr b ↦ rw b h ]
 piece-held e Break h = ended-held e h
 piece-held e RowEnd h = row_ended-held e h
 piece-held e (Para n) h = empty-held (ended e).edge.sheet (missing_rows (ended e).edge.sheet n) (ended-held e h)

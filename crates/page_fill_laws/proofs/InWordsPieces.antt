@@ -6,7 +6,7 @@ use Rattle.page_core_base.specs.declared.cells.Cell.{Cell}
 use Rattle.page_core_base.specs.declared.cells.Font.{Font}
 use Rattle.page_core_base.specs.declared.page_settings.Output.{Output}
 use Rattle.page_core_base.specs.declared.pieces.Piece.{Piece}
-use Rattle.page_core_base.specs.declared.pieces.Piece.TheVariants.{Text, Glyph, Char, Tab, Blank, Glue, Break, RowEnd, Para, Space, Indent, Literal, Tag, TagEnd, Heading, Column}
+use Rattle.page_core_base.specs.declared.pieces.Piece.TheVariants.{Text, Glyph, Char, Tab, Blank, Glue, Split, Break, RowEnd, Para, Space, Indent, Literal, Tag, TagEnd, Heading, Column}
 use Rattle.page_core_base.specs.declared.places.Place.{Place}
 use Rattle.page_core_base.specs.Laid.{Laid, nothing, join, seq}
 use Rattle.page_core_tables.specs.Printed.{Printing, char_printed, glyph_printed}
@@ -16,10 +16,12 @@ use Rattle.page_fill_rows.specs.Sheets.{Sheet, over, blank, letter, letters, spa
 use Rattle.page_fill_rows.specs.Characters.{with_notes, cell_of, cells_of, characters_of, unknown_notes, put, character, characters, glyph}
 use Rattle.page_fill.specs.declared.words.Edge.{Edge}
 use Rattle.page_fill.specs.Fill.{laid, laid_piece, text, one_character, one_glyph, tab, opening, tab_notes, tells_tab, stands, fixed_tab, filled_tab, on_sheet, begun_word, blanks_wait, opened_word, glued_word}
-use Rattle.page_fill_laws.specs.InWords.{Mark, told, opened, spaced, lettered, letters_of, printed_marks, character_marks, text_marks, tab_marks, blank_marks, opening_marks, after_cell, is_of_words, are_of_words, piece_marks, word_after, marks, words_after, is_sound, laid_in_words}
+use Rattle.page_fill_laws.specs.InWords.{Mark, told, opened, spaced, lettered, letters_of, printed_marks, character_marks, text_marks, tab_marks, blank_marks, opening_marks, is_of_words, are_of_words, piece_marks, marks, words_after, laid_in_words}
+use Rattle.page_fill.specs.Caps.{is_sound}
+use Rattle.page_fill_laws.specs.PieceWords.{after_cell, word_after}
 use Rattle.page_fill_laws.proofs.InWordsRun.{step, run, run-append, rows-run}
 
-letters-run : (s : Sheet) (cells : List Cell) (place : Place) → letters s cells place ≡ run s (letters_of place cells)
+pub letters-run : (s : Sheet) (cells : List Cell) (place : Place) → letters s cells place ≡ run s (letters_of place cells)
 unfolding letters run
 letters-run s [] place = refl
 letters-run s (cell ∷ cells) place = ap (λ l. join (letter s cell place) l) (letters-run (letter s cell place).edge cells place)
@@ -122,7 +124,7 @@ two-runs e w xs ys = ap (λ l. over l (with_word e w)) (sym (run-append e.sheet 
 abbrev pub AreStanding : Edge → Bool → Type 0
 AreStanding e empty = stands e ≡ (e.sheet.literal || (e.word.is_placed && empty))
 
-opening-run : (e : Edge) (empty : Bool) (place : Place) → AreStanding e empty
+pub opening-run : (e : Edge) (empty : Bool) (place : Place) → AreStanding e empty
     → opening e place ≡ over (run e.sheet (opening_marks e.sheet.literal empty e.word place)) (with_word e (after_cell e.sheet.literal e.word))
 unfolding opening run
 opening-run e empty place same = elim (cases_Bool e.word.is_joined) [
@@ -179,7 +181,7 @@ tab_cell-run e w xs font place =
     ap (λ (l : Laid Sheet). over (join (run e.sheet xs) l) (with_word e (record w { is_told = true }))) last
     ∙ ap (λ l. over l (with_word e (record w { is_told = true }))) (sym (run-append e.sheet xs (tab_marks (not w.is_told) place ++ lettered (cell_of font 32) place ∷ [])))
 
-tab-run : (e : Edge) (empty : Bool) (font : Font) (place : Place) → AreStanding e empty → e.sheet.literal ≡ false
+pub tab-run : (e : Edge) (empty : Bool) (font : Font) (place : Place) → AreStanding e empty → e.sheet.literal ≡ false
     → tab e font place ≡ over (run e.sheet (opening_marks e.sheet.literal empty e.word place ++ (tab_marks (not (after_cell e.sheet.literal e.word).is_told) place ++ lettered (cell_of font 32) place ∷ [])))
     (with_word e (record (after_cell e.sheet.literal e.word) { is_told = true }))
 unfolding tab
@@ -206,6 +208,7 @@ piece-run e empty (Char c font place) h k = one_character-run e empty c font pla
 piece-run e empty (Tab font place) h k = tab-run e empty font place h (elim (cases_Bool e.sheet.literal) [ inl t ↦ absurd (let q : false ≡ true = rw t at k in cc) | inr t ↦ t ])
 piece-run e empty (Blank count has_tab) h k = refl
 piece-run e empty Glue h k = refl
+piece-run e empty Split h k = elim (cases_Bool (e.word.is_joined && not e.sheet.literal)) [ inl b ↦ rw b refl | inr b ↦ rw b refl ]
 piece-run e empty Break h k = cc
 piece-run e empty RowEnd h k = cc
 piece-run e empty (Para n) h k = cc
@@ -235,6 +238,7 @@ sound-after literal w (Char c font place) h = sound-unplaced (after_cell literal
 sound-after literal w (Tab font place) h = sound-unplaced (record (after_cell literal w) { is_told = true }) (unplaced-cell literal w h)
 sound-after literal w (Blank count has_tab) h = elim (cases_Bool w.is_placed) [ inl p ↦ rw p (rw p at h) | inr p ↦ rw p refl ]
 sound-after literal w Glue h = elim (cases_Bool w.is_open) [ inl o ↦ rw o h | inr o ↦ rw o refl ]
+sound-after literal w Split h = h
 sound-after literal w Break h = h
 sound-after literal w RowEnd h = h
 sound-after literal w (Para n) h = h
@@ -271,6 +275,7 @@ stands-after e empty (Char c font place) h same = unplaced-stands e empty (after
 stands-after e empty (Tab font place) h same = unplaced-stands e empty (record (after_cell e.sheet.literal e.word) { is_told = true }) (run e.sheet (opening_marks e.sheet.literal empty e.word place ++ (tab_marks (not (after_cell e.sheet.literal e.word).is_told) place ++ lettered (cell_of font 32) place ∷ []))).edge (unplaced-cell e.sheet.literal e.word h)
 stands-after e empty (Blank count has_tab) h same = same-stands e empty (blanks_wait e.word count has_tab) (λ u. rw u refl) same
 stands-after e empty Glue h same = same-stands e empty (glued_word e.word) (λ u. elim (cases_Bool e.word.is_open) [ inl o ↦ rw o u | inr o ↦ rw o refl ]) same
+stands-after e empty Split h same = elim (cases_Bool (e.word.is_joined && not e.sheet.literal)) [ inl b ↦ rw b same | inr b ↦ rw b same ]
 stands-after e empty Break h same = same-stands e empty e.word (λ u. u) same
 stands-after e empty RowEnd h same = same-stands e empty e.word (λ u. u) same
 stands-after e empty (Para n) h same = same-stands e empty e.word (λ u. u) same

@@ -3,7 +3,9 @@ pub mod InWordsPieces
 pub mod SoundWords
 pub mod GlueLaw
 pub mod WordLaw
+pub mod PartLaw
 pub mod Examples
 pub mod FilledWords
 pub mod FilledPieces
 pub mod HeldSheets
+pub mod FillingLaw

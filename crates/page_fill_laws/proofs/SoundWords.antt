@@ -1,10 +1,10 @@
 -- A word that goes on is never one that is placed.
-use Rattle.std.proofs.Common.{◌≡◌, ℕ, ◌==◌, true, false, List, length, Option, None, Some, inl, inr, refl}
+use Rattle.std.proofs.Common.{◌≡◌, ℕ, ◌==◌, true, false, not, ◌&&◌, List, length, Option, None, Some, inl, inr, refl}
 use Rattle.std.specs.Prelude.{if◌then◌else◌}
 use Rattle.std.proofs.lemmas.Bool.{cases_Bool}
 use Rattle.page_core_base.specs.declared.cells.Font.{Font}
 use Rattle.page_core_base.specs.declared.pieces.Piece.{Piece}
-use Rattle.page_core_base.specs.declared.pieces.Piece.TheVariants.{Text, Glyph, Char, Tab, Blank, Glue, Break, RowEnd, Para, Space, Indent, Literal, Tag, TagEnd, Heading, Column}
+use Rattle.page_core_base.specs.declared.pieces.Piece.TheVariants.{Text, Glyph, Char, Tab, Blank, Glue, Split, Break, RowEnd, Para, Space, Indent, Literal, Tag, TagEnd, Heading, Column}
 use Rattle.page_core_base.specs.declared.places.Place.{Place}
 use Rattle.page_core_base.specs.declared.pieces.TagForm.{TagForm}
 use Rattle.page_core_base.specs.declared.pieces.TagForm.TheVariants as forms
@@ -13,7 +13,7 @@ use Rattle.page_fill.specs.declared.words.OpenTag.{OpenTag}
 use Rattle.page_fill_rows.specs.Characters.{characters_of}
 use Rattle.page_fill.specs.declared.words.Edge.{Edge}
 use Rattle.page_fill.specs.Fill.{laid_piece, text, one_character, one_glyph, tab, opening, ended, paragraph, spaced, row_ended, heading, tag_ended, after_tag, fits_hang, without_tag}
-use Rattle.page_fill_laws.specs.InWords.{is_sound}
+use Rattle.page_fill.specs.Caps.{is_sound}
 use Rattle.page_fill_laws.proofs.InWordsPieces.{sound-after}
 
 opening-sound : (e : Edge) (place : Place) → is_sound e.word ≡ true → is_sound (opening e place).edge.word ≡ true
@@ -63,6 +63,7 @@ piece-sound e (Char c font place) h = character-sound e c font place h
 piece-sound e (Tab font place) h = tab-sound e font place h
 piece-sound e (Blank count has_tab) h = sound-after false e.word (Blank count has_tab) h
 piece-sound e Glue h = sound-after false e.word Glue h
+piece-sound e Split h = elim (cases_Bool (e.word.is_joined && not e.sheet.literal)) [ inl b ↦ rw b h | inr b ↦ rw b h ]
 piece-sound e Break h = refl
 piece-sound e RowEnd h = row_ended-sound e
 piece-sound e (Para n) h = refl

@@ -23,14 +23,14 @@ sum_by-nil = refl
 columns-push : (cs : List Cell) (c : Cell) → columns (cs ++ c ∷ []) ≡ columns cs + cell_columns c
 columns-push cs c = omega (arith, sum_by-append cell_columns cs (c ∷ []), sum_by-cons cell_columns c [], sum_by-nil)
 
-columns-append : (xs ys : List Cell) → columns (xs ++ ys) ≡ columns xs + columns ys
+pub columns-append : (xs ys : List Cell) → columns (xs ++ ys) ≡ columns xs + columns ys
 columns-append xs ys = sum_by-append cell_columns xs ys
 
 columns-blank : cell_columns blank ≡ 1
 unfolding char_width
 columns-blank = refl
 
-columns-blanks : (n : ℕ) → columns (replicate n blank) ≡ n
+pub columns-blanks : (n : ℕ) → columns (replicate n blank) ≡ n
 unfolding char_width
 columns-blanks zero = refl
 columns-blanks (suc n) = omega (arith, columns-cons blank (replicate n blank), columns-blanks n, columns-blank)

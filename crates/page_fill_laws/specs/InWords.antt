@@ -8,7 +8,7 @@ use Rattle.page_core_base.specs.declared.cells.Cell.{Cell}
 use Rattle.page_core_base.specs.declared.cells.Font.{Font}
 use Rattle.page_core_base.specs.declared.page_settings.Output.{Output}
 use Rattle.page_core_base.specs.declared.pieces.Piece.{Piece}
-use Rattle.page_core_base.specs.declared.pieces.Piece.TheVariants.{Text, Glyph, Char, Tab, Blank, Glue, Break, RowEnd, Para, Space, Indent, Literal, Tag, TagEnd, Heading, Column}
+use Rattle.page_core_base.specs.declared.pieces.Piece.TheVariants.{Text, Glyph, Char, Tab, Blank, Glue, Split, Break, RowEnd, Para, Space, Indent, Literal, Tag, TagEnd, Heading, Column}
 use Rattle.page_core_base.specs.declared.places.Place.{Place}
 use Rattle.page_core_base.specs.Messages.{Message}
 use Rattle.page_core_base.specs.Laid.{Laid, nothing, seq}
@@ -18,7 +18,8 @@ use Rattle.page_fill_rows.specs.Sheets.{Sheet, over, blank, passes, counted, beg
 use Rattle.page_fill_rows.specs.Characters.{with_notes, cell_of, cells_of, characters_of, unknown_notes}
 use Rattle.page_fill.specs.declared.words.Edge.{Edge}
 use Rattle.page_fill.specs.declared.words.OpenWord.{OpenWord}
-use Rattle.page_fill.specs.Fill.{tab_notes, begun_word, blanks_wait, opened_word, glued_word}
+use Rattle.page_fill.specs.Fill.{tab_notes}
+use Rattle.page_fill_laws.specs.PieceWords.{after_cell, word_after}
 
 -- ---- marks
 
@@ -112,9 +113,6 @@ opening_marks literal empty w place =
     if w.is_joined then []
     else tab_marks (w.has_tab && not literal) place ++ opened ∷ blank_marks (literal || (w.is_placed && empty)) w.blanks place
 
-abbrev pub after_cell : Bool → OpenWord → OpenWord
-after_cell literal w = if w.is_joined then w else begun_word (w.has_tab && not literal)
-
 -- a piece of words
 abbrev pub is_of_words : Bool → Piece (List ℕ) → Bool
 is_of_words literal (Text bytes font place) = true
@@ -123,6 +121,7 @@ is_of_words literal (Char c font place) = true
 is_of_words literal (Tab font place) = not literal
 is_of_words literal (Blank count has_tab) = true
 is_of_words literal Glue = true
+is_of_words literal Split = true
 is_of_words literal Break = false
 is_of_words literal RowEnd = false
 is_of_words literal (Para n) = false
@@ -143,17 +142,8 @@ piece_marks output literal empty w (Text bytes font place) = if length (characte
 piece_marks output literal empty w (Glyph name font place) = opening_marks literal empty w place ++ printed_marks (glyph_printed output name) font place
 piece_marks output literal empty w (Char c font place) = opening_marks literal empty w place ++ character_marks output c font place
 piece_marks output literal empty w (Tab font place) = opening_marks literal empty w place ++ (tab_marks (not (after_cell literal w).is_told) place ++ lettered (cell_of font 32) place ∷ [])
+piece_marks output literal empty w Split = if w.is_joined && not literal then opened ∷ [] else []
 piece_marks output literal empty w _ = []
-
--- what waits after a piece
-abbrev pub word_after : Bool → OpenWord → Piece (List ℕ) → OpenWord
-word_after literal w (Text bytes font place) = if length (characters_of bytes) == 0 then opened_word w else after_cell literal w
-word_after literal w (Glyph name font place) = after_cell literal w
-word_after literal w (Char c font place) = after_cell literal w
-word_after literal w (Tab font place) = record (after_cell literal w) { is_told = true }
-word_after literal w (Blank count has_tab) = blanks_wait w count has_tab
-word_after literal w Glue = glued_word w
-word_after literal w _ = w
 
 unfoldable pub marks : Output → Bool → Bool → OpenWord → List (Piece (List ℕ)) → List Mark
 marks output literal empty w [] = []
@@ -162,10 +152,6 @@ marks output literal empty w (p ∷ ps) = piece_marks output literal empty w p +
 unfoldable pub words_after : Bool → OpenWord → List (Piece (List ℕ)) → OpenWord
 words_after literal w [] = w
 words_after literal w (p ∷ ps) = words_after literal (word_after literal w p) ps
-
--- a word that goes on with the row's last one is not placed: no edge that a page comes to has another
-abbrev pub is_sound : OpenWord → Bool
-is_sound w = not (w.is_joined && w.is_placed)
 
 -- the pieces of words between two breaks, laid from an edge
 abbrev pub laid_in_words : Edge → List (Piece (List ℕ)) → Laid Edge

@@ -1,9 +1,11 @@
--- A word with its blanks in a row: taken whole, or at the beginning of the next row. Source: roff(7), "Filling and adjusting".
-use Rattle.std.specs.Prelude.{ℕ, ◌+◌, ◌-◌, min, Bool, true, List, [], ◌∷◌, ◌++◌, length, replicate}
+-- A word with its blanks in a row, or a word's next part: taken whole, or at the beginning of the next row. Source: roff(7), "Filling and adjusting".
+use Rattle.std.specs.Prelude.{ℕ, ◌+◌, ◌-◌, min, Bool, true, false, List, [], ◌∷◌, ◌++◌, length, replicate}
 use Rattle.page_core_base.specs.declared.cells.Cell.{Cell}
 use Rattle.page_core_base.specs.Laid.{Laid}
 use Rattle.page_fill_rows.specs.declared.TheConstants.{TAG_COLUMNS}
 use Rattle.page_fill_rows.specs.Sheets.{Sheet, over, columns, cell_columns, blank, gives, begins}
+use Rattle.page_fill.specs.declared.words.Edge.{Edge}
+use Rattle.page_fill.specs.Fill.{begun_word}
 
 -- the columns of the open tag with more cells, and whether it has one
 abbrev pub tally : ℕ → List Cell → ℕ
@@ -37,3 +39,15 @@ word_after_end s cells = over (gives (tallied s (replicate (fitting s) blank ++ 
 -- the word begins a row
 abbrev pub word_first : Sheet → List Cell → Sheet
 word_first s cells = begins (tallied s cells) cells
+
+-- the row's last word with one more part, before which the row may end
+abbrev pub with_part : Sheet → List Cell → Sheet
+with_part s cells = record (tallied s cells) { cells = s.cells ++ cells; gap = length s.cells; word = length s.cells }
+
+-- the row ends before the part, which begins the next one
+abbrev pub part_wrapped : Sheet → List Cell → Laid Sheet
+part_wrapped s cells = over (gives (tallied s cells) s.cells) (λ t. begins t cells)
+
+-- the row took the blanks that wait and a word of these cells, which may go on
+abbrev pub begun_with : Edge → List Cell → Edge
+begun_with e cells = record e { sheet = with_word e.sheet e.word.blanks cells; word = begun_word false }

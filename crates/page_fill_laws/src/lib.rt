@@ -3,4 +3,4 @@
 
 mod laws;
 
-pub use laws::{fill_law, filled_law, glue_law, word_law};
+pub use laws::{fill_law, glue_law, part_law, word_law, words_law};

@@ -1,11 +1,12 @@
 -- A machine, which settles what the steps of Sheets settle: the fast way for plain texts (plain_law), and for words that a row takes at once
 -- (`take_words` of page_fill). They are bytes of printable ASCII, each a cell of one column, so that an open row with room for them takes them as
 -- a whole.
-use Rattle.std.specs.Prelude.{ℕ, ◌+◌, Bool, true, not, ◌&&◌, ◌||◌, ◌==◌, ◌-◌, nat_le, nat_lt, min, List, [], ◌∷◌, ◌++◌, length, replicate, if◌then◌else◌}
+use Rattle.std.specs.Prelude.{ℕ, ◌+◌, Bool, true, not, ◌&&◌, ◌||◌, ◌==◌, ◌-◌, nat_le, nat_lt, min, List, [], ◌∷◌, ◌++◌, length, drop, replicate, if◌then◌else◌}
 use Rattle.std.specs.List.{list_all}
 use Rattle.page_core_base.specs.declared.cells.Cell.{Cell}
 use Rattle.page_core_base.specs.declared.cells.Font.TheVariants.{R}
 use Rattle.page_core_base.specs.Laid.{Laid}
+use Rattle.page_core_base.specs.Words.{last_start, parts_of}
 use Rattle.page_fill_rows.specs.Characters.{cells_of}
 use Rattle.page_fill_rows.specs.Sheets.{Sheet, begins, columns, blank, counted, emptied, gives, opens, over, passes}
 use Rattle.page_core_limits.specs.declared.TheConstants.{CELLS}
@@ -99,3 +100,11 @@ words_taken s text = record s {
   tag_columns = min (s.tag_columns + length text) TAG_COLUMNS;
   tag_begun = true;
 }
+
+-- the row's last word is parted: its last part begins after this count of the word's cells
+abbrev pub parted_at : Sheet → ℕ → Sheet
+parted_at s start = if start == 0 then s else record s { gap = s.word + start; word = s.word + start }
+
+-- the same where the row may end within the last one of these words
+abbrev pub words_parted : Sheet → List ℕ → Sheet
+words_parted s text = parted_at (words_taken s text) (last_start (parts_of (drop (word_start text) text)))

@@ -1,5 +1,5 @@
--- The steps of filling, which page_fill_laws proves equal to the definition by words: the open row, cell by cell, and what stands at the end of the
--- rows that were given.
+-- The steps of filling: the open row, cell by cell, and what stands at the end of the rows that were given. Trust needs no reading of them, since
+-- `words_law` of page_fill_laws says that they lay what the definition in words does.
 -- Source: roff(7), "Filling and adjusting"; mandoc(1), "ASCII Output".
 use Rattle.std.specs.Prelude.{ℕ, zero, suc, ◌+◌, Bool, true, false, not, ◌&&◌, ◌==◌, nat_lt, min, List, [], ◌∷◌, ◌++◌, length, take, drop, replicate, sum_by, if◌then◌else◌}
 use Rattle.page_core_base.specs.declared.cells.Cell.{Cell}

@@ -467,6 +467,17 @@ impl OpenRow {
         self.has_tag_cell = true;
     }
 
+    /// The row's last word is parted: its last part begins after a count of its cells.
+    pub fn part_word(&mut self, start: usize)
+        requires { self.old.word + start ≤ length self.old.cells }
+        ensures { self.new ≡ plain.parted_at self.old start }
+    {
+        if start > 0 {
+            self.word += start;
+            self.gap = self.word;
+        }
+    }
+
     /// The row takes cells of bytes that are a column each.
     pub(crate) fn add_plain(&mut self, bytes: &[u8], font: Font)
         requires plain { plain.is_printable_ascii bytes.now ≡ true }
@@ -531,8 +542,8 @@ impl OpenRow {
         self.empty();
     }
 
-    // A word begins after the row's cells.
-    fn open_word(&mut self)
+    /// A word begins after the row's cells.
+    pub fn open_word(&mut self)
         ensures { self.new ≡ sheet.opens self.old }
     {
         self.gap = self.row.len();

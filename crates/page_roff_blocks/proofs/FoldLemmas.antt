@@ -13,7 +13,7 @@ use Rattle.page_roff_blocks.specs.declared.levels.Way.TheVariants.{Runs, Skips, 
 use Rattle.page_roff_blocks.specs.Run.{Meaning, Flow, At, fresh, past, guarded, meet_as, meet, pass_region, pass, leaf_if, guard_if, enter_if, block_by, run, read, here_at, here, enter_at, enter_block, unopened_if, leave_block, meet_at, open_region, read_at, run_source, run_inside, run_from, run_lines}
 use Rattle.page_roff_blocks.specs.Steps.{met, step_leaf, guard_with, guard_met, step_guard, block_with, block_met, step_block, step_end, step_region, step_parts, step_inside, step_from, step, step_lines}
 
-module _ {S : Type 0} (m : Meaning S) where
+module _ {X S : Type 0} (m : Meaning X S) (text : X → List ℕ) where
   levels : Bool → List Bool → ℕ → Levels
   levels b o n = record { bit = b; outer = o; skipped = n }
 
@@ -26,15 +26,15 @@ module _ {S : Type 0} (m : Meaning S) where
   unfolding levels
   empty_first l w then = ap then (here_empty l.bit l.outer l.skipped w)
 
-  run_before : (node : Forest → Forest) (l : Levels) (w : Flow S) (r : Levels × Flow S) → ((f : Forest) → here m (node f) l w ≡ here m f r.0 r.1)
-      → (src : Source) → run_source m (before node src) l w ≡ run_source m src r.0 r.1
+  run_before : (node : Forest X → Forest X) (l : Levels) (w : Flow S) (r : Levels × Flow S) → ((f : Forest X) → here m (node f) l w ≡ here m f r.0 r.1)
+      → (src : Source X) → run_source m (before node src) l w ≡ run_source m src r.0 r.1
   unfolding run_source before
   run_before node l w r e (ends f) = ap (λ q. record { place = record { region = None; levels = q.0 }; state = q.1.state }) (e f)
   run_before node l w r e (shuts f rest) = ap (λ q. let z = leave_block m q.0 q.1 in run_source m rest z.0 z.1) (e f)
   run_before node l w r e (opens f h rest) = ap (λ q. let z = enter_block m h q.0 q.1 in run_source m rest z.0 z.1) (e f)
   run_before node l w r e (holds f h ls) = ap (λ p. let q = meet_at m p.0.skipped p.1 in read_at m ls (opened h q.0) (open_region m h p.0 q)) (e f)
 
-  line_here : (t : List ℕ) (b : Bool) (o : List Bool) (n : ℕ) (w : Flow S) (f : Forest)
+  line_here : (t : X) (b : Bool) (o : List Bool) (n : ℕ) (w : Flow S) (f : Forest X)
       → here m (line t f) (levels b o n) w ≡ here m f (levels b o n) (fresh (m.begins t w.state))
   unfolding here here_at run pass levels
   line_here t b o zero w f = refl
@@ -46,13 +46,13 @@ module _ {S : Type 0} (m : Meaning S) where
   flow_of : Spot × S → Flow S
   flow_of r = record { begun = r.0.begun; passing = r.0.passing; state = r.1 }
 
-  leaf_here : (t : List ℕ) (b : Bool) (o : List Bool) (n : ℕ) (w : Flow S) (f : Forest)
+  leaf_here : (t : List ℕ) (b : Bool) (o : List Bool) (n : ℕ) (w : Flow S) (f : Forest X)
       → let r = step_leaf m t (spot_at (levels b o n) w) w.state in here m (leaf t f) (levels b o n) w ≡ here m f r.0.levels (flow_of r)
   unfolding here here_at run pass step_leaf met meet meet_as reached reached_from after_part past leaf_if spot_at flow_of levels
   leaf_here t b o zero w f = refl
   leaf_here t b o (suc n) w f = refl
 
-  guard_run : (v : Bool) (h : Head (List ℕ)) (b : Bool) (o : List Bool) (w : Flow S) (s : S) (f : Forest)
+  guard_run : (v : Bool) (h : Head (List ℕ)) (b : Bool) (o : List Bool) (w : Flow S) (s : S) (f : Forest X)
       → let g = guard_if m v h w.passing b s in
       let y = run m (length o) f g.0 g.1 in
       let r = guard_met m v h (spot_at (levels b o 0) w) s in
@@ -61,20 +61,20 @@ module _ {S : Type 0} (m : Meaning S) where
   guard_run true h b o w s f = refl
   guard_run false h b o w s f = refl
 
-  guard_here : (h : Head (List ℕ)) (b : Bool) (o : List Bool) (n : ℕ) (w : Flow S) (f : Forest)
+  guard_here : (h : Head (List ℕ)) (b : Bool) (o : List Bool) (n : ℕ) (w : Flow S) (f : Forest X)
       → let r = step_guard m h (spot_at (levels b o n) w) w.state in here m (guard h f) (levels b o n) w ≡ here m f r.0.levels (flow_of r)
   unfolding here here_at run pass step_guard met meet meet_as reached reached_from guarded guard_met spot_at flow_of levels
   guard_here h b o zero w f = let q = meet m w in guard_run q.0 h b o w q.1 f
   guard_here h b o (suc n) w f = refl
 
-  region_here : (r : RegionHead (List ℕ)) (ls : List (List ℕ)) (e : List ℕ) (b : Bool) (o : List Bool) (n : ℕ) (w : Flow S) (f : Forest)
+  region_here : (r : RegionHead (List ℕ)) (ls : List X) (e : X) (b : Bool) (o : List Bool) (n : ℕ) (w : Flow S) (f : Forest X)
       → let q = meet_at m n w in here m (region r ls e f) (levels b o n) w ≡ here m f (levels b o n) (fresh (pass_region m r q.0 ls e q.1))
   unfolding here here_at run pass meet_at levels
   region_here r ls e b o zero w f = refl
   region_here r ls e b o (suc n) w f = refl
 
   -- a block at a level that is run, after it is known how it is entered
-  block_way : (way : Way) (bit : Bool) (s : S) (f rest : Forest) (b : Bool) (o : List Bool)
+  block_way : (way : Way) (bit : Bool) (s : S) (f rest : Forest X) (b : Bool) (o : List Bool)
       → let r = here m f (enter way bit (levels b o 0)) (past s) in
       let z = leave_block m r.0 r.1 in
       let y = run m (length o) rest bit (past (block_by m way (λ s. (run m (suc (length o)) f false (past s)).1.state) (λ s. (pass m f (past s)).state) s)) in
@@ -84,7 +84,7 @@ module _ {S : Type 0} (m : Meaning S) where
   block_way Skips bit s f rest b o = refl
   block_way Exceeds bit s f rest b o = refl
 
-  block_here : (h : Head (List ℕ)) (f : Forest) (b : Bool) (o : List Bool) (n : ℕ) (w : Flow S) (rest : Forest)
+  block_here : (h : Head (List ℕ)) (f : Forest X) (b : Bool) (o : List Bool) (n : ℕ) (w : Flow S) (rest : Forest X)
       → let q = enter_block m h (levels b o n) w in
       let r = here m f q.0 q.1 in
       let z = leave_block m r.0 r.1 in
@@ -96,7 +96,7 @@ module _ {S : Type 0} (m : Meaning S) where
       block_way i.way i.bit i.state f rest b o
   block_here h f b o (suc n) w rest = refl
 
-  open_step : (h : Head (List ℕ)) (l : Levels) (w : Flow S) (src : Source)
+  open_step : (h : Head (List ℕ)) (l : Levels) (w : Flow S) (src : Source X)
       → let q = enter_block m h l w in run_source m (enclose h src) l w ≡ run_source m src q.0 q.1
   unfolding run_source enclose levels
   open_step h l w (ends f) = empty_first l w (λ q. let z = enter_block m h q.0 q.1 in run_source m (ends f) z.0 z.1)
@@ -107,7 +107,7 @@ module _ {S : Type 0} (m : Meaning S) where
       let r = here m f q.0 q.1 in
       run_before (block h f) l w (leave_block m r.0 r.1) (block_here h f l.bit l.outer l.skipped w) rest
 
-  region_step : (r : RegionHead (List ℕ)) (l : Levels) (w : Flow S) (inside : Inside)
+  region_step : (r : RegionHead (List ℕ)) (l : Levels) (w : Flow S) (inside : Inside X)
       → let q = meet_at m l.skipped w in run_source m (enregion r inside) l w ≡ run_inside m (opened r q.0) inside l (m.opens_region r q.0 q.1)
   unfolding run_source enregion run_inside open_region read_at levels pass_region
   region_step r l w (unended ls) = empty_first l w (λ p. let q = meet_at m p.0.skipped p.1 in read_at m ls (opened r q.0) (open_region m r p.0 q))
@@ -136,26 +136,26 @@ module _ {S : Type 0} (m : Meaning S) where
   met_same b o (suc n) w = refl
 
   -- what follows a line begins a line
-  IsSteady : Source → Type 0
+  IsSteady : Source X → Type 0
   IsSteady src = (l : Levels) (w : Flow S) → run_source m src l w ≡ run_source m src l (fresh w.state)
 
-  line_first : (t : List ℕ) (src : Source) (l : Levels) (w : Flow S) → run_source m (before (line t) src) l w ≡ run_source m src l (fresh (m.begins t w.state))
+  line_first : (t : X) (src : Source X) (l : Levels) (w : Flow S) → run_source m (before (line t) src) l w ≡ run_source m src l (fresh (m.begins t w.state))
   unfolding levels
   line_first t src l w = run_before (line t) l w (l, fresh (m.begins t w.state)) (line_here t l.bit l.outer l.skipped w) src
 
-  steady_source : (ts : List (List ℕ)) → IsSteady (source_of ts)
+  steady_source : (ts : List X) → IsSteady (source_of text ts)
   unfolding IsSteady source_of run_source fresh
   steady_source [] l w =
       let then : Levels × Flow S → At S = λ q. record { place = record { region = None; levels = q.0 }; state = q.1.state } in
       empty_first l w then ∙ sym (empty_first l (fresh w.state) then)
   steady_source (t ∷ ts) l w =
-      let src = line_of (atoms t) (source_of ts) (inside_of ts) in
+      let src = line_of (atoms (text t)) (source_of text ts) (inside_of text ts) in
       line_first t src l w ∙ sym (line_first t src l (fresh w.state))
 
-  from : Source → (List ℕ → Inside) → At S → At S
+  from : Source X → (List ℕ → Inside X) → At S → At S
   from src inside a = run_from m src inside a.place.region a.place.levels a.state
 
-  parts_step : (parts : List (Atom (List ℕ))) (src : Source) (inside : List ℕ → Inside) → IsSteady src → (l : Levels) (w : Flow S)
+  parts_step : (parts : List (Atom (List ℕ))) (src : Source X) (inside : List ℕ → Inside X) → IsSteady src → (l : Levels) (w : Flow S)
       → run_source m (line_of parts src inside) l w ≡ from src inside (step_parts m parts (spot_at l w) w.state)
   unfolding line_of step_parts from run_from run_source IsSteady step_end step_region leave_block after_part past opened spot_at flow_of levels
   parts_step [] src inside steady l w = steady l w
@@ -180,44 +180,44 @@ module _ {S : Type 0} (m : Meaning S) where
       region_step r l w (inside r.ending)
       ∙ ap (λ q. run_inside m (opened r q.0) (inside r.ending) l (m.opens_region r q.0 q.1)) (met_same l.bit l.outer l.skipped w)
 
-  region_line_step : (is_end : Bool) (t : List ℕ) (o : Opened) (l : Levels) (s : S) (src : Source) (after : Inside) (inside : List ℕ → Inside) → inside o.ending ≡ after
+  region_line_step : (is_end : Bool) (t : X) (o : Opened) (l : Levels) (s : S) (src : Source X) (after : Inside X) (inside : List ℕ → Inside X) → inside o.ending ≡ after
       → run_inside m o (region_line is_end t src after) l s ≡ from src inside (step_inside m is_end o t l s)
   unfolding region_line run_inside step_inside from run_from keep read
   region_line_step true t o l s src after inside e = refl
   region_line_step false t o l s src (unended ls) inside e = ap (λ i. run_inside m o i l (m.reads o t s)) (sym e)
   region_line_step false t o l s src (ended ls x rest) inside e = ap (λ i. run_inside m o i l (m.reads o t s)) (sym e)
 
-  from_step : (t : List ℕ) (ts : List (List ℕ)) (o : Option Opened) (l : Levels) (s : S)
-      → run_from m (source_of (t ∷ ts)) (inside_of (t ∷ ts)) o l s ≡ from (source_of ts) (inside_of ts) (step_from m o t l s)
+  from_step : (t : X) (ts : List X) (o : Option Opened) (l : Levels) (s : S)
+      → run_from m (source_of text (t ∷ ts)) (inside_of text (t ∷ ts)) o l s ≡ from (source_of text ts) (inside_of text ts) (step_from m text o t l s)
   unfolding run_from source_of step_from fresh spot_at at_line
   from_step t ts None l s =
-      line_first t (line_of (atoms t) (source_of ts) (inside_of ts)) l (fresh s)
-      ∙ parts_step (atoms t) (source_of ts) (inside_of ts) (steady_source ts) l (fresh (m.begins t s))
+      line_first t (line_of (atoms (text t)) (source_of text ts) (inside_of text ts)) l (fresh s)
+      ∙ parts_step (atoms (text t)) (source_of text ts) (inside_of text ts) (steady_source ts) l (fresh (m.begins t s))
   from_step t ts (Some o) l s =
-      region_line_step (is_ending o.ending t) t o l s (source_of ts) (inside_of ts o.ending) (inside_of ts) refl
+      region_line_step (is_ending o.ending (text t)) t o l s (source_of text ts) (inside_of text ts o.ending) (inside_of text ts) refl
 
-  pub run_cons : (t : List ℕ) (ts : List (List ℕ)) (a : At S) → run_lines m (t ∷ ts) a ≡ run_lines m ts (step m t a)
+  pub run_cons : (t : X) (ts : List X) (a : At S) → run_lines m text (t ∷ ts) a ≡ run_lines m text ts (step m text t a)
   unfolding run_lines step from
   run_cons t ts a = from_step t ts a.place.region a.place.levels a.state
 
-  nil_from : (o : Option Opened) (l : Levels) (s : S) → run_from m (source_of []) (inside_of []) o l s ≡ record { place = record { region = o; levels = l }; state = s }
+  nil_from : (o : Option Opened) (l : Levels) (s : S) → run_from m (source_of text []) (inside_of text []) o l s ≡ record { place = record { region = o; levels = l }; state = s }
   unfolding run_from source_of run_source run_inside read fresh
   nil_from None l s = empty_first l (fresh s) (λ q. record { place = record { region = None; levels = q.0 }; state = q.1.state })
   nil_from (Some o) l s = refl
 
   -- the forest's lines are a fold
-  pub run_is_steps : (ts : List (List ℕ)) (a : At S) → run_lines m ts a ≡ step_lines m ts a
+  pub run_is_steps : (ts : List X) (a : At S) → run_lines m text ts a ≡ step_lines m text ts a
   unfolding run_lines step_lines
   run_is_steps [] a = nil_from a.place.region a.place.levels a.state
-  run_is_steps (t ∷ ts) a = run_cons t ts a ∙ run_is_steps ts (step m t a)
+  run_is_steps (t ∷ ts) a = run_cons t ts a ∙ run_is_steps ts (step m text t a)
 
-  pub step_lines-append : (above below : List (List ℕ)) (a : At S) → step_lines m (above ++ below) a ≡ step_lines m below (step_lines m above a)
+  pub step_lines-append : (above below : List X) (a : At S) → step_lines m text (above ++ below) a ≡ step_lines m text below (step_lines m text above a)
   unfolding step_lines
   step_lines-append [] below a = refl
-  step_lines-append (t ∷ ts) below a = step_lines-append ts below (step m t a)
+  step_lines-append (t ∷ ts) below a = step_lines-append ts below (step m text t a)
 
   -- a source may be cut between any two lines
-  pub run_lines-append : (above below : List (List ℕ)) (a : At S) → run_lines m (above ++ below) a ≡ run_lines m below (run_lines m above a)
+  pub run_lines-append : (above below : List X) (a : At S) → run_lines m text (above ++ below) a ≡ run_lines m text below (run_lines m text above a)
   run_lines-append above below a =
       run_is_steps (above ++ below) a ∙ step_lines-append above below a
-      ∙ sym (run_is_steps below (step_lines m above a)) ∙ ap (run_lines m below) (sym (run_is_steps above a))
+      ∙ sym (run_is_steps below (step_lines m text above a)) ∙ ap (run_lines m text below) (sym (run_is_steps above a))

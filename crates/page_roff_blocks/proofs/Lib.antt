@@ -1,5 +1,6 @@
 pub mod AtomLemmas
 pub mod EndLemmas
 pub mod FoldLemmas
+pub mod HeadLemmas
 pub mod LevelLemmas
 pub mod RoomLemmas

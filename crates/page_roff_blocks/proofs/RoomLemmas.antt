@@ -43,7 +43,7 @@ leave_room bit [] zero = omega arith
 leave_room bit (b ∷ bs) zero = omega arith
 leave_room bit outer (suc n) = omega arith
 
-module _ {S : Type 0} (m : Meaning S) where
+module _ {X S : Type 0} (m : Meaning X S) where
   guard_room : (is_met : Bool) (h : Head (List ℕ)) (spot : Spot) (s : S) → (guard_met m is_met h spot s).0.levels.skipped ≡ spot.levels.skipped
   unfolding guard_met guard_with guarded_by
   guard_room true h spot s = refl

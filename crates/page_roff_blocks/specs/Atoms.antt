@@ -1,6 +1,5 @@
 -- The parts of a raw line, found from its text alone. Source: roff(7), "if", "ie", "el".
-use Rattle.std.specs.Prelude.{◌≡◌, ℕ, zero, suc, ◌+◌, ◌-◌, ◌≤◌, Bool, true, false, List, [], ◌∷◌, length, drop, codes, if◌then◌else◌, Option, Some, None, MatchOption}
-use Rattle.std.specs.Str.{bytes_eq}
+use Rattle.std.specs.Prelude.{◌≡◌, ℕ, zero, suc, ◌+◌, ◌-◌, ◌≤◌, Bool, true, false, List, [], ◌∷◌, length, drop, Option, Some, None, MatchOption}
 use Rattle.std.specs.Borrow.{Bor}
 use Rattle.page_core_limits.specs.declared.TheConstants.{LINE}
 use Rattle.page_roff_forms.specs.LineForms.{form_of}
@@ -22,22 +21,25 @@ use Rattle.page_roff_blocks.specs.declared.parts.Columns.{Columns}
 use Rattle.page_roff_blocks.specs.declared.parts.Keyword.{Keyword}
 use Rattle.page_roff_blocks.specs.declared.parts.Keyword.TheVariants as keywords
 use Rattle.page_roff_blocks.specs.declared.parts.Part.{Part}
-use Rattle.page_roff_blocks.specs.declared.regions.RegionKind.TheVariants.{Define, Append, Ignore, Table, Equation, Picture}
+use Rattle.page_roff_requests.specs.Requests.{request_of}
+use Rattle.page_roff_requests.specs.declared.requests.Request.{Request}
+use Rattle.page_roff_requests.specs.declared.requests.Request.TheVariants as requests
 use Rattle.page_roff_blocks.specs.Regions.{region_head, region_seen, text_seen, FitsRegion}
 
 -- what a control line of a name heads
+abbrev pub keyword_in : Option Request → Keyword
+keyword_in None = keywords.Other
+keyword_in (Some requests.If) = keywords.If
+keyword_in (Some requests.IfElse) = keywords.IfElse
+keyword_in (Some requests.Else) = keywords.Else
+keyword_in (Some (requests.Region kind)) = keywords.Region kind
+keyword_in (Some (requests.Definition request)) = keywords.Other
+keyword_in (Some (requests.Layout request)) = keywords.Other
+keyword_in (Some requests.Ignored) = keywords.Other
+keyword_in (Some requests.Unsupported) = keywords.Other
+
 abbrev pub keyword_of : List ℕ → Keyword
-keyword_of name =
-    if bytes_eq name (codes "if") then keywords.If
-    else if bytes_eq name (codes "ie") then keywords.IfElse
-    else if bytes_eq name (codes "el") then keywords.Else
-    else if bytes_eq name (codes "de") then keywords.Region Define
-    else if bytes_eq name (codes "am") then keywords.Region Append
-    else if bytes_eq name (codes "ig") then keywords.Region Ignore
-    else if bytes_eq name (codes "TS") then keywords.Region Table
-    else if bytes_eq name (codes "EQ") then keywords.Region Equation
-    else if bytes_eq name (codes "PS") then keywords.Region Picture
-    else keywords.Other
+keyword_of name = keyword_in (request_of name)
 
 -- what is left of a line after a part of it
 abbrev pub rest_text : Option (Placed (List ℕ)) → Option (List ℕ)

@@ -6,7 +6,7 @@ use Rattle.page_roff_blocks.specs.declared.TheConstants.{CONDS}
 use Rattle.page_roff_blocks.specs.declared.atoms.Branch.{Branch}
 use Rattle.page_roff_blocks.specs.declared.atoms.Branch.TheVariants.{If, IfElse, Else}
 use Rattle.page_roff_blocks.specs.declared.regions.RegionHead.{RegionHead}
-use Rattle.page_roff_blocks.specs.declared.regions.RegionKind.{RegionKind}
+use Rattle.page_roff_requests.specs.declared.regions.RegionKind.{RegionKind}
 use Rattle.page_roff_blocks.specs.declared.spots.Reached.{Reached}
 use Rattle.page_roff_blocks.specs.declared.spots.Reached.TheVariants.{PassedOver, First, Remainder}
 use Rattle.page_roff_blocks.specs.declared.levels.Way.{Way}

@@ -8,27 +8,34 @@ use Rattle.page_roff_forms.specs.LineForms.{form_of}
 use Rattle.page_roff_forms.specs.declared.line_forms.LineForm.{LineForm}
 use Rattle.page_roff_forms.specs.declared.line_forms.LineForm.TheVariants.{Comment, BlankLine, Text, Control}
 use Rattle.page_roff_forms.specs.declared.quotes.Argument.{Argument}
-use Rattle.page_roff_blocks.specs.declared.regions.RegionKind.{RegionKind}
-use Rattle.page_roff_blocks.specs.declared.regions.RegionKind.TheVariants.{Define, Append, Ignore, Table, Equation, Picture}
+use Rattle.page_roff_requests.specs.Regions.{fixed_ending}
+pub use Rattle.page_roff_requests.specs.Regions.{text_seen}
+use Rattle.page_roff_requests.specs.declared.regions.RegionKind.{RegionKind}
+use Rattle.page_roff_requests.specs.declared.regions.RegionKind.TheVariants.{Define, Append, Ignore, Table, Equation, Picture}
 use Rattle.page_roff_blocks.specs.declared.regions.RegionHead.{RegionHead}
 
--- an argument's text as it is written, if there is one
-abbrev pub first_text : List (Argument (List ℕ)) → Option (List ℕ)
-first_text [] = None
-first_text (a ∷ more) = Some a.text
+-- an empty name is none
+abbrev pub as_name : List ℕ → Option (List ℕ)
+as_name [] = None
+as_name (byte ∷ bytes) = Some (byte ∷ bytes)
 
-abbrev pub second_text : List (Argument (List ℕ)) → Option (List ℕ)
-second_text [] = None
-second_text (a ∷ more) = first_text more
+-- the name that an argument is as it is written, if there is one
+abbrev pub first_name : List (Argument (List ℕ)) → Option (List ℕ)
+first_name [] = None
+first_name (a ∷ more) = as_name a.text
+
+abbrev pub second_name : List (Argument (List ℕ)) → Option (List ℕ)
+second_name [] = None
+second_name (a ∷ more) = first_name more
 
 -- the first of the arguments that are still to be read, and then the others
-abbrev pub TextOfNext : List (Argument (List ℕ)) → Option (List ℕ) → List (Argument (List ℕ)) → Type 0
-TextOfNext old text new = (text ≡ first_text old) × (first_text new ≡ second_text old)
+abbrev pub NameOfNext : List (Argument (List ℕ)) → Option (List ℕ) → List (Argument (List ℕ)) → Type 0
+NameOfNext old name new = (name ≡ first_name old) × (first_name new ≡ second_name old)
 
 -- the macro that a region defines is its head's first argument
 abbrev pub name_in : RegionKind → List (Argument (List ℕ)) → Option (List ℕ)
-name_in Define args = first_text args
-name_in Append args = first_text args
+name_in Define args = first_name args
+name_in Append args = first_name args
 name_in Ignore args = None
 name_in Table args = None
 name_in Equation args = None
@@ -37,12 +44,12 @@ name_in Picture args = None
 -- the end name is the argument after it, or the first one of `ig`; that of a table, an equation or a
 -- picture is fixed
 abbrev pub ending_in : RegionKind → List (Argument (List ℕ)) → Option (List ℕ)
-ending_in Define args = second_text args
-ending_in Append args = second_text args
-ending_in Ignore args = first_text args
-ending_in Table args = Some (codes "TE")
-ending_in Equation args = Some (codes "EN")
-ending_in Picture args = Some (codes "PE")
+ending_in Define args = second_name args
+ending_in Append args = second_name args
+ending_in Ignore args = first_name args
+ending_in Table args = fixed_ending Table
+ending_in Equation args = fixed_ending Equation
+ending_in Picture args = fixed_ending Picture
 
 -- a full stop where there is none, or one beyond the limit of names
 abbrev pub ending_of : Option (List ℕ) → List ℕ
@@ -79,10 +86,6 @@ unfoldable pub is_ending : List ℕ → List ℕ → Bool
 is_ending ending line = is_called ending (form_of line)
 
 -- ---- of the program, with what its texts hold
-
-abbrev pub text_seen : Option (Bor (List ℕ)) → Option (List ℕ)
-text_seen None = None
-text_seen (Some text) = Some text.now
 
 abbrev pub region_seen : RegionHead (Bor (List ℕ)) → RegionHead (List ℕ)
 region_seen head =

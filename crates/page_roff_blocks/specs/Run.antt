@@ -13,9 +13,9 @@ use Rattle.page_roff_blocks.specs.Forest.{Forest, empty, line, leaf, guard, bloc
 use Rattle.page_roff_blocks.specs.Levels.{Levels, bit_after, way_of, enter, skip, leave, has_block, reached_if, Opened, opened, Place}
 
 -- What the parts of a source do to a state: all that has no part in its forest.
-pub record Meaning (S : Type 0) : Type 0 where
+pub record Meaning (X S : Type 0) : Type 0 where
   -- a raw line begins outside of regions
-  pub begins : List ℕ → S → S
+  pub begins : X → S → S
   -- A node is reached that no block and no head passes over, with whether it is a remainder: whether it is
   -- run.
   pub meets : Bool → S → Bool × S
@@ -29,8 +29,8 @@ pub record Meaning (S : Type 0) : Type 0 where
   pub unopened : S → S
   -- the head of a region, with whether it is run; a line of the region, and its end line
   pub opens_region : RegionHead (List ℕ) → Bool → S → S
-  pub reads : Opened → List ℕ → S → S
-  pub ends_region : Opened → List ℕ → S → S
+  pub reads : Opened → X → S → S
+  pub ends_region : Opened → X → S → S
 
 -- A state within a line: whether a node of the line was reached, and whether the next one is passed over,
 -- since a head guards it.
@@ -62,7 +62,7 @@ pub record Entered (S : Type 0) : Type 0 where
   pub bit : Bool
   pub state : S
 
-module _ {S : Type 0} (m : Meaning S) where
+module _ {X S : Type 0} (m : Meaning X S) where
   -- a node is reached where nothing is skipped: whether it is run
   unfoldable pub meet_as : Reached → S → Bool × S
   meet_as PassedOver s = (false, s)
@@ -79,16 +79,16 @@ module _ {S : Type 0} (m : Meaning S) where
   value Else bit s = (bit, s)
 
   -- the lines of a region
-  unfoldable pub read : Opened → List (List ℕ) → S → S
+  unfoldable pub read : Opened → List X → S → S
   read o [] s = s
   read o (l ∷ ls) s = read o ls (m.reads o l s)
 
   -- a whole region
-  unfoldable pub pass_region : RegionHead (List ℕ) → Bool → List (List ℕ) → List ℕ → S → S
+  unfoldable pub pass_region : RegionHead (List ℕ) → Bool → List X → X → S → S
   pass_region r is_run ls e s = m.ends_region (opened r is_run) e (read (opened r is_run) ls (m.opens_region r is_run s))
 
   -- what is skipped: only lines, regions and ends are looked at
-  unfoldable pub pass : Forest → Flow S → Flow S
+  unfoldable pub pass : Forest X → Flow S → Flow S
   pass empty w = w
   pass (line l rest) w = pass rest (fresh (m.begins l w.state))
   pass (leaf text rest) w = pass rest (past w.state)
@@ -125,7 +125,7 @@ module _ {S : Type 0} (m : Meaning S) where
   block_by Exceeds run_it pass_it s = pass_it s
 
   -- What is run, where this many true blocks are open around it: the level's bit and the state.
-  unfoldable pub run : ℕ → Forest → Bool → Flow S → Bool × Flow S
+  unfoldable pub run : ℕ → Forest X → Bool → Flow S → Bool × Flow S
   run n empty bit w = (bit, w)
   run n (line l rest) bit w = run n rest bit (fresh (m.begins l w.state))
   run n (leaf text rest) bit w =
@@ -145,11 +145,11 @@ module _ {S : Type 0} (m : Meaning S) where
       run n rest i.bit (past s)
 
   -- a forest at the innermost level of a source: it is run, or stands in a skipped block
-  unfoldable pub here_at : Forest → ℕ → Levels → Flow S → Levels × Flow S
+  unfoldable pub here_at : Forest X → ℕ → Levels → Flow S → Levels × Flow S
   here_at f zero l w = let r = run (length l.outer) f l.bit w in (record l { bit = r.0 }, r.1)
   here_at f (suc k) l w = (l, pass f w)
 
-  unfoldable pub here : Forest → Levels → Flow S → Levels × Flow S
+  unfoldable pub here : Forest X → Levels → Flow S → Levels × Flow S
   here f l w = here_at f l.skipped l w
 
   -- a block is entered that doesn't end here
@@ -179,11 +179,11 @@ module _ {S : Type 0} (m : Meaning S) where
   unfoldable pub open_region : RegionHead (List ℕ) → Levels → Bool × S → At S
   open_region r l q = record { place = record { region = Some (opened r q.0); levels = l }; state = m.opens_region r q.0 q.1 }
 
-  unfoldable pub read_at : List (List ℕ) → Opened → At S → At S
+  unfoldable pub read_at : List X → Opened → At S → At S
   read_at ls o a = record { place = a.place; state = read o ls a.state }
 
   -- a source inside open levels, and inside an open region
-  unfoldable pub run_source : Source → Levels → Flow S → At S
+  unfoldable pub run_source : Source X → Levels → Flow S → At S
   run_source (ends f) l w =
       let r = here f l w in
       record { place = record { region = None; levels = r.0 }; state = r.1.state }
@@ -200,15 +200,39 @@ module _ {S : Type 0} (m : Meaning S) where
       let q = meet_at p.0.skipped p.1 in
       read_at ls (opened r q.0) (open_region r p.0 q)
 
-  unfoldable pub run_inside : Opened → Inside → Levels → S → At S
+  unfoldable pub run_inside : Opened → Inside X → Levels → S → At S
   run_inside o (unended ls) l s = record { place = record { region = Some o; levels = l }; state = read o ls s }
   run_inside o (ended ls e rest) l s = run_source rest l (fresh (m.ends_region o e (read o ls s)))
 
   -- lines that are seen in both ways, as they begin outside and inside a region
-  unfoldable pub run_from : Source → (List ℕ → Inside) → Option Opened → Levels → S → At S
+  unfoldable pub run_from : Source X → (List ℕ → Inside X) → Option Opened → Levels → S → At S
   run_from source inside None l s = run_source source l (fresh s)
   run_from source inside (Some o) l s = run_inside o (inside o.ending) l s
 
   -- The lines of a source as a forest inside the open nodes, and what that does.
-  unfoldable pub run_lines : List (List ℕ) → At S → At S
-  run_lines ls a = run_from (source_of ls) (inside_of ls) a.place.region a.place.levels a.state
+  unfoldable pub run_lines : (X → List ℕ) → List X → At S → At S
+  run_lines text ls a = run_from (source_of text ls) (inside_of text ls) a.place.region a.place.levels a.state
+
+-- Lines that each have more than a text, as a number: what comes before a line, and then what its text does.
+unfoldable pub headed : {X S : Type 0} → (X → List ℕ) → (X → S → S) → Meaning (List ℕ) S → Meaning X S
+headed text head m = record {
+  begins = λ line s. m.begins (text line) (head line s);
+  meets = m.meets;
+  tests = m.tests;
+  gives = m.gives;
+  refuses = m.refuses;
+  unopened = m.unopened;
+  opens_region = m.opens_region;
+  reads = λ o line s. m.reads o (text line) (head line s);
+  ends_region = λ o line s. m.ends_region o (text line) (head line s);
+}
+
+-- what comes before a line
+abbrev pub after_head : {X S : Type 0} → (X → S → S) → X → At S → At S
+after_head head x a = record { place = a.place; state = head x a.state }
+
+-- line after line: what comes before it, and then the forest of this one line
+unfoldable pub each_line : {X S : Type 0} → (X → List ℕ) → (X → S → S) → Meaning (List ℕ) S → List X → At S → At S
+each_line text head m [] a = a
+each_line text head m (x ∷ xs) a =
+    each_line text head m xs (run_lines m (λ t. t) (text x ∷ []) (after_head head x a))

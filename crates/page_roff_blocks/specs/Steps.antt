@@ -9,7 +9,7 @@ use Rattle.page_roff_blocks.specs.Regions.{is_ending}
 use Rattle.page_roff_blocks.specs.Levels.{Levels, bit_after, way_of, enter, skip, leave, has_block, Spot, at_line, after_part, guarded_by, reached, Opened, opened}
 use Rattle.page_roff_blocks.specs.Run.{Meaning, At, meet_as, value, leaf_if, refuse_if, unopened_if}
 
-module _ {S : Type 0} (m : Meaning S) where
+module _ {X S : Type 0} (m : Meaning X S) where
   -- how the next part is met
   unfoldable pub met : Spot → S → Bool × S
   met spot s = meet_as m (reached spot) s
@@ -61,19 +61,19 @@ module _ {S : Type 0} (m : Meaning S) where
   step_parts (Region head ∷ rest) spot s = step_region head spot s
 
   -- a line in an open region
-  unfoldable pub step_inside : Bool → Opened → List ℕ → Levels → S → At S
+  unfoldable pub step_inside : Bool → Opened → X → Levels → S → At S
   step_inside true o line l s = record { place = record { region = None; levels = l }; state = m.ends_region o line s }
   step_inside false o line l s = record { place = record { region = Some o; levels = l }; state = m.reads o line s }
 
-  unfoldable pub step_from : Option Opened → List ℕ → Levels → S → At S
-  step_from None line l s = step_parts (atoms line) (at_line l) (m.begins line s)
-  step_from (Some o) line l s = step_inside (is_ending o.ending line) o line l s
+  unfoldable pub step_from : (X → List ℕ) → Option Opened → X → Levels → S → At S
+  step_from text None line l s = step_parts (atoms (text line)) (at_line l) (m.begins line s)
+  step_from text (Some o) line l s = step_inside (is_ending o.ending (text line)) o line l s
 
   -- one line
-  unfoldable pub step : List ℕ → At S → At S
-  step line a = step_from a.place.region line a.place.levels a.state
+  unfoldable pub step : (X → List ℕ) → X → At S → At S
+  step text line a = step_from text a.place.region line a.place.levels a.state
 
   -- line after line
-  unfoldable pub step_lines : List (List ℕ) → At S → At S
-  step_lines [] a = a
-  step_lines (line ∷ lines) a = step_lines lines (step line a)
+  unfoldable pub step_lines : (X → List ℕ) → List X → At S → At S
+  step_lines text [] a = a
+  step_lines text (line ∷ lines) a = step_lines text lines (step text line a)

@@ -4,7 +4,7 @@ ghost use Rattle.std.specs.Prelude.{◌≡◌, ◌≤◌, ℕ, ◌+◌, ◌*◌,
 ghost use Rattle.page_roff_blocks.specs.Atoms.{with_part, part_of, atoms, atoms_left};
 ghost use Rattle.page_roff_blocks.specs.Levels.{Spot};
 ghost use Rattle.page_roff_blocks.specs.declared.atoms.Atom.{Atom};
-ghost use Rattle.page_roff_blocks.specs.Run.{Meaning, run_lines, At};
+ghost use Rattle.page_roff_blocks.specs.Run.{Meaning, run_lines, At, headed, each_line};
 ghost use Rattle.page_roff_blocks.specs.Steps.{step_parts, step_lines};
 
 /// The parts of a line are its first one, and those of what is left of the line.
@@ -13,21 +13,27 @@ pub fn atoms_law()
 {}
 
 /// What the forest of a source does is what its parts do one after another, from every place on.
-pub fn fold_law<S>()
-    ensures { (m : Meaning S) (lines : List (List ℕ)) (at : At S)
-        → run_lines m lines at ≡ step_lines m lines at }
+pub fn fold_law<X, S>()
+    ensures { (m : Meaning X S) (text : X → List ℕ) (lines : List X) (at : At S)
+        → run_lines m text lines at ≡ step_lines m text lines at }
 {}
 
 /// A source may be cut between any two lines, inside regions, blocks and remainders that are skipped too:
 /// what follows the cut goes on from the nodes that the lines before it left open.
-pub fn cut_law<S>()
-    ensures { (m : Meaning S) (above below : List (List ℕ)) (at : At S)
-        → run_lines m (above ++ below) at ≡ run_lines m below (run_lines m above at) }
+pub fn cut_law<X, S>()
+    ensures { (m : Meaning X S) (text : X → List ℕ) (above below : List X) (at : At S)
+        → run_lines m text (above ++ below) at ≡ run_lines m text below (run_lines m text above at) }
 {}
 
 /// A line has at most two parts a byte, and two; and each part of a line skips one block more at most.
-pub fn room_law<S>()
+pub fn room_law<X, S>()
     ensures parts { (line : List ℕ) → length (atoms line) ≤ 2 * length line + 2 }
-    ensures skipped { (m : Meaning S) (parts : List (Atom (List ℕ))) (spot : Spot) (s : S)
+    ensures skipped { (m : Meaning X S) (parts : List (Atom (List ℕ))) (spot : Spot) (s : S)
         → (step_parts m parts spot s).place.levels.skipped ≤ spot.levels.skipped + length parts }
+{}
+
+/// Lines with heads: what their forest does is, line after line, what the head does and then the forest of the line's text.
+pub fn lines_law<X, S>()
+    ensures { (text : X → List ℕ) (head : X → S → S) (m : Meaning (List ℕ) S) (lines : List X) (at : At S)
+        → run_lines (headed text head m) text lines at ≡ each_line text head m lines at }
 {}

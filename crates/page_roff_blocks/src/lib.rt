@@ -12,11 +12,11 @@ mod regions;
 mod spots;
 
 pub use atoms::{Atom, Branch, Head};
-pub use laws::{atoms_law, cut_law, fold_law, room_law};
+pub use laws::{atoms_law, cut_law, fold_law, lines_law, room_law};
 pub use levels::{Levels, Way};
 pub use line_places::LinePlace;
 pub use open_regions::OpenRegion;
-pub use regions::{RegionHead, RegionKind, is_ending};
+pub use regions::{RegionHead, is_ending};
 pub use spots::{Reached, Spot};
 
 /// The open true blocks of a source: a page or a running macro.

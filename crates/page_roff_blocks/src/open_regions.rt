@@ -6,9 +6,10 @@ ghost use Rattle.page_roff_blocks.specs.Caps.{RegionFits};
 ghost use Rattle.page_roff_blocks.specs.Levels.{name_if, within_limit, opened};
 ghost use Rattle.page_roff_blocks.specs.Regions.{is_ending, text_seen, region_seen, FitsRegion};
 
-use crate::regions::{RegionHead, RegionKind, is_ending};
+use crate::regions::{RegionHead, is_ending};
 use arrayvec::ArrayVec;
 use page_core_limits::{LINE, NAME};
+use page_roff_requests::RegionKind;
 use std::marker::Model;
 
 /// A region that is open, with what of its head decides the rest.

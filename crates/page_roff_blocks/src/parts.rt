@@ -13,10 +13,11 @@ ghost use Rattle.page_roff_blocks.specs.declared.parts.Keyword.TheVariants as ke
 ghost use Rattle.page_roff_blocks.specs.Regions.{text_seen};
 
 use crate::atoms::{Atom, Branch, Head};
-use crate::regions::{RegionKind, region_head};
+use crate::regions::region_head;
 use page_core_limits::LINE;
 use page_roff_forms::{LineForm, control_name, form_of, white_len};
 use page_roff_heads::{Conditional, Guarded, Placed, block_end, read_conditional, read_guarded};
+use page_roff_requests::{RegionKind, Request};
 use std::alloc::AllocError;
 
 // What a control line heads.
@@ -61,16 +62,11 @@ impl<W: Copy> Clone for Part<W> {
 fn keyword_of(name: &[u8]) -> Keyword
     ensures { result ≡ keyword_of name.now }
 {
-    match name {
-        b"if" => Keyword::If,
-        b"ie" => Keyword::IfElse,
-        b"el" => Keyword::Else,
-        b"de" => Keyword::Region(RegionKind::Define),
-        b"am" => Keyword::Region(RegionKind::Append),
-        b"ig" => Keyword::Region(RegionKind::Ignore),
-        b"TS" => Keyword::Region(RegionKind::Table),
-        b"EQ" => Keyword::Region(RegionKind::Equation),
-        b"PS" => Keyword::Region(RegionKind::Picture),
+    match Request::of(name) {
+        Some(Request::If) => Keyword::If,
+        Some(Request::IfElse) => Keyword::IfElse,
+        Some(Request::Else) => Keyword::Else,
+        Some(Request::Region(kind)) => Keyword::Region(kind),
         _ => Keyword::Other,
     }
 }

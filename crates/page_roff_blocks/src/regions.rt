@@ -3,28 +3,12 @@
 ghost use Rattle.std.specs.Prelude.{◌≡◌, ◌≤◌, ◌+◌, length};
 ghost use Rattle.page_core_limits.specs.declared.TheConstants.{LINE, NAME};
 ghost use Rattle.page_roff_forms.specs.Arguments.{arguments};
-ghost use Rattle.page_roff_blocks.specs.Regions.{first_text, ending_of, is_too_long, region_head, is_ending, text_seen, region_seen, FitsRegion, TextOfNext};
+ghost use Rattle.page_roff_blocks.specs.Regions.{first_name, ending_of, is_too_long, region_head, is_ending, text_seen, region_seen, FitsRegion, NameOfNext};
 
 use page_core_limits::{LINE, NAME};
 use page_roff_forms::{Arguments, LineForm, form_of};
+use page_roff_requests::RegionKind;
 use std::alloc::AllocError;
-
-/// The request or macro that begins a region.
-#[derive(Clone, Copy)]
-pub enum RegionKind {
-    /// `de`: the body of a macro.
-    Define,
-    /// `am`: more of the body of a macro.
-    Append,
-    /// `ig`: lines that are ignored.
-    Ignore,
-    /// `TS`: a table.
-    Table,
-    /// `EQ`: an equation.
-    Equation,
-    /// `PS`: a picture.
-    Picture,
-}
 
 /// The head of a region; `W` is a text. Its names are arguments as they are written, and nothing in them is
 /// expanded.
@@ -52,13 +36,13 @@ impl<W: Copy> Clone for RegionHead<W> {
     }
 }
 
-// The text of the next argument, if there is one more.
-fn next_text<'a>(arguments: &mut Arguments<'a>) -> Option<&'a [u8]>
-    ensures { TextOfNext arguments.old (text_seen result) arguments.new }
+// The name that the next argument is, if there is one more; an empty one is none.
+fn next_name<'a>(arguments: &mut Arguments<'a>) -> Option<&'a [u8]>
+    ensures { NameOfNext arguments.old (text_seen result) arguments.new }
 {
     match arguments.next_argument() {
-        Some(argument) => Some(argument.text),
-        None => None,
+        Some(argument) if !argument.text.is_empty() => Some(argument.text),
+        _ => None,
     }
 }
 
@@ -98,14 +82,15 @@ pub(crate) fn region_head(
     ensures fits { FitsRegion (region_seen result) }
 {
     let mut arguments = Arguments::new(rest, rest_column);
-    let first = next_text(&mut arguments);
-    let second = next_text(&mut arguments);
+    let first = next_name(&mut arguments);
+    let second = next_name(&mut arguments);
     let (name, asked): (Option<&[u8]>, Option<&[u8]>) = match kind {
         RegionKind::Define | RegionKind::Append => (first, second),
         RegionKind::Ignore => (None, first),
-        RegionKind::Table => (None, Some(b"TE")),
-        RegionKind::Equation => (None, Some(b"EN")),
-        RegionKind::Picture => (None, Some(b"PE")),
+        RegionKind::Table | RegionKind::Equation | RegionKind::Picture => (
+            None,
+            kind.fixed_ending(),
+        ),
     };
     RegionHead {
         kind,

@@ -1,7 +1,7 @@
 //! The parts of lines.
 
 use arrayvec::ArrayVec;
-use page_roff_blocks::{Atom, Branch, Head, LinePlace, RegionHead, RegionKind};
+use page_roff_blocks::{Atom, Branch, Head, LinePlace, RegionHead};
 use std::process::Abort;
 
 type Shown = ArrayVec<u8, 200>;
@@ -18,20 +18,9 @@ fn show_head(shown: &mut Shown, head: Head<&[u8]>) {
     }
 }
 
-fn word(kind: RegionKind) -> &'static [u8] {
-    match kind {
-        RegionKind::Define => b"de",
-        RegionKind::Append => b"am",
-        RegionKind::Ignore => b"ig",
-        RegionKind::Table => b"TS",
-        RegionKind::Equation => b"EQ",
-        RegionKind::Picture => b"PS",
-    }
-}
-
-// A region's word, the macro that it defines, and its end name, after `!` where a longer one was asked for.
+// A region's name, the macro that it defines, and its end name, after `!` where a longer one was asked for.
 fn show_region(shown: &mut Shown, head: RegionHead<&[u8]>) {
-    show(shown, word(head.kind));
+    show(shown, head.kind.name());
     show(shown, b"(");
     show(shown, head.name.unwrap_or(b"none"));
     show(shown, if head.has_long_ending { b")!" } else { b")" });

@@ -4,7 +4,8 @@ use crate::names::{Roff, show_messages};
 use page_core_base::Place;
 use page_core_limits::LINE;
 use page_core_writers::TextNotes;
-use page_roff_definitions::{DefinitionRequest, RequestLine, define};
+use page_roff_definitions::{RequestLine, define, is_in_copy_mode};
+use page_roff_requests::Request;
 use page_roff_values::NoteLatch;
 
 /// Does a request in line 7, of which the name and the expanded rest are given, and shows its messages.
@@ -13,7 +14,7 @@ pub(crate) fn show_request(rt: &HostRuntime, roff: &mut Roff, text: &str) {
     if rest.len() > LINE / 2 {
         return;
     }
-    let Some(request) = DefinitionRequest::of(name.as_bytes()) else {
+    let Some(Request::Definition(request)) = Request::of(name.as_bytes()) else {
         return;
     };
     let line = RequestLine {
@@ -32,10 +33,10 @@ pub(crate) fn show_request(rt: &HostRuntime, roff: &mut Roff, text: &str) {
 
 /// Shows whether a name is that of a request for definitions, and whether its rest is expanded in copy mode.
 pub(crate) fn show_mode(rt: &HostRuntime, name: &str) {
-    let word = match DefinitionRequest::of(name.as_bytes()) {
-        Some(request) if request.is_in_copy_mode() => "copy mode",
-        Some(_) => "no copy mode",
-        None => "none",
+    let word = match Request::of(name.as_bytes()) {
+        Some(Request::Definition(request)) if is_in_copy_mode(request) => "copy mode",
+        Some(Request::Definition(_)) => "no copy mode",
+        _ => "none",
     };
     let _ = print!(rt; " -> {word}");
 }

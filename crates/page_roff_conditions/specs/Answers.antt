@@ -14,7 +14,7 @@ use Rattle.page_roff_values.specs.Environments.{Surroundings, register_found}
 use Rattle.page_roff_values.specs.Values.{Spot, Laid, NEST, value, start, after_bytes}
 use Rattle.page_roff_values.specs.Latches.{Came}
 use Rattle.page_roff_expressions.specs.Values.{value_of, messages_of}
-use Rattle.page_roff_conditions.specs.Requests.{is_request}
+use Rattle.page_roff_requests.specs.Requests.{request_of}
 
 -- what a condition gives: whether it holds, its messages, and its line after that
 pub record Answer : Type 0 where
@@ -31,7 +31,7 @@ turned is_turned holds = if is_turned then not holds else holds
 
 -- a name that a string, a macro or a request has
 abbrev pub is_defined : List ℕ → Definitions → Bool
-is_defined name d = is_some (string_of name d) || is_some (body_of name d) || is_request name
+is_defined name d = is_some (string_of name d) || is_some (body_of name d) || is_some (request_of name)
 
 -- one that a register has, a read-only one too
 abbrev pub is_register : List ℕ → Surroundings → Bool

@@ -10,18 +10,18 @@ ghost use Rattle.page_roff_values.specs.Environments.{surroundings_of};
 ghost use Rattle.page_roff_values.specs.Latches.{Goes};
 ghost use Rattle.page_roff_values.specs.Values.{nothing};
 
-use crate::requests::is_request;
 use page_core_base::{Note, NoteKind, Place};
 use page_roff_expressions::expression;
 use page_roff_heads::{Condition, Placed, Test};
 use page_roff_names::Names;
+use page_roff_requests::Request;
 use page_roff_values::{Environment, Expansion, NoteOut};
 
 // Whether a string, a macro or a request has a name.
 fn is_defined(name: &[u8], names: &Names) -> bool
     ensures { result ≡ asked.is_defined name.now names.now }
 {
-    names.string(name).is_some() || names.body(name).is_some() || is_request(name)
+    names.string(name).is_some() || names.body(name).is_some() || Request::of(name).is_some()
 }
 
 // What `!` makes of a test.

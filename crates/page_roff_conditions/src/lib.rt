@@ -2,7 +2,5 @@
 #![tactic(auto)]
 
 mod answers;
-mod requests;
 
 pub use answers::holds;
-pub use requests::{is_ignored, is_request, is_unsupported};

@@ -2,7 +2,7 @@
 
 use crate::fixtures::{Fixture, check_notes, request};
 use page_core_base::NoteKind;
-use page_roff_definitions::DefinitionRequest;
+use page_roff_requests::DefinitionRequest;
 use std::process::Abort;
 use std::test::Fail;
 

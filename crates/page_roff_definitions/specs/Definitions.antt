@@ -1,6 +1,5 @@
 -- What the requests for definitions do. Source: roff(7), "ds", "as", "nr", "rm", "rn", "rr".
-use Rattle.std.specs.Prelude.{◌≡◌, ℕ, ◌+◌, ◌≤◌, length, Bool, true, false, ◌==◌, ◌||◌, List, [], ◌∷◌, ◌++◌, if◌then◌else◌, Option, Some, None, unwrap_or, ℤ, pos, ◌+ℤ◌, codes}
-use Rattle.std.specs.Str.{bytes_eq}
+use Rattle.std.specs.Prelude.{◌≡◌, ℕ, ◌+◌, ◌≤◌, length, Bool, true, false, ◌==◌, ◌||◌, List, [], ◌∷◌, ◌++◌, if◌then◌else◌, Option, Some, None, unwrap_or, ℤ, pos, ◌+ℤ◌}
 use Rattle.page_core_base.specs.Messages.{Message, message_about}
 use Rattle.page_core_base.specs.declared.note_kinds.NoteKind.TheVariants as kinds
 use Rattle.page_core_base.specs.declared.places.Place.{Place}
@@ -16,8 +15,8 @@ use Rattle.page_roff_names.specs.Names.{Definitions, look, string_of, number_of,
 use Rattle.page_roff_values.specs.Latches.{Came}
 use Rattle.page_roff_expressions.specs.Values.{value_of, messages_of}
 use Rattle.page_roff_definitions.specs.declared.definitions.RequestLine.{RequestLine}
-use Rattle.page_roff_definitions.specs.declared.definitions.DefinitionRequest.{DefinitionRequest}
-use Rattle.page_roff_definitions.specs.declared.definitions.DefinitionRequest.TheVariants.{DefineString, AppendString, SetRegister, Remove, Rename, RemoveRegisters}
+use Rattle.page_roff_requests.specs.declared.requests.DefinitionRequest.{DefinitionRequest}
+use Rattle.page_roff_requests.specs.declared.requests.DefinitionRequest.TheVariants.{DefineString, AppendString, SetRegister, Remove, Rename, RemoveRegisters}
 use Rattle.page_roff_definitions.specs.Arguments.{closings_notes, first_text, value_after}
 
 -- what is defined after a request, and its messages
@@ -94,17 +93,7 @@ says_first notes after = outcome after.definitions (notes ++ after.notes)
 abbrev pub reads_number : List ℕ → List ℕ → Place → Definitions → Outcome
 reads_number name value place old = says_first (messages_of place value) (sets_number name value place old)
 
--- ---- the requests by their names
-
-abbrev pub request_of : List ℕ → Option DefinitionRequest
-request_of name =
-    if bytes_eq name (codes "ds") then Some DefineString
-    else if bytes_eq name (codes "as") then Some AppendString
-    else if bytes_eq name (codes "nr") then Some SetRegister
-    else if bytes_eq name (codes "rm") then Some Remove
-    else if bytes_eq name (codes "rn") then Some Rename
-    else if bytes_eq name (codes "rr") then Some RemoveRegisters
-    else None
+-- ---- the requests
 
 -- strings are read in copy mode, name and value
 abbrev pub is_in_copy_mode : DefinitionRequest → Bool
@@ -115,24 +104,32 @@ is_in_copy_mode Remove = false
 is_in_copy_mode Rename = false
 is_in_copy_mode RemoveRegisters = false
 
--- ---- requests, by their arguments; a request without its name defines nothing
+-- ---- requests, by their arguments; a request without its name defines nothing, and an empty name is none
+
+abbrev pub if_named : List ℕ → Outcome → Definitions → Outcome
+if_named [] wanted old = outcome old []
+if_named (byte ∷ bytes) wanted old = wanted
 
 abbrev pub nr : List (Argument (List ℕ)) → Place → Definitions → Outcome
 nr [] place old = outcome old []
-nr (name ∷ values) place old = reads_number name.text (first_text values) place old
+nr (name ∷ values) place old = if_named name.text (reads_number name.text (first_text values) place old) old
 
+-- nothing has an empty name, so none is given another
 abbrev pub rn : List (Argument (List ℕ)) → Place → Definitions → Outcome
 rn [] place old = outcome old []
 rn (old_name ∷ []) place old = outcome old []
-rn (old_name ∷ name ∷ more) place old = renames old_name.text name.text place old
+rn (old_name ∷ name ∷ more) place old =
+    if_named name.text (renames old_name.text name.text place old) old
 
 abbrev pub ds : ℕ → List ℕ → List (Argument (List ℕ)) → Place → Definitions → Outcome
 ds column rest [] place old = outcome old []
-ds column rest (name ∷ more) place old = defines_string name.text (value_after column rest name) place old
+ds column rest (name ∷ more) place old =
+    if_named name.text (defines_string name.text (value_after column rest name) place old) old
 
 abbrev pub as_request : ℕ → List ℕ → List (Argument (List ℕ)) → Place → Definitions → Outcome
 as_request column rest [] place old = outcome old []
-as_request column rest (name ∷ more) place old = appends_string name.text (value_after column rest name) place old
+as_request column rest (name ∷ more) place old =
+    if_named name.text (appends_string name.text (value_after column rest name) place old) old
 
 -- arguments without their last quote are reported first, but not of strings
 abbrev pub does : DefinitionRequest → ℕ → List ℕ → List (Argument (List ℕ)) → Place → Definitions → Outcome

@@ -13,7 +13,7 @@ use page_core_limits::LINE;
 use page_roff_forms::{Argument, Arguments, Quoting};
 use page_roff_values::NoteOut;
 
-// Reports an argument without its last quote, at its first one.
+// Reports an argument without its closing quote, at its opening one.
 fn report_closing<O: NoteOut>(out: &mut O, line: u32, argument: Argument<&[u8]>)
     ensures { Came O.left out.old (closing_notes line (argument_seen argument.entry)) out.new }
 {
@@ -27,7 +27,7 @@ fn report_closing<O: NoteOut>(out: &mut O, line: u32, argument: Argument<&[u8]>)
     }
 }
 
-/// Reports the arguments without their last quote. The first byte of `rest` stands at the place.
+/// Reports the arguments without their closing quote. The first byte of `rest` stands at the place.
 pub fn report_closings<O: NoteOut>(out: &mut O, place: Place, rest: &[u8])
     requires short { length rest.now ≤ LINE }
     requires room { place.column + length rest.now ≤ LINE + 1 }

@@ -14,50 +14,17 @@ use page_core_limits::Limit;
 use page_roff_expressions::expression;
 use page_roff_forms::Arguments;
 use page_roff_names::Names;
+use page_roff_requests::DefinitionRequest;
 use page_roff_values::NoteOut;
 
-/// A request that defines strings or number registers, or takes definitions away.
-#[derive(Clone, Copy)]
-pub enum DefinitionRequest {
-    /// `ds`
-    DefineString,
-    /// `as`
-    AppendString,
-    /// `nr`
-    SetRegister,
-    /// `rm`
-    Remove,
-    /// `rn`
-    Rename,
-    /// `rr`
-    RemoveRegisters,
-}
-
-impl DefinitionRequest {
-    /// The request of this name.
-    pub fn of(name: &[u8]) -> Option<DefinitionRequest>
-        ensures { result ≡ defining.request_of name.now }
-    {
-        match name {
-            b"ds" => Some(DefinitionRequest::DefineString),
-            b"as" => Some(DefinitionRequest::AppendString),
-            b"nr" => Some(DefinitionRequest::SetRegister),
-            b"rm" => Some(DefinitionRequest::Remove),
-            b"rn" => Some(DefinitionRequest::Rename),
-            b"rr" => Some(DefinitionRequest::RemoveRegisters),
-            _ => None,
-        }
-    }
-
-    /// Whether the rest of its line is expanded in copy mode.
-    pub fn is_in_copy_mode(self) -> bool
-        ensures { result ≡ defining.is_in_copy_mode self }
-    {
-        matches!(
-            self,
-            DefinitionRequest::DefineString | DefinitionRequest::AppendString
-        )
-    }
+/// Whether the rest of a request's line is expanded in copy mode.
+pub fn is_in_copy_mode(request: DefinitionRequest) -> bool
+    ensures { result ≡ defining.is_in_copy_mode request }
+{
+    matches!(
+        request,
+        DefinitionRequest::DefineString | DefinitionRequest::AppendString
+    )
 }
 
 /// The control line of a request, of which the rest is expanded.
@@ -184,9 +151,12 @@ fn do_define_string<O: NoteOut>(line: RequestLine<'_>, names: &mut Names, out: &
     ensures { Does O.left out.old out.new names.new (defining.ds line.entry.rest_column line.entry.rest.now
         (arguments line.entry.rest_column line.entry.rest.now) line.entry.place names.old) }
 {
-    if let Some(name) = Arguments::new(line.rest, line.rest_column).next_argument() {
-        let value = value_after(line.rest, line.rest_column, name);
-        define_string(name.text, value, line.place, names, out);
+    match Arguments::new(line.rest, line.rest_column).next_argument() {
+        Some(name) if !name.text.is_empty() => {
+            let value = value_after(line.rest, line.rest_column, name);
+            define_string(name.text, value, line.place, names, out);
+        }
+        _ => {}
     }
 }
 
@@ -197,9 +167,12 @@ fn do_append_string<O: NoteOut>(line: RequestLine<'_>, names: &mut Names, out: &
         (defining.as_request line.entry.rest_column line.entry.rest.now
         (arguments line.entry.rest_column line.entry.rest.now) line.entry.place names.old) }
 {
-    if let Some(name) = Arguments::new(line.rest, line.rest_column).next_argument() {
-        let more = value_after(line.rest, line.rest_column, name);
-        append_string(name.text, more, line.place, names, out);
+    match Arguments::new(line.rest, line.rest_column).next_argument() {
+        Some(name) if !name.text.is_empty() => {
+            let more = value_after(line.rest, line.rest_column, name);
+            append_string(name.text, more, line.place, names, out);
+        }
+        _ => {}
     }
 }
 
@@ -220,9 +193,12 @@ fn do_set_register<O: NoteOut>(line: RequestLine<'_>, names: &mut Names, out: &m
         (defining.nr (arguments line.entry.rest_column line.entry.rest.now) line.entry.place names.old) }
 {
     let mut arguments = Arguments::new(line.rest, line.rest_column);
-    if let Some(name) = arguments.next_argument() {
-        let value = next_text(&mut arguments);
-        set_number(name.text, value, line.place, names, out);
+    match arguments.next_argument() {
+        Some(name) if !name.text.is_empty() => {
+            let value = next_text(&mut arguments);
+            set_number(name.text, value, line.place, names, out);
+        }
+        _ => {}
     }
 }
 
@@ -236,8 +212,11 @@ fn do_rename<O: NoteOut>(line: RequestLine<'_>, names: &mut Names, out: &mut O)
     let Some(old_name) = arguments.next_argument() else {
         return;
     };
-    if let Some(name) = arguments.next_argument() {
-        rename(old_name.text, name.text, line.place, names, out);
+    match arguments.next_argument() {
+        Some(name) if !name.text.is_empty() => {
+            rename(old_name.text, name.text, line.place, names, out)
+        }
+        _ => {}
     }
 }
 
@@ -253,7 +232,7 @@ pub fn define<O: NoteOut>(
     ensures { Does O.left out.old out.new names.new
         (defining.outcome_of request line.entry.place line.entry.rest_column line.entry.rest.now names.old) }
 {
-    if !request.is_in_copy_mode() {
+    if !is_in_copy_mode(request) {
         let place = Place {
             line: line.place.line,
             column: line.rest_column,

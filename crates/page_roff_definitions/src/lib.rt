@@ -6,4 +6,4 @@ mod arguments;
 mod definitions;
 
 pub use arguments::report_closings;
-pub use definitions::{DefinitionRequest, RequestLine, define};
+pub use definitions::{RequestLine, define, is_in_copy_mode};

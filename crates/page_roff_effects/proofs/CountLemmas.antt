@@ -4,8 +4,8 @@ use Rattle.page_core_base.specs.declared.page_settings.Output.{Output}
 use Rattle.page_core_base.specs.declared.places.Place.{Place}
 use Rattle.page_roff_blocks.specs.Levels.{Opened}
 use Rattle.page_roff_blocks.specs.declared.regions.RegionHead.{RegionHead}
-use Rattle.page_roff_blocks.specs.declared.regions.RegionKind.{RegionKind}
-use Rattle.page_roff_blocks.specs.declared.regions.RegionKind.TheVariants.{Define, Append, Ignore, Table, Equation, Picture}
+use Rattle.page_roff_requests.specs.declared.regions.RegionKind.{RegionKind}
+use Rattle.page_roff_requests.specs.declared.regions.RegionKind.TheVariants.{Define, Append, Ignore, Table, Equation, Picture}
 use Rattle.page_roff_forms.specs.LineForms.{form_of}
 use Rattle.page_roff_forms.specs.declared.line_forms.LineForm.{LineForm}
 use Rattle.page_roff_forms.specs.declared.line_forms.LineForm.TheVariants.{Comment, BlankLine, Text, Control}
@@ -17,8 +17,8 @@ use Rattle.page_roff_values.specs.Environments.{Surroundings}
 use Rattle.page_roff_values.specs.Values.{Spot, Laid, IsWithin, start, expanded, NEST}
 use Rattle.page_roff_values.proofs.LineLemmas.{value_within}
 use Rattle.page_roff_conditions.specs.Answers.{Answer, condition_answer, test_answer, unless_cut, expands, bytes_between}
-use Rattle.page_roff_run.specs.Languages.{Kind}
-use Rattle.page_roff_run.specs.Spending.{after_leaf, Spends}
+use Rattle.page_roff_language.specs.Languages.{Kind}
+use Rattle.page_roff_language.specs.Spending.{after_leaf, Spends}
 use Rattle.page_roff_effects.specs.declared.commands.Command.{Command}
 use Rattle.page_roff_effects.specs.declared.commands.Command.TheVariants as commands
 use Rattle.page_roff_effects.specs.Commands.{command_of, copies}

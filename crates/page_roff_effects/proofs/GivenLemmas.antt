@@ -4,9 +4,9 @@ use Rattle.page_core_base.specs.declared.page_settings.Output.{Output}
 use Rattle.page_roff_heads.specs.declared.conditions.Condition.{Condition}
 use Rattle.page_roff_blocks.specs.Levels.{Opened}
 use Rattle.page_roff_conditions.specs.Answers.{Answer}
-use Rattle.page_roff_run.specs.Languages.{Kind, page, body, Done, gives, calls}
-use Rattle.page_roff_run.specs.Budgets.{Budgeted, with_rest, charge_by, charge, begin_line, whether_run, meet, test, unopened_by, read_line, end_line, meaning, done_with, language}
-use Rattle.page_roff_run.specs.Fronts.{over_pair, over_done, IsFrontOfParts, IsFront}
+use Rattle.page_roff_language.specs.Languages.{Kind, page, body, Done, gives, calls}
+use Rattle.page_roff_language.specs.Budgets.{Budgeted, with_rest, charge_by, charge, begin_line, whether_run, meet, test, unopened_by, read_line, end_line, meaning, done_with, language}
+use Rattle.page_roff_language.specs.Fronts.{over_pair, over_done, IsFrontOfParts, IsFront}
 use Rattle.page_roff_effects.specs.States.{State, Outcome, Product, no_product, line_product, call_product, Given, after}
 use Rattle.page_roff_effects.specs.Leaves.{leaf_outcome}
 use Rattle.page_roff_effects.specs.RegionLines.{head_outcome, line_outcome, end_outcome, finish_outcome}

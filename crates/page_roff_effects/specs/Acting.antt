@@ -14,7 +14,7 @@ use Rattle.page_roff_values.specs.Values.{Spot, Laid, expanded}
 use Rattle.page_roff_conditions.specs.Answers.{Answer}
 use Rattle.page_roff_effects.specs.declared.commands.ProductKind.{ProductKind}
 use Rattle.page_roff_effects.specs.declared.commands.ProductKind.TheVariants as kinds
-use Rattle.page_roff_effects.specs.States.{Memory, Call, Product, no_product, line_product, call_product, Outcome, Setting, surroundings, counted}
+use Rattle.page_roff_effects.specs.States.{Memory, first_memory, Call, Product, no_product, line_product, call_product, Outcome, Setting, surroundings, counted}
 use Rattle.page_roff_effects.specs.Effects.{test_outcome}
 use Rattle.page_roff_effects.specs.RegionLines.{with_line}
 use Rattle.page_roff_effects.specs.Leaves as leaves
@@ -27,10 +27,6 @@ pub record Acting : Type 0 where
   pub finished : Spot
   pub line : Line
   pub call : Call
-
--- before the first line of a page
-abbrev pub first_memory : Memory
-first_memory = record { definitions = definitions [] []; body = None; number = 0; expansions = 0 }
 
 abbrev pub first_setting : Output → Setting
 first_setting output = record { output = output; arguments = None }

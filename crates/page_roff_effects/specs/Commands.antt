@@ -2,9 +2,10 @@
 use Rattle.std.specs.Prelude.{ℕ, Bool, false, nat_le, List, length, if◌then◌else◌, Option, Some, None}
 use Rattle.page_core_limits.specs.declared.TheConstants.{BODY}
 use Rattle.page_roff_names.specs.Names.{Definitions, body_of}
-use Rattle.page_roff_conditions.specs.Requests.{is_one_of, ignored, is_unsupported}
-use Rattle.page_roff_definitions.specs.declared.definitions.DefinitionRequest.{DefinitionRequest}
-use Rattle.page_roff_definitions.specs.Definitions.{request_of, is_in_copy_mode}
+use Rattle.page_roff_requests.specs.Requests.{request_of}
+use Rattle.page_roff_requests.specs.declared.requests.Request.{Request}
+use Rattle.page_roff_requests.specs.declared.requests.Request.TheVariants as requests
+use Rattle.page_roff_definitions.specs.Definitions.{is_in_copy_mode}
 use Rattle.page_roff_effects.specs.declared.commands.Command.{Command}
 use Rattle.page_roff_effects.specs.declared.commands.Command.TheVariants.{Call, Define, Ignore, Refuse, Pass}
 
@@ -16,17 +17,22 @@ within_limit (Some body) = if nat_le (length body) BODY then Some body else None
 abbrev pub called_body : List ℕ → Definitions → Option (List ℕ)
 called_body name d = within_limit (body_of name d)
 
--- what is left to the set of macros are the requests that change rows, macros of the language, and unknown ones
-abbrev pub other_command : List ℕ → Command
-other_command name = if is_one_of ignored name then Ignore else if is_unsupported name then Refuse else Pass
-
-abbrev pub request_command : List ℕ → Option DefinitionRequest → Command
-request_command name None = other_command name
-request_command name (Some request) = Define request
+-- What is left to the set of macros are the requests that change rows, macros of the language, and unknown ones.
+-- The head of a conditional or a region is a part of a line by itself.
+abbrev pub request_command : Option Request → Command
+request_command None = Pass
+request_command (Some requests.If) = Pass
+request_command (Some requests.IfElse) = Pass
+request_command (Some requests.Else) = Pass
+request_command (Some (requests.Region kind)) = Pass
+request_command (Some (requests.Definition request)) = Define request
+request_command (Some (requests.Layout request)) = Pass
+request_command (Some requests.Ignored) = Ignore
+request_command (Some requests.Unsupported) = Refuse
 
 -- a macro of the page comes before a request
 abbrev pub command_or : List ℕ → Option (List ℕ) → Command
-command_or name None = request_command name (request_of name)
+command_or name None = request_command (request_of name)
 command_or name (Some body) = Call
 
 unfoldable pub command_of : List ℕ → Definitions → Command

@@ -5,8 +5,8 @@ use Rattle.page_core_base.specs.declared.page_settings.Output.{Output}
 use Rattle.page_roff_heads.specs.declared.conditions.Condition.{Condition}
 use Rattle.page_roff_values.specs.Arguments.{arguments_in, lines_in}
 use Rattle.page_roff_conditions.specs.Answers.{Answer, condition_answer}
-use Rattle.page_roff_run.specs.Languages.{Kind, page, body, Done, gives, calls}
-use Rattle.page_roff_run.specs.Budgets.{Budgeted, Effects}
+use Rattle.page_roff_language.specs.Languages.{Kind, page, body, Done, gives, calls}
+use Rattle.page_roff_language.specs.Budgets.{Budgeted, Effects}
 use Rattle.page_roff_effects.specs.States.{Memory, State, Given, Outcome, Product, no_product, line_product, call_product, after, reports, reports_at, counted, Setting, surroundings}
 use Rattle.page_roff_effects.specs.Leaves.{leaf_outcome}
 use Rattle.page_roff_effects.specs.RegionLines.{head_outcome, line_outcome, end_outcome, finish_outcome}

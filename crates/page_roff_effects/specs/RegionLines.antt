@@ -1,5 +1,5 @@
 -- What the heads and the lines of regions do. Source: roff(7), "de", "am", "ig"; mandoc(1), "unsupported".
-use Rattle.std.specs.Prelude.{ℕ, ◌||◌, ◌&&◌, not, Bool, true, false, nat_le, is_some, List, [], ◌∷◌, ◌++◌, length, codes, if◌then◌else◌, Option, Some, None, unwrap_or}
+use Rattle.std.specs.Prelude.{ℕ, ◌||◌, ◌&&◌, not, Bool, true, false, nat_le, is_some, List, [], ◌∷◌, ◌++◌, length, if◌then◌else◌, Option, Some, None, unwrap_or}
 use Rattle.page_core_limits.specs.declared.TheConstants.{BODY}
 use Rattle.page_core_limits.specs.declared.Limit.TheVariants as limits
 use Rattle.page_core_limits.specs.Limits.{name_of}
@@ -9,8 +9,9 @@ use Rattle.page_core_base.specs.declared.note_kinds.NoteKind.TheVariants as kind
 use Rattle.page_core_base.specs.declared.places.Place.{Place}
 use Rattle.page_roff_blocks.specs.Levels.{Opened, within_limit}
 use Rattle.page_roff_blocks.specs.declared.regions.RegionHead.{RegionHead}
-use Rattle.page_roff_blocks.specs.declared.regions.RegionKind.{RegionKind}
-use Rattle.page_roff_blocks.specs.declared.regions.RegionKind.TheVariants.{Define, Append, Ignore, Table, Equation, Picture}
+use Rattle.page_roff_requests.specs.declared.regions.RegionKind.{RegionKind}
+use Rattle.page_roff_requests.specs.declared.regions.RegionKind.TheVariants.{Define, Append, Ignore, Table, Equation, Picture}
+use Rattle.page_roff_requests.specs.Regions.{region_name}
 use Rattle.page_roff_names.specs.declared.rows.Meaning.TheVariants.{Macro}
 use Rattle.page_roff_names.specs.Entries.{definition}
 use Rattle.page_roff_names.specs.Names.{Definitions, with_text}
@@ -20,15 +21,6 @@ use Rattle.page_roff_definitions.specs.Definitions as defining
 use Rattle.page_roff_effects.specs.Commands.{called_body}
 use Rattle.page_roff_effects.specs.Leaves.{defines, after_expansion}
 use Rattle.page_roff_effects.specs.States.{Memory, Outcome, nothing, reports, reports_at, note_at, gives_line, at, with_body, Setting, surroundings}
-
--- the control word of a region
-abbrev pub word_of : RegionKind → List ℕ
-word_of Define = codes "de"
-word_of Append = codes "am"
-word_of Ignore = codes "ig"
-word_of Table = codes "TS"
-word_of Equation = codes "EQ"
-word_of Picture = codes "PS"
 
 -- ---- the head
 
@@ -126,7 +118,7 @@ end_outcome o false m = nothing (with_body None m)
 -- A source ends. A region that is open is dropped with a message, unless all was given up.
 abbrev pub missing_notes : RegionKind → Bool → Memory → List Message
 missing_notes kind true m = []
-missing_notes kind false m = note_at kinds.MissingEnd 1 (word_of kind) m
+missing_notes kind false m = note_at kinds.MissingEnd 1 (region_name kind) m
 
 unfoldable pub finish_outcome : Option Opened → Bool → Memory → Outcome
 finish_outcome None gave_up m = nothing m

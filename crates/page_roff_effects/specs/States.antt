@@ -1,12 +1,12 @@
 -- What the parts of a source change, and what they give. Source: roff(7), "LANGUAGE SYNTAX", "ds", "de".
-use Rattle.std.specs.Prelude.{ℕ, ◌+◌, ◌-◌, ◌^◌, min, Bool, List, [], ◌∷◌, ◌++◌, map, Option}
+use Rattle.std.specs.Prelude.{ℕ, ◌+◌, ◌-◌, ◌^◌, min, Bool, List, [], ◌∷◌, ◌++◌, map, Option, None}
 use Rattle.page_core_base.specs.Messages.{Message, message_about}
 use Rattle.page_core_base.specs.LinesTaken.{Line}
 use Rattle.page_core_base.specs.declared.lines_taken.Form.{Form}
 use Rattle.page_core_base.specs.declared.note_kinds.NoteKind.{NoteKind}
 use Rattle.page_core_base.specs.declared.page_settings.Output.{Output}
 use Rattle.page_core_base.specs.declared.places.Place.{Place}
-use Rattle.page_roff_names.specs.Names.{Definitions}
+use Rattle.page_roff_names.specs.Names.{Definitions, definitions}
 use Rattle.page_roff_values.specs.Environments.{Surroundings}
 
 -- a macro that is called: the lines of its body, and its arguments, each with a line feed after it
@@ -21,6 +21,15 @@ pub record Memory : Type 0 where
   pub body : Option (List ℕ)
   pub number : ℕ
   pub expansions : ℕ
+
+-- before the first line of a page
+abbrev pub first_memory : Memory
+first_memory = record { definitions = definitions [] []; body = None; number = 0; expansions = 0 }
+
+-- messages are about the line of this number from now on
+abbrev pub numbered : ℕ → Memory → Memory
+numbered number m =
+    record { definitions = m.definitions; body = m.body; number = number; expansions = m.expansions }
 
 -- what comes of a part besides messages
 pub data Product : Type 0 where

@@ -3,13 +3,12 @@
 ghost use Rattle.std.specs.Prelude.{◌≡◌, ◌≤◌, [], length, IfSome, is_some, unwrap_or};
 ghost use Rattle.page_core_limits.specs.declared.TheConstants.{BODY};
 ghost use Rattle.page_roff_blocks.specs.Regions.{text_seen};
-ghost use Rattle.page_roff_definitions.specs.Definitions.{request_of};
 ghost use Rattle.page_roff_effects.specs.Commands as named;
 
 use page_core_limits::BODY;
-use page_roff_conditions::{is_ignored, is_unsupported};
-use page_roff_definitions::DefinitionRequest;
+use page_roff_definitions::is_in_copy_mode;
 use page_roff_names::Names;
+use page_roff_requests::{DefinitionRequest, Request};
 
 /// What a control line with a name does.
 #[derive(Clone, Copy)]
@@ -59,26 +58,15 @@ pub(crate) fn body_or_nothing<'a>(name: &[u8], names: &'a Names) -> &'a [u8]
     }
 }
 
-// What a name stands for that neither calls a macro nor defines.
-fn other_command(name: &[u8]) -> Command
-    ensures { result ≡ named.other_command name.now }
-{
-    if is_ignored(name) {
-        Command::Ignore
-    } else if is_unsupported(name) {
-        Command::Refuse
-    } else {
-        Command::Pass
-    }
-}
-
 // What a request does, or a name that is left to the set of macros.
-fn request_command(name: &[u8]) -> Command
-    ensures { result ≡ named.request_command name.now (request_of name.now) }
+fn request_command(request: Option<Request>) -> Command
+    ensures { result ≡ named.request_command request }
 {
-    match DefinitionRequest::of(name) {
-        Some(request) => Command::Define(request),
-        None => other_command(name),
+    match request {
+        Some(Request::Definition(request)) => Command::Define(request),
+        Some(Request::Ignored) => Command::Ignore,
+        Some(Request::Unsupported) => Command::Refuse,
+        _ => Command::Pass,
     }
 }
 
@@ -103,7 +91,7 @@ impl Command {
         if is_called(name, names) {
             Command::Call
         } else {
-            request_command(name)
+            request_command(Request::of(name))
         }
     }
 
@@ -112,7 +100,7 @@ impl Command {
         ensures { result ≡ named.copies self }
     {
         match self {
-            Command::Define(request) => request.is_in_copy_mode(),
+            Command::Define(request) => is_in_copy_mode(request),
             Command::Call | Command::Ignore | Command::Refuse | Command::Pass => false,
         }
     }

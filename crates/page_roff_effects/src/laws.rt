@@ -3,9 +3,9 @@
 ghost use Rattle.std.specs.Prelude.{◌≡◌, List};
 ghost use Rattle.page_core_base.specs.declared.page_settings.Output.{Output};
 ghost use Rattle.page_roff_values.specs.declared.expansions.TheConstants.{EXPAND};
-ghost use Rattle.page_roff_run.specs.Budgets.{language};
-ghost use Rattle.page_roff_run.specs.Fronts.{IsFront};
-ghost use Rattle.page_roff_run.specs.Spending.{Spends};
+ghost use Rattle.page_roff_language.specs.Budgets.{language};
+ghost use Rattle.page_roff_language.specs.Fronts.{IsFront};
+ghost use Rattle.page_roff_language.specs.Spending.{Spends};
 ghost use Rattle.page_roff_effects.specs.Effects.{effects, expansions_of, in_front};
 ghost use Rattle.page_roff_effects.specs.States.{Given};
 

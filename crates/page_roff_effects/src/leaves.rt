@@ -14,8 +14,9 @@ use crate::actions::{Actions, report_at};
 use crate::commands::{Command, ProductKind, body_or_nothing};
 use page_core_base::{Form, NoteKind, Place};
 use page_core_limits::LINE;
-use page_roff_definitions::{DefinitionRequest, RequestLine, define, report_closings};
+use page_roff_definitions::{RequestLine, define, report_closings};
 use page_roff_forms::{LineForm, begins_control, form_of, has_word, plain_len};
+use page_roff_requests::DefinitionRequest;
 use page_roff_values::NoteOut;
 
 /// A control line with a name.

@@ -15,23 +15,10 @@ use crate::buffers::BodyBuffer;
 use crate::commands::{ProductKind, body_or_nothing};
 use page_core_base::{Form, Note, NoteKind, Place};
 use page_core_limits::{LINE, Limit, NAME};
-use page_roff_blocks::{OpenRegion, RegionHead, RegionKind};
+use page_roff_blocks::{OpenRegion, RegionHead};
 use page_roff_names::Names;
+use page_roff_requests::RegionKind;
 use page_roff_values::NoteOut;
-
-// The control word of a region.
-fn word_of(kind: RegionKind) -> &'static [u8]
-    ensures { result.now ≡ regions.word_of kind }
-{
-    match kind {
-        RegionKind::Define => b"de",
-        RegionKind::Append => b"am",
-        RegionKind::Ignore => b"ig",
-        RegionKind::Table => b"TS",
-        RegionKind::Equation => b"EQ",
-        RegionKind::Picture => b"PS",
-    }
-}
 
 // Whether a name is longer than names may be.
 #[tactic(auto, unfolding(page_roff_blocks::specs::Levels::within_limit))]
@@ -223,7 +210,7 @@ impl Actions {
                     NoteKind::MissingEnd,
                     self.number,
                     1,
-                    word_of(region.kind()),
+                    region.kind().name(),
                     out,
                 );
             }

@@ -1,6 +1,6 @@
 -- Texts between delimiters, and what ends an expression. Source: roff(7), "Conditional expressions" and
 -- "Escape sequences".
-use Rattle.std.specs.Prelude.{ℕ, zero, suc, ◌+◌, ◌==◌, nat_eq, nat_lt, min, List, [], ◌∷◌, length, take, drop, if◌then◌else◌}
+use Rattle.std.specs.Prelude.{ℕ, Bool, false, zero, suc, ◌+◌, ◌==◌, nat_eq, nat_lt, min, List, [], ◌∷◌, length, take, drop, if◌then◌else◌}
 use Rattle.std.specs.List.{starts_with}
 use Rattle.std.specs.Str.{continuation_len}
 use Rattle.page_roff_forms.specs.LineForms.{is_white}
@@ -30,9 +30,18 @@ quoted_len text =
     let place = place_of (delimiter_of text) inner in
     if nat_lt place (length inner) then delimiter_len text + place + delimiter_len text else 0
 
+-- a backslash (92)
+abbrev pub begins_pair : List ℕ → Bool
+begins_pair [] = false
+begins_pair (byte ∷ bytes) = byte == 92
+
+-- those of a width, of which a pair is no delimiter
+abbrev pub width_len : List ℕ → ℕ
+width_len text = if begins_pair text then 0 else quoted_len text
+
 -- the argument of the escape \w (119), after its letter
 abbrev pub argument_len : ℕ → List ℕ → ℕ
-argument_len letter text = if letter == 119 then quoted_len text else 0
+argument_len letter text = if letter == 119 then width_len text else 0
 
 -- An expression goes up to a blank, a tab or \{ (123). This many bytes at its front belong to the argument of a \w.
 abbrev pub expression_rest : ℕ → List ℕ → ℕ

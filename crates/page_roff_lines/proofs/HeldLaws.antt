@@ -1,5 +1,5 @@
 -- An open line keeps no more bytes than the limit.
-use Rattle.std.proofs.Common.{ℕ, ◌-◌, ◌≤◌, Bool, true, false, cond, List, [], ◌∷◌, ◌++◌, length, arith}
+use Rattle.std.proofs.Common.{◌≡◌, ℕ, ◌-◌, ◌≤◌, Bool, true, false, cond, List, [], ◌∷◌, ◌++◌, length, sym, ap, ◌∙◌, arith}
 use Rattle.std.specs.Prelude.{◌==◌}
 use Rattle.std.proofs.lemmas.List.{length-take}
 use Rattle.page_core_base.specs.declared.page_settings.Encoding.{Encoding}
@@ -9,7 +9,8 @@ use Rattle.page_roff_lines.specs.Bytes.{newline, hash}
 use Rattle.page_roff_lines.specs.Limit.{line_limit, line_limit_is}
 use Rattle.page_roff_lines.specs.Held.{Held, extend, shorten}
 use Rattle.page_roff_lines.specs.Open.{Open, restart, close, count_byte, put, put_plain, put_pair, put_in, without_return, newline_in, put_newline, put_byte, ends_mark, next_open}
-use Rattle.page_roff_lines.specs.Cutting.{Point, first_point, point_at, next_point, point_after}
+use Rattle.page_roff_lines.specs.Cutting.{Point, first_point, point_at, next_point, point_after, IsAfter}
+use Rattle.page_roff_lines.proofs.PointLemmas.{point_after-append}
 
 -- within the limit
 abbrev Short : Open → Type 0
@@ -69,3 +70,9 @@ hold-limit set bytes =
     let limit = line_limit_is in
     let short = point_after-short (first_point set) bytes (omega arith) in
     omega (arith, limit, short)
+
+-- the open line after bytes that were read after those that came before
+pub fed-held : (p q : Point) (more : List ℕ) → q ≡ point_after p more
+    → (set : Encoding) (bytes : List ℕ) → IsAfter p set bytes → length q.line.text.bytes ≤ 65536
+fed-held p q more after set bytes at =
+    rw (after ∙ ap (λ o. point_after o more) at ∙ sym (point_after-append (first_point set) bytes more)) (hold-limit set (bytes ++ more))

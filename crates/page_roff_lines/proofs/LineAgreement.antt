@@ -16,7 +16,7 @@ use Rattle.page_roff_lines.specs.Open.{Open, first_open, restart, close, count_b
 use Rattle.page_roff_lines.specs.Run.{is_settled}
 use Rattle.page_roff_lines.specs.Characters.{good, bad, is_printable, sequence_length, character, later_length, characters_after, characters}
 use Rattle.page_roff_lines.specs.Decoding.{Line, decode_line, choice_of, or_else, choice_of_lines, page_encoding, lines}
-use Rattle.page_roff_lines.specs.Cutting.{Point, first_point, encoding_after, point_at, next_point, end_point, line_at, lines_within, point_after, lines_from}
+use Rattle.page_roff_lines.specs.Cutting.{Point, first_point, encoding_after, point_at, next_point, end_point, line_at, lines_within, point_after, lines_from, IsAfter, IsFed}
 use Rattle.page_roff_lines.proofs.OpenLaws.{next_open-mark}
 use Rattle.page_roff_lines.proofs.PointLemmas.{open_point, point_after-append, lines_within-append}
 use Rattle.page_roff_lines.proofs.MarkLemmas.{kept_lines-one_by_one}
@@ -264,3 +264,26 @@ lines-cut set above below =
     ∙ ap (λ ls. ls ++ line_at (end_point (point_after p (above ++ below)))) (lines_within-append p above below)
     ∙ ap (λ (r : Point). (lines_within p above ++ lines_within q below) ++ line_at (end_point r)) (point_after-append p above below)
     ∙ append_assoc (lines_within p above) (lines_within q below) (line_at (end_point (point_after q below)))
+
+-- bytes that were read after those that came before
+pub fed-of_page : (p q : Point) (more : List ℕ) (given : List Line) → q ≡ point_after p more → lines_within p more ≡ given
+    → (set : Encoding) (bytes : List ℕ) → IsAfter p set bytes → IsFed q set bytes more given
+fed-of_page p q more given after came set bytes at =
+    let f = first_point set in
+    let here : q ≡ point_after f (bytes ++ more) = after ∙ ap (λ o. point_after o more) at ∙ sym (point_after-append f bytes more) in
+    let within : lines_within f (bytes ++ more) ≡ lines_within f bytes ++ given =
+    lines_within-append f bytes more ∙ ap (λ ls. lines_within f bytes ++ ls) (ap (λ o. lines_within o more) (sym at) ∙ came) in
+    record {
+      after = here;
+      page = λ rest.
+          ap (λ bs. lines set bs) (sym (append_assoc bytes more rest)) ∙ lines-cut set (bytes ++ more) rest
+          ∙ ap (λ o. lines_within f (bytes ++ more) ++ lines_from o rest) (sym here) ∙ ap (λ ls. ls ++ lines_from q rest) within
+          ∙ append_assoc (lines_within f bytes) given (lines_from q rest);
+    }
+
+-- the page ends at a point
+pub ended-of_page : (p : Point) (given : List Line) → line_at (end_point p) ≡ given
+    → (set : Encoding) (bytes : List ℕ) → IsAfter p set bytes → lines set bytes ≡ lines_within (first_point set) bytes ++ given
+ended-of_page p given came set bytes at =
+    lines-one_by_one set bytes
+    ∙ ap (λ ls. lines_within (first_point set) bytes ++ ls) (ap (λ o. line_at (end_point o)) (sym at) ∙ came)

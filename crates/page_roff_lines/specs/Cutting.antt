@@ -1,9 +1,9 @@
 -- Cutting a page into lines, from any point between two of its bytes on.
-use Rattle.std.specs.Prelude.{ℕ, Bool, List, [], ◌∷◌, ◌++◌, if◌then◌else◌}
+use Rattle.std.specs.Prelude.{◌≡◌, ℕ, Bool, List, [], ◌∷◌, ◌++◌, if◌then◌else◌}
 use Rattle.page_core_base.specs.declared.page_settings.Encoding.{Encoding}
 use Rattle.page_core_base.specs.declared.page_settings.Encoding.TheVariants.{Utf8}
 use Rattle.page_roff_lines.specs.Open.{Open, first_open, next_open, end_open, is_marked, kept_of}
-use Rattle.page_roff_lines.specs.Decoding.{Line, decode_line, or_else, choice_of}
+use Rattle.page_roff_lines.specs.Decoding.{Line, lines, decode_line, or_else, choice_of}
 
 -- what is known of a page at a point between two of its bytes: its open line,
 -- and its encoding where that is decided
@@ -52,6 +52,16 @@ last_line p = line_at (end_point p)
 -- all lines that come from here on, if these are the bytes to the page's end
 abbrev pub lines_from : Point → List ℕ → List Line
 lines_from p bytes = lines_within p bytes ++ last_line (point_after p bytes)
+
+-- these bytes of a page came so far
+abbrev pub IsAfter : Point → Encoding → List ℕ → Type 0
+IsAfter p set bytes = p ≡ point_after (first_point set) bytes
+
+-- Bytes after those of a page that came before, up to a point, and the lines that they give: the point is that after all of them, and whatever follows,
+-- the lines of the page are those of the bytes before, then these, then those that come from the point on.
+pub record IsFed (p : Point) (set : Encoding) (before more : List ℕ) (given : List Line) : Type 0 where
+  pub after : IsAfter p set (before ++ more)
+  pub page : (rest : List ℕ) → lines set (before ++ (more ++ rest)) ≡ lines_within (first_point set) before ++ (given ++ lines_from p rest)
 
 -- what is known of a cutter: the point in its page, whether a line waits to be asked for,
 -- and the text of the line that was given last

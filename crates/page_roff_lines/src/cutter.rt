@@ -46,7 +46,7 @@ impl Model for Cutter {
 }
 
 impl Cutter {
-    ghost use Rattle.page_roff_lines.specs.Cutting.{first_point, point_after, lines_within, line_of, end_point, line_at};
+    ghost use Rattle.page_roff_lines.specs.Cutting.{first_point, point_after, lines_within, line_of, end_point, line_at, IsAfter, IsFed};
     ghost use Rattle.page_roff_lines.specs.contracts.cutter.Cutter.{the_row};
 
     /// A cutter before the first byte of a page, with all the memory that it will ever hold. Its fault is
@@ -83,6 +83,10 @@ impl Cutter {
         ensures before { result.1 ≡ true → lines_within self.old.point (take (result.0 - 1) chunk.now) ≡ [] }
         ensures ready { self.new.ready ≡ result.1 }
         ensures consumed { self.new.point.line.consumed ≡ self.old.point.line.consumed + result.0 }
+        ensures of_page { (set : AnyEncoding) (bytes : List ℕ) → IsAfter self.old.point set bytes
+            → IsFed self.new.point set bytes (take result.0 chunk.now) (if result.1 then line_of self.new.point ∷ [] else []) }
+        ensures held { (set : AnyEncoding) (bytes : List ℕ) → IsAfter self.old.point set bytes
+            → length self.new.point.line.text.bytes ≤ LINE }
     {
         let (consumed, whole) = self.line.read(chunk);
         self.ready = whole;
@@ -95,6 +99,8 @@ impl Cutter {
         ensures point { self.new.point ≡ end_point self.old.point }
         ensures line { line_at self.new.point ≡ (if result then line_of self.new.point ∷ [] else []) }
         ensures ready { self.new.ready ≡ result }
+        ensures of_page { (set : AnyEncoding) (bytes : List ℕ) → IsAfter self.old.point set bytes
+            → lines set bytes ≡ lines_within (first_point set) bytes ++ (if result then line_of self.new.point ∷ [] else []) }
     {
         self.ready = self.line.end();
         self.ready

@@ -16,12 +16,12 @@ use Rattle.page_roff_blocks.specs.Atoms.{atoms}
 use Rattle.page_roff_blocks.specs.Levels.{Opened, opened, Spot, after_part, way_of, reached, has_block, at_line, leave}
 use Rattle.page_roff_blocks.specs.Run.{Meaning, meet_as, value, refuse_if, unopened_if}
 use Rattle.page_roff_blocks.specs.Steps.{met, guard_with, guard_met, step_guard, block_with, block_met, step_block, step_end, step_region}
-use Rattle.page_roff_run.specs.Languages.{Kind, page, body, Language, meaning_at}
-use Rattle.page_roff_run.specs.Machine as machine
-use Rattle.page_roff_run.specs.Machine.{Frame, Running, depth, is_some, at_part, leaf_next, part_next, line_next, region_next, source_next, next}
-use Rattle.page_roff_run.specs.Counting.{Budget}
-use Rattle.page_roff_run.specs.Measures.{HasMeasure, IsOnLine}
-use Rattle.page_roff_run.specs.Budgets.{Budgeted, meaning, language, end_line}
+use Rattle.page_roff_language.specs.Languages.{Kind, page, body, Language, meaning_at}
+use Rattle.page_roff_language.specs.Machine as machine
+use Rattle.page_roff_language.specs.Machine.{Frame, Running, depth, is_some, at_part, leaf_next, part_next, line_next, region_next, source_next, next}
+use Rattle.page_roff_language.specs.Counting.{Budget}
+use Rattle.page_roff_language.specs.Measures.{HasMeasure, IsOnLine}
+use Rattle.page_roff_language.specs.Budgets.{Budgeted, meaning, language, end_line}
 use Rattle.page_roff_effects.specs.declared.commands.ProductKind.{ProductKind}
 use Rattle.page_roff_effects.specs.Acting.{IfCalled, IsCallable}
 use Rattle.page_roff_effects.specs.Effects.{effects}
@@ -46,10 +46,10 @@ use Rattle.page_roff_machine.proofs.GoLemmas.{same_depth}
 -- ---- the meaning of parts, however many macros may run
 
 module _ (output : Output) (d : ℕ) (kind : Kind) where
-  m : Meaning (Budgeted State)
+  m : Meaning (List ℕ) (Budgeted State)
   m = meaning_at (language (effects output)) d kind
 
-  p : Meaning (Budgeted State)
+  p : Meaning (List ℕ) (Budgeted State)
   p = meaning (effects output) kind
 
   met_same : (r : Reached) (s : Budgeted State) → meet_as m r s ≡ meet_as p r s

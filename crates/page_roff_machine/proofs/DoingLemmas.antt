@@ -13,9 +13,9 @@ use Rattle.page_roff_blocks.specs.Levels.{Opened}
 use Rattle.page_roff_blocks.specs.Run.{meet_as, value}
 use Rattle.page_roff_values.specs.Arguments.{arguments_in, lines_in}
 use Rattle.page_roff_values.specs.Latches.{Came}
-use Rattle.page_roff_run.specs.Languages.{Kind, page, body, gives, calls}
-use Rattle.page_roff_run.specs.Budgets.{Budgeted, Effects, with_rest, charge_by, charge, begin_line, whether_run, meet, test, unopened_by, read_line, end_line, meaning, done_with, language}
-use Rattle.page_roff_run.specs.Counting.{Budget, budgeted, begun, charged_by, charged, exhausts_by, exhausts}
+use Rattle.page_roff_language.specs.Languages.{Kind, page, body, gives, calls}
+use Rattle.page_roff_language.specs.Budgets.{Budgeted, Effects, with_rest, charge_by, charge, begin_line, whether_run, meet, test, unopened_by, read_line, end_line, meaning, done_with, language}
+use Rattle.page_roff_language.specs.Counting.{Budget, budgeted, begun, charged_by, charged, exhausts_by, exhausts}
 use Rattle.page_roff_effects.specs.declared.commands.ProductKind.{ProductKind}
 use Rattle.page_roff_effects.specs.declared.commands.ProductKind.TheVariants as kinds
 use Rattle.page_roff_effects.specs.Acting as acting

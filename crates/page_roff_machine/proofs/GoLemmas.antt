@@ -10,10 +10,10 @@ use Rattle.page_roff_blocks.specs.declared.atoms.Branch.TheVariants.{Else}
 use Rattle.page_roff_blocks.specs.Levels.{after_part, guarded_by, bit_after, way_of, enter, skip, leave, has_block}
 use Rattle.page_roff_blocks.specs.Run.{refuse_if, unopened_if}
 use Rattle.page_roff_values.specs.Arguments.{begin_first, arguments_in, lines_in}
-use Rattle.page_roff_run.specs.Languages.{Kind, page, body, gives, calls, Language}
-use Rattle.page_roff_run.specs.Machine.{Frame, entered, at_part, depth, is_some, leaf_next}
-use Rattle.page_roff_run.specs.Measures.{weight}
-use Rattle.page_roff_run.specs.Budgets.{Budgeted, meaning, language, with_rest}
+use Rattle.page_roff_language.specs.Languages.{Kind, page, body, gives, calls, Language}
+use Rattle.page_roff_language.specs.Machine.{Frame, entered, at_part, depth, is_some, leaf_next}
+use Rattle.page_roff_language.specs.Measures.{weight}
+use Rattle.page_roff_language.specs.Budgets.{Budgeted, meaning, language, with_rest}
 use Rattle.page_roff_effects.specs.declared.commands.ProductKind.{ProductKind}
 use Rattle.page_roff_effects.specs.declared.commands.ProductKind.TheVariants as kinds
 use Rattle.page_roff_effects.specs.Acting as acting

@@ -6,14 +6,14 @@ use Rattle.page_core_base.specs.declared.page_settings.Output.{Output}
 use Rattle.page_roff_blocks.specs.declared.atoms.Atom.{Atom}
 use Rattle.page_roff_blocks.specs.Levels.{Opened}
 use Rattle.page_roff_blocks.specs.Run.{Meaning, At}
-use Rattle.page_roff_run.specs.Languages.{Language, meaning_at, run_page}
-use Rattle.page_roff_run.specs.Machine.{Frame, depth, at_page, rest_of, next, stands_at}
-use Rattle.page_roff_run.specs.Budgets.{Budgeted, language}
-use Rattle.page_roff_run.specs.Fronts.{over}
-use Rattle.page_roff_run.proofs.FrontLemmas.{rest_front}
-use Rattle.page_roff_run.proofs.MachineLemmas.{next_law, end_law, page_law}
-use Rattle.page_roff_run.specs.Counting.{renewed}
-use Rattle.page_roff_run.specs.Measures.{HasMeasure, AreOnLine, IsOnLine, IsFirst}
+use Rattle.page_roff_language.specs.Languages.{Language, meaning_at, run_page}
+use Rattle.page_roff_language.specs.Machine.{Frame, depth, at_page, rest_of, next, stands_at}
+use Rattle.page_roff_language.specs.Budgets.{Budgeted, language}
+use Rattle.page_roff_language.specs.Fronts.{over}
+use Rattle.page_roff_language.proofs.FrontLemmas.{rest_front}
+use Rattle.page_roff_language.proofs.MachineLemmas.{next_law, end_law, page_law}
+use Rattle.page_roff_language.specs.Counting.{renewed}
+use Rattle.page_roff_language.specs.Measures.{HasMeasure, AreOnLine, IsOnLine, IsFirst}
 use Rattle.page_roff_effects.specs.Acting as acting
 use Rattle.page_roff_effects.specs.Acting.{Acting, with_number, with_arguments}
 use Rattle.page_roff_effects.specs.Effects.{effects, in_front}
@@ -63,7 +63,7 @@ outcome_end m e = end_law (language_of m) (running_of [] m) e
 
 -- ---- where nothing is left
 
-none_next : {S : Type 0} (l : Language S) (m : Meaning S) (x : Next (List ℕ) Opened) (parts : List (Atom (List ℕ))) (lines : List (List ℕ)) (f : Frame) (under : List Frame) (s : S)
+none_next : {S : Type 0} (l : Language S) (m : Meaning (List ℕ) S) (x : Next (List ℕ) Opened) (parts : List (Atom (List ℕ))) (lines : List (List ℕ)) (f : Frame) (under : List Frame) (s : S)
     → is_nothing x ≡ true → step_in l m x parts lines f under s ≡ None
 unfolding step_in
 none_next l m (things.Part part) parts lines f under s e = absurd (cc)

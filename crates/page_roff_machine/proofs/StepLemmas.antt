@@ -5,11 +5,11 @@ use Rattle.page_core_base.specs.Messages.{Message}
 use Rattle.page_core_base.specs.declared.page_settings.Output.{Output}
 use Rattle.page_roff_blocks.specs.Run.{At}
 use Rattle.page_roff_values.specs.Latches.{Came}
-use Rattle.page_roff_run.specs.Machine.{next}
-use Rattle.page_roff_run.specs.Measures.{measure, HasMeasure, HasBodyWithin, IsFirst, credit}
-use Rattle.page_roff_run.specs.Budgets.{Budgeted, language}
-use Rattle.page_roff_run.specs.Fronts.{over}
-use Rattle.page_roff_run.proofs.MeasureLemmas.{next_falls, first_falls}
+use Rattle.page_roff_language.specs.Machine.{next}
+use Rattle.page_roff_language.specs.Measures.{measure, HasMeasure, HasBodyWithin, IsFirst, credit}
+use Rattle.page_roff_language.specs.Budgets.{Budgeted, language}
+use Rattle.page_roff_language.specs.Fronts.{over}
+use Rattle.page_roff_language.proofs.MeasureLemmas.{next_falls, first_falls}
 use Rattle.page_roff_effects.specs.Effects.{effects, in_front}
 use Rattle.page_roff_effects.specs.States.{State, Given, says, takes}
 use Rattle.page_roff_stack.specs.declared.next.Next.TheVariants.{Nothing}

@@ -9,9 +9,9 @@ use Rattle.page_roff_blocks.specs.Levels.{Opened}
 use Rattle.page_roff_blocks.specs.Run.{Meaning, meet_as, value}
 use Rattle.page_roff_values.specs.Arguments.{arguments_in, lines_in}
 use Rattle.page_roff_values.specs.Latches.{Came}
-use Rattle.page_roff_run.specs.Languages.{Kind, Done, gives, calls, Language}
-use Rattle.page_roff_run.specs.Budgets.{Budgeted, charge, begin_line, meaning, language}
-use Rattle.page_roff_run.specs.Counting.{Budget, budgeted}
+use Rattle.page_roff_language.specs.Languages.{Kind, Done, gives, calls, Language}
+use Rattle.page_roff_language.specs.Budgets.{Budgeted, charge, begin_line, meaning, language}
+use Rattle.page_roff_language.specs.Counting.{Budget, budgeted}
 use Rattle.page_roff_effects.specs.declared.commands.ProductKind.{ProductKind}
 use Rattle.page_roff_effects.specs.declared.commands.ProductKind.TheVariants as kinds
 use Rattle.page_roff_effects.specs.Acting.{Acting}
@@ -71,7 +71,7 @@ Answers left old out does result new out_new =
 
 -- ---- what is done
 
-abbrev pub parts_of : BudgetedActions → Kind → Meaning (Budgeted State)
+abbrev pub parts_of : BudgetedActions → Kind → Meaning (List ℕ) (Budgeted State)
 parts_of b kind = meaning (effects (output_of b)) kind
 
 abbrev pub charged_in : BudgetedActions → Kind → Budgeted State → Budgeted State
@@ -87,11 +87,11 @@ abbrev pub value_in : BudgetedActions → Branch (List ℕ) → Bool → Kind �
 value_in b branch bit kind s = value (parts_of b kind) branch bit s
 
 -- the value of a head, where it is run
-abbrev pub answer_if : {S : Type 0} → Meaning S → Branch (List ℕ) → Bool → Bool → S → Option Bool × S
+abbrev pub answer_if : {S : Type 0} → Meaning (List ℕ) S → Branch (List ℕ) → Bool → Bool → S → Option Bool × S
 answer_if m branch bit true s = let v = value m branch bit s in (Some v.0, v.1)
 answer_if m branch bit false s = (None, s)
 
-abbrev pub answer_after : {S : Type 0} → Meaning S → Branch (List ℕ) → Bool → Bool × S → Option Bool × S
+abbrev pub answer_after : {S : Type 0} → Meaning (List ℕ) S → Branch (List ℕ) → Bool → Bool × S → Option Bool × S
 answer_after m branch bit q = answer_if m branch bit q.0 q.1
 
 abbrev pub answer_in : BudgetedActions → Branch (List ℕ) → Bool → Reached → Kind → Budgeted State
@@ -99,7 +99,7 @@ abbrev pub answer_in : BudgetedActions → Branch (List ℕ) → Bool → Reache
 answer_in b branch bit reached kind s = answer_after (parts_of b kind) branch bit (met_in b reached kind s)
 
 -- the head of a region
-abbrev pub region_after : {S : Type 0} → Meaning S → RegionHead (List ℕ) → Bool × S → Bool × S
+abbrev pub region_after : {S : Type 0} → Meaning (List ℕ) S → RegionHead (List ℕ) → Bool × S → Bool × S
 region_after m head q = (q.0, m.opens_region head q.0 q.1)
 
 abbrev pub region_in : BudgetedActions → RegionHead (List ℕ) → Reached → Kind → Budgeted State

@@ -6,16 +6,16 @@ use Rattle.page_core_base.specs.declared.page_settings.Output.{Output}
 use Rattle.page_roff_blocks.specs.Levels.{Place}
 use Rattle.page_roff_blocks.specs.Run.{At}
 use Rattle.page_roff_values.specs.Latches.{Came}
-use Rattle.page_roff_run.specs.declared.TheConstants.{REREAD}
-use Rattle.page_roff_run.specs.Languages.{Language, run_page}
-use Rattle.page_roff_run.specs.Machine.{Running, rest_of}
-use Rattle.page_roff_run.specs.Budgets.{Budgeted, language}
-use Rattle.page_roff_run.specs.Counting.{Budget, budgeted, first_budget}
+use Rattle.page_roff_language.specs.declared.TheConstants.{REREAD}
+use Rattle.page_roff_language.specs.Languages.{Language, run_page}
+use Rattle.page_roff_language.specs.Machine.{Running, rest_of}
+use Rattle.page_roff_language.specs.Budgets.{Budgeted, language}
+use Rattle.page_roff_language.specs.Counting.{Budget, budgeted, first_budget}
 use Rattle.page_roff_effects.specs.Acting.{Acting}
 use Rattle.page_roff_effects.specs.Acting as acting
 use Rattle.page_roff_effects.specs.Effects.{effects}
 use Rattle.page_roff_effects.specs.RegionLines.{finish_outcome}
-use Rattle.page_roff_effects.specs.States.{Memory, State, Given}
+use Rattle.page_roff_effects.specs.States.{Memory, State, Given, numbered}
 use Rattle.page_roff_stack.specs.Stacks.{Stack, first_stack, running, next_of, is_nothing}
 use Rattle.page_roff_machine.specs.Giving.{notes_before, next_line, after_line}
 
@@ -71,11 +71,6 @@ abbrev pub stands : Machine → At (Budgeted State)
 stands m = record { place = place_of m; state = (running_of [] m).state }
 
 -- ---- a source line
-
--- messages are about the line of this number from now on
-abbrev pub numbered : ℕ → Memory → Memory
-numbered number m =
-    record { definitions = m.definitions; body = m.body; number = number; expansions = m.expansions }
 
 -- a source line begins, with a budget of its own
 abbrev pub begun_at : ℕ → Machine → At (Budgeted State)

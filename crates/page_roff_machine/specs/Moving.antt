@@ -8,10 +8,10 @@ use Rattle.page_roff_blocks.specs.Levels.{Spot, after_part, guarded_by, bit_afte
 use Rattle.page_roff_blocks.specs.Run.{refuse_if, unopened_if}
 use Rattle.page_roff_values.specs.Arguments.{arguments_in, lines_in}
 use Rattle.page_roff_values.specs.Latches.{Came}
-use Rattle.page_roff_run.specs.Languages.{Kind, page, body}
-use Rattle.page_roff_run.specs.Machine.{Frame, Running, depth, is_some, leaf_next, next}
-use Rattle.page_roff_run.specs.Measures.{weight}
-use Rattle.page_roff_run.specs.Budgets.{Budgeted, meaning, language}
+use Rattle.page_roff_language.specs.Languages.{Kind, page, body}
+use Rattle.page_roff_language.specs.Machine.{Frame, Running, depth, is_some, leaf_next, next}
+use Rattle.page_roff_language.specs.Measures.{weight}
+use Rattle.page_roff_language.specs.Budgets.{Budgeted, meaning, language}
 use Rattle.page_roff_effects.specs.declared.commands.ProductKind.{ProductKind}
 use Rattle.page_roff_effects.specs.declared.commands.ProductKind.TheVariants as kinds
 use Rattle.page_roff_effects.specs.Acting.{with_arguments, IsCallable, IfCalled}
@@ -117,7 +117,7 @@ Suits (moves.RegionLine product) s b = Unit {0}
 Suits moves.RegionEnd s b = Unit {0}
 Suits moves.SourceEnd s b = is_source_end (next_of s) ≡ true
 
--- What comes next was done, as far as the stack stays: with this movement the step of the definition is made.
+-- What comes next was done, without changing the stack: with this movement the step of the definition is made.
 pub record Decides {P S : Type 0} (left : P → S → List Message → Type 0) (old : Runner) (out : S)
     (result : Movement) (new : Runner) (out_new : S) : Type 0 where
   pub stack : new.stack ≡ old.stack

@@ -2,9 +2,9 @@
 use Rattle.std.specs.Prelude.{◌≡◌, ◌≤◌, ◌^◌, ◌⊎◌, true, List, [], ◌++◌, map}
 use Rattle.page_core_base.specs.Messages.{Message}
 use Rattle.page_roff_values.specs.Latches.{Came}
-use Rattle.page_roff_run.specs.Machine.{next}
-use Rattle.page_roff_run.specs.Measures.{HasMeasure, IsFirst}
-use Rattle.page_roff_run.specs.Budgets.{language}
+use Rattle.page_roff_language.specs.Machine.{next}
+use Rattle.page_roff_language.specs.Measures.{HasMeasure, IsFirst}
+use Rattle.page_roff_language.specs.Budgets.{language}
 use Rattle.page_roff_effects.specs.Effects.{effects}
 use Rattle.page_roff_effects.specs.States.{says}
 use Rattle.page_roff_stack.specs.Stacks.{running, next_of, is_nothing}

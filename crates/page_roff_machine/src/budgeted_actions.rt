@@ -12,7 +12,7 @@ ghost use Rattle.page_roff_effects.specs.Acting.{IfCalled, IsCallable};
 
 use page_roff_blocks::{Branch, OpenRegion, Reached, RegionHead};
 use page_roff_effects::{Actions, ProductKind};
-use page_roff_run::Budget;
+use page_roff_language::Budget;
 use page_roff_values::NoteOut;
 
 /// What the parts of sources do, under the budget of the source line.
@@ -45,7 +45,7 @@ impl BudgetedActions {
         }
     }
 
-    // A part is reached: whether it is run.
+    // Answers whether a part that is reached runs.
     fn meet<O: NoteOut>(&mut self, reached: Reached, out: &mut O) -> bool
         ensures { Answers O.left self.old out.old (met_in self.old reached) result self.new out.new }
     {
@@ -92,7 +92,7 @@ impl BudgetedActions {
         }
     }
 
-    /// The head of a region is reached: whether it is run.
+    /// Answers whether the head of a region that is reached runs.
     pub(crate) fn open_region<O: NoteOut>(
         &mut self,
         reached: Reached,

@@ -13,7 +13,7 @@ use crate::budgeted_actions::BudgetedActions;
 use crate::runners::Runner;
 use page_core_base::{Output, Taken};
 use page_roff_effects::Actions;
-use page_roff_run::Budget;
+use page_roff_language::Budget;
 use page_roff_stack::InputStack;
 use page_roff_values::NoteOut;
 use std::alloc::{AllocError, Global};
@@ -114,13 +114,6 @@ impl Machine {
         ensures { result ≡ self.now.actions.memory.expansions }
     {
         self.runner.doing.actions.expansions()
-    }
-
-    /// The number of skipped blocks that are open on the page, or in the macro that runs.
-    pub fn skipped(&self) -> u64
-        ensures { result ≡ self.now.stack.top.spot.levels.skipped }
-    {
-        self.runner.stack.skipped()
     }
 
     /// Where the innermost source stands, and what is remembered, are within their limits. Nothing is done: the parts

@@ -44,7 +44,7 @@ impl Runner {
         self.stack.begin_line();
     }
 
-    // Does what comes next after the beginning of a line, as far as the stack stays.
+    // Does what comes next after the beginning of a line, without changing the stack: it answers how the stack then moves.
     fn act<O: NoteOut>(&mut self, out: &mut O) -> Movement
         requires sound { IsSound self.old }
         requires begun { is_line (next_of self.old.stack) ≡ false }

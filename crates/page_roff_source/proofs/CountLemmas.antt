@@ -1,22 +1,25 @@
 -- How many lines a source line gives and takes: helpers of proofs.
-use Rattle.std.proofs.Common.{◌≡◌, ℕ, ◌+◌, ◌*◌, ◌≤◌, Bool, true, false, List, [], ◌∷◌, ◌++◌, map, Option, Some, None, refl, ap, arith}
+use Rattle.std.proofs.Common.{◌≡◌, ℕ, ◌+◌, ◌*◌, ◌≤◌, Bool, true, false, List, [], ◌∷◌, ◌++◌, length, map, Option, Some, None, refl, ap, arith}
 use Rattle.page_core_base.specs.Messages.{Message}
 use Rattle.page_core_base.specs.declared.page_settings.Output.{Output}
 use Rattle.page_roff_heads.specs.declared.conditions.Condition.{Condition}
 use Rattle.page_roff_blocks.specs.declared.regions.RegionHead.{RegionHead}
 use Rattle.page_roff_blocks.specs.Levels.{Opened}
 use Rattle.page_roff_values.specs.declared.expansions.TheConstants.{EXPAND}
-use Rattle.page_roff_run.specs.Languages.{Kind}
-use Rattle.page_roff_run.specs.Spending.{after_leaf, Spends}
-use Rattle.page_roff_run.specs.declared.TheConstants.{REREAD}
-use Rattle.page_roff_run.proofs.BudgetLemmas.{page_line_bound}
-use Rattle.page_roff_run.proofs.SpendLemmas.{page_spends}
+use Rattle.page_roff_language.specs.Languages.{Kind}
+use Rattle.page_roff_language.specs.Spending.{after_leaf, Spends}
+use Rattle.page_roff_language.specs.declared.TheConstants.{REREAD}
+use Rattle.page_roff_language.proofs.BudgetLemmas.{page_line_bound}
+use Rattle.page_roff_language.proofs.SpendLemmas.{page_spends}
 use Rattle.page_roff_effects.specs.Effects.{effects, answer_of, test_outcome, expansions_of, tested_after, done_by, done_after, budget_outcome, block_outcome, end_of_block_outcome, setting_of}
 use Rattle.page_roff_effects.specs.Leaves.{leaf_outcome}
 use Rattle.page_roff_effects.specs.RegionLines.{head_outcome, line_outcome, end_outcome, finish_outcome}
 use Rattle.page_roff_effects.specs.States.{Given, says, takes, State, Memory, Outcome, Product, no_product, line_product, call_product, lines_of, after}
 use Rattle.page_roff_effects.proofs.CountLemmas.{spends}
 use Rattle.page_roff_source.specs.Edges.{Edge, SourceLine, before_line, run_line, line_given, line_done, line_count}
+use Rattle.page_roff_source.specs.Given.{done}
+use Rattle.page_roff_source.specs.LineByLine.{lines_done}
+use Rattle.page_roff_source.proofs.LineLemmas.{done-idle}
 
 count-append : (xs ys : List Given) → line_count (xs ++ ys) ≡ line_count xs + line_count ys
 unfolding line_count
@@ -143,3 +146,14 @@ pub expansions_bound : (e : Edge) (line : SourceLine)
 unfolding run_line before_line
 expansions_bound e line =
     page_spends expansions_of EXPAND (effects e.output) (spends e.output) (line.text ∷ []) (before_line e line)
+
+lines_done-bound : (e : Edge) (lines : List SourceLine) → (lines_done e lines).taken ≤ e.taken + (REREAD + 1) * length lines
+unfolding lines_done
+lines_done-bound e [] = omega arith
+lines_done-bound e (line ∷ lines) =
+    let h = taken_bound e line in
+    let g = lines_done-bound (line_done e line) lines in
+    omega (arith, h, g)
+
+pub lines_bound : (e : Edge) (lines : List SourceLine) → (done e lines).taken ≤ e.taken + (REREAD + 1) * length lines
+lines_bound e lines = rw (done-idle e lines) (lines_done-bound e lines)

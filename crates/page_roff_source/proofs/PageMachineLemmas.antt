@@ -7,19 +7,18 @@ use Rattle.page_core_base.specs.declared.page_settings.Output.{Output}
 use Rattle.page_roff_blocks.specs.Caps.{PlaceFits}
 use Rattle.page_roff_blocks.specs.Levels.{at_line, outside, first_place}
 use Rattle.page_roff_blocks.specs.Run.{At}
-use Rattle.page_roff_run.specs.declared.TheConstants.{REREAD}
-use Rattle.page_roff_run.specs.Languages.{run_page}
-use Rattle.page_roff_run.specs.Counting.{Budget}
-use Rattle.page_roff_run.specs.Machine.{next}
-use Rattle.page_roff_run.specs.Budgets.{Budgeted}
+use Rattle.page_roff_language.specs.declared.TheConstants.{REREAD}
+use Rattle.page_roff_language.specs.Languages.{run_page}
+use Rattle.page_roff_language.specs.Counting.{Budget}
+use Rattle.page_roff_language.specs.Machine.{next}
+use Rattle.page_roff_language.specs.Budgets.{Budgeted}
 use Rattle.page_roff_stack.specs.Stacks.{is_nothing}
 use Rattle.page_roff_stack.specs.Stacks as stack
-use Rattle.page_roff_effects.specs.Acting.{first_memory}
 use Rattle.page_roff_effects.specs.Caps.{MemoryFits}
 use Rattle.page_roff_effects.specs.RegionLines.{finish_outcome}
-use Rattle.page_roff_effects.specs.States.{Given, State, Memory, Setting}
+use Rattle.page_roff_effects.specs.States.{Given, State, Memory, Setting, first_memory, numbered}
 use Rattle.page_roff_machine.specs.Giving.{next_line, after_line}
-use Rattle.page_roff_machine.specs.Machines.{Machine, output_of, language_of, running_of, outcome_of, to_come, end_of, place_of, stands, numbered, begun_at, Begins, Advances, taken_if, IsIdleUnless, IsNew}
+use Rattle.page_roff_machine.specs.Machines.{Machine, output_of, language_of, running_of, outcome_of, to_come, end_of, place_of, stands, begun_at, Begins, Advances, taken_if, IsIdleUnless, IsNew}
 use Rattle.page_roff_machine.specs.Machines as machine
 use Rattle.page_roff_machine.proofs.MachineLemmas.{idle_stands, new_idle}
 use Rattle.page_roff_source.specs.declared.counts.Counts.{Counts}
@@ -164,15 +163,15 @@ begin_room m source false p none = absurd (cc)
 
 pub begin_edge : (old new : Machine) (source : ℕ) (is_idle : Bool) (line : List ℕ) (number : ℕ) → IsPageMachine old source is_idle
     → (edge_of old source is_idle).to_come ≡ None → Begins line number old new
-    → edge_of new (source + 1) false ≡ line_begun (edge_of old source is_idle) (record { text = line; number = number })
-begin_edge old new source true line number p none b = begun old new source (record { text = line; number = number }) (p.idle refl) b
+    → edge_of new (source + 1) false ≡ line_begun (edge_of old source is_idle) (record { text = line; number = number; notes = [] })
+begin_edge old new source true line number p none b = begun old new source (record { text = line; number = number; notes = [] }) (p.idle refl) b
 begin_edge old new source false line number p none b = absurd (cc)
 
 pub begin_invariant : (old new : Machine) (source : ℕ) (is_idle : Bool) (line : List ℕ) (number : ℕ) → IsPageMachine old source is_idle
     → (edge_of old source is_idle).to_come ≡ None → Begins line number old new → source < 2 ^ 31 → length line ≤ LINE
     → IsPageMachine new (source + 1) false
 begin_invariant old new source is_idle line number p none b few short =
-    let l : SourceLine = record { text = line; number = number } in
+    let l : SourceLine = record { text = line; number = number; notes = [] } in
     let e = edge_of old source is_idle in
     record {
       idle = λ h. absurd (cc);

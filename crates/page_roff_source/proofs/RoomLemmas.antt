@@ -7,31 +7,31 @@ use Rattle.page_roff_blocks.specs.Run.{Meaning, At, run_lines}
 use Rattle.page_roff_blocks.specs.Steps.{step_inside, step_from, step, step_lines}
 use Rattle.page_roff_blocks.proofs.FoldLemmas.{run_is_steps}
 use Rattle.page_roff_blocks.proofs.RoomLemmas.{atoms_room, step_room}
-use Rattle.page_roff_run.specs.Languages.{page, meaning_at, run_page}
-use Rattle.page_roff_run.specs.declared.TheConstants.{CALLS}
-use Rattle.page_roff_run.specs.Budgets.{language}
+use Rattle.page_roff_language.specs.Languages.{page, meaning_at, run_page}
+use Rattle.page_roff_language.specs.declared.TheConstants.{CALLS}
+use Rattle.page_roff_language.specs.Budgets.{language}
 use Rattle.page_roff_effects.specs.Effects.{effects}
 use Rattle.page_roff_source.specs.Edges.{Edge, SourceLine, before_line, run_line, line_done}
 
 IsRoomy : {S : Type 0} → Levels → List ℕ → At S → Type 0
 IsRoomy l line a = a.place.levels.skipped ≤ l.skipped + (2 * length line + 2)
 
-module _ {S : Type 0} (m : Meaning S) where
+module _ {S : Type 0} (m : Meaning (List ℕ) S) where
   inside_room : (is_end : Bool) (o : Opened) (line : List ℕ) (l : Levels) (s : S) → IsRoomy l line (step_inside m is_end o line l s)
   unfolding step_inside IsRoomy
   inside_room true o line l s = omega arith
   inside_room false o line l s = omega arith
 
-  from_room : (o : Option Opened) (line : List ℕ) (l : Levels) (s : S) → IsRoomy l line (step_from m o line l s)
+  from_room : (o : Option Opened) (line : List ℕ) (l : Levels) (s : S) → IsRoomy l line (step_from m (λ t. t) o line l s)
   unfolding step_from IsRoomy at_line
   from_room None line l s =
       omega (arith, step_room m (atoms line) (at_line l) (m.begins line s), atoms_room line)
   from_room (Some o) line l s = inside_room (is_ending o.ending line) o line l s
 
-  line_room : (line : List ℕ) (a : At S) → IsRoomy a.place.levels line (run_lines m (line ∷ []) a)
+  line_room : (line : List ℕ) (a : At S) → IsRoomy a.place.levels line (run_lines m (λ t. t) (line ∷ []) a)
   unfolding step_lines step
   line_room line a =
-      subst (λ (b : At S). IsRoomy a.place.levels line b) (sym (run_is_steps m (line ∷ []) a))
+      subst (λ (b : At S). IsRoomy a.place.levels line b) (sym (run_is_steps m (λ t. t) (line ∷ []) a))
       (from_room a.place.region line a.place.levels a.state)
 
 pub done_room : (e : Edge) (line : SourceLine) → (line_done e line).place.levels.skipped ≤ e.place.levels.skipped + (2 * length line.text + 2)

@@ -5,21 +5,20 @@ use Rattle.page_core_base.specs.Messages.{Message}
 use Rattle.page_core_base.specs.declared.page_settings.Output.{Output}
 use Rattle.page_roff_blocks.specs.Levels.{Place, first_place}
 use Rattle.page_roff_blocks.specs.Run.{At}
-use Rattle.page_roff_run.specs.Budgets.{Budgeted, language}
-use Rattle.page_roff_run.specs.Languages.{run_page}
-use Rattle.page_roff_run.specs.declared.TheConstants.{REREAD}
-use Rattle.page_roff_effects.specs.Acting.{first_memory}
+use Rattle.page_roff_language.specs.Budgets.{Budgeted, language}
+use Rattle.page_roff_language.specs.Languages.{run_page}
+use Rattle.page_roff_language.specs.declared.TheConstants.{REREAD}
 use Rattle.page_roff_effects.specs.Effects.{effects}
 use Rattle.page_roff_effects.specs.RegionLines.{finish_outcome}
-use Rattle.page_roff_effects.specs.States.{Memory, State, Given, says, takes}
+use Rattle.page_roff_effects.specs.States.{Memory, State, Given, says, takes, first_memory, numbered}
 use Rattle.page_roff_machine.specs.Giving.{next_line, after_line}
-use Rattle.page_roff_machine.specs.Machines.{numbered}
 use Rattle.page_roff_source.specs.declared.counts.Counts.{Counts}
 
--- a line of the page, with its number
+-- a line of the page, with its number, and the messages in front of what it gives, as those of its cutting
 pub record SourceLine : Type 0 where
   pub text : List ℕ
   pub number : ℕ
+  pub notes : List Message
 
 -- What decides the rest: the output; where the page stands, in a region and in blocks; what is remembered; how many source lines came,
 -- and how many lines were taken of them; what of the present source line is still to be given, where one has begun.
@@ -60,7 +59,7 @@ before_line e line = record {
 unfoldable pub run_line : Edge → SourceLine → At (Budgeted State)
 run_line e line = run_page (language (effects e.output)) (line.text ∷ []) (before_line e line)
 
--- what it gives: messages, and lines for the set of macros
+-- what it gives after the messages in front: messages, and lines for the set of macros
 abbrev pub line_given : Edge → SourceLine → List Given
 line_given e line = (run_line e line).state.rest.out
 
@@ -107,17 +106,7 @@ line_taken e = record {
   to_come = left_if (next_line (given_of e)) (after_line (given_of e));
 }
 
--- ---- all lines of a page
-
--- what lines give, one after another
-unfoldable pub lines_given : Edge → List SourceLine → List Given
-lines_given e [] = []
-lines_given e (line ∷ lines) = line_given e line ++ lines_given (line_done e line) lines
-
--- where they leave the page
-unfoldable pub lines_done : Edge → List SourceLine → Edge
-lines_done e [] = e
-lines_done e (line ∷ lines) = lines_done (line_done e line) lines
+-- ---- the end
 
 -- the page ends: a region that is open is dropped with a message
 abbrev pub end_notes : Edge → List Message

@@ -1,4 +1,6 @@
 pub mod Caps
 pub mod Edges
 pub mod Fuses
+pub mod Given
+pub mod LineByLine
 pub mod PageMachines

@@ -1,19 +1,28 @@
 //! Laws of what roff gives of a page's lines.
 
-ghost use Rattle.std.specs.Prelude.{◌≡◌, ◌≤◌, ◌+◌, ◌*◌, List, ◌++◌, length};
+ghost use Rattle.std.specs.Prelude.{◌≡◌, ◌≤◌, ◌+◌, ◌*◌, List, ◌++◌, length, None};
 ghost use Rattle.page_roff_values.specs.declared.expansions.TheConstants.{EXPAND};
-ghost use Rattle.page_roff_run.specs.declared.TheConstants.{REREAD};
-ghost use Rattle.page_roff_source.specs.Edges.{Edge, SourceLine, line_given, line_done, lines_given, lines_done, line_count};
+ghost use Rattle.page_roff_language.specs.declared.TheConstants.{REREAD};
+ghost use Rattle.page_roff_source.specs.Edges.{Edge, SourceLine, line_given, line_done, line_count};
+ghost use Rattle.page_roff_source.specs.Given.{given, done};
+ghost use Rattle.page_roff_source.specs.LineByLine.{lines_given, lines_done};
+
+/// What the forest of all lines gives, inside what is open, is what the lines give one after another: each the messages in front of it and then its own,
+/// from where the lines before it left the page.
+pub fn forest_law()
+    ensures given { (e : Edge) (lines : List SourceLine) → given e lines ≡ lines_given e lines }
+    ensures edge { (e : Edge) (lines : List SourceLine) → e.to_come ≡ None → done e lines ≡ lines_done e lines }
+{}
 
 /// A page may be cut between any two lines: within a region, a block that is run or skipped, or after a skipped remainder, too.
 pub fn cut_law()
     ensures given { (e : Edge) (above below : List SourceLine)
-        → lines_given e (above ++ below) ≡ lines_given e above ++ lines_given (lines_done e above) below }
+        → given e (above ++ below) ≡ given e above ++ given (done e above) below }
     ensures edge { (e : Edge) (above below : List SourceLine)
-        → lines_done e (above ++ below) ≡ lines_done (lines_done e above) below }
+        → done e (above ++ below) ≡ done (done e above) below }
 {}
 
-/// A source line takes itself and at most `REREAD` lines more, gives no more lines for the set of macros than it takes, and makes at most
+/// A source line takes itself and at most `REREAD` lines more, and so do all lines together; it gives no more lines for the set of macros than it takes, and makes at most
 /// `EXPAND` interpolations for each.
 pub fn count_law()
     ensures taken { (e : Edge) (line : SourceLine) → (line_done e line).taken ≤ e.taken + (REREAD + 1) }
@@ -22,6 +31,7 @@ pub fn count_law()
     ensures expansions { (e : Edge) (line : SourceLine) →
         (line_done e line).memory.expansions + EXPAND * e.taken
         ≤ EXPAND * (line_done e line).taken + e.memory.expansions }
+    ensures lines { (e : Edge) (lines : List SourceLine) → (done e lines).taken ≤ e.taken + (REREAD + 1) * length lines }
 {}
 
 /// A line begins at most two skipped blocks a byte, and two.

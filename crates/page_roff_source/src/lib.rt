@@ -8,6 +8,6 @@ mod processors;
 mod roffs;
 
 pub use counts::Counts;
-pub use laws::{count_law, cut_law, room_law};
+pub use laws::{count_law, cut_law, forest_law, room_law};
 pub use processors::Processor;
 pub use roffs::Roff;

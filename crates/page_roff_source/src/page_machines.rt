@@ -1,6 +1,6 @@
 //! The machine that runs a page's lines, at the page's edge.
 
-ghost use Rattle.std.specs.Prelude.{◌≡◌, ◌≤◌, ◌<◌, ◌^◌, length, IfOk, None};
+ghost use Rattle.std.specs.Prelude.{◌≡◌, ◌≤◌, ◌<◌, ◌^◌, length, [], IfOk, None};
 ghost use Rattle.page_core_base.specs.LinesTaken.{line_seen};
 ghost use Rattle.page_core_base.specs.Texts.{IsLine};
 ghost use Rattle.page_core_limits.specs.declared.TheConstants.{LINE};
@@ -51,7 +51,7 @@ impl PageMachine {
         requires idle { self.old.edge.to_come ≡ None }
         requires line { IsLine line.now }
         requires count { self.old.edge.source < 2 ^ 31 }
-        ensures { self.new.edge ≡ line_begun self.old.edge (record { text = line.now; number = number }) }
+        ensures { self.new.edge ≡ line_begun self.old.edge (record { text = line.now; number = number; notes = [] }) }
     {
         self.source += 1;
         self.is_idle = false;

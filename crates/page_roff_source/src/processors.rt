@@ -1,6 +1,6 @@
 //! The source lines of a page, run one after another.
 
-ghost use Rattle.std.specs.Prelude.{◌≡◌, ℕ, ◌≤◌, ◌<◌, ◌^◌, ⊤, true, length, IfOk, IfSome, None, option_map};
+ghost use Rattle.std.specs.Prelude.{◌≡◌, ℕ, ◌≤◌, ◌<◌, ◌^◌, ⊤, true, [], length, IfOk, IfSome, None, option_map};
 ghost use mathlib.Core.Option.{none};
 ghost use Rattle.std.specs.Borrow.{sem, follows_so};
 ghost use Rattle.page_core_base.specs.LinesTaken.{line_seen};
@@ -52,7 +52,7 @@ impl Processor {
         requires idle { self.old.to_come ≡ None }
         requires line { IsLine line.now }
         requires count { self.old.source < 2 ^ 31 }
-        ensures { self.new ≡ line_begun self.old (record { text = line.now; number = number }) }
+        ensures { self.new ≡ line_begun self.old (record { text = line.now; number = number; notes = [] }) }
     {
         self.machine.begin(line, number);
     }

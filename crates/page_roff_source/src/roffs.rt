@@ -1,6 +1,6 @@
 //! Roff over a sink of messages.
 
-ghost use Rattle.std.specs.Prelude.{◌≡◌, ◌<◌, ◌≤◌, ◌^◌, ⊤, length, None, Some, Ok, Err, IfOk, IfErr, IfSome, OnOk, MatchResult, option_map};
+ghost use Rattle.std.specs.Prelude.{◌≡◌, ◌<◌, ◌≤◌, ◌^◌, ⊤, [], length, None, Some, Ok, Err, IfOk, IfErr, IfSome, OnOk, MatchResult, option_map};
 ghost use mathlib.Core.Option.{none};
 ghost use Rattle.std.specs.Borrow.{sem, follows_so};
 ghost use Rattle.page_core_base.specs.LinesTaken.{line_seen};
@@ -89,7 +89,7 @@ impl Roff {
         requires line { IsLine line.now }
         requires count { IfSome self.old (λ e. e.source < 2 ^ 31) }
         ensures { self.new ≡ option_map
-            (λ e. line_begun e (record { text = line.now; number = number })) self.old }
+            (λ e. line_begun e (record { text = line.now; number = number; notes = [] })) self.old }
     {
         if self.is_going {
             self.machine.begin(line, number);

@@ -7,15 +7,15 @@ use Rattle.std.proofs.lemmas.Bool.Decides.{nat_tests}
 use Rattle.std.proofs.lemmas.List.{length-reverse, reverse-append}
 use Rattle.page_roff_blocks.specs.Levels.{Spot}
 use Rattle.page_core_limits.specs.declared.TheConstants.{LINE, BODY}
-use Rattle.page_roff_run.specs.declared.TheConstants.{CALLS}
-use Rattle.page_roff_run.specs.Machine.{Frame, at_part, depth, entered, is_some}
+use Rattle.page_roff_language.specs.declared.TheConstants.{CALLS}
+use Rattle.page_roff_language.specs.Machine.{Frame, at_part, depth, entered, is_some}
 use Rattle.page_roff_values.specs.declared.call_arguments.TheConstants.{ARGS}
 use Rattle.page_roff_stack.specs.declared.input_stacks.Caller.{Caller}
 use Rattle.page_roff_stack.specs.declared.input_stacks.InputStack.TheInside.{Inside}
-use Rattle.page_roff_stack.specs.declared.sources.Source.{Source}
+use Rattle.page_roff_stack.specs.declared.input_frames.InputFrame.{InputFrame}
 use Rattle.page_roff_stack.specs.Changes.{past, page_line, is_page}
 use Rattle.page_roff_stack.specs.InputStacks.{frames_in, stack_of, room_for, AreHeld, IsStack}
-use Rattle.page_roff_stack.specs.Sources.{frame_of, IsHeld}
+use Rattle.page_roff_stack.specs.InputFrames.{frame_of, IsHeld}
 use Rattle.page_roff_stack.specs.Stacks.{Stack, call_of}
 
 pub past_kind : (spot : Spot) (f : Frame) → (past spot f).kind ≡ f.kind
@@ -23,7 +23,7 @@ unfolding at_part
 past_kind spot f = refl
 
 -- the innermost source changes, but not what it is
-pub top_held : (a : Inside) (top : Source) (text : List ℕ) → text ≡ a.text.items → IsHeld top text → (frame_of top text).kind ≡ (frame_of a.top text).kind → IsStack a
+pub top_held : (a : Inside) (top : InputFrame) (text : List ℕ) → text ≡ a.text.items → IsHeld top text → (frame_of top text).kind ≡ (frame_of a.top text).kind → IsStack a
     → IsStack (record a { top = top })
 top_held a top text t held kind h =
     let same : (frame_of top a.text.items).kind ≡ (frame_of a.top a.text.items).kind = rw t at kind in

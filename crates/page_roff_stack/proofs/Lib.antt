@@ -1,5 +1,5 @@
 pub mod InputStackLemmas
 pub mod LineLemmas
 pub mod NewLemmas
-pub mod SourceLemmas
+pub mod InputFrameLemmas
 pub mod StackLemmas

@@ -5,15 +5,15 @@ use Rattle.page_core_base.specs.Texts.{IsLine}
 use Rattle.page_core_limits.specs.declared.TheConstants.{LINE, BODY}
 use Rattle.page_roff_blocks.specs.Levels.{Opened, Spot, at_line, outside}
 use Rattle.page_roff_blocks.specs.LinePlaces.{line_end}
-use Rattle.page_roff_run.specs.Languages.{Kind, page, body}
-use Rattle.page_roff_run.specs.Machine.{Frame, entered}
-use Rattle.page_roff_run.specs.Measures.{weight, work_in}
+use Rattle.page_roff_language.specs.Languages.{Kind, page, body}
+use Rattle.page_roff_language.specs.Machine.{Frame, entered}
+use Rattle.page_roff_language.specs.Measures.{weight, work_in}
 use Rattle.page_roff_values.specs.Arguments.{arguments_in, lines_in}
-use Rattle.page_roff_stack.specs.declared.sources.Source.{Source}
+use Rattle.page_roff_stack.specs.declared.input_frames.InputFrame.{InputFrame}
 use Rattle.page_roff_stack.specs.declared.spans.Span.{Span}
 use Rattle.page_roff_stack.specs.Changes.{IsBounded}
 use Rattle.page_roff_stack.specs.Held.{kind_in, only_line, AreArgumentsIn, AreLinesOf}
-use Rattle.page_roff_stack.specs.Sources.{frame_of, IsHeld}
+use Rattle.page_roff_stack.specs.InputFrames.{frame_of, IsHeld}
 use Rattle.page_roff_stack.proofs.LineLemmas.{lines_short, lines_weight, page_line_in}
 
 abbrev pub span : ℕ → ℕ → Span
@@ -23,7 +23,7 @@ abbrev pub frame : Kind → Option Opened → Spot → List (List ℕ) → Frame
 frame kind region spot lines = record { kind = kind; region = region; parts = []; spot = spot; lines = lines }
 
 -- no line has begun, and these lines are to come, after what comes before them in the text
-pub record IsNew (a : Source) (all before lines : List ℕ) : Type 0 where
+pub record IsNew (a : InputFrame) (all before lines : List ℕ) : Type 0 where
   pub line : a.line ≡ span 0 0
   pub place : a.place ≡ line_end
   pub lines_are : a.lines ≡ span (length before) (length (before ++ lines))
@@ -34,13 +34,13 @@ pub record IsNew (a : Source) (all before lines : List ℕ) : Type 0 where
 length_after : (before lines : List ℕ) → length (before ++ lines) - length before ≡ length lines
 length_after before lines = omega (arith, length-append before lines)
 
-new_view : (a : Source) (all before lines : List ℕ) → IsNew a all before lines → frame_of a all ≡ frame (kind_in a.arguments all) a.region a.spot (lines_in lines)
+new_view : (a : InputFrame) (all before lines : List ℕ) → IsNew a all before lines → frame_of a all ≡ frame (kind_in a.arguments all) a.region a.spot (lines_in lines)
 new_view a all before lines h =
     rw (h.place, h.lines_are) (
     ap (λ text. frame (kind_in a.arguments all) a.region a.spot (lines_in text)) (ap (λ n. take n (drop (length before) all)) (length_after before lines) ∙ h.front)
     )
 
-new_held : (a : Source) (all before lines : List ℕ) → IsNew a all before lines → AreLinesOf a.arguments lines → IsBounded (frame_of a all) → IsHeld a all
+new_held : (a : InputFrame) (all before lines : List ℕ) → IsNew a all before lines → AreLinesOf a.arguments lines → IsBounded (frame_of a all) → IsHeld a all
 new_held a all before lines h o b =
     record {
       line = rw h.line (omega arith, omega arith);
@@ -52,7 +52,7 @@ new_held a all before lines h o b =
       bounds = b;
     }
 
-pub new_of : (a : Source) (all before lines more : List ℕ) → all ≡ (before ++ lines) ++ more → a.line ≡ span 0 0 → a.place ≡ line_end
+pub new_of : (a : InputFrame) (all before lines more : List ℕ) → all ≡ (before ++ lines) ++ more → a.line ≡ span 0 0 → a.place ≡ line_end
     → a.lines ≡ span (length before) (length (before ++ lines)) → AreArgumentsIn a.arguments all → IsNew a all before lines
 new_of a all before lines more e l p n h =
     record {
@@ -71,7 +71,7 @@ line_bounded : (region : Option Opened) (spot : Spot) (line : List ℕ) → leng
 unfolding work_in weight
 line_bounded region spot line p s = record { short = (p, tt); skips = omega arith }
 
-line_view : (a : Source) (all line : List ℕ) → IsLine line → IsNew a all [] (line ++ (10 ∷ [])) → a.arguments ≡ None → frame_of a all ≡ frame page a.region a.spot (line ∷ [])
+line_view : (a : InputFrame) (all line : List ℕ) → IsLine line → IsNew a all [] (line ++ (10 ∷ [])) → a.arguments ≡ None → frame_of a all ≡ frame page a.region a.spot (line ∷ [])
 line_view a all line h n e =
     new_view a all [] (line ++ (10 ∷ [])) n
     ∙ ap (λ arguments. frame (kind_in arguments all) a.region a.spot (lines_in (line ++ (10 ∷ [])))) e
@@ -84,7 +84,7 @@ line_only (byte ∷ bytes) =
     rw n (ap (λ text. text ∷ []) (take-append_seam (byte ∷ bytes) (10 ∷ [])))
 
 -- a line of the page is to come
-pub page_set : (a : Source) (all line : List ℕ) → IsLine line → IsNew a all [] (line ++ (10 ∷ [])) → a.arguments ≡ None → a.spot.levels.skipped < 2 ^ 62
+pub page_set : (a : InputFrame) (all line : List ℕ) → IsLine line → IsNew a all [] (line ++ (10 ∷ [])) → a.arguments ≡ None → a.spot.levels.skipped < 2 ^ 62
     → IsHeld a all × (frame_of a all ≡ frame page a.region a.spot (line ∷ []))
 page_set a all line h n e s =
     let view = line_view a all line h n e in
@@ -97,7 +97,7 @@ body_bounded : (kind : Kind) (region : Option Opened) (text : List ℕ) → leng
 unfolding work_in at_line outside
 body_bounded kind region text p = record { short = lines_short text (omega (arith, p)); skips = omega (arith, lines_weight text, p) }
 
-body_view : (a : Source) (all before text args : List ℕ) → IsNew a all before text → a.arguments ≡ Some (length (before ++ text)) → drop (length (before ++ text)) all ≡ args
+body_view : (a : InputFrame) (all before text args : List ℕ) → IsNew a all before text → a.arguments ≡ Some (length (before ++ text)) → drop (length (before ++ text)) all ≡ args
     → a.region ≡ None → a.spot ≡ at_line outside → frame_of a all ≡ entered (lines_in text) (arguments_in args)
 unfolding entered
 body_view a all before text args n e d r s =
@@ -105,7 +105,7 @@ body_view a all before text args n e d r s =
     ∙ rw (e, d, r, s) refl
 
 -- a macro begins
-pub body_set : (a : Source) (all before text args : List ℕ) → IsNew a all before text → a.arguments ≡ Some (length (before ++ text)) → drop (length (before ++ text)) all ≡ args
+pub body_set : (a : InputFrame) (all before text args : List ℕ) → IsNew a all before text → a.arguments ≡ Some (length (before ++ text)) → drop (length (before ++ text)) all ≡ args
     → a.region ≡ None → a.spot ≡ at_line outside → length text ≤ BODY → IsHeld a all × (frame_of a all ≡ entered (lines_in text) (arguments_in args))
 unfolding entered
 body_set a all before text args n e d r s p =
@@ -122,7 +122,7 @@ unfolding arguments_in
 empty_only = refl
 
 -- the page, before its first line
-pub empty_set : (a : Source) → a.arguments ≡ None → a.line ≡ span 0 0 → a.place ≡ line_end → a.lines ≡ span 0 0 → a.region ≡ None → a.spot ≡ at_line outside
+pub empty_set : (a : InputFrame) → a.arguments ≡ None → a.line ≡ span 0 0 → a.place ≡ line_end → a.lines ≡ span 0 0 → a.region ≡ None → a.spot ≡ at_line outside
     → IsHeld a [] × (frame_of a [] ≡ frame page None (at_line outside) [])
 unfolding arguments_in
 empty_set a e l p n r s =

@@ -3,20 +3,20 @@ use Rattle.std.proofs.Common.{◌≡◌, ℕ, ◌<◌, Bool, true, false, List, 
 use Rattle.page_roff_blocks.specs.declared.atoms.Atom.{Atom}
 use Rattle.page_roff_blocks.specs.Levels.{Opened}
 use Rattle.page_roff_blocks.specs.Run.{Meaning}
-use Rattle.page_roff_run.specs.Languages.{Kind, Language, meaning_at}
-use Rattle.page_roff_run.specs.Machine as machine
-use Rattle.page_roff_run.specs.Machine.{Frame, depth}
+use Rattle.page_roff_language.specs.Languages.{Kind, Language, meaning_at}
+use Rattle.page_roff_language.specs.Machine as machine
+use Rattle.page_roff_language.specs.Machine.{Frame, depth}
 use Rattle.page_roff_stack.specs.declared.next.Next.TheVariants.{SourceEnd}
 use Rattle.page_roff_stack.specs.Changes.{first_branch, first_region, is_page, begins_next, ends_with}
 use Rattle.page_roff_stack.specs.Stacks.{Stack, running, next_around, next_in, next_of, is_part, is_line, is_source_end, is_nothing, branch_in, region_in, AreStacked, step_in, step_of}
 
-step_around : {S : Type 0} (l : Language S) (m : Meaning S) (region : Option Opened) (parts : List (Atom (List ℕ))) (lines : List (List ℕ)) (f : Frame) (under : List Frame) (s : S)
+step_around : {S : Type 0} (l : Language S) (m : Meaning (List ℕ) S) (region : Option Opened) (parts : List (Atom (List ℕ))) (lines : List (List ℕ)) (f : Frame) (under : List Frame) (s : S)
     → machine.source_next l region under s ≡ step_in l m (next_around region under) parts lines f under s
 unfolding step_in machine.source_next
 step_around l m region parts lines f [] s = refl
 step_around l m region parts lines f (g ∷ gs) s = refl
 
-steps : {S : Type 0} (l : Language S) (m : Meaning S) (region : Option Opened) (parts : List (Atom (List ℕ))) (lines : List (List ℕ)) (f : Frame) (under : List Frame) (s : S)
+steps : {S : Type 0} (l : Language S) (m : Meaning (List ℕ) S) (region : Option Opened) (parts : List (Atom (List ℕ))) (lines : List (List ℕ)) (f : Frame) (under : List Frame) (s : S)
     → machine.next_in l m region parts lines f under s ≡ step_in l m (next_in region parts lines under) parts lines f under s
 unfolding step_in machine.next_in
 steps l m None (part ∷ more) lines f under s = refl

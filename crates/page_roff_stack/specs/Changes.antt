@@ -7,9 +7,9 @@ use Rattle.page_roff_blocks.specs.declared.atoms.Branch.{Branch}
 use Rattle.page_roff_blocks.specs.declared.atoms.Branch.TheVariants.{Else}
 use Rattle.page_roff_blocks.specs.Atoms.{atoms}
 use Rattle.page_roff_blocks.specs.Levels.{Opened, opened, Spot, at_line, outside}
-use Rattle.page_roff_run.specs.Languages.{Kind, page, body}
-use Rattle.page_roff_run.specs.Machine.{Frame, at_part}
-use Rattle.page_roff_run.specs.Measures.{work_in}
+use Rattle.page_roff_language.specs.Languages.{Kind, page, body}
+use Rattle.page_roff_language.specs.Machine.{Frame, at_part}
+use Rattle.page_roff_language.specs.Measures.{work_in}
 
 -- the page before its first line
 abbrev pub first_frame : Frame

@@ -2,12 +2,12 @@
 use Rattle.std.specs.Prelude.{ℕ, ◌+◌, ◌*◌, ◌≤◌, List, [], ◌∷◌, length, take, reverse}
 use Rattle.std.specs.Vec.{vec_capacity}
 use Rattle.page_core_limits.specs.declared.TheConstants.{LINE, BODY}
-use Rattle.page_roff_run.specs.declared.TheConstants.{CALLS}
-use Rattle.page_roff_run.specs.Machine.{Frame}
+use Rattle.page_roff_language.specs.declared.TheConstants.{CALLS}
+use Rattle.page_roff_language.specs.Machine.{Frame}
 use Rattle.page_roff_values.specs.declared.call_arguments.TheConstants.{ARGS}
 use Rattle.page_roff_stack.specs.declared.input_stacks.Caller.{Caller}
 use Rattle.page_roff_stack.specs.declared.input_stacks.InputStack.TheInside.{Inside}
-use Rattle.page_roff_stack.specs.Sources.{frame_of, IsHeld}
+use Rattle.page_roff_stack.specs.InputFrames.{frame_of, IsHeld}
 use Rattle.page_roff_stack.specs.Stacks.{Stack, AreStacked}
 
 -- the sources around, from the inside out: the text of each is what comes before the source inside it

@@ -1,6 +1,6 @@
 pub mod Changes
 pub mod Held
 pub mod InputStacks
-pub mod Sources
+pub mod InputFrames
 pub mod Stacks
 pub mod Views

@@ -6,8 +6,8 @@ use Rattle.page_roff_blocks.specs.declared.atoms.Branch.TheVariants.{Else}
 use Rattle.page_roff_blocks.specs.Levels.{Opened}
 use Rattle.page_roff_blocks.specs.Regions.{is_ending}
 use Rattle.page_roff_blocks.specs.Run.{Meaning}
-use Rattle.page_roff_run.specs.Languages.{Kind, Language, meaning_at}
-use Rattle.page_roff_run.specs.Machine.{Frame, Running, depth, entered, part_next, line_next, region_next, source_next}
+use Rattle.page_roff_language.specs.Languages.{Kind, Language, meaning_at}
+use Rattle.page_roff_language.specs.Machine.{Frame, Running, depth, entered, part_next, line_next, region_next, source_next}
 use Rattle.page_roff_stack.specs.declared.next.Next.{Next}
 use Rattle.page_roff_stack.specs.declared.next.Next.TheVariants.{Part, Line, RegionLine, SourceEnd, Nothing}
 use Rattle.page_roff_stack.specs.Changes.{first_frame, branch_of, region_of, is_page}
@@ -111,7 +111,7 @@ AreStacked kind (f ∷ fs) = AreStacked f.kind fs
 
 module _ {S : Type 0} (l : Language S) where
   -- what is next is done to the state: the step of the machine
-  unfoldable pub step_in : Meaning S → Next (List ℕ) Opened → List (Atom (List ℕ)) → List (List ℕ) → Frame → List Frame → S → Option (Running S)
+  unfoldable pub step_in : Meaning (List ℕ) S → Next (List ℕ) Opened → List (Atom (List ℕ)) → List (List ℕ) → Frame → List Frame → S → Option (Running S)
   step_in m (Part part) parts lines f under s = Some (part_next l m part (drop 1 parts) f under s)
   step_in m (Line line) parts lines f under s = Some (line_next l m line (drop 1 lines) f under s)
   step_in m (RegionLine o line is_end) parts lines f under s = Some (region_next l m is_end o line (drop 1 lines) f under s)

@@ -5,7 +5,7 @@ use Rattle.page_core_limits.specs.declared.TheConstants.{LINE}
 use Rattle.page_roff_blocks.specs.declared.atoms.Atom.{Atom}
 use Rattle.page_roff_blocks.specs.Atoms.{atom_seen, FitsAtom}
 use Rattle.page_roff_blocks.specs.Levels.{Opened, opened_seen}
-use Rattle.page_roff_run.specs.Languages.{Kind, page, body}
+use Rattle.page_roff_language.specs.Languages.{Kind, page, body}
 use Rattle.page_roff_values.specs.Arguments.{arguments_in}
 use Rattle.page_roff_stack.specs.declared.next.Next.{Next}
 use Rattle.page_roff_stack.specs.declared.next.Next.TheVariants.{Part, Line, RegionLine, SourceEnd, Nothing}

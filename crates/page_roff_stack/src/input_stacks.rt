@@ -7,18 +7,18 @@ ghost use Rattle.page_roff_blocks.specs.Atoms.{atom_seen, FitsAtom};
 ghost use Rattle.page_roff_blocks.specs.Caps.{PlaceFits};
 ghost use Rattle.page_roff_blocks.specs.Levels.{after_part, guarded_by, way_of, enter, bit_after, skip, leave, has_block, reached, opened_seen};
 ghost use Rattle.page_roff_blocks.specs.Regions.{text_seen};
-ghost use Rattle.page_roff_run.specs.Machine.{depth, is_some};
+ghost use Rattle.page_roff_language.specs.Machine.{depth, is_some};
 ghost use Rattle.page_roff_values.specs.Arguments.{arguments_in, lines_in};
 ghost use Rattle.page_roff_values.specs.declared.call_arguments.TheConstants.{ARGS};
 ghost use Rattle.page_roff_stack.specs.Changes.{page_line, past, in_region, next_line, first_atoms, is_page};
 ghost use Rattle.page_roff_stack.specs.Stacks.{first_stack, with_top, call_of, next_around, next_of, part_in, is_part, is_line, is_source_end, is_nothing, branch_in, region_in};
 ghost use Rattle.page_roff_stack.specs.Views.{kind_of, next_seen, FitsNext};
 
+use crate::input_frames::InputFrame;
 use crate::next::Next;
-use crate::sources::Source;
 use page_core_limits::{BODY, LINE};
 use page_roff_blocks::{Atom, OpenRegion, Reached, Way};
-use page_roff_run::CALLS;
+use page_roff_language::CALLS;
 use page_roff_values::ARGS;
 use std::alloc::{AllocError, Global};
 use std::marker::Model;
@@ -27,7 +27,7 @@ use std::mem;
 // A source around another, and where its text ends.
 #[derive(Drop)]
 struct Caller {
-    source: Source,
+    source: InputFrame,
     end: usize,
 }
 
@@ -38,7 +38,7 @@ struct Caller {
 pub struct InputStack {
     // The texts of all of them, one after another. That of the innermost source is all of it, and begins with those of the sources around.
     text: Vec<u8>,
-    top: Source,
+    top: InputFrame,
     // The sources around it, from the page on.
     callers: Vec<Caller>,
 }
@@ -65,7 +65,7 @@ impl InputStack {
     {
         Ok(InputStack {
             text: Vec::with_capacity(alloc, TEXT)?,
-            top: Source::page(),
+            top: InputFrame::page(),
             callers: Vec::with_capacity(alloc, CALLS)?,
         })
     }
@@ -301,7 +301,7 @@ impl InputStack {
         ensures { self.new ≡ call_of (lines_in body.now) (arguments_in arguments.now) self.old }
     {
         let end = self.text.len();
-        let callee = Source::enter(&mut self.text, body, arguments);
+        let callee = InputFrame::enter(&mut self.text, body, arguments);
         let source = mem::replace(&mut self.top, callee);
         self.callers.push_reserved(Caller { source, end });
     }

@@ -2,10 +2,10 @@
 //! inside another, each read part by part in memory that is reserved once.
 #![tactic(auto)]
 
+mod input_frames;
 mod input_stacks;
 mod laws;
 mod next;
-mod sources;
 mod spans;
 
 pub use input_stacks::InputStack;

@@ -6,7 +6,7 @@ use Rattle.memchr.specs.Find.{IsFirstByte, is_byte}
 use Rattle.page_roff_values.specs.declared.parts.Call.{Call}
 use Rattle.page_roff_values.specs.declared.parts.Call.TheVariants.{String, Register, Width}
 use Rattle.page_roff_values.specs.Brackets.{has_bracket, IsKnown}
-use Rattle.page_roff_values.specs.Parts.{CutText, SeenText, copies, calls, cut, character_len, two_characters, bracketed, name_cut, content_len, width_cut, plain, after_plain, argument_call, call_cut, pair, is_doubled, escape, begins_escape, seen}
+use Rattle.page_roff_values.specs.Parts.{CutText, SeenText, copies, calls, cut, character_len, two_characters, bracketed, name_cut, content_len, delimited, width_cut, plain, after_plain, argument_call, call_cut, pair, is_doubled, escape, begins_escape, seen}
 
 abbrev Lacks : List ℕ → Type 0
 Lacks text = has_bracket text ≡ false
@@ -100,7 +100,8 @@ width_lacks : (text : List ℕ) → Lacks text → CutLacks (width_cut text)
 width_lacks [] h = tt
 width_lacks (b ∷ bs) h =
     let n = character_len (b ∷ bs) in
-    cut_lacks n (drop n (b ∷ bs)) (content_len (take n (b ∷ bs)) 0 (drop n (b ∷ bs))) (lacks_drop n (b ∷ bs) h)
+    cut_if (b == 92) None (delimited n (b ∷ bs)) tt
+    (cut_lacks n (drop n (b ∷ bs)) (content_len (take n (b ∷ bs)) 0 (drop n (b ∷ bs))) (lacks_drop n (b ∷ bs) h))
 
 call_lacks : (copy : Bool) (letter : ℕ) (bs : List ℕ) → Lacks bs → SeenLacks (call_cut copy letter bs)
 call_lacks copy letter bs h =

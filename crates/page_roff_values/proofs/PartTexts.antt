@@ -15,7 +15,7 @@ use Rattle.page_roff_values.specs.declared.parts.Call.{Call}
 use Rattle.page_roff_values.specs.declared.parts.Call.TheVariants.{String, Register, Argument, Width}
 use Rattle.page_roff_values.specs.declared.parts.Part.{Part}
 use Rattle.page_roff_values.specs.declared.parts.Part.TheVariants.{Copied, Called}
-use Rattle.page_roff_values.specs.Parts.{CutText, SeenText, copies, calls, cut, character_len, two_characters, bracketed, name_cut, further, paired_len, content_len, width_cut, plain, after_plain, argument_call, call_cut, pair, is_doubled, escape, begins_escape, seen, parts_up_to, parts, without_lone}
+use Rattle.page_roff_values.specs.Parts.{CutText, SeenText, copies, calls, cut, character_len, two_characters, bracketed, name_cut, further, paired_len, content_len, delimited, width_cut, plain, after_plain, argument_call, call_cut, pair, is_doubled, escape, begins_escape, seen, parts_up_to, parts, without_lone}
 use Rattle.page_roff_values.specs.Texts.{IsText}
 use Rattle.page_roff_values.proofs.PlainTexts.{nil_text, ascii_text, text_append, text_cut, text_at, text_after, text_seam}
 
@@ -102,9 +102,12 @@ content_ends d zero (b ∷ bs) =
 abbrev CutTexts : Option CutText → Type 0
 CutTexts o = MatchOption o (Unit {0}) (λ c. IsText c.front × IsText c.rest)
 
-width_texts : (t : List ℕ) → IsText t → CutTexts (width_cut t)
-width_texts [] h = tt
-width_texts (b ∷ bs) h =
+texts_if : (c : Bool) (o p : Option CutText) → CutTexts o → CutTexts p → CutTexts (if c then o else p)
+texts_if true o p h k = h
+texts_if false o p h k = k
+
+delimited_texts : (b : ℕ) (bs : List ℕ) → IsText (b ∷ bs) → CutTexts (delimited (character_len (b ∷ bs)) (b ∷ bs))
+delimited_texts b bs h =
     let t = b ∷ bs in
     let n = character_len t in
     let first = taken b bs h.utf8 in
@@ -119,6 +122,10 @@ width_texts (b ∷ bs) h =
         let e = rw is at h in
         let more = character_ends u k c inner.utf8 e in
         ((text_cut u k inner (character_begins u k c inner.utf8 e)).0, (text_cut u (k + n) inner (rw len at more)).1)
+
+width_texts : (t : List ℕ) → IsText t → CutTexts (width_cut t)
+width_texts [] h = tt
+width_texts (b ∷ bs) h = texts_if (b == 92) None (delimited (character_len (b ∷ bs)) (b ∷ bs)) tt (delimited_texts b bs h)
 
 -- ---- parts
 

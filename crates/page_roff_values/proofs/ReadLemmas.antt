@@ -7,7 +7,7 @@ use Rattle.std.specs.Cmp.Lexicographic.{same_text}
 use Rattle.memchr.specs.Find.{IsFirstByte, is_byte, OccursAt, FindsNeedle}
 use Rattle.page_roff_values.specs.declared.parts.Call.{Call}
 use Rattle.page_roff_values.specs.declared.parts.Call.TheVariants.{String, Register, Argument, Width}
-use Rattle.page_roff_values.specs.Parts.{CutText, SeenText, copies, calls, cut, character_len, two_characters, bracketed, name_cut, further, paired_len, unit_len, content_len, width_cut, plain, after_plain, argument_call, call_cut, pair, is_doubled, escape, begins_escape, seen, parts_up_to, parts}
+use Rattle.page_roff_values.specs.Parts.{CutText, SeenText, copies, calls, cut, character_len, two_characters, bracketed, name_cut, further, paired_len, unit_len, content_len, delimited, width_cut, plain, after_plain, argument_call, call_cut, pair, is_doubled, escape, begins_escape, seen, parts_up_to, parts}
 
 -- ---- copies
 
@@ -210,7 +210,8 @@ width_within : (text : List ℕ) → CutWithin (length text) (width_cut text)
 width_within [] = tt
 width_within (b ∷ bs) =
     let n = character_len (b ∷ bs) in
-    delimited_at n (b ∷ bs) (content_len (take n (b ∷ bs)) 0 (drop n (b ∷ bs)))
+    cut_if (b == 92) (suc (length bs)) None (delimited n (b ∷ bs)) tt
+    (delimited_at n (b ∷ bs) (content_len (take n (b ∷ bs)) 0 (drop n (b ∷ bs))))
 
 call_within : (copy : Bool) (letter : ℕ) (bs : List ℕ) → SeenWithin (length bs) (call_cut copy letter bs)
 call_within copy letter bs =

@@ -69,10 +69,10 @@ content_len delimiter zero (b ∷ bs) =
 abbrev pub delimited : ℕ → List ℕ → Option CutText
 delimited n text = option_map (λ k. cut k n (drop n text)) (content_len (take n text) 0 (drop n text))
 
--- none where the text ends before the second delimiter
+-- None where the text ends before the second delimiter. A backslash (92) begins a pair, so it is none.
 abbrev pub width_cut : List ℕ → Option CutText
 width_cut [] = None
-width_cut (b ∷ bs) = delimited (character_len (b ∷ bs)) (b ∷ bs)
+width_cut (b ∷ bs) = if b == 92 then None else delimited (character_len (b ∷ bs)) (b ∷ bs)
 
 -- ---- parts
 

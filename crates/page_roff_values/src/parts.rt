@@ -146,18 +146,25 @@ fn unit_len(text: &[u8]) -> usize
     }
 }
 
-// The text between two delimiters, of which the first character is one.
-fn read_width(text: &[u8]) -> Option<Cut<'_>>
-    ensures { option_map cut_of result ≡ reading.width_cut text.now }
+// The text between two delimiters of so many bytes, of which one begins it.
+fn read_delimited(text: &[u8], mark: usize) -> Option<Cut<'_>>
+    requires { mark ≤ length text.now }
+    ensures { option_map cut_of result ≡ reading.delimited mark text.now }
 {
-    let mark = character_len(text);
-    if mark == 0 {
-        return None;
-    }
     let inner = after(text, mark);
     match content_len(&text[..mark], inner) {
         None => None,
         Some(len) => Some(cut_at(inner, len, mark)),
+    }
+}
+
+// The text between two delimiters, of which the first character is one. A backslash begins a pair, so it is none.
+fn read_width(text: &[u8]) -> Option<Cut<'_>>
+    ensures { option_map cut_of result ≡ reading.width_cut text.now }
+{
+    match text {
+        [] | [b'\\', ..] => None,
+        _ => read_delimited(text, character_len(text)),
     }
 }
 

@@ -1,3 +1,2 @@
 pub mod TargetLemmas
 pub mod SliceLemmas
-pub mod LineLemmas

@@ -4,6 +4,7 @@ ghost use Rattle.std.specs.Prelude.{◌≡◌};
 ghost use Rattle.page_core_base.specs.Latches.{Came};
 ghost use Rattle.page_scopes.specs.Bodies as bodies;
 ghost use Rattle.page_scopes_leaves.specs.Fits.{CloserFits, DeedFits};
+ghost use Rattle.page_scopes_leaves.specs.Outcomes.{GivesOutcome};
 ghost use Rattle.page_scopes_tree.specs.Acts.{TakesAct, act_seen};
 ghost use Rattle.page_sets_lines.specs.Events.{closer_seen, deed_seen, leaf_seen};
 
@@ -80,12 +81,9 @@ pub(crate) fn give_coming<O: PieceOut>(
     context: &Context,
     running: &mut Running,
 )
-    ensures came { Came O.left out.old
-        (bodies.coming place (deed_seen deed.now) context.now running.old).items out.new }
-    ensures context { context.now
-        ≡ (bodies.coming place (deed_seen deed.now) context.now running.old).context }
-    ensures running { running.new
-        ≡ (bodies.coming place (deed_seen deed.now) context.now running.old).running }
+    ensures { GivesOutcome O.left out.old
+        (bodies.coming place (deed_seen deed.now) context.now running.old)
+        out.new context.now running.new }
 {
     if begins(deed, running) {
         give_front(out, place, deed, context);
@@ -104,12 +102,9 @@ fn give_suffix<O: PieceOut>(
     running: &mut Running,
 )
     requires { CloserFits (closer_seen closer.now) }
-    ensures came { Came O.left out.old
-        (bodies.suffix line (closer_seen closer.now) context.old running.old).items out.new }
-    ensures context { context.new
-        ≡ (bodies.suffix line (closer_seen closer.now) context.old running.old).context }
-    ensures running { running.new
-        ≡ (bodies.suffix line (closer_seen closer.now) context.old running.old).running }
+    ensures { GivesOutcome O.left out.old
+        (bodies.suffix line (closer_seen closer.now) context.old running.old)
+        out.new context.new running.new }
 {
     if let Closer::Target(_, Some(suffix)) = *closer {
         let word = argument_word(None, Join::Glued, suffix);
@@ -134,12 +129,9 @@ fn give_deed_standing<O: PieceOut>(
     running: &mut Running,
 )
     requires { DeedFits (deed_seen deed.now) }
-    ensures came { Came O.left out.old
-        (bodies.deed_stands place (deed_seen deed.now) context.old running.old).items out.new }
-    ensures context { context.new
-        ≡ (bodies.deed_stands place (deed_seen deed.now) context.old running.old).context }
-    ensures running { running.new
-        ≡ (bodies.deed_stands place (deed_seen deed.now) context.old running.old).running }
+    ensures { GivesOutcome O.left out.old
+        (bodies.deed_stands place (deed_seen deed.now) context.old running.old)
+        out.new context.new running.new }
 {
     match deed {
         Deed::Close(closer) => give_suffix(out, place.line, closer, context, running),
@@ -162,10 +154,9 @@ pub(crate) fn give_standing<O: PieceOut>(
     running: &mut Running,
 )
     requires { TakesAct (λ event. DeedFits event.deed) (act_seen act.now) }
-    ensures came { Came O.left out.old
-        (bodies.stands (act_seen act.now) context.old running.old).items out.new }
-    ensures context { context.new ≡ (bodies.stands (act_seen act.now) context.old running.old).context }
-    ensures running { running.new ≡ (bodies.stands (act_seen act.now) context.old running.old).running }
+    ensures { GivesOutcome O.left out.old
+        (bodies.stands (act_seen act.now) context.old running.old)
+        out.new context.new running.new }
 {
     match act {
         Act::Event(event) => give_deed_standing(out, event.place, &event.deed, context, running),

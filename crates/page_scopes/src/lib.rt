@@ -1,15 +1,16 @@
 //! The scopes of a page, laid out: events in, pieces and messages out (man(7), mdoc(7)).
+//!
+//! It puts together the tree of scopes (`page_scopes_tree`), what they begin and end with (`page_scopes_nodes`) and what the other events give
+//! (`page_scopes_leaves`). Read `specs/Edges.antt` first (what events give, and what decides the rest), then `Tables.antt` and `Bodies.antt`.
 #![tactic(auto)]
 
 mod bodies;
 mod laws;
 mod layouts;
-mod lines;
 mod open_scopes;
 mod sinks;
 
 pub use laws::scopes_law;
 pub use layouts::{Kept, LayoutState};
-pub use lines::give_line;
 pub use open_scopes::OpenScopes;
 pub use sinks::Scopes;

@@ -6,10 +6,11 @@ use crate::shown::Shown;
 use page_core_base::{Form, Output, Taken};
 use page_core_limits::LINE;
 use page_roff_forms::{LineForm, form_of};
-use page_scopes::{OpenScopes, give_line};
+use page_scopes::OpenScopes;
 use page_scopes_nodes::PageLayout;
 use page_sets::Man;
 use page_sets_checks::Verbatim;
+use page_sets_lines::MacroSet;
 use std::alloc::{AllocError, Global};
 
 /// The scopes of a page, and the number of its next line.
@@ -56,6 +57,18 @@ fn taken(text: &[u8], line: u32) -> Taken<'_>
         text,
         line,
         name_end,
+    }
+}
+
+// Gives what the events of a line settle, which a set of macros says.
+fn give_line<S: MacroSet>(set: &S, line: Taken<'_>, scopes: &mut OpenScopes, out: &mut Shown)
+where
+    S::Place: Drop,
+    requires { length line.text.now ≤ LINE }
+{
+    let mut place = set.start(line);
+    while let Some(event) = set.next(line, &mut place) {
+        scopes.give_event(&event, out);
     }
 }
 

@@ -71,6 +71,7 @@ fn text_of(bytes: &[u8]) -> &str {
 fn piece_name(piece: &Piece<&[u8]>) -> &'static str {
     match piece {
         Piece::Glue => " Glue",
+        Piece::Split => " Split",
         Piece::Break => " Break",
         Piece::RowEnd => " RowEnd",
         Piece::Literal(true) => " Literal",

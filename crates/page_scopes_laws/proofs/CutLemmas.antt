@@ -47,13 +47,6 @@ pub edge-one : {M L A F S B I : Type 0} (nests : Nesting M L A F) {most : ℕ} (
     edge nests lays d (a ∷ []) ≡ step nests lays d a
 edge-one nests sound lays d a = edge-run nests sound lays d (a ∷ [])
 
--- no act
-pub settled-none : {M L A F S B I : Type 0} (nests : Nesting M L A F) {most : ℕ} (sound : IsSound nests most) (lays : Layout L A F S B I) (d : Edge M L S B) → settled nests lays d [] ≡ []
-settled-none nests sound lays d = settled-run nests sound lays d []
-
-pub edge-none : {M L A F S B I : Type 0} (nests : Nesting M L A F) {most : ℕ} (sound : IsSound nests most) (lays : Layout L A F S B I) (d : Edge M L S B) → edge nests lays d [] ≡ d
-edge-none nests sound lays d = edge-run nests sound lays d []
-
 -- ---- no more nodes than there may be
 
 placed_fit : {L A F S B I : Type 0} (lays : Layout L A F S B I) (most : ℕ) (st : Standing L F) (a : A) (scopes : List (Scope L B)) (s : S) →

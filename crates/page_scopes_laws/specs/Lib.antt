@@ -3,3 +3,4 @@ pub mod Forests
 pub mod Layouts
 pub mod Parts
 pub mod Machines
+pub mod Asides

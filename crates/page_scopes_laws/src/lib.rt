@@ -1,11 +1,16 @@
 //! Laws of the block tree of a page, for the tables of any language (man(7), mdoc(7)).
+//!
+//! Events nest: some open a node, some end nodes. Here is what such a list means, whatever the nodes are, and that a stack that takes event by
+//! event gives the same; `page_scopes_tree` puts the scopes of man(7) in. Read `specs/Nestings.antt` first, then `Forests.antt` (the tree) and
+//! `Layouts.antt` (what it gives).
 #![tactic(auto)]
 
 ghost use Rattle.std.specs.Prelude.{◌≡◌, ℕ, ◌+◌, ◌*◌, ◌≤◌, List, ◌++◌, length};
 ghost use Rattle.page_scopes_laws.specs.Forests.{tree};
-ghost use Rattle.page_scopes_laws.specs.Layouts.{Edge, Layout, edge, settled};
-ghost use Rattle.page_scopes_laws.specs.Machines.{run, run_items};
-ghost use Rattle.page_scopes_laws.specs.Nestings.{IsSound, Nesting};
+ghost use Rattle.page_scopes_laws.specs.Asides.{act, aside, before_leaf, beside, layout_with, Sides, with_asides};
+ghost use Rattle.page_scopes_laws.specs.Layouts.{Edge, edge, labels, Layout, settled};
+ghost use Rattle.page_scopes_laws.specs.Machines.{count_ended, ended_items, placed_items, run, run_items, state_left, step, step_items};
+ghost use Rattle.page_scopes_laws.specs.Nestings.{IsSound, Nesting, standing_of};
 ghost use Rattle.page_scopes_laws.specs.Parts.{on, rest_by};
 
 /// An open node, with what it keeps of the state before it.
@@ -45,4 +50,20 @@ pub fn part_law<M, L, A, F>()
     ensures { (nests : Nesting M L A F) (most : ℕ) → IsSound nests most
         → (m : M) (nodes : List L) (acts : List A)
         → tree nests m nodes acts ≡ rest_by nests (2 * length acts + 1) nodes (on m acts) }
+{}
+
+/// Asides end and open nothing, and acts beside them do what they do alone.
+pub fn asides_law<Y, M, L, A, F, H, S, B, I>()
+    ensures sound { (nests : Nesting M L A F) (most : ℕ) → IsSound nests most → IsSound (with_asides {Y = Y} nests) most }
+    ensures act_items { (nests : Nesting M L A F) (lays : Layout L A F S B I) (sides : Sides Y A F H S I) (own : H) (d : Edge M L S B) (a : A)
+        → step_items (with_asides nests) (layout_with lays sides) (beside own d) (act a)
+        ≡ ended_items lays (count_ended nests d a) a d.scopes d.state
+        ++ (before_leaf sides (standing_of nests d.mode a (labels d.scopes)) own (state_left nests lays d a)
+        ++ placed_items lays (standing_of nests d.mode a (labels d.scopes)) a (state_left nests lays d a)) }
+    ensures act_step { (nests : Nesting M L A F) (lays : Layout L A F S B I) (sides : Sides Y A F H S I) (own : H) (d : Edge M L S B) (a : A)
+        → step (with_asides nests) (layout_with lays sides) (beside own d) (act a) ≡ beside own (step nests lays d a) }
+    ensures aside_items { (nests : Nesting M L A F) (lays : Layout L A F S B I) (sides : Sides Y A F H S I) (own : H) (d : Edge M L S B) (y : Y)
+        → step_items (with_asides nests) (layout_with lays sides) (beside own d) (aside y) ≡ sides.items y own d.state }
+    ensures aside_step { (nests : Nesting M L A F) (lays : Layout L A F S B I) (sides : Sides Y A F H S I) (own : H) (d : Edge M L S B) (y : Y)
+        → step (with_asides nests) (layout_with lays sides) (beside own d) (aside y) ≡ beside (sides.own y own d.state) d }
 {}

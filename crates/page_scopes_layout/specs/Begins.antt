@@ -26,7 +26,7 @@ reset c = record c { fonts = set_to roman_fonts; shift = set_to (pos 0) }
 abbrev pub flat : Context → Context
 flat c = record c { hang = pos 0; first = None }
 
--- a section stands at the page's indent, filled
+-- a section (`SH`, `SS`) stands at the page's indent, filled
 abbrev pub section_begun : ℕ → Context → Context
 section_begun page_indent c = record (flat (reset c)) {
   margin = page_indent;
@@ -35,7 +35,7 @@ section_begun page_indent c = record (flat (reset c)) {
   is_literal = set_to false;
 }
 
--- a heading stands at its column, bold
+-- a heading (of `SH`, `SS`) stands at its column, bold
 abbrev pub heading_begun : ℕ → Context → Context
 heading_begun column c = record c {
   part = parts.Heading column;
@@ -49,7 +49,7 @@ paragraph_begun c = record (flat (reset c)) { prevailing = PREVAILING }
 abbrev pub prevailing_from : Option ℤ → Context → Context
 prevailing_from columns c = record c { prevailing = unwrap_or columns c.prevailing }
 
--- the text stands the prevailing indent further in
+-- the text stands the prevailing indent further in (`TP`, `IP`)
 abbrev pub indented_begun : Option ℤ → Context → Context
 indented_begun columns c = record (flat (reset (prevailing_from columns c))) { hang = unwrap_or columns c.prevailing }
 
@@ -63,7 +63,7 @@ hanging_begun columns c = first_at_margin (indented_begun columns c)
 abbrev pub tag_begun : Context → Context
 tag_begun c = record (first_at_margin c) { part = parts.Tag }
 
--- a font macro's words are in its font; what `\fP` goes back to is the font before them
+-- a font macro's words (`B`, `I`, `SM`, `SB`) are in its font; what `\fP` goes back to is the font before them
 abbrev pub font_begun : Font → Context → Context
 font_begun font c = record c { fonts = record { value = with_font font c.fonts.value; is_set = c.fonts.is_set } }
 
@@ -77,6 +77,6 @@ margin_begun columns c = record (flat c) {
 abbrev pub text_margin : Context → ℕ
 text_margin c = hold (pos c.margin +ℤ c.hang)
 
--- the words of a synopsis stand after the command's name, which is its tag
+-- the words of a synopsis (`SY`) stand after the command's name, which is its tag
 abbrev pub syntax_begun : (at hang : ℕ) → Context → Context
 syntax_begun at hang c = record (flat c) { margin = hold (pos at +ℤ pos hang) }

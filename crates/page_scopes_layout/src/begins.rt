@@ -46,7 +46,7 @@ impl Context {
         }
     }
 
-    /// A section or subsection begins, at the page's indent in columns.
+    /// A section (`SH`) or subsection (`SS`) begins, at the page's indent in columns.
     #[inline(always)]
     pub fn section_begun(self, page_indent: u32) -> Context
         ensures { result ≡ begins.section_begun page_indent self }
@@ -60,7 +60,7 @@ impl Context {
         }
     }
 
-    /// A heading begins, at a column.
+    /// A heading (of `SH`, `SS`) begins, at a column.
     #[inline(always)]
     pub fn heading_begun(self, column: u32) -> Context
         ensures { result ≡ begins.heading_begun column self }
@@ -78,7 +78,7 @@ impl Context {
         }
     }
 
-    /// A plain paragraph begins.
+    /// A plain paragraph (`PP`, `LP`, `P`) begins.
     #[inline(always)]
     pub fn paragraph_begun(self) -> Context
         ensures { result ≡ begins.paragraph_begun self }
@@ -100,7 +100,7 @@ impl Context {
         }
     }
 
-    /// A paragraph begins whose text stands this many columns, or the prevailing indent, further in.
+    /// A paragraph begins whose text stands this many columns, or the prevailing indent, further in (`TP`, `IP`).
     #[inline(always)]
     pub fn indented_begun(self, columns: Option<i32>) -> Context
         ensures { result ≡ begins.indented_begun columns self }
@@ -124,7 +124,7 @@ impl Context {
         }
     }
 
-    /// The same, but the first row stands at the margin.
+    /// The same, but the first row stands at the margin (`HP`).
     #[inline(always)]
     pub fn hanging_begun(self, columns: Option<i32>) -> Context
         ensures { result ≡ begins.hanging_begun columns self }
@@ -132,7 +132,7 @@ impl Context {
         self.indented_begun(columns).first_at_margin()
     }
 
-    /// A tag begins.
+    /// A tag (of `TP`, `TQ`) begins.
     #[inline(always)]
     pub fn tag_begun(self) -> Context
         ensures { result ≡ begins.tag_begun self }
@@ -143,7 +143,7 @@ impl Context {
         }
     }
 
-    /// The words of a font macro begin.
+    /// The words of a font macro (`B`, `I`, `SM`, `SB`) begin.
     #[inline(always)]
     pub fn font_begun(self, font: Font) -> Context
         ensures { result ≡ begins.font_begun font self }
@@ -160,7 +160,7 @@ impl Context {
         }
     }
 
-    /// A relative margin begins, this many columns, or the prevailing indent, further in.
+    /// A relative margin (`RS`) begins, this many columns, or the prevailing indent, further in.
     #[inline(always)]
     pub fn margin_begun(self, columns: Option<i32>) -> Context
         ensures { result ≡ begins.margin_begun columns self }
@@ -181,7 +181,7 @@ impl Context {
         hold(i64::from(self.margin) + i64::from(self.hang))
     }
 
-    /// A synopsis begins whose command's name stands at a margin, with a hang, in columns.
+    /// A synopsis (`SY`) begins whose command's name stands at a margin, with a hang, in columns.
     #[inline(always)]
     pub fn syntax_begun(self, at: u32, hang: u32) -> Context
         ensures { result ≡ begins.syntax_begun at hang self }

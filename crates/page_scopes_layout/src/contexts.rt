@@ -4,9 +4,8 @@ ghost use Rattle.std.specs.Prelude.{◌≡◌};
 ghost use Rattle.page_scopes_layout.specs.Contexts as contexts;
 
 use crate::{PREVAILING, Setting};
-use page_scopes_tree::{Explicit, Label};
+use page_scopes_tree::Label;
 use page_scopes_words::{Fonts, ROMAN};
-use page_sets_lines::LineOpener;
 
 /// What part of a page a text is.
 #[derive(Clone, Copy, PartialEq, Eq)]
@@ -61,43 +60,22 @@ impl Context {
     }
 }
 
-// Whether the prevailing indent ends with a scope.
-#[inline(always)]
-fn owns_prevailing(label: Label) -> bool
-    ensures { result ≡ contexts.owns_prevailing label }
-{
-    match label {
-        Label::Section | Label::Subsection | Label::Explicit(Explicit::RelativeMargin) => true,
-        _ => false,
-    }
-}
-
-// Whether a scope leaves the fonts as they were before it.
-#[inline(always)]
-fn guards_fonts(label: Label) -> bool
-    ensures { result ≡ contexts.guards_fonts label }
-{
-    match label {
-        Label::Line(LineOpener::Heading(_) | LineOpener::FontWords(_)) => true,
-        _ => false,
-    }
-}
-
 impl Context {
     /// A scope ends: the context before it holds again, but for what was set inside for good.
     #[inline(always)]
     pub fn restore(&mut self, label: Label, before: &Context)
         ensures { self.new ≡ contexts.restored label before.now self.old }
     {
+        let row = label.row();
         self.margin = before.margin;
         self.hang = before.hang;
         self.first = before.first;
         self.has_row = before.has_row || self.has_row;
         self.part = before.part;
-        if owns_prevailing(label) {
+        if row.owns_prevailing {
             self.prevailing = before.prevailing;
         }
-        if guards_fonts(label) {
+        if row.guards_fonts {
             self.fonts = before.fonts;
         } else {
             self.fonts.restore(&before.fonts);

@@ -38,7 +38,8 @@ fn give_line_begin<O: PieceOut>(out: &mut O, opener: LineOpener, context: &Conte
     }
 }
 
-/// Gives what a scope begins with, in the context of its front.
+/// Gives what a scope begins with, in the context of its front: `SH`, `SS`, paragraphs (`PP`, `LP`, `P`, `TP`, `IP`, `HP`), `RS`, `SY`, `UR`,
+/// `MT`, and line scopes.
 #[inline(always)]
 pub fn give_begin<O: PieceOut>(out: &mut O, label: Label, context: &Context)
     ensures { Came O.left out.old (nodes.begin_items label context.now) out.new }
@@ -79,7 +80,7 @@ fn give_line_end<O: PieceOut>(out: &mut O, opener: LineOpener, context: &Context
     }
 }
 
-/// Gives what ends a scope, and the margins of the context after it.
+/// Gives what ends a scope, and the margins of the context after it; `RE` and `YS` end the row first.
 pub fn give_end<O: PieceOut>(out: &mut O, label: Label, context: &Context)
     ensures { Came O.left out.old (nodes.end_items label context.now) out.new }
 {

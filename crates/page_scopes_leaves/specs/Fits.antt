@@ -4,7 +4,6 @@ use Rattle.page_core_limits.specs.declared.TheConstants.{LINE}
 use Rattle.page_roff_forms.specs.declared.quotes.Argument.{Argument}
 use Rattle.page_sets_lines.specs.declared.events.Deed.{Deed}
 use Rattle.page_sets_lines.specs.declared.events.Deed.TheVariants as deeds
-use Rattle.page_sets_lines.specs.declared.events.Event.{Event}
 use Rattle.page_sets_lines.specs.declared.openers.Closer.{Closer}
 use Rattle.page_sets_lines.specs.declared.openers.Closer.TheVariants as closers
 use Rattle.page_sets_lines.specs.declared.openers.Opener.{Opener}
@@ -38,6 +37,3 @@ DeedFits (deeds.Word word) = ArgumentFits word.arg
 DeedFits (deeds.Open opener) = OpenerFits opener
 DeedFits (deeds.Close closer) = CloserFits closer
 DeedFits _ = Unit {0}
-
-abbrev pub EventFits : Event (List ℕ) → Type 0
-EventFits event = DeedFits event.deed

@@ -53,7 +53,7 @@ wordless_line false place text c r = filled_line text c r
 
 -- ---- macros
 
--- the blank rows before a paragraph
+-- `PD`: the blank rows before a paragraph
 abbrev pub distance_notes : Place → Option (List ℕ) → List Item
 distance_notes place rows = given_rows_notes place rows
 
@@ -63,7 +63,7 @@ with_distance rows c = record c { distance = set_to (given_rows rows) }
 abbrev pub distance : Place → Option (List ℕ) → Context → Running → Outcome
 distance place rows c r = record { items = distance_notes place rows; context = with_distance rows c; running = r }
 
--- the words of a font macro are in its font; after them the fonts are those before them
+-- the words of a font macro (`B`, `I`, `SM`, `SB`) are in its font; after them the fonts are those before them
 abbrev pub fonts : Option Font → Context → Running → Outcome
 fonts (Some font) c r = record {
   items = [];
@@ -76,7 +76,7 @@ fonts None c r = record {
   running = record r { line = record r.line { fonts_before = None } };
 }
 
--- a further tag stands in front of text that hangs by the prevailing indent
+-- `TQ`: a further tag stands in front of text that hangs by the prevailing indent
 abbrev pub hung : Context → Context
 hung c = record c { hang = c.prevailing; first = None }
 

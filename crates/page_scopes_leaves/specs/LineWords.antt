@@ -35,21 +35,22 @@ word_phrase word = record {
   column = word.arg.column;
   is_quoted = is_quoted word.arg.quoting;
   is_line = is_line word.role;
+  is_written = true;
   font = word.font;
   before = word.before;
   after = word.after;
 }
 
--- a sentence ends as its last word is written
-abbrev pub with_sentence : Bool → Running → Running
-with_sentence ends r = record r { line = record r.line { is_sentence = ends } }
+-- a sentence ends as its last word is written, with the blanks of an escape that reaches to the line's end
+abbrev pub with_sentence : List ℕ → Running → Running
+with_sentence text r = record r { line = record r.line { is_sentence = ends_sentence r.line.ends_blank text } }
 
 -- a word of a line
 unfoldable pub line_word : ℕ → Word (List ℕ) → Context → Running → Outcome
 line_word line word c r = record {
   items = quote_items line word.arg.quoting word.arg.column ++ phrase_items line (word_phrase word) c r;
   context = phrase_context (word_phrase word) c r;
-  running = with_sentence (ends_sentence word.arg.text) (phrase_running (word_phrase word) c r);
+  running = with_sentence word.arg.text (phrase_running (word_phrase word) c r);
 }
 
 -- ---- words of a macro's own
@@ -61,6 +62,7 @@ own_phrase place word = record {
   column = min place.column LINE;
   is_quoted = false;
   is_line = false;
+  is_written = false;
   font = word.font;
   before = word.before;
   after = word.after;

@@ -1,5 +1,6 @@
 -- What an event gives, and what it leaves. Source: man(7).
-use Rattle.std.specs.Prelude.{List, [], ◌∷◌}
+use Rattle.std.specs.Prelude.{◌≡◌, List, [], ◌∷◌}
+use Rattle.page_core_base.specs.Latches.{Came}
 use Rattle.page_core_base.specs.Pieces.{Item, shown}
 use Rattle.page_core_base.specs.declared.pieces.Piece.TheVariants.{Break}
 use Rattle.page_scopes_layout.specs.Nodes.{margin_items}
@@ -11,6 +12,13 @@ pub record Outcome : Type 0 where
   pub items : List Item
   pub context : Context
   pub running : Running
+
+-- a latch was given what an outcome gives, and this context and what is known are those that it leaves
+pub record GivesOutcome {P O : Type 0} (left : P → O → List Item → Type 0) (out : O) (outcome : Outcome) (next : O) (c : Context) (r : Running)
+    : Type 0 where
+  pub came : Came left out outcome.items next
+  pub context : c ≡ outcome.context
+  pub running : r ≡ outcome.running
 
 -- nothing comes of it
 abbrev pub nothing : Context → Running → Outcome

@@ -25,6 +25,7 @@ phrase_seen p = record {
   column = p.column;
   is_quoted = p.is_quoted;
   is_line = p.is_line;
+  is_written = p.is_written;
   font = p.font;
   before = p.before;
   after = p.after;
@@ -45,6 +46,14 @@ joined_gap Glued parts gap = if parts then gap else 0
 abbrev pub blanks_part : Bool → Context → Bool
 blanks_part ends_blank c = ends_blank && not c.is_literal.value
 
+abbrev pub is_tag : PagePart → Bool
+is_tag parts.Tag = true
+is_tag _ = false
+
+-- where rows are filled, a row may end within the words of what is written in the page, but for tags
+abbrev pub splits : Phrase (List ℕ) → Context → Bool
+splits p c = p.is_written && (not c.is_literal.value && not (is_tag c.part))
+
 abbrev pub phrase_style : Phrase (List ℕ) → Context → TextStyle
 phrase_style p c = record { is_quoted = p.is_quoted; is_literal = c.is_literal.value; is_line = p.is_line }
 
@@ -57,6 +66,7 @@ phrase_pen p c r = record {
   has_cell = false;
   is_cut = false;
   ends_blank = false;
+  splits = splits p c;
 }
 
 abbrev pub phrase_items : ℕ → Phrase (List ℕ) → Context → Running → List Item

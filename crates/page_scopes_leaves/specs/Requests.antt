@@ -20,7 +20,7 @@ use Rattle.page_scopes_words.specs.declared.fonts.Fonts.{Fonts}
 use Rattle.page_sets_lines.specs.declared.leaves.Request.{Request}
 use Rattle.page_sets_lines.specs.declared.leaves.Request.TheVariants as requests
 
--- ---- rows: one where no number is given
+-- ---- `sp`: rows, one where no number is given
 
 abbrev pub given_rows : Option (List ℕ) → ℕ
 given_rows None = 1
@@ -33,7 +33,7 @@ given_rows_notes place (Some text) = rows_notes place text
 abbrev pub space_items : Place → Option (List ℕ) → List Item
 space_items place rows = given_rows_notes place rows ++ shown (pieces.Space (given_rows rows)) ∷ []
 
--- ---- the shift of margins: a number with a sign changes it, one without sets it; none sets it to 0
+-- ---- `in`: the shift of margins; a number with a sign changes it, one without sets it; none sets it to 0
 
 abbrev pub has_sign : List ℕ → Bool
 has_sign [] = false
@@ -56,7 +56,7 @@ shifted columns c = record c { shift = set_to (given_shift columns c.shift.value
 abbrev pub shift_items : Place → Option (List ℕ) → Context → List Item
 shift_items place columns c = given_shift_notes place columns ++ row_margin_items (shifted columns c)
 
--- ---- fonts: without a name the former one; a name that no font has changes nothing
+-- ---- `ft`: fonts; without a name the former one; a name that no font has changes nothing
 
 abbrev pub fonts_named : Face → Setting Fonts → Setting Fonts
 fonts_named face fonts = record { value = face_fonts face fonts.value; is_set = fonts.is_set || is_known face }
@@ -71,7 +71,7 @@ font_notes place name = face_notes place (given_face name)
 abbrev pub with_font_named : Option (List ℕ) → Context → Context
 with_font_named name c = record c { fonts = fonts_named (given_face name) c.fonts }
 
--- ---- rows that are kept, or filled
+-- ---- rows that are kept (`nf`, `EX`), or filled (`fi`, `EE`)
 
 abbrev pub literal : Bool → Context → Running → Outcome
 literal on c r = record {

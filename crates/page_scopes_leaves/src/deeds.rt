@@ -1,9 +1,8 @@
 //! What events give that open and close nothing (man(7)).
 
-ghost use Rattle.std.specs.Prelude.{◌≡◌};
-ghost use Rattle.page_core_base.specs.Latches.{Came};
 ghost use Rattle.page_scopes_leaves.specs.Deeds as deeds;
 ghost use Rattle.page_scopes_leaves.specs.Fits.{DeedFits};
+ghost use Rattle.page_scopes_leaves.specs.Outcomes.{GivesOutcome};
 ghost use Rattle.page_sets_lines.specs.Events.{deed_seen};
 
 use crate::{Running, end_line, give_leaf, give_line_word, give_raw_line};
@@ -23,12 +22,9 @@ pub fn give_deed<O: PieceOut>(
     running: &mut Running,
 )
     requires { DeedFits (deed_seen deed.now) }
-    ensures came { Came O.left out.old
-        (deeds.deed_outcome place (deed_seen deed.now) context.old running.old).items out.new }
-    ensures context { context.new
-        ≡ (deeds.deed_outcome place (deed_seen deed.now) context.old running.old).context }
-    ensures running { running.new
-        ≡ (deeds.deed_outcome place (deed_seen deed.now) context.old running.old).running }
+    ensures { GivesOutcome O.left out.old
+        (deeds.deed_outcome place (deed_seen deed.now) context.old running.old)
+        out.new context.new running.new }
 {
     match deed {
         Deed::Word(word) => give_line_word(out, place.line, word, context, running),

@@ -3,6 +3,7 @@
 ghost use Rattle.std.specs.Prelude.{◌≡◌};
 ghost use Rattle.page_core_base.specs.Latches.{Came};
 ghost use Rattle.page_scopes_leaves.specs.Leaves as leaves;
+ghost use Rattle.page_scopes_leaves.specs.Outcomes.{GivesOutcome};
 ghost use Rattle.page_sets_lines.specs.Events.{leaf_seen, text_seen};
 
 use crate::margins::give_row_margins;
@@ -36,13 +37,10 @@ fn give_wordless_line<O: PieceOut>(
     context: &mut Context,
     running: &mut Running,
 )
-    ensures came { let literal = context.old.is_literal.value
-        in Came O.left out.old
-        (leaves.wordless_line literal place text.now context.old running.old).items out.new }
-    ensures context { let literal = context.old.is_literal.value
-        in context.new ≡ (leaves.wordless_line literal place text.now context.old running.old).context }
-    ensures running { let literal = context.old.is_literal.value
-        in running.new ≡ (leaves.wordless_line literal place text.now context.old running.old).running }
+    ensures { let literal = context.old.is_literal.value
+        in GivesOutcome O.left out.old
+        (leaves.wordless_line literal place text.now context.old running.old)
+        out.new context.new running.new }
 {
     if context.is_literal.value {
         give_white_cells(out, place, text);
@@ -54,7 +52,7 @@ fn give_wordless_line<O: PieceOut>(
     }
 }
 
-// Sets the distance of paragraphs.
+// Sets the distance of paragraphs: `PD`.
 fn give_distance<O: PieceOut>(out: &mut O, place: Place, rows: Option<&[u8]>, context: &mut Context)
     ensures came { Came O.left out.old (leaves.distance_notes place (text_seen rows.entry)) out.new }
     ensures context { context.new ≡ leaves.with_distance (text_seen rows.entry) context.old }
@@ -63,7 +61,7 @@ fn give_distance<O: PieceOut>(out: &mut O, place: Place, rows: Option<&[u8]>, co
     context.distance = Setting::set_to(rows);
 }
 
-// The words of a font macro begin, or end.
+// The words of a font macro (`B`, `I`, `SM`, `SB`) begin, or end.
 fn set_fonts(font: Option<Font>, context: &mut Context, running: &mut Running)
     ensures context { context.new ≡ (leaves.fonts font context.old running.old).context }
     ensures running { running.new ≡ (leaves.fonts font context.old running.old).running }
@@ -80,11 +78,11 @@ fn set_fonts(font: Option<Font>, context: &mut Context, running: &mut Running)
     }
 }
 
-// A further tag comes.
+// A further tag comes: `TQ`.
 fn give_further_tag<O: PieceOut>(out: &mut O, context: &mut Context, running: &mut Running)
-    ensures came { Came O.left out.old (leaves.further_tag context.old running.old).items out.new }
-    ensures context { context.new ≡ (leaves.further_tag context.old running.old).context }
-    ensures running { running.new ≡ (leaves.further_tag context.old running.old).running }
+    ensures { GivesOutcome O.left out.old
+        (leaves.further_tag context.old running.old)
+        out.new context.new running.new }
 {
     context.hang = context.prevailing;
     context.first = None;
@@ -102,12 +100,9 @@ pub fn give_leaf<O: PieceOut>(
     context: &mut Context,
     running: &mut Running,
 )
-    ensures came { Came O.left out.old
-        (leaves.leaf_outcome place (leaf_seen leaf.now) context.old running.old).items out.new }
-    ensures context { context.new
-        ≡ (leaves.leaf_outcome place (leaf_seen leaf.now) context.old running.old).context }
-    ensures running { running.new
-        ≡ (leaves.leaf_outcome place (leaf_seen leaf.now) context.old running.old).running }
+    ensures { GivesOutcome O.left out.old
+        (leaves.leaf_outcome place (leaf_seen leaf.now) context.old running.old)
+        out.new context.new running.new }
 {
     match *leaf {
         Leaf::BlankLine => give_blank_line(out, place, context, running),

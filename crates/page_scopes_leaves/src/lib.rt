@@ -1,4 +1,7 @@
 //! What is known along a page whatever its scopes are, and the words and leaves of events as pieces and messages (man(7)).
+//!
+//! Events that open and close nothing come in, in the context of the open scopes; each gives an outcome: items, and the context and what is
+//! known after it. Read `src/runnings.rt` first, then `specs/Outcomes.antt`, `Phrases.antt` (words) and `Leaves.antt` (a row for each leaf).
 #![tactic(auto)]
 
 mod deeds;

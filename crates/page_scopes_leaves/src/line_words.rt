@@ -4,6 +4,7 @@ ghost use Rattle.std.specs.Prelude.{◌≡◌};
 ghost use Rattle.page_core_base.specs.Latches.{Came};
 ghost use Rattle.page_scopes_leaves.specs.Fits.{FitsAt};
 ghost use Rattle.page_scopes_leaves.specs.LineWords as lines;
+ghost use Rattle.page_scopes_leaves.specs.Outcomes.{GivesOutcome};
 ghost use Rattle.page_scopes_leaves.specs.Phrases.{phrase_seen};
 ghost use Rattle.page_sets_lines.specs.Events.{word_seen};
 
@@ -47,6 +48,7 @@ fn word_phrase<'a>(word: &Word<&'a [u8]>) -> Phrase<&'a [u8]>
         column: word.arg.column,
         is_quoted: word.arg.is_quoted(),
         is_line: is_line(word.role),
+        is_written: true,
         font: word.font,
         before: word.before,
         after: word.after,
@@ -64,16 +66,13 @@ pub fn give_line_word<O: PieceOut>(
     running: &mut Running,
 )
     requires { FitsAt word.now.arg.column word.now.arg.text.now }
-    ensures came { Came O.left out.old
-        (lines.line_word line (word_seen word.now) context.old running.old).items out.new }
-    ensures context { context.new ≡ (lines.line_word line
-        (word_seen word.now) context.old running.old).context }
-    ensures running { running.new ≡ (lines.line_word line
-        (word_seen word.now) context.old running.old).running }
+    ensures { GivesOutcome O.left out.old
+        (lines.line_word line (word_seen word.now) context.old running.old)
+        out.new context.new running.new }
 {
     report_quote(out, line, word.arg.quoting, word.arg.column);
     give_phrase(out, line, &word_phrase(word), context, running);
-    running.line.is_sentence = ends_sentence(word.arg.text);
+    running.line.is_sentence = ends_sentence(running.line.ends_blank, word.arg.text);
 }
 
 // A word of a macro's own as a phrase.
@@ -86,6 +85,7 @@ fn own_phrase(place: Place, word: OwnWord) -> Phrase<&'static [u8]>
         column: place.column.min(LINE as u32),
         is_quoted: false,
         is_line: false,
+        is_written: false,
         font: word.font,
         before: word.before,
         after: word.after,
@@ -101,9 +101,9 @@ pub fn give_own_word<O: PieceOut>(
     context: &mut Context,
     running: &mut Running,
 )
-    ensures came { Came O.left out.old (lines.own_word place word context.old running.old).items out.new }
-    ensures context { context.new ≡ (lines.own_word place word context.old running.old).context }
-    ensures running { running.new ≡ (lines.own_word place word context.old running.old).running }
+    ensures { GivesOutcome O.left out.old
+        (lines.own_word place word context.old running.old)
+        out.new context.new running.new }
 {
     give_phrase(out, place.line, &own_phrase(place, word), context, running);
 }

@@ -23,6 +23,8 @@ pub struct Phrase<W> {
     pub is_quoted: bool,
     /// It is a whole line.
     pub is_line: bool,
+    /// It stands in the page, and is no word of a macro's own.
+    pub is_written: bool,
     /// A font of its own.
     pub font: Option<Font>,
     /// How it stands beside the word before it.
@@ -87,6 +89,13 @@ fn phrase_style(phrase: &Phrase<&[u8]>, context: &Context) -> TextStyle
     }
 }
 
+// Whether a row may end within the words of a phrase: where rows are filled, in what is written in the page, but for tags.
+fn splits(phrase: &Phrase<&[u8]>, context: &Context) -> bool
+    ensures { result ≡ phrases.splits (phrase_seen phrase.now) context.now }
+{
+    phrase.is_written && !context.is_literal.value && !matches!(context.part, PagePart::Tag)
+}
+
 // What is known at a phrase's front.
 fn phrase_pen(phrase: &Phrase<&[u8]>, context: &Context, running: &Running) -> Pen
     ensures { result ≡ phrases.phrase_pen (phrase_seen phrase.now) context.now running.now }
@@ -103,6 +112,7 @@ fn phrase_pen(phrase: &Phrase<&[u8]>, context: &Context, running: &Running) -> P
         has_cell: false,
         is_cut: false,
         ends_blank: false,
+        splits: splits(phrase, context),
     }
 }
 

@@ -1,7 +1,7 @@
 //! Lines of tables, equations and pictures: rows of their characters as they are (roff(7), `TS`, `EQ` and `PS`).
 
-ghost use Rattle.std.specs.Prelude.{◌≡◌, []};
 ghost use Rattle.page_core_base.specs.Latches.{Came};
+ghost use Rattle.page_scopes_leaves.specs.Outcomes.{GivesOutcome};
 ghost use Rattle.page_scopes_leaves.specs.RawLines as raw;
 
 use crate::Running;
@@ -42,9 +42,9 @@ pub fn give_raw_line<O: PieceOut>(
     context: &mut Context,
     running: &mut Running,
 )
-    ensures came { Came O.left out.old (raw.raw_line place text.now context.old running.old).items out.new }
-    ensures context { context.new ≡ (raw.raw_line place text.now context.old running.old).context }
-    ensures running { running.new ≡ (raw.raw_line place text.now context.old running.old).running }
+    ensures { GivesOutcome O.left out.old
+        (raw.raw_line place text.now context.old running.old)
+        out.new context.new running.new }
 {
     out.give(Piece::Break);
     out.give(Piece::Literal(true));

@@ -3,6 +3,7 @@
 ghost use Rattle.std.specs.Prelude.{◌≡◌};
 ghost use Rattle.page_core_base.specs.Latches.{Came};
 ghost use Rattle.page_core_escapes.specs.Escapes.{face_seen};
+ghost use Rattle.page_scopes_leaves.specs.Outcomes.{GivesOutcome};
 ghost use Rattle.page_scopes_leaves.specs.Requests as requests;
 ghost use Rattle.page_scopes_leaves.specs.Runnings.{row_ended, with_content};
 ghost use Rattle.page_scopes_text.specs.Numbers.{columns_notes};
@@ -29,7 +30,7 @@ pub(crate) fn give_given_rows<O: PieceOut>(out: &mut O, place: Place, rows: Opti
     }
 }
 
-// Gives blank rows.
+// Gives blank rows: `sp`.
 fn give_space<O: PieceOut>(out: &mut O, place: Place, rows: Option<&[u8]>, running: &mut Running)
     ensures came { Came O.left out.old (requests.space_items place (text_seen rows.entry)) out.new }
     ensures running { running.new ≡ row_ended (with_content running.old) }
@@ -88,7 +89,7 @@ fn set_shift<O: PieceOut>(out: &mut O, place: Place, columns: Option<&[u8]>, con
     context.shift = Setting::set_to(shift);
 }
 
-// Shifts the margins.
+// Shifts the margins: `in`.
 fn give_shift<O: PieceOut>(
     out: &mut O,
     place: Place,
@@ -123,7 +124,7 @@ fn fonts_named(name: FontName<'_>, fonts: Setting<Fonts>) -> Setting<Fonts>
     }
 }
 
-// Asks for a font by its name, or for the former one.
+// Asks for a font by its name, or for the former one: `ft`.
 fn give_font<O: PieceOut>(out: &mut O, place: Place, name: Option<&[u8]>, context: &mut Context)
     ensures came { Came O.left out.old (requests.font_notes place (text_seen name.entry)) out.new }
     ensures context { context.new ≡ requests.with_font_named (text_seen name.entry) context.old }
@@ -136,16 +137,16 @@ fn give_font<O: PieceOut>(out: &mut O, place: Place, name: Option<&[u8]>, contex
     context.fonts = fonts_named(font, context.fonts);
 }
 
-/// Keeps rows as they are from here on, or fills them.
+/// Keeps rows as they are from here on (`nf`, `EX`), or fills them (`fi`, `EE`).
 pub(crate) fn give_literal<O: PieceOut>(
     out: &mut O,
     on: bool,
     context: &mut Context,
     running: &mut Running,
 )
-    ensures came { Came O.left out.old (requests.literal on context.old running.old).items out.new }
-    ensures context { context.new ≡ (requests.literal on context.old running.old).context }
-    ensures running { running.new ≡ (requests.literal on context.old running.old).running }
+    ensures { GivesOutcome O.left out.old
+        (requests.literal on context.old running.old)
+        out.new context.new running.new }
 {
     context.is_literal = Setting::set_to(on);
     out.give(Piece::Break);
@@ -161,12 +162,9 @@ pub(crate) fn give_request<O: PieceOut>(
     context: &mut Context,
     running: &mut Running,
 )
-    ensures came { Came O.left out.old
-        (requests.request place (request_seen request.now) context.old running.old).items out.new }
-    ensures context { context.new
-        ≡ (requests.request place (request_seen request.now) context.old running.old).context }
-    ensures running { running.new
-        ≡ (requests.request place (request_seen request.now) context.old running.old).running }
+    ensures { GivesOutcome O.left out.old
+        (requests.request place (request_seen request.now) context.old running.old)
+        out.new context.new running.new }
 {
     match *request {
         Request::Break => {

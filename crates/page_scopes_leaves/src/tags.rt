@@ -1,8 +1,8 @@
 //! Tags: words in front of a text that hangs (man(7), `IP`, `SY`).
 
 ghost use Rattle.std.specs.Prelude.{◌≡◌};
-ghost use Rattle.page_core_base.specs.Latches.{Came};
 ghost use Rattle.page_scopes_leaves.specs.Fits.{ArgumentFits};
+ghost use Rattle.page_scopes_leaves.specs.Outcomes.{GivesOutcome};
 ghost use Rattle.page_scopes_leaves.specs.Tags as tags;
 ghost use Rattle.page_sets_lines.specs.Events.{word_seen};
 
@@ -54,10 +54,9 @@ pub fn give_tag<O: PieceOut>(
     running: &mut Running,
 )
     requires { ArgumentFits (word_seen word.now).arg }
-    ensures came { Came O.left out.old (tags.tag tag line
-        (word_seen word.now) context.old running.old).items out.new }
-    ensures context { context.new ≡ (tags.tag tag line (word_seen word.now) context.old running.old).context }
-    ensures running { running.new ≡ (tags.tag tag line (word_seen word.now) context.old running.old).running }
+    ensures { GivesOutcome O.left out.old
+        (tags.tag tag line (word_seen word.now) context.old running.old)
+        out.new context.new running.new }
 {
     let before = *context;
     *context = tag_context(tag, before);

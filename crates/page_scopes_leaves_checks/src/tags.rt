@@ -100,7 +100,7 @@ fn marks(rt: HostRuntime) -> Result<(), Fail> {
         column: u32::MAX,
     };
     let mark = OwnWord {
-        own: Own::Unsquare,
+        own: Own::CloseBracket,
         font: None,
         before: Join::Glued,
         after: Join::Apart,

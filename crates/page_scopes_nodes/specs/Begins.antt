@@ -23,7 +23,7 @@ use Rattle.page_scopes_nodes.specs.Targets.{target_of}
 use Rattle.page_scopes_nodes.specs.declared.page_layouts.PageLayout.{PageLayout}
 use Rattle.page_scopes_nodes.specs.declared.targets.Target.{Target}
 
--- ---- scopes that end with a line: headings at the left edge or 3 columns in, tags, fonts
+-- ---- scopes that end with a line: headings at the left edge (`SH`) or 3 columns in (`SS`), tags (`TP`, `TQ`), fonts (`B`, `I`, `SM`, `SB`)
 
 abbrev pub heading_column : HeadingName → ℕ
 heading_column headings.SH = 0

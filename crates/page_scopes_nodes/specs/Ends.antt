@@ -17,12 +17,12 @@ use Rattle.page_scopes_nodes.specs.Openers.{followed_by}
 use Rattle.page_scopes_nodes.specs.Targets.{target_word}
 use Rattle.page_scopes_nodes.specs.declared.targets.Target.{Target}
 
--- the target of a link is its last word
+-- the target of a link (`UR` up to `UE`, `MT` up to `ME`) is its last word
 abbrev pub last_word : Place → Option Target → Context → Running → Outcome
 last_word place None c r = nothing c r
 last_word place (Some target) c r = target_word place target c r
 
--- after a heading nothing stands yet; the padding of a tag stands in place of a blank
+-- after `RE`, `YS` and a heading the row has ended; after a heading nothing stands yet; the padding of a tag stands in place of a blank
 abbrev pub line_running : LineOpener → Running → Running
 line_running (lines.Heading name) r = record (row_ended r) { has_content = false }
 line_running (lines.Tag name) r = record r { gap = 0 }

@@ -17,7 +17,7 @@ use Rattle.page_scopes_leaves.specs.Outcomes.{Outcome}
 use Rattle.page_scopes_leaves.specs.Phrases.{is_text}
 use Rattle.page_scopes_leaves.specs.declared.runnings.Running.{Running}
 use Rattle.page_scopes_text.specs.Words.{blank_cells, fonts_after, token_items, token_notes}
-use Rattle.page_scopes_words.specs.Words.{at, says, white_cells}
+use Rattle.page_scopes_words.specs.Words.{at, has_tab, says, white_cells}
 use Rattle.page_scopes_words.specs.declared.fonts.Fonts.{Fonts}
 use Rattle.page_scopes_nodes.specs.declared.targets.Target.{Target}
 
@@ -51,9 +51,9 @@ filled_gap gap = if gap == 0 then [] else shown (Blank gap false) ∷ []
 abbrev pub gap_items : Bool → Running → Place → List Item
 gap_items literal r place = if literal then kept_gap r place else filled_gap r.gap
 
--- its parts are one blank apart, or as they are written
+-- its parts are one blank apart, which is reported where it stands for a tab, or as they are written
 abbrev pub white_items : Bool → Place → List ℕ → List Item
-white_items literal place bytes = if literal then white_cells place bytes else shown (Blank 1 false) ∷ []
+white_items literal place bytes = if literal then white_cells place bytes else shown (Blank 1 (has_tab bytes)) ∷ []
 
 abbrev pub part_items : Bool → Place → Font → TextToken → List Item
 part_items literal place font (white bytes) = white_items literal place bytes
@@ -91,7 +91,7 @@ after_target in_text r = record r {
   };
 }
 
--- the target in angles, without a message, all at the place where the link ends
+-- the target in angles, without the messages of its escapes, all at the place where the link ends
 unfoldable pub target_word : Place → Target → Context → Running → Outcome
 target_word place target c r = record {
   items = gap_items c.is_literal.value r place

@@ -1,9 +1,9 @@
 //! What a scope begins with, of any event that opens one (man(7)).
 
 ghost use Rattle.std.specs.Prelude.{◌≡◌};
-ghost use Rattle.page_core_base.specs.Latches.{Came};
 ghost use Rattle.page_scopes_layout.specs.Begins.{entered_context};
 ghost use Rattle.page_scopes_leaves.specs.Fits.{DeedFits};
+ghost use Rattle.page_scopes_leaves.specs.Outcomes.{GivesOutcome};
 ghost use Rattle.page_scopes_nodes.specs.Begins as begins;
 ghost use Rattle.page_sets_lines.specs.Events.{deed_seen, event_seen};
 
@@ -15,7 +15,7 @@ use page_scopes_leaves::Running;
 use page_scopes_tree::Label;
 use page_sets_lines::{Deed, Event, FontMacro, HeadingName, LineOpener};
 
-// The column of a heading.
+// The column of the heading of `SH` or `SS`.
 fn heading_column(name: HeadingName) -> u32
     ensures { result ≡ begins.heading_column name }
 {
@@ -25,7 +25,7 @@ fn heading_column(name: HeadingName) -> u32
     }
 }
 
-// The font of a font macro's words.
+// The font of the words of `B`, `I`, `SM` or `SB`.
 fn font_of(font_macro: FontMacro) -> Font
     ensures { result ≡ begins.font_of font_macro }
 {
@@ -36,7 +36,8 @@ fn font_of(font_macro: FontMacro) -> Font
     }
 }
 
-// A line scope begins in the context of its front.
+// A line scope begins in the context of its front: the heading of `SH` and `SS`, the tag of `TP` and `TQ`, the words of `B`, `I`, `SM` and
+// `SB`.
 #[inline(always)]
 fn enter_line(opener: LineOpener, context: &mut Context)
     ensures { context.new ≡ begins.line_context opener (entered_context context.old) }
@@ -59,9 +60,9 @@ fn give_line_opened<O: PieceOut>(
     context: &mut Context,
     running: &mut Running,
 )
-    ensures came { Came O.left out.old (begins.line_opened opener context.old running.old).items out.new }
-    ensures context { context.new ≡ (begins.line_opened opener context.old running.old).context }
-    ensures running { running.new ≡ (begins.line_opened opener context.old running.old).running }
+    ensures { GivesOutcome O.left out.old
+        (begins.line_opened opener context.old running.old)
+        out.new context.new running.new }
 {
     enter_line(opener, context);
     give_begin(out, Label::Line(opener), context);
@@ -80,12 +81,9 @@ pub fn give_begun<O: PieceOut>(
     running: &mut Running,
 )
     requires { DeedFits (deed_seen event.now.deed) }
-    ensures came { Came O.left out.old
-        (begins.begun_by page.now (event_seen event.now) context.old running.old).items out.new }
-    ensures context { context.new
-        ≡ (begins.begun_by page.now (event_seen event.now) context.old running.old).context }
-    ensures running { running.new
-        ≡ (begins.begun_by page.now (event_seen event.now) context.old running.old).running }
+    ensures { GivesOutcome O.left out.old
+        (begins.begun_by page.now (event_seen event.now) context.old running.old)
+        out.new context.new running.new }
 {
     match &event.deed {
         Deed::Open(opener) => give_opened(out, page, event.place, opener, context, running),

@@ -1,7 +1,7 @@
 //! What a scope ends with (man(7)).
 
 ghost use Rattle.std.specs.Prelude.{◌≡◌};
-ghost use Rattle.page_core_base.specs.Latches.{Came};
+ghost use Rattle.page_scopes_leaves.specs.Outcomes.{GivesOutcome};
 ghost use Rattle.page_scopes_nodes.specs.Ends as ends;
 
 use crate::Target;
@@ -12,7 +12,7 @@ use page_scopes_leaves::Running;
 use page_scopes_tree::{Explicit, Label};
 use page_sets_lines::LineOpener;
 
-// Gives the last word of a scope.
+// Gives the last word of a scope: the target of `UR` up to `UE`, and of `MT` up to `ME`.
 fn give_last_word<O: PieceOut>(
     out: &mut O,
     place: Place,
@@ -20,17 +20,17 @@ fn give_last_word<O: PieceOut>(
     context: &mut Context,
     running: &mut Running,
 )
-    ensures came { Came O.left out.old
-        (ends.last_word place target.now context.old running.old).items out.new }
-    ensures context { context.new ≡ (ends.last_word place target.now context.old running.old).context }
-    ensures running { running.new ≡ (ends.last_word place target.now context.old running.old).running }
+    ensures { GivesOutcome O.left out.old
+        (ends.last_word place target.now context.old running.old)
+        out.new context.new running.new }
 {
     if let Some(target) = target {
         give_target(out, place, target, context, running);
     }
 }
 
-// What is known along the page after a scope.
+// What is known along the page after a scope: `RS` up to `RE` and `SY` up to `YS` end the row, the headings of `SH` and `SS` too; after the tag
+// of `TP` or `TQ` no blank stands.
 fn pass_end(label: Label, running: &mut Running)
     ensures { running.new ≡ ends.label_running label running.old }
 {
@@ -53,16 +53,16 @@ fn give_left<O: PieceOut>(
     context: &mut Context,
     running: &mut Running,
 )
-    ensures came { Came O.left out.old (ends.left label before.now context.old running.old).items out.new }
-    ensures context { context.new ≡ (ends.left label before.now context.old running.old).context }
-    ensures running { running.new ≡ (ends.left label before.now context.old running.old).running }
+    ensures { GivesOutcome O.left out.old
+        (ends.left label before.now context.old running.old)
+        out.new context.new running.new }
 {
     context.restore(label, before);
     give_end(out, label, context);
     pass_end(label, running);
 }
 
-/// Gives what ends a scope at a place, with the context before it and the target that it kept.
+/// Gives what ends a scope, as `RE`, `UE`, `ME` and `YS` do, at a place, with the context before it and the target that it kept.
 #[tactic(auto, unfolding(crate::specs::Ends::ended))]
 pub fn give_ended<O: PieceOut>(
     out: &mut O,
@@ -73,12 +73,9 @@ pub fn give_ended<O: PieceOut>(
     context: &mut Context,
     running: &mut Running,
 )
-    ensures came { Came O.left out.old
-        (ends.ended label before.now target.now place context.old running.old).items out.new }
-    ensures context { context.new
-        ≡ (ends.ended label before.now target.now place context.old running.old).context }
-    ensures running { running.new
-        ≡ (ends.ended label before.now target.now place context.old running.old).running }
+    ensures { GivesOutcome O.left out.old
+        (ends.ended label before.now target.now place context.old running.old)
+        out.new context.new running.new }
 {
     give_last_word(out, place, target, context, running);
     give_left(out, label, before, context, running);

@@ -1,4 +1,7 @@
 //! What scopes begin with and end with, words and all: tags, names, targets of links, headings and fonts (man(7)).
+//!
+//! Where an event opens or ends a scope, its outcome stands here, macro by macro; what opens and closes nothing is in `page_scopes_leaves`. Read
+//! `specs/Openers.antt` first, then `Begins.antt` (line scopes) and `Ends.antt`.
 #![tactic(auto)]
 
 mod begins;

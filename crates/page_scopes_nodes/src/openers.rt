@@ -4,6 +4,7 @@ ghost use Rattle.std.specs.Prelude.{◌≡◌};
 ghost use Rattle.page_core_base.specs.Latches.{Came};
 ghost use Rattle.page_roff_forms.specs.Arguments.{argument_seen};
 ghost use Rattle.page_scopes_leaves.specs.Fits.{ArgumentFits, GivenFits, OpenerFits};
+ghost use Rattle.page_scopes_leaves.specs.Outcomes.{GivesOutcome};
 ghost use Rattle.page_scopes_nodes.specs.Openers as openers;
 ghost use Rattle.page_sets_lines.specs.Events.{given_seen, opener_seen, text_seen, word_seen};
 
@@ -39,9 +40,9 @@ fn begin<O: PieceOut>(
     context: &mut Context,
     running: &mut Running,
 )
-    ensures came { Came O.left out.old (openers.begun label front running.old).items out.new }
-    ensures context { context.new ≡ (openers.begun label front running.old).context }
-    ensures running { running.new ≡ (openers.begun label front running.old).running }
+    ensures { GivesOutcome O.left out.old
+        (openers.begun label front running.old)
+        out.new context.new running.new }
 {
     *context = front;
     give_begin(out, label, context);
@@ -72,9 +73,9 @@ fn begin_section<O: PieceOut>(
     context: &mut Context,
     running: &mut Running,
 )
-    ensures came { Came O.left out.old (openers.section page.now context.old running.old).items out.new }
-    ensures context { context.new ≡ (openers.section page.now context.old running.old).context }
-    ensures running { running.new ≡ (openers.section page.now context.old running.old).running }
+    ensures { GivesOutcome O.left out.old
+        (openers.section page.now context.old running.old)
+        out.new context.new running.new }
 {
     let front = context.entered().section_begun(page.indent);
     begin(out, Label::Section, front, context, running);
@@ -88,9 +89,9 @@ fn begin_plain<O: PieceOut>(
     context: &mut Context,
     running: &mut Running,
 )
-    ensures came { Came O.left out.old (openers.plain place name context.old running.old).items out.new }
-    ensures context { context.new ≡ (openers.plain place name context.old running.old).context }
-    ensures running { running.new ≡ (openers.plain place name context.old running.old).running }
+    ensures { GivesOutcome O.left out.old
+        (openers.plain place name context.old running.old)
+        out.new context.new running.new }
 {
     if running.has_content {
         let front = context.entered().paragraph_begun();
@@ -109,12 +110,9 @@ fn begin_indented<O: PieceOut>(
     context: &mut Context,
     running: &mut Running,
 )
-    ensures came { Came O.left out.old
-        (openers.indented place (text_seen hang.entry) context.old running.old).items out.new }
-    ensures context { context.new
-        ≡ (openers.indented place (text_seen hang.entry) context.old running.old).context }
-    ensures running { running.new
-        ≡ (openers.indented place (text_seen hang.entry) context.old running.old).running }
+    ensures { GivesOutcome O.left out.old
+        (openers.indented place (text_seen hang.entry) context.old running.old)
+        out.new context.new running.new }
 {
     let columns = give_given(out, place, hang);
     let front = context.entered().indented_begun(columns);
@@ -130,12 +128,9 @@ fn give_given_tag<O: PieceOut>(
     running: &mut Running,
 )
     requires { GivenFits (given_seen tag) }
-    ensures came { Came O.left out.old
-        (openers.given_tag line (given_seen tag.entry) context.old running.old).items out.new }
-    ensures context { context.new
-        ≡ (openers.given_tag line (given_seen tag.entry) context.old running.old).context }
-    ensures running { running.new
-        ≡ (openers.given_tag line (given_seen tag.entry) context.old running.old).running }
+    ensures { GivesOutcome O.left out.old
+        (openers.given_tag line (given_seen tag.entry) context.old running.old)
+        out.new context.new running.new }
 {
     if let Some(argument) = tag {
         let tag_place = TagPlace {
@@ -155,12 +150,9 @@ fn begin_hanging<O: PieceOut>(
     context: &mut Context,
     running: &mut Running,
 )
-    ensures came { Came O.left out.old
-        (openers.hanging place (text_seen hang.entry) context.old running.old).items out.new }
-    ensures context { context.new
-        ≡ (openers.hanging place (text_seen hang.entry) context.old running.old).context }
-    ensures running { running.new
-        ≡ (openers.hanging place (text_seen hang.entry) context.old running.old).running }
+    ensures { GivesOutcome O.left out.old
+        (openers.hanging place (text_seen hang.entry) context.old running.old)
+        out.new context.new running.new }
 {
     let columns = give_given(out, place, hang);
     let front = context.entered().hanging_begun(columns);
@@ -175,12 +167,9 @@ fn begin_margin<O: PieceOut>(
     context: &mut Context,
     running: &mut Running,
 )
-    ensures came { Came O.left out.old
-        (openers.margin place (text_seen columns.entry) context.old running.old).items out.new }
-    ensures context { context.new
-        ≡ (openers.margin place (text_seen columns.entry) context.old running.old).context }
-    ensures running { running.new
-        ≡ (openers.margin place (text_seen columns.entry) context.old running.old).running }
+    ensures { GivesOutcome O.left out.old
+        (openers.margin place (text_seen columns.entry) context.old running.old)
+        out.new context.new running.new }
 {
     let further = give_given(out, place, columns);
     let front = context.entered().margin_begun(further);
@@ -211,12 +200,9 @@ fn give_name<O: PieceOut>(
     running: &mut Running,
 )
     requires { ArgumentFits (argument_seen name) }
-    ensures came { Came O.left out.old
-        (openers.bold_tag line tag (argument_seen name.entry) context.old running.old).items out.new }
-    ensures context { context.new
-        ≡ (openers.bold_tag line tag (argument_seen name.entry) context.old running.old).context }
-    ensures running { running.new
-        ≡ (openers.bold_tag line tag (argument_seen name.entry) context.old running.old).running }
+    ensures { GivesOutcome O.left out.old
+        (openers.bold_tag line tag (argument_seen name.entry) context.old running.old)
+        out.new context.new running.new }
 {
     let word = argument_word(Some(Font::B), Join::Apart, name);
     give_tag(out, tag, line, &word, context, running);
@@ -232,13 +218,9 @@ fn begin_synopsis<O: PieceOut>(
     running: &mut Running,
 )
     requires { ArgumentFits (argument_seen name) }
-    ensures came { Came O.left out.old
-        (openers.synopsis page.now line (argument_seen name.entry) context.old running.old).items
-        out.new }
-    ensures context { context.new
-        ≡ (openers.synopsis page.now line (argument_seen name.entry) context.old running.old).context }
-    ensures running { running.new
-        ≡ (openers.synopsis page.now line (argument_seen name.entry) context.old running.old).running }
+    ensures { GivesOutcome O.left out.old
+        (openers.synopsis page.now line (argument_seen name.entry) context.old running.old)
+        out.new context.new running.new }
 {
     let hang = name_hang(page, name);
     let margin = context.text_margin();
@@ -268,12 +250,9 @@ pub(crate) fn give_opened<O: PieceOut>(
     running: &mut Running,
 )
     requires { OpenerFits (opener_seen opener.now) }
-    ensures came { Came O.left out.old
-        (openers.opened page.now place (opener_seen opener.now) context.old running.old).items out.new }
-    ensures context { context.new
-        ≡ (openers.opened page.now place (opener_seen opener.now) context.old running.old).context }
-    ensures running { running.new
-        ≡ (openers.opened page.now place (opener_seen opener.now) context.old running.old).running }
+    ensures { GivesOutcome O.left out.old
+        (openers.opened page.now place (opener_seen opener.now) context.old running.old)
+        out.new context.new running.new }
 {
     match *opener {
         Opener::Section | Opener::Subsection => begin_section(out, page, context, running),

@@ -6,6 +6,7 @@ ghost use Rattle.page_core_base.specs.Messages.{text_front};
 ghost use Rattle.page_core_escapes.specs.Tokens.{token_seen, tokens_of};
 ghost use Rattle.page_core_limits.specs.declared.TheConstants.{FIELD};
 ghost use Rattle.page_roff_forms.specs.Arguments.{argument_seen};
+ghost use Rattle.page_scopes_leaves.specs.Outcomes.{GivesOutcome};
 ghost use Rattle.page_scopes_nodes.specs.Targets as targets;
 
 use arrayvec::ArrayVec;
@@ -16,7 +17,7 @@ use page_roff_forms::Argument;
 use page_scopes_layout::{Context, PagePart, Setting};
 use page_scopes_leaves::Running;
 use page_scopes_text::{fonts_after, give_blank_cells, give_token, report_token};
-use page_scopes_words::{Fonts, give_white_cells, report};
+use page_scopes_words::{Fonts, give_white_cells, has_tab, report};
 use std::marker::Model;
 
 /// A text of at most [`FIELD`] bytes.
@@ -133,7 +134,7 @@ fn give_white<O: PieceOut>(out: &mut O, is_literal: bool, place: Place, white: &
     } else {
         out.give(Piece::Blank {
             count: 1,
-            has_tab: false,
+            has_tab: has_tab(white),
         });
     }
 }
@@ -213,12 +214,9 @@ pub(crate) fn give_target<O: PieceOut>(
     context: &mut Context,
     running: &mut Running,
 )
-    ensures came { Came O.left out.old
-        (targets.target_word place target.now context.old running.old).items out.new }
-    ensures context { context.new
-        ≡ (targets.target_word place target.now context.old running.old).context }
-    ensures running { running.new
-        ≡ (targets.target_word place target.now context.old running.old).running }
+    ensures { GivesOutcome O.left out.old
+        (targets.target_word place target.now context.old running.old)
+        out.new context.new running.new }
 {
     let is_literal = context.is_literal.value;
     give_gap(out, is_literal, running, place);

@@ -74,6 +74,7 @@ impl Shown {
     // Adds what is no text and no blank.
     fn add_other(&mut self, piece: Piece<&[u8]>) {
         match piece {
+            Piece::Split => self.add(b"|"),
             Piece::Break => self.add(b"/"),
             Piece::RowEnd => self.add(b"="),
             Piece::Para(rows) => self.add_with("p", rows),

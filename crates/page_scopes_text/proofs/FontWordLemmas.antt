@@ -15,7 +15,7 @@ use Rattle.page_scopes_text.proofs.PartedLemmas.{no_word, plain_begins, plain_to
 use Rattle.page_scopes_text.proofs.PlainWordLemmas.{blank_len}
 use Rattle.page_scopes_text.specs.FontWords.{ReadsBlankFontWord, ReadsFont, ReadsFontWord, ReadsPart, Silent, font_tokens, part_tokens}
 use Rattle.page_scopes_text.specs.Parted.{Parted}
-use Rattle.page_scopes_text.specs.Words.{is_known, pen_after, pen_through, tokens_items}
+use Rattle.page_scopes_text.specs.Words.{is_known, pen_after, pen_through, printed_items, tokens_items}
 use Rattle.page_scopes_text.specs.declared.font_words.FontWord.{FontWord}
 use Rattle.page_scopes_text.specs.declared.pens.Pen.{Pen}
 
@@ -74,7 +74,7 @@ reads_font text font n s known =
           let token = font_token text font n s quoted in
           let is : n ≡ token_len quoted text = rw token (sym len) in
           words_more quoted text n (font_begins text font n s) s.escape.not_empty is ∙ rw token refl;
-      silent = record { notes = λ place. known_notes place font known; items = λ f place. refl };
+      silent = record { notes = λ place. known_notes place font known; items = λ splits f place. refl };
     }
 
 -- ---- the whole word
@@ -130,7 +130,9 @@ part_items : (place : Place) (pen : Pen) (bytes : List ℕ) (tokens : List TextT
     → tokens_items place pen (part_tokens bytes ++ tokens)
     ≡ tokens_items place pen (part_tokens bytes) ++ tokens_items place (pen_through pen (part_tokens bytes)) tokens
 part_items place pen [] tokens = refl
-part_items place pen (b ∷ bs) tokens = refl
+part_items place pen (b ∷ bs) tokens =
+    let first = printed_items pen.splits pen.fonts.value.font place (plain (b ∷ bs)) in
+    ap (λ (items : List Item). items ++ tokens_items place (pen_after pen (plain (b ∷ bs))) tokens) (sym (append-nil first))
 
 pub part_pen : (pen : Pen) (bytes : List ℕ) (tokens : List TextToken)
     → pen_through pen (part_tokens bytes ++ tokens) ≡ pen_through (pen_through pen (part_tokens bytes)) tokens
@@ -146,6 +148,6 @@ font_items place pen word b a =
     let later = pen_through inner (part_tokens word.text.now) in
     let last = pen_after later (token_seen word.after) in
     let more = token_seen word.after ∷ part_tokens word.tail.now in
-    ap (λ (i : List Item). i ++ tokens_items place inner (part_tokens word.text.now ++ more)) (b.items pen.fonts.value.font place)
+    ap (λ (i : List Item). i ++ tokens_items place inner (part_tokens word.text.now ++ more)) (b.items pen.splits pen.fonts.value.font place)
     ∙ part_items place inner word.text.now more
-    ∙ ap (λ (i : List Item). tokens_items place inner (part_tokens word.text.now) ++ (i ++ tokens_items place last (part_tokens word.tail.now))) (a.items later.fonts.value.font place)
+    ∙ ap (λ (i : List Item). tokens_items place inner (part_tokens word.text.now) ++ (i ++ tokens_items place last (part_tokens word.tail.now))) (a.items later.splits later.fonts.value.font place)

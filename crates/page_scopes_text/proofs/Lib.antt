@@ -5,3 +5,4 @@ pub mod RunLemmas
 pub mod RunEndLemmas
 pub mod RunWordLemmas
 pub mod FontWordLemmas
+mod PartLemmas

@@ -11,7 +11,7 @@ use Rattle.page_core_escapes.specs.Escapes.{escape_of, read_escape}
 use Rattle.page_core_escapes.specs.Lengths.{escape_len}
 use Rattle.page_core_escapes.proofs.Contents.{escape_len-some}
 use Rattle.page_core_escapes.proofs.TokenLemmas.{tokens_more as text_tokens, tokens_none, word_token, not_white, space_token, white_first}
-use Rattle.page_scopes_text.specs.Words.{pen_after, pen_through, token_items, tokens_items}
+use Rattle.page_scopes_text.specs.Words.{pen_after, pen_through, printed_items, tokens_items}
 use Rattle.page_scopes_text.specs.declared.pens.Pen.{Pen}
 use Rattle.page_scopes_text.specs.Parted.{Parted, after_token, parted, words_of, spaced_front}
 use Rattle.page_scopes_text.specs.Reads.{ReadsPlain}
@@ -116,7 +116,7 @@ word_some quoted (b ∷ bs) h = token_some quoted b bs (not_white b bs h)
 -- what a word's first token gives, and what its other tokens give
 pub tokens_more : (quoted : Bool) (place : Place) (pen : Pen) (text : List ℕ) (n : ℕ) → begins_word text ≡ true → 0 < n → n ≡ token_len quoted text
     → tokens_items place pen (words_of quoted text).word
-    ≡ token_items pen.fonts.value.font place (token_at quoted text) ++ tokens_items place (pen_after pen (token_at quoted text)) (words_of quoted (drop n text)).word
+    ≡ printed_items pen.splits pen.fonts.value.font place (token_at quoted text) ++ tokens_items place (pen_after pen (token_at quoted text)) (words_of quoted (drop n text)).word
 tokens_more quoted place pen text n h k e = ap (λ (t : Parted). tokens_items place pen t.word) (words_more quoted text n h k e)
 
 pub pen_more : (quoted : Bool) (pen : Pen) (text : List ℕ) (n : ℕ) → begins_word text ≡ true → 0 < n → n ≡ token_len quoted text

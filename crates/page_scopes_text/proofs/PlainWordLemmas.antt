@@ -1,10 +1,10 @@
 -- Words that print themselves, with one blank before each.
-use Rattle.std.proofs.Common.{◌≡◌, ℕ, ◌+◌, Bool, true, false, List, [], ◌∷◌, ◌++◌, length, refl, ap, ◌∙◌, arith, sym, inl, inr}
+use Rattle.std.proofs.Common.{◌≡◌, ℕ, ◌+◌, Bool, true, false, List, [], ◌∷◌, ◌++◌, length, append-nil, refl, ap, ◌∙◌, arith, sym, inl, inr}
 use Rattle.std.specs.List.{prefix_len}
 use Rattle.std.proofs.Math.Bool.{or-false}
 use Rattle.std.proofs.lemmas.Bool.{cases_Bool}
 use Rattle.page_core_base.specs.Pieces.{Item, shown}
-use Rattle.page_core_base.specs.declared.pieces.Piece.TheVariants.{Text, Blank}
+use Rattle.page_core_base.specs.declared.pieces.Piece.TheVariants.{Blank}
 use Rattle.page_core_base.specs.Words.{is_word}
 use Rattle.page_core_escapes.specs.Tokens.{plain, begins_word, is_white, token_at, token_len}
 use Rattle.page_core_escapes.proofs.TokenLemmas.{not_white}
@@ -16,6 +16,7 @@ use Rattle.page_scopes_text.specs.Parted.{Parted, Spaced, words_of}
 use Rattle.page_scopes_text.specs.Reads.{ReadsPlain, resting}
 use Rattle.page_scopes_text.specs.Runs.{blank_word}
 use Rattle.page_scopes_text.specs.Texts.{others_after, others_items, spaced_after, spaced_items}
+use Rattle.page_scopes_text.specs.Words.{parts_items}
 use Rattle.page_scopes_text.specs.declared.pens.Pen.{Pen}
 use Rattle.page_scopes_text.specs.declared.pens.TextStyle.{TextStyle}
 
@@ -25,15 +26,15 @@ after_blank_word : (style : TextStyle) (fonts : Setting Fonts) (column : ℕ) (w
 after_blank_word style fonts column word = rw (or-false fonts.is_set) refl
 
 one_blank_word : (style : TextStyle) (line : ℕ) (fonts : Setting Fonts) (column : ℕ) (word : List ℕ) → style.is_literal ≡ false
-    → spaced_items style line (resting fonts column) (blank_word word) ≡ shown (Blank 1 false) ∷ (shown (Text word fonts.value.font (at line (column + 1))) ∷ [])
-one_blank_word style line fonts column word h = rw h refl
+    → spaced_items style line (resting fonts column) (blank_word word) ≡ shown (Blank 1 false) ∷ parts_items fonts.value.font (at line (column + 1)) word
+one_blank_word style line fonts column word h = rw (h, append-nil (parts_items fonts.value.font (at line (column + 1)) word), append-nil (parts_items fonts.value.font (at line (column + 1)) word)) refl
 
 pub blank_word_items : (style : TextStyle) (line : ℕ) (fonts : Setting Fonts) (column : ℕ) (word : List ℕ) (others : List Spaced) → style.is_literal ≡ false
     → others_items style line (resting fonts column) (blank_word word ∷ others)
-    ≡ shown (Blank 1 false) ∷ (shown (Text word fonts.value.font (at line (column + 1))) ∷ others_items style line (resting fonts (column + 1 + length word)) others)
+    ≡ shown (Blank 1 false) ∷ (parts_items fonts.value.font (at line (column + 1)) word ++ others_items style line (resting fonts (column + 1 + length word)) others)
 blank_word_items style line fonts column word others h =
     ap (λ (t : List Item). t ++ others_items style line (spaced_after style (resting fonts column) (blank_word word)) others) (one_blank_word style line fonts column word h)
-    ∙ ap (λ (p : Pen). shown (Blank 1 false) ∷ (shown (Text word fonts.value.font (at line (column + 1))) ∷ others_items style line p others)) (after_blank_word style fonts column word)
+    ∙ ap (λ (p : Pen). shown (Blank 1 false) ∷ (parts_items fonts.value.font (at line (column + 1)) word ++ others_items style line p others)) (after_blank_word style fonts column word)
 
 pub blank_word_after : (style : TextStyle) (fonts : Setting Fonts) (column : ℕ) (word : List ℕ) (others : List Spaced)
     → others_after style (resting fonts column) (blank_word word ∷ others) ≡ others_after style (resting fonts (column + 1 + length word)) others

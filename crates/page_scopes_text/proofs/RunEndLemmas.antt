@@ -123,9 +123,3 @@ goes_none quoted text n = λ k low high. absurd (omega (arith, low, high))
 
 pub goes_join : (quoted : Bool) (text : List ℕ) (a b c d : ℕ) → GoesOn quoted text a b → c ≤ b → GoesOn quoted text c d → GoesOn quoted text a d
 goes_join quoted text a b c d g le h = λ k low high. elim (cases_lt k b) [ inl early ↦ g k low early | inr late ↦ h k (omega (arith, le, late)) high ]
-
-pub goes_more : (quoted : Bool) (text : List ℕ) (n : ℕ) → GoesOn quoted text 0 n → ends_run_at quoted text n ≡ false → GoesOn quoted text 0 (n + 1)
-goes_more quoted text n g h = λ k low high. elim (cases_lt k n) [
-  | inl early ↦ g k low early
-  | inr late ↦ let here : n ≡ k = omega (arith, late, high) in ap (ends_run_at quoted text) (sym here) ∙ h
-]

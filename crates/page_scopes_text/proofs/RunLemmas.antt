@@ -3,13 +3,13 @@ use Rattle.std.proofs.Common.{◌≡◌, ℕ, suc, ◌+◌, ◌<◌, ◌≤◌, 
 use Rattle.std.specs.Prelude.{◌==◌, nat_lt}
 use Rattle.std.specs.List.{list_all, prefix_len}
 use Rattle.std.proofs.Math.Seq.{drop-append_seam, take-append_seam}
-use Rattle.std.proofs.lemmas.List.{take-append-drop}
+use Rattle.std.proofs.lemmas.List.{map-append, take-append-drop}
 use Rattle.std.proofs.lemmas.List.Folds.{list_all-append}
 use Rattle.page_core_base.specs.Pieces.{Item, shown}
 use Rattle.page_core_base.specs.Latches.{Came, CameUpTo}
-use Rattle.page_core_base.specs.Words.{TakesWords, blank_words, is_word, word_items}
+use Rattle.page_core_base.specs.Words.{TakesWords, blank_words, is_word, part_pieces, parts_of, word_items, word_pieces}
 use Rattle.page_core_base.specs.declared.cells.Font.{Font}
-use Rattle.page_core_base.specs.declared.pieces.Piece.TheVariants.{Text, Blank}
+use Rattle.page_core_base.specs.declared.pieces.Piece.TheVariants.{Blank}
 use Rattle.page_core_base.specs.declared.places.Place.{Place}
 use Rattle.page_scopes_layout.specs.declared.settings.Setting.{Setting}
 use Rattle.page_scopes_words.specs.declared.fonts.Fonts.{Fonts}
@@ -19,6 +19,7 @@ use Rattle.page_scopes_text.specs.Parted.{Spaced, words_of}
 use Rattle.page_scopes_text.specs.Reads.{resting}
 use Rattle.page_scopes_text.specs.Runs.{BeginsRun, BeginsWith, blank_word}
 use Rattle.page_scopes_text.specs.Texts.{others_after, others_items}
+use Rattle.page_scopes_text.specs.Words.{parts_items}
 use Rattle.page_scopes_text.specs.declared.pens.Pen.{Pen}
 use Rattle.page_scopes_text.specs.declared.pens.TextStyle.{TextStyle}
 
@@ -29,26 +30,46 @@ unfolding blank_words
 blank_words-append [] ys = refl
 blank_words-append (x ∷ xs) ys = rw (blank_words-append xs ys, append_assoc x (blank_words xs) (blank_words ys)) refl
 
+no_first : (font : Font) (place : Place) → word_items font place [] ≡ []
+unfolding word_items word_pieces
+no_first font place = refl
+
+-- the pieces of a word, and those of the others
+next_items : (font : Font) (place : Place) (word : List ℕ) (words : List (List ℕ))
+    → word_items font place (word ∷ words)
+    ≡ shown (Blank 1 false) ∷ (parts_items font (record place { column = place.column + 1 }) word ++ word_items font (record place { column = place.column + (1 + length word) }) words)
+unfolding word_items word_pieces
+next_items font place word words =
+    ap (λ (items : List Item). shown (Blank 1 false) ∷ items)
+    (map-append shown (part_pieces font (record place { column = place.column + 1 }) (parts_of word)) (word_pieces font (record place { column = place.column + (1 + length word) }) words))
+
 pub word_items-append : (font : Font) (place : Place) (xs ys : List (List ℕ))
     → word_items font place (xs ++ ys) ≡ word_items font place xs ++ word_items font (record place { column = place.column + length (blank_words xs) }) ys
-unfolding blank_words word_items
-word_items-append font place [] ys = let none : place.column + 0 ≡ place.column = omega arith in rw none refl
+unfolding blank_words
+word_items-append font place [] ys = let none : place.column + 0 ≡ place.column = omega arith in rw (no_first font place, none) refl
 word_items-append font place (x ∷ xs) ys =
+    let next : Place = record place { column = place.column + 1 } in
+    let first = parts_items font next x in
     let columns : place.column + (1 + length x) + length (blank_words xs) ≡ place.column + suc (length (x ++ blank_words xs)) = omega (arith, length-append x (blank_words xs)) in
-    rw (word_items-append font (record place { column = place.column + (1 + length x) }) xs ys, columns) refl
+    rw (next_items font place x (xs ++ ys), next_items font place x xs, word_items-append font (record place { column = place.column + (1 + length x) }) xs ys, columns)
+    (ap (λ (items : List Item). shown (Blank 1 false) ∷ items) (sym (append_assoc first (word_items font (record place { column = place.column + (1 + length x) }) xs) _)))
 
 -- ---- the pieces of a run, and the pen after it
 
 pub run_items : (style : TextStyle) (line : ℕ) (fonts : Setting Fonts) (column : ℕ) (words : List (List ℕ)) (others : List Spaced) → style.is_literal ≡ false
     → others_items style line (resting fonts column) (map blank_word words ++ others)
     ≡ word_items fonts.value.font (at line column) words ++ others_items style line (resting fonts (column + length (blank_words words))) others
-unfolding blank_words word_items
-run_items style line fonts column [] others h = let none : column + 0 ≡ column = omega arith in rw none refl
+unfolding blank_words
+run_items style line fonts column [] others h = let none : column + 0 ≡ column = omega arith in rw (no_first fonts.value.font (at line column), none) refl
 run_items style line fonts column (word ∷ words) others h =
     let columns : column + 1 + length word + length (blank_words words) ≡ column + suc (length (word ++ blank_words words)) = omega (arith, length-append word (blank_words words)) in
     let next : column + (1 + length word) ≡ column + 1 + length word = omega arith in
+    let here = at line (column + 1) in
+    let left = others_items style line (resting fonts (column + 1 + length word + length (blank_words words))) others in
     blank_word_items style line fonts column word (map blank_word words ++ others) h
-    ∙ rw (run_items style line fonts (column + 1 + length word) words others h, columns, next) refl
+    ∙ (ap (λ (items : List Item). shown (Blank 1 false) ∷ (parts_items fonts.value.font here word ++ items)) (run_items style line fonts (column + 1 + length word) words others h)
+    ∙ rw (next_items fonts.value.font (at line column) word words, columns, next)
+    (ap (λ (items : List Item). shown (Blank 1 false) ∷ items) (sym (append_assoc (parts_items fonts.value.font here word) (word_items fonts.value.font (at line (column + 1 + length word)) words) _))))
 
 pub run_after : (style : TextStyle) (fonts : Setting Fonts) (column : ℕ) (words : List (List ℕ)) (others : List Spaced)
     → others_after style (resting fonts column) (map blank_word words ++ others)
@@ -118,15 +139,13 @@ are-tail word words h = (and_true (is_word word) (list_all is_word words) h).1
 -- the pieces of the next word, and those of the others
 pub items_next : (font : Font) (place : Place) (words : List (List ℕ)) (word : List ℕ) (others : List (List ℕ)) → words ≡ word ∷ others
     → word_items font place words
-    ≡ shown (Blank 1 false) ∷ (shown (Text word font (record place { column = place.column + 1 })) ∷ word_items font (record place { column = place.column + 1 + length word }) others)
-unfolding word_items
+    ≡ shown (Blank 1 false) ∷ (parts_items font (record place { column = place.column + 1 }) word ++ word_items font (record place { column = place.column + 1 + length word }) others)
 items_next font place words word others e =
     let columns : place.column + 1 + length word ≡ place.column + (1 + length word) = omega arith in
-    rw (e, columns) refl
+    rw (e, columns) (next_items font place word others)
 
 pub no_items : (font : Font) (place : Place) (words : List (List ℕ)) → words ≡ [] → word_items font place words ≡ []
-unfolding word_items
-no_items font place words e = rw e refl
+no_items font place words e = ap (word_items font place) e ∙ no_first font place
 
 -- ---- words that come, one part after another
 
@@ -162,20 +181,20 @@ comes_taken left font start first text s place rest taken t h took = λ words ar
 word_of : {P S : Type 0} (left : P → S → List Item → Type 0) (font : Font) (start : S) (items : List Item) (s : S) (place : Place) (word after : List ℕ) (t : S)
     (words others : List (List ℕ)) → list_all is_word words ≡ true → CameUpTo left start items (word_items font place words) s
     → words ≡ word ∷ others → after ≡ blank_words others
-    → Came left s (shown (Blank 1 false) ∷ (shown (Text word font (record place { column = place.column + 1 })) ∷ [])) t
+    → Came left s (shown (Blank 1 false) ∷ parts_items font (record place { column = place.column + 1 }) word) t
     → (later : List (List ℕ)) × (list_all is_word later ≡ true) × (after ≡ blank_words later)
     × CameUpTo left start items (word_items font (record place { column = place.column + 1 + length word }) later) t
 word_of left font start items s place word after t words others are came e bytes given = (
   others,
   are-tail word others (rw e at are),
   bytes,
-  λ plan more h. given plan _ (rw (items_next font place words word others e) at (came plan more h)),
+  λ plan more h. given plan _ (rw (items_next font place words word others e, append_assoc) at (came plan more h)),
 )
 
 pub comes_word : {P S : Type 0} (left : P → S → List Item → Type 0) (font : Font) (start : S) (first : Place) (text : List ℕ) (s : S) (place : Place) (rest word after : List ℕ)
     (t : S) → Comes left font start first text s place rest
     → ((words : List (List ℕ)) → list_all is_word words ≡ true → rest ≡ blank_words words → BeginsWith words word after)
-    → Came left s (shown (Blank 1 false) ∷ (shown (Text word font (record place { column = place.column + 1 })) ∷ [])) t
+    → Came left s (shown (Blank 1 false) ∷ parts_items font (record place { column = place.column + 1 }) word) t
     → Comes left font start first text t (record place { column = place.column + 1 + length word }) after
 comes_word left font start first text s place rest word after t h begins given = λ words are bytes.
     let b = h words are bytes in

@@ -5,13 +5,13 @@ use Rattle.page_core_base.specs.declared.cells.Font.{Font}
 use Rattle.page_core_base.specs.declared.places.Place.{Place}
 use Rattle.page_core_escapes.specs.Tokens.{TextToken, plain, begins_word, token_bytes, token_len, token_seen}
 use Rattle.page_scopes_text.specs.Parted.{words_of}
-use Rattle.page_scopes_text.specs.Words.{token_items, token_notes}
+use Rattle.page_scopes_text.specs.Words.{printed_items, token_notes}
 use Rattle.page_scopes_text.specs.declared.font_words.FontWord.{FontWord}
 
 -- a token without messages that prints nothing
 pub record Silent (token : TextToken) : Type 0 where
   pub notes : (place : Place) → token_notes place token ≡ []
-  pub items : (font : Font) (place : Place) → token_items font place token ≡ []
+  pub items : (splits : Bool) (font : Font) (place : Place) → printed_items splits font place token ≡ []
 
 -- a font is asked for at a text's front
 pub record ReadsFont (text : List ℕ) (token : TextToken) (rest : List ℕ) : Type 0 where

@@ -5,3 +5,4 @@ pub mod Texts
 pub mod Reads
 pub mod Runs
 pub mod FontWords
+pub mod Parts

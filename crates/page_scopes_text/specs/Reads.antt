@@ -31,7 +31,7 @@ pub record ReadsSpaced (quoted : Bool) (pen : Pen) (text : List ℕ) (next : Pen
   pub ends : begins_word rest ≡ false
   pub others : (words_of quoted rest).others ≡ (words_of quoted (drop (token_len quoted text) text)).others
 
--- a pen after a word that prints itself
+-- a pen after a word that prints itself, where words are parted
 abbrev pub resting : Setting Fonts → ℕ → Pen
 resting fonts column = record {
   fonts = fonts;
@@ -41,6 +41,7 @@ resting fonts column = record {
   has_cell = true;
   is_cut = false;
   ends_blank = false;
+  splits = true;
 }
 
 -- a word at a text's front was read, all of which prints itself

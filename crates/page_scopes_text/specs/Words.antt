@@ -1,14 +1,15 @@
 -- A word as pieces and messages, with its fonts. Source: roff(7), "ESCAPE SEQUENCES"; mandoc(1), "DIAGNOSTICS".
-use Rattle.std.specs.Prelude.{ℕ, ◌+◌, nat_lt, ◌==◌, Bool, true, false, ◌||◌, ◌&&◌, List, [], ◌∷◌, ◌++◌, length, replicate, if◌then◌else◌, is_some}
+use Rattle.std.specs.Prelude.{ℕ, ◌+◌, nat_lt, ◌==◌, Bool, true, false, ◌||◌, ◌&&◌, List, [], ◌∷◌, ◌++◌, length, map, replicate, if◌then◌else◌, is_some}
 use Rattle.page_core_base.specs.Pieces.{Item, shown}
 use Rattle.page_core_base.specs.declared.cells.Font.{Font}
 use Rattle.page_core_base.specs.declared.cells.Font.TheVariants.{R}
 use Rattle.page_core_base.specs.declared.page_settings.Output.TheVariants.{Ascii}
 use Rattle.page_core_base.specs.declared.pieces.Piece.TheVariants.{Text, Blank}
 use Rattle.page_core_base.specs.declared.places.Place.{Place}
+use Rattle.page_core_base.specs.Words.{part_pieces, parts_of}
 use Rattle.page_core_escapes.specs.Meanings as meanings
 use Rattle.page_core_escapes.specs.Meanings.{Face, Meaning}
-use Rattle.page_core_escapes.specs.Tokens.{TextToken, escaped, token_bytes}
+use Rattle.page_core_escapes.specs.Tokens.{TextToken, escaped, plain, token_bytes}
 use Rattle.page_core_numbers.specs.Columns.{characters_columns, printed_escape}
 use Rattle.page_core_numbers.specs.declared.scales.Scale.TheVariants.{Em}
 use Rattle.page_scopes_layout.specs.declared.settings.Setting.{Setting}
@@ -51,6 +52,15 @@ escape_items font place meaning = piece_items (meaning_piece font place meaning)
 abbrev pub token_items : Font → Place → TextToken → List Item
 token_items font place (escaped bytes meaning) = escape_items font place meaning
 token_items font place token = piece_items (token_piece font place token)
+
+-- bytes that print themselves, at whose hyphens a row may end
+abbrev pub parts_items : Font → Place → List ℕ → List Item
+parts_items font place bytes = map shown (part_pieces font place (parts_of bytes))
+
+-- a token of a word that is parted or not
+abbrev pub printed_items : Bool → Font → Place → TextToken → List Item
+printed_items splits font place (plain bytes) = if splits then parts_items font place bytes else token_items font place (plain bytes)
+printed_items splits font place token = token_items font place token
 
 abbrev pub escape_prints : Meaning → Bool
 escape_prints (meanings.blanks expression) = nat_lt 0 (blank_count expression)
@@ -95,7 +105,7 @@ pen_through pen (token ∷ tokens) = pen_through (pen_after pen token) tokens
 -- each token prints in the font that those before it leave
 abbrev pub tokens_items : Place → Pen → List TextToken → List Item
 tokens_items place pen [] = []
-tokens_items place pen (token ∷ tokens) = token_items pen.fonts.value.font place token ++ tokens_items place (pen_after pen token) tokens
+tokens_items place pen (token ∷ tokens) = printed_items pen.splits pen.fonts.value.font place token ++ tokens_items place (pen_after pen token) tokens
 
 -- ---- a word
 

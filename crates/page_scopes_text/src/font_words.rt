@@ -7,7 +7,8 @@ ghost use Rattle.page_scopes_text.specs.FontWords.{ReadsFont, ReadsFontWord, Rea
 ghost use Rattle.page_scopes_text.specs.Words as words;
 
 use crate::Pen;
-use crate::tokens::{give_letters, is_known};
+use crate::parts::give_plain_token;
+use crate::tokens::is_known;
 use page_core_base::{PieceOut, Place};
 use page_core_escapes::{Escape, Token, begins_word, plain_len, short_font};
 
@@ -73,7 +74,7 @@ fn give_part<O: PieceOut>(out: &mut O, place: Place, pen: &mut Pen, part: &[u8])
     if part.is_empty() {
         return;
     }
-    give_letters(out, pen.fonts.value.font, place, part);
+    give_plain_token(out, pen.splits, pen.fonts.value.font, place, part);
     pen.pass(&Token::Plain(part));
 }
 

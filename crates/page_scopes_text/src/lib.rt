@@ -1,8 +1,13 @@
 //! Texts of a page as pieces and messages, word by word: blanks, fonts, rows that are kept as they are, and the messages of escapes (roff(7)).
+//!
+//! A text of an event comes in with a `Pen`, which is what is known before it; its pieces go down to be filled. Read `specs/Parted.antt` first
+//! (the words of a text), then `Words.antt` (a word) and `Texts.antt` (what parts words). What the code does faster, `FontWords.antt`, `Reads.antt`
+//! and `Runs.antt` speak of.
 #![tactic(auto)]
 
 mod font_words;
 mod numbers;
+mod parts;
 mod pens;
 mod run_ends;
 mod runs;

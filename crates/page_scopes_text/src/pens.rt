@@ -38,6 +38,8 @@ pub struct Pen {
     pub is_cut: bool,
     /// The text so far ends in a blank or a tab.
     pub ends_blank: bool,
+    /// A row may end after a hyphen between two letters of a word.
+    pub splits: bool,
 }
 
 impl Pen {
@@ -99,12 +101,17 @@ impl Pen {
         self.ends_blank = false;
     }
 
-    /// Whether a word that prints itself was the last thing that was passed.
+    /// Whether a word that prints itself was the last thing that was passed, and words are parted.
     #[inline(always)]
     pub(crate) fn is_resting(&self) -> bool
         ensures { IsTrue result → self.now ≡ resting self.now.fonts self.now.column }
     {
-        self.gap == 1 && self.is_after_word && self.has_cell && !self.is_cut && !self.ends_blank
+        self.gap == 1
+            && self.is_after_word
+            && self.has_cell
+            && !self.is_cut
+            && !self.ends_blank
+            && self.splits
     }
 
     /// Goes on after white space.

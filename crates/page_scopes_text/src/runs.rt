@@ -7,9 +7,10 @@ ghost use Rattle.page_core_base.specs.Pieces.{shown};
 ghost use Rattle.page_core_base.specs.Words.{blank_words, is_word, word_items};
 ghost use Rattle.page_core_escapes.specs.Tokens.{begins_word};
 ghost use Rattle.page_scopes_text.specs.Runs.{BeginsRun, BeginsWith};
+ghost use Rattle.page_scopes_text.specs.Words as words;
 
+use crate::parts::give_parts;
 use crate::run_ends::going_len;
-use crate::tokens::give_letters;
 use page_core_base::{Font, Piece, PieceOut, Place};
 use page_core_limits::LINE;
 
@@ -46,13 +47,13 @@ pub(crate) fn run_len(quoted: bool, text: &[u8]) -> usize
 #[inline(always)]
 fn give_blank_word<O: PieceOut>(out: &mut O, font: Font, place: Place, word: &[u8])
     ensures { Came O.left out.old
-        (shown (Piece.Blank 1 false) ∷ (shown (Piece.Text word.now font place) ∷ [])) out.new }
+        (shown (Piece.Blank 1 false) ∷ words.parts_items font place word.now) out.new }
 {
     out.give(Piece::Blank {
         count: 1,
         has_tab: false,
     });
-    give_letters(out, font, place, word);
+    give_parts(out, font, place, word);
 }
 
 // How many bytes at a text's front are no blanks.

@@ -13,7 +13,7 @@ use page_core_base::{Font, Output, Piece, PieceOut, Place};
 use page_core_escapes::{Escape, FontName, Token};
 use page_core_numbers::{Scale, escape_columns};
 use page_scopes_layout::Setting;
-use page_scopes_words::{Fonts, token_piece};
+use page_scopes_words::{Fonts, report_escape, token_piece};
 
 /// Gives the messages of a token.
 #[inline(always)]
@@ -26,8 +26,8 @@ pub fn report_token<O: PieceOut>(out: &mut O, place: Place, token: &Token<'_>)
     } = *token
     {
         let _ = give_number(out, Scale::Em, place, expression);
-    } else {
-        page_scopes_words::report_token(out, place, token);
+    } else if let Token::Escaped { bytes, meaning } = *token {
+        report_escape(out, place, bytes, meaning);
     }
 }
 

@@ -9,7 +9,8 @@ ghost use Rattle.page_scopes_text.specs.Reads.{Fits, ReadsPlain, ReadsWord};
 ghost use Rattle.page_scopes_text.specs.Words as words;
 
 use crate::font_words::{FontWord, give_font_tokens, read_font_word};
-use crate::tokens::{give_blank_cells, give_letters, give_token, report_token};
+use crate::parts::{give_plain_token, give_printed};
+use crate::tokens::{give_blank_cells, give_letters, report_token};
 use crate::{Pen, TextStyle};
 use page_core_base::{Font, Piece, PieceOut, Place};
 use page_core_escapes::{begins_word, plain_len, read_token};
@@ -45,7 +46,7 @@ fn give_tokens<'a, O: PieceOut>(
     let mut rest = text;
     while begins_word(rest) {
         let token = read_token(quoted, rest);
-        give_token(out, pen.fonts.value.font, place, &token);
+        give_printed(out, pen.splits, pen.fonts.value.font, place, &token);
         pen.pass(&token);
         rest = &rest[token.len()..];
     }
@@ -151,7 +152,7 @@ fn give_plain<O: PieceOut>(
     };
     give_gap(out, style, has_tab, place, pen);
     pen.pass_gap(style);
-    give_letters(out, pen.fonts.value.font, place, word);
+    give_plain_token(out, pen.splits, pen.fonts.value.font, place, word);
     pen.pass_plain(word);
 }
 

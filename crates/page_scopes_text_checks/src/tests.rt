@@ -29,6 +29,7 @@ fn given_by(alloc: Global, style: TextStyle, gap: u32, is_after_word: bool, text
         has_cell: false,
         is_cut: false,
         ends_blank: false,
+        splits: !style.is_literal,
     };
     if text.len() <= MOST {
         give_text(&mut out, style, 1, &mut pen, text.as_bytes());
@@ -65,7 +66,7 @@ const KEPT: TextStyle = TextStyle {
 };
 
 // Texts after a sentence, and what they give.
-const TEXTS: [(TextStyle, &str, &str); 22] = [
+const TEXTS: [(TextStyle, &str, &str); 29] = [
     (LINE, "a  b", "2[a]1[b] 1"),
     (LINE, "a\t b", "2[a]1t[b] 1"),
     (LINE, "a \\fBb\\fP c", "2[a]1B[b]1[c] 1"),
@@ -97,6 +98,13 @@ const TEXTS: [(TextStyle, &str, &str); 22] = [
         "a few words and a \"\"quote",
         "2[a]1[few]1[words]1[and]1[a]1c[quote] 1",
     ),
+    (LINE, "w a-b-c", "2[w]1[a-]|[b-]|[c] 1"),
+    (LINE, "--x x-1 -x x-", "2[--x]1[x-1]1[-x]1[x-] 1"),
+    (LINE, "\\fBa-b\\fR-c", "2B[a-]|B[b][-c] 1"),
+    (LINE, "a\\-b", "2[a]c[b] 1"),
+    (LINE, "\u{e9}-a", "2[\u{e9}-a] 1"),
+    (QUOTED, "a\"\"-b", "2[a]c[-b] 1"),
+    (KEPT_LINE, "a-b", "[ ][ ][a-b] 1"),
     (QUOTED, "", "2[] 1"),
     (QUOTED, "  ", " 2e"),
     (QUOTED, "a\"\"b ", "2[a]c[b] 1e"),

@@ -2,3 +2,4 @@ pub mod MarginLemmas
 pub mod FitLemmas
 pub mod StackLemmas
 pub mod EventLemmas
+pub mod StandingLemmas

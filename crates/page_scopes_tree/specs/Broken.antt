@@ -1,11 +1,12 @@
 -- The message of a scope that ends otherwise than by its own closer, and of an event that is refused. Source: mandoc(1), "DIAGNOSTICS".
-use Rattle.std.specs.Prelude.{ℕ, Bool, false, List, [], ◌∷◌, Option, None, Some, if◌then◌else◌, codes}
+use Rattle.std.specs.Prelude.{ℕ, Bool, List, [], ◌∷◌, Option, None, Some, if◌then◌else◌, codes}
+use Rattle.std.specs.Str.{bytes_eq}
 use Rattle.page_core_base.specs.Messages.{message_about}
 use Rattle.page_core_base.specs.Pieces.{Item, noted}
 use Rattle.page_core_base.specs.declared.note_kinds.NoteKind.{NoteKind}
 use Rattle.page_core_base.specs.declared.note_kinds.NoteKind.TheVariants as kinds
 use Rattle.page_core_base.specs.declared.places.Place.{Place}
-use Rattle.page_sets_lines.specs.MacroNames.{link_closer_name, line_opener_name}
+use Rattle.page_sets_lines.specs.MacroNames.{link_closer_name}
 use Rattle.page_sets_lines.specs.declared.events.Event.{Event}
 use Rattle.page_sets_lines.specs.declared.events.Deed.{Deed}
 use Rattle.page_sets_lines.specs.declared.events.Deed.TheVariants as deeds
@@ -16,32 +17,39 @@ use Rattle.page_sets_lines.specs.declared.openers.Opener.TheVariants as openers
 use Rattle.page_sets_lines.specs.declared.openers.Closer.{Closer}
 use Rattle.page_sets_lines.specs.declared.openers.Closer.TheVariants as closers
 use Rattle.page_scopes_tree.specs.Acts.{act_place}
-use Rattle.page_scopes_tree.specs.Labels.{same_explicit, explicit_name}
+use Rattle.page_scopes_tree.specs.Labels.{label_name, label_row}
 use Rattle.page_scopes_tree.specs.declared.acts.Act.{Act}
 use Rattle.page_scopes_tree.specs.declared.acts.Act.TheVariants as acts
-use Rattle.page_scopes_tree.specs.declared.labels.Explicit.{Explicit}
-use Rattle.page_scopes_tree.specs.declared.labels.Explicit.TheVariants.{RelativeMargin, Target, Syntax}
 use Rattle.page_scopes_tree.specs.declared.labels.Label.{Label}
-use Rattle.page_scopes_tree.specs.declared.labels.Label.TheVariants as labels
+use Rattle.page_scopes_tree.specs.declared.labels.ScopeEnd.{ScopeEnd}
+use Rattle.page_scopes_tree.specs.declared.labels.ScopeEnd.TheVariants as ends
 use Rattle.page_scopes_tree.specs.declared.standings.Obstacle.{Obstacle}
 use Rattle.page_scopes_tree.specs.declared.standings.Obstacle.TheVariants.{Scopes, NotOpen, FewerMargins}
 
--- whether a closer is the own one of a scope; that of a relative margin is any `RE`
-abbrev pub is_own : Closer (List ℕ) → Explicit → Bool
-is_own closers.Line explicit = false
-is_own (closers.RelativeMargin number) explicit = same_explicit RelativeMargin explicit
-is_own (closers.Target link suffix) explicit = same_explicit (Target link) explicit
-is_own closers.Syntax explicit = same_explicit Syntax explicit
+-- ---- the names of closers
 
--- the next synopsis ends one as its closer does; any other opener leaves a scope without its end
-abbrev pub broken_by_opener : Opener (List ℕ) → Explicit → Option NoteKind
-broken_by_opener (openers.Syntax name) Syntax = None
-broken_by_opener _ _ = Some kinds.MissingEnd
+abbrev pub closer_name : Closer (List ℕ) → List ℕ
+closer_name closers.Line = []
+closer_name (closers.RelativeMargin number) = codes "RE"
+closer_name (closers.Target link suffix) = link_closer_name link
+closer_name closers.Syntax = codes "YS"
 
-abbrev pub explicit_broken : Deed (List ℕ) → Explicit → Option NoteKind
-explicit_broken (deeds.Close closer) explicit = if is_own closer explicit then None else Some kinds.BadNest
-explicit_broken (deeds.Open opener) explicit = broken_by_opener opener explicit
-explicit_broken _ explicit = Some kinds.MissingEnd
+-- the next synopsis ends one as its closer does
+abbrev pub opener_closer_name : Opener (List ℕ) → List ℕ
+opener_closer_name (openers.Syntax name) = codes "YS"
+opener_closer_name _ = []
+
+-- ---- a scope that has a closer of this name ends by it, or breaks
+
+abbrev pub broken_unless : Bool → NoteKind → Option NoteKind
+broken_unless is_own kind = if is_own then None else Some kind
+
+abbrev pub explicit_broken : Deed (List ℕ) → List ℕ → Option NoteKind
+explicit_broken (deeds.Close closer) own = broken_unless (bytes_eq (closer_name closer) own) kinds.BadNest
+explicit_broken (deeds.Open opener) own = broken_unless (bytes_eq (opener_closer_name opener) own) kinds.MissingEnd
+explicit_broken _ own = Some kinds.MissingEnd
+
+-- ---- a line scope
 
 -- macros that no line scope takes, blank lines and raw lines break line scopes
 abbrev pub leaf_breaks : Leaf (List ℕ) → Option NoteKind
@@ -58,27 +66,21 @@ line_broken (deeds.Leaf leaf) = leaf_breaks leaf
 line_broken (deeds.Raw text) = Some kinds.LineScope
 line_broken _ = None
 
-abbrev pub deed_broken : Deed (List ℕ) → Label → Option NoteKind
-deed_broken deed (labels.Explicit explicit) = explicit_broken deed explicit
-deed_broken deed (labels.Line opener) = line_broken deed
-deed_broken deed _ = None
+-- ---- any scope, by its end
+
+abbrev pub end_broken : Deed (List ℕ) → ScopeEnd (List ℕ) → Option NoteKind
+end_broken deed ends.Implied = None
+end_broken deed ends.Line = line_broken deed
+end_broken deed (ends.Closer own) = explicit_broken deed own
 
 -- at the page's end line scopes end without a message
-abbrev pub page_end_broken : Label → Option NoteKind
-page_end_broken (labels.Explicit explicit) = Some kinds.MissingEnd
+abbrev pub page_end_broken : ScopeEnd (List ℕ) → Option NoteKind
+page_end_broken (ends.Closer own) = Some kinds.MissingEnd
 page_end_broken _ = None
 
 abbrev pub broken : Act (Event (List ℕ)) → Label → Option NoteKind
-broken (acts.Event event) label = deed_broken event.deed label
-broken (acts.PageEnd line) label = page_end_broken label
-
--- the name of the macro that opens a scope, of a paragraph the first of them
-abbrev pub label_name : Label → List ℕ
-label_name labels.Section = codes "SH"
-label_name labels.Subsection = codes "SS"
-label_name labels.Paragraph = codes "PP"
-label_name (labels.Explicit explicit) = explicit_name explicit
-label_name (labels.Line opener) = line_opener_name opener
+broken (acts.Event event) label = end_broken event.deed (label_row label).end
+broken (acts.PageEnd line) label = page_end_broken (label_row label).end
 
 abbrev pub says : NoteKind → Place → List ℕ → Item
 says kind place detail = noted (message_about kind place detail)
@@ -92,12 +94,6 @@ abbrev pub broken_notes : Act (Event (List ℕ)) → Label → List Item
 broken_notes act label = note_if (broken act label) (act_place act) (label_name label)
 
 -- ---- refused events
-
-abbrev pub closer_name : Closer (List ℕ) → List ℕ
-closer_name closers.Line = []
-closer_name (closers.RelativeMargin number) = codes "RE"
-closer_name (closers.Target link suffix) = link_closer_name link
-closer_name closers.Syntax = codes "YS"
 
 abbrev pub deed_closer_name : Deed (List ℕ) → List ℕ
 deed_closer_name (deeds.Close closer) = closer_name closer

@@ -40,7 +40,7 @@ inside_section nodes = inside is_section nodes
 abbrev pub up_to_explicit : Explicit → List Label → ℕ
 up_to_explicit explicit nodes = up_to (inside (is_explicit explicit) nodes) (length nodes)
 
--- up to the open paragraph of the same relative margin or section
+-- up to the open paragraph (`PP LP P TP IP HP`) of the same relative margin or section
 abbrev pub up_to_paragraph : List Label → ℕ
 up_to_paragraph nodes = up_to (inside is_paragraph nodes) (inside is_level nodes)
 
@@ -56,7 +56,7 @@ abbrev pub but_outside : Option ℕ → ℕ → ℕ
 but_outside None count = 0
 but_outside (Some outside) count = count - outside
 
--- up to the relative margin of a number from the outside
+-- `RE` with a number: up to the relative margin of that number from the outside
 abbrev pub up_to_margin : ℤ → List Label → ℕ
 up_to_margin number nodes =
     if int_lt number (pos 1) then 0 else but_outside (place_of_margin (nat_abs number) (reverse nodes)) (length nodes)

@@ -1,21 +1,84 @@
--- What an open scope is. Source: man(7), "MACRO OVERVIEW".
+-- What an open scope is, and what is known of it by that alone: one row for each. Source: man(7), "MACRO OVERVIEW", "MACRO REFERENCE".
 use Rattle.std.specs.Prelude.{ℕ, Bool, true, false, List, codes}
-use Rattle.page_sets_lines.specs.MacroNames.{link_name}
-use Rattle.page_sets_lines.specs.declared.macro_names.Link.{Link}
-use Rattle.page_sets_lines.specs.declared.macro_names.Link.TheVariants.{UR, MT}
+use Rattle.std.specs.Borrow.{Bor}
+use Rattle.std.specs.Str.{bytes_eq}
+use Rattle.page_sets_lines.specs.MacroNames.{font_macro_name, heading_name, link_closer_name, link_name, tag_name}
+use Rattle.page_sets_lines.specs.declared.openers.LineOpener.TheVariants.{Heading, Tag, FontWords}
 use Rattle.page_scopes_tree.specs.declared.labels.Explicit.{Explicit}
 use Rattle.page_scopes_tree.specs.declared.labels.Explicit.TheVariants.{RelativeMargin, Target, Syntax}
 use Rattle.page_scopes_tree.specs.declared.labels.Label.{Label}
 use Rattle.page_scopes_tree.specs.declared.labels.Label.TheVariants as labels
+use Rattle.page_scopes_tree.specs.declared.labels.LabelRow.{LabelRow}
+use Rattle.page_scopes_tree.specs.declared.labels.ScopeEnd.{ScopeEnd}
+use Rattle.page_scopes_tree.specs.declared.labels.ScopeEnd.TheVariants.{Implied, Line, Closer}
 
-abbrev pub explicit_name : Explicit → List ℕ
-explicit_name RelativeMargin = codes "RS"
-explicit_name (Target link) = link_name link
-explicit_name Syntax = codes "SY"
+-- what texts of a row hold
+abbrev pub end_seen : ScopeEnd (Bor (List ℕ)) → ScopeEnd (List ℕ)
+end_seen Implied = Implied
+end_seen Line = Line
+end_seen (Closer name) = Closer name.now
+
+abbrev pub row_seen : LabelRow (Bor (List ℕ)) → LabelRow (List ℕ)
+row_seen row = record {
+  name = row.name.now;
+  end = end_seen row.end;
+  is_level = row.is_level;
+  owns_prevailing = row.owns_prevailing;
+  guards_fonts = row.guards_fonts;
+}
+
+-- a scope that keeps nothing apart
+abbrev pub plain_row : List ℕ → ScopeEnd (List ℕ) → LabelRow (List ℕ)
+plain_row name end = record { name = name; end = end; is_level = false; owns_prevailing = false; guards_fonts = false }
+
+-- paragraphs inside it are apart from those around it, and the prevailing indent holds up to its end
+abbrev pub level_row : List ℕ → ScopeEnd (List ℕ) → LabelRow (List ℕ)
+level_row name end = record { name = name; end = end; is_level = true; owns_prevailing = true; guards_fonts = false }
+
+-- it ends with a line, and leaves the fonts as they were before it; a tag does not
+abbrev pub guard_row : List ℕ → LabelRow (List ℕ)
+guard_row name = record { name = name; end = Line; is_level = false; owns_prevailing = false; guards_fonts = true }
+
+-- ---- the table
+
+abbrev pub label_row : Label → LabelRow (List ℕ)
+label_row labels.Section = level_row (codes "SH") Implied
+label_row labels.Subsection = level_row (codes "SS") Implied
+label_row labels.Paragraph = plain_row (codes "PP") Implied
+label_row (labels.Explicit RelativeMargin) = level_row (codes "RS") (Closer (codes "RE"))
+label_row (labels.Explicit (Target link)) = plain_row (link_name link) (Closer (link_closer_name link))
+label_row (labels.Explicit Syntax) = plain_row (codes "SY") (Closer (codes "YS"))
+label_row (labels.Line (Heading name)) = guard_row (heading_name name)
+label_row (labels.Line (Tag name)) = plain_row (tag_name name) Line
+label_row (labels.Line (FontWords name)) = guard_row (font_macro_name name)
+
+-- ---- its columns
+
+-- the name of the macro that opens the scope, of a paragraph the first of them
+abbrev pub label_name : Label → List ℕ
+label_name label = (label_row label).name
+
+-- two scopes have one opener where its name is the same
+abbrev pub same_opener : Label → Label → Bool
+same_opener label other = bytes_eq (label_name label) (label_name other)
+
+abbrev pub is_explicit : Explicit → Label → Bool
+is_explicit explicit label = same_opener (labels.Explicit explicit) label
+
+abbrev pub is_margin : Label → Bool
+is_margin label = is_explicit RelativeMargin label
+
+abbrev pub ends_with_line : ScopeEnd (List ℕ) → Bool
+ends_with_line Line = true
+ends_with_line _ = false
 
 abbrev pub is_line : Label → Bool
-is_line (labels.Line opener) = true
-is_line _ = false
+is_line label = ends_with_line (label_row label).end
+
+abbrev pub is_level : Label → Bool
+is_level label = (label_row label).is_level
+
+-- ---- labels by themselves
 
 abbrev pub is_section : Label → Bool
 is_section labels.Section = true
@@ -24,29 +87,3 @@ is_section _ = false
 abbrev pub is_paragraph : Label → Bool
 is_paragraph labels.Paragraph = true
 is_paragraph _ = false
-
-abbrev pub same_link : Link → Link → Bool
-same_link UR UR = true
-same_link MT MT = true
-same_link UR MT = false
-same_link MT UR = false
-
--- whether two scopes have one closer
-abbrev pub same_explicit : Explicit → Explicit → Bool
-same_explicit RelativeMargin RelativeMargin = true
-same_explicit (Target link) (Target other) = same_link link other
-same_explicit Syntax Syntax = true
-same_explicit _ _ = false
-
-abbrev pub is_explicit : Explicit → Label → Bool
-is_explicit explicit (labels.Explicit other) = same_explicit explicit other
-is_explicit explicit _ = false
-
-abbrev pub is_margin : Label → Bool
-is_margin label = is_explicit RelativeMargin label
-
--- paragraphs inside it are apart from those around it
-abbrev pub is_level : Label → Bool
-is_level labels.Section = true
-is_level labels.Subsection = true
-is_level label = is_margin label

@@ -4,10 +4,11 @@ ghost use Rattle.std.specs.Prelude.{◌≡◌, [], ◌∷◌};
 ghost use Rattle.page_core_base.specs.Latches.{Came};
 ghost use Rattle.page_scopes_tree.specs.Acts.{act_seen};
 ghost use Rattle.page_scopes_tree.specs.Broken as broken;
+ghost use Rattle.page_scopes_tree.specs.Labels.{end_seen};
 ghost use Rattle.page_sets_lines.specs.Events.{closer_seen, deed_seen, opener_seen};
 
 use crate::standings::Obstacle;
-use crate::{Act, Explicit, Label};
+use crate::{Act, Label, ScopeEnd};
 use page_core_base::{Note, NoteKind, PieceOut, Place};
 use page_sets_lines::{Closer, Deed, Event, Leaf, Opener};
 
@@ -18,34 +19,44 @@ fn report<O: PieceOut>(out: &mut O, kind: NoteKind, place: Place, detail: &[u8])
     out.report(&Note::about(kind, place, detail));
 }
 
-// Whether a closer is the own one of a scope.
-fn is_own(closer: &Closer<&[u8]>, explicit: Explicit) -> bool
-    ensures { result ≡ broken.is_own (closer_seen closer.now) explicit }
+// The name of a closer.
+fn closer_name(closer: &Closer<&[u8]>) -> &'static str
+    ensures { result.now ≡ broken.closer_name (closer_seen closer.now) }
 {
     match *closer {
-        Closer::Line => false,
-        Closer::RelativeMargin(_) => Explicit::RelativeMargin.is_same(explicit),
-        Closer::Target(link, _) => Explicit::Target(link).is_same(explicit),
-        Closer::Syntax => Explicit::Syntax.is_same(explicit),
+        Closer::Line => "",
+        Closer::RelativeMargin(_) => "RE",
+        Closer::Target(link, _) => link.closer_name(),
+        Closer::Syntax => "YS",
     }
 }
 
-// The message of a scope with a closer of its own that a deed ends.
-fn explicit_broken(deed: &Deed<&[u8]>, explicit: Explicit) -> Option<NoteKind>
-    ensures { result ≡ broken.explicit_broken (deed_seen deed.now) explicit }
+// The name of the closer that an opener does the work of.
+fn opener_closer_name(opener: &Opener<&[u8]>) -> &'static str
+    ensures { result.now ≡ broken.opener_closer_name (opener_seen opener.now) }
+{
+    match *opener {
+        Opener::Syntax(_) => "YS",
+        _ => "",
+    }
+}
+
+// The message of a scope, unless it ends by its own closer.
+fn broken_unless(is_own: bool, kind: NoteKind) -> Option<NoteKind>
+    ensures { result ≡ broken.broken_unless is_own kind }
+{
+    if is_own { None } else { Some(kind) }
+}
+
+// The message of a scope with a closer of this name that a deed ends.
+fn explicit_broken(deed: &Deed<&[u8]>, own: &str) -> Option<NoteKind>
+    ensures { result ≡ broken.explicit_broken (deed_seen deed.now) own.now }
 {
     match deed {
-        Deed::Close(closer) => {
-            if is_own(closer, explicit) {
-                None
-            } else {
-                Some(NoteKind::BadNest)
-            }
+        Deed::Close(closer) => broken_unless(closer_name(closer) == own, NoteKind::BadNest),
+        Deed::Open(opener) => {
+            broken_unless(opener_closer_name(opener) == own, NoteKind::MissingEnd)
         }
-        Deed::Open(opener) => match (*opener, explicit) {
-            (Opener::Syntax(_), Explicit::Syntax) => None,
-            _ => Some(NoteKind::MissingEnd),
-        },
         _ => Some(NoteKind::MissingEnd),
     }
 }
@@ -62,14 +73,24 @@ fn line_broken(deed: &Deed<&[u8]>) -> Option<NoteKind>
     }
 }
 
-// The message of a scope that a deed ends.
-fn deed_broken(deed: &Deed<&[u8]>, label: Label) -> Option<NoteKind>
-    ensures { result ≡ broken.deed_broken (deed_seen deed.now) label }
+// The message of a scope that a deed ends, by how the scope ends.
+fn end_broken(deed: &Deed<&[u8]>, end: ScopeEnd<&'static str>) -> Option<NoteKind>
+    ensures { result ≡ broken.end_broken (deed_seen deed.now) (end_seen end.entry) }
 {
-    match label {
-        Label::Section | Label::Subsection | Label::Paragraph => None,
-        Label::Explicit(explicit) => explicit_broken(deed, explicit),
-        Label::Line(_) => line_broken(deed),
+    match end {
+        ScopeEnd::Implied => None,
+        ScopeEnd::Line => line_broken(deed),
+        ScopeEnd::Closer(own) => explicit_broken(deed, own),
+    }
+}
+
+// The message of a scope that the page's end ends.
+fn page_end_broken(end: ScopeEnd<&'static str>) -> Option<NoteKind>
+    ensures { result ≡ broken.page_end_broken (end_seen end.entry) }
+{
+    match end {
+        ScopeEnd::Closer(_) => Some(NoteKind::MissingEnd),
+        _ => None,
     }
 }
 
@@ -77,12 +98,10 @@ fn deed_broken(deed: &Deed<&[u8]>, label: Label) -> Option<NoteKind>
 fn broken(act: &Act<&Event<&[u8]>>, label: Label) -> Option<NoteKind>
     ensures { result ≡ broken.broken (act_seen act.now) label }
 {
+    let end = label.row().end;
     match act {
-        Act::Event(event) => deed_broken(&event.deed, label),
-        Act::PageEnd(_) => match label {
-            Label::Explicit(_) => Some(NoteKind::MissingEnd),
-            _ => None,
-        },
+        Act::Event(event) => end_broken(&event.deed, end),
+        Act::PageEnd(_) => page_end_broken(end),
     }
 }
 
@@ -92,18 +111,6 @@ pub(crate) fn report_broken<O: PieceOut>(out: &mut O, act: &Act<&Event<&[u8]>>, 
 {
     if let Some(kind) = broken(act, label) {
         report(out, kind, act.place(), label.name().as_bytes());
-    }
-}
-
-// The name of a closer.
-fn closer_name(closer: &Closer<&[u8]>) -> &'static str
-    ensures { result.now ≡ broken.closer_name (closer_seen closer.now) }
-{
-    match *closer {
-        Closer::Line => "",
-        Closer::RelativeMargin(_) => "RE",
-        Closer::Target(link, _) => link.closer_name(),
-        Closer::Syntax => "YS",
     }
 }
 

@@ -22,7 +22,7 @@ fn up_to(found: usize, end: usize) -> usize
     if found < end { found + 1 } else { 0 }
 }
 
-// Up to the open paragraph of the same relative margin or section.
+// Up to the open paragraph (`PP LP P TP IP HP`) of the same relative margin or section.
 fn up_to_paragraph<B>(scopes: &[Scope<Label, B>]) -> usize
     requires { length scopes.now ≤ SCOPES }
     ensures { result ≡ ends.up_to_paragraph (labels (reverse scopes.now)) }
@@ -59,7 +59,7 @@ fn find_margin_of<B>(number: usize, scopes: &[Scope<Label, B>]) -> Option<usize>
     None
 }
 
-// Up to the relative margin of a number.
+// Up to the relative margin of a number, which `RE` names.
 fn up_to_margin<B>(number: i32, scopes: &[Scope<Label, B>]) -> usize
     requires { length scopes.now ≤ SCOPES }
     ensures { result ≡ ends.up_to_margin number (labels (reverse scopes.now)) }
@@ -84,7 +84,7 @@ fn margin_ends<B>(number: Option<&[u8]>, scopes: &[Scope<Label, B>]) -> usize
     }
 }
 
-// What an opener ends.
+// What an opener ends: `SH` all, `SS` all inside the section, a paragraph (`PP LP P TP IP HP`) the one before it, `SY` the synopsis before it.
 #[inline(never)]
 fn opener_ends<B>(opener: &Opener<&[u8]>, scopes: &[Scope<Label, B>]) -> usize
     requires { length scopes.now ≤ SCOPES }
@@ -101,7 +101,7 @@ fn opener_ends<B>(opener: &Opener<&[u8]>, scopes: &[Scope<Label, B>]) -> usize
     }
 }
 
-// What a closer ends.
+// What a closer ends: `RE`, `UE`, `ME`, `YS`, or a macro that breaks line scopes.
 #[inline(never)]
 fn closer_ends<B>(closer: &Closer<&[u8]>, scopes: &[Scope<Label, B>]) -> usize
     requires { length scopes.now ≤ SCOPES }

@@ -1,10 +1,10 @@
-//! What an open scope is (man(7)). The scopes of mdoc(7) join these with their set.
+//! What an open scope is, and what is known of it by that alone: one row for each (man(7)). The scopes of mdoc(7) join these with their set.
 
 ghost use Rattle.std.specs.Prelude.{◌≡◌};
-ghost use Rattle.page_scopes_tree.specs.Broken.{label_name};
 ghost use Rattle.page_scopes_tree.specs.Labels as labels;
 
 use page_sets_lines::{LineOpener, Link};
+use std::alloc::AllocError;
 
 /// A scope with a closer of its own.
 #[derive(Clone, Copy, PartialEq, Eq)]
@@ -32,57 +32,136 @@ pub enum Label {
     Line(LineOpener),
 }
 
-// Whether two links are of one kind.
-fn same_link(link: Link, other: Link) -> bool
-    ensures { result ≡ labels.same_link link other }
-{
-    matches!((link, other), (Link::UR, Link::UR) | (Link::MT, Link::MT))
+/// How a scope ends; `W` is a text.
+pub enum ScopeEnd<W> {
+    /// Where a macro opens the next scope of its kind, or one around it ends.
+    Implied,
+    /// With a line.
+    Line,
+    /// By the closer of this name.
+    Closer(W),
 }
 
-impl Explicit {
-    /// Whether two scopes have one closer.
-    pub(crate) fn is_same(self, other: Explicit) -> bool
-        ensures { result ≡ labels.same_explicit self other }
-    {
-        match (self, other) {
-            (Explicit::RelativeMargin, Explicit::RelativeMargin) => true,
-            (Explicit::Target(link), Explicit::Target(other)) => same_link(link, other),
-            (Explicit::Syntax, Explicit::Syntax) => true,
-            _ => false,
-        }
-    }
+/// What is known of a scope by its label alone; `W` is a text.
+pub struct LabelRow<W> {
+    /// The name of the macro that opens the scope, of a paragraph the first of them.
+    pub name: W,
+    pub end: ScopeEnd<W>,
+    /// Paragraphs inside the scope are apart from those around it.
+    pub is_level: bool,
+    /// The prevailing indent ends with the scope.
+    pub owns_prevailing: bool,
+    /// The scope leaves the fonts as they were before it.
+    pub guards_fonts: bool,
+}
 
-    // The name of the macro that opens the scope.
-    fn name(self) -> &'static str
-        ensures { result.now ≡ labels.explicit_name self }
-    {
-        match self {
-            Explicit::RelativeMargin => "RS",
-            Explicit::Target(link) => link.name(),
-            Explicit::Syntax => "SY",
-        }
+impl<W: Copy> Copy for ScopeEnd<W> {}
+
+impl<W: Copy> Clone for ScopeEnd<W> {
+    ghost is_clone = { λ x y. y ≡ x };
+
+    ghost is_infallible = { λ _. Unit {0} };
+
+    fn clone(&self) -> Result<ScopeEnd<W>, AllocError> {
+        Ok(*self)
+    }
+}
+
+impl<W: Copy> Copy for LabelRow<W> {}
+
+impl<W: Copy> Clone for LabelRow<W> {
+    ghost is_clone = { λ x y. y ≡ x };
+
+    ghost is_infallible = { λ _. Unit {0} };
+
+    fn clone(&self) -> Result<LabelRow<W>, AllocError> {
+        Ok(*self)
+    }
+}
+
+// The row of a scope that keeps nothing apart.
+#[inline(always)]
+fn plain_row(name: &'static str, end: ScopeEnd<&'static str>) -> LabelRow<&'static str>
+    ensures { labels.row_seen result ≡ labels.plain_row name.now (labels.end_seen end.entry) }
+{
+    LabelRow {
+        name,
+        end,
+        is_level: false,
+        owns_prevailing: false,
+        guards_fonts: false,
+    }
+}
+
+// The row of a scope with paragraphs and a prevailing indent of its own.
+#[inline(always)]
+fn level_row(name: &'static str, end: ScopeEnd<&'static str>) -> LabelRow<&'static str>
+    ensures { labels.row_seen result ≡ labels.level_row name.now (labels.end_seen end.entry) }
+{
+    LabelRow {
+        name,
+        end,
+        is_level: true,
+        owns_prevailing: true,
+        guards_fonts: false,
+    }
+}
+
+// The row of a line scope that leaves the fonts as they were.
+#[inline(always)]
+fn guard_row(name: &'static str) -> LabelRow<&'static str>
+    ensures { labels.row_seen result ≡ labels.guard_row name.now }
+{
+    LabelRow {
+        name,
+        end: ScopeEnd::Line,
+        is_level: false,
+        owns_prevailing: false,
+        guards_fonts: true,
     }
 }
 
 impl Label {
-    /// The name of the macro that opens the scope, of a paragraph the first of them.
-    pub fn name(self) -> &'static str
-        ensures { result.now ≡ label_name self }
+    /// What is known of the scope by its label alone.
+    #[inline(always)]
+    pub fn row(self) -> LabelRow<&'static str>
+        ensures { labels.row_seen result ≡ labels.label_row self }
     {
         match self {
-            Label::Section => "SH",
-            Label::Subsection => "SS",
-            Label::Paragraph => "PP",
-            Label::Explicit(explicit) => explicit.name(),
-            Label::Line(opener) => opener.name(),
+            Label::Section => level_row("SH", ScopeEnd::Implied),
+            Label::Subsection => level_row("SS", ScopeEnd::Implied),
+            Label::Paragraph => plain_row("PP", ScopeEnd::Implied),
+            Label::Explicit(Explicit::RelativeMargin) => level_row("RS", ScopeEnd::Closer("RE")),
+            Label::Explicit(Explicit::Target(link)) => {
+                plain_row(link.name(), ScopeEnd::Closer(link.closer_name()))
+            }
+            Label::Explicit(Explicit::Syntax) => plain_row("SY", ScopeEnd::Closer("YS")),
+            Label::Line(LineOpener::Heading(heading)) => guard_row(heading.name()),
+            Label::Line(LineOpener::Tag(tag)) => plain_row(tag.name(), ScopeEnd::Line),
+            Label::Line(LineOpener::FontWords(font_macro)) => guard_row(font_macro.name()),
         }
     }
 
+    /// The name of the macro that opens the scope, of a paragraph the first of them.
+    pub fn name(self) -> &'static str
+        ensures { result.now ≡ labels.label_name self }
+    {
+        self.row().name
+    }
+
+    // Whether two scopes have one opener.
+    fn has_opener_of(self, other: Label) -> bool
+        ensures { result ≡ labels.same_opener other self }
+    {
+        other.name() == self.name()
+    }
+
     /// Whether the scope ends with a line.
+    #[inline(always)]
     pub(crate) fn is_line(self) -> bool
         ensures { result ≡ labels.is_line self }
     {
-        matches!(self, Label::Line(_))
+        matches!(self.row().end, ScopeEnd::Line)
     }
 
     /// Whether the scope is a section.
@@ -103,10 +182,7 @@ impl Label {
     pub(crate) fn is_explicit(self, explicit: Explicit) -> bool
         ensures { result ≡ labels.is_explicit explicit self }
     {
-        match self {
-            Label::Explicit(other) => explicit.is_same(other),
-            _ => false,
-        }
+        self.has_opener_of(Label::Explicit(explicit))
     }
 
     /// Whether the scope is a relative margin.
@@ -120,9 +196,6 @@ impl Label {
     pub(crate) fn is_level(self) -> bool
         ensures { result ≡ labels.is_level self }
     {
-        match self {
-            Label::Section | Label::Subsection => true,
-            _ => self.is_margin(),
-        }
+        self.row().is_level
     }
 }

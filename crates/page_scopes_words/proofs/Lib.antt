@@ -1,1 +1,1 @@
-pub mod WordLemmas
+pub mod WhiteLemmas

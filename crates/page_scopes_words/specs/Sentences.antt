@@ -1,5 +1,5 @@
 -- The end of a sentence at a line's end. Source: roff(7), "Sentences"; mandoc(1).
-use Rattle.std.specs.Prelude.{ℕ, Bool, false, ◌==◌, ◌||◌, ◌-◌, List, length, Option, None, Some, slice_get}
+use Rattle.std.specs.Prelude.{ℕ, Bool, false, ◌==◌, ◌||◌, ◌-◌, List, length, Option, None, Some, slice_get, if◌then◌else◌}
 use Rattle.page_roff_forms.specs.Ends.{kept}
 use Rattle.page_roff_forms.specs.LineForms.{is_white}
 
@@ -18,5 +18,10 @@ holds_of holds (Some byte) = holds byte
 abbrev pub ends_with : (ℕ → Bool) → List ℕ → Bool
 ends_with holds text = holds_of holds (slice_get text (length text - 1))
 
-abbrev pub ends_sentence : List ℕ → Bool
-ends_sentence text = ends_with is_end (kept is_closer (kept is_white text))
+-- a text without the blanks at its end; those that an escape takes are bytes of its last word
+abbrev pub without_blanks : (ends_blank : Bool) → List ℕ → List ℕ
+without_blanks ends_blank text = if ends_blank then kept is_white text else text
+
+-- a text with or without white space at its end, as its tokens are read
+abbrev pub ends_sentence : (ends_blank : Bool) → List ℕ → Bool
+ends_sentence ends_blank text = ends_with is_end (kept is_closer (without_blanks ends_blank text))

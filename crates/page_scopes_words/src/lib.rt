@@ -1,14 +1,14 @@
-//! The words of a text as pieces to be filled: their fonts, their messages, and the ends of sentences (roff(7)).
+//! What layers that read texts share: what a token says, prints and does to the font, white space that is kept, and where a sentence ends
+//! (roff(7)). The words of a text are read by these in `page_scopes_text`, the fields of a title in `page_engine_header`. Read
+//! `specs/Words.antt` first.
 #![tactic(auto)]
 
 mod fonts;
 mod sentences;
 mod tokens;
-mod walks;
-mod words;
+mod white_cells;
 
 pub use fonts::{Fonts, ROMAN};
 pub use sentences::ends_sentence;
-pub use tokens::{report, report_font, report_token, token_piece};
-pub use walks::{Style, Walk};
-pub use words::{give_leading, give_white_cells, give_words, has_tab};
+pub use tokens::{report, report_escape, report_font, token_piece};
+pub use white_cells::{give_white_cells, has_tab};

@@ -1,7 +1,7 @@
 //! Sentences that end with their line (roff(7), "Sentences").
 
 ghost use Rattle.std.specs.Prelude.{◌≡◌};
-ghost use Rattle.page_scopes_words.specs.Sentences.{ends_with, is_closer, is_end, ends_sentence};
+ghost use Rattle.page_scopes_words.specs.Sentences.{ends_with, is_closer, is_end, ends_sentence, without_blanks};
 
 use page_roff_forms::{is_white, kept_len};
 
@@ -29,10 +29,22 @@ fn ends_with_end(text: &[u8]) -> bool
     }
 }
 
-/// Whether a text line ends with a sentence.
-pub fn ends_sentence(text: &[u8]) -> bool
-    ensures { result ≡ ends_sentence text.now }
+// A text without the blanks at its end.
+fn without_blanks(ends_blank: bool, text: &[u8]) -> &[u8]
+    ensures { result.now ≡ without_blanks ends_blank text.now }
 {
-    let line = &text[..kept_len(text, |byte| is_white(byte))];
+    if ends_blank {
+        &text[..kept_len(text, |byte| is_white(byte))]
+    } else {
+        text
+    }
+}
+
+/// Whether a text ends with a sentence. `ends_blank` says whether white space ends it: a blank there can be an escape's, too, and then it
+/// is the last byte of the text's last word.
+pub fn ends_sentence(ends_blank: bool, text: &[u8]) -> bool
+    ensures { result ≡ ends_sentence ends_blank text.now }
+{
+    let line = without_blanks(ends_blank, text);
     ends_with_end(&line[..kept_len(line, |byte| is_closer(byte))])
 }

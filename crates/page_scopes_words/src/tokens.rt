@@ -30,15 +30,15 @@ pub fn report_font<O: PieceOut>(out: &mut O, place: Place, name: FontName<'_>)
     }
 }
 
-// Gives the message of an escape.
+/// Gives the message of an escape; `\h` has none here, since its number is read where its value is.
 #[inline(always)]
-fn report_escape<O: PieceOut>(out: &mut O, place: Place, bytes: &[u8], meaning: Escape<'_>)
+pub fn report_escape<O: PieceOut>(out: &mut O, place: Place, bytes: &[u8], meaning: Escape<'_>)
     ensures { Came O.left out.old (words.meaning_notes place bytes.now (meaning_seen meaning.entry)) out.new }
 {
     match meaning {
         Escape::Undefined(_) => report(out, NoteKind::UndefEscape, place, bytes),
         Escape::Bad => report(out, NoteKind::BadEscape, place, bytes),
-        Escape::Unsupported | Escape::Blanks(_) => {
+        Escape::Unsupported => {
             report(
                 out,
                 NoteKind::UnsuppEscape,
@@ -48,16 +48,6 @@ fn report_escape<O: PieceOut>(out: &mut O, place: Place, bytes: &[u8], meaning: 
         }
         Escape::Font(name) => report_font(out, place, name),
         _ => {}
-    }
-}
-
-/// Gives the message of a token.
-#[inline(always)]
-pub fn report_token<O: PieceOut>(out: &mut O, place: Place, token: &Token<'_>)
-    ensures { Came O.left out.old (words.token_notes place (token_seen token.now)) out.new }
-{
-    if let Token::Escaped { bytes, meaning } = *token {
-        report_escape(out, place, bytes, meaning);
     }
 }
 

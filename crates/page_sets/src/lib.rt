@@ -1,4 +1,4 @@
-//! The macro sets: what events a line of a page has.
+//! The door to the macro sets: what events a line of a page has. It gives out what `page_sets_lines` and `page_sets_man` hold; read those.
 #![tactic(auto)]
 
 pub use page_sets_lines::{

@@ -10,8 +10,8 @@ use Rattle.page_sets_lines.specs.declared.events.Deed.TheVariants as deeds
 use Rattle.page_sets_lines.specs.declared.events.Event.{Event}
 use Rattle.page_sets_lines.specs.declared.plain_lines.PlainLine.{PlainLine}
 use Rattle.page_sets_lines.specs.declared.plain_lines.PlainLine.TheVariants as lines
-use Rattle.page_sets_lines.specs.declared.requests.LayoutRequest.{LayoutRequest}
-use Rattle.page_sets_lines.specs.declared.requests.LayoutRequest.TheVariants as layout
+use Rattle.page_roff_requests.specs.declared.requests.LayoutRequest.{LayoutRequest}
+use Rattle.page_roff_requests.specs.declared.requests.LayoutRequest.TheVariants as layout
 use Rattle.page_sets_lines.specs.Laws.{IsSlice, IsPart, IsArgument, IsPartIfGiven, IsArgumentIfGiven, RequestsSlices, HasSlices, AreSlices, past, BeginsFrom, AreInOrder}
 use Rattle.page_sets_lines.specs.ControlLines.{before_name, name_end, name_of, arguments_after, first_of, second_of, text_of}
 use Rattle.page_sets_lines.specs.PlainLines.{plain_deed, request}

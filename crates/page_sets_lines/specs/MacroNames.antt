@@ -15,7 +15,7 @@ use Rattle.page_sets_lines.specs.declared.macro_names.Prologue.TheVariants as pr
 use Rattle.page_sets_lines.specs.declared.openers.LineOpener.{LineOpener}
 use Rattle.page_sets_lines.specs.declared.openers.LineOpener.TheVariants.{Heading, Tag, FontWords}
 use Rattle.page_sets_lines.specs.declared.leaves.Own.{Own}
-use Rattle.page_sets_lines.specs.declared.leaves.Own.TheVariants.{Round, Unround, Square, Unsquare}
+use Rattle.page_sets_lines.specs.declared.leaves.Own.TheVariants.{OpenParenthesis, CloseParenthesis, OpenBracket, CloseBracket}
 
 abbrev pub paragraph_name : ParagraphName → List ℕ
 paragraph_name paragraphs.PP = codes "PP"
@@ -53,7 +53,7 @@ line_opener_name (Tag tag) = tag_name tag
 line_opener_name (FontWords font_macro) = font_macro_name font_macro
 
 abbrev pub own_text : Own → List ℕ
-own_text Round = codes "("
-own_text Unround = codes ")"
-own_text Square = codes "["
-own_text Unsquare = codes "]"
+own_text OpenParenthesis = codes "("
+own_text CloseParenthesis = codes ")"
+own_text OpenBracket = codes "["
+own_text CloseBracket = codes "]"

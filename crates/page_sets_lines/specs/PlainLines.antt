@@ -1,10 +1,14 @@
 -- The events of text lines, blank lines and raw lines, and the requests that change rows. Source: roff(7), "LANGUAGE SYNTAX" and "REQUEST REFERENCE".
-use Rattle.std.specs.Prelude.{ℕ, Bool, true, false, List, [], ◌∷◌, Option, None, Some, option_map, find, codes, if◌then◌else◌}
-use Rattle.std.specs.Str.{bytes_eq}
+use Rattle.std.specs.Prelude.{ℕ, Bool, true, false, List, [], ◌∷◌, Option, None, Some, if◌then◌else◌}
 use Rattle.page_core_base.specs.declared.lines_taken.Form.{Form}
 use Rattle.page_core_base.specs.declared.lines_taken.Form.TheVariants as forms
 use Rattle.page_roff_forms.specs.declared.quotes.Quoting.TheVariants.{Bare}
 use Rattle.page_roff_forms.specs.LineForms.{has_word}
+use Rattle.page_roff_requests.specs.Requests.{request_of}
+use Rattle.page_roff_requests.specs.declared.requests.LayoutRequest.{LayoutRequest}
+use Rattle.page_roff_requests.specs.declared.requests.LayoutRequest.TheVariants as layout
+use Rattle.page_roff_requests.specs.declared.requests.Request.TheVariants as names
+use Rattle.page_roff_requests.specs.declared.requests.Request as roff
 use Rattle.page_sets_lines.specs.declared.leaves.Request.{Request}
 use Rattle.page_sets_lines.specs.declared.leaves.Request.TheVariants as requests
 use Rattle.page_sets_lines.specs.declared.leaves.Leaf.TheVariants.{BlankLine, Wordless}
@@ -16,8 +20,6 @@ use Rattle.page_sets_lines.specs.declared.events.Deed.TheVariants as deeds
 use Rattle.page_sets_lines.specs.declared.events.Event.{Event}
 use Rattle.page_sets_lines.specs.declared.plain_lines.PlainLine.{PlainLine}
 use Rattle.page_sets_lines.specs.declared.plain_lines.PlainLine.TheVariants as lines
-use Rattle.page_sets_lines.specs.declared.requests.LayoutRequest.{LayoutRequest}
-use Rattle.page_sets_lines.specs.declared.requests.LayoutRequest.TheVariants as layout
 
 -- an event in a column of a line
 abbrev pub event_at : ℕ → ℕ → Deed (List ℕ) → Event (List ℕ)
@@ -62,13 +64,19 @@ abbrev pub plain_events : ℕ → List ℕ → PlainLine → List (Event (List �
 plain_events number text line = event_at number 1 (plain_deed line text) ∷ line_end number (fills line) ∷ []
 
 -- the requests that change rows
-abbrev pub layout_requests : List (List ℕ × LayoutRequest)
-layout_requests =
-    (codes "br", layout.Break) ∷ (codes "sp", layout.Space) ∷ (codes "ft", layout.Font) ∷ (codes "in", layout.Shift)
-    ∷ (codes "nf", layout.Literal true) ∷ (codes "fi", layout.Literal false) ∷ []
+abbrev pub layout_in : Option roff.Request → Option LayoutRequest
+layout_in None = None
+layout_in (Some names.If) = None
+layout_in (Some names.IfElse) = None
+layout_in (Some names.Else) = None
+layout_in (Some (names.Region kind)) = None
+layout_in (Some (names.Definition request)) = None
+layout_in (Some (names.Layout request)) = Some request
+layout_in (Some names.Ignored) = None
+layout_in (Some names.Unsupported) = None
 
 unfoldable pub layout_request : List ℕ → Option LayoutRequest
-layout_request name = option_map (λ row. row.1) (find (λ row. bytes_eq name row.0) layout_requests)
+layout_request name = layout_in (request_of name)
 
 -- a request with its first argument, where it has one
 abbrev pub request : LayoutRequest → Option (List ℕ) → Request (List ℕ)

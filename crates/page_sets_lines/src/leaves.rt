@@ -27,13 +27,13 @@ pub enum Request<W> {
 #[derive(Clone, Copy, PartialEq, Eq)]
 pub enum Own {
     /// `(`
-    Round,
+    OpenParenthesis,
     /// `)`
-    Unround,
+    CloseParenthesis,
     /// `[`
-    Square,
+    OpenBracket,
     /// `]`
-    Unsquare,
+    CloseBracket,
 }
 
 impl Own {
@@ -42,10 +42,10 @@ impl Own {
         ensures { result.now ≡ names.own_text self }
     {
         match self {
-            Own::Round => "(",
-            Own::Unround => ")",
-            Own::Square => "[",
-            Own::Unsquare => "]",
+            Own::OpenParenthesis => "(",
+            Own::CloseParenthesis => ")",
+            Own::OpenBracket => "[",
+            Own::CloseBracket => "]",
         }
     }
 }

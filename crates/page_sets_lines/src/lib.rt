@@ -1,5 +1,8 @@
 //! What every set of macros shares: the events of a line, the trait of macro sets, and the lines and requests of
 //! which all sets give the same events.
+//!
+//! A finished line of roff comes in, its events go out to the scopes. Read `src/events.rt` first (what an event is), then
+//! `src/macro_sets.rt` (what a set must keep to).
 #![tactic(auto)]
 
 mod control_lines;
@@ -18,4 +21,4 @@ pub use macro_names::{FontMacro, HeadingName, Link, ParagraphName, Prologue, Tag
 pub use macro_sets::MacroSet;
 pub use openers::{Closer, LineOpener, Opener};
 pub use plain_lines::PlainLine;
-pub use requests::LayoutRequest;
+pub use requests::{layout_request, with_argument};

@@ -2,52 +2,32 @@
 
 ghost use Rattle.std.specs.Prelude.{◌≡◌};
 ghost use Rattle.page_sets_lines.specs.Events.{request_seen, text_seen};
-ghost use Rattle.page_sets_lines.specs.PlainLines.{layout_request, request};
+ghost use Rattle.page_sets_lines.specs.PlainLines.{layout_request};
+ghost use Rattle.page_sets_lines.specs.PlainLines as plain;
 
 use crate::leaves::Request;
+use page_roff_requests::LayoutRequest;
 
-/// A request that changes rows.
-#[derive(Clone, Copy)]
-pub enum LayoutRequest {
-    /// `br`.
-    Break,
-    /// `sp`.
-    Space,
-    /// `ft`.
-    Font,
-    /// `in`.
-    Shift,
-    /// `nf` (true) and `fi` (false).
-    Literal(bool),
+/// The request of this name that changes rows.
+#[tactic(auto, unfolding(crate::specs::PlainLines::layout_request))]
+pub fn layout_request(name: &[u8]) -> Option<LayoutRequest>
+    ensures { result ≡ layout_request name.now }
+{
+    match page_roff_requests::Request::of(name) {
+        Some(page_roff_requests::Request::Layout(request)) => Some(request),
+        _ => None,
+    }
 }
 
-impl LayoutRequest {
-    /// The request of this name.
-    #[tactic(auto, unfolding(crate::specs::PlainLines::layout_request))]
-    pub fn of(name: &[u8]) -> Option<LayoutRequest>
-        ensures { result ≡ layout_request name.now }
-    {
-        match name {
-            b"br" => Some(LayoutRequest::Break),
-            b"sp" => Some(LayoutRequest::Space),
-            b"ft" => Some(LayoutRequest::Font),
-            b"in" => Some(LayoutRequest::Shift),
-            b"nf" => Some(LayoutRequest::Literal(true)),
-            b"fi" => Some(LayoutRequest::Literal(false)),
-            _ => None,
-        }
-    }
-
-    /// It with its first argument, where it has one.
-    pub fn with_argument<'a>(self, given: Option<&'a [u8]>) -> Request<&'a [u8]>
-        ensures { request_seen result ≡ request self (text_seen given.entry) }
-    {
-        match self {
-            LayoutRequest::Break => Request::Break,
-            LayoutRequest::Space => Request::Space(given),
-            LayoutRequest::Font => Request::Font(given),
-            LayoutRequest::Shift => Request::Shift(given),
-            LayoutRequest::Literal(on) => Request::Literal(on),
-        }
+/// A request with its first argument, where it has one.
+pub fn with_argument<'a>(request: LayoutRequest, given: Option<&'a [u8]>) -> Request<&'a [u8]>
+    ensures { request_seen result ≡ plain.request request (text_seen given.entry) }
+{
+    match request {
+        LayoutRequest::Break => Request::Break,
+        LayoutRequest::Space => Request::Space(given),
+        LayoutRequest::Font => Request::Font(given),
+        LayoutRequest::Shift => Request::Shift(given),
+        LayoutRequest::Literal(on) => Request::Literal(on),
     }
 }

@@ -16,7 +16,7 @@ use Rattle.page_sets_lines.specs.declared.openers.Closer.TheVariants as closers
 use Rattle.page_sets_lines.specs.declared.openers.LineOpener.{LineOpener}
 use Rattle.page_sets_lines.specs.declared.openers.LineOpener.TheVariants.{Heading, Tag}
 use Rattle.page_sets_lines.specs.declared.leaves.Own.{Own}
-use Rattle.page_sets_lines.specs.declared.leaves.Own.TheVariants.{Round, Unround}
+use Rattle.page_sets_lines.specs.declared.leaves.Own.TheVariants.{OpenParenthesis, CloseParenthesis}
 use Rattle.page_sets_lines.specs.declared.leaves.Leaf.{Leaf}
 use Rattle.page_sets_lines.specs.declared.leaves.Leaf.TheVariants as leaves
 use Rattle.page_sets_lines.specs.declared.plain_lines.PlainLine.{PlainLine}
@@ -51,7 +51,7 @@ use Rattle.page_sets_man.specs.Rows.{row_of}
 
 -- ---- what a macro does
 
--- what it opens
+-- what it opens (`SH SS PP LP P TP IP HP RS UR MT SY`)
 abbrev pub opener : Opens → List (Argument (List ℕ)) → Option (Opener (List ℕ))
 opener opens.Section arguments = Some openers.Section
 opener opens.Subsection arguments = Some openers.Subsection
@@ -63,13 +63,13 @@ opener opens.RelativeMargin arguments = Some (openers.RelativeMargin (text_of (f
 opener (opens.Target link) arguments = option_map (openers.Target link) (first_of arguments)
 opener opens.Syntax arguments = option_map openers.Syntax (first_of arguments)
 
--- what it closes
+-- what it closes (`RE`, `UE`, `ME`, `YS`)
 abbrev pub closer : Closes → List (Argument (List ℕ)) → Closer (List ℕ)
 closer closes.RelativeMargin arguments = closers.RelativeMargin (text_of (first_of arguments))
 closer (closes.Target link) arguments = closers.Target link (first_of arguments)
 closer closes.Syntax arguments = closers.Syntax
 
--- what it changes, or prints before its words; the text is the rest of its line
+-- what it changes, or prints before its words (`TH EX EE PD TQ B I SM SB OP`, and requests); the text is the rest of its line
 abbrev pub leaf : Sets → List ℕ → List (Argument (List ℕ)) → Leaf (List ℕ)
 leaf (sets.Request name) rest arguments = leaves.Request (request name (text_of (first_of arguments)))
 leaf sets.Title rest arguments = leaves.Prologue TH rest
@@ -130,7 +130,7 @@ abbrev pub plain_words : ℕ → List (Argument (List ℕ)) → List (Event (Lis
 plain_words number [] = []
 plain_words number (argument ∷ arguments) = argument_word number None Apart argument ∷ plain_words number arguments
 
--- all arguments, in two fonts in turn, glued
+-- all arguments, in two fonts in turn, glued (`BI BR IB IR RB RI`)
 abbrev pub alternating_words : ℕ → Font → Font → Join → List (Argument (List ℕ)) → List (Event (List ℕ))
 alternating_words number font other before [] = []
 alternating_words number font other before (argument ∷ arguments) =
@@ -141,7 +141,7 @@ abbrev pub one_word : ℕ → Option Font → Join → List (Argument (List ℕ)
 one_word number font before [] = []
 one_word number font before (argument ∷ arguments) = argument_word number font before argument ∷ []
 
--- a key in bold, then its value in italic
+-- a key in bold, then its value in italic (`OP`)
 abbrev pub option_words : ℕ → List (Argument (List ℕ)) → List (Event (List ℕ))
 option_words number [] = []
 option_words number (key ∷ arguments) = argument_word number (Some fonts.B) Apart key ∷ one_word number (Some fonts.I) Apart arguments
@@ -150,10 +150,10 @@ option_words number (key ∷ arguments) = argument_word number (Some fonts.B) Ap
 abbrev pub section_words : ℕ → ℕ → List (Argument (List ℕ)) → List (Event (List ℕ))
 section_words number column [] = []
 section_words number column (section ∷ arguments) =
-    mark number column Round Glued Glued ∷ argument_word number None Apart section ∷ mark number column Unround Glued Apart
+    mark number column OpenParenthesis Glued Glued ∷ argument_word number None Apart section ∷ mark number column CloseParenthesis Glued Apart
     ∷ one_word number None Glued arguments
 
--- a name in italic, with its section and suffix
+-- a name in italic, with its section and suffix (`MR`)
 abbrev pub reference_words : ℕ → ℕ → List (Argument (List ℕ)) → List (Event (List ℕ))
 reference_words number column [] = []
 reference_words number column (name ∷ arguments) = argument_word number (Some fonts.I) Apart name ∷ section_words number column arguments
@@ -178,7 +178,7 @@ abbrev pub break_events : ℕ → ℕ → Bool → List (Event (List ℕ))
 break_events number column true = event_at number column (deeds.Close closers.Line) ∷ []
 break_events number column false = []
 
--- the quote of an argument that lacks its last one, which is told ahead
+-- the quote of an argument without its closing one, which is reported before the macro has its effect
 abbrev pub quote_at : Bool → Option ℕ → Option Quote
 quote_at begins_body None = None
 quote_at begins_body (Some column) = Some (record { column = column; begins_body = begins_body })

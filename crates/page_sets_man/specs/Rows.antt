@@ -8,7 +8,7 @@ use Rattle.page_sets_lines.specs.declared.macro_names.Link.TheVariants.{UR, MT}
 use Rattle.page_sets_lines.specs.declared.macro_names.FontMacro.{FontMacro}
 use Rattle.page_sets_lines.specs.declared.macro_names.FontMacro.TheVariants.{B, I, SM, SB}
 use Rattle.page_sets_lines.specs.declared.openers.LineOpener.TheVariants.{FontWords}
-use Rattle.page_sets_lines.specs.declared.leaves.Own.TheVariants.{Square, Unsquare}
+use Rattle.page_sets_lines.specs.declared.leaves.Own.TheVariants.{OpenBracket, CloseBracket}
 use Rattle.page_sets_lines.specs.PlainLines.{layout_request}
 use Rattle.page_sets_man.specs.declared.rows.Opens.{Opens}
 use Rattle.page_sets_man.specs.declared.rows.Opens.TheVariants.{Section, Subsection, Paragraph, Tagged, Indented, Hanging, RelativeMargin, Target, Syntax}
@@ -55,8 +55,8 @@ block alone quotes effect = record {
 abbrev pub opening : ℕ → Opens → Row
 opening printed scope = block Same (BodyAfter printed) (effects.Opens scope)
 
-abbrev pub needy_opening : ℕ → Opens → Row
-needy_opening printed scope = block Empty (BodyAfter printed) (effects.Opens scope)
+abbrev pub opening_with_argument : ℕ → Opens → Row
+opening_with_argument printed scope = block Empty (BodyAfter printed) (effects.Opens scope)
 
 abbrev pub closing : ℕ → Closes → Row
 closing printed scope = block Same (After printed) (effects.Closes scope)
@@ -90,8 +90,8 @@ font_words name font = record {
 }
 
 -- a macro that needs words
-abbrev pub wordy : Quotes → Effect → Words → Last → Row
-wordy quotes effect these last = record {
+abbrev pub needs_words : Quotes → Effect → Words → Last → Row
+needs_words quotes effect these last = record {
   alone = Empty;
   breaks = false;
   quotes = quotes;
@@ -101,15 +101,15 @@ wordy quotes effect these last = record {
 }
 
 abbrev pub alternating : Font → Font → Row
-alternating font other = wordy Printed effects.Nothing (Alternating font other) lasts.Nothing
+alternating font other = needs_words Printed effects.Nothing (Alternating font other) lasts.Nothing
 
 -- an option with its value, in brackets
 abbrev pub option : Row
-option = wordy (BodyAfter 2) (effects.Sets (Mark Square)) arguments.Option (lasts.Mark Unsquare)
+option = needs_words (BodyAfter 2) (effects.Sets (Mark OpenBracket)) arguments.Option (lasts.Mark CloseBracket)
 
 -- a manual page with its section, in parentheses, and what follows it
 abbrev pub reference : Row
-reference = wordy (BodyAfter 3) effects.Nothing Reference lasts.Nothing
+reference = needs_words (BodyAfter 3) effects.Nothing Reference lasts.Nothing
 
 abbrev pub structure_rows : List (List ℕ × Row)
 structure_rows =
@@ -127,11 +127,11 @@ structure_rows =
     ∷ (codes "RE", closing 0 closers.RelativeMargin)
     ∷ (codes "EX", quiet (Example true))
     ∷ (codes "EE", quiet (Example false))
-    ∷ (codes "UR", needy_opening 0 (Target UR))
+    ∷ (codes "UR", opening_with_argument 0 (Target UR))
     ∷ (codes "UE", closing 1 (closers.Target UR))
-    ∷ (codes "MT", needy_opening 0 (Target MT))
+    ∷ (codes "MT", opening_with_argument 0 (Target MT))
     ∷ (codes "ME", closing 1 (closers.Target MT))
-    ∷ (codes "SY", needy_opening 1 Syntax)
+    ∷ (codes "SY", opening_with_argument 1 Syntax)
     ∷ (codes "YS", closing 0 closers.Syntax)
     ∷ (codes "PD", quiet Distance)
     ∷ (codes "AT", ignored)

@@ -4,7 +4,7 @@ use Rattle.page_core_base.specs.declared.cells.Font.{Font}
 use Rattle.page_core_base.specs.declared.cells.Font.TheVariants as fonts
 use Rattle.page_core_base.specs.LinesTaken.{Line}
 use Rattle.page_roff_forms.specs.declared.quotes.Argument.{Argument}
-use Rattle.page_sets_lines.specs.declared.leaves.Own.TheVariants.{Unround}
+use Rattle.page_sets_lines.specs.declared.leaves.Own.TheVariants.{CloseParenthesis}
 use Rattle.page_sets_lines.specs.declared.events.Join.{Join}
 use Rattle.page_sets_lines.specs.declared.events.Join.TheVariants.{Apart, Glued}
 use Rattle.page_sets_lines.specs.declared.events.Event.{Event}
@@ -26,7 +26,7 @@ first_word words.Reference = next.Name
 
 -- after the first mark of a section, and before the last
 abbrev pub section_end : ℕ → ℕ → List (Argument (List ℕ)) → List (Event (List ℕ))
-section_end number column arguments = mark number column Unround Glued Apart ∷ one_word number None Glued arguments
+section_end number column arguments = mark number column CloseParenthesis Glued Apart ∷ one_word number None Glued arguments
 
 abbrev pub section_text : ℕ → ℕ → List (Argument (List ℕ)) → List (Event (List ℕ))
 section_text number column [] = []

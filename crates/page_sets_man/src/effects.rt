@@ -10,7 +10,7 @@ use crate::rows::{Closes, Effect, Opens, Sets};
 use page_core_limits::LINE;
 use page_sets_lines::{
     Closer, Deed, HeadingName, Join, Leaf, LineOpener, Opener, OwnWord, Prologue, TagName,
-    first_of, read_after,
+    first_of, read_after, with_argument,
 };
 
 // The text of the first argument that begins after this many bytes.
@@ -44,7 +44,7 @@ fn indented(text: &[u8], start: usize) -> Opener<&[u8]>
     }
 }
 
-// What a macro opens, with arguments that begin after this many bytes.
+// What a macro opens (`SH SS PP LP P TP IP HP RS UR MT SY`), with arguments that begin after this many bytes.
 fn opener(opens: Opens, text: &[u8], start: usize) -> Option<Opener<&[u8]>>
     requires short { length text.now ≤ LINE }
     requires within { start ≤ length text.now }
@@ -63,7 +63,7 @@ fn opener(opens: Opens, text: &[u8], start: usize) -> Option<Opener<&[u8]>>
     }
 }
 
-// What a macro closes.
+// What a macro closes (`RE`, `UE`, `ME`, `YS`).
 fn closer(closes: Closes, text: &[u8], start: usize) -> Closer<&[u8]>
     requires short { length text.now ≤ LINE }
     requires within { start ≤ length text.now }
@@ -76,14 +76,14 @@ fn closer(closes: Closes, text: &[u8], start: usize) -> Closer<&[u8]>
     }
 }
 
-// What a macro or request changes, or prints before its words.
+// What a macro (`TH EX EE PD TQ B I SM SB OP`) or request changes, or prints before its words.
 fn leaf(sets: Sets, text: &[u8], start: usize) -> Leaf<&[u8]>
     requires short { length text.now ≤ LINE }
     requires within { start ≤ length text.now }
     ensures { leaf_seen result ≡ man.leaf sets (drop start text.now) (arguments_after start text.now) }
 {
     match sets {
-        Sets::Request(request) => Leaf::Request(request.with_argument(first_text(text, start))),
+        Sets::Request(request) => Leaf::Request(with_argument(request, first_text(text, start))),
         Sets::Title => Leaf::Prologue(Prologue::TH, &text[start..]),
         Sets::Example(begins) => Leaf::Example(begins),
         Sets::Distance => Leaf::Distance(first_text(text, start)),

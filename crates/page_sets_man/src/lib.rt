@@ -1,4 +1,7 @@
 //! The macros of man(7): what events a line has, by one table.
+//!
+//! A finished line of roff comes in, its events go out to the scopes. Read the table in `specs/Rows.antt` first (one row a macro; the same in
+//! `src/rows.rt`), then `specs/Man.antt`: the events that a row stands for.
 #![tactic(auto)]
 
 mod effects;

@@ -19,7 +19,7 @@ use page_sets_lines::{
     Closer, Deed, Event, Join, Leaf, LineOpener, PlainLine, find_name, open_quote,
 };
 
-/// The quote of an argument that lacks its last one: its column, and whether its message may begin the body of the
+/// The quote of an argument without its closing one: its column, and whether its message may begin the body of the
 /// page.
 #[derive(Clone, Copy)]
 pub(crate) struct Quote {
@@ -95,7 +95,7 @@ fn event_at<'a>(number: u32, column: u32, deed: Deed<&'a [u8]>) -> Event<&'a [u8
     }
 }
 
-// The message about a missing last quote.
+// The message about a missing closing quote.
 fn quote_deed<'a>(quote: Quote) -> Deed<&'a [u8]>
     ensures { deed_seen result ≡ man.quote_deed quote }
 {
@@ -127,7 +127,7 @@ fn front_deed<'a>(front: Front, line: Taken<'a>, rest: usize) -> Option<Deed<&'a
     }
 }
 
-// The quote that is told ahead, in a column.
+// The quote in a column that is reported early.
 fn quote_at(begins_body: bool, column: Option<u32>) -> Option<Quote>
     ensures { result ≡ man.quote_at begins_body column }
 {
@@ -140,7 +140,7 @@ fn quote_at(begins_body: bool, column: Option<u32>) -> Option<Quote>
     }
 }
 
-// The quote that is told ahead, if one of the arguments that begin after this many bytes lacks its last one.
+// The quote that is reported early, if one of the arguments that begin after this many bytes lacks its closing one.
 fn missing_quote(quotes: Quotes, text: &[u8], start: usize) -> Option<Quote>
     requires short { length text.now ≤ LINE }
     requires within { start ≤ length text.now }

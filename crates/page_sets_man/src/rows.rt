@@ -4,7 +4,8 @@ ghost use Rattle.std.specs.Prelude.{◌≡◌};
 ghost use Rattle.page_sets_man.specs.Rows as rows;
 
 use page_core_base::Font;
-use page_sets_lines::{FontMacro, LayoutRequest, LineOpener, Link, Own, ParagraphName};
+use page_roff_requests::LayoutRequest;
+use page_sets_lines::{FontMacro, LineOpener, Link, Own, ParagraphName, layout_request};
 
 /// A scope that a macro opens.
 #[derive(Clone, Copy)]
@@ -60,12 +61,12 @@ pub(crate) enum Alone {
     Scope(LineOpener),
 }
 
-/// Which arguments are told ahead to lack their last quote.
+/// Of which arguments a missing closing quote is reported early, before the macro has its effect.
 #[derive(Clone, Copy)]
 pub(crate) enum Quotes {
-    /// None: all arguments are printed, and told then.
+    /// Of none: all arguments are printed, and it is reported then.
     Printed,
-    /// All but this many at the front.
+    /// Of all but this many at the front.
     After(usize),
     /// The same, of a macro that begins the body of a page.
     BodyAfter(usize),
@@ -145,9 +146,9 @@ fn opening(printed: usize, opens: Opens) -> Row
     )
 }
 
-// The same of one that needs an argument.
-fn needy_opening(printed: usize, opens: Opens) -> Row
-    ensures { result ≡ rows.needy_opening printed opens }
+// A macro that opens a scope only if it has an argument.
+fn opening_with_argument(printed: usize, opens: Opens) -> Row
+    ensures { result ≡ rows.opening_with_argument printed opens }
 {
     block(
         Alone::Empty,
@@ -191,9 +192,9 @@ fn font_words(name: FontMacro, font: Font) -> Row
     }
 }
 
-// Words that stand in no font of the macro's, or in several.
-fn wordy(quotes: Quotes, effect: Effect, words: Words, last: Last) -> Row
-    ensures { result ≡ rows.wordy quotes effect words last }
+// A macro that needs words, which stand in no font of its own, or in several.
+fn needs_words(quotes: Quotes, effect: Effect, words: Words, last: Last) -> Row
+    ensures { result ≡ rows.needs_words quotes effect words last }
 {
     Row {
         alone: Alone::Empty,
@@ -209,7 +210,7 @@ fn wordy(quotes: Quotes, effect: Effect, words: Words, last: Last) -> Row
 fn alternating(font: Font, other: Font) -> Row
     ensures { result ≡ rows.alternating font other }
 {
-    wordy(
+    needs_words(
         Quotes::Printed,
         Effect::Nothing,
         Words::Alternating { font, other },
@@ -221,11 +222,11 @@ fn alternating(font: Font, other: Font) -> Row
 fn option() -> Row
     ensures { result ≡ rows.option }
 {
-    wordy(
+    needs_words(
         Quotes::BodyAfter(2),
-        Effect::Sets(Sets::Mark(Own::Square)),
+        Effect::Sets(Sets::Mark(Own::OpenBracket)),
         Words::Option,
-        Last::Mark(Own::Unsquare),
+        Last::Mark(Own::CloseBracket),
     )
 }
 
@@ -233,7 +234,7 @@ fn option() -> Row
 fn reference() -> Row
     ensures { result ≡ rows.reference }
 {
-    wordy(
+    needs_words(
         Quotes::BodyAfter(3),
         Effect::Nothing,
         Words::Reference,
@@ -279,11 +280,11 @@ fn structure_row(name: &[u8]) -> Option<Row>
         b"RE" => Some(closing(0, Closes::RelativeMargin)),
         b"EX" => Some(quiet(Sets::Example(true))),
         b"EE" => Some(quiet(Sets::Example(false))),
-        b"UR" => Some(needy_opening(0, Opens::Target(Link::UR))),
+        b"UR" => Some(opening_with_argument(0, Opens::Target(Link::UR))),
         b"UE" => Some(closing(1, Closes::Target(Link::UR))),
-        b"MT" => Some(needy_opening(0, Opens::Target(Link::MT))),
+        b"MT" => Some(opening_with_argument(0, Opens::Target(Link::MT))),
         b"ME" => Some(closing(1, Closes::Target(Link::MT))),
-        b"SY" => Some(needy_opening(1, Opens::Syntax)),
+        b"SY" => Some(opening_with_argument(1, Opens::Syntax)),
         b"YS" => Some(closing(0, Closes::Syntax)),
         b"PD" => Some(quiet(Sets::Distance)),
         b"AT" | b"DT" | b"UC" => Some(ignored()),
@@ -317,7 +318,7 @@ fn words_row(name: &[u8]) -> Option<Row>
 fn request_row(name: &[u8]) -> Option<Row>
     ensures { result ≡ rows.request_row name.now }
 {
-    let request = LayoutRequest::of(name)?;
+    let request = layout_request(name)?;
     Some(quiet(Sets::Request(request)))
 }
 

@@ -193,13 +193,25 @@ pub(crate) fn word_step<'a>(
         NextWord::SectionBegin => {
             first_of(line.text, rest)?;
             Some(Step {
-                event: mark(line.line, column, Own::Round, Join::Glued, Join::Glued),
+                event: mark(
+                    line.line,
+                    column,
+                    Own::OpenParenthesis,
+                    Join::Glued,
+                    Join::Glued,
+                ),
                 words: NextWord::Section,
                 rest,
             })
         }
         NextWord::SectionEnd => Some(Step {
-            event: mark(line.line, column, Own::Unround, Join::Glued, Join::Apart),
+            event: mark(
+                line.line,
+                column,
+                Own::CloseParenthesis,
+                Join::Glued,
+                Join::Apart,
+            ),
             words: NextWord::Suffix,
             rest,
         }),

@@ -1,4 +1,4 @@
-use Rattle.page_roff_source.proofs.CountLemmas.{taken_bound, given_bound, expansions_bound}
+use Rattle.page_roff_source.proofs.CountLemmas.{taken_bound, given_bound, expansions_bound, lines_bound}
 use Rattle.page_roff_source.proofs.laws.count_law.Goals as goal
 
 pub returns : goal.returns
@@ -6,4 +6,5 @@ returns c = record {
   taken = λ e line. taken_bound e line;
   given = λ e line. given_bound e line;
   expansions = λ e line. expansions_bound e line;
+  lines = λ e lines. lines_bound e lines;
 }

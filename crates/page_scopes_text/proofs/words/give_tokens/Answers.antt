@@ -6,8 +6,8 @@ use Rattle.page_scopes_text.proofs.PartedLemmas.{front_not_space, no_word, other
 use Rattle.page_scopes_text.specs.Words.{pen_through}
 use Rattle.page_scopes_text.proofs.words.give_tokens.Goals as goal
 
-pub give_token-requires : goal.give_token-requires
-give_token-requires g c =
+pub give_printed-requires : goal.give_printed-requires
+give_printed-requires g c =
     let l = c.loop-place in
     let t : begins_word l.rest.now ≡ true = sym c.begins_word.ensures ∙ c.loop-place-test.true in
     ap is_space c.read_token-token.ensures.value ∙ front_not_space c.args.quoted l.rest.now t
@@ -28,7 +28,7 @@ loop-place-preserved g c =
     let d = length-drop n l.rest.now in
     let w = rw v.value at v.within in
     rw (take_rest l.rest.now n, c.pass.ensures, v.value) (record {
-      came = λ plan rest h. (rw v.value at c.give_token.ensures) plan _ (rw (items, append_assoc) at (i.came plan rest h));
+      came = λ plan rest h. (rw v.value at c.give_printed.ensures) plan _ (rw (items, append_assoc) at (i.came plan rest h));
       pen = i.pen ∙ pens;
       others = others ∙ i.others;
       column = omega (arith, d, w, is, i.column);

@@ -1,8 +1,8 @@
 use Rattle.std.proofs.lemmas.Result.{err_from_is_err_and}
 use Rattle.page_roff_lines.specs.Cutting.{last_line}
 use Rattle.page_core_base.proofs.SinkLemmas.{within-join}
-use Rattle.page_engine_page.specs.Page.{settled, ended}
-use Rattle.page_engine_page.specs.Streams.{sinks}
+use Rattle.page_engine.specs.Page.{settled, ended}
+use Rattle.page_engine.specs.Streams.{sinks}
 use Rattle.page_engine.proofs.WholeRuns.{finished}
 use Rattle.page_engine.proofs.runs.Run.finish.Goals as goal
 

@@ -1,6 +1,6 @@
 use Rattle.std.proofs.Common.{◌≡◌, ◌<◌, ◌≤◌, ◌+◌, ◌-◌, ◌^◌, ◌++◌, [], refl, ◌∙◌, take, drop, length, length-append, append-nil, arith, inl, inr}
 use Rattle.std.proofs.lemmas.List.{length-take, take_all}
-use Rattle.page_engine_page.specs.Streams.{sinks}
+use Rattle.page_engine.specs.Streams.{sinks}
 use Rattle.page_engine.proofs.BytesRead.{given_none, given_more, given_end}
 use Rattle.page_engine.proofs.Through.{through_none, through_more, room_after, fresh_room, broken_chunk, cut_take, up_to}
 use Rattle.page_engine.proofs.WholeRuns.{ended_with, stopped_by}

@@ -1,6 +1,6 @@
 use Rattle.std.proofs.Common.{◌≡◌, ◌<◌, ◌^◌, ℕ, List, length}
 use Rattle.page_engine.specs.Sources.{HasGiven}
-use Rattle.page_engine_page.specs.Streams.{sinks}
+use Rattle.page_engine.specs.Streams.{sinks}
 use Rattle.page_engine.specs.Steps.{Through}
 use Rattle.page_engine.proofs.runs.Run.read_all.Given as goal
 

@@ -1,6 +1,7 @@
 use Rattle.std.proofs.Common.{sym, ap, ◌∙◌}
-use Rattle.page_roff_lines.specs.Cutting.{Point, end_point}
+use Rattle.page_roff_lines.specs.Cutting.{Point, end_point, line_at}
 use Rattle.page_roff_lines.proofs.PointLemmas.{open_point, free_point, end_point-is}
+use Rattle.page_roff_lines.proofs.LineAgreement.{ended-of_page}
 use Rattle.page_roff_lines.proofs.cutter.Cutter.end.Goals as goal
 
 pub returns-clause-point : goal.returns-clause-point
@@ -12,3 +13,6 @@ returns-clause-point c =
 pub returns-clause-line : goal.returns-clause-line
 returns-clause-line c =
     (end_point-is (open_point c.self.inside.encoding c.self.inside.line) c.end-self-inside.result c.end-self-inside.new.self c.end-self-inside.ensures.after c.end-self-inside.ensures.line).1
+
+pub returns-clause-of_page : goal.returns-clause-of_page
+returns-clause-of_page c = ended-of_page c.args.self.now.point _ (ap (λ p. line_at p) (sym (returns-clause-point c)) ∙ returns-clause-line c)

@@ -1,4 +1,4 @@
-use Rattle.std.proofs.Common.{ap, ◌∙◌}
+use Rattle.std.proofs.Common.{[], ap, ◌∙◌}
 use Rattle.page_roff_source.specs.PageMachines.{Running}
 use Rattle.page_roff_source.specs.Edges.{line_begun}
 use Rattle.page_roff_source.proofs.PageMachineLemmas.{none_in, few_in, begin_room, begin_edge, begin_invariant}
@@ -26,4 +26,4 @@ returns c =
     let a = c.self.inside in
     begin_edge a.machine c.begin.new.self a.source a.is_idle c.args.line.now c.args.number c.self.invariant
     (none_in a.machine a.source a.is_idle _ _ c.self.view_is c.requires.idle) c.begin.ensures
-    ∙ ap (λ (r : Running). line_begun r.edge (record { text = c.args.line.now; number = c.args.number })) c.self.view_is
+    ∙ ap (λ (r : Running). line_begun r.edge (record { text = c.args.line.now; number = c.args.number; notes = [] })) c.self.view_is

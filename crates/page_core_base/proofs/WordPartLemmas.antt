@@ -1,0 +1,241 @@
+-- The parts of a word, byte by byte.
+use Rattle.std.proofs.Common.{◌≡◌, ℕ, zero, suc, ◌+◌, ◌<◌, ◌≤◌, Bool, true, false, not, ◌==◌, List, [], ◌∷◌, ◌++◌, length, take, drop, get_or, if◌then◌else◌, refl, sym, ap, ◌∙◌, arith, inl, inr}
+use Rattle.std.specs.Bool.{⊤}
+use Rattle.std.specs.List.{list_all}
+use Rattle.std.proofs.lemmas.List.{drop_all, drop_more, take_all, take_more}
+use Rattle.std.proofs.lemmas.Bool.{cases_Bool}
+use Rattle.std.proofs.lemmas.Bool.Decides.{nat_tests}
+use Rattle.page_core_base.specs.Words.{begins_letter, ends_part, hyphen, in_first, last_start, parts_after, parts_of}
+
+pub parts-end : (before b : ℕ) (bytes : List ℕ) → ends_part before b bytes ≡ true → parts_after before (b ∷ bytes) ≡ (b ∷ []) ∷ parts_after b bytes
+unfolding parts_after
+parts-end before b bytes ends = rw ends refl
+
+pub parts-go : (before b : ℕ) (bytes : List ℕ) → ends_part before b bytes ≡ false → parts_after before (b ∷ bytes) ≡ in_first b (parts_after b bytes)
+unfolding parts_after
+parts-go before b bytes goes = rw goes refl
+
+-- after a hyphen, at which a part ends, the parts are those of a word
+pub parts-hyphen : (b : ℕ) (bytes : List ℕ) → (b == hyphen) ≡ true → parts_after b bytes ≡ parts_of bytes
+parts-hyphen b bytes is = let e : b ≡ hyphen = grind (arith, nat_tests, is) in rw e refl
+
+pub parts-some : (before b : ℕ) (bytes : List ℕ) → (length (parts_after before (b ∷ bytes)) == 0) ≡ false
+parts-some before b bytes = elim (cases_Bool (ends_part before b bytes)) [
+  | inl ends ↦ rw (parts-end before b bytes ends) (grind (arith, nat_tests))
+  | inr goes ↦ rw (parts-go before b bytes goes) (front-some (parts_after b bytes))
+]
+  where
+    front-some : (parts : List (List ℕ)) → (length (in_first b parts) == 0) ≡ false
+    front-some [] = grind (arith, nat_tests)
+    front-some (part ∷ parts) = grind (arith, nat_tests)
+
+-- ---- the first part, byte by byte
+
+-- these bytes stand in front of the first of some parts
+abbrev pub put_before : List ℕ → List (List ℕ) → List (List ℕ)
+put_before [] parts = parts
+put_before (b ∷ bytes) parts = in_first b (put_before bytes parts)
+
+-- the bytes before a place of a word are of its first part, and the last of them is known
+pub record GoesOn (word : List ℕ) (len before : ℕ) : Type 0 where
+  pub within : len ≤ length word
+  pub parts : parts_of word ≡ put_before (take len word) (parts_after before (drop len word))
+
+put-last : (front : List ℕ) (b : ℕ) (parts : List (List ℕ)) → put_before front (in_first b parts) ≡ put_before (front ++ b ∷ []) parts
+put-last [] b parts = refl
+put-last (c ∷ front) b parts = ap (in_first c) (put-last front b parts)
+
+put-part : (front part : List ℕ) (parts : List (List ℕ)) → put_before front (part ∷ parts) ≡ (front ++ part) ∷ parts
+put-part [] part parts = refl
+put-part (c ∷ front) part parts = ap (in_first c) (put-part front part parts)
+
+pub goes-first : (word : List ℕ) → GoesOn word 0 hyphen
+goes-first word = record { within = omega arith; parts = refl }
+
+pub goes-more : (word : List ℕ) (len before : ℕ) → len < length word → GoesOn word len before
+    → ends_part before (get_or word len 0) (drop (len + 1) word) ≡ false → GoesOn word (len + 1) (get_or word len 0)
+goes-more word len before within goes on =
+    let b = get_or word len 0 in
+    let rest = drop (len + 1) word in
+    record {
+      within = omega (arith, within);
+      parts =
+          goes.parts ∙ ap (λ (bs : List ℕ). put_before (take len word) (parts_after before bs)) (drop_more word len 0 within)
+          ∙ ap (put_before (take len word)) (parts-go before b rest on)
+          ∙ put-last (take len word) b (parts_after b rest)
+          ∙ ap (λ (front : List ℕ). put_before front (parts_after b rest)) (sym (take_more word len 0 within));
+    }
+
+-- the part ends after the next byte
+pub goes-ends : (word : List ℕ) (len before : ℕ) → len < length word → GoesOn word len before
+    → ends_part before (get_or word len 0) (drop (len + 1) word) ≡ true → parts_of word ≡ take (len + 1) word ∷ parts_of (drop (len + 1) word)
+goes-ends word len before within goes ends =
+    let b = get_or word len 0 in
+    let rest = drop (len + 1) word in
+    let is : (b == hyphen) ≡ true = grind (arith, ends) in
+    goes.parts ∙ ap (λ (bs : List ℕ). put_before (take len word) (parts_after before bs)) (drop_more word len 0 within)
+    ∙ ap (put_before (take len word)) (parts-end before b rest ends)
+    ∙ put-part (take len word) (b ∷ []) (parts_after b rest)
+    ∙ ap (λ (parts : List (List ℕ)). (take len word ++ b ∷ []) ∷ parts) (parts-hyphen b rest is)
+    ∙ ap (λ (front : List ℕ). front ∷ parts_of rest) (sym (take_more word len 0 within))
+
+put-all : (b : ℕ) (bytes : List ℕ) → put_before (b ∷ bytes) [] ≡ (b ∷ bytes) ∷ []
+put-all b [] = refl
+put-all b (c ∷ bytes) = ap (in_first b) (put-all c bytes)
+
+put-word : (word : List ℕ) → (length word == 0) ≡ false → put_before word [] ≡ word ∷ []
+put-word [] some = absurd (grind (arith, nat_tests, some))
+put-word (b ∷ bytes) some = put-all b bytes
+
+-- the word is one part
+pub goes-all : (word : List ℕ) (len before : ℕ) → (length word == 0) ≡ false → length word ≤ len → GoesOn word len before → parts_of word ≡ take len word ∷ parts_of (drop len word)
+unfolding parts_after
+goes-all word len before some end goes =
+    let all : take len word ≡ word = take_all len word end in
+    let none : drop len word ≡ [] = drop_all len word end in
+    goes.parts ∙ (rw (all, none) (put-word word some))
+
+-- ---- the last part, byte by byte
+
+abbrev HasFirst : List (List ℕ) → Type 0
+HasFirst [] = ⊤
+HasFirst (part ∷ parts) = 0 < length part
+
+parts-first : (before : ℕ) (bytes : List ℕ) → HasFirst (parts_after before bytes)
+unfolding parts_after
+parts-first before [] = tt
+parts-first before (b ∷ bytes) = elim (cases_Bool (ends_part before b bytes)) [
+  | inl ends ↦ rw ends (omega arith)
+  | inr goes ↦ rw goes (front-first b (parts_after b bytes))
+]
+  where
+    front-first : (b : ℕ) (parts : List (List ℕ)) → HasFirst (in_first b parts)
+    front-first b [] = omega arith
+    front-first b (part ∷ parts) = omega arith
+
+front-start : (b : ℕ) (parts : List (List ℕ)) → HasFirst parts → last_start (in_first b parts) ≡ (if last_start parts == 0 then 0 else 1 + last_start parts)
+front-start b [] first = refl
+front-start b (part ∷ []) first = refl
+front-start b (part ∷ next ∷ parts) first =
+    let two : (length (next ∷ parts) == 0) ≡ false = grind (arith, nat_tests) in
+    let later = if length parts == 0 then 0 else length next + last_start parts in
+    let some : (length part + later == 0) ≡ false = grind (arith, nat_tests, first) in
+    rw (two, some) (omega arith)
+
+parts-more : (before : ℕ) (bytes : List ℕ) → begins_letter bytes ≡ true → (length (parts_after before bytes) == 0) ≡ false
+parts-more before [] letter = absurd (never letter)
+  where
+    never : false ≡ true → ⊥
+    never e = cc
+parts-more before (b ∷ bytes) letter = parts-some before b bytes
+
+start-ends : (before b : ℕ) (bytes : List ℕ) → ends_part before b bytes ≡ true → last_start (parts_after before (b ∷ bytes)) ≡ 1 + last_start (parts_after b bytes)
+start-ends before b bytes ends =
+    let letter : begins_letter bytes ≡ true = grind (arith, ends) in
+    rw (parts-end before b bytes ends, parts-more b bytes letter) refl
+
+start-goes : (before b : ℕ) (bytes : List ℕ) → ends_part before b bytes ≡ false
+    → last_start (parts_after before (b ∷ bytes)) ≡ (if last_start (parts_after b bytes) == 0 then 0 else 1 + last_start (parts_after b bytes))
+start-goes before b bytes goes = rw (parts-go before b bytes goes) (front-start b (parts_after b bytes) (parts-first b bytes))
+
+-- the last part begins in what stands after a place, or at a place before that
+abbrev pub begun : (start len later : ℕ) → ℕ
+begun start len later = if later == 0 then start else len + later
+
+pub record StartsBy (word : List ℕ) (len before start : ℕ) : Type 0 where
+  pub within : len ≤ length word
+  pub start_within : start ≤ len
+  pub is : last_start (parts_of word) ≡ begun start len (last_start (parts_after before (drop len word)))
+
+pub starts-first : (word : List ℕ) → StartsBy word 0 hyphen 0
+starts-first word = record { within = omega arith; start_within = omega arith; is = first (last_start (parts_of word)) }
+  where
+    first : (n : ℕ) → n ≡ begun 0 0 n
+    first zero = refl
+    first (suc n) = let some : (suc n == 0) ≡ false = grind (arith, nat_tests) in rw some (omega arith)
+
+begun-ends : (start len later : ℕ) → begun start len (1 + later) ≡ begun (len + 1) (len + 1) later
+begun-ends start len later =
+    let one : (1 + later == 0) ≡ false = grind (arith, nat_tests) in
+    elim (cases_Bool (later == 0)) [
+      | inl none ↦ rw (one, none) (grind (arith, nat_tests, none))
+      | inr some ↦ rw (one, some) (omega arith)
+    ]
+
+begun-goes : (start len later : ℕ) → begun start len (if later == 0 then 0 else 1 + later) ≡ begun start (len + 1) later
+begun-goes start len later =
+    let one : (1 + later == 0) ≡ false = grind (arith, nat_tests) in
+    elim (cases_Bool (later == 0)) [
+      | inl none ↦ rw none refl
+      | inr some ↦ rw (some, one) (omega arith)
+    ]
+
+pub starts-ends : (word : List ℕ) (len before start : ℕ) → len < length word → StartsBy word len before start
+    → ends_part before (get_or word len 0) (drop (len + 1) word) ≡ true → StartsBy word (len + 1) (get_or word len 0) (len + 1)
+starts-ends word len before start within starts ends =
+    let b = get_or word len 0 in
+    let rest = drop (len + 1) word in
+    record {
+      within = omega (arith, within);
+      start_within = omega arith;
+      is =
+          starts.is ∙ ap (λ (bs : List ℕ). begun start len (last_start (parts_after before bs))) (drop_more word len 0 within)
+          ∙ ap (begun start len) (start-ends before b rest ends)
+          ∙ begun-ends start len (last_start (parts_after b rest));
+    }
+
+pub starts-goes : (word : List ℕ) (len before start : ℕ) → len < length word → StartsBy word len before start
+    → ends_part before (get_or word len 0) (drop (len + 1) word) ≡ false → StartsBy word (len + 1) (get_or word len 0) start
+starts-goes word len before start within starts goes =
+    let b = get_or word len 0 in
+    let rest = drop (len + 1) word in
+    record {
+      within = omega (arith, within);
+      start_within = omega (arith, starts.start_within);
+      is =
+          starts.is ∙ ap (λ (bs : List ℕ). begun start len (last_start (parts_after before bs))) (drop_more word len 0 within)
+          ∙ ap (begun start len) (start-goes before b rest goes)
+          ∙ begun-goes start len (last_start (parts_after b rest));
+    }
+
+pub starts-all : (word : List ℕ) (len before start : ℕ) → length word ≤ len → StartsBy word len before start → start ≡ last_start (parts_of word)
+unfolding parts_after
+starts-all word len before start end starts =
+    let none : drop len word ≡ [] = drop_all len word end in
+    sym (rw none at starts.is)
+
+-- ---- all parts
+
+-- the bytes of parts
+abbrev pub joined : List (List ℕ) → List ℕ
+joined [] = []
+joined (part ∷ parts) = part ++ joined parts
+
+joined-front : (b : ℕ) (parts : List (List ℕ)) → joined (in_first b parts) ≡ b ∷ joined parts
+joined-front b [] = refl
+joined-front b (part ∷ parts) = refl
+
+-- the parts of a word are that word
+pub joined-after : (before : ℕ) (bytes : List ℕ) → joined (parts_after before bytes) ≡ bytes
+unfolding parts_after
+joined-after before [] = refl
+joined-after before (b ∷ bytes) = elim (cases_Bool (ends_part before b bytes)) [
+  | inl ends ↦ rw ends (ap (λ (bs : List ℕ). b ∷ bs) (joined-after b bytes))
+  | inr goes ↦ rw goes (joined-front b (parts_after b bytes) ∙ ap (λ (bs : List ℕ). b ∷ bs) (joined-after b bytes))
+]
+
+pub joined-parts : (word : List ℕ) → joined (parts_of word) ≡ word
+joined-parts word = joined-after hyphen word
+
+-- none of them is empty
+front-full : (b : ℕ) (parts : List (List ℕ)) → list_all (λ (part : List ℕ). not (length part == 0)) parts ≡ true → list_all (λ (part : List ℕ). not (length part == 0)) (in_first b parts) ≡ true
+front-full b [] full = grind (arith, nat_tests)
+front-full b (part ∷ parts) full = grind (arith, nat_tests, full)
+
+pub parts-full : (before : ℕ) (bytes : List ℕ) → list_all (λ (part : List ℕ). not (length part == 0)) (parts_after before bytes) ≡ true
+unfolding parts_after
+parts-full before [] = refl
+parts-full before (b ∷ bytes) = elim (cases_Bool (ends_part before b bytes)) [
+  | inl ends ↦ let others = parts-full b bytes in rw ends (grind (arith, nat_tests, others))
+  | inr goes ↦ rw goes (front-full b (parts_after b bytes) (parts-full b bytes))
+]

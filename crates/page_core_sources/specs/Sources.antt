@@ -1,0 +1,24 @@
+-- A source of bytes, as its counts show it.
+use Rattle.std.specs.Prelude.{◌≡◌, ℕ, ◌+◌, ◌-◌, ◌^◌, min, List, Option, length}
+use Rattle.std.specs.Io.KnownBytes.{Consumes}
+
+-- the bytes to come, where they are known; how often it failed and was asked, and how many bytes it gave
+pub record SourceState : Type 0 where
+  pub remaining : Option (List ℕ)
+  pub failed : ℕ
+  pub calls : ℕ
+  pub given : ℕ
+
+abbrev pub source_state : Option (List ℕ) → ℕ → ℕ → ℕ → SourceState
+source_state remaining failed calls given =
+    record { remaining = remaining; failed = failed; calls = calls; given = given }
+
+-- a count with more, which stays at 2^64 - 1
+abbrev pub counted : ℕ → ℕ → ℕ
+counted count more = count + min more (2 ^ 64 - 1 - count)
+
+-- by this number of calls it gave these bytes
+pub record HasGiven (s t : SourceState) (asked : ℕ) (bytes : List ℕ) : Type 0 where
+  pub read : Consumes s.remaining t.remaining bytes
+  pub calls : t.calls ≡ counted s.calls asked
+  pub given : t.given ≡ counted s.given (length bytes)

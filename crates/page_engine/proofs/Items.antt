@@ -1,0 +1,68 @@
+-- One item through a filler.
+use Rattle.std.proofs.Common.{◌≡◌, ℕ, List, [], ◌∷◌, Option, Some, Result, Ok, Err, MatchResult, OnOk, refl, append-nil, ◌∙◌}
+use Rattle.page_core_base.specs.Sinks.{IsSink}
+use Rattle.page_core_base.specs.Messages.{Message}
+use Rattle.page_core_base.specs.Rows.{LaidRow}
+use Rattle.page_core_base.specs.declared.faults.Fault.{Fault}
+use Rattle.page_core_base.specs.declared.pieces.Piece.{Piece}
+use Rattle.page_core_base.specs.Laid.{Laid, Gets, join}
+use Rattle.page_core_base.specs.Fails.{FailsBySink}
+use Rattle.page_fill.specs.declared.words.Edge.{Edge as FillEdge}
+use Rattle.page_fill.specs.Fill as fill
+use Rattle.page_core_base.specs.Pieces.{Item, shown}
+use Rattle.page_fill.specs.Items.{laid_item, laid_items}
+use Rattle.page_engine.specs.PageSinks.{Passed, Broken, Ends, cause_later}
+
+pub laid_items_one : (row : FillEdge) (x : Item) → laid_items row (x ∷ []) ≡ laid_item row x
+unfolding laid_items
+laid_items_one row x = rw (append-nil, append-nil) refl
+
+-- what a filler says of a piece is what is asked of a sink
+pub piece_passes : {R N : Type 0} (rg rw_ : R → List LaidRow → R → Type 0) (rf : R → ℕ) (ng nw : N → List Message → N → Type 0) (nf : N → ℕ)
+    (res : Result (Unit {0}) Fault) (f f' : Option FillEdge) (r r' : R) (n n' : N) (piece : Piece (List ℕ))
+    → ((e : FillEdge) → f ≡ Some e → Gets res rg rw_ ng nw r r' n n' (fill.laid_piece e piece))
+    → ((e : FillEdge) → f ≡ Some e → OnOk res (f' ≡ Some (fill.laid_piece e piece).edge))
+    → ((e : FillEdge) → f ≡ Some e → FailsBySink res (rf r) (rf r') (nf n) (nf n'))
+    → MatchResult res (λ _. (row : FillEdge) → f ≡ Some row → Passed rg rf ng nf f f' r r' n n' (laid_items row (shown piece ∷ [])))
+    (λ fault. (row : FillEdge) → f ≡ Some row → Broken rw_ rf nw nf r r' n n' fault (laid_items row (shown piece ∷ [])))
+piece_passes rg rw_ rf ng nw nf (Ok x) f f' r r' n n' piece gets edge faults = λ row e.
+    rw laid_items_one record { filler = edge row e; rows = (gets row e).rows; notes = (gets row e).notes; rows_failed = (faults row e).0; notes_failed = (faults row e).1 }
+piece_passes rg rw_ rf ng nw nf (Err x) f f' r r' n n' piece gets edge faults = λ row e.
+    rw laid_items_one record { rows = (gets row e).rows; notes = (gets row e).notes; cause = faults row e }
+
+-- items, and then the end of the row
+pub ends_after : {R N : Type 0} {rg rw_ : R → List LaidRow → R → Type 0} {rf : R → ℕ} {ng nw : N → List Message → N → Type 0} {nf : N → ℕ}
+    → IsSink rg rw_ → IsSink ng nw → {f f' : Option FillEdge} {r a : R} {n b : N} (a' : R) (b' : N) (res : Result (Unit {0}) Fault) (x y : Laid FillEdge)
+    → Passed rg rf ng nf f f' r a n b x → Gets res rg rw_ ng nw a a' b b' y → FailsBySink res (rf a) (rf a') (nf b) (nf b')
+    → Ends res rg rw_ rf ng nw nf r a' n b' (join x y)
+ends_after k l {r = r} {a = a} {n = n} {b = b} a' b' (Ok o) x y p g h =
+    (record { rows = k.more r a a' x.rows y.rows p.rows g.rows; notes = l.more n b b' x.notes y.notes p.notes g.notes }, h.0 ∙ p.rows_failed, h.1 ∙ p.notes_failed)
+ends_after k l {r = r} {a = a} {n = n} {b = b} a' b' (Err fault) x y p g h =
+    record { rows = k.after r a a' x.rows y.rows p.rows g.rows; notes = l.after n b b' x.notes y.notes p.notes g.notes; cause = rw (p.rows_failed, p.notes_failed) at h }
+
+pub broken_join : {R N : Type 0} {rg rw_ : R → List LaidRow → R → Type 0} {rf : R → ℕ} {ng nw : N → List Message → N → Type 0} {nf : N → ℕ}
+    → IsSink rg rw_ → IsSink ng nw → {r a : R} {n b : N} {fault : Fault} (x y : Laid FillEdge)
+    → Broken rw_ rf nw nf r a n b fault x → Broken rw_ rf nw nf r a n b fault (join x y)
+broken_join k l {r} {a} {n} {b} x y p =
+    record { rows = k.before r a x.rows y.rows p.rows; notes = l.before n b x.notes y.notes p.notes; cause = p.cause }
+
+-- items, and then a front of more
+pub broken_after : {R N : Type 0} {rg rw_ : R → List LaidRow → R → Type 0} {rf : R → ℕ} {ng nw : N → List Message → N → Type 0} {nf : N → ℕ}
+    → IsSink rg rw_ → IsSink ng nw → {f f' : Option FillEdge} {r a : R} {n b : N} {fault : Fault} (a' : R) (b' : N) (x y : Laid FillEdge)
+    → Passed rg rf ng nf f f' r a n b x → Broken rw_ rf nw nf a a' b b' fault y → Broken rw_ rf nw nf r a' n b' fault (join x y)
+broken_after k l {r = r} {a = a} {n = n} {b = b} {fault = fault} a' b' x y p q = record {
+  rows = k.after r a a' x.rows y.rows p.rows q.rows;
+  notes = l.after n b b' x.notes y.notes p.notes q.notes;
+  cause = cause_later fault _ _ _ _ _ _ p.rows_failed p.notes_failed q.cause;
+}
+
+-- items, and then the end of what comes after them
+pub ends_join : {R N : Type 0} {rg rw_ : R → List LaidRow → R → Type 0} {rf : R → ℕ} {ng nw : N → List Message → N → Type 0} {nf : N → ℕ}
+    → IsSink rg rw_ → IsSink ng nw → {f f' : Option FillEdge} {r a : R} {n b : N} (a' : R) (b' : N) (res : Result (Unit {0}) Fault) (x y : Laid FillEdge)
+    → Passed rg rf ng nf f f' r a n b x → Ends res rg rw_ rf ng nw nf a a' b b' y → Ends res rg rw_ rf ng nw nf r a' n b' (join x y)
+ends_join k l {r = r} {a = a} {n = n} {b = b} a' b' (Ok o) x y p q = (
+  record { rows = k.more r a a' x.rows y.rows p.rows q.0.rows; notes = l.more n b b' x.notes y.notes p.notes q.0.notes },
+  q.1 ∙ p.rows_failed,
+  q.2 ∙ p.notes_failed,
+)
+ends_join k l a' b' (Err fault) x y p q = broken_after k l a' b' x y p q

@@ -1,0 +1,33 @@
+use Rattle.std.proofs.Common.{refl, ap, ◌∙◌}
+use Rattle.page_roff_source.specs.Edges.{counts_of}
+use Rattle.page_engine_lines.specs.Lines.{LinesEdge}
+use Rattle.page_engine.proofs.Phases.{at_edge, edge_at, open_layers, no_cause}
+use Rattle.page_engine.proofs.pages.Page.take_line.Goals as goal
+
+pub returns-in-Err-clause-takes : goal.returns-in-Err-clause-takes
+returns-in-Err-clause-takes g c = λ e h free.
+    let i = open_layers c.self.inside.layers e c.self.view_is h in
+    (record { gave = c.in-Err.ensures.gets e i; cause = c.in-Err.ensures.faults e i }, c.in_default.ensures.begins.2)
+
+pub returns-in-Err-clause-works : goal.returns-in-Err-clause-works
+returns-in-Err-clause-works g c = λ e h free w.
+    let i = open_layers c.self.inside.layers e c.self.view_is h in
+    no_cause c.in-Err.fault _ _ _ _ w.rows_room w.rows w.notes_room w.notes (c.in-Err.ensures.faults e i)
+
+pub returns-clause-takes : goal.returns-clause-takes
+returns-clause-takes g c = λ e h free.
+    let i = open_layers c.self.inside.layers e c.self.view_is h in
+    let done = c.in_default-take_line.ensures in
+    let f = done.faults e i in
+    let at = done.edge e i in (
+      record { gave = done.gets e i; rows_quiet = f.0; notes_quiet = f.1 },
+      record {
+        phase = refl;
+        edge = edge_at _ _ at;
+        worst = at.worst_level;
+        counts = c.counts-self-inside.ensures ∙ ap (λ (l : LinesEdge). counts_of l.roff) at.lines;
+      },
+    )
+
+pub returns-clause-within : goal.returns-clause-within
+returns-clause-within g c = λ e h. c.caps_law.ensures e (at_edge _ e h)

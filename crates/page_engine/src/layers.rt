@@ -1,0 +1,198 @@
+//! The layers of a page: lines become rows and messages.
+
+ghost use Rattle.std.specs.Prelude.{◌≡◌, ◌<◌, ◌≤◌, ◌+◌, ◌^◌, ℕ, true, false, OnOk, IfOk, IfErr, length, Some, None};
+ghost use Rattle.page_core_base.specs.Fails.{FailsBySink};
+ghost use Rattle.page_core_base.specs.Laid.{Gets};
+ghost use Rattle.page_core_base.specs.Texts.{IsLine};
+ghost use Rattle.page_roff_lines.specs.Cutting.{line_of};
+ghost use Rattle.page_roff_source.specs.Edges.{counts_of};
+ghost use Rattle.page_fill.specs.declared.words.Edge.{Edge as FillEdge};
+ghost use Rattle.page_engine.specs.Layers.{IsAt};
+ghost use Rattle.page_engine.specs.Within.{IsWithin};
+ghost use Rattle.page_engine.specs.Page.{Edge, settled_text, settled_line, ended, end_laid, start};
+ghost use Rattle.page_engine.specs.PageSinks.{Ends};
+
+use crate::level_filters::LevelFilter;
+use crate::page_sinks::PageSink;
+use page_core_base::{Fault, Level, NoteSink, RowSink, Settings};
+use page_engine_lines::PageLines;
+use page_fill::Filler;
+use page_roff_lines::Cutter;
+use page_roff_source::Counts;
+use std::alloc::Global;
+
+/// The layers of a page, and what it keeps beside them.
+#[derive(Drop)]
+pub(crate) struct Layers {
+    pub(crate) filler: Filler,
+    pub(crate) lines: PageLines,
+    pub(crate) least: Option<Level>,
+    pub(crate) worst: Option<Level>,
+    pub(crate) last: u32,
+}
+
+impl<R: RowSink, N: NoteSink> PageSink<'_, '_, '_, R, N> {
+    // Ends the body after a line, gives the footer, and ends the filling.
+    fn end(&mut self, lines: &mut PageLines, last: u32) -> Result<(), Fault>
+        ensures ends { (f : FillEdge) (e : Edge) → self.old.filler.now ≡ Some f → f ≡ e.fill
+            → lines.old ≡ e.lines → last ≡ e.last →
+            Ends result R.gave R.within R.failed ⟦<LevelFilter<'static, N> as NoteSink>⟧.gave
+            ⟦<LevelFilter<'static, N> as NoteSink>⟧.within ⟦<LevelFilter<'static, N> as NoteSink>⟧.failed
+            self.old.rows.now self.new.rows.now self.old.notes self.new.notes (end_laid e) }
+        ensures filler { self.new.filler.ghost_name ≡ self.old.filler.ghost_name }
+        ensures rows { self.new.rows.ghost_name ≡ self.old.rows.ghost_name }
+        ensures notes { self.new.notes.notes.ghost_name ≡ self.old.notes.notes.ghost_name }
+        ensures rows_same { R.loans self.new.rows.now ≡ R.loans self.old.rows.now }
+        ensures notes_same { N.loans self.new.notes.notes.now ≡ N.loans self.old.notes.notes.now }
+    {
+        if let Err(fault) = lines.end(self, last) {
+            return Err(fault);
+        }
+        let blank_rows = self.filler.blank_rows();
+        if let Err(fault) = lines.footer(self, last, blank_rows) {
+            return Err(fault);
+        }
+        self.filler.finish(self.rows, &mut self.notes)
+    }
+}
+
+impl Layers {
+    /// The start of a page of settings that pass their check. Its fault is [`Fault::Memory`].
+    pub(crate) fn new(alloc: Global, settings: &Settings) -> Result<Layers, Fault>
+        ensures ok { IfOk result (λ p. IsAt p (start settings.now)) }
+        ensures fault { IfErr result (λ fault. fault ≡ Fault.Memory) }
+    {
+        let filler = Filler::new(alloc, settings)?;
+        let lines = PageLines::new(alloc, settings)?;
+        Ok(Layers {
+            filler,
+            lines,
+            least: settings.least,
+            worst: None,
+            last: 1,
+        })
+    }
+
+    /// Takes a line, and gives what it settles. After a fault, which is one of a sink, the layers are not to be
+    /// used again.
+    pub(crate) fn feed<R: RowSink, N: NoteSink>(
+        &mut self,
+        text: &[u8],
+        number: u32,
+        rows: &mut R,
+        notes: &mut N,
+    ) -> Result<(), Fault>
+        requires line { IsLine text.now }
+        requires count { self.old.lines.roff.source < 2 ^ 31 }
+        ensures gets { (e : Edge) → IsAt self.old e →
+            Gets result R.gave R.within N.gave N.within rows.old rows.new notes.old notes.new
+            (settled_text e text.now number) }
+        ensures edge { (e : Edge) → IsAt self.old e →
+            OnOk result (IsAt self.new (settled_text e text.now number).edge) }
+        ensures source { self.new.lines.roff.source ≡ self.old.lines.roff.source + 1 }
+        ensures faults { (e : Edge) → IsAt self.old e →
+            FailsBySink result (R.failed rows.old) (R.failed rows.new)
+            (N.failed notes.old) (N.failed notes.new) }
+        ensures rows_same { R.loans rows.new ≡ R.loans rows.old }
+        ensures notes_same { N.loans notes.new ≡ N.loans notes.old }
+    {
+        let notes = LevelFilter {
+            notes,
+            least: self.least,
+            worst: self.worst,
+        };
+        let mut sink = PageSink {
+            filler: &mut self.filler,
+            rows,
+            notes,
+        };
+        let result = self.lines.line(&mut sink, number, text);
+        self.worst = sink.notes.worst;
+        self.last = number;
+        result
+    }
+}
+
+impl Layers {
+    /// Takes the line that a cutter has, and gives what it settles. After a fault, which is one of a sink, the
+    /// layers are not to be used again.
+    pub(crate) fn take_line<R: RowSink, N: NoteSink>(
+        &mut self,
+        cutter: &mut Cutter,
+        rows: &mut R,
+        notes: &mut N,
+    ) -> Result<(), Fault>
+        requires ready { cutter.old.ready ≡ true }
+        requires count { self.old.lines.roff.source < 2 ^ 31 }
+        ensures gets { (e : Edge) → IsAt self.old e →
+            Gets result R.gave R.within N.gave N.within rows.old rows.new notes.old notes.new
+            (settled_line e (line_of cutter.old.point)) }
+        ensures edge { (e : Edge) → IsAt self.old e →
+            OnOk result (IsAt self.new (settled_line e (line_of cutter.old.point)).edge) }
+        ensures source { OnOk result (self.new.lines.roff.source ≡ self.old.lines.roff.source + 1) }
+        ensures faults { (e : Edge) → IsAt self.old e →
+            FailsBySink result (R.failed rows.old) (R.failed rows.new)
+            (N.failed notes.old) (N.failed notes.new) }
+        ensures point { OnOk result (cutter.new.point ≡ cutter.old.point) }
+        ensures ready { OnOk result (cutter.new.ready ≡ false) }
+        ensures rows_same { R.loans rows.new ≡ R.loans rows.old }
+        ensures notes_same { N.loans notes.new ≡ N.loans notes.old }
+    {
+        let mut filter = LevelFilter {
+            notes: &mut *notes,
+            least: self.least,
+            worst: self.worst,
+        };
+        let line = cutter.line(&mut filter);
+        self.worst = filter.worst;
+        let (text, number) = line?;
+        self.feed(text, number, rows, notes)
+    }
+}
+
+impl Layers {
+    /// Ends the page. After that the layers are not to be used again.
+    pub(crate) fn end<R: RowSink, N: NoteSink>(
+        &mut self,
+        rows: &mut R,
+        notes: &mut N,
+    ) -> Result<(), Fault>
+        ensures gets { (e : Edge) → IsAt self.old e →
+            Gets result R.gave R.within N.gave N.within rows.old rows.new notes.old notes.new (ended e) }
+        ensures worst { (e : Edge) → IsAt self.old e → OnOk result (self.new.worst ≡ (ended e).edge.worst) }
+        ensures faults { (e : Edge) → IsAt self.old e →
+            FailsBySink result (R.failed rows.old) (R.failed rows.new)
+            (N.failed notes.old) (N.failed notes.new) }
+        ensures rows_same { R.loans rows.new ≡ R.loans rows.old }
+        ensures notes_same { N.loans notes.new ≡ N.loans notes.old }
+    {
+        let notes = LevelFilter {
+            notes,
+            least: self.least,
+            worst: self.worst,
+        };
+        let mut sink = PageSink {
+            filler: &mut self.filler,
+            rows,
+            notes,
+        };
+        let result = sink.end(&mut self.lines, self.last);
+        self.worst = sink.notes.worst;
+        result
+    }
+
+    /// What was counted so far.
+    pub(crate) fn counts(&self) -> Counts
+        ensures { result ≡ counts_of self.now.lines.roff }
+    {
+        self.lines.counts()
+    }
+
+    /// What is held between two lines is within its limits.
+    pub(crate) fn caps_law(&self)
+        ensures { (e : Edge) → IsAt self.now e → IsWithin e }
+    {
+        self.filler.caps_law();
+        self.lines.caps_law();
+    }
+}

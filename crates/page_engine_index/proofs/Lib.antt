@@ -1,0 +1,6 @@
+pub mod FieldLemmas
+pub mod MatchLemmas
+pub mod RowLemmas
+pub mod LineLemmas
+pub mod SearchLemmas
+pub mod LawLemmas

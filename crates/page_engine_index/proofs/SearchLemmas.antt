@@ -1,0 +1,463 @@
+-- A run as far as it has come: the lines that were read, and the line that is open.
+use Rattle.std.proofs.Common.{◌≡◌, ℕ, zero, suc, ◌+◌, ◌-◌, ◌<◌, ◌≤◌, ◌^◌, Bool, true, false, List, [], ◌∷◌, ◌++◌, length, take, drop, get_or, add-one, nat_le, Option, Some, None, Result, Ok, Err, MatchResult, refl, sym, ap, subst, ◌∙◌, arith, inl, inr, append_assoc, append-nil, length-append, codes}
+use Rattle.std.specs.Prelude.{if◌then◌else◌}
+use Rattle.std.specs.List.{flat_map}
+use Rattle.std.specs.Str.{bytes_eq}
+use Rattle.std.proofs.lemmas.Bool.{cases_Bool, false≢true, lt-leb, eqb-true}
+use Rattle.std.proofs.lemmas.Slice.Eq.{bytes_eq-Decides}
+use Rattle.std.proofs.lemmas.Grind.{flat_map-append, common_steps}
+use Rattle.std.specs.Io.KnownBytes.{IsAtEnd}
+use Rattle.std.proofs.lemmas.List.{take-take, take-append-drop, take_at, take_all, length-take}
+use Rattle.std.proofs.Math.Seq.{split_at}
+use Rattle.memchr.specs.Find.{IsFirstByte, is_byte}
+use Rattle.page_engine_index.proofs.FieldLemmas.{front_none}
+use Rattle.page_core_sources.specs.Sources.{SourceState}
+use Rattle.page_core_base.specs.Sinks.{IsSink}
+use Rattle.page_core_base.specs.Fails.{Rose}
+use Rattle.page_core_base.specs.declared.faults.Fault.{Fault}
+use Rattle.page_core_base.specs.declared.faults.Fault.TheVariants.{Memory, Read, WriteText, WriteNotes, TooLong, Settings, Failed, Ended, BadIndex}
+use Rattle.page_core_limits.specs.declared.TheConstants.{LINE}
+use Rattle.page_engine_index.specs.Entries.{Line, Entry, Index, all_read, with_entries, bad_at, lines, whole_lines, index_from, index, whole_index, entry_of, version_of}
+use Rattle.page_engine_index.specs.Whatis.{Asked, rows, row_of}
+use Rattle.page_engine_index.specs.Searches.{RowsTo, ReadWhole, Searches, Stopped, FoundBad, Quiet, HasCause}
+use Rattle.page_engine_index.specs.Steps.{Here, TookLine, TookPart, TakesPart, TakesOpen, BreaksIn, LineBroke, LineStops, IsNext, IsBad, index_at, StoppedIn, BrokeWriting, CameToBad, GivesRows, EndedWell, EndStops, Finishes, IsFresh, open_line}
+use Rattle.page_engine_index.specs.declared.entries.Place.{Place}
+use Rattle.page_engine_index.specs.declared.entries.Version.{Version}
+use Rattle.page_engine_index.specs.declared.searches.Search.{Search}
+use Rattle.page_engine_index.proofs.LineLemmas.{HasNoFeed, no_feed_all, whole-append, open-append, lines-append, no_feed-append, open_no_feed, whole_flat, open_flat, whole_end, open_end, lines_end, lines_begun, lines_flat, no_lines, whole_most}
+
+-- ---- entries and their rows
+
+with_more : (xs ys : List Entry) (i : Index) → with_entries xs (with_entries ys i) ≡ with_entries (xs ++ ys) i
+with_more xs ys i = ap (λ (es : List Entry). let r : Index = record { entries = es; bad = i.bad } in r) (sym (append_assoc xs ys i.entries))
+
+rows_more : (q : Asked) (xs ys : List Entry) → rows q (xs ++ ys) ≡ rows q xs ++ rows q ys
+rows_more q xs ys = flat_map-append (row_of q) xs ys
+
+none_left : (version : Option Version) (n : ℕ) → index_from version n [] ≡ all_read
+unfolding index_from
+none_left None n = refl
+none_left (Some v) n = refl
+
+number_of : {m n : ℕ} → BadIndex m ≡ BadIndex n → m ≡ n
+number_of e = cc
+
+-- ---- before the first byte
+
+pub here_start : {L : Type 0} (k : RowsTo L) (q : Asked) → IsSink k.to.gave k.to.within → (s : L) (run : Search) → IsFresh run → Here k q s s run []
+unfolding open_line whole_lines
+here_start k q laws s run f = record {
+  came = [];
+  gave = laws.none s;
+  quiet = refl;
+  holds = f.empty;
+  reads = λ later. rw (f.version, f.lines) refl;
+  lines = f.lines;
+  count = f.rows;
+  few = omega (arith, f.rows);
+}
+
+-- ---- a line that ends
+
+whole_then : (bytes part : List ℕ) → HasNoFeed part → whole_lines (bytes ++ (part ++ 10 ∷ [])) ≡ whole_lines bytes ++ (open_line bytes ++ part) ∷ []
+unfolding whole_lines
+whole_then bytes part flat =
+    let held = open_line bytes in
+    whole-append bytes (part ++ 10 ∷ []) ∙ ap (λ (l : List Line). whole_lines bytes ++ l)
+    (ap whole_lines (sym (append_assoc held part (10 ∷ []))) ∙ whole_end (held ++ part) [] (no_feed-append held part (open_no_feed bytes) flat))
+
+open_then : (bytes part : List ℕ) → HasNoFeed part → open_line (bytes ++ (part ++ 10 ∷ [])) ≡ []
+unfolding open_line
+open_then bytes part flat =
+    let held = open_line bytes in
+    open-append bytes (part ++ 10 ∷ []) ∙ (ap open_line (sym (append_assoc held part (10 ∷ [])))
+    ∙ open_end (held ++ part) [] (no_feed-append held part (open_no_feed bytes) flat))
+
+-- what an index holds, by what was read of it and what follows
+split_lines : (bytes part rest : List ℕ) → HasNoFeed part → lines (bytes ++ (part ++ 10 ∷ rest)) ≡ whole_lines bytes ++ (open_line bytes ++ part) ∷ lines rest
+split_lines bytes part rest flat =
+    let held = open_line bytes in
+    lines-append bytes (part ++ 10 ∷ rest) ∙ ap (λ (l : List Line). whole_lines bytes ++ l)
+    (ap lines (sym (append_assoc held part (10 ∷ rest))) ∙ lines_end (held ++ part) rest (no_feed-append held part (open_no_feed bytes) flat))
+
+-- where bytes and a chunk are followed by more
+followed : (bytes chunk part rest more : List ℕ) → chunk ≡ part ++ 10 ∷ rest → (bytes ++ chunk) ++ more ≡ bytes ++ (part ++ 10 ∷ (rest ++ more))
+followed bytes chunk part rest more e =
+    append_assoc bytes chunk more ∙ ap (λ l. bytes ++ l) (ap (λ l. l ++ more) e ∙ append_assoc part (10 ∷ rest) more)
+
+split_index : {L : Type 0} (k : RowsTo L) (q : Asked) (s t : L) (run : Search) (bytes chunk part rest more : List ℕ) (h : Here k q s t run bytes) → HasNoFeed part
+    → chunk ≡ part ++ 10 ∷ rest
+    → index ((bytes ++ chunk) ++ more) ≡ with_entries h.came (index_at run.place ((run.held ++ part) ∷ lines (rest ++ more)))
+split_index k q s t run bytes chunk part rest more h flat e =
+    ap (λ l. index_from None 1 (lines l)) (followed bytes chunk part rest more e)
+    ∙ (ap (index_from None 1) (split_lines bytes part (rest ++ more) flat)
+    ∙ (h.reads ((open_line bytes ++ part) ∷ lines (rest ++ more))
+    ∙ ap (λ l. with_entries h.came (index_at run.place ((l ++ part) ∷ lines (rest ++ more)))) (sym h.holds)))
+
+-- the open line with a part, as a run
+with_part : Search → List ℕ → Search
+with_part run part = record run { held = run.held ++ part }
+
+pub line_here : {L : Type 0} (k : RowsTo L) (q : Asked) → IsSink k.to.gave k.to.within → (first s t : L) (run part_run run' : Search) (bytes part : List ℕ)
+    → part_run ≡ record run { held = run.held ++ part } → HasNoFeed part → Here k q first s run bytes → TookLine k q part_run run' s t
+    → Here k q first t run' (bytes ++ (part ++ 10 ∷ []))
+line_here k q laws first s t run part_run run' bytes part is flat h w =
+    let v = rw is at w in
+    let open_is : run.held ++ part ≡ open_line bytes ++ part = ap (λ l. l ++ part) h.holds in
+    let wholes = whole_then bytes part flat in record {
+      came = h.came ++ v.entries;
+      gave = rw rows_more (laws.more first s t (rows q h.came) (rows q v.entries) h.gave v.gave.0);
+      quiet = v.gave.1 ∙ h.quiet;
+      holds = v.empty ∙ sym (open_then bytes part flat);
+      reads = λ later.
+          ap (λ (l : List Line). index_from None 1 (l ++ later)) wholes
+          ∙ (ap (index_from None 1) (append_assoc (whole_lines bytes) ((open_line bytes ++ part) ∷ []) later)
+          ∙ (h.reads ((open_line bytes ++ part) ∷ later)
+          ∙ (ap (λ l. with_entries h.came (index_at run.place (l ∷ later))) (sym open_is)
+          ∙ (ap (with_entries h.came) (v.next later) ∙ with_more h.came v.entries (index_at run'.place later)))));
+      lines = omega (arith, v.lines, h.lines, ap length wholes, length-append (whole_lines bytes) ((open_line bytes ++ part) ∷ []));
+      count = omega (arith, v.count, h.count, ap length (rows_more q h.came v.entries), length-append (rows q h.came) (rows q v.entries));
+      few = omega (arith, v.few, v.count, h.few, v.lines);
+    }
+
+pub line_stopped : {L : Type 0} (k : RowsTo L) (q : Asked) → IsSink k.to.gave k.to.within → (first s t : L) (run part_run : Search) (bytes chunk part rest : List ℕ)
+    (fault : Fault) → part_run ≡ record run { held = run.held ++ part } → HasNoFeed part → chunk ≡ part ++ 10 ∷ rest → Here k q first s run bytes
+    → LineStops k q part_run s t fault → StoppedIn k q first t (bytes ++ chunk) fault
+line_stopped k q laws first s t run part_run bytes chunk part rest WriteText is flat e h w =
+    let v = rw is at w in record {
+      came = h.came ++ v.entries;
+      gave = rw rows_more (laws.after first s t (rows q h.came) (rows q v.entries) h.gave v.breaks);
+      cause = rw h.quiet at v.cause;
+      front = λ more.
+          let i = index_at v.after (lines (rest ++ more)) in (
+            i.entries,
+            ap (λ (x : Index). x.entries) (split_index k q first s run bytes chunk part rest more h flat e ∙ (ap (with_entries h.came) (v.next (lines (rest ++ more)))
+                ∙ with_more h.came v.entries i)),
+          );
+    }
+line_stopped k q laws first s t run part_run bytes chunk part rest (BadIndex n) is flat e h w =
+    let v = rw is at w in
+    let n_is : n ≡ run.place.lines + 1 = number_of v.0.0 in record {
+      came = h.came;
+      gave = rw v.1 h.gave;
+      quiet = rw v.1 h.quiet;
+      bad = λ more. rw n_is (split_index k q first s run bytes chunk part rest more h flat e ∙ ap (with_entries h.came) (v.0.1 (lines (rest ++ more))));
+    }
+line_stopped k q laws first s t run part_run bytes chunk part rest Memory is flat e h w = absurd w
+line_stopped k q laws first s t run part_run bytes chunk part rest Read is flat e h w = absurd w
+line_stopped k q laws first s t run part_run bytes chunk part rest WriteNotes is flat e h w = absurd w
+line_stopped k q laws first s t run part_run bytes chunk part rest TooLong is flat e h w = absurd w
+line_stopped k q laws first s t run part_run bytes chunk part rest (Settings f) is flat e h w = absurd w
+line_stopped k q laws first s t run part_run bytes chunk part rest Failed is flat e h w = absurd w
+line_stopped k q laws first s t run part_run bytes chunk part rest Ended is flat e h w = absurd w
+
+-- ---- a line with too many bytes
+
+long_no_entry : (version : Version) (line : List ℕ) → LINE < length line → entry_of version line ≡ None
+unfolding entry_of
+long_no_entry version line h = rw (lt-leb (length line) LINE h) refl
+
+other_length : (xs ys : List ℕ) (b : Bool) → bytes_eq xs ys ≡ b → length ys < length xs → b ≡ false
+other_length xs ys true e h = let same = (bytes_eq-Decides xs ys).0 e in absurd (omega (arith, ap length same, h))
+other_length xs ys false e h = refl
+
+long_no_version : (line : List ℕ) → LINE < length line → version_of line ≡ None
+unfolding version_of
+long_no_version line h = rw (
+  other_length line (codes "whatis 1") (bytes_eq line (codes "whatis 1")) refl (omega (arith, h)),
+  other_length line (codes "whatis 2") (bytes_eq line (codes "whatis 2")) refl (omega (arith, h)),
+) refl
+
+long_bad_at : (version : Option Version) (n : ℕ) (line : List ℕ) (later : List Line) → LINE < length line → index_from version n (line ∷ later) ≡ bad_at n
+unfolding index_from
+long_bad_at None n line later h = rw (long_no_version line h) refl
+long_bad_at (Some v) n line later h = rw (long_no_entry v line h) refl
+
+long_lines_of : (xs rest : List ℕ) → HasNoFeed xs → LINE < length xs → (z : Line) × (zs : List Line) × (lines (xs ++ rest) ≡ (xs ++ z) ∷ zs)
+long_lines_of [] rest flat h = absurd (omega (arith, h))
+long_lines_of (x ∷ xs) rest flat h = lines_begun x xs rest flat
+
+long_lines : (held part rest : List ℕ) → HasNoFeed (held ++ part) → LINE < length (held ++ part)
+    → (z : Line) × (zs : List Line) × (lines ((held ++ part) ++ rest) ≡ ((held ++ part) ++ z) ∷ zs)
+long_lines held part rest flat h = long_lines_of (held ++ part) rest flat h
+
+long_index : {L : Type 0} (k : RowsTo L) (q : Asked) (s t : L) (run : Search) (bytes part rest : List ℕ) (h : Here k q s t run bytes) → HasNoFeed part
+    → LINE < length (run.held ++ part) → index (bytes ++ (part ++ rest)) ≡ with_entries h.came (bad_at (run.place.lines + 1))
+long_index k q s t run bytes part rest h flat long =
+    let held = open_line bytes in
+    let g : LINE < length (held ++ part) = rw h.holds at long in
+    let w = long_lines held part rest (no_feed-append held part (open_no_feed bytes) flat) g in
+    ap (index_from None 1) (lines-append bytes (part ++ rest) ∙ ap (λ (l : List Line). whole_lines bytes ++ l) (ap lines (sym (append_assoc held part rest)) ∙ w.2))
+    ∙ (h.reads (((held ++ part) ++ w.0) ∷ w.1)
+    ∙ ap (with_entries h.came) (long_bad_at run.place.version (run.place.lines + 1) ((held ++ part) ++ w.0) w.1 (omega (arith, g, length-append (held ++ part) w.0))))
+
+pub long_stopped : {L : Type 0} (k : RowsTo L) (q : Asked) (first s : L) (run : Search) (bytes chunk part rest : List ℕ) (fault : Fault)
+    → fault ≡ BadIndex (run.place.lines + 1) → HasNoFeed part → chunk ≡ part ++ rest → LINE < length (run.held ++ part) → Here k q first s run bytes
+    → StoppedIn k q first s (bytes ++ chunk) fault
+long_stopped k q first s run bytes chunk part rest fault is flat e long h = rw is (record {
+  came = h.came;
+  gave = h.gave;
+  quiet = h.quiet;
+  bad = λ more.
+      ap index (append_assoc bytes chunk more ∙ ap (λ l. bytes ++ l) (ap (λ l. l ++ more) e ∙ append_assoc part rest more))
+      ∙ long_index k q first s run bytes part (rest ++ more) h flat long;
+})
+
+-- ---- bytes without a line feed
+
+pub flat_here : {L : Type 0} (k : RowsTo L) (q : Asked) (first s : L) (run run' : Search) (bytes part : List ℕ)
+    → run' ≡ record run { held = run.held ++ part } → HasNoFeed part → Here k q first s run bytes → Here k q first s run' (bytes ++ part)
+flat_here k q first s run run' bytes part is flat h =
+    let held = open_line bytes in
+    let both = no_feed-append held part (open_no_feed bytes) flat in
+    let wholes : whole_lines (bytes ++ part) ≡ whole_lines bytes =
+    whole-append bytes part ∙ (ap (λ (l : List Line). whole_lines bytes ++ l) (whole_flat (held ++ part) both) ∙ append-nil (whole_lines bytes)) in
+    rw is (record {
+      came = h.came;
+      gave = h.gave;
+      quiet = h.quiet;
+      holds = ap (λ l. l ++ part) h.holds ∙ sym (open-append bytes part ∙ open_flat (held ++ part) both);
+      reads = λ later. ap (λ (l : List Line). index_from None 1 (l ++ later)) wholes ∙ h.reads later;
+      lines = h.lines ∙ sym (ap length wholes);
+      count = h.count;
+      few = h.few;
+    })
+
+-- ---- the end
+
+whole_of : {L : Type 0} (k : RowsTo L) (q : Asked) (s t : L) (run : Search) (bytes : List ℕ) (h : Here k q s t run bytes)
+    → whole_index bytes ≡ with_entries h.came all_read
+whole_of k q s t run bytes h =
+    ap (index_from None 1) (sym (append-nil (whole_lines bytes)))
+    ∙ (h.reads [] ∙ ap (with_entries h.came) (none_left run.place.version (run.place.lines + 1)))
+
+entries_of : (xs : List Entry) (i : Index) → i ≡ with_entries xs all_read → i.entries ≡ xs
+entries_of xs i e = ap (λ (x : Index). x.entries) e ∙ append-nil xs
+
+pub read_whole : {L : Type 0} (k : RowsTo L) (q : Asked) (s t : L) (run : Search) (bytes : List ℕ) → Here k q s t run bytes → ReadWhole k.to s t q bytes
+read_whole k q s t run bytes h =
+    let e = whole_of k q s t run bytes h in record {
+      gave = rw (entries_of h.came (whole_index bytes) e) h.gave;
+      good = ap (λ (x : Index). x.bad) e;
+    }
+
+last_lines : (bytes : List ℕ) → lines bytes ≡ whole_lines bytes ++ lines (open_line bytes)
+last_lines bytes = ap lines (sym (append-nil bytes)) ∙ (lines-append bytes [] ∙ ap (λ l. whole_lines bytes ++ lines l) (append-nil (open_line bytes)))
+
+empty_index : {L : Type 0} (k : RowsTo L) (q : Asked) (s t : L) (run : Search) (bytes : List ℕ) (h : Here k q s t run bytes) → run.held ≡ []
+    → index bytes ≡ with_entries h.came all_read
+empty_index k q s t run bytes h e =
+    let none : lines (open_line bytes) ≡ [] = ap lines (sym h.holds ∙ e) ∙ no_lines in
+    ap (index_from None 1) (last_lines bytes ∙ (ap (λ (l : List Line). whole_lines bytes ++ l) none ∙ append-nil (whole_lines bytes)))
+    ∙ whole_of k q s t run bytes h
+
+pub end_empty : {L : Type 0} (k : RowsTo L) (q : Asked) (s t : L) (run : Search) (bytes : List ℕ) → run.held ≡ [] → Here k q s t run bytes
+    → EndedWell k q s t bytes run.rows
+end_empty k q s t run bytes e h =
+    let i = empty_index k q s t run bytes h e in
+    let came = entries_of h.came (index bytes) i in record {
+      gave = rw came h.gave;
+      quiet = h.quiet;
+      count = rw came h.count;
+      good = ap (λ (x : Index). x.bad) i;
+    }
+
+one_line : (held : List ℕ) → HasNoFeed held → ¬ (held ≡ []) → lines held ≡ held ∷ []
+one_line [] flat some = absurd (some refl)
+one_line (x ∷ xs) flat some = lines_flat x xs flat
+
+last_index : {L : Type 0} (k : RowsTo L) (q : Asked) (s t : L) (run : Search) (bytes : List ℕ) (h : Here k q s t run bytes) → ¬ (run.held ≡ [])
+    → index bytes ≡ with_entries h.came (index_at run.place (run.held ∷ []))
+last_index k q s t run bytes h some =
+    let one : lines (open_line bytes) ≡ run.held ∷ [] = ap lines (sym h.holds) ∙ one_line run.held (rw (h.holds) (open_no_feed bytes)) some in
+    ap (index_from None 1) (last_lines bytes ∙ ap (λ (l : List Line). whole_lines bytes ++ l) one) ∙ h.reads (run.held ∷ [])
+
+pub end_line : {L : Type 0} (k : RowsTo L) (q : Asked) → IsSink k.to.gave k.to.within → (first s t : L) (run run' : Search) (bytes : List ℕ)
+    → ¬ (run.held ≡ []) → TookLine k q run run' s t → Here k q first s run bytes → EndedWell k q first t bytes run'.rows
+end_line k q laws first s t run run' bytes some v h =
+    let i : index bytes ≡ with_entries (h.came ++ v.entries) all_read =
+    last_index k q first s run bytes h some ∙ (ap (with_entries h.came) (v.next []) ∙ (with_more h.came v.entries (index_at run'.place [])
+    ∙ ap (with_entries (h.came ++ v.entries)) (none_left run'.place.version (run'.place.lines + 1)))) in
+    let came = entries_of (h.came ++ v.entries) (index bytes) i in record {
+      gave = rw (came, rows_more) (laws.more first s t (rows q h.came) (rows q v.entries) h.gave v.gave.0);
+      quiet = v.gave.1 ∙ h.quiet;
+      count = rw came (omega (arith, v.count, h.count, ap length (rows_more q h.came v.entries), length-append (rows q h.came) (rows q v.entries)));
+      good = ap (λ (x : Index). x.bad) i;
+    }
+
+pub end_stopped : {L : Type 0} (k : RowsTo L) (q : Asked) → IsSink k.to.gave k.to.within → (first s t : L) (run : Search) (bytes : List ℕ) (fault : Fault)
+    → ¬ (run.held ≡ []) → LineStops k q run s t fault → Here k q first s run bytes → EndStops k q first t bytes fault
+end_stopped k q laws first s t run bytes WriteText some v h =
+    let i = last_index k q first s run bytes h some ∙ (ap (with_entries h.came) (v.next []) ∙ (with_more h.came v.entries (index_at v.after [])
+    ∙ ap (with_entries (h.came ++ v.entries)) (none_left v.after.version (v.after.lines + 1)))) in
+    let came = entries_of (h.came ++ v.entries) (index bytes) i in
+    (rw (came, rows_more) (laws.after first s t (rows q h.came) (rows q v.entries) h.gave v.breaks), rw h.quiet at v.cause)
+end_stopped k q laws first s t run bytes (BadIndex n) some v h =
+    let i : index bytes ≡ with_entries h.came (bad_at (run.place.lines + 1)) = last_index k q first s run bytes h some ∙ ap (with_entries h.came) (v.0.1 []) in
+    let came = ap (λ (x : Index). x.entries) i ∙ append-nil h.came in
+    (rw (came, v.1) h.gave, ap (λ (x : Index). x.bad) i ∙ ap (λ (m : ℕ). Some m) (sym (number_of v.0.0)), rw v.1 h.quiet)
+end_stopped k q laws first s t run bytes Memory some v h = absurd v
+end_stopped k q laws first s t run bytes Read some v h = absurd v
+end_stopped k q laws first s t run bytes WriteNotes some v h = absurd v
+end_stopped k q laws first s t run bytes TooLong some v h = absurd v
+end_stopped k q laws first s t run bytes (Settings f) some v h = absurd v
+end_stopped k q laws first s t run bytes Failed some v h = absurd v
+end_stopped k q laws first s t run bytes Ended some v h = absurd v
+
+-- ---- a run that stopped
+
+pub stopped_more : {L : Type 0} (k : RowsTo L) (q : Asked) (s t : L) (bytes more : List ℕ) (fault : Fault) → StoppedIn k q s t bytes fault
+    → StoppedIn k q s t (bytes ++ more) fault
+stopped_more k q s t bytes more WriteText w = record {
+  came = w.came;
+  gave = w.gave;
+  cause = w.cause;
+  front = λ later. let f = w.front (more ++ later) in (f.0, ap (λ l. (index l).entries) (append_assoc bytes more later) ∙ f.1);
+}
+stopped_more k q s t bytes more (BadIndex n) w =
+    record { came = w.came; gave = w.gave; quiet = w.quiet; bad = λ later. ap index (append_assoc bytes more later) ∙ w.bad (more ++ later) }
+stopped_more k q s t bytes more Memory w = absurd w
+stopped_more k q s t bytes more Read w = absurd w
+stopped_more k q s t bytes more WriteNotes w = absurd w
+stopped_more k q s t bytes more TooLong w = absurd w
+stopped_more k q s t bytes more (Settings f) w = absurd w
+stopped_more k q s t bytes more Failed w = absurd w
+stopped_more k q s t bytes more Ended w = absurd w
+
+-- ---- what a search did
+
+pub cut_take : (m n : ℕ) (l : List ℕ) → m ≤ n → take m l ++ drop m (take n l) ≡ take n l
+cut_take m n l h = rw (← take-take m n l h) (take-append-drop m (take n l))
+
+-- the bytes up to a bound
+pub up_to : (n : ℕ) (xs ys zs : List ℕ) → n ≡ length xs + length ys → take n (xs ++ (ys ++ zs)) ≡ xs ++ ys
+up_to n xs ys zs h = rw (← append_assoc xs ys zs) (take_at (xs ++ ys) zs n (length-append xs ys ∙ sym h))
+
+-- a part of a chunk
+pub part_of : (xs ys zs : List ℕ) (n : ℕ) → xs ≡ ys ++ zs → xs ≡ (ys ++ take n zs) ++ drop n zs
+part_of xs ys zs n h = h ∙ (ap (λ l. ys ++ l) (sym (take-append-drop n zs)) ∙ sym (append_assoc ys (take n zs) (drop n zs)))
+
+pub all_done : (xs ys zs : List ℕ) → xs ≡ ys ++ zs → length zs ≤ 0 → xs ≡ ys
+all_done xs ys [] h none = h ∙ append-nil ys
+all_done xs ys (z ∷ zs) h none = absurd (omega (arith, none))
+
+pub here_more : {L : Type 0} (k : RowsTo L) (q : Asked) (s t : L) (run : Search) (xs ys zs : List ℕ) → Here k q s t run ((xs ++ ys) ++ zs) → Here k q s t run (xs ++ (ys ++ zs))
+here_more k q s t run xs ys zs h = rw (← append_assoc xs ys zs) h
+
+pub stopped_at : {L : Type 0} (k : RowsTo L) (q : Asked) (s t : L) (bytes chunk done rest : List ℕ) (fault : Fault) → chunk ≡ done ++ rest
+    → StoppedIn k q s t ((bytes ++ done) ++ rest) fault → StoppedIn k q s t (bytes ++ chunk) fault
+stopped_at k q s t bytes chunk done rest fault e w = rw e (rw (← append_assoc bytes done rest) w)
+
+-- at the end
+abbrev pub Over : {L : Type 0} → Result ℕ Fault → RowsTo L → SourceState → SourceState → L → L → Asked → ℕ → List ℕ → Type 0
+Over res k a b s t q asked bytes = Searches res k.to s t q bytes b.remaining × MatchResult res (λ _. Quiet k a b s t) (λ fault. HasCause k a b s t asked bytes fault)
+
+pub over_end : {L : Type 0} (res : Result ℕ Fault) (k : RowsTo L) (a b : SourceState) (first s t : L) (q : Asked) (run : Search) (asked : ℕ) (bytes : List ℕ)
+    → IsAtEnd b.remaining → b.failed ≡ a.failed → Here k q first s run bytes → Finishes res k q run s t → Over res k a b first t q asked bytes
+over_end (Ok n) k a b first s t q run asked bytes all quiet h f =
+    let w = f first bytes h in
+    (record { gave = w.gave; count = w.count; good = w.good; all = all }, record { source = quiet; rows = w.quiet })
+over_end (Err WriteText) k a b first s t q run asked bytes all quiet h f = let w = f first bytes h in (w.0, (quiet, w.1))
+over_end (Err (BadIndex n)) k a b first s t q run asked bytes all quiet h f =
+    let w = f first bytes h in (record { gave = w.0; bad = w.1; stays = inl all }, record { source = quiet; rows = w.2 })
+over_end (Err Memory) k a b first s t q run asked bytes all quiet h f = absurd (f first bytes h)
+over_end (Err Read) k a b first s t q run asked bytes all quiet h f = absurd (f first bytes h)
+over_end (Err WriteNotes) k a b first s t q run asked bytes all quiet h f = absurd (f first bytes h)
+over_end (Err TooLong) k a b first s t q run asked bytes all quiet h f = absurd (f first bytes h)
+over_end (Err (Settings x)) k a b first s t q run asked bytes all quiet h f = absurd (f first bytes h)
+over_end (Err Failed) k a b first s t q run asked bytes all quiet h f = absurd (f first bytes h)
+over_end (Err Ended) k a b first s t q run asked bytes all quiet h f = absurd (f first bytes h)
+
+-- in the middle
+nil_index : (bytes : List ℕ) → index (bytes ++ []) ≡ index bytes
+nil_index bytes = ap index (append-nil bytes)
+
+pub over_stopped : {L : Type 0} (fault : Fault) (k : RowsTo L) → IsSink k.to.gave k.to.within → (a b : SourceState) (s t : L) (q : Asked) (asked : ℕ) (bytes : List ℕ)
+    → b.failed ≡ a.failed → StoppedIn k q s t bytes fault → Stopped k.to s t q bytes b.remaining fault × HasCause k a b s t asked bytes fault
+over_stopped WriteText k laws a b s t q asked bytes quiet w =
+    let f = w.front [] in
+    let e : (index bytes).entries ≡ w.came ++ f.0 = ap (λ (x : Index). x.entries) (sym (nil_index bytes)) ∙ f.1 in
+    let front : k.to.within s (rows q (w.came ++ f.0)) t = rw rows_more (laws.before s t (rows q w.came) (rows q f.0) w.gave) in
+    (subst (λ (es : List Entry). k.to.within s (rows q es) t) (sym e) front, (quiet, w.cause))
+over_stopped (BadIndex n) k laws a b s t q asked bytes quiet w =
+    let e : index bytes ≡ with_entries w.came (bad_at n) = sym (nil_index bytes) ∙ w.bad [] in
+    let came : (index bytes).entries ≡ w.came = ap (λ (x : Index). x.entries) e ∙ append-nil w.came in (
+      record { gave = subst (λ (es : List Entry). k.to.gave s (rows q es) t) (sym came) w.gave; bad = ap (λ (x : Index). x.bad) e; stays = inr (λ more. w.bad more ∙ sym e) },
+      record { source = quiet; rows = w.quiet },
+    )
+over_stopped Memory k laws a b s t q asked bytes quiet w = absurd w
+over_stopped Read k laws a b s t q asked bytes quiet w = absurd w
+over_stopped WriteNotes k laws a b s t q asked bytes quiet w = absurd w
+over_stopped TooLong k laws a b s t q asked bytes quiet w = absurd w
+over_stopped (Settings x) k laws a b s t q asked bytes quiet w = absurd w
+over_stopped Failed k laws a b s t q asked bytes quiet w = absurd w
+over_stopped Ended k laws a b s t q asked bytes quiet w = absurd w
+
+-- ---- the code's steps
+
+pub no_feed_in : (chunk : List ℕ) → IsFirstByte (is_byte 10) chunk None → HasNoFeed chunk
+no_feed_in chunk h = no_feed_all chunk (rw (take_all (length chunk) chunk (omega arith)) at (front_none 10 chunk (length chunk) (omega arith) h))
+
+pub no_feed_before : (chunk : List ℕ) (n : ℕ) → IsFirstByte (is_byte 10) chunk (Some n) → HasNoFeed (take n chunk)
+no_feed_before chunk n h = no_feed_all (take n chunk) (front_none 10 chunk n (omega (arith, h.0.high)) h.0.before)
+
+feed_at : (chunk : List ℕ) (n : ℕ) → IsFirstByte (is_byte 10) chunk (Some n) → chunk ≡ take n chunk ++ 10 ∷ drop (n + 1) chunk
+feed_at chunk n h =
+    split_at chunk n 0 h.0.high
+    ∙ (ap (λ x. take n chunk ++ x ∷ drop (suc n) chunk) (eqb-true (get_or chunk n 0) 10 h.1) ∙ ap (λ m. take n chunk ++ 10 ∷ drop m chunk) (sym (add-one n)))
+
+taken_line : (chunk : List ℕ) (n : ℕ) → IsFirstByte (is_byte 10) chunk (Some n) → take (n + 1) chunk ≡ take n chunk ++ 10 ∷ []
+taken_line chunk n h =
+    let l : length (take n chunk ++ 10 ∷ []) ≡ n + 1 = omega (arith, length-append (take n chunk) (10 ∷ []), length-take n chunk, h.0.high) in
+    ap (take (n + 1)) (feed_at chunk n h ∙ sym (append_assoc (take n chunk) (10 ∷ []) (drop (n + 1) chunk)))
+    ∙ take_at (take n chunk ++ 10 ∷ []) (drop (n + 1) chunk) (n + 1) l
+
+pub part_open : {L : Type 0} (res : Result ℕ Fault) (k : RowsTo L) (q : Asked) (run run' : Search) (s : L) (chunk : List ℕ) → HasNoFeed chunk → 0 < length chunk
+    → run.rows ≤ run.place.lines → TakesOpen res run run' chunk → TakesPart res k q run run' s s chunk
+part_open (Ok n) k q run run' s chunk flat some few w =
+    let whole : take n chunk ≡ chunk = take_all n chunk (omega (arith, w.0)) in record {
+      some = omega (arith, w.0, some);
+      most = omega (arith, w.0);
+      lines = rw w.1 (omega arith);
+      few = rw w.1 few;
+      here = λ first bytes h. rw whole (flat_here k q first s run run' bytes chunk w.1 flat h);
+    }
+part_open (Err fault) k q run run' s chunk flat some few w = λ first bytes h.
+    long_stopped k q first s run bytes chunk chunk [] fault w.0 flat (sym (append-nil chunk)) w.1 h
+
+pub part_long : {L : Type 0} (k : RowsTo L) (q : Asked) (first s : L) (run : Search) (bytes chunk : List ℕ) (n : ℕ) → IsFirstByte (is_byte 10) chunk (Some n)
+    → LINE < length (run.held ++ take n chunk) → Here k q first s run bytes → CameToBad k q first s (bytes ++ chunk) (run.place.lines + 1)
+part_long k q first s run bytes chunk n is long h =
+    long_stopped k q first s run bytes chunk (take n chunk) (drop n chunk) (BadIndex (run.place.lines + 1)) refl (no_feed_before chunk n is)
+    (sym (take-append-drop n chunk)) long h
+
+pub part_line : {L : Type 0} (k : RowsTo L) (q : Asked) → IsSink k.to.gave k.to.within → (run run' : Search) (held : List ℕ) (s t : L) (chunk : List ℕ) (n : ℕ)
+    → IsFirstByte (is_byte 10) chunk (Some n) → held ≡ run.held ++ take n chunk → run.rows ≤ run.place.lines → TookLine k q (record run { held = held }) run' s t
+    → TookPart k q run run' s t chunk (n + 1)
+part_line k q laws run run' held s t chunk n is e few w = record {
+  some = omega arith;
+  most = omega (arith, is.0.high);
+  lines = omega (arith, w.lines);
+  few = omega (arith, w.few, w.count, few, w.lines);
+  here = λ first bytes h. rw (taken_line chunk n is) (line_here k q laws first s t run (record run { held = held }) run' bytes (take n chunk)
+      (ap (λ (l : List ℕ). record run { held = l }) e) (no_feed_before chunk n is) h w);
+}
+
+pub part_stopped : {L : Type 0} (k : RowsTo L) (q : Asked) → IsSink k.to.gave k.to.within → (run : Search) (held : List ℕ) (first s t : L) (bytes chunk : List ℕ) (n : ℕ)
+    (fault : Fault) → IsFirstByte (is_byte 10) chunk (Some n) → held ≡ run.held ++ take n chunk → LineStops k q (record run { held = held }) s t fault
+    → Here k q first s run bytes → StoppedIn k q first t (bytes ++ chunk) fault
+part_stopped k q laws run held first s t bytes chunk n fault is e w h =
+    line_stopped k q laws first s t run (record run { held = held }) bytes chunk (take n chunk) (drop (n + 1) chunk) fault
+    (ap (λ (l : List ℕ). record run { held = l }) e) (no_feed_before chunk n is) (feed_at chunk n is) h w
+
+pub line_broke : {L : Type 0} (k : RowsTo L) (q : Asked) (run : Search) (after : Place) (s t : L) (entries : List Entry) (fault : Fault)
+    → IsNext run.place after run.held entries → BreaksIn k s t (rows q entries) fault → LineStops k q run s t fault
+line_broke k q run after s t entries fault next w =
+    rw w.0 (record { entries = entries; after = after; next = next; breaks = w.1; cause = w.2 })
+
+pub empty_of : (xs : List ℕ) → length xs ≤ 0 → xs ≡ []
+empty_of [] h = refl
+empty_of (x ∷ xs) h = absurd (omega (arith, h))
+
+pub not_empty : (xs : List ℕ) → 0 < length xs → ¬ (xs ≡ [])
+not_empty xs h = λ e. absurd (omega (arith, h, ap length e))

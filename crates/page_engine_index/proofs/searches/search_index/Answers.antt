@@ -1,0 +1,15 @@
+use Rattle.std.proofs.Common.{refl, [], arith}
+use Rattle.page_core_sources.proofs.GivenLemmas.{given_none}
+use Rattle.page_engine_index.proofs.searches.search_index.Goals as goal
+
+pub returns-in-Err-clause-searches : goal.returns-in-Err-clause-searches
+returns-in-Err-clause-searches g c = (
+  [],
+  rw c.in-Err.ensures.fault (record {
+    asked = 0;
+    few = omega arith;
+    source = given_none _;
+    ends = (refl, g.met.L.LineSink.laws.none _);
+    cause = (refl, refl);
+  }),
+)

@@ -1,0 +1,8 @@
+pub mod Entries
+pub mod Fields
+pub mod Matches
+pub mod Records
+pub mod Searches
+pub mod Steps
+pub mod Whatis
+pub mod Written

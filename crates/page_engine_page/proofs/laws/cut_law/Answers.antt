@@ -1,8 +1,0 @@
-use Rattle.page_engine_page.proofs.Lists.{settled-append, page-append}
-use Rattle.page_engine_page.proofs.laws.cut_law.Goals as goal
-
-pub returns : goal.returns
-returns c = record {
-  settled = λ e above below. settled-append e above below;
-  page = λ e above below. page-append e above below;
-}

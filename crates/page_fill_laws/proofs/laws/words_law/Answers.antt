@@ -1,0 +1,21 @@
+use Rattle.page_fill_laws.proofs.FillingLaw.{items-law, cut-law, held-law, end-law}
+use Rattle.page_fill_laws.proofs.HeldSheets.{fresh-held, piece-held}
+use Rattle.page_fill_laws.proofs.laws.words_law.Goals as goal
+
+pub returns-clause-items : goal.returns-clause-items
+returns-clause-items c = items-law
+
+pub returns-clause-cut : goal.returns-clause-cut
+returns-clause-cut c = cut-law
+
+pub returns-clause-held : goal.returns-clause-held
+returns-clause-held c = held-law
+
+pub returns-clause-end : goal.returns-clause-end
+returns-clause-end c = end-law
+
+pub returns-clause-start : goal.returns-clause-start
+returns-clause-start c = fresh-held
+
+pub returns-clause-kept : goal.returns-clause-kept
+returns-clause-kept c = piece-held

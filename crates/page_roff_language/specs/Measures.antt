@@ -1,0 +1,66 @@
+-- How much work is left of sources that are run, at most: steps of the code. Source: mandoc(1), "input stack limit".
+use Rattle.std.specs.Prelude.{◌≡◌, ℕ, suc, ◌+◌, ◌*◌, ◌≤◌, Bool, true, false, List, [], ◌∷◌, length}
+use Rattle.page_roff_blocks.specs.declared.atoms.Atom.{Atom}
+use Rattle.page_roff_blocks.specs.Levels.{Spot}
+use Rattle.page_roff_language.specs.Languages.{page}
+use Rattle.page_roff_language.specs.Machine.{Frame, Running}
+use Rattle.page_roff_language.specs.Budgets.{Budgeted}
+
+-- a line has at most two parts a byte, and two
+unfoldable pub weight : List (List ℕ) → ℕ
+weight [] = 0
+weight (line ∷ lines) = 2 * length line + 3 + weight lines
+
+unfoldable pub work_in : Frame → ℕ
+work_in f = length f.parts + weight f.lines
+
+unfoldable pub works : List Frame → ℕ
+works [] = 0
+works (f ∷ fs) = suc (work_in f + works fs)
+
+-- the first part of a line may call a macro, and so may each re-read line
+unfoldable pub fresh_if : Bool → ℕ
+fresh_if true = 0
+fresh_if false = 1
+
+unfoldable pub fresh_at : List (Atom (List ℕ)) → Spot → ℕ
+fresh_at [] spot = 0
+fresh_at (part ∷ more) spot = fresh_if spot.begun
+
+unfoldable pub fresh_in : Frame → ℕ
+fresh_in f = fresh_at f.parts f.spot
+
+unfoldable pub freshes : List Frame → ℕ
+freshes [] = 0
+freshes (f ∷ fs) = fresh_in f + freshes fs
+
+-- how many macros may still be called
+unfoldable pub credit_if : Bool → ℕ → ℕ → ℕ
+credit_if true left fresh = 0
+credit_if false left fresh = 2 * left + fresh
+
+unfoldable pub credit : {R : Type 0} → Budgeted R → ℕ → ℕ
+credit s fresh = credit_if s.gave_up s.left fresh
+
+-- all that is left, where the bodies of macros have less than this weight
+unfoldable pub measure : {R : Type 0} → ℕ → Running (Budgeted R) → ℕ
+measure huge r = huge * credit r.state (fresh_in r.top + freshes r.under) + (work_in r.top + works r.under)
+
+-- a line of the page is run by itself
+unfoldable pub IsOnLine : Frame → Type 0
+IsOnLine f = f.kind ≡ page → f.lines ≡ []
+
+unfoldable pub AreOnLine : List Frame → Type 0
+AreOnLine [] = Unit {0}
+AreOnLine (f ∷ fs) = IsOnLine f × AreOnLine fs
+
+unfoldable pub HasMeasure : {R : Type 0} → Running (Budgeted R) → Type 0
+HasMeasure r = IsOnLine r.top × AreOnLine r.under
+
+-- after a step: where a macro was called, its body has less than this weight
+unfoldable pub HasBodyWithin : {R : Type 0} → ℕ → List Frame → Running (Budgeted R) → Type 0
+HasBodyWithin huge under q = length q.under ≡ suc (length under) → suc (weight q.top.lines) ≤ huge
+
+-- before the first step of a line of the page
+unfoldable pub IsFirst : {S : Type 0} → Running S → Type 0
+IsFirst r = (line : List ℕ) × (r.top.lines ≡ line ∷ []) × (r.top.parts ≡ []) × (r.under ≡ [])

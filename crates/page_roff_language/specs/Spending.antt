@@ -1,0 +1,25 @@
+-- What the lines taken spend, as interpolations: the same number each at most. Source: mandoc(1), "input stack limit".
+use Rattle.std.specs.Prelude.{◌≡◌, ℕ, ◌+◌, ◌≤◌, Bool, true, false, List, Option}
+use Rattle.page_roff_heads.specs.declared.conditions.Condition.{Condition}
+use Rattle.page_roff_blocks.specs.declared.atoms.Head.{Head}
+use Rattle.page_roff_blocks.specs.declared.regions.RegionHead.{RegionHead}
+use Rattle.page_roff_blocks.specs.Levels.{Opened}
+use Rattle.page_roff_language.specs.Languages.{Kind, Done, gives, calls}
+use Rattle.page_roff_language.specs.Budgets.{Effects}
+
+abbrev pub after_leaf : {R : Type 0} → Done R → R
+after_leaf (gives r) = r
+after_leaf (calls lines args r) = r
+
+-- a condition, a leaf and a line of a region that is run spend a number at most, and all else nothing
+pub record Spends {R : Type 0} (spent : R → ℕ) (most : ℕ) (e : Effects R) : Type 0 where
+  pub exhausts : (r : R) → spent (e.exhausts r) ≡ spent r
+  pub tests : (kind : Kind) (condition : Condition (List ℕ)) (r : R) → spent (e.tests kind condition r).1 ≤ spent r + most
+  pub leaf : (may_call : Bool) (kind : Kind) (text : List ℕ) (r : R) → spent (after_leaf (e.leaf may_call kind text r)) ≤ spent r + most
+  pub refuses : (h : Head (List ℕ)) (r : R) → spent (e.refuses h r) ≡ spent r
+  pub unopened : (r : R) → spent (e.unopened r) ≡ spent r
+  pub opens_region : (kind : Kind) (head : RegionHead (List ℕ)) (is_run : Bool) (r : R) → spent (e.opens_region kind head is_run r) ≡ spent r
+  pub reads : (kind : Kind) (o : Opened) (line : List ℕ) (r : R) → spent (e.reads kind o true line r) ≤ spent r + most
+  pub passes : (kind : Kind) (o : Opened) (line : List ℕ) (r : R) → spent (e.reads kind o false line r) ≡ spent r
+  pub ends_region : (kind : Kind) (o : Opened) (is_run : Bool) (line : List ℕ) (r : R) → spent (e.ends_region kind o is_run line r) ≡ spent r
+  pub finish : (region : Option Opened) (gave_up : Bool) (r : R) → spent (e.finish region gave_up r) ≡ spent r

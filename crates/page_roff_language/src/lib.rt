@@ -1,0 +1,17 @@
+//! How lines run with calls of macros (roff(7)): the definition, over any meaning of the parts of lines, with its laws, and the count of a
+//! budget. It runs nothing: `page_roff_machine` does. Read `specs/Languages.antt` first.
+#![tactic(auto)]
+
+mod budgets;
+mod laws;
+
+pub use budgets::Budget;
+pub use laws::{
+    budget_law, calls_law, front_law, machine_law, measure_law, page_cut_law, spending_law,
+};
+
+/// The macros that run inside one another.
+pub const CALLS: usize = 16;
+
+/// The re-read lines of one source line: lines of running macros, and remainders that are run.
+pub const REREAD: usize = 1_000;

@@ -1,0 +1,140 @@
+-- The forest of all lines of a page gives what its lines give one after another: helpers of proofs.
+use Rattle.std.proofs.Common.{◌≡◌, ℕ, ◌+◌, Bool, true, false, List, [], ◌∷◌, ◌++◌, length, map, Option, Some, None, refl, sym, ap, ◌∙◌, append_assoc, append-nil, arith}
+use Rattle.page_core_base.specs.declared.page_settings.Output.{Output}
+use Rattle.page_roff_blocks.specs.Regions.{is_ending}
+use Rattle.page_roff_blocks.specs.Levels.{Levels, Place, Opened}
+use Rattle.page_roff_blocks.specs.Run.{Meaning, At, after_head, each_line}
+use Rattle.page_roff_blocks.specs.Steps.{step_inside, step_from, step, step_lines}
+use Rattle.page_roff_blocks.proofs.FoldLemmas.{run_is_steps}
+use Rattle.page_roff_blocks.proofs.HeadLemmas.{forest_is_each}
+use Rattle.page_roff_language.specs.declared.TheConstants.{CALLS, REREAD}
+use Rattle.page_roff_language.specs.Budgets.{Budgeted, Effects, language, meaning, begin_line, read_line, end_line}
+use Rattle.page_roff_language.specs.Languages.{page, Language, meaning_at, run_page, run_page_lines}
+use Rattle.page_roff_language.specs.Machine.{at_page}
+use Rattle.page_roff_language.specs.Fronts.{over}
+use Rattle.page_roff_language.proofs.FrontLemmas.{rest_front}
+use Rattle.page_roff_language.proofs.MachineLemmas.{page_law}
+use Rattle.page_roff_effects.specs.Effects.{effects, in_front}
+use Rattle.page_roff_effects.specs.States.{State, Given, says, Memory, numbered}
+use Rattle.page_roff_effects.proofs.GivenLemmas.{is_front}
+use Rattle.page_roff_source.specs.Edges.{Edge, SourceLine, before_line, run_line, line_given, line_done}
+use Rattle.page_roff_source.specs.Given.{head_of, before_lines, run_all, given, done}
+use Rattle.page_roff_source.specs.LineByLine.{lines_given, lines_done, StandsAt}
+
+-- what is left of the budget of the line before, and whether that was given up, is forgotten
+module _ {R : Type 0} (e : Effects R) where
+  abbrev with_budget : ℕ → Bool → ℕ → R → Budgeted R
+  with_budget left gave_up taken r = record { left = left; gave_up = gave_up; taken = taken; rest = r }
+
+  abbrev page_meaning : Meaning (List ℕ) (Budgeted R)
+  page_meaning = meaning_at (language e) CALLS page
+
+  inside_reset : (is_end : Bool) (o : Opened) (t : List ℕ) (l : Levels) (left left' : ℕ) (g g' : Bool) (taken : ℕ) (r : R)
+      → step_inside page_meaning is_end o t l (with_budget left g taken r) ≡ step_inside page_meaning is_end o t l (with_budget left' g' taken r)
+  unfolding step_inside meaning_at language meaning read_line end_line begin_line
+  inside_reset true o t l left left' g g' taken r = refl
+  inside_reset false o t l left left' g g' taken r = refl
+
+  from_reset : (o : Option Opened) (t : List ℕ) (l : Levels) (left left' : ℕ) (g g' : Bool) (taken : ℕ) (r : R)
+      → step_from page_meaning (λ t. t) o t l (with_budget left g taken r) ≡ step_from page_meaning (λ t. t) o t l (with_budget left' g' taken r)
+  unfolding step_from meaning_at language meaning begin_line
+  from_reset None t l left left' g g' taken r = refl
+  from_reset (Some o) t l left left' g g' taken r = inside_reset (is_ending o.ending t) o t l left left' g g' taken r
+
+  budget_reset : (t : List ℕ) (place : Place) (left left' : ℕ) (g g' : Bool) (taken : ℕ) (r : R)
+      → run_page (language e) (t ∷ []) (record { place = place; state = with_budget left g taken r })
+      ≡ run_page (language e) (t ∷ []) (record { place = place; state = with_budget left' g' taken r })
+  unfolding run_page step_lines step
+  budget_reset t place left left' g g' taken r =
+      run_is_steps page_meaning (λ t. t) (t ∷ []) (record { place = place; state = with_budget left g taken r })
+      ∙ from_reset place.region t place.levels left left' g g' taken r
+      ∙ sym (run_is_steps page_meaning (λ t. t) (t ∷ []) (record { place = place; state = with_budget left' g' taken r }))
+
+-- what was given before stays in front
+front_run : (output : Output) (before : List Given) (t : List ℕ) (a : At (Budgeted State))
+    → run_page (language (effects output)) (t ∷ []) (over (in_front before) a) ≡ over (in_front before) (run_page (language (effects output)) (t ∷ []) a)
+unfolding at_page
+front_run output before t a =
+    let l = language (effects output) in
+    sym (page_law l t (over (in_front before) a)) ∙ rest_front (in_front before) l (is_front output before) (at_page t a)
+    ∙ ap (over (in_front before)) (page_law l t a)
+
+abbrev at : Place → ℕ → Bool → ℕ → Memory → List Given → At (Budgeted State)
+at place left gave_up taken memory out =
+    record { place = place; state = record { left = left; gave_up = gave_up; taken = taken; rest = record { memory = memory; out = out } } }
+
+-- one line with what comes before it
+one_line : (e : Edge) (x : SourceLine) (left : ℕ) (g : Bool) (out : List Given)
+    → run_page (language (effects e.output)) (x.text ∷ []) (after_head head_of x (at e.place left g e.taken e.memory out))
+    ≡ over (in_front (out ++ map says x.notes)) (run_line e x)
+unfolding run_line before_line
+one_line e x left g out =
+    let l = language (effects e.output) in
+    let m = numbered x.number e.memory in
+    let front = out ++ map says x.notes in
+    budget_reset (effects e.output) x.text e.place left REREAD g false e.taken (record { memory = m; out = front })
+    ∙ ap (λ (o : List Given). run_page l (x.text ∷ []) (at e.place REREAD false e.taken m o)) (sym (append-nil front))
+    ∙ front_run e.output front x.text (at e.place REREAD false e.taken m [])
+
+abbrev each : Edge → List SourceLine → At (Budgeted State) → At (Budgeted State)
+each e lines a = each_line (λ line. line.text) head_of (meaning_at (language (effects e.output)) CALLS page) lines a
+
+-- line after line
+each_stands : (e : Edge) (xs : List SourceLine) (left : ℕ) (g : Bool) (out : List Given)
+    → StandsAt (lines_done e xs) (out ++ lines_given e xs) (each e xs (at e.place left g e.taken e.memory out))
+unfolding each_line lines_given lines_done run_page
+each_stands e [] left g out = record { place = refl; memory = refl; taken = refl; out = sym (append-nil out) }
+each_stands e (x ∷ xs) left g out =
+    let r = run_line e x in
+    let f = line_done e x in
+    let front = out ++ map says x.notes in
+    let h = each_stands f xs r.state.left r.state.gave_up (front ++ line_given e x) in
+    let same : (front ++ line_given e x) ++ lines_given f xs ≡ out ++ (map says x.notes ++ (line_given e x ++ lines_given f xs)) =
+    append_assoc front (line_given e x) (lines_given f xs)
+    ∙ append_assoc out (map says x.notes) (line_given e x ++ lines_given f xs) in
+    rw (one_line e x left g out, sym same) h
+
+all_stands : (e : Edge) (lines : List SourceLine) → StandsAt (lines_done e lines) (lines_given e lines) (run_all e lines)
+unfolding run_all run_page_lines
+all_stands e lines =
+    rw (forest_is_each (λ line. line.text) head_of (meaning_at (language (effects e.output)) CALLS page) lines (before_lines e))
+    (each_stands e lines 0 false [])
+
+pub given-by_line : (e : Edge) (lines : List SourceLine) → given e lines ≡ lines_given e lines
+given-by_line e lines = (all_stands e lines).out
+
+-- ---- the edge after lines
+
+-- all that the present line gives was given
+abbrev pub idle : Edge → Edge
+idle e = record e { to_come = None }
+
+lines_done-output : (e : Edge) (lines : List SourceLine) → (lines_done e lines).output ≡ e.output
+unfolding lines_done
+lines_done-output e [] = refl
+lines_done-output e (x ∷ xs) = lines_done-output (line_done e x) xs
+
+lines_done-source : (e : Edge) (lines : List SourceLine) → (lines_done e lines).source ≡ e.source + length lines
+unfolding lines_done
+lines_done-source e [] = omega arith
+lines_done-source e (x ∷ xs) = let h = lines_done-source (line_done e x) xs in omega (arith, h)
+
+same_edge : (e f : Edge) → e.output ≡ f.output → e.place ≡ f.place → e.memory ≡ f.memory → e.source ≡ f.source → e.taken ≡ f.taken
+    → idle e ≡ idle f
+same_edge e f a b c d g = rw (a, b, c, d, g) refl
+
+pub done-idle : (e : Edge) (lines : List SourceLine) → done e lines ≡ idle (lines_done e lines)
+done-idle e lines =
+    let s = all_stands e lines in
+    same_edge (done e lines) (lines_done e lines) (sym (lines_done-output e lines)) s.place s.memory (sym (lines_done-source e lines)) s.taken
+
+lines_done-to_come : (e : Edge) (lines : List SourceLine) → e.to_come ≡ None → (lines_done e lines).to_come ≡ None
+unfolding lines_done
+lines_done-to_come e [] h = h
+lines_done-to_come e (x ∷ xs) h = lines_done-to_come (line_done e x) xs refl
+
+idle-same : (e : Edge) → e.to_come ≡ None → idle e ≡ e
+idle-same e h = ap (λ t. record e { to_come = t }) (sym h)
+
+pub done-by_line : (e : Edge) (lines : List SourceLine) → e.to_come ≡ None → done e lines ≡ lines_done e lines
+done-by_line e lines h = done-idle e lines ∙ idle-same (lines_done e lines) (lines_done-to_come e lines h)

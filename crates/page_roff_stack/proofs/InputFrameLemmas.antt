@@ -1,0 +1,382 @@
+-- A source as its parts and lines are passed: helpers of proofs.
+use Rattle.std.proofs.Common.{◌≡◌, ℕ, ◌+◌, ◌-◌, ◌<◌, ◌≤◌, Bool, true, false, not, ◌&&◌, ◌==◌, nat_lt, is_none, is_some, List, [], ◌∷◌, length, take, drop, Option, Some, None, refl, sym, ap, ◌∙◌, arith, length-drop}
+use Rattle.std.proofs.lemmas.Bool.Decides.{nat_tests}
+use Rattle.std.specs.Borrow.{Bor}
+use Rattle.page_core_limits.specs.declared.TheConstants.{LINE}
+use Rattle.page_roff_blocks.specs.declared.atoms.Atom.{Atom}
+use Rattle.page_roff_blocks.specs.declared.line_places.LinePlace.{LinePlace}
+use Rattle.page_roff_blocks.specs.Atoms.{atoms, ReadsNext}
+use Rattle.page_roff_blocks.specs.Levels.{Opened, Spot, at_line}
+use Rattle.page_roff_blocks.specs.LinePlaces.{parts_at, line_end, is_at_end, IsPlaceIn}
+use Rattle.page_roff_blocks.proofs.AtomLemmas.{atoms_cons}
+use Rattle.page_roff_blocks.proofs.RoomLemmas.{atoms_room}
+use Rattle.page_roff_language.specs.Machine.{Frame, at_part}
+use Rattle.page_roff_language.specs.Measures.{weight, work_in}
+use Rattle.page_roff_stack.specs.declared.input_frames.InputFrame.{InputFrame}
+use Rattle.page_roff_stack.specs.declared.spans.Span.{Span}
+use Rattle.page_roff_values.specs.Arguments.{lines_in}
+use Rattle.page_roff_stack.specs.Changes.{past, first_branch, first_region, in_region, next_line, first_atoms, begins_next, begins_line, ends_with, is_over, AreShort, IsBounded}
+use Rattle.page_roff_stack.specs.Held.{span_text, only_line, AreLinesOf, IsSpanIn, IsFirstLine}
+use Rattle.page_roff_stack.specs.InputFrames.{frame_of, IsHeld}
+use Rattle.page_roff_stack.specs.Views.{parts_seen, IsNextLine}
+use Rattle.page_roff_stack.proofs.LineLemmas.{span_len, some_line, no_lines}
+
+-- ---- a part is read
+
+pub reads_rest : (old : List (Atom (List ℕ))) (part : Option (Atom (Bor (List ℕ)))) (new : List (Atom (List ℕ))) → ReadsNext old part new → new ≡ drop 1 old
+reads_rest old None new h = h.1 ∙ sym (ap (drop 1) h.0)
+reads_rest old (Some part) new h = sym (ap (drop 1) h)
+
+pub reads_first : (old : List (Atom (List ℕ))) (part : Option (Atom (Bor (List ℕ)))) (new : List (Atom (List ℕ))) → ReadsNext old part new → parts_seen part ≡ take 1 old
+reads_first old None new h = sym (ap (take 1) h.0)
+reads_first old (Some part) new h = sym (ap (take 1) h)
+
+first_branch_of : (parts : List (Atom (List ℕ))) → first_branch (take 1 parts) ≡ first_branch parts
+first_branch_of [] = refl
+first_branch_of (part ∷ more) = refl
+
+first_region_of : (is_run : Bool) (parts : List (Atom (List ℕ))) → first_region is_run (take 1 parts) ≡ first_region is_run parts
+first_region_of is_run [] = refl
+first_region_of is_run (part ∷ more) = refl
+
+pub reads_branch : (old : List (Atom (List ℕ))) (part : Option (Atom (Bor (List ℕ)))) (new : List (Atom (List ℕ))) → ReadsNext old part new
+    → first_branch (parts_seen part) ≡ first_branch old
+reads_branch old part new h = ap first_branch (reads_first old part new h) ∙ first_branch_of old
+
+pub reads_region : (is_run : Bool) (old : List (Atom (List ℕ))) (part : Option (Atom (Bor (List ℕ)))) (new : List (Atom (List ℕ))) → ReadsNext old part new
+    → first_region is_run (parts_seen part) ≡ first_region is_run old
+reads_region is_run old part new h = ap (first_region is_run) (reads_first old part new h) ∙ first_region_of is_run old
+
+-- ---- a part is passed
+
+-- in the present line, which is this text, a part was read up to this place
+pub record IsRead (a : InputFrame) (all text : List ℕ) (part : Option (Atom (Bor (List ℕ)))) (place : LinePlace) : Type 0 where
+  pub text_is : text ≡ span_text a.line all
+  pub next : ReadsNext (parts_at text a.place) part (parts_at text place)
+  pub within : IsPlaceIn text place
+
+abbrev pub passed : InputFrame → LinePlace → Spot → InputFrame
+passed a place spot = record a { place = place; spot = spot }
+
+pub past_view : (a : InputFrame) (all text : List ℕ) (part : Option (Atom (Bor (List ℕ)))) (place : LinePlace) (spot : Spot) → IsRead a all text part place
+    → frame_of (passed a place spot) all ≡ past spot (frame_of a all)
+unfolding at_part
+past_view a all text part place spot h =
+    let e = rw h.text_is at (reads_rest (parts_at text a.place) part (parts_at text place) h.next) in
+    ap (λ parts. let f : Frame = record { kind = (frame_of a all).kind; region = a.region; parts = parts; spot = spot; lines = (frame_of a all).lines } in f) e
+
+past_bounded : (f : Frame) (spot : Spot) → spot.levels.skipped + length (drop 1 f.parts) ≤ f.spot.levels.skipped + length f.parts → IsBounded f → IsBounded (past spot f)
+unfolding at_part work_in
+past_bounded f spot p h = record { short = h.short; skips = omega (arith, p, h.skips) }
+
+past_held_by : (a : InputFrame) (all text : List ℕ) (part : Option (Atom (Bor (List ℕ)))) (place : LinePlace) (spot : Spot) → IsHeld a all → IsRead a all text part place
+    → spot.levels.skipped + length (drop 1 (frame_of a all).parts) ≤ a.spot.levels.skipped + length (frame_of a all).parts
+    → IsHeld (passed a place spot) all
+past_held_by a all text part place spot h r p =
+    record {
+      line = h.line;
+      short = h.short;
+      place = rw r.text_is at r.within;
+      lines = h.lines;
+      only = h.only;
+      arguments = h.arguments;
+      bounds = rw (past_view a all text part place spot r) (past_bounded (frame_of a all) spot p h.bounds);
+    }
+
+-- no block more is skipped
+pub past_held : (a : InputFrame) (all text : List ℕ) (part : Option (Atom (Bor (List ℕ)))) (place : LinePlace) (spot : Spot) → IsHeld a all → IsRead a all text part place
+    → spot.levels.skipped ≤ a.spot.levels.skipped → IsHeld (passed a place spot) all
+past_held a all text part place spot h r p =
+    past_held_by a all text part place spot h r (omega (arith, p, length-drop 1 (frame_of a all).parts))
+
+-- one block more is skipped
+pub deeper_held : (a : InputFrame) (all text : List ℕ) (part : Option (Atom (Bor (List ℕ)))) (place : LinePlace) (spot : Spot) → IsHeld a all → IsRead a all text part place
+    → spot.levels.skipped ≤ a.spot.levels.skipped + 1 → 0 < length (frame_of a all).parts → IsHeld (passed a place spot) all
+deeper_held a all text part place spot h r p q =
+    past_held_by a all text part place spot h r (omega (arith, p, q, length-drop 1 (frame_of a all).parts))
+
+pub read_branch : (a : InputFrame) (all text : List ℕ) (part : Option (Atom (Bor (List ℕ)))) (place : LinePlace) → IsRead a all text part place
+    → first_branch (parts_seen part) ≡ first_branch (frame_of a all).parts
+read_branch a all text part place h =
+    reads_branch (parts_at text a.place) part (parts_at text place) h.next ∙ ap (λ line. first_branch (parts_at line a.place)) h.text_is
+
+pub read_region : (is_run : Bool) (a : InputFrame) (all text : List ℕ) (part : Option (Atom (Bor (List ℕ)))) (place : LinePlace) → IsRead a all text part place
+    → first_region is_run (parts_seen part) ≡ first_region is_run (frame_of a all).parts
+read_region is_run a all text part place h =
+    reads_region is_run (parts_at text a.place) part (parts_at text place) h.next ∙ ap (λ line. first_region is_run (parts_at line a.place)) h.text_is
+
+-- ---- the rest of the present line is passed
+
+abbrev pub closed : InputFrame → LinePlace → Option Opened → Spot → InputFrame
+closed a place region spot = record a { place = place; region = region; spot = spot }
+
+pub closed_view : (a : InputFrame) (all : List ℕ) (place : LinePlace) (region : Option Opened) (spot : Spot) → place ≡ line_end → spot ≡ at_line a.spot.levels
+    → frame_of (closed a place region spot) all ≡ in_region region (frame_of a all)
+closed_view a all place region spot e g = rw (e, g) refl
+
+closed_bounded : (region : Option Opened) (f : Frame) → IsBounded f → IsBounded (in_region region f)
+unfolding work_in at_line
+closed_bounded region f h = record { short = h.short; skips = omega (arith, h.skips) }
+
+pub closed_held : (a : InputFrame) (all : List ℕ) (place : LinePlace) (region : Option Opened) (spot : Spot) → place ≡ line_end → spot ≡ at_line a.spot.levels → IsHeld a all
+    → IsHeld (closed a place region spot) all
+closed_held a all place region spot e g h =
+    record {
+      line = h.line;
+      short = h.short;
+      place = rw e tt;
+      lines = h.lines;
+      only = h.only;
+      arguments = h.arguments;
+      bounds = rw (closed_view a all place region spot e g) (closed_bounded region (frame_of a all) h.bounds);
+    }
+
+-- ---- a line is passed
+
+-- the first line stands here, and those after it there
+pub record IsPassed (a : InputFrame) (all : List ℕ) (line lines : Span) : Type 0 where
+  pub first : IsFirstLine (frame_of a all).lines (span_text line all)
+  pub rest : lines_in (span_text lines all) ≡ drop 1 (frame_of a all).lines
+  pub line_within : IsSpanIn line all
+  pub lines_within : IsSpanIn lines all
+
+abbrev pub lined : InputFrame → Span → LinePlace → Span → Option Opened → Spot → InputFrame
+lined a line place lines region spot = record a { line = line; place = place; lines = lines; region = region; spot = spot }
+
+first_parts : (lines : List (List ℕ)) (text : List ℕ) → 0 < length lines → IsFirstLine lines text → atoms text ≡ first_atoms lines
+first_parts [] text p h = absurd (omega arith)
+first_parts (line ∷ lines) text p h = rw h refl
+
+first_short : (lines : List (List ℕ)) (text : List ℕ) → 0 < length lines → IsFirstLine lines text → AreShort lines → length text ≤ LINE
+first_short [] text p h s = absurd (omega arith)
+first_short (line ∷ lines) text p h s = rw h s.0
+
+first_weight : (lines : List (List ℕ)) → length (first_atoms lines) + weight (drop 1 lines) ≤ weight lines
+unfolding weight
+first_weight [] = omega arith
+first_weight (line ∷ lines) = omega (arith, atoms_room line)
+
+rest_weight : (lines : List (List ℕ)) → weight (drop 1 lines) ≤ weight lines
+unfolding weight
+rest_weight [] = omega arith
+rest_weight (line ∷ lines) = omega arith
+
+rest_short : (lines : List (List ℕ)) → AreShort lines → AreShort (drop 1 lines)
+rest_short [] h = tt
+rest_short (line ∷ lines) h = h.1
+
+next_bounded : (region : Option Opened) (parts : List (Atom (List ℕ))) (f : Frame) → length parts + weight (drop 1 f.lines) ≤ weight f.lines → IsBounded f
+    → IsBounded (next_line region parts f)
+unfolding work_in at_line
+next_bounded region parts f p h = record { short = rest_short f.lines h.short; skips = omega (arith, p, h.skips) }
+
+-- the place before the first part of a text
+pub record IsStart (text : List ℕ) (place : LinePlace) : Type 0 where
+  pub parts : parts_at text place ≡ atoms text
+  pub within : IsPlaceIn text place
+
+-- after the only line of the page nothing is left
+only_rest : (arguments : Option ℕ) (old new : List ℕ) → AreLinesOf arguments old → lines_in new ≡ drop 1 (lines_in old) → AreLinesOf arguments new
+only_rest None old new h e = none_left new (e ∙ ap (drop 1) h ∙ drop_only old)
+  where
+    drop_only : (text : List ℕ) → drop 1 (only_line text) ≡ []
+    drop_only [] = refl
+    drop_only (byte ∷ bytes) = refl
+
+    none_left : (text : List ℕ) → lines_in text ≡ [] → lines_in text ≡ only_line text
+    none_left [] e = e
+    none_left (byte ∷ bytes) e =
+        let n : 0 < length (byte ∷ bytes) = omega arith in
+        let p = some_line (byte ∷ bytes) (grind (arith, nat_tests)) in
+        absurd (omega (arith, p, ap length e))
+only_rest (Some start) old new h e = tt
+
+-- a line begins outside of regions
+pub outside_regions : (region : Option Opened) (parts : List (Atom (List ℕ))) (lines : List (List ℕ)) → begins_next region parts lines ≡ true
+    → (region ≡ None) × (0 < length lines)
+outside_regions None [] (line ∷ more) e = (refl, omega arith)
+outside_regions None [] [] e = cc
+outside_regions None (part ∷ more) lines e = cc
+outside_regions (Some o) parts lines e = cc
+
+-- a line begins
+pub begun_view : (a : InputFrame) (all : List ℕ) (line : Span) (place : LinePlace) (lines : Span) (spot : Spot) → IsPassed a all line lines → begins_line (frame_of a all) ≡ true
+    → IsStart (span_text line all) place → spot ≡ at_line a.spot.levels
+    → frame_of (lined a line place lines a.region spot) all ≡ next_line None (first_atoms (frame_of a all).lines) (frame_of a all)
+begun_view a all line place lines spot h b e g =
+    let outside = outside_regions a.region (frame_of a all).parts (frame_of a all).lines b in
+    let p = outside.1 in
+    rw (e.parts, g, h.rest, outside.0) (
+    ap (λ parts. let f : Frame = record { kind = (frame_of a all).kind; region = None; parts = parts; spot = at_line a.spot.levels; lines = drop 1 (frame_of a all).lines } in f)
+    (first_parts (frame_of a all).lines (span_text line all) p h.first)
+    )
+
+pub begun_held : (a : InputFrame) (all : List ℕ) (line : Span) (place : LinePlace) (lines : Span) (spot : Spot) → IsPassed a all line lines → begins_line (frame_of a all) ≡ true
+    → IsStart (span_text line all) place → spot ≡ at_line a.spot.levels → IsHeld a all → IsHeld (lined a line place lines a.region spot) all
+begun_held a all line place lines spot h b e g held =
+    let p = (outside_regions a.region (frame_of a all).parts (frame_of a all).lines b).1 in
+    let f = frame_of a all in
+    let l = span_len line all h.line_within in
+    let s = first_short f.lines (span_text line all) p h.first held.bounds.short in
+    record {
+      line = h.line_within;
+      short = omega (arith, l, s, h.line_within.0);
+      place = e.within;
+      lines = h.lines_within;
+      only = only_rest a.arguments (span_text a.lines all) (span_text lines all) held.only h.rest;
+      arguments = held.arguments;
+      bounds = rw (begun_view a all line place lines spot h b e g) (next_bounded None (first_atoms f.lines) f (first_weight f.lines) held.bounds);
+    }
+
+-- a line in a region is passed
+abbrev pub skipped : InputFrame → LinePlace → Span → Spot → InputFrame
+skipped a place lines spot = record a { place = place; lines = lines; spot = spot }
+
+pub skipped_view : (a : InputFrame) (all : List ℕ) (line : Span) (place : LinePlace) (lines : Span) (spot : Spot) → IsPassed a all line lines → place ≡ line_end → spot ≡ at_line a.spot.levels
+    → frame_of (skipped a place lines spot) all ≡ next_line a.region [] (frame_of a all)
+skipped_view a all line place lines spot h e g = rw (e, g, h.rest) refl
+
+pub skipped_held : (a : InputFrame) (all : List ℕ) (line : Span) (place : LinePlace) (lines : Span) (spot : Spot) → IsPassed a all line lines → place ≡ line_end → spot ≡ at_line a.spot.levels
+    → IsHeld a all → IsHeld (skipped a place lines spot) all
+skipped_held a all line place lines spot h e g held =
+    let f = frame_of a all in
+    record {
+      line = held.line;
+      short = held.short;
+      place = rw e tt;
+      lines = h.lines_within;
+      only = only_rest a.arguments (span_text a.lines all) (span_text lines all) held.only h.rest;
+      arguments = held.arguments;
+      bounds = rw (skipped_view a all line place lines spot h e g) (next_bounded a.region [] f (omega (arith, rest_weight f.lines)) held.bounds);
+    }
+
+-- a region ends
+pub ended_held : (a : InputFrame) (all : List ℕ) → IsHeld a all → IsHeld (record a { region = None }) all
+unfolding work_in
+ended_held a all h =
+    record {
+      line = h.line;
+      short = h.short;
+      place = h.place;
+      lines = h.lines;
+      only = h.only;
+      arguments = h.arguments;
+      bounds = record { short = h.bounds.short; skips = h.bounds.skips };
+    }
+
+-- ---- the line that comes next
+
+pub next_line_is : (lines : List (List ℕ)) (text : List ℕ) → IsFirstLine lines text → AreShort lines → 0 < length lines → IsNextLine lines (Some text)
+next_line_is [] text h s p = absurd (omega arith)
+next_line_is (line ∷ lines) text h s p = (h, rw h s.0)
+
+-- ---- whether a line begins
+
+-- no part comes after the last place
+pub end_parts : (text : List ℕ) (place : LinePlace) → is_at_end place ≡ true → parts_at text place ≡ []
+end_parts text place e = at_parts text place.is_whole place.is_end place.rest e
+  where
+    at_parts : (text : List ℕ) (is_whole is_end : Bool) (rest : Option ℕ) → (not is_whole && (not is_end && is_none rest)) ≡ true
+        → parts_at text (record { is_whole = is_whole; is_end = is_end; rest = rest }) ≡ []
+    at_parts text true is_end rest e = absurd (cc)
+    at_parts text false true rest e = absurd (cc)
+    at_parts text false false None e = refl
+    at_parts text false false (Some start) e = absurd (cc)
+
+pub some_parts : (text : List ℕ) (place : LinePlace) → is_at_end place ≡ false → 0 < length (parts_at text place)
+some_parts text place e = at_parts text place.is_whole place.is_end place.rest e
+  where
+    at_parts : (text : List ℕ) (is_whole is_end : Bool) (rest : Option ℕ) → (not is_whole && (not is_end && is_none rest)) ≡ false
+        → 0 < length (parts_at text (record { is_whole = is_whole; is_end = is_end; rest = rest }))
+    at_parts text true is_end rest e = omega arith
+    at_parts text false true rest e = omega arith
+    at_parts text false false None e = absurd (cc)
+    at_parts text false false (Some start) e = rw (atoms_cons (drop start text)) (omega arith)
+
+begins_region : (region : Option Opened) (parts : List (Atom (List ℕ))) (lines : List (List ℕ)) → is_some region ≡ true → false ≡ begins_next region parts lines
+begins_region None parts lines e = absurd (cc)
+begins_region (Some o) parts lines e = refl
+
+begins_part : (region : Option Opened) (parts : List (Atom (List ℕ))) (lines : List (List ℕ)) → 0 < length parts → false ≡ begins_next region parts lines
+begins_part None [] lines h = absurd (omega arith)
+begins_part None (part ∷ more) lines h = refl
+begins_part (Some o) parts lines h = refl
+
+begins_lines : (lines : List (List ℕ)) (b : Bool) → (b ≡ true → 0 < length lines) → (b ≡ false → lines ≡ []) → b ≡ begins_next None [] lines
+begins_lines [] true some none = absurd (let h = some refl in omega (arith, h))
+begins_lines [] false some none = refl
+begins_lines (line ∷ more) true some none = refl
+begins_lines (line ∷ more) false some none = let h = none refl in absurd (cc)
+
+begins_outside : (region : Option Opened) (parts : List (Atom (List ℕ))) (lines : List (List ℕ)) (b : Bool) → is_some region ≡ false → parts ≡ []
+    → (b ≡ true → 0 < length lines) → (b ≡ false → lines ≡ []) → b ≡ begins_next region parts lines
+begins_outside None parts lines b e p some none = rw p (begins_lines lines b some none)
+begins_outside (Some o) parts lines b e p some none = absurd (cc)
+
+less_some : (start end n : ℕ) → n ≡ end - start → nat_lt start end ≡ true → (n == 0) ≡ false
+less_some start end n k t =
+    let p : start < end = grind (arith, nat_tests) in
+    let q : 0 < n = omega arith in
+    grind (arith, nat_tests)
+
+less_none : (start end n : ℕ) → n ≡ end - start → nat_lt start end ≡ false → (n == 0) ≡ true
+less_none start end n k t =
+    let p : end ≤ start = grind (arith, nat_tests) in
+    let q : n ≡ 0 = omega arith in
+    grind (arith, nat_tests)
+
+pub not_in_region : (a : InputFrame) (all : List ℕ) → is_some a.region ≡ true → false ≡ begins_line (frame_of a all)
+not_in_region a all e = begins_region a.region (frame_of a all).parts (frame_of a all).lines e
+
+pub not_in_line : (a : InputFrame) (all : List ℕ) → is_at_end a.place ≡ false → false ≡ begins_line (frame_of a all)
+not_in_line a all e = begins_part a.region (frame_of a all).parts (frame_of a all).lines (some_parts (span_text a.line all) a.place e)
+
+pub begins_here : (a : InputFrame) (all : List ℕ) → is_some a.region ≡ false → is_at_end a.place ≡ true → IsSpanIn a.lines all
+    → nat_lt a.lines.start a.lines.end ≡ begins_line (frame_of a all)
+begins_here a all e p h =
+    let k = span_len a.lines all h in
+    let n = length (span_text a.lines all) in
+    begins_outside a.region (frame_of a all).parts (frame_of a all).lines (nat_lt a.lines.start a.lines.end) e (end_parts (span_text a.line all) a.place p)
+    (λ b. some_line (span_text a.lines all) (less_some a.lines.start a.lines.end n k b))
+    (λ b. no_lines (span_text a.lines all) (less_none a.lines.start a.lines.end n k b))
+
+-- ---- whether nothing is left
+
+lines_left : (region : Option Opened) (parts : List (Atom (List ℕ))) (lines : List (List ℕ)) → 0 < length lines → false ≡ ends_with region parts lines
+lines_left None [] [] h = absurd (omega arith)
+lines_left None [] (line ∷ more) h = refl
+lines_left None (part ∷ more) lines h = refl
+lines_left (Some o) parts [] h = absurd (omega arith)
+lines_left (Some o) parts (line ∷ more) h = refl
+
+region_over : (region : Option Opened) (parts : List (Atom (List ℕ))) → is_some region ≡ true → true ≡ ends_with region parts []
+region_over None parts e = absurd (cc)
+region_over (Some o) parts e = refl
+
+line_over : (region : Option Opened) (parts : List (Atom (List ℕ))) (b : Bool) → is_some region ≡ false
+    → (b ≡ true → parts ≡ []) → (b ≡ false → 0 < length parts) → b ≡ ends_with region parts []
+line_over None [] true e none some = refl
+line_over None [] false e none some = absurd (let h = some refl in omega (arith, h))
+line_over None (part ∷ more) true e none some = let h = none refl in absurd (cc)
+line_over None (part ∷ more) false e none some = refl
+line_over (Some o) parts b e none some = absurd (cc)
+
+lines_none : (a : InputFrame) (all : List ℕ) → a.lines.end ≤ a.lines.start → IsSpanIn a.lines all → (frame_of a all).lines ≡ []
+lines_none a all p h =
+    let k = span_len a.lines all h in
+    let n : length (span_text a.lines all) ≡ 0 = omega arith in
+    no_lines (span_text a.lines all) (grind (arith, nat_tests))
+
+pub lines_here : (a : InputFrame) (all : List ℕ) → a.lines.start < a.lines.end → IsSpanIn a.lines all → false ≡ is_over (frame_of a all)
+lines_here a all p h =
+    let k = span_len a.lines all h in
+    let n : 0 < length (span_text a.lines all) = omega arith in
+    lines_left a.region (frame_of a all).parts (frame_of a all).lines (some_line (span_text a.lines all) (grind (arith, nat_tests)))
+
+pub over_region : (a : InputFrame) (all : List ℕ) → is_some a.region ≡ true → a.lines.end ≤ a.lines.start → IsSpanIn a.lines all → true ≡ is_over (frame_of a all)
+over_region a all e p h = rw (lines_none a all p h) (region_over a.region (frame_of a all).parts e)
+
+pub over_line : (a : InputFrame) (all : List ℕ) → is_some a.region ≡ false → a.lines.end ≤ a.lines.start → IsSpanIn a.lines all → is_at_end a.place ≡ is_over (frame_of a all)
+over_line a all e p h =
+    rw (lines_none a all p h)
+    (line_over a.region (frame_of a all).parts (is_at_end a.place) e (end_parts (span_text a.line all) a.place) (some_parts (span_text a.line all) a.place))

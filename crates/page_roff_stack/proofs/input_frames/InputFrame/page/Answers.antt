@@ -1,0 +1,17 @@
+use Rattle.std.proofs.Common.{None, refl}
+use Rattle.page_roff_stack.specs.declared.input_frames.InputFrame.{InputFrame}
+use Rattle.page_roff_stack.proofs.NewLemmas.{span, empty_set}
+use Rattle.page_roff_stack.proofs.input_frames.InputFrame.page.Goals as goal
+
+pub returns : goal.returns
+returns c =
+    let a : InputFrame = record {
+      arguments = None;
+      line = span 0 0;
+      place = c.end.result;
+      lines = span 0 0;
+      region = None;
+      spot = c.new.result;
+    } in
+    let set = empty_set a refl refl c.end.ensures refl refl c.new.ensures in
+    record { held = set.0; frame = set.1 }

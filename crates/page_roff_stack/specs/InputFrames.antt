@@ -1,0 +1,29 @@
+-- A source that is being run, as the code holds it: places in a text that holds its lines, each with a line feed at its end, and after them the
+-- arguments of a macro.
+use Rattle.std.specs.Prelude.{ℕ, ◌+◌, ◌≤◌, List}
+use Rattle.page_core_limits.specs.declared.TheConstants.{LINE}
+use Rattle.page_roff_blocks.specs.LinePlaces.{parts_at, IsPlaceIn}
+use Rattle.page_roff_language.specs.Machine.{Frame}
+use Rattle.page_roff_stack.specs.declared.input_frames.InputFrame.{InputFrame}
+use Rattle.page_roff_stack.specs.Changes.{IsBounded}
+use Rattle.page_roff_values.specs.Arguments.{lines_in}
+use Rattle.page_roff_stack.specs.Held.{span_text, IsSpanIn, kind_in, AreArgumentsIn, AreLinesOf}
+
+abbrev pub frame_of : InputFrame → List ℕ → Frame
+frame_of a text = record {
+  kind = kind_in a.arguments text;
+  region = a.region;
+  parts = parts_at (span_text a.line text) a.place;
+  spot = a.spot;
+  lines = lines_in (span_text a.lines text);
+}
+
+-- the places of a source lie in this text
+pub record IsHeld (a : InputFrame) (text : List ℕ) : Type 0 where
+  pub line : IsSpanIn a.line text
+  pub short : a.line.end ≤ a.line.start + LINE
+  pub place : IsPlaceIn (span_text a.line text) a.place
+  pub lines : IsSpanIn a.lines text
+  pub only : AreLinesOf a.arguments (span_text a.lines text)
+  pub arguments : AreArgumentsIn a.arguments text
+  pub bounds : IsBounded (frame_of a text)

@@ -1,0 +1,76 @@
+//! The parts of words: a row may end after a hyphen between two letters (roff(7), "Filling and adjusting").
+
+ghost use Rattle.std.specs.Prelude.{◌≡◌, ◌<◌, ◌==◌, false, length};
+ghost use Rattle.page_core_base.specs.Latches.{Came, CameUpTo};
+ghost use Rattle.page_core_escapes.specs.Tokens.{is_space, plain, token_seen};
+ghost use Rattle.page_scopes_text.specs.Parts.{later_items};
+ghost use Rattle.page_scopes_text.specs.Words as words;
+
+use crate::tokens::{give_letters, give_token};
+use page_core_base::{Font, Piece, PieceOut, Place, first_part_len};
+use page_core_escapes::Token;
+
+// Gives the first part of bytes that print themselves; what is left of them.
+fn give_first<'a, O: PieceOut>(out: &mut O, font: Font, place: Place, bytes: &'a [u8]) -> &'a [u8]
+    requires { (length bytes.now == 0) ≡ false }
+    ensures came { CameUpTo O.left out.old
+        (words.parts_items font place bytes.now) (later_items font place result.now) out.new }
+    ensures less { length result.now < length bytes.now }
+{
+    let (part, rest) = bytes.split_at(first_part_len(bytes));
+    give_letters(out, font, place, part);
+    rest
+}
+
+/// Gives bytes that print themselves, at whose hyphens a row may end.
+pub(crate) fn give_parts<O: PieceOut>(out: &mut O, font: Font, place: Place, bytes: &[u8])
+    ensures { Came O.left out.old (words.parts_items font place bytes.now) out.new }
+{
+    if bytes.is_empty() {
+        return;
+    }
+    let mut rest = give_first(out, font, place, bytes);
+    while !rest.is_empty() {
+        out.give(Piece::Split);
+        rest = give_first(out, font, place, rest);
+    }
+}
+
+/// Gives bytes that print themselves, and are parted or not.
+#[inline(always)]
+pub(crate) fn give_plain_token<O: PieceOut>(
+    out: &mut O,
+    splits: bool,
+    font: Font,
+    place: Place,
+    bytes: &[u8],
+)
+    ensures { Came O.left out.old
+        (words.printed_items splits font place (plain bytes.now)) out.new }
+{
+    if splits {
+        give_parts(out, font, place, bytes);
+    } else {
+        give_letters(out, font, place, bytes);
+    }
+}
+
+/// Gives what a token of a word prints.
+#[inline(always)]
+pub(crate) fn give_printed<O: PieceOut>(
+    out: &mut O,
+    splits: bool,
+    font: Font,
+    place: Place,
+    token: &Token<'_>,
+)
+    requires { is_space (token_seen token.now) ≡ false }
+    ensures { Came O.left out.old
+        (words.printed_items splits font place (token_seen token.now)) out.new }
+{
+    if let Token::Plain(bytes) = *token {
+        give_plain_token(out, splits, font, place, bytes);
+    } else {
+        give_token(out, font, place, token);
+    }
+}

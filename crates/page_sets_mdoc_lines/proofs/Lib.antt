@@ -1,0 +1,4 @@
+pub mod CursorLemmas
+pub mod ExtentLemmas
+pub mod FewLemmas
+pub mod PartLemmas

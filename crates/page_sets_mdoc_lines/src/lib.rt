@@ -1,0 +1,14 @@
+//! A control line of mdoc(7) parted, before any macro means anything: which macros stand in it, and the words of
+//! each. The definition is `parts` in `specs/Parts.antt`; the code reads a line with a cursor, and knows the extent of
+//! a macro's words before it reads them, so that each argument is read a few times, whatever the line.
+#![tactic(auto)]
+
+mod cursors;
+mod extents;
+mod laws;
+mod line_words;
+
+pub use cursors::Cursor;
+pub use extents::{Extent, find_extent};
+pub use laws::{few_law, front_law, parts_law};
+pub use line_words::{is_closing, is_real, takes_next, word_call, word_delimiter};

@@ -1,0 +1,71 @@
+//! What a word of a line is: a delimiter, a call of a macro, or what a macro takes as it stands (mdoc(7), "MACRO
+//! SYNTAX").
+
+ghost use Rattle.std.specs.Prelude.{◌≡◌};
+ghost use Rattle.page_roff_forms.specs.Arguments.{argument_seen};
+ghost use Rattle.page_sets_mdoc_lines.specs.LineWords as words;
+
+use page_roff_forms::Argument;
+use page_sets_mdoc_rows::{Delimiter, Inline, Pair, called, delimiter_of};
+
+/// The delimiter that a word is, if it is one; a word with quotes is none.
+#[tactic(auto, unfolding(crate::specs::LineWords::word_delimiter))]
+pub fn word_delimiter(word: Argument<&[u8]>) -> Option<Delimiter>
+    ensures { result ≡ words.word_delimiter (argument_seen word.entry) }
+{
+    if word.is_quoted() {
+        return None;
+    }
+    delimiter_of(word.text)
+}
+
+/// What a word calls in a line whose words can; a word with quotes calls nothing.
+#[tactic(auto, unfolding(crate::specs::LineWords::word_call))]
+pub fn word_call(name: Argument<&[u8]>) -> Option<Inline>
+    ensures { result ≡ words.word_call (argument_seen name.entry) }
+{
+    if name.is_quoted() {
+        return None;
+    }
+    called(name.text)
+}
+
+/// Whether a word is a closing delimiter.
+#[tactic(auto, unfolding(crate::specs::LineWords::is_closing))]
+pub fn is_closing(word: Argument<&[u8]>) -> bool
+    ensures { result ≡ words.is_closing (argument_seen word.entry) }
+{
+    matches!(word_delimiter(word), Some(Delimiter::Closing))
+}
+
+/// Whether a word is no delimiter.
+#[tactic(auto, unfolding(crate::specs::LineWords::is_real))]
+pub fn is_real(word: Argument<&[u8]>) -> bool
+    ensures { result ≡ words.is_real (argument_seen word.entry) }
+{
+    word_delimiter(word).is_none()
+}
+
+// Whether `Eo` or `Ec` takes a word as its mark.
+fn takes_mark(pair: Pair, word: Argument<&[u8]>) -> bool
+    ensures { result ≡ words.takes_mark pair (argument_seen word.entry) }
+{
+    match pair {
+        Pair::Custom => word_call(word).is_none(),
+        Pair::Quotation(_) | Pair::Function | Pair::Extension => false,
+    }
+}
+
+/// Whether a macro takes the word after it as it stands: `Pf` any word, `Eo` and `Ec` one that names no macro, `An`
+/// how authors are parted.
+#[tactic(auto, unfolding(crate::specs::LineWords::takes_next))]
+pub fn takes_next(inline: Inline, word: Argument<&[u8]>) -> bool
+    ensures { result ≡ words.takes_next inline (argument_seen word.entry) }
+{
+    match inline {
+        Inline::Prefix => true,
+        Inline::Author => word.text == b"-split".as_slice() || word.text == b"-nosplit".as_slice(),
+        Inline::Opens(pair) | Inline::Closes(pair) => takes_mark(pair, word),
+        _ => false,
+    }
+}

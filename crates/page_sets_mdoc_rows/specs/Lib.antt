@@ -1,0 +1,3 @@
+pub mod Names
+pub mod Rows
+pub mod Delimiters

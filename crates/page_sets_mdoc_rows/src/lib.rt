@@ -1,0 +1,15 @@
+//! The table of mdoc(7): which macro a name names, and which words part the others as delimiters. First of the
+//! crates of that set; read `macros.rt`, then `rows.rt`.
+#![tactic(auto)]
+
+mod blocks;
+mod delimiters;
+mod macros;
+mod rows;
+
+pub use blocks::{
+    Block, HeadingName, LineMacro, OneLineName, ParagraphName, PrologueName, Sentence,
+};
+pub use delimiters::{Delimiter, delimiter_of};
+pub use macros::{Defaulted, Inline, Marks, Pair, Quotation, System, WordFont};
+pub use rows::{called, is_parsed, line_macro};
