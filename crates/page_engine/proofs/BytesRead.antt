@@ -4,14 +4,14 @@ use Rattle.std.specs.Io.KnownBytes.{Consumes}
 use Rattle.page_core_base.specs.Messages.{Message}
 use Rattle.page_core_base.specs.Rows.{LaidRow}
 use Rattle.page_core_base.specs.Sinks.{IsSink}
-use Rattle.page_core_base.specs.Laid.{Laid, Gave, join, join_assoc}
+use Rattle.page_core_base.specs.Laid.{Laid, Gave, join}
 use Rattle.page_core_base.proofs.SinkLemmas.{within-join}
 use Rattle.page_roff_lines.specs.Cutting.{Point, point_after, lines_within, last_line, lines_from}
 use Rattle.page_roff_lines.proofs.PointLemmas.{lines_within-append}
-use Rattle.page_engine.specs.Page.{Edge, settled, page, ended}
+use Rattle.page_engine.specs.Page.{Edge, IsReached, settled, page}
 use Rattle.page_engine.specs.Runs.{page_from, settled_from}
 use Rattle.page_engine.specs.Sources.{SourceState, HasGiven, counted}
-use Rattle.page_engine.proofs.Lists.{settled-append}
+use Rattle.page_engine.proofs.WholeLines.{settled-append, page-append}
 
 pub consumes_none : (a : Option (List ℕ)) → Consumes a a []
 consumes_none None = tt
@@ -48,21 +48,22 @@ given_end {s} {t} {u} a b xs g h = rw append-nil at (given_more a b xs [] g h)
 
 -- ---- what is settled of more bytes
 
-pub settled_more : (e : Edge) (p q : Point) (xs ys : List ℕ) → q ≡ point_after p xs
+pub settled_more : (e : Edge) (p q : Point) (xs ys : List ℕ) → IsReached e → q ≡ point_after p xs
     → settled_from e p (xs ++ ys) ≡ join (settled_from e p xs) (settled_from (settled_from e p xs).edge q ys)
-settled_more e p q xs ys h = rw h (ap (settled e) (lines_within-append p xs ys) ∙ settled-append e (lines_within p xs) (lines_within (point_after p xs) ys))
+settled_more e p q xs ys i h =
+    rw h (ap (settled e) (lines_within-append p xs ys) ∙ settled-append e (lines_within p xs) (lines_within (point_after p xs) ys) i)
 
-pub page_last : (e : Edge) (p q : Point) (xs : List ℕ) → q ≡ point_after p xs
+pub page_last : (e : Edge) (p q : Point) (xs : List ℕ) → IsReached e → q ≡ point_after p xs
     → page_from e p xs ≡ join (settled_from e p xs) (page (settled_from e p xs).edge (last_line q))
-page_last e p q xs h =
-    rw h (ap (λ (l : Laid Edge). join l (ended l.edge)) (settled-append e (lines_within p xs) (last_line (point_after p xs)))
-    ∙ join_assoc (settled e (lines_within p xs)) (settled (settled e (lines_within p xs)).edge (last_line (point_after p xs))) _)
+page_last e p q xs i h = rw h (page-append e (lines_within p xs) (last_line (point_after p xs)) i)
 
 -- a page of bytes begins with what its whole lines settle
 pub page_front : {R N : Type 0} {rg rw_ : R → List LaidRow → R → Type 0} {ng nw : N → List Message → N → Type 0} → IsSink rg rw_ → IsSink ng nw
-    → (r r' : R) (n n' : N) (e : Edge) (p : Point) (xs : List ℕ) → Gave rw_ nw r r' n n' (settled_from e p xs) → Gave rw_ nw r r' n n' (page_from e p xs)
-page_front k l r r' n n' e p xs g =
-    rw (page_last e p (point_after p xs) xs refl) (within-join k l r r' n n' (settled_from e p xs) (page (settled_from e p xs).edge (last_line (point_after p xs))) g)
+    → (r r' : R) (n n' : N) (e : Edge) (p : Point) (xs : List ℕ) → IsReached e
+    → Gave rw_ nw r r' n n' (settled_from e p xs) → Gave rw_ nw r r' n n' (page_from e p xs)
+page_front k l r r' n n' e p xs i g =
+    rw (page_last e p (point_after p xs) xs i refl)
+    (within-join k l r r' n n' (settled_from e p xs) (page (settled_from e p xs).edge (last_line (point_after p xs))) g)
 
 -- ---- two things, one after the other
 

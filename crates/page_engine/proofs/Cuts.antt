@@ -10,7 +10,8 @@ use Rattle.page_core_base.specs.Fails.{FailsBySink}
 use Rattle.page_engine.specs.declared.layers.Layers.{Layers}
 use Rattle.page_engine.specs.Levels.{given, worst_of}
 use Rattle.page_engine.specs.Layers.{IsAt}
-use Rattle.page_engine.specs.Page.{Edge, laid_notes}
+use Rattle.page_engine.specs.Page.{Edge}
+use Rattle.page_engine.specs.ByLine.{laid_notes}
 
 -- the messages of a cutting change the worst level alone
 pub cut_at : {here : Layers} {e : Edge} (worst' : Option Level) (m : List Message)

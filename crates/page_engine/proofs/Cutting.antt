@@ -4,35 +4,41 @@ use Rattle.std.specs.Prelude.{if◌then◌else◌}
 use Rattle.page_core_base.specs.Messages.{Message}
 use Rattle.page_core_base.specs.Rows.{LaidRow}
 use Rattle.page_core_base.specs.Sinks.{IsSink}
-use Rattle.page_core_base.specs.Laid.{Gave}
+use Rattle.page_core_base.specs.Laid.{Gave, nothing}
 use Rattle.page_roff_lines.specs.Decoding.{Line}
 use Rattle.page_roff_lines.specs.Cutting.{Point, point_after, lines_within, next_point, point_at}
 use Rattle.page_roff_lines.specs.Open.{open_after}
 use Rattle.page_roff_lines.proofs.OpenLaws.{open_after-consumed}
-use Rattle.page_engine.proofs.Lists.{settled_none, settled_one}
+use Rattle.page_engine.proofs.WholeLines.{settled_none}
 use Rattle.page_engine.specs.States.{PageState, IsOpenAt}
-use Rattle.page_engine.specs.Page.{Edge, settled, settled_line}
+use Rattle.page_engine.specs.Page.{Edge, IsReached, settled}
 
 -- ---- a part of the bytes
 
 -- no line was whole
 pub none_gave : {R N : Type 0} {rg rw_ : R → List LaidRow → R → Type 0} {ng nw : N → List Message → N → Type 0} → IsSink rg rw_ → IsSink ng nw
-    → (r : R) (n : N) (e : Edge) (lines : List Line) (b : Bool) (line : Line) → lines ≡ (if b then line ∷ [] else []) → b ≡ false → Gave rg ng r r n n (settled e lines)
-none_gave k l r n e lines b line h f =
-    let z : lines ≡ [] = rw f at h in rw (z, settled_none) record { rows = k.none r; notes = l.none n }
+    → (r : R) (n : N) (e : Edge) (lines : List Line) (b : Bool) (line : Line) → IsReached e
+    → lines ≡ (if b then line ∷ [] else []) → b ≡ false → Gave rg ng r r n n (settled e lines)
+none_gave k l r n e lines b line i h f =
+    let z : lines ≡ [] = rw f at h in
+    let none : settled e lines ≡ nothing e = rw z (settled_none e i) in
+    rw none record { rows = k.none r; notes = l.none n }
 
 pub none_edge : {here : PageState} (e : Edge) (lines : List Line) (b : Bool) (line : Line)
     → lines ≡ (if b then line ∷ [] else []) → b ≡ false → IsOpenAt here e → IsOpenAt here (settled e lines).edge
-none_edge e lines b line h f i = let z : lines ≡ [] = rw f at h in rw (z, settled_none) i
+none_edge e lines b line h f i =
+    let z : lines ≡ [] = rw f at h in
+    let none : settled e lines ≡ nothing e = rw z (settled_none e i.reached) in
+    rw none i
 
 -- one line was whole
 pub one_gave : {R N : Type 0} {rg : R → List LaidRow → R → Type 0} {ng : N → List Message → N → Type 0} {r r' : R} {n n' : N} (e : Edge) (lines : List Line) (b : Bool) (line : Line)
-    → lines ≡ (if b then line ∷ [] else []) → b ≡ true → Gave rg ng r r' n n' (settled_line e line) → Gave rg ng r r' n n' (settled e lines)
-one_gave e lines b line h t g = let z : lines ≡ line ∷ [] = rw t at h in rw (z, settled_one) g
+    → lines ≡ (if b then line ∷ [] else []) → b ≡ true → Gave rg ng r r' n n' (settled e (line ∷ [])) → Gave rg ng r r' n n' (settled e lines)
+one_gave e lines b line h t g = let z : lines ≡ line ∷ [] = rw t at h in rw z g
 
 pub one_edge : {here : PageState} (e : Edge) (lines : List Line) (b : Bool) (line : Line)
-    → lines ≡ (if b then line ∷ [] else []) → b ≡ true → IsOpenAt here (settled_line e line).edge → IsOpenAt here (settled e lines).edge
-one_edge e lines b line h t i = let z : lines ≡ line ∷ [] = rw t at h in rw (z, settled_one) i
+    → lines ≡ (if b then line ∷ [] else []) → b ≡ true → IsOpenAt here (settled e (line ∷ [])).edge → IsOpenAt here (settled e lines).edge
+one_edge e lines b line h t i = let z : lines ≡ line ∷ [] = rw t at h in rw z i
 
 -- a byte has at most one line
 pub at_most : (b : Bool) (line : Line) → length (if b then line ∷ [] else []) ≤ 1

@@ -4,6 +4,7 @@ pub mod Feeds
 pub mod Cuts
 pub mod Phases
 pub mod Lists
+pub mod WholeLines
 pub mod Cutting
 pub mod LineCounts
 pub mod BytesRead

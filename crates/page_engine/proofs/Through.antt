@@ -10,26 +10,26 @@ use Rattle.page_roff_lines.proofs.PointLemmas.{point_after-append}
 use Rattle.page_engine.specs.declared.runs.Run.{Run}
 use Rattle.page_engine.specs.PageSinks.{cause_later}
 use Rattle.page_engine.specs.States.{PageState, IsOpenAt}
-use Rattle.page_engine.specs.Page.{Edge, page}
+use Rattle.page_engine.specs.Page.{Edge, IsReached, page}
 use Rattle.page_engine.specs.Streams.{Streams, Sinks, AllCame, FrontCame, Front}
 use Rattle.page_engine.specs.Runs.{page_from, settled_from, Broken, BrokeIn}
 use Rattle.page_engine.specs.Steps.{CanTake, IsFresh, Moved, Settled, Through, ChunkBroke}
-use Rattle.page_engine.proofs.Lists.{settled_none}
+use Rattle.page_engine.proofs.WholeLines.{settled_none}
 use Rattle.page_engine.proofs.LineCounts.{lines_most}
 use Rattle.page_engine.proofs.Cutting.{consumed_more}
 use Rattle.page_engine.proofs.BytesRead.{settled_more, page_last, page_front, both_gave, both_within, lines_more}
 
 -- ---- no byte
 
-pub from_none : (e : Edge) (p : Point) → settled_from e p [] ≡ nothing e
+pub from_none : (e : Edge) (p : Point) → IsReached e → settled_from e p [] ≡ nothing e
 unfolding lines_within
-from_none e p = settled_none e
+from_none e p i = settled_none e i
 
 pub settles_none : {R N : Type 0} (k : Sinks R N) → IsSink k.to.row_gave k.to.row_within → IsSink k.to.note_gave k.to.note_within
     → {here : PageState} (r : R) (n : N) (e : Edge) (p : Point) → IsOpenAt here e → Settled k here r r n n e p []
 settles_none k rows notes r n e p h = record {
-  came = record { gave = rw from_none record { rows = rows.none r; notes = notes.none n }; rows_quiet = refl; notes_quiet = refl };
-  at = rw from_none h;
+  came = record { gave = rw (from_none e p h.reached) record { rows = rows.none r; notes = notes.none n }; rows_quiet = refl; notes_quiet = refl };
+  at = rw (from_none e p h.reached) h;
 }
 
 pub moved_none : (run : Run) → run.cutter.ready ≡ false → Moved run run []
@@ -44,12 +44,12 @@ through_none k rows notes run r n free =
 -- ---- more bytes
 
 pub settles_more : {R N : Type 0} (k : Sinks R N) → IsSink k.to.row_gave k.to.row_within → IsSink k.to.note_gave k.to.note_within
-    → {here next : PageState} {r a a' : R} {n b b' : N} (e : Edge) (p q : Point) (xs ys : List ℕ) → q ≡ point_after p xs
+    → {here next : PageState} {r a a' : R} {n b b' : N} (e : Edge) (p q : Point) (xs ys : List ℕ) → IsReached e → q ≡ point_after p xs
     → Settled k here r a n b e p xs → Settled k next a a' b b' (settled_from e p xs).edge q ys → Settled k next r a' n b' e p (xs ++ ys)
-settles_more k rows notes {a' = a'} {b' = b'} e p q xs ys h s t =
+settles_more k rows notes {a' = a'} {b' = b'} e p q xs ys i h s t =
     let x = settled_from e p xs in
     let y = settled_from x.edge q ys in
-    let w = settled_more e p q xs ys h in record {
+    let w = settled_more e p q xs ys i h in record {
       came = record {
         gave = rw w (both_gave rows notes a' b' x y s.came.gave t.came.gave);
         rows_quiet = t.came.rows_quiet ∙ s.came.rows_quiet;
@@ -70,7 +70,7 @@ pub through_more : {R N : Type 0} (k : Sinks R N) → IsSink k.to.row_gave k.to.
     → Through k run mid r a n b xs → Through k mid run' a a' b b' ys → Through k run run' r a' n b' (xs ++ ys)
 through_more k rows notes {run} {mid} {run'} xs ys s t = record {
   settled = λ e h. let f = s.settled e h in
-      settles_more k rows notes e run.cutter.point mid.cutter.point xs ys s.moved.point f (t.settled (settled_from e run.cutter.point xs).edge f.at);
+      settles_more k rows notes e run.cutter.point mid.cutter.point xs ys h.reached s.moved.point f (t.settled (settled_from e run.cutter.point xs).edge f.at);
   moved = moved_more xs ys s.moved t.moved;
 }
 
@@ -125,7 +125,7 @@ broken_chunk k rows notes {run} {mid} {r} {a} {a'} {n} {b} {b'} xs ys zs fault s
     let x = settled_from e p xs in
     let c = t x.edge f.at in
     let y = settled_from x.edge q c.before in
-    let w = settled_more e p q xs c.before s.moved.point in
+    let w = settled_more e p q xs c.before h.reached s.moved.point in
     let z = point_after-append p xs c.before ∙ ap (λ v. point_after v c.before) (sym s.moved.point) in record {
       before = xs ++ c.before;
       own = take c.broke.count c.after;
@@ -160,28 +160,28 @@ broken_end k {run} {mid} {r} {a} {a'} {n} {b} {b'} xs fault s t e h =
 
 -- what came is a front of the page that the bytes make
 front_of : {R N : Type 0} (j : Streams R N) → IsSink j.row_gave j.row_within → IsSink j.note_gave j.note_within
-    → {r a r' : R} {n b n' : N} (e : Edge) (p : Point) (before own left bytes : List ℕ) → bytes ≡ before ++ (own ++ left)
+    → {r a r' : R} {n b n' : N} (e : Edge) (p : Point) (before own left bytes : List ℕ) → IsReached e → bytes ≡ before ++ (own ++ left)
     → AllCame j r a n b (settled_from e p before) → BrokeIn j a r' b n' (settled_from e p before).edge (point_after p before) own left
     → FrontCame j r r' n n' (page_from e p bytes)
-front_of j rows notes {r} {a} {r'} {n} {b} {n'} e p before own left bytes h g (inl f) =
+front_of j rows notes {r} {a} {r'} {n} {b} {n'} e p before own left bytes k h g (inl f) =
     let q = point_after p before in
     let x = settled_from e p before in
     let y = settled_from x.edge q own in
     let u = settled_from e p (before ++ own) in
-    let c : FrontCame j r r' n n' u = rw (settled_more e p q before own refl) (both_within rows notes r' n' x y g f.1) in
+    let c : FrontCame j r r' n n' u = rw (settled_more e p q before own k refl) (both_within rows notes r' n' x y g f.1) in
     let v = settled_from u.edge (point_after p (before ++ own)) left in
     let d : FrontCame j r r' n n' (settled_from e p ((before ++ own) ++ left)) =
-    rw (settled_more e p (point_after p (before ++ own)) (before ++ own) left refl) (within-join rows notes r r' n n' u v c) in
-    rw (h, ← append_assoc before own left) (page_front rows notes r r' n n' e p ((before ++ own) ++ left) d)
-front_of j rows notes {r} {a} {r'} {n} {b} {n'} e p before own left bytes h g (inr f) =
+    rw (settled_more e p (point_after p (before ++ own)) (before ++ own) left k refl) (within-join rows notes r r' n n' u v c) in
+    rw (h, ← append_assoc before own left) (page_front rows notes r r' n n' e p ((before ++ own) ++ left) k d)
+front_of j rows notes {r} {a} {r'} {n} {b} {n'} e p before own left bytes k h g (inr f) =
     let x = settled_from e p before in
     let i : bytes ≡ before = rw (f.0, f.1, append-nil) at h in
-    rw (i, page_last e p (point_after p before) before refl) (both_within rows notes r' n' x (page x.edge (last_line (point_after p before))) g f.2)
+    rw (i, page_last e p (point_after p before) before k refl) (both_within rows notes r' n' x (page x.edge (last_line (point_after p before))) g f.2)
 
 pub broken_front : {R N : Type 0} (k : Sinks R N) → IsSink k.to.row_gave k.to.row_within → IsSink k.to.note_gave k.to.note_within
-    → {r r' : R} {n n' : N} (e : Edge) (p : Point) (bytes : List ℕ) (fault : Fault) → Broken k r r' n n' e p bytes fault
+    → {r r' : R} {n n' : N} (e : Edge) (p : Point) (bytes : List ℕ) (fault : Fault) → IsReached e → Broken k r r' n n' e p bytes fault
     → FrontCame k.to r r' n n' (page_from e p bytes)
-broken_front k rows notes e p bytes fault c = front_of k.to rows notes e p c.before c.own c.left bytes c.parts c.whole c.front
+broken_front k rows notes e p bytes fault i c = front_of k.to rows notes e p c.before c.own c.left bytes i c.parts c.whole c.front
 
 -- ---- chunks of what was read
 

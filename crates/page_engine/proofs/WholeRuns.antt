@@ -14,7 +14,7 @@ use Rattle.page_roff_lines.proofs.LineAgreement.{lines-one_by_one}
 use Rattle.page_engine.specs.declared.runs.Outcome.{Outcome}
 use Rattle.page_engine.specs.declared.runs.Run.{Run}
 use Rattle.page_engine.specs.States.{IsOpenAt, CannotStart, Ends}
-use Rattle.page_engine.specs.Page.{Edge, counts_at, page, start, settled, ended}
+use Rattle.page_engine.specs.Page.{Edge, counts_at, page, start, settled}
 use Rattle.page_engine.specs.Sources.{SourceState}
 use Rattle.page_engine.specs.Streams.{Streams, Sinks, AllCame}
 use Rattle.page_engine.specs.Runs.{RunsOver, Stopped, HasCause, Broken, whole_page, page_from, settled_from}
@@ -23,6 +23,7 @@ use Rattle.page_roff_source.specs.declared.counts.Counts.{Counts}
 use Rattle.page_engine.specs.Steps.{source_lines, TookLast, Finished, Finishes, Through, EndedWell, StoppedFrom, ReadsAll}
 use Rattle.page_engine.proofs.BytesRead.{given_none, both_gave, both_within, page_last, lines_last}
 use Rattle.page_engine.proofs.Through.{broken_front, broken_end}
+use Rattle.page_engine.proofs.WholeLines.{start_reached, page_end, end_counts}
 
 -- from the start of a page
 pub page_start : (s : PageSettings) (bytes : List ℕ) → page_from (start s) (first_point s.encoding) bytes ≡ whole_page s bytes
@@ -33,29 +34,32 @@ page_start s bytes = ap (page (start s)) (sym (lines-one_by_one s.encoding bytes
 -- the last line was taken, and then the page's end
 pub finished : {R N : Type 0} (k : Sinks R N) → IsSink k.to.row_gave k.to.row_within → IsSink k.to.note_gave k.to.note_within
     → (run mid run' : Run) (r a r' : R) (n b n' : N) (res : Result (Unit {0}) Fault) → TookLast k run mid r a n b
-    → ((e : Edge) → IsOpenAt mid.page e → Ends res k a r' b n' (ended e) run'.page) → Finishes res k run run' r r' n n'
-unfolding ended
+    → ((e : Edge) → IsOpenAt mid.page e → Ends res k a r' b n' (page e []) run'.page) → Finishes res k run run' r r' n n'
 finished k rows notes run mid run' r a r' n b n' (Ok o) t ends = record {
   came = λ e h.
       let l = settled e (last_line run.cutter.point) in
       let c = t.came e h in
       let f = (ends l.edge (t.at e h)).0 in record {
-        gave = both_gave rows notes r' n' l (ended l.edge) c.gave f.gave;
+        gave = rw (page_end e (last_line run.cutter.point) h.reached) (both_gave rows notes r' n' l (page l.edge []) c.gave f.gave);
         rows_quiet = f.rows_quiet ∙ c.rows_quiet;
         notes_quiet = f.notes_quiet ∙ c.notes_quiet;
       };
-  worst = λ e h. (ends (settled e (last_line run.cutter.point)).edge (t.at e h)).1.worst;
+  worst = λ e h.
+      (ends (settled e (last_line run.cutter.point)).edge (t.at e h)).1.worst
+      ∙ sym (ap (λ (l : Laid Edge). l.edge.worst) (page_end e (last_line run.cutter.point) h.reached));
   lines_taken = λ e h.
-      let l = settled e (last_line run.cutter.point) in
-      let same = (ends l.edge (t.at e h)).1.counts ∙ sym (t.at e h).counts in
+      let f = settled e (last_line run.cutter.point) in
+      let same = (ends f.edge (t.at e h)).1.counts ∙ end_counts f.edge (t.at e h).reached ∙ sym (t.at e h).counts in
       ap (λ (c : Counts). c.source) same ∙ t.lines_taken;
-  counts = λ e h. (ends (settled e (last_line run.cutter.point)).edge (t.at e h)).1.counts;
+  counts = λ e h.
+      (ends (settled e (last_line run.cutter.point)).edge (t.at e h)).1.counts
+      ∙ sym (ap (λ (l : Laid Edge). counts_at l.edge) (page_end e (last_line run.cutter.point) h.reached));
 }
 finished k rows notes run mid run' r a r' n b n' (Err fault) t ends = λ e h.
     let l = settled e (last_line run.cutter.point) in
     let c = t.came e h in
     let f = (ends l.edge (t.at e h)).0 in record {
-      gave = both_within rows notes r' n' l (ended l.edge) c.gave f.gave;
+      gave = rw (page_end e (last_line run.cutter.point) h.reached) (both_within rows notes r' n' l (page l.edge []) c.gave f.gave);
       cause = cause_later fault _ _ _ _ _ _ c.rows_quiet c.notes_quiet f.cause;
     }
 
@@ -68,7 +72,7 @@ ended_well k rows notes {run} {mid} {run'} {r} {a} {r'} {n} {b} {n'} s t xs z g 
     let v = mid.cutter.point in
     let x = settled_from e p xs in
     let y = page x.edge (last_line v) in
-    let w = page_last e p v xs g.moved.point in
+    let w = page_last e p v xs h.reached g.moved.point in
     let d = g.settled e h in
     let c = f.came x.edge d.at in record {
       came = record {
@@ -113,9 +117,9 @@ stopped_run : {R N : Type 0} (k : Sinks R N) → IsSink k.to.row_gave k.to.row_w
 stopped_run k rows notes a b r r' n n' s asked bytes Memory g h = absurd h
 stopped_run k rows notes a b r r' n n' s asked bytes Read g h = (g, h.0)
 stopped_run k rows notes a b r r' n n' s asked bytes WriteText g h =
-    (g, rw (← page_start) (broken_front k rows notes (start s) (first_point s.encoding) bytes WriteText h))
+    (g, rw (← page_start) (broken_front k rows notes (start s) (first_point s.encoding) bytes WriteText (start_reached s) h))
 stopped_run k rows notes a b r r' n n' s asked bytes WriteNotes g h =
-    (g, rw (← page_start) (broken_front k rows notes (start s) (first_point s.encoding) bytes WriteNotes h))
+    (g, rw (← page_start) (broken_front k rows notes (start s) (first_point s.encoding) bytes WriteNotes (start_reached s) h))
 stopped_run k rows notes a b r r' n n' s asked bytes TooLong g h = (g, h.0)
 stopped_run k rows notes a b r r' n n' s asked bytes (Settings f) g h = absurd h
 stopped_run k rows notes a b r r' n n' s asked bytes Failed g h = absurd h

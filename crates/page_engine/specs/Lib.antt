@@ -1,5 +1,6 @@
 pub mod Levels
 pub mod Page
+pub mod ByLine
 pub mod PageSinks
 pub mod Layers
 pub mod Streams

@@ -1,17 +1,22 @@
--- A page on whole lists of lines: what lines settle, and the page to its end. Source: mandoc(1); man(7).
-use Rattle.std.specs.Prelude.{ℕ, Option, None, List, [], ◌∷◌}
+-- A page: the rows and messages that its lines settle, and the page to its end. The forest of all lines (roff(7)) gives lines and messages, these are the
+-- acts of one block tree (man(7)), its pieces are filled (roff(7), "Filling and adjusting"), and messages go by their levels. Source: mandoc(1).
+use Rattle.std.specs.Prelude.{◌≡◌, ℕ, true, Option, None, List, [], ◌∷◌, ◌++◌, map}
 use Rattle.page_core_base.specs.declared.note_kinds.Level.{Level}
 use Rattle.page_core_base.specs.declared.page_settings.Settings.{Settings}
 use Rattle.page_core_base.specs.Messages.{Message}
-use Rattle.page_core_base.specs.Laid.{Laid, nothing, seq}
+use Rattle.page_core_base.specs.Laid.{Laid, seq}
+use Rattle.page_core_base.specs.Pieces.{Item}
+use Rattle.page_engine_body.specs.Trees.{tree_items}
+use Rattle.page_engine_lines.specs.Acts.{raw_line, lines_steps, lines_items, lines_after, end_steps}
 use Rattle.page_fill.specs.declared.words.Edge.{Edge as FillEdge}
-use Rattle.page_fill.specs.Fill as fill
-use Rattle.page_engine_lines.specs.Lines.{LinesEdge, source_items, source_after, end_items, footer_items, start_of}
+use Rattle.page_fill.specs.Edges as fill
+use Rattle.page_engine_lines.specs.Lines.{LinesEdge, footer_items, start_of}
+use Rattle.page_fill.specs.Caps.{IsHeld, is_sound}
+use Rattle.page_fill_laws.specs.Filling.{filled, row_end}
 use Rattle.page_roff_lines.specs.Decoding.{Line}
-use Rattle.page_roff_source.specs.Edges.{counts_of}
+use Rattle.page_roff_source.specs.Edges.{SourceLine, counts_of}
 use Rattle.page_roff_source.specs.declared.counts.Counts.{Counts}
 use Rattle.page_engine.specs.Levels.{given, worst_of}
-use Rattle.page_fill.specs.Items.{laid_items}
 
 -- What decides the rest of a page, and is all that is held of its lines.
 pub record Edge : Type 0 where
@@ -34,7 +39,13 @@ start s = record { least = s.least; worst = None; lines = start_of s; fill = fil
 abbrev pub counts_at : Edge → Counts
 counts_at e = counts_of e.lines.roff
 
--- the messages of what is filled, by their levels
+-- what holds at each edge that a page comes to: nothing of a line is still to come, and the open row and the open word hold together
+pub record IsReached (e : Edge) : Type 0 where
+  pub idle : e.lines.roff.to_come ≡ None
+  pub row : IsHeld e.fill.sheet
+  pub word : is_sound e.fill.word ≡ true
+
+-- of what is filled, the messages by their levels, and the worst of these
 abbrev pub of_page : Edge → Edge → Laid FillEdge → Laid Edge
 of_page e next l = record {
   rows = l.rows;
@@ -44,25 +55,24 @@ of_page e next l = record {
 
 -- ---- lines
 
--- the messages of a line's cutting
-abbrev pub laid_notes : Edge → List Message → Laid Edge
-laid_notes e messages = of_page e e (record { rows = []; notes = messages; edge = e.fill })
+-- a line as roff takes it: the messages of its cutting stand before what it gives
+abbrev pub raw : Line → SourceLine
+raw line = raw_line line.number line.text line.notes
 
--- the text of a line: roff and the macros make items of it, and these are filled
-abbrev pub passed : Edge → List ℕ → ℕ → Edge
-passed e text number = record e { lines = source_after e.lines number text; last = number }
+abbrev pub raw_lines : List Line → List SourceLine
+raw_lines lines = map raw lines
 
-unfoldable pub settled_text : Edge → List ℕ → ℕ → Laid Edge
-settled_text e text number =
-    of_page e (passed e text number) (laid_items e.fill (source_items e.lines number text))
+abbrev pub last_number : ℕ → List Line → ℕ
+last_number number [] = number
+last_number number (line ∷ lines) = last_number line.number lines
 
-abbrev pub settled_line : Edge → Line → Laid Edge
-settled_line e line = seq (laid_notes e line.notes) (λ f. settled_text f line.text line.number)
+-- where the forest of lines and the block tree of their acts leave a page
+abbrev pub after : Edge → List Line → Edge
+after e lines = record e { lines = lines_after e.lines (raw_lines lines); last = last_number e.last lines }
 
--- the rows and messages that lines settle, and the edge from which the rest goes on
+-- the rows and messages that lines settle, and the edge from which the rest goes on: the pieces of the block tree of all that roff gives, filled
 unfoldable pub settled : Edge → List Line → Laid Edge
-settled e [] = nothing e
-settled e (line ∷ lines) = seq (settled_line e line) (λ f. settled f lines)
+settled e lines = of_page e (after e lines) (filled e.fill (lines_items e.lines (raw_lines lines)))
 
 abbrev pub edge : Edge → List Line → Edge
 edge e lines = (settled e lines).edge
@@ -71,19 +81,20 @@ edge e lines = (settled e lines).edge
 abbrev pub text_line : List ℕ → ℕ → Line
 text_line text number = record { number = number; text = text; notes = [] }
 
--- ---- the end
+-- ---- the whole page
 
--- what roff left open, the body's end, the footer, and the end of filling
+-- the pieces and messages of lines and of the page's end after them: what roff left open, a missing header, the end of all scopes
+abbrev pub page_items : Edge → List Line → List Item
+page_items e lines =
+    let f = after e lines in
+    tree_items e.lines.body (lines_steps e.lines (raw_lines lines) ++ end_steps f.lines.roff f.last)
+
+-- the footer after a blank row, unless one stands there, and the end of the row
 abbrev pub footer_laid : Edge → FillEdge → Laid FillEdge
-footer_laid e f =
-    seq (laid_items f (footer_items e.lines e.last (fill.blank_rows_at_end f))) (λ h. fill.ended h)
-
-abbrev pub end_laid : Edge → Laid FillEdge
-end_laid e = seq (laid_items e.fill (end_items e.lines e.last)) (λ f. footer_laid e f)
-
-unfoldable pub ended : Edge → Laid Edge
-ended e = of_page e e (end_laid e)
+footer_laid e f = seq (filled f (footer_items e.lines e.last (fill.blank_rows_at_end f))) row_end
 
 -- a page from an edge, to its end: its rows and messages, and at its last edge the worst level and the counts
-abbrev pub page : Edge → List Line → Laid Edge
-page e lines = seq (settled e lines) ended
+unfoldable pub page : Edge → List Line → Laid Edge
+page e lines =
+    let f = after e lines in
+    of_page e f (seq (filled e.fill (page_items e lines)) (λ h. footer_laid f h))

@@ -11,7 +11,7 @@ use Rattle.page_roff_source.specs.Edges.{counts_of}
 use Rattle.page_roff_source.specs.declared.counts.Counts.{Counts}
 use Rattle.page_engine.specs.declared.pages.Phase.{Phase}
 use Rattle.page_engine.specs.declared.pages.Phase.TheVariants.{Open, Failed, Ended}
-use Rattle.page_engine.specs.Page.{Edge, counts_at}
+use Rattle.page_engine.specs.Page.{Edge, IsReached, counts_at}
 use Rattle.page_engine.specs.Streams.{Sinks, Came, Front}
 
 -- open, failed or ended; the edge, while it is open; the worst level and the counts, also once it has ended
@@ -21,8 +21,9 @@ pub record PageState : Type 0 where
   pub worst : Option Level
   pub counts : Counts
 
--- open at an edge
+-- open at an edge, one that a page comes to
 pub record IsOpenAt (p : PageState) (e : Edge) : Type 0 where
+  pub reached : IsReached e
   pub phase : p.phase ≡ Open
   pub edge : p.edge ≡ Some e
   pub worst : p.worst ≡ e.worst

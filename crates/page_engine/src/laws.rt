@@ -2,29 +2,43 @@
 
 ghost use Rattle.std.specs.Prelude.{◌≡◌, ◌≤◌, ◌+◌, ◌*◌, List, ◌++◌, length};
 ghost use Rattle.page_core_base.specs.Laid.{join};
+ghost use Rattle.page_core_base.specs.declared.page_settings.Settings.{Settings};
 ghost use Rattle.page_roff_lines.specs.Decoding.{Line};
 ghost use Rattle.page_roff_language.specs.declared.TheConstants.{REREAD};
 ghost use Rattle.page_roff_values.specs.declared.expansions.TheConstants.{EXPAND};
-ghost use Rattle.page_engine.specs.Page.{Edge, settled_line, settled, edge, page, counts_at};
+ghost use Rattle.page_engine.specs.ByLine as by_line;
+ghost use Rattle.page_engine.specs.Page.{Edge, IsReached, settled, edge, page, counts_at, start};
+
+/// The edges that a page comes to: the one of its start, and from each such edge the one that lines leave.
+pub fn reached_law()
+    ensures start { (s : Settings) → IsReached (start s) }
+    ensures lines { (e : Edge) (lines : List Line) → IsReached e → IsReached (edge e lines) }
+{}
 
 /// A page may be cut between any two lines: it is what the lines above settle, and then the page of the lines below,
 /// from the edge that those above leave. Rows and messages follow one another; the edge, and with it the worst
 /// level and the counts, is that of the page below.
 pub fn cut_law()
-    ensures settled { (e : Edge) (above below : List Line)
+    ensures settled { (e : Edge) (above below : List Line) → IsReached e
         → settled e (above ++ below) ≡ join (settled e above) (settled (edge e above) below) }
-    ensures page { (e : Edge) (above below : List Line)
+    ensures page { (e : Edge) (above below : List Line) → IsReached e
         → page e (above ++ below) ≡ join (settled e above) (page (edge e above) below) }
 {}
 
-/// A line is one source line more; it takes itself and at most `REREAD` lines more, and makes at most `EXPAND`
+/// The forest, the block tree and the filling of whole lists give what the layers give line by line and piece by piece.
+pub fn line_by_line_law()
+    ensures settled { (e : Edge) (lines : List Line) → IsReached e → settled e lines ≡ by_line.settled e lines }
+    ensures page { (e : Edge) (lines : List Line) → IsReached e → page e lines ≡ by_line.page e lines }
+{}
+
+/// Lines are as many source lines more; they take themselves and at most `REREAD` lines more for each, and make at most `EXPAND`
 /// interpolations for each line taken.
 pub fn count_law()
-    ensures source { (e : Edge) (line : Line)
-        → (counts_at (settled_line e line).edge).source ≡ (counts_at e).source + 1 }
-    ensures taken { (e : Edge) (line : Line)
-        → (counts_at (settled_line e line).edge).taken ≤ (counts_at e).taken + (REREAD + 1) }
-    ensures expansions { (e : Edge) (line : Line)
-        → (counts_at (settled_line e line).edge).expansions + EXPAND * (counts_at e).taken
-        ≤ EXPAND * (counts_at (settled_line e line).edge).taken + (counts_at e).expansions }
+    ensures source { (e : Edge) (lines : List Line)
+        → (counts_at (edge e lines)).source ≡ (counts_at e).source + length lines }
+    ensures taken { (e : Edge) (lines : List Line)
+        → (counts_at (edge e lines)).taken ≤ (counts_at e).taken + (REREAD + 1) * length lines }
+    ensures expansions { (e : Edge) (lines : List Line)
+        → (counts_at (edge e lines)).expansions + EXPAND * (counts_at e).taken
+        ≤ EXPAND * (counts_at (edge e lines)).taken + (counts_at e).expansions }
 {}

@@ -9,7 +9,8 @@ ghost use Rattle.page_roff_source.specs.Edges.{counts_of};
 ghost use Rattle.page_fill.specs.declared.words.Edge.{Edge as FillEdge};
 ghost use Rattle.page_engine.specs.Layers.{IsAt};
 ghost use Rattle.page_engine.specs.Within.{IsWithin};
-ghost use Rattle.page_engine.specs.Page.{Edge, settled_text, settled_line, ended, end_laid, start};
+ghost use Rattle.page_engine.specs.ByLine.{settled_text, settled_line, ended, end_laid};
+ghost use Rattle.page_engine.specs.Page.{Edge, start};
 ghost use Rattle.page_engine.specs.PageSinks.{Ends};
 
 use crate::level_filters::LevelFilter;

@@ -15,7 +15,7 @@ mod runs;
 mod shown;
 mod sources;
 
-pub use laws::{count_law, cut_law};
+pub use laws::{count_law, cut_law, line_by_line_law, reached_law};
 pub use page_roff_source::Counts;
 pub use pages::{LINES, Page, Phase};
 pub use runs::{BYTES, Outcome, READS, run_page, run_sinks};

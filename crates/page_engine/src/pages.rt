@@ -1,11 +1,11 @@
 //! A page that streams: lines come one by one, and what they settle goes out at once.
 
-ghost use Rattle.std.specs.Prelude.{◌≡◌, ◌<◌, ◌+◌, ◌-◌, ◌^◌, ℕ, true, false, None, Some, IfOk, OnOk, OnErr, MatchOption, MatchResult};
+ghost use Rattle.std.specs.Prelude.{◌≡◌, ◌<◌, ◌+◌, ◌-◌, ◌^◌, ℕ, true, false, [], ◌∷◌, None, Some, IfOk, OnOk, OnErr, MatchOption, MatchResult};
 ghost use Rattle.page_core_base.specs.Checks.{IsGood};
 ghost use Rattle.page_core_base.specs.Texts.{IsLine};
 ghost use Rattle.page_core_base.specs.declared.faults.Fault.{Fault};
 ghost use Rattle.page_roff_lines.specs.Cutting.{line_of};
-ghost use Rattle.page_engine.specs.Page.{Edge, text_line, settled_line, ended, start};
+ghost use Rattle.page_engine.specs.Page.{Edge, text_line, settled, page, start};
 ghost use Rattle.page_engine.specs.Streams.{sinks, AreWell};
 ghost use Rattle.page_engine.specs.Within.{HoldsWithin};
 ghost use Rattle.page_engine.specs.States.{IsOpenAt, CannotStart, closed, line_fault, line_fault_of, IsRefused, Takes, Ends};
@@ -125,7 +125,7 @@ impl Page {
         requires { IsLine text.now }
         ensures takes { (e : Edge) → IsOpenAt self.old e → line_fault self.old ≡ None →
             Takes result (sinks R.gave R.within R.failed N.gave N.within N.failed)
-            rows.old rows.new notes.old notes.new (settled_line e (text_line text.now number)) self.new }
+            rows.old rows.new notes.old notes.new (settled e (text_line text.now number ∷ [])) self.new }
         ensures within { OnOk result (HoldsWithin self.new) }
         ensures works { (e : Edge) → IsOpenAt self.old e → line_fault self.old ≡ None →
             AreWell (sinks R.gave R.within R.failed N.gave N.within N.failed) rows.old rows.new notes.old notes.new
@@ -160,7 +160,7 @@ impl Page {
         requires { cutter.old.ready ≡ true }
         ensures takes { (e : Edge) → IsOpenAt self.old e → line_fault self.old ≡ None →
             Takes result (sinks R.gave R.within R.failed N.gave N.within N.failed)
-            rows.old rows.new notes.old notes.new (settled_line e (line_of cutter.old.point)) self.new }
+            rows.old rows.new notes.old notes.new (settled e (line_of cutter.old.point ∷ [])) self.new }
         ensures refused { (fault : Fault) → line_fault self.old ≡ Some fault →
             IsRefused result fault self.old self.new rows.old rows.new notes.old notes.new }
         ensures within { OnOk result (HoldsWithin self.new) }
@@ -193,7 +193,7 @@ impl Page {
     pub fn end<R: RowSink, N: NoteSink>(&mut self, rows: &mut R, notes: &mut N) -> Result<(), Fault>
         ensures ends { (e : Edge) → IsOpenAt self.old e →
             Ends result (sinks R.gave R.within R.failed N.gave N.within N.failed)
-            rows.old rows.new notes.old notes.new (ended e) self.new }
+            rows.old rows.new notes.old notes.new (page e []) self.new }
         ensures works { (e : Edge) → IsOpenAt self.old e →
             AreWell (sinks R.gave R.within R.failed N.gave N.within N.failed) rows.old rows.new notes.old notes.new
             → OnErr result ⊥ }

@@ -1,5 +1,6 @@
 -- The block tree of what roff gives over all lines is what the lines give one after another: helpers of proofs.
 use Rattle.std.proofs.Common.{◌≡◌, ℕ, ◌+◌, nat_lt, Bool, true, false, List, [], ◌∷◌, ◌++◌, length, map, Option, None, refl, sym, ap, ◌∙◌, append_assoc, append-nil, if◌then◌else◌}
+use Rattle.std.proofs.lemmas.List.{map-append}
 use Rattle.page_core_base.specs.LinesTaken.{Line}
 use Rattle.page_core_base.specs.Messages.{Message, message_about}
 use Rattle.page_core_base.specs.Pieces.{Item, noted}
@@ -7,21 +8,21 @@ use Rattle.page_core_base.specs.declared.note_kinds.NoteKind.TheVariants.{Traili
 use Rattle.page_roff_effects.specs.States.{Given, says, takes}
 use Rattle.page_roff_forms.specs.Ends.{kept_len}
 use Rattle.page_roff_forms.specs.LineForms.{is_white}
-use Rattle.page_roff_source.specs.Edges.{Edge, SourceLine, before_line, run_line, line_given, line_done}
+use Rattle.page_roff_source.specs.Edges.{Edge, SourceLine, before_line, run_line, line_given, line_done, end_notes}
 use Rattle.page_roff_source.specs.Given.{given, done}
 use Rattle.page_roff_source.specs.LineByLine.{lines_given, lines_done}
 use Rattle.page_roff_source.proofs.CutLemmas.{given-append, done-append}
 use Rattle.page_roff_source.proofs.LineLemmas.{given-by_line, done-by_line}
-use Rattle.page_engine_body.specs.Bodies.{BodyEdge}
-use Rattle.page_engine_body.specs.Trees.{Aside, tells, events_steps, tree_items, tree_after}
-use Rattle.page_engine_body.proofs.TreeLemmas.{tree_items-append, tree_after-append, tree_items-none, tree_after-none, aside_items_is, aside_after_is, events_tree_items, events_tree_after}
+use Rattle.page_engine_body.specs.Bodies.{BodyEdge, end_items as body_end_items}
+use Rattle.page_engine_body.specs.Trees.{Aside, tells, events_steps, page_end_steps, tree_items, tree_after}
+use Rattle.page_engine_body.proofs.TreeLemmas.{tree_items-append, tree_after-append, tree_items-none, tree_after-none, aside_items_is, aside_after_is, events_tree_items, events_tree_after, end_tree}
 use Rattle.page_scopes_laws.specs.Asides.{With, aside}
 use Rattle.page_scopes_tree.specs.Acts.{Step}
 use Rattle.page_scopes_words.specs.Words.{at}
 use Rattle.page_sets_man.specs.Man.{man_events}
-use Rattle.page_engine_lines.specs.Acts.{given_steps, trailing_messages, raw_line, lines_steps, lines_items, lines_after}
+use Rattle.page_engine_lines.specs.Acts.{given_steps, trailing_messages, raw_line, lines_steps, lines_items, lines_after, end_steps}
 use Rattle.page_engine_lines.specs.Given.{line_items, line_after, given_items, body_after}
-use Rattle.page_engine_lines.specs.Lines.{LinesEdge, source_line, trailing_notes, source_items, source_after}
+use Rattle.page_engine_lines.specs.Lines.{LinesEdge, source_line, trailing_notes, source_items, source_after, end_items}
 
 -- ---- the acts of what was given
 
@@ -115,22 +116,60 @@ one_done : (e : Edge) (line : SourceLine) → e.to_come ≡ None → done e (lin
 unfolding lines_done
 one_done e line idle = done-by_line e (line ∷ []) idle ∙ done_of_text e line
 
-pub one_items : (e : LinesEdge) (number : ℕ) (text : List ℕ) → lines_items e (raw_line number text [] ∷ []) ≡ source_items e number text
+pub one_items : (e : LinesEdge) (number : ℕ) (text : List ℕ) (notes : List Message)
+    → lines_items e (raw_line number text notes ∷ []) ≡ map noted notes ++ source_items e number text
 unfolding source_items
-one_items e number text =
-    let line = raw_line number text [] in
+one_items e number text notes =
+    let line = raw_line number text notes in
+    let trailing = trailing_messages number text in
     let own = line_given e.roff (source_line text number) in
     given_tree_items e.body (given e.roff (line ∷ []))
     ∙ ap (λ (g : List Given). given_items e.body g) (one_given e.roff line)
-    ∙ front_items e.body (trailing_messages number text) own
-    ∙ ap (λ (t : List Item). t ++ given_items e.body own) (trailing_is number text)
+    ∙ front_items e.body (notes ++ trailing) own
+    ∙ ap (λ (t : List Item). t ++ given_items e.body own) (map-append noted notes trailing)
+    ∙ append_assoc (map noted notes) (map noted trailing) (given_items e.body own)
+    ∙ ap (λ (t : List Item). map noted notes ++ (t ++ given_items e.body own)) (trailing_is number text)
 
-pub one_after : (e : LinesEdge) (number : ℕ) (text : List ℕ) → e.roff.to_come ≡ None → lines_after e (raw_line number text [] ∷ []) ≡ source_after e number text
-one_after e number text idle =
-    let line = raw_line number text [] in
+pub one_after : (e : LinesEdge) (number : ℕ) (text : List ℕ) (notes : List Message) → e.roff.to_come ≡ None
+    → lines_after e (raw_line number text notes ∷ []) ≡ source_after e number text
+one_after e number text notes idle =
+    let line = raw_line number text notes in
     let own = line_given e.roff (source_line text number) in
     let body : tree_after e.body (lines_steps e (line ∷ [])) ≡ body_after e.body own =
     given_tree_after e.body (given e.roff (line ∷ []))
     ∙ ap (λ (g : List Given). body_after e.body g) (one_given e.roff line)
-    ∙ front_after e.body (trailing_messages number text) own in
+    ∙ front_after e.body (notes ++ trailing_messages number text) own in
     rw (one_done e.roff line idle, body) refl
+
+-- ---- no line, and the end
+
+pub no_items : (e : LinesEdge) → lines_items e [] ≡ []
+unfolding lines_given
+no_items e = ap (λ (g : List Given). tree_items e.body (given_steps g)) (given-by_line e.roff []) ∙ tree_items-none e.body
+
+pub none_after : (e : LinesEdge) → e.roff.to_come ≡ None → lines_after e [] ≡ e
+unfolding lines_given lines_done
+none_after e idle =
+    let body : tree_after e.body (lines_steps e []) ≡ e.body =
+    ap (λ (g : List Given). tree_after e.body (given_steps g)) (given-by_line e.roff []) ∙ tree_after-none e.body in
+    rw (done-by_line e.roff [] idle, body) refl
+
+told_items : (b : BodyEdge) (notes : List Message) (line : ℕ)
+    → tree_items b (map (λ m. aside (tells m)) notes ++ page_end_steps line) ≡ map noted notes ++ body_end_items b line
+told_items b [] line = end_tree b line
+told_items b (m ∷ notes) line =
+    tree_items-append b (aside (tells m) ∷ []) (map (λ m. aside (tells m)) notes ++ page_end_steps line)
+    ∙ ap (λ (t : List Item). t ++ tree_items (tree_after b (aside (tells m) ∷ [])) (map (λ m. aside (tells m)) notes ++ page_end_steps line))
+    (aside_items_is b (tells m))
+    ∙ ap (λ (c : BodyEdge). noted m ∷ tree_items c (map (λ m. aside (tells m)) notes ++ page_end_steps line)) (aside_after_is b (tells m))
+    ∙ ap (λ (t : List Item). noted m ∷ t) (told_items b notes line)
+
+-- what lines give, and then the page's end
+pub end_items_after : (e : LinesEdge) (lines : List SourceLine) (line : ℕ)
+    → tree_items e.body (lines_steps e lines ++ end_steps (done e.roff lines) line)
+    ≡ lines_items e lines ++ end_items (lines_after e lines) line
+unfolding end_items
+end_items_after e lines line =
+    tree_items-append e.body (lines_steps e lines) (end_steps (done e.roff lines) line)
+    ∙ ap (λ (t : List Item). lines_items e lines ++ t)
+    (told_items (tree_after e.body (lines_steps e lines)) (end_notes (done e.roff lines)) line)

@@ -1,5 +1,5 @@
 -- What roff gives of a page's lines, as acts of one block tree. Source: mandoc(1), "DIAGNOSTICS".
-use Rattle.std.specs.Prelude.{ℕ, ◌+◌, nat_lt, List, [], ◌∷◌, ◌++◌, length, if◌then◌else◌}
+use Rattle.std.specs.Prelude.{ℕ, ◌+◌, nat_lt, List, [], ◌∷◌, ◌++◌, length, map, if◌then◌else◌}
 use Rattle.page_core_base.specs.LinesTaken.{Line}
 use Rattle.page_core_base.specs.Messages.{Message, message_about}
 use Rattle.page_core_base.specs.Pieces.{Item}
@@ -7,9 +7,9 @@ use Rattle.page_core_base.specs.declared.note_kinds.NoteKind.TheVariants.{Traili
 use Rattle.page_roff_effects.specs.States.{Given, says, takes}
 use Rattle.page_roff_forms.specs.Ends.{kept_len}
 use Rattle.page_roff_forms.specs.LineForms.{is_white}
-use Rattle.page_roff_source.specs.Edges.{Edge, SourceLine}
+use Rattle.page_roff_source.specs.Edges.{Edge, SourceLine, end_notes}
 use Rattle.page_roff_source.specs.Given.{given, done}
-use Rattle.page_engine_body.specs.Trees.{Aside, tells, events_steps, tree_items, tree_after}
+use Rattle.page_engine_body.specs.Trees.{Aside, tells, events_steps, page_end_steps, tree_items, tree_after}
 use Rattle.page_engine_lines.specs.Lines.{LinesEdge}
 use Rattle.page_scopes_laws.specs.Asides.{With, aside}
 use Rattle.page_scopes_tree.specs.Acts.{Step}
@@ -41,3 +41,7 @@ lines_items e lines = tree_items e.body (lines_steps e lines)
 
 abbrev pub lines_after : LinesEdge → List SourceLine → LinesEdge
 lines_after e lines = record { roff = done e.roff lines; body = tree_after e.body (lines_steps e lines) }
+
+-- the acts at the page's end, on a line: what roff left open is told, and then the body ends
+abbrev pub end_steps : Edge → ℕ → List (With Aside Step)
+end_steps e line = map (λ m. aside (tells m)) (end_notes e) ++ page_end_steps line

@@ -2,8 +2,8 @@
 use Rattle.std.specs.Prelude.{◌≤◌, Bool, not, ◌&&◌, length}
 use Rattle.page_core_limits.specs.declared.TheConstants.{CELLS}
 use Rattle.page_fill_rows.specs.declared.TheConstants.{TAG_COLUMNS, BLANK_ROWS}
-use Rattle.page_fill_rows.specs.Sheets.{Sheet}
-use Rattle.page_fill.specs.Fill.{Edge, OpenWord}
+use Rattle.page_fill_rows.specs.OpenRows.{Sheet}
+use Rattle.page_fill.specs.Edges.{Edge, OpenWord}
 
 -- the cells of the open row, the columns of the open tag, and the blank rows at the end, as far as both are counted
 pub record FillFits (e : Edge) : Type 0 where

@@ -4,63 +4,23 @@
 use Rattle.std.specs.Prelude.{ℕ, ◌+◌, ◌-◌, ◌%◌, Bool, true, false, not, ◌&&◌, ◌||◌, ◌==◌, nat_lt, nat_le, min, List, [], ◌∷◌, length, Option, None, Some, if◌then◌else◌}
 use Rattle.page_core_base.specs.declared.cells.Cell.{Cell}
 use Rattle.page_core_base.specs.declared.cells.Font.{Font}
-use Rattle.page_core_base.specs.declared.note_kinds.NoteKind.TheVariants as notes
-use Rattle.page_core_base.specs.declared.page_settings.Settings.{Settings}
 use Rattle.page_core_base.specs.declared.pieces.Piece.{Piece}
 use Rattle.page_core_base.specs.declared.pieces.Piece.TheVariants.{Text, Glyph, Char, Tab, Blank, Glue, Split, Break, RowEnd, Para, Space, Indent, Literal, Tag, TagEnd, Heading, Column}
 use Rattle.page_core_base.specs.declared.places.Place.{Place}
 use Rattle.page_core_base.specs.declared.pieces.TagForm.{TagForm}
 use Rattle.page_core_base.specs.declared.pieces.TagForm.TheVariants as forms
-use Rattle.page_core_base.specs.Messages.{Message, message_about}
 use Rattle.page_core_base.specs.Laid.{Laid, nothing, seq}
-use Rattle.page_fill_rows.specs.Sheets.{Sheet, over, columns, letter, fixed_blanks, new_word, opens, broken, empty_rows, fresh}
+use Rattle.page_fill_rows.specs.Sheets.{Sheet, over, columns, letter, fixed_blanks, new_word, opens, broken, empty_rows}
 use Rattle.page_fill_rows.specs.Characters.{with_notes, cell_of, characters_of, characters, character, glyph}
 use Rattle.page_fill.specs.declared.words.OpenTag.{OpenTag}
 use Rattle.page_fill.specs.declared.TheConstants.{HANG_MAX, TAB_STOP}
-pub use Rattle.page_fill.specs.declared.words.Edge.{Edge}
-pub use Rattle.page_fill.specs.declared.words.OpenWord.{OpenWord}
-
--- ---- what waits before the next word
-
--- nothing waits, and no word is open
-abbrev pub no_word : OpenWord
-no_word = record { is_joined = false; is_open = false; is_placed = false; blanks = 0; has_tab = false; is_told = false }
-
--- the open word has a cell, and goes on; told says whether its tab was reported
-abbrev pub begun_word : Bool → OpenWord
-begun_word told = record { is_joined = true; is_open = true; is_placed = false; blanks = 0; has_tab = false; is_told = told }
-
--- blanks wait before the next word; those that a tag or a column placed stay
-abbrev pub blanks_wait : OpenWord → ℕ → Bool → OpenWord
-blanks_wait w count tab =
-    if w.is_placed then record w { has_tab = tab }
-    else record { is_joined = false; is_open = false; is_placed = false; blanks = count; has_tab = tab; is_told = w.is_told }
-
--- a word was begun, perhaps without a cell
-abbrev pub opened_word : OpenWord → OpenWord
-opened_word w = record w { is_open = true }
-
--- the next text goes on with the open word
-abbrev pub glued_word : OpenWord → OpenWord
-glued_word w =
-    if w.is_open then w
-    else record { is_joined = true; is_open = true; is_placed = false; blanks = 0; has_tab = false; is_told = w.is_told }
+pub use Rattle.page_fill.specs.Edges.{Edge, OpenWord, no_word, begun_word, blanks_wait, opened_word, glued_word, placed_word, tab_note, tab_notes, start, blank_rows_at_end}
 
 -- where rows are filled, the row's last word is parted after its cells: what follows is one that goes on without a blank
 abbrev pub parted : Edge → Edge
 parted e = if e.word.is_joined && not e.sheet.literal then record e { sheet = opens e.sheet } else e
 
--- a new word is placed after a count of blanks
-abbrev pub placed_word : ℕ → OpenWord
-placed_word count = record { is_joined = false; is_open = true; is_placed = true; blanks = count; has_tab = false; is_told = false }
-
 -- ---- parts of words
-
-abbrev pub tab_note : Place → Message
-tab_note place = message_about notes.TabFill place []
-
-abbrev pub tab_notes : Bool → Place → List Message
-tab_notes told place = if told then tab_note place ∷ [] else []
 
 -- tabs are reported in filled text alone
 abbrev pub tells_tab : Edge → Bool
@@ -200,14 +160,6 @@ laid e (p ∷ ps) = seq (laid_piece e p) (λ f. laid f ps)
 abbrev pub filled : Edge → List (Piece (List ℕ)) → Laid Edge
 filled e ps = seq (laid e ps) ended
 
--- a page begins below the blank row of its header
-abbrev pub start : Settings → Edge
-start settings = record { sheet = fresh settings.width; word = no_word; tag = None; output = settings.output }
-
 -- the open row's cells
 abbrev pub open_cells : Edge → List Cell
 open_cells e = e.sheet.cells
-
--- how many blank rows stand at the end of the rows that were given
-abbrev pub blank_rows_at_end : Edge → ℕ
-blank_rows_at_end e = e.sheet.blank_rows

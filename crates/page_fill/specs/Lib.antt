@@ -1,3 +1,4 @@
+pub mod Edges
 pub mod Fill
 pub mod PlainWords
 pub mod TakenWords

@@ -12,8 +12,8 @@ use Rattle.page_core_base.specs.Pieces.{Item, shown, noted}
 use Rattle.page_fill.specs.declared.words.OpenTag.{OpenTag}
 use Rattle.page_fill.specs.declared.words.Edge.{Edge}
 use Rattle.page_fill.specs.declared.TheConstants.{HANG_MAX, TAB_STOP}
-use Rattle.page_fill.specs.Fill.{no_word, placed_word}
-use Rattle.page_fill_rows.specs.Sheets.{over, blank, columns, more_blank_rows}
+use Rattle.page_fill.specs.Edges.{no_word, placed_word}
+use Rattle.page_fill_rows.specs.OpenRows.{over, blank, columns, more_blank_rows}
 use Rattle.page_fill_laws.specs.Filled.{Part, at_break}
 use Rattle.page_fill_laws.specs.PieceWords.{cell_parts, open_row_of, next_edge, words_laid, parts_laid}
 

@@ -1,3 +1,4 @@
+pub mod OpenRows
 pub mod Sheets
 pub mod Room
 pub mod Characters

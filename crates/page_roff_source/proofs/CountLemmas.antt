@@ -157,3 +157,16 @@ lines_done-bound e (line ∷ lines) =
 
 pub lines_bound : (e : Edge) (lines : List SourceLine) → (done e lines).taken ≤ e.taken + (REREAD + 1) * length lines
 lines_bound e lines = rw (done-idle e lines) (lines_done-bound e lines)
+
+lines_done-expansions : (e : Edge) (lines : List SourceLine)
+    → (lines_done e lines).memory.expansions + EXPAND * e.taken ≤ EXPAND * (lines_done e lines).taken + e.memory.expansions
+unfolding lines_done
+lines_done-expansions e [] = omega arith
+lines_done-expansions e (line ∷ lines) =
+    let h = expansions_bound e line in
+    let g = lines_done-expansions (line_done e line) lines in
+    omega (arith, h, g)
+
+pub lines_expansions : (e : Edge) (lines : List SourceLine)
+    → (done e lines).memory.expansions + EXPAND * e.taken ≤ EXPAND * (done e lines).taken + e.memory.expansions
+lines_expansions e lines = rw (done-idle e lines) (lines_done-expansions e lines)

@@ -32,6 +32,9 @@ pub fn count_law()
         (line_done e line).memory.expansions + EXPAND * e.taken
         ≤ EXPAND * (line_done e line).taken + e.memory.expansions }
     ensures lines { (e : Edge) (lines : List SourceLine) → (done e lines).taken ≤ e.taken + (REREAD + 1) * length lines }
+    ensures lines_expansions { (e : Edge) (lines : List SourceLine) →
+        (done e lines).memory.expansions + EXPAND * e.taken
+        ≤ EXPAND * (done e lines).taken + e.memory.expansions }
 {}
 
 /// A line begins at most two skipped blocks a byte, and two.

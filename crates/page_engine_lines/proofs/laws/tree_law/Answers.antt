@@ -1,4 +1,4 @@
-use Rattle.page_engine_lines.proofs.TreeLemmas.{given_tree_items, given_tree_after, one_items, one_after}
+use Rattle.page_engine_lines.proofs.TreeLemmas.{given_tree_items, given_tree_after, one_items, one_after, end_items_after}
 use Rattle.page_engine_lines.proofs.laws.tree_law.Goals as goal
 
 pub returns : goal.returns
@@ -7,4 +7,5 @@ returns c = record {
   after = given_tree_after;
   line_items = one_items;
   line_after = one_after;
+  end = end_items_after;
 }

@@ -1,4 +1,4 @@
-use Rattle.page_roff_source.proofs.CountLemmas.{taken_bound, given_bound, expansions_bound, lines_bound}
+use Rattle.page_roff_source.proofs.CountLemmas.{taken_bound, given_bound, expansions_bound, lines_bound, lines_expansions}
 use Rattle.page_roff_source.proofs.laws.count_law.Goals as goal
 
 pub returns : goal.returns
@@ -6,5 +6,6 @@ returns c = record {
   taken = λ e line. taken_bound e line;
   given = λ e line. given_bound e line;
   expansions = λ e line. expansions_bound e line;
-  lines = λ e lines. lines_bound e lines;
+  lines = lines_bound;
+  lines_expansions = lines_expansions;
 }

@@ -1,7 +1,7 @@
 use Rattle.std.proofs.Common.{rules, refl}
 use Rattle.page_core_base.specs.Laid.{Gets}
 use Rattle.page_core_base.specs.Fails.{FailsBySink}
-use Rattle.page_engine.specs.Page.{ended, end_laid}
+use Rattle.page_engine.specs.ByLine.{ended, end_laid}
 use Rattle.page_engine.proofs.Feeds.{ends_gets, ends_worst, ends_faults}
 use Rattle.page_engine.proofs.layers.Layers.end.Goals as goal
 

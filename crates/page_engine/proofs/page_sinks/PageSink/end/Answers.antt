@@ -3,7 +3,7 @@ use Rattle.page_engine_lines.specs.Lines.{end_items, footer_items}
 use Rattle.page_fill.specs.Fill as fill
 use Rattle.page_fill.specs.Items.{laid_items}
 use Rattle.page_engine.specs.Levels.{filter-sink}
-use Rattle.page_engine.specs.Page.{footer_laid}
+use Rattle.page_engine.specs.ByLine.{footer_laid}
 use Rattle.page_engine.proofs.Items.{ends_after, ends_join, broken_join, broken_after}
 use Rattle.page_engine.proofs.page_sinks.PageSink.end.Goals as goal
 

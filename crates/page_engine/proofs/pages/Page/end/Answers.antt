@@ -1,12 +1,14 @@
 use Rattle.std.proofs.Common.{refl, ap, ◌∙◌}
-use Rattle.page_engine.specs.Page.{ended}
+use Rattle.page_engine.specs.ByLine.{ended}
 use Rattle.page_engine.specs.States.{PageState}
 use Rattle.page_engine.proofs.Phases.{open_layers, no_cause}
+use Rattle.page_engine.proofs.WholeLines.{page_none}
 use Rattle.page_engine.proofs.pages.Page.end.Goals as goal
 
 pub returns-in-Err-clause-ends : goal.returns-in-Err-clause-ends
 returns-in-Err-clause-ends g c = λ e h.
     let i = open_layers c.self.inside.layers e c.self.view_is h in
+    rw (page_none e h.reached)
     (record { gave = c.in-Err.ensures.gets e i; cause = c.in-Err.ensures.faults e i }, refl)
 
 pub returns-in-Err-clause-works : goal.returns-in-Err-clause-works
@@ -19,7 +21,8 @@ unfolding ended
 returns-clause-ends g c = λ e h.
     let i = open_layers c.self.inside.layers e c.self.view_is h in
     let done = c.in_default-end.ensures in
-    let f = done.faults e i in (
+    let f = done.faults e i in
+    rw (page_none e h.reached) (
       record { gave = done.gets e i; rows_quiet = f.0; notes_quiet = f.1 },
       record { phase = refl; worst = done.worst e i; counts = ap (λ (p : PageState). p.counts) c.self.view_is ∙ h.counts },
     )

@@ -1,14 +1,14 @@
 use Rattle.std.proofs.Common.{refl, ap, ◌∙◌}
 use Rattle.page_roff_source.specs.Edges.{counts_of}
 use Rattle.page_engine_lines.specs.Lines.{LinesEdge}
-use Rattle.page_engine.specs.Levels.{given, worst_of}
 use Rattle.page_engine.proofs.Phases.{at_edge, edge_at, open_layers, no_cause}
+use Rattle.page_engine.proofs.WholeLines.{text_reached, text_settled}
 use Rattle.page_engine.proofs.pages.Page.feed_line.Goals as goal
 
 pub returns-in-Err-clause-takes : goal.returns-in-Err-clause-takes
-unfolding given worst_of
 returns-in-Err-clause-takes g c = λ e h free.
     let i = open_layers c.self.inside.layers e c.self.view_is h in
+    rw (text_settled e c.args.text.now c.args.number h.reached)
     (record { gave = c.in-Err.ensures.gets e i; cause = c.in-Err.ensures.faults e i }, c.in_default.ensures.begins.2)
 
 pub returns-in-Err-clause-works : goal.returns-in-Err-clause-works
@@ -17,14 +17,16 @@ returns-in-Err-clause-works g c = λ e h free w.
     no_cause c.in-Err.fault _ _ _ _ w.rows_room w.rows w.notes_room w.notes (c.in-Err.ensures.faults e i)
 
 pub returns-clause-takes : goal.returns-clause-takes
-unfolding given worst_of
 returns-clause-takes g c = λ e h free.
     let i = open_layers c.self.inside.layers e c.self.view_is h in
     let done = c.in_default-feed.ensures in
     let f = done.faults e i in
-    let at = done.edge e i in (
+    let at = done.edge e i in
+    let is = text_settled e c.args.text.now c.args.number h.reached in
+    rw is (
       record { gave = done.gets e i; rows_quiet = f.0; notes_quiet = f.1 },
       record {
+        reached = text_reached e c.args.text.now c.args.number h.reached;
         phase = refl;
         edge = edge_at _ _ at;
         worst = at.worst_level;

@@ -1,12 +1,15 @@
 use Rattle.std.proofs.Common.{refl, ap, ◌∙◌}
+use Rattle.page_roff_lines.specs.Cutting.{line_of}
 use Rattle.page_roff_source.specs.Edges.{counts_of}
 use Rattle.page_engine_lines.specs.Lines.{LinesEdge}
 use Rattle.page_engine.proofs.Phases.{at_edge, edge_at, open_layers, no_cause}
+use Rattle.page_engine.proofs.WholeLines.{line_reached, one_line}
 use Rattle.page_engine.proofs.pages.Page.take_line.Goals as goal
 
 pub returns-in-Err-clause-takes : goal.returns-in-Err-clause-takes
 returns-in-Err-clause-takes g c = λ e h free.
     let i = open_layers c.self.inside.layers e c.self.view_is h in
+    rw (one_line e (line_of c.args.cutter.now.point) h.reached)
     (record { gave = c.in-Err.ensures.gets e i; cause = c.in-Err.ensures.faults e i }, c.in_default.ensures.begins.2)
 
 pub returns-in-Err-clause-works : goal.returns-in-Err-clause-works
@@ -19,9 +22,13 @@ returns-clause-takes g c = λ e h free.
     let i = open_layers c.self.inside.layers e c.self.view_is h in
     let done = c.in_default-take_line.ensures in
     let f = done.faults e i in
-    let at = done.edge e i in (
+    let at = done.edge e i in
+    let line = line_of c.args.cutter.now.point in
+    let is = one_line e line h.reached in
+    rw is (
       record { gave = done.gets e i; rows_quiet = f.0; notes_quiet = f.1 },
       record {
+        reached = line_reached e line h.reached;
         phase = refl;
         edge = edge_at _ _ at;
         worst = at.worst_level;

@@ -1,8 +1,10 @@
+use Rattle.std.proofs.Common.{[]}
 use Rattle.std.proofs.lemmas.Result.{err_from_is_err_and}
 use Rattle.page_roff_lines.specs.Cutting.{last_line}
 use Rattle.page_core_base.proofs.SinkLemmas.{within-join}
-use Rattle.page_engine.specs.Page.{settled, ended}
+use Rattle.page_engine.specs.Page.{settled, page}
 use Rattle.page_engine.specs.Streams.{sinks}
+use Rattle.page_engine.proofs.WholeLines.{page_end}
 use Rattle.page_engine.proofs.WholeRuns.{finished}
 use Rattle.page_engine.proofs.runs.Run.finish.Goals as goal
 
@@ -12,7 +14,8 @@ returns-in_err-take_last-clause-ends g c =
     rw (r.1, r.2) (λ e h.
     let f = c.in_err-take_last.ensures.takes e h in
     let l = settled e (last_line c.args.self.now.cutter.point) in record {
-      gave = within-join g.met.R.RowSink.laws g.met.N.NoteSink.laws _ _ _ _ l (ended l.edge) f.gave;
+      gave = rw (page_end e (last_line c.args.self.now.cutter.point) h.reached)
+          (within-join g.met.R.RowSink.laws g.met.N.NoteSink.laws _ _ _ _ l (page l.edge []) f.gave);
       cause = f.cause;
     })
 

@@ -12,7 +12,7 @@ returns-then-not-end-clause-takes g c =
     let is = ap line_at (sym c.end.ensures.point) ∙ c.end.ensures.line in
     let none = none_count (last_line c.args.self.now.cutter.point) b line is c.if-not-end.true in record {
       came = λ e h. record {
-        gave = none_gave g.met.R.RowSink.laws g.met.N.NoteSink.laws _ _ e _ b line is c.if-not-end.true;
+        gave = none_gave g.met.R.RowSink.laws g.met.N.NoteSink.laws _ _ e _ b line h.reached is c.if-not-end.true;
         rows_quiet = refl;
         notes_quiet = refl;
       };

@@ -20,7 +20,7 @@ returns-then-not-is_whole-clause-takes g c =
       through = record {
         settled = λ e h. record {
           came = record {
-            gave = none_gave g.met.R.RowSink.laws g.met.N.NoteSink.laws _ _ e _ b line f.lines c.if-not-is_whole.true;
+            gave = none_gave g.met.R.RowSink.laws g.met.N.NoteSink.laws _ _ e _ b line h.reached f.lines c.if-not-is_whole.true;
             rows_quiet = refl;
             notes_quiet = refl;
           };

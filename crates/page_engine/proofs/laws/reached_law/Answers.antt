@@ -1,0 +1,5 @@
+use Rattle.page_engine.proofs.WholeLines.{start_reached, reached}
+use Rattle.page_engine.proofs.laws.reached_law.Goals as goal
+
+pub returns : goal.returns
+returns c = record { start = start_reached; lines = reached }

@@ -1,0 +1,71 @@
+-- The open row, and what is known of the rows above it. Source: roff(7), "Filling and adjusting"; mandoc(1), "ASCII Output".
+use Rattle.std.specs.Prelude.{ℕ, ◌+◌, Bool, true, false, min, List, [], sum_by}
+use Rattle.page_core_base.specs.declared.cells.Cell.{Cell}
+use Rattle.page_core_base.specs.declared.cells.Font.TheVariants.{R}
+use Rattle.page_core_base.specs.declared.note_kinds.NoteKind.TheVariants.{Limit}
+use Rattle.page_core_base.specs.declared.places.Place.{Place}
+use Rattle.page_core_base.specs.Messages.{Message, message_about}
+use Rattle.page_core_base.specs.Laid.{Laid}
+use Rattle.page_core_tables.specs.Printed.{char_columns}
+use Rattle.page_core_limits.specs.Limits.{name_of}
+use Rattle.page_core_limits.specs.declared.Limit.TheVariants.{Cells}
+use Rattle.page_fill_rows.specs.declared.TheConstants.{BLANK_ROWS}
+
+-- the columns of a cell, and of cells
+abbrev pub cell_columns : Cell → ℕ
+cell_columns cell = char_columns cell.c
+
+abbrev pub columns : List Cell → ℕ
+columns cells = sum_by cell_columns cells
+
+-- the cell of a blank
+abbrev pub blank : Cell
+blank = record { c = 32; font = R }
+
+-- The open row, and what is known of the rows above it.
+pub record Sheet : Type 0 where
+  -- the columns of a row with its margin, and whether rows are kept as they are
+  pub width : ℕ
+  pub literal : Bool
+  -- the margin of the row that begins next, and of the rows after it
+  pub first : ℕ
+  pub rest : ℕ
+  -- the open row: its margin, its cells (none: no row is open), where the blanks before its last word begin, and where that word does
+  pub margin : ℕ
+  pub cells : List Cell
+  pub gap : ℕ
+  pub word : ℕ
+  -- how many blank rows stand at the end of the rows that were given, up to BLANK_ROWS, and whether a heading's row does
+  pub blank_rows : ℕ
+  pub heading : Bool
+  -- the columns of the open tag's cells, up to TAG_COLUMNS, and whether it has a cell
+  pub tag_columns : ℕ
+  pub tag_begun : Bool
+
+-- what is laid, under another edge
+abbrev pub over : {E F : Type 0} → Laid E → (E → F) → Laid F
+over l f = record { rows = l.rows; notes = l.notes; edge = f l.edge }
+
+abbrev pub cells_note : Place → Message
+cells_note place = message_about Limit place (name_of Cells)
+
+-- the count of blank rows with more, as far as they are counted
+abbrev pub more_blank_rows : ℕ → ℕ → ℕ
+more_blank_rows count more = min (count + more) BLANK_ROWS
+
+-- no row is open, below one blank row
+abbrev pub fresh : ℕ → Sheet
+fresh width = record {
+  width = width;
+  literal = false;
+  first = 0;
+  rest = 0;
+  margin = 0;
+  cells = [];
+  gap = 0;
+  word = 0;
+  blank_rows = 1;
+  heading = false;
+  tag_columns = 0;
+  tag_begun = false;
+}
