@@ -5,7 +5,7 @@ use Rattle.std.specs.List.{list_all}
 use Rattle.std.proofs.lemmas.List.{drop_all, drop_more, take_all, take_more}
 use Rattle.std.proofs.lemmas.Bool.{cases_Bool}
 use Rattle.std.proofs.lemmas.Bool.Decides.{nat_tests}
-use Rattle.page_core_base.specs.Words.{begins_letter, ends_part, hyphen, in_first, last_start, parts_after, parts_of}
+use Rattle.page_core_base.specs.Words.{starts_with_letter, ends_part, hyphen, in_first, last_start, parts_after, parts_of}
 
 pub parts-end : (before b : ℕ) (bytes : List ℕ) → ends_part before b bytes ≡ true → parts_after before (b ∷ bytes) ≡ (b ∷ []) ∷ parts_after b bytes
 unfolding parts_after
@@ -122,7 +122,7 @@ front-start b (part ∷ next ∷ parts) first =
     let some : (length part + later == 0) ≡ false = grind (arith, nat_tests, first) in
     rw (two, some) (omega arith)
 
-parts-more : (before : ℕ) (bytes : List ℕ) → begins_letter bytes ≡ true → (length (parts_after before bytes) == 0) ≡ false
+parts-more : (before : ℕ) (bytes : List ℕ) → starts_with_letter bytes ≡ true → (length (parts_after before bytes) == 0) ≡ false
 parts-more before [] letter = absurd (never letter)
   where
     never : false ≡ true → ⊥
@@ -131,7 +131,7 @@ parts-more before (b ∷ bytes) letter = parts-some before b bytes
 
 start-ends : (before b : ℕ) (bytes : List ℕ) → ends_part before b bytes ≡ true → last_start (parts_after before (b ∷ bytes)) ≡ 1 + last_start (parts_after b bytes)
 start-ends before b bytes ends =
-    let letter : begins_letter bytes ≡ true = grind (arith, ends) in
+    let letter : starts_with_letter bytes ≡ true = grind (arith, ends) in
     rw (parts-end before b bytes ends, parts-more b bytes letter) refl
 
 start-goes : (before b : ℕ) (bytes : List ℕ) → ends_part before b bytes ≡ false

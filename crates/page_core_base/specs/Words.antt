@@ -20,9 +20,9 @@ blank_words (word ∷ words) = 32 ∷ (word ++ blank_words words)
 
 -- ---- the parts of a word
 
-abbrev pub begins_letter : List ℕ → Bool
-begins_letter [] = false
-begins_letter (b ∷ bytes) = is_ascii_alphabetic b
+abbrev pub starts_with_letter : List ℕ → Bool
+starts_with_letter [] = false
+starts_with_letter (b ∷ bytes) = is_ascii_alphabetic b
 
 abbrev pub hyphen : ℕ
 hyphen = 45
@@ -34,7 +34,7 @@ in_first b (part ∷ parts) = (b ∷ part) ∷ parts
 
 -- between a byte before it and bytes after it, a part ends after a byte: a hyphen between two letters
 abbrev pub ends_part : ℕ → ℕ → List ℕ → Bool
-ends_part before b bytes = is_ascii_alphabetic before && (b == hyphen && begins_letter bytes)
+ends_part before b bytes = is_ascii_alphabetic before && (b == hyphen && starts_with_letter bytes)
 
 -- the parts of bytes that stand after another one
 unfoldable pub parts_after : ℕ → List ℕ → List (List ℕ)

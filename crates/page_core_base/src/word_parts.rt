@@ -1,14 +1,14 @@
 //! The parts of a word: a row may end after a hyphen between two letters (roff(7), "Filling and adjusting").
 
 ghost use Rattle.std.specs.Prelude.{◌≡◌, ◌<◌, ◌≤◌, false, ◌==◌, ◌∷◌, length, take, drop};
-ghost use Rattle.page_core_base.specs.Words.{begins_letter, ends_part, last_start, parts_of};
+ghost use Rattle.page_core_base.specs.Words.{starts_with_letter, ends_part, last_start, parts_of};
 
 const HYPHEN: u8 = b'-';
 
 // Whether a letter stands at a text's front.
 #[inline(always)]
-fn begins_letter(text: &[u8]) -> bool
-    ensures { result ≡ begins_letter text.now }
+fn starts_with_letter(text: &[u8]) -> bool
+    ensures { result ≡ starts_with_letter text.now }
 {
     !text.is_empty() && text[0].is_ascii_alphabetic()
 }
@@ -18,7 +18,7 @@ fn begins_letter(text: &[u8]) -> bool
 fn ends_part(before: u8, byte: u8, after: &[u8]) -> bool
     ensures { result ≡ ends_part before byte after.now }
 {
-    byte == HYPHEN && before.is_ascii_alphabetic() && begins_letter(after)
+    byte == HYPHEN && before.is_ascii_alphabetic() && starts_with_letter(after)
 }
 
 /// How many bytes the first part of a word has.

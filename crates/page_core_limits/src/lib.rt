@@ -17,6 +17,15 @@ pub const FIELD: usize = 256;
 /// The cells of a row, its margin not counted.
 pub const CELLS: usize = 4096;
 
+/// The blank rows of one `sp` or `PD`.
+pub const BLANKS: u32 = 100;
+
+/// The scopes that are open.
+pub const SCOPES: usize = 64;
+
+/// The widths of a list of columns.
+pub const COLUMNS: usize = 16;
+
 /// The open parentheses of an expression.
 pub const PARENS: u32 = 16;
 
@@ -32,17 +41,44 @@ pub const BODY: usize = 16_384;
 /// The bytes of all names, strings and bodies.
 pub const DEFS: usize = 65_536;
 
+/// The open true blocks of a source: a page or a running macro.
+pub const CONDS: usize = 64;
+
+/// The macros that run inside one another.
+pub const CALLS: usize = 16;
+
+/// The bytes of a call's arguments, each with its end.
+pub const ARGS: usize = 4_096;
+
+/// The re-read lines of one source line: lines of running macros, and remainders that are run.
+pub const REREAD: usize = 1_000;
+
+/// The interpolations of a line.
+pub const EXPAND: u32 = 1_000;
+
+/// The interpolations inside one another.
+pub const NEST: usize = 16;
+
 /// A limit of a page that has a message of its own where it is passed.
 #[derive(Clone, Copy)]
 pub enum Limit {
     Line,
     Field,
     Cells,
+    Blanks,
+    Scopes,
+    Columns,
     Parens,
     Name,
     Names,
     Body,
     Defs,
+    Conds,
+    Calls,
+    Args,
+    Reread,
+    Expand,
+    Nest,
 }
 
 impl Limit {
@@ -54,11 +90,20 @@ impl Limit {
             Limit::Line => "LINE",
             Limit::Field => "FIELD",
             Limit::Cells => "CELLS",
+            Limit::Blanks => "BLANKS",
+            Limit::Scopes => "SCOPES",
+            Limit::Columns => "COLUMNS",
             Limit::Parens => "PARENS",
             Limit::Name => "NAME",
             Limit::Names => "NAMES",
             Limit::Body => "BODY",
             Limit::Defs => "DEFS",
+            Limit::Conds => "CONDS",
+            Limit::Calls => "CALLS",
+            Limit::Args => "ARGS",
+            Limit::Reread => "REREAD",
+            Limit::Expand => "EXPAND",
+            Limit::Nest => "NEST",
         }
     }
 }

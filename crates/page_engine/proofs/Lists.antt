@@ -2,8 +2,7 @@
 use Rattle.std.proofs.Common.{◌≡◌, ◌+◌, ◌*◌, ◌≤◌, List, length, ap}
 use Rattle.std.proofs.lemmas.List.{length-map}
 use Rattle.page_roff_lines.specs.Decoding.{Line}
-use Rattle.page_roff_language.specs.declared.TheConstants.{REREAD}
-use Rattle.page_roff_values.specs.declared.expansions.TheConstants.{EXPAND}
+use Rattle.page_core_limits.specs.declared.TheConstants.{EXPAND, REREAD}
 use Rattle.page_roff_source.proofs.CountLemmas.{lines_bound, lines_expansions}
 use Rattle.page_engine.specs.Page.{Edge, counts_at, edge, raw, raw_lines, settled}
 

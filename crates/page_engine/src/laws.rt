@@ -4,8 +4,7 @@ ghost use Rattle.std.specs.Prelude.{◌≡◌, ◌≤◌, ◌+◌, ◌*◌, List
 ghost use Rattle.page_core_base.specs.Laid.{join};
 ghost use Rattle.page_core_base.specs.declared.page_settings.Settings.{Settings};
 ghost use Rattle.page_roff_lines.specs.Decoding.{Line};
-ghost use Rattle.page_roff_language.specs.declared.TheConstants.{REREAD};
-ghost use Rattle.page_roff_values.specs.declared.expansions.TheConstants.{EXPAND};
+ghost use Rattle.page_core_limits.specs.declared.TheConstants.{EXPAND, REREAD};
 ghost use Rattle.page_engine.specs.ByLine as by_line;
 ghost use Rattle.page_engine.specs.Page.{Edge, IsReached, settled, edge, page, counts_at, start};
 

@@ -20,7 +20,7 @@ use Rattle.page_scopes_laws.proofs.EdgeLemmas.{edge-run}
 use Rattle.page_scopes_tree.specs.Acts.{Step, comes, does, steps_of}
 use Rattle.page_scopes_tree.specs.Frames.{framed}
 use Rattle.page_scopes_tree.specs.Nests.{Fact, scopes_nesting, step_standing}
-use Rattle.page_scopes_tree.specs.declared.TheConstants.{SCOPES}
+use Rattle.page_core_limits.specs.declared.TheConstants.{SCOPES}
 use Rattle.page_scopes_tree.specs.declared.acts.Act.{Act}
 use Rattle.page_scopes_tree.specs.declared.acts.Act.TheVariants as acts
 use Rattle.page_scopes_tree.specs.declared.labels.Label.{Label}

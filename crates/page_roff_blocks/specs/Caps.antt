@@ -1,7 +1,6 @@
 -- How much is held of where a source stands between two lines. Source: roff(7), "de", "if"; mandoc(1), "DIAGNOSTICS".
 use Rattle.std.specs.Prelude.{◌≤◌, length, IfSome}
-use Rattle.page_core_limits.specs.declared.TheConstants.{NAME}
-use Rattle.page_roff_blocks.specs.declared.TheConstants.{CONDS}
+use Rattle.page_core_limits.specs.declared.TheConstants.{CONDS, NAME}
 use Rattle.page_roff_blocks.specs.Levels.{Opened, Place}
 
 -- the bytes of an open region's names: of the macro that it defines, and of its end line

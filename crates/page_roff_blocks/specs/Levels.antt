@@ -1,8 +1,7 @@
 -- Where a source stands: the levels of its blocks, and an open region. Source: roff(7), "if", "ie", "el".
 use Rattle.std.specs.Prelude.{ℕ, zero, suc, Bool, true, false, not, List, [], ◌∷◌, length, Option, Some, None, nat_lt, nat_le, if◌then◌else◌}
 use Rattle.std.specs.Borrow.{Bor}
-use Rattle.page_core_limits.specs.declared.TheConstants.{NAME}
-use Rattle.page_roff_blocks.specs.declared.TheConstants.{CONDS}
+use Rattle.page_core_limits.specs.declared.TheConstants.{CONDS, NAME}
 use Rattle.page_roff_blocks.specs.declared.atoms.Branch.{Branch}
 use Rattle.page_roff_blocks.specs.declared.atoms.Branch.TheVariants.{If, IfElse, Else}
 use Rattle.page_roff_blocks.specs.declared.regions.RegionHead.{RegionHead}

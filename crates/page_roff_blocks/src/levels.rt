@@ -1,13 +1,13 @@
 //! The levels of the blocks of one source (roff(7), "if", "ie", "el").
 
 ghost use Rattle.std.specs.Prelude.{◌≡◌, ◌<◌, ◌≤◌, ◌^◌, length};
-ghost use Rattle.page_roff_blocks.specs.declared.TheConstants.{CONDS};
+ghost use Rattle.page_core_limits.specs.declared.TheConstants.{CONDS};
 ghost use Rattle.page_roff_blocks.specs.Atoms.{branch_seen};
 ghost use Rattle.page_roff_blocks.specs.Levels.{outside, bit_after, way_of, enter, skip, leave, has_block};
 
-use crate::CONDS;
 use crate::atoms::Branch;
 use arrayvec::ArrayVec;
+use page_core_limits::CONDS;
 use std::marker::Model;
 
 /// How a block is entered.

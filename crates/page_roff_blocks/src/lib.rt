@@ -18,6 +18,3 @@ pub use line_places::LinePlace;
 pub use open_regions::OpenRegion;
 pub use regions::{RegionHead, is_ending};
 pub use spots::{Reached, Spot};
-
-/// The open true blocks of a source: a page or a running macro.
-pub const CONDS: usize = 64;

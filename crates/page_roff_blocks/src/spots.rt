@@ -1,7 +1,7 @@
 //! Where a source stands in a line (roff(7), "if", "ie", "el").
 
 ghost use Rattle.std.specs.Prelude.{◌≡◌, ◌<◌, ◌≤◌, ◌^◌, true, length};
-ghost use Rattle.page_roff_blocks.specs.declared.TheConstants.{CONDS};
+ghost use Rattle.page_core_limits.specs.declared.TheConstants.{CONDS};
 ghost use Rattle.page_roff_blocks.specs.Atoms.{branch_seen};
 ghost use Rattle.page_roff_blocks.specs.Levels.{outside, bit_after, way_of, enter, skip, leave, has_block, at_line, after_part, guarded_by, reached};
 

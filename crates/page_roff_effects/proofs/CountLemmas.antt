@@ -12,7 +12,7 @@ use Rattle.page_roff_forms.specs.declared.line_forms.LineForm.TheVariants.{Comme
 use Rattle.page_roff_heads.specs.declared.conditions.Condition.{Condition}
 use Rattle.page_roff_heads.specs.declared.conditions.Test.{Test}
 use Rattle.page_roff_heads.specs.declared.conditions.Test.TheVariants.{Always, Unknown, IsDefined, IsRegister, Expression, Texts, Missing}
-use Rattle.page_roff_values.specs.declared.expansions.TheConstants.{EXPAND}
+use Rattle.page_core_limits.specs.declared.TheConstants.{EXPAND}
 use Rattle.page_roff_values.specs.Environments.{Surroundings}
 use Rattle.page_roff_values.specs.Values.{Spot, Laid, IsWithin, start, expanded, NEST}
 use Rattle.page_roff_values.proofs.LineLemmas.{value_within}

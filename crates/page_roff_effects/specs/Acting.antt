@@ -1,6 +1,6 @@
 -- What the code's object holds, and what its calls do, in terms of the effects of parts. Source: roff(7), "LANGUAGE SYNTAX".
 use Rattle.std.specs.Prelude.{◌≡◌, ℕ, ◌≤◌, Bool, true, false, nat_le, List, [], length, Option, Some, None, if◌then◌else◌}
-use Rattle.page_core_limits.specs.declared.TheConstants.{BODY}
+use Rattle.page_core_limits.specs.declared.TheConstants.{ARGS, BODY}
 use Rattle.page_core_base.specs.Messages.{Message}
 use Rattle.page_core_base.specs.LinesTaken.{Line}
 use Rattle.page_core_base.specs.declared.lines_taken.Form.{Form}
@@ -8,7 +8,6 @@ use Rattle.page_core_base.specs.declared.lines_taken.Form.TheVariants.{Text, Bla
 use Rattle.page_core_base.specs.declared.page_settings.Output.{Output}
 use Rattle.page_roff_forms.specs.LineForms.{has_word}
 use Rattle.page_roff_names.specs.Names.{definitions}
-use Rattle.page_roff_values.specs.declared.call_arguments.TheConstants.{ARGS}
 use Rattle.page_roff_values.specs.Latches.{Came}
 use Rattle.page_roff_values.specs.Values.{Spot, Laid, expanded}
 use Rattle.page_roff_conditions.specs.Answers.{Answer}

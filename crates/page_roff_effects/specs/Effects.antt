@@ -10,6 +10,8 @@ use Rattle.page_roff_language.specs.Budgets.{Budgeted, Effects}
 use Rattle.page_roff_effects.specs.States.{Memory, State, Given, Outcome, Product, no_product, line_product, call_product, after, reports, reports_at, counted, Setting, surroundings}
 use Rattle.page_roff_effects.specs.Leaves.{leaf_outcome}
 use Rattle.page_roff_effects.specs.RegionLines.{head_outcome, line_outcome, end_outcome, finish_outcome}
+use Rattle.page_core_limits.specs.Limits.{name_of}
+use Rattle.page_core_limits.specs.declared.Limit.TheVariants as limits
 
 -- the page has no arguments
 abbrev pub setting_of : Output → Kind → Setting
@@ -25,11 +27,11 @@ test_outcome answer m = reports answer.notes (counted answer.edge.count m)
 
 -- a re-read line beyond the budget
 unfoldable pub budget_outcome : Memory → Outcome
-budget_outcome m = reports_at kinds.Loop 1 (codes "REREAD") m
+budget_outcome m = reports_at kinds.Loop 1 (name_of limits.Reread) m
 
 -- a true block beyond the limit of open ones, whose head's name stands in a column
 unfoldable pub block_outcome : ℕ → Memory → Outcome
-block_outcome column m = reports_at kinds.Limit column (codes "CONDS") m
+block_outcome column m = reports_at kinds.Limit column (name_of limits.Conds) m
 
 -- the end of a block where none is open
 unfoldable pub end_of_block_outcome : Memory → Outcome

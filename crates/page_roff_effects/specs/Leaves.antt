@@ -10,7 +10,7 @@ use Rattle.page_roff_forms.specs.LineForms.{form_of, without_comment}
 use Rattle.page_roff_forms.specs.declared.line_forms.LineForm.{LineForm}
 use Rattle.page_roff_forms.specs.declared.line_forms.LineForm.TheVariants.{Comment, BlankLine, Text, Control}
 use Rattle.page_roff_forms.specs.declared.quotes.Argument.{Argument}
-use Rattle.page_roff_values.specs.declared.call_arguments.TheConstants.{ARGS}
+use Rattle.page_core_limits.specs.declared.TheConstants.{ARGS}
 use Rattle.page_roff_values.specs.Values.{Laid, expanded}
 use Rattle.page_roff_definitions.specs.Arguments.{closings_notes}
 use Rattle.page_roff_definitions.specs.Definitions.{Outcome, outcome_of}
@@ -19,6 +19,8 @@ use Rattle.page_roff_effects.specs.declared.commands.Command.TheVariants.{Call, 
 use Rattle.page_roff_effects.specs.Commands.{called_body, command_of, copies}
 use Rattle.page_roff_effects.specs.States.{Memory, call_product, no_product, nothing, reports, reports_at, gives_line, after_notes, at, with_definitions, counted, Setting, surroundings}
 use Rattle.page_roff_effects.specs.States as states
+use Rattle.page_core_limits.specs.Limits.{name_of}
+use Rattle.page_core_limits.specs.declared.Limit.TheVariants as limits
 
 -- ---- the arguments of a call
 
@@ -39,12 +41,12 @@ packed arguments = flat_map (λ argument. argument_value argument ++ (10 ∷ [])
 -- the call that would be one running macro too many
 abbrev pub depth_notes : Bool → Place → List Message
 depth_notes true place = []
-depth_notes false place = message_about kinds.Loop place (codes "CALLS") ∷ []
+depth_notes false place = message_about kinds.Loop place (name_of limits.Calls) ∷ []
 
 -- the call with too many bytes of arguments
 abbrev pub size_notes : Bool → Place → List Message
 size_notes true place = []
-size_notes false place = message_about kinds.Limit place (codes "ARGS") ∷ []
+size_notes false place = message_about kinds.Limit place (name_of limits.Args) ∷ []
 
 abbrev pub call_if : Bool → List ℕ → List ℕ → Memory → states.Outcome
 call_if true body bytes m = record { notes = []; product = call_product (record { body = body; packed = bytes }); memory = m }

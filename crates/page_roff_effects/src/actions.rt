@@ -2,9 +2,8 @@
 
 ghost use Rattle.std.specs.Prelude.{◌≡◌, ◌≤◌, [], ◌∷◌, length, IfOk, None, Some};
 ghost use Rattle.page_core_base.specs.LinesTaken.{line_seen};
-ghost use Rattle.page_core_limits.specs.declared.TheConstants.{LINE};
+ghost use Rattle.page_core_limits.specs.declared.TheConstants.{ARGS, LINE};
 ghost use Rattle.page_roff_heads.specs.Conditions.{condition_seen, test_seen, FitsTest};
-ghost use Rattle.page_roff_values.specs.declared.call_arguments.TheConstants.{ARGS};
 ghost use Rattle.page_roff_values.specs.Arguments.{arguments_in};
 ghost use Rattle.page_roff_values.specs.Environments.{surroundings_of};
 ghost use Rattle.page_roff_values.specs.Values as laying;
@@ -18,10 +17,11 @@ ghost use Rattle.page_roff_values.specs.Latches.{Came};
 use crate::buffers::{BodyBuffer, LineBuffer};
 use crate::calls::CallBuffer;
 use page_core_base::{Note, NoteKind, Output, Place, Taken};
+use page_core_limits::{ARGS, Limit};
 use page_roff_conditions::holds;
 use page_roff_heads::Condition;
 use page_roff_names::Names;
-use page_roff_values::{ARGS, CallArguments, Environment, Expansion, NoteOut};
+use page_roff_values::{CallArguments, Environment, Expansion, NoteOut};
 use std::alloc::{AllocError, Global};
 use std::marker::Model;
 
@@ -213,7 +213,13 @@ impl Actions {
     pub fn exhaust<O: NoteOut>(&mut self, out: &mut O)
         ensures { Does O.left self.old out.old (budget_outcome self.old.memory) self.new out.new }
     {
-        report_at(NoteKind::Loop, self.number, 1, b"REREAD", out);
+        report_at(
+            NoteKind::Loop,
+            self.number,
+            1,
+            Limit::Reread.name().as_bytes(),
+            out,
+        );
     }
 
     /// A true block comes beyond the limit of open ones; the name of its head stands in a column.
@@ -221,7 +227,13 @@ impl Actions {
     pub fn refuse<O: NoteOut>(&mut self, column: u32, out: &mut O)
         ensures { Does O.left self.old out.old (block_outcome column self.old.memory) self.new out.new }
     {
-        report_at(NoteKind::Limit, self.number, column, b"CONDS", out);
+        report_at(
+            NoteKind::Limit,
+            self.number,
+            column,
+            Limit::Conds.name().as_bytes(),
+            out,
+        );
     }
 
     /// The end of a block comes where none is open.

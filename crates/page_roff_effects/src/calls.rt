@@ -2,16 +2,15 @@
 
 ghost use Rattle.std.specs.Prelude.{◌≡◌, ◌≤◌, ◌+◌, [], ◌∷◌, ◌++◌, length, nat_le, IfOk};
 ghost use Rattle.std.specs.Vec.{vec_len, vec_capacity};
-ghost use Rattle.page_core_limits.specs.declared.TheConstants.{LINE, BODY};
+ghost use Rattle.page_core_limits.specs.declared.TheConstants.{BODY, LINE};
 ghost use Rattle.page_roff_forms.specs.Arguments.{argument_seen, arguments};
 ghost use Rattle.page_roff_effects.specs.Acting.{no_call, Packs};
 ghost use Rattle.page_roff_effects.specs.Leaves.{unpaired, argument_value, packed};
 
 use crate::buffers::{append, replace};
 use memchr::memchr;
-use page_core_limits::{BODY, LINE};
+use page_core_limits::{ARGS, BODY, LINE};
 use page_roff_forms::{Argument, Arguments};
-use page_roff_values::ARGS;
 use std::alloc::{AllocError, Global};
 use std::marker::Model;
 
@@ -88,7 +87,7 @@ impl Model for CallBuffer {
     ghost use Rattle.std.specs.Prelude.{◌≤◌, ◌+◌};
     ghost use Rattle.std.specs.Vec.{vec_capacity};
     ghost use Rattle.page_core_limits.specs.declared.TheConstants.{BODY, LINE};
-    ghost use Rattle.page_roff_values.specs.declared.call_arguments.TheConstants.{ARGS};
+    ghost use Rattle.page_core_limits.specs.declared.TheConstants.{ARGS};
     ghost use Rattle.page_roff_effects.specs.States.{Call};
 
     ghost Value = { Call };

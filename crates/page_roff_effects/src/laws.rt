@@ -2,7 +2,7 @@
 
 ghost use Rattle.std.specs.Prelude.{◌≡◌, List};
 ghost use Rattle.page_core_base.specs.declared.page_settings.Output.{Output};
-ghost use Rattle.page_roff_values.specs.declared.expansions.TheConstants.{EXPAND};
+ghost use Rattle.page_core_limits.specs.declared.TheConstants.{EXPAND};
 ghost use Rattle.page_roff_language.specs.Budgets.{language};
 ghost use Rattle.page_roff_language.specs.Fronts.{IsFront};
 ghost use Rattle.page_roff_language.specs.Spending.{Spends};

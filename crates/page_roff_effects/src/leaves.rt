@@ -13,7 +13,7 @@ ghost use Rattle.page_roff_effects.specs.States.{gives_line};
 use crate::actions::{Actions, report_at};
 use crate::commands::{Command, ProductKind, body_or_nothing};
 use page_core_base::{Form, NoteKind, Place};
-use page_core_limits::LINE;
+use page_core_limits::{LINE, Limit};
 use page_roff_definitions::{RequestLine, define, report_closings};
 use page_roff_forms::{LineForm, begins_control, form_of, has_word, plain_len};
 use page_roff_requests::DefinitionRequest;
@@ -80,10 +80,22 @@ fn report_refusals<O: NoteOut>(may_call: bool, fits: bool, place: Place, out: &m
         ++ leaves.size_notes fits place) out.new }
 {
     if !may_call {
-        report_at(NoteKind::Loop, place.line, place.column, b"CALLS", out);
+        report_at(
+            NoteKind::Loop,
+            place.line,
+            place.column,
+            Limit::Calls.name().as_bytes(),
+            out,
+        );
     }
     if !fits {
-        report_at(NoteKind::Limit, place.line, place.column, b"ARGS", out);
+        report_at(
+            NoteKind::Limit,
+            place.line,
+            place.column,
+            Limit::Args.name().as_bytes(),
+            out,
+        );
     }
 }
 

@@ -1,7 +1,7 @@
 //! Heads and lines of regions (roff(7), "de", "am", "ig").
 
 ghost use Rattle.std.specs.Prelude.{◌≡◌, ◌≤◌, ◌∷◌, [], length};
-ghost use Rattle.page_core_limits.specs.declared.TheConstants.{LINE, BODY};
+ghost use Rattle.page_core_limits.specs.declared.TheConstants.{BODY, LINE};
 ghost use Rattle.page_roff_blocks.specs.Levels.{within_limit, opened_seen};
 ghost use Rattle.page_roff_blocks.specs.Regions.{region_seen, text_seen};
 ghost use Rattle.page_roff_definitions.specs.Definitions as defining;

@@ -4,7 +4,7 @@ use Rattle.std.proofs.lemmas.Bool.{cases_Bool, eqb-true}
 use Rattle.page_roff_forms.specs.LineForms.{without_comment}
 use Rattle.page_roff_heads.specs.declared.conditions.Kind.{Kind}
 use Rattle.page_roff_heads.specs.declared.conditions.Kind.TheVariants.{True, False, Defined, Register, Expression, Letter, Delimiter}
-use Rattle.page_roff_heads.specs.Conditions.{kind_of, read_kind, read_test, condition_of, condition_len, is_always, begins_letter}
+use Rattle.page_roff_heads.specs.Conditions.{kind_of, read_kind, read_test, condition_of, condition_len, is_always, starts_with_letter}
 
 kind_same : (k : Kind) (column byte : ℕ) (xs ys : List ℕ) → is_always k ≡ true → read_kind k column (byte ∷ xs) ≡ read_kind k column (byte ∷ ys)
 kind_same True column byte xs ys h = refl
@@ -51,13 +51,13 @@ kept_first : (byte : ℕ) (bytes : List ℕ) → (byte == 92) ≡ false → (res
 kept_first byte [] t = ([], refl)
 kept_first byte (next ∷ bytes) t = (without_comment (next ∷ bytes), rw t refl)
 
-pub letter_condition : (column : ℕ) (text : List ℕ) → begins_letter text ≡ true → condition_of column (take 1 text) ≡ condition_of column (without_comment text)
+pub letter_condition : (column : ℕ) (text : List ℕ) → starts_with_letter text ≡ true → condition_of column (take 1 text) ≡ condition_of column (without_comment text)
 letter_condition column [] h = refl
 letter_condition column (byte ∷ bytes) h =
     let kept = kept_first byte bytes (no_slash byte h) in
     rw kept.1 (condition_same column byte [] kept.0 h)
 
-pub letter_len : (column : ℕ) (text : List ℕ) → begins_letter text ≡ true → condition_len column (take 1 text) ≡ condition_len column (without_comment text)
+pub letter_len : (column : ℕ) (text : List ℕ) → starts_with_letter text ≡ true → condition_len column (take 1 text) ≡ condition_len column (without_comment text)
 letter_len column [] h = refl
 letter_len column (byte ∷ bytes) h =
     let kept = kept_first byte bytes (no_slash byte h) in

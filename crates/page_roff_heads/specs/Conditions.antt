@@ -132,9 +132,9 @@ is_always Expression = false
 is_always Letter = false
 is_always Delimiter = false
 
-abbrev pub begins_letter : List ℕ → Bool
-begins_letter [] = false
-begins_letter (byte ∷ bytes) = is_always (kind_of byte)
+abbrev pub starts_with_letter : List ℕ → Bool
+starts_with_letter [] = false
+starts_with_letter (byte ∷ bytes) = is_always (kind_of byte)
 
 -- ---- of the program, with what its texts hold
 

@@ -273,8 +273,8 @@ fn read_test(text: &[u8], column: u32) -> TestRead<&[u8]>
 }
 
 // Whether a text begins with a letter that is always true or always false: what follows decides nothing.
-fn begins_letter(text: &[u8]) -> bool
-    ensures { result ≡ written.begins_letter text.now }
+fn starts_with_letter(text: &[u8]) -> bool
+    ensures { result ≡ written.starts_with_letter text.now }
 {
     match text {
         [] => false,
@@ -313,7 +313,7 @@ pub(crate) fn read_before_comment(text: &[u8], column: u32) -> (Condition<&[u8]>
     ensures within { result.1 ≤ length text.now }
     ensures fits { FitsTest (test_seen result.0.test) }
 {
-    if begins_letter(text) {
+    if starts_with_letter(text) {
         return read_condition(&text[..1], column);
     }
     read_condition(&text[..uncommented_len(text)], column)

@@ -6,7 +6,7 @@ use Rattle.page_roff_blocks.specs.Levels.{Levels, at_line, Opened, first_place}
 use Rattle.page_roff_blocks.specs.Run.{At, run_lines}
 use Rattle.page_roff_blocks.specs.Steps.{step_inside, step_from, step, step_lines}
 use Rattle.page_roff_blocks.proofs.FoldLemmas.{run_is_steps}
-use Rattle.page_roff_language.specs.declared.TheConstants.{REREAD, CALLS}
+use Rattle.page_core_limits.specs.declared.TheConstants.{CALLS, REREAD}
 use Rattle.page_roff_language.specs.Languages.{Kind, page, body, Done, gives, calls, finish_at, call_with, gives_at, meaning_at, run_page}
 use Rattle.page_roff_language.specs.Budgets.{Budgeted, Effects, with_rest, charge_by, charge, begin_line, whether_run, meet, test, unopened_by, read_line, end_line, meaning, done_with, language}
 use Rattle.page_roff_language.proofs.KeepLemmas.{KeepsParts, KeepsLines, parts_keep, run_keeps}

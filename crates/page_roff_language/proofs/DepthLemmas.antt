@@ -6,7 +6,7 @@ use Rattle.page_roff_blocks.specs.Levels.{after_part, Opened}
 use Rattle.page_roff_blocks.specs.Regions.{is_ending}
 use Rattle.page_roff_blocks.specs.Run.{Meaning}
 use Rattle.page_roff_blocks.specs.Steps.{met}
-use Rattle.page_roff_language.specs.declared.TheConstants.{CALLS}
+use Rattle.page_core_limits.specs.declared.TheConstants.{CALLS}
 use Rattle.page_roff_language.specs.Languages.{Done, gives, calls, Language, meaning_at}
 use Rattle.page_roff_language.specs.Machine.{Frame, Running, at_part, depth, is_some, leaf_next, leaf_if, part_next, region_next, line_next, source_next, next_in, next}
 

@@ -8,7 +8,7 @@ use Rattle.page_roff_blocks.specs.Run.{Meaning, At, run_lines, headed}
 use Rattle.page_roff_blocks.specs.Run as blocks
 use Rattle.page_roff_blocks.specs.Steps.{met, step_leaf, step_region, step_parts, step_inside, step_from, step, step_lines}
 use Rattle.page_roff_blocks.proofs.FoldLemmas.{run_is_steps, run_lines-append}
-use Rattle.page_roff_language.specs.declared.TheConstants.{CALLS}
+use Rattle.page_core_limits.specs.declared.TheConstants.{CALLS}
 use Rattle.page_roff_language.specs.Languages.{Kind, page, body, Done, gives, calls, Language, finish_at, call_with, gives_at, meaning_at, run_page, run_page_lines}
 use Rattle.page_roff_language.specs.Machine.{Frame, Running, entered, at_part, at_page, depth, is_some, stands_at, line_in, line_rest, after_line, rest, rest_of, leaf_next, leaf_if, part_next, region_next, line_next, source_next, next_in, next}
 

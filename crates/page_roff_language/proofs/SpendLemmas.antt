@@ -14,7 +14,7 @@ use Rattle.page_roff_blocks.specs.Levels.{Levels, way_of, has_block, Spot, at_li
 use Rattle.page_roff_blocks.specs.Run.{Meaning, At, meet_as, value, leaf_if, refuse_if, unopened_if, run_lines}
 use Rattle.page_roff_blocks.specs.Steps.{met, step_leaf, guard_with, guard_met, step_guard, block_with, block_met, step_block, step_end, step_region, step_parts, step_inside, step_from, step, step_lines}
 use Rattle.page_roff_blocks.proofs.FoldLemmas.{run_is_steps}
-use Rattle.page_roff_language.specs.declared.TheConstants.{CALLS}
+use Rattle.page_core_limits.specs.declared.TheConstants.{CALLS}
 use Rattle.page_roff_language.specs.Languages.{Kind, page, body, Done, gives, calls, finish_at, call_with, gives_at, meaning_at, run_page}
 use Rattle.page_roff_language.specs.Budgets.{Budgeted, Effects, with_rest, charge_by, charge, begin_line, whether_run, meet, test, unopened_by, read_line, end_line, meaning, done_with, language}
 use Rattle.page_roff_language.specs.Spending.{after_leaf, Spends}

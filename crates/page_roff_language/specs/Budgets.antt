@@ -5,7 +5,7 @@ use Rattle.page_roff_blocks.specs.declared.atoms.Head.{Head}
 use Rattle.page_roff_blocks.specs.declared.regions.RegionHead.{RegionHead}
 use Rattle.page_roff_blocks.specs.Levels.{Opened}
 use Rattle.page_roff_blocks.specs.Run.{Meaning}
-use Rattle.page_roff_language.specs.declared.TheConstants.{REREAD}
+use Rattle.page_core_limits.specs.declared.TheConstants.{REREAD}
 use Rattle.page_roff_language.specs.Languages.{Kind, page, body, Done, gives, calls, Language}
 
 -- How many re-read lines of the source line are left, whether one beyond them came, how many lines were taken, and all else.

@@ -2,7 +2,7 @@
 use Rattle.std.specs.Prelude.{ℕ, zero, suc, Bool, true, false, List, Option}
 use Rattle.page_roff_blocks.specs.Levels.{Opened, first_place}
 use Rattle.page_roff_blocks.specs.Run.{Meaning, At, run_lines, headed}
-use Rattle.page_roff_language.specs.declared.TheConstants.{CALLS}
+use Rattle.page_core_limits.specs.declared.TheConstants.{CALLS}
 
 -- a source is the page, or the body of a running macro with its arguments
 pub data Kind : Type 0 where

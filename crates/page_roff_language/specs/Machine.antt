@@ -7,7 +7,7 @@ use Rattle.page_roff_blocks.specs.Regions.{is_ending}
 use Rattle.page_roff_blocks.specs.Levels.{Opened, Spot, at_line, after_part, outside}
 use Rattle.page_roff_blocks.specs.Run.{Meaning, At}
 use Rattle.page_roff_blocks.specs.Steps.{met, step_guard, step_block, step_end, step_region, step_parts, step_lines}
-use Rattle.page_roff_language.specs.declared.TheConstants.{CALLS}
+use Rattle.page_core_limits.specs.declared.TheConstants.{CALLS}
 use Rattle.page_roff_language.specs.Languages.{Kind, page, body, Done, gives, calls, Language, finish_at, meaning_at}
 
 -- A source that is being run: its open region, what is left of its present line, the spot there, and the lines after it.

@@ -2,7 +2,7 @@
 
 ghost use Rattle.std.specs.Prelude.{◌≡◌, ◌≤◌, ℕ, suc, ◌+◌, ◌*◌, List, [], ◌∷◌, ◌++◌, length, Some, None};
 ghost use Rattle.page_roff_blocks.specs.Run.{At};
-ghost use Rattle.page_roff_language.specs.declared.TheConstants.{CALLS, REREAD};
+ghost use Rattle.page_core_limits.specs.declared.TheConstants.{CALLS, REREAD};
 ghost use Rattle.page_roff_language.specs.Budgets.{Budgeted, Effects, language};
 ghost use Rattle.page_roff_language.specs.Fronts.{over, over_running, IsFront};
 ghost use Rattle.page_roff_language.specs.Languages.{Language, run_page, run_page_lines};

@@ -2,7 +2,7 @@
 use Rattle.std.proofs.Common.{◌≡◌, ℕ, ◌≤◌, Bool, true, false, cond, Some, None, refl, ap, ◌∙◌}
 use Rattle.std.specs.Prelude.{nat_lt}
 use Rattle.std.proofs.lemmas.Bool.{ltb-false}
-use Rattle.page_core_limits.specs.declared.TheConstants.{NAME, NAMES, BODY, DEFS}
+use Rattle.page_core_limits.specs.declared.TheConstants.{BODY, DEFS, NAME, NAMES}
 use Rattle.page_core_limits.specs.declared.Limit.TheVariants.{Name, Names, Body, Defs}
 use Rattle.page_roff_names.specs.Names.{first_passed}
 

@@ -5,10 +5,9 @@ use Rattle.page_core_base.specs.declared.page_settings.Output.{Output}
 use Rattle.page_roff_heads.specs.declared.conditions.Condition.{Condition}
 use Rattle.page_roff_blocks.specs.declared.regions.RegionHead.{RegionHead}
 use Rattle.page_roff_blocks.specs.Levels.{Opened}
-use Rattle.page_roff_values.specs.declared.expansions.TheConstants.{EXPAND}
+use Rattle.page_core_limits.specs.declared.TheConstants.{EXPAND, REREAD}
 use Rattle.page_roff_language.specs.Languages.{Kind}
 use Rattle.page_roff_language.specs.Spending.{after_leaf, Spends}
-use Rattle.page_roff_language.specs.declared.TheConstants.{REREAD}
 use Rattle.page_roff_language.proofs.BudgetLemmas.{page_line_bound}
 use Rattle.page_roff_language.proofs.SpendLemmas.{page_spends}
 use Rattle.page_roff_effects.specs.Effects.{effects, answer_of, test_outcome, expansions_of, tested_after, done_by, done_after, budget_outcome, block_outcome, end_of_block_outcome, setting_of}

@@ -7,7 +7,7 @@ use Rattle.page_roff_blocks.specs.Run.{Meaning, At, after_head, each_line}
 use Rattle.page_roff_blocks.specs.Steps.{step_inside, step_from, step, step_lines}
 use Rattle.page_roff_blocks.proofs.FoldLemmas.{run_is_steps}
 use Rattle.page_roff_blocks.proofs.HeadLemmas.{forest_is_each}
-use Rattle.page_roff_language.specs.declared.TheConstants.{CALLS, REREAD}
+use Rattle.page_core_limits.specs.declared.TheConstants.{CALLS, REREAD}
 use Rattle.page_roff_language.specs.Budgets.{Budgeted, Effects, language, meaning, begin_line, read_line, end_line}
 use Rattle.page_roff_language.specs.Languages.{page, Language, meaning_at, run_page, run_page_lines}
 use Rattle.page_roff_language.specs.Machine.{at_page}

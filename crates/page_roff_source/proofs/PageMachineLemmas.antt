@@ -1,13 +1,12 @@
 -- The machine that runs a page's lines is at the page's edge: helpers of proofs.
 use Rattle.std.proofs.Common.{◌≡◌, ℕ, ◌+◌, ◌≤◌, ◌<◌, ◌^◌, Bool, true, false, not, if◌then◌else◌, List, [], ◌∷◌, length, Option, Some, None, refl, sym, ap, subst, ◌∙◌, arith}
-use Rattle.page_core_limits.specs.declared.TheConstants.{LINE}
+use Rattle.page_core_limits.specs.declared.TheConstants.{LINE, REREAD}
 use Rattle.page_core_base.specs.LinesTaken.{Line}
 use Rattle.page_core_base.specs.Messages.{Message}
 use Rattle.page_core_base.specs.declared.page_settings.Output.{Output}
 use Rattle.page_roff_blocks.specs.Caps.{PlaceFits}
 use Rattle.page_roff_blocks.specs.Levels.{at_line, outside, first_place}
 use Rattle.page_roff_blocks.specs.Run.{At}
-use Rattle.page_roff_language.specs.declared.TheConstants.{REREAD}
 use Rattle.page_roff_language.specs.Languages.{run_page}
 use Rattle.page_roff_language.specs.Counting.{Budget}
 use Rattle.page_roff_language.specs.Machine.{next}

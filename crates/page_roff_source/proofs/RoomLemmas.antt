@@ -8,7 +8,7 @@ use Rattle.page_roff_blocks.specs.Steps.{step_inside, step_from, step, step_line
 use Rattle.page_roff_blocks.proofs.FoldLemmas.{run_is_steps}
 use Rattle.page_roff_blocks.proofs.RoomLemmas.{atoms_room, step_room}
 use Rattle.page_roff_language.specs.Languages.{page, meaning_at, run_page}
-use Rattle.page_roff_language.specs.declared.TheConstants.{CALLS}
+use Rattle.page_core_limits.specs.declared.TheConstants.{CALLS}
 use Rattle.page_roff_language.specs.Budgets.{language}
 use Rattle.page_roff_effects.specs.Effects.{effects}
 use Rattle.page_roff_source.specs.Edges.{Edge, SourceLine, before_line, run_line, line_done}

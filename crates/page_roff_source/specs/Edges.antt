@@ -7,7 +7,7 @@ use Rattle.page_roff_blocks.specs.Levels.{Place, first_place}
 use Rattle.page_roff_blocks.specs.Run.{At}
 use Rattle.page_roff_language.specs.Budgets.{Budgeted, language}
 use Rattle.page_roff_language.specs.Languages.{run_page}
-use Rattle.page_roff_language.specs.declared.TheConstants.{REREAD}
+use Rattle.page_core_limits.specs.declared.TheConstants.{REREAD}
 use Rattle.page_roff_effects.specs.Effects.{effects}
 use Rattle.page_roff_effects.specs.RegionLines.{finish_outcome}
 use Rattle.page_roff_effects.specs.States.{Memory, State, Given, says, takes, first_memory, numbered}

@@ -2,8 +2,7 @@
 use Rattle.std.specs.Prelude.{◌≡◌, ℕ, ◌+◌, ◌*◌, ◌≤◌, ◌^◌, Bool, true, if◌then◌else◌, List, Some, None}
 use Rattle.page_core_base.specs.LinesTaken.{Line}
 use Rattle.page_core_base.specs.Messages.{Message}
-use Rattle.page_core_limits.specs.declared.TheConstants.{LINE}
-use Rattle.page_roff_language.specs.declared.TheConstants.{REREAD}
+use Rattle.page_core_limits.specs.declared.TheConstants.{LINE, REREAD}
 use Rattle.page_roff_values.specs.Latches.{Came}
 use Rattle.page_roff_machine.specs.Giving.{notes_before, next_line}
 use Rattle.page_roff_machine.specs.Machines.{Machine, output_of, outcome_of, to_come, taken_if}

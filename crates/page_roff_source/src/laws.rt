@@ -1,8 +1,7 @@
 //! Laws of what roff gives of a page's lines.
 
 ghost use Rattle.std.specs.Prelude.{◌≡◌, ◌≤◌, ◌+◌, ◌*◌, List, ◌++◌, length, None};
-ghost use Rattle.page_roff_values.specs.declared.expansions.TheConstants.{EXPAND};
-ghost use Rattle.page_roff_language.specs.declared.TheConstants.{REREAD};
+ghost use Rattle.page_core_limits.specs.declared.TheConstants.{EXPAND, REREAD};
 ghost use Rattle.page_roff_source.specs.Edges.{Edge, SourceLine, line_given, line_done, line_count};
 ghost use Rattle.page_roff_source.specs.Given.{given, done};
 ghost use Rattle.page_roff_source.specs.LineByLine.{lines_given, lines_done};

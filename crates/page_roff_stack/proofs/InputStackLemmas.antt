@@ -6,10 +6,8 @@ use Rattle.std.proofs.lemmas.Bool.{cases_Bool}
 use Rattle.std.proofs.lemmas.Bool.Decides.{nat_tests}
 use Rattle.std.proofs.lemmas.List.{length-reverse, reverse-append}
 use Rattle.page_roff_blocks.specs.Levels.{Spot}
-use Rattle.page_core_limits.specs.declared.TheConstants.{LINE, BODY}
-use Rattle.page_roff_language.specs.declared.TheConstants.{CALLS}
+use Rattle.page_core_limits.specs.declared.TheConstants.{ARGS, BODY, CALLS, LINE}
 use Rattle.page_roff_language.specs.Machine.{Frame, at_part, depth, entered, is_some}
-use Rattle.page_roff_values.specs.declared.call_arguments.TheConstants.{ARGS}
 use Rattle.page_roff_stack.specs.declared.input_stacks.Caller.{Caller}
 use Rattle.page_roff_stack.specs.declared.input_stacks.InputStack.TheInside.{Inside}
 use Rattle.page_roff_stack.specs.declared.input_frames.InputFrame.{InputFrame}

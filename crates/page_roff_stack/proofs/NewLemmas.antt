@@ -2,7 +2,7 @@
 use Rattle.std.proofs.Common.{◌≡◌, ℕ, suc, ◌-◌, ◌<◌, ◌≤◌, ◌^◌, List, [], ◌∷◌, ◌++◌, length, take, drop, Option, Some, None, refl, sym, ap, ◌∙◌, append_assoc, arith, length-append}
 use Rattle.std.proofs.Math.Seq.{take-append_seam, drop-append_seam}
 use Rattle.page_core_base.specs.Texts.{IsLine}
-use Rattle.page_core_limits.specs.declared.TheConstants.{LINE, BODY}
+use Rattle.page_core_limits.specs.declared.TheConstants.{BODY, LINE}
 use Rattle.page_roff_blocks.specs.Levels.{Opened, Spot, at_line, outside}
 use Rattle.page_roff_blocks.specs.LinePlaces.{line_end}
 use Rattle.page_roff_language.specs.Languages.{Kind, page, body}

@@ -1,10 +1,8 @@
 -- The input stack, as the code holds it: the code's own form of it.
 use Rattle.std.specs.Prelude.{ℕ, ◌+◌, ◌*◌, ◌≤◌, List, [], ◌∷◌, length, take, reverse}
 use Rattle.std.specs.Vec.{vec_capacity}
-use Rattle.page_core_limits.specs.declared.TheConstants.{LINE, BODY}
-use Rattle.page_roff_language.specs.declared.TheConstants.{CALLS}
+use Rattle.page_core_limits.specs.declared.TheConstants.{ARGS, BODY, CALLS, LINE}
 use Rattle.page_roff_language.specs.Machine.{Frame}
-use Rattle.page_roff_values.specs.declared.call_arguments.TheConstants.{ARGS}
 use Rattle.page_roff_stack.specs.declared.input_stacks.Caller.{Caller}
 use Rattle.page_roff_stack.specs.declared.input_stacks.InputStack.TheInside.{Inside}
 use Rattle.page_roff_stack.specs.InputFrames.{frame_of, IsHeld}

@@ -3,7 +3,7 @@
 ghost use Rattle.std.specs.Prelude.{◌≡◌, ℕ, List, [], ◌+◌, ◌≤◌, ◌<◌, ◌^◌, ◌++◌, true, length, take, drop, IfSome, None};
 ghost use Rattle.std.specs.Vec.{vec_len, vec_capacity};
 ghost use Rattle.page_core_base.specs.Texts.{IsLine};
-ghost use Rattle.page_core_limits.specs.declared.TheConstants.{LINE, BODY};
+ghost use Rattle.page_core_limits.specs.declared.TheConstants.{ARGS, BODY, LINE};
 ghost use Rattle.page_roff_blocks.specs.Atoms.{atom_seen, branch_seen, FitsAtom};
 ghost use Rattle.page_roff_blocks.specs.Caps.{PlaceFits};
 ghost use Rattle.page_roff_blocks.specs.Levels.{after_part, guarded_by, way_of, enter, bit_after, skip, leave, has_block, reached, opened_seen};
@@ -11,7 +11,6 @@ ghost use Rattle.page_roff_blocks.specs.Regions.{text_seen};
 ghost use Rattle.page_roff_language.specs.Languages.{page};
 ghost use Rattle.page_roff_language.specs.Machine.{entered};
 ghost use Rattle.page_roff_values.specs.Arguments.{arguments_in, lines_in};
-ghost use Rattle.page_roff_values.specs.declared.call_arguments.TheConstants.{ARGS};
 ghost use Rattle.page_roff_stack.specs.Changes.{first_frame, page_line, past, first_branch, first_region, in_region, next_line, first_atoms, is_page, begins_line, is_over, HasPart};
 ghost use Rattle.page_roff_stack.specs.Held.{span_text, kind_in, AreLinesOf, IsSpanIn, IsFirstLine};
 ghost use Rattle.page_roff_stack.specs.InputFrames.{frame_of, IsHeld};
@@ -19,9 +18,8 @@ ghost use Rattle.page_roff_stack.specs.Views.{parts_seen, kind_of, IsNextLine};
 
 use crate::spans::{NOWHERE, Span};
 use memchr::memchr;
-use page_core_limits::{BODY, LINE};
+use page_core_limits::{ARGS, BODY, LINE};
 use page_roff_blocks::{Atom, Branch, LinePlace, OpenRegion, Reached, Spot, Way};
-use page_roff_values::ARGS;
 
 /// A source that is being run, as places in a text, which each of its functions is given. The text holds its lines, each with a line feed at
 /// its end, and after them the arguments of a macro.

@@ -2,24 +2,21 @@
 
 ghost use Rattle.std.specs.Prelude.{◌≡◌, [], ◌∷◌, ◌≤◌, ◌<◌, ◌^◌, true, length, IfOk, IfSome, None, Some, option_map};
 ghost use Rattle.page_core_base.specs.Texts.{IsLine};
-ghost use Rattle.page_core_limits.specs.declared.TheConstants.{BODY};
+ghost use Rattle.page_core_limits.specs.declared.TheConstants.{ARGS, BODY};
 ghost use Rattle.page_roff_blocks.specs.Atoms.{atom_seen, FitsAtom};
 ghost use Rattle.page_roff_blocks.specs.Caps.{PlaceFits};
 ghost use Rattle.page_roff_blocks.specs.Levels.{after_part, guarded_by, way_of, enter, bit_after, skip, leave, has_block, reached, opened_seen};
 ghost use Rattle.page_roff_blocks.specs.Regions.{text_seen};
 ghost use Rattle.page_roff_language.specs.Machine.{depth, is_some};
 ghost use Rattle.page_roff_values.specs.Arguments.{arguments_in, lines_in};
-ghost use Rattle.page_roff_values.specs.declared.call_arguments.TheConstants.{ARGS};
 ghost use Rattle.page_roff_stack.specs.Changes.{page_line, past, in_region, next_line, first_atoms, is_page};
 ghost use Rattle.page_roff_stack.specs.Stacks.{first_stack, with_top, call_of, next_around, next_of, part_in, is_part, is_line, is_source_end, is_nothing, branch_in, region_in};
 ghost use Rattle.page_roff_stack.specs.Views.{kind_of, next_seen, FitsNext};
 
 use crate::input_frames::InputFrame;
 use crate::next::Next;
-use page_core_limits::{BODY, LINE};
+use page_core_limits::{ARGS, BODY, CALLS, LINE};
 use page_roff_blocks::{Atom, OpenRegion, Reached, Way};
-use page_roff_language::CALLS;
-use page_roff_values::ARGS;
 use std::alloc::{AllocError, Global};
 use std::marker::Model;
 use std::mem;

@@ -2,11 +2,10 @@
 
 use arrayvec::ArrayVec;
 use page_core_base::is_line;
-use page_core_limits::BODY;
+use page_core_limits::{ARGS, BODY};
 use page_roff_blocks::{Atom, Branch, Head, Reached};
 use page_roff_heads::{Condition, Test};
 use page_roff_stack::{InputStack, Next};
-use page_roff_values::ARGS;
 use std::process::Abort;
 use std::test::Fail;
 

@@ -6,12 +6,11 @@ use Rattle.std.specs.Str.{IsCharBoundary}
 use Rattle.std.proofs.Math.Seq.{take-length}
 use Rattle.std.proofs.lemmas.Bool.Decides.{nat_tests}
 use Rattle.std.proofs.lemmas.Str.{IsCharBoundary-start}
-use Rattle.page_core_limits.specs.declared.TheConstants.{LINE}
+use Rattle.page_core_limits.specs.declared.TheConstants.{EXPAND, LINE}
 use Rattle.page_core_base.specs.declared.page_settings.Output.{Output}
 use Rattle.page_core_base.specs.declared.note_kinds.NoteKind.{NoteKind}
 use Rattle.page_core_base.specs.declared.note_kinds.NoteKind.TheVariants.{UndefString, ArgOutside, Loop, Limit}
 use Rattle.page_roff_names.specs.Names.{string_of}
-use Rattle.page_roff_values.specs.declared.expansions.TheConstants.{EXPAND}
 use Rattle.page_roff_values.specs.declared.parts.Call.{Call}
 use Rattle.page_roff_values.specs.declared.parts.Call.TheVariants.{String, Register, Argument, Width}
 use Rattle.page_roff_values.specs.declared.parts.Part.{Part}

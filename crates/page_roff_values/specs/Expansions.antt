@@ -1,8 +1,7 @@
 -- How the code holds a line: the code's own form of it.
 use Rattle.std.specs.Prelude.{◌+◌, ◌*◌, ◌^◌, ◌≤◌, length, take, drop}
 use Rattle.std.specs.Vec.{vec_capacity}
-use Rattle.page_core_limits.specs.declared.TheConstants.{LINE}
-use Rattle.page_roff_values.specs.declared.sources.TheConstants.{NEST}
+use Rattle.page_core_limits.specs.declared.TheConstants.{LINE, NEST}
 use Rattle.page_roff_values.specs.declared.expansions.Expansion.TheInside.{Inside}
 use Rattle.page_roff_values.specs.Values.{Spot}
 

@@ -3,14 +3,13 @@ use Rattle.std.specs.Fmt.{decimal, signed_decimal}
 use Rattle.std.specs.Prelude.{ℕ, zero, suc, ◌+◌, ◌-◌, ◌*◌, ◌≤◌, Bool, true, false, ◌&&◌, nat_le, nat_lt, List, [], ◌∷◌, ◌++◌, length, take, get_or, codes, if◌then◌else◌}
 use Rattle.std.specs.Prelude.{Option, Some, None, unwrap_or}
 use Rattle.std.specs.Str.{is_utf8}
-use Rattle.page_core_limits.specs.declared.TheConstants.{LINE}
+use Rattle.page_core_limits.specs.declared.TheConstants.{EXPAND, LINE}
 use Rattle.page_core_base.specs.Messages.{Message, message_about}
 use Rattle.page_core_base.specs.declared.page_settings.Output.{Output}
 use Rattle.page_core_base.specs.declared.note_kinds.NoteKind.{NoteKind}
 use Rattle.page_core_base.specs.declared.note_kinds.NoteKind.TheVariants.{UndefString, ArgOutside, Loop, Limit}
 use Rattle.page_core_numbers.specs.Columns.{columns_of}
 use Rattle.page_roff_names.specs.Names.{string_of}
-use Rattle.page_roff_values.specs.declared.expansions.TheConstants.{EXPAND}
 use Rattle.page_roff_values.specs.declared.parts.Call.{Call}
 use Rattle.page_roff_values.specs.declared.parts.Call.TheVariants.{String, Register, Argument, Width}
 use Rattle.page_roff_values.specs.declared.parts.Part.{Part}
@@ -18,6 +17,8 @@ use Rattle.page_roff_values.specs.declared.parts.Part.TheVariants.{Copied, Calle
 use Rattle.page_roff_values.specs.Arguments.{argument_of}
 use Rattle.page_roff_values.specs.Environments.{Surroundings, register_of}
 use Rattle.page_roff_values.specs.Parts.{parts, without_lone}
+use Rattle.page_core_limits.specs.Limits.{name_of}
+use Rattle.page_core_limits.specs.declared.Limit.TheVariants as limits
 
 -- how many interpolations may stand inside one another
 unfoldable pub NEST : ℕ
@@ -101,7 +102,7 @@ counts s = record s { count = s.count + 1 }
 
 -- An interpolation counts one. The one beyond EXPAND ends the line.
 unfoldable pub charge : (Spot → Laid) → Spot → Laid
-charge f s = if nat_lt s.count EXPAND then f (counts s) else ends Loop (codes "EXPAND") s
+charge f s = if nat_lt s.count EXPAND then f (counts s) else ends Loop (name_of limits.Expand) s
 
 -- a value is expanded by itself; where there is none, a message
 abbrev pub value_or : NoteKind → List ℕ → Option (List ℕ) → (List ℕ → Spot → Laid) → Spot → Laid
@@ -152,7 +153,7 @@ interpolated env f (Width text) s = width env.output (f text) s
 
 -- An interpolation in which this many more may stand inside one another. One too deep gives nothing.
 unfoldable pub call_at : Surroundings → ℕ → Call (List ℕ) → Spot → Laid
-call_at env zero call s = charge (says Loop (codes "NEST")) s
+call_at env zero call s = charge (says Loop (name_of limits.Nest)) s
 call_at env (suc depth) call s =
     charge (interpolated env (λ text. lay (call_at env depth) (parts env.copy text)) call) s
 

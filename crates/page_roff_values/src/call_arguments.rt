@@ -9,11 +9,9 @@ ghost use Rattle.page_roff_names.specs.Names.{Lends};
 use crate::endings::after;
 use crate::parts::Cut;
 use memchr::memchr;
+use page_core_limits::ARGS;
 use std::alloc::{AllocError, Global};
 use std::marker::Model;
-
-/// The bytes of a call's arguments, each with its end.
-pub const ARGS: usize = 4_096;
 
 /// The arguments of the innermost macro that runs, if one does, with the texts of all of them.
 #[derive(Drop)]

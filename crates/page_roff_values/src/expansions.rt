@@ -14,18 +14,15 @@ use crate::endings::{kept, without_lone};
 use crate::environments::Environment;
 use crate::note_latches::NoteOut;
 use crate::parts::{Call, Part};
-use crate::sources::{NEST, Sources};
+use crate::sources::Sources;
 use crate::verbatim::is_verbatim;
 use itoa::Buffer;
 use memchr::memchr;
 use page_core_base::{Note, NoteKind, Output, Place};
-use page_core_limits::{LINE, Limit};
+use page_core_limits::{EXPAND, LINE, Limit, NEST};
 use page_core_numbers::columns;
 use std::alloc::{AllocError, Global};
 use std::marker::Model;
-
-/// Interpolations of a line.
-pub const EXPAND: u32 = 1_000;
 
 /// A line as far as it is expanded: what is finished of it, how many interpolations it made, and whether it has ended. While the text of a
 /// width is expanded, `start` is where that text begins.
@@ -273,11 +270,11 @@ impl Expansion {
         ensures falls { steps self.new (texts_of sources.new) ≤ steps self.old (texts_of sources.old) }
     {
         if !self.charge() {
-            self.report_end(NoteKind::Loop, b"EXPAND", out);
+            self.report_end(NoteKind::Loop, Limit::Expand.name().as_bytes(), out);
             return;
         }
         if room <= sources.depth() {
-            self.report(NoteKind::Loop, b"NEST", out);
+            self.report(NoteKind::Loop, Limit::Nest.name().as_bytes(), out);
             return;
         }
         match call {

@@ -14,9 +14,8 @@ mod sources;
 mod unread;
 mod verbatim;
 
-pub use call_arguments::{ARGS, CallArguments};
+pub use call_arguments::CallArguments;
 pub use environments::Environment;
-pub use expansions::{EXPAND, Expansion};
+pub use expansions::Expansion;
 pub use laws::{is_bounded, keeps_texts};
 pub use note_latches::{NoteLatch, NoteOut};
-pub use sources::NEST;

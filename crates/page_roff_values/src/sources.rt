@@ -6,9 +6,7 @@ ghost use Rattle.page_roff_values.specs.Rest.{texts_of, size, Reads};
 use crate::parts::Part;
 use crate::unread::Unread;
 use arrayvec::ArrayVec;
-
-/// Interpolations inside one another.
-pub const NEST: usize = 16;
+use page_core_limits::NEST;
 
 /// What is left of the innermost text, and of those around it, the outermost first.
 #[derive(Drop)]

@@ -1,8 +1,7 @@
 -- How much is held of the open scopes between two lines. Source: man(7), UR, MT; mandoc(1), "DIAGNOSTICS".
 use Rattle.std.specs.Prelude.{◌≤◌, List, [], ◌∷◌, length, IfSome}
-use Rattle.page_core_limits.specs.declared.TheConstants.{FIELD}
+use Rattle.page_core_limits.specs.declared.TheConstants.{FIELD, SCOPES}
 use Rattle.page_scopes_laws.specs.declared.Scope.{Scope}
-use Rattle.page_scopes_tree.specs.declared.TheConstants.{SCOPES}
 use Rattle.page_scopes_tree.specs.declared.labels.Label.{Label}
 use Rattle.page_scopes.specs.Edges.{PageEdge}
 use Rattle.page_scopes.specs.declared.layouts.Kept.{Kept}

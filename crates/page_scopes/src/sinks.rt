@@ -8,8 +8,8 @@ ghost use Rattle.page_sets_lines.specs.Events.{deed_seen, event_seen};
 
 use crate::OpenScopes;
 use page_core_base::{Fault, PieceLatch, PieceSink, Settings};
+use page_core_limits::SCOPES;
 use page_scopes_nodes::PageLayout;
-use page_scopes_tree::SCOPES;
 use page_sets_lines::{Event, MacroSet};
 use std::alloc::Global;
 use std::marker::Model;

@@ -152,7 +152,7 @@ reads_plain quoted text word e h k is ends =
     let len : length word ≡ token_len quoted text = rw e refl in
     record {
       len = omega (arith, length-drop (length word) text, k);
-      is = is;
+      is_a_word = is;
       only = ap (λ (t : Parted). t.word) (words_more quoted text (length word) w h len) ∙ rw (e, no_word quoted (drop (length word) text) ends) refl;
       ends = ends;
       others = others_same quoted text (length word) w h len;

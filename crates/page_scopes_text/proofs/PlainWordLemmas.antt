@@ -44,7 +44,7 @@ blank_word_after style fonts column word others = ap (λ (p : Pen). others_after
 
 -- the one blank at a text's front was read, and the word after it, all of which prints itself
 pub record ReadsBlankWord (quoted : Bool) (text word rest : List ℕ) : Type 0 where
-  pub is : is_word word ≡ true
+  pub is_a_word : is_word word ≡ true
   pub front : (words_of quoted text).others ≡ record { white = 32 ∷ []; word = plain word ∷ [] } ∷ (words_of quoted rest).others
   pub ends : begins_word rest ≡ false
 
@@ -66,7 +66,7 @@ pub reads_blank_word : (quoted : Bool) (byte : ℕ) (text word rest : List ℕ) 
 reads_blank_word quoted byte text word rest e r =
     let one = blank_len quoted text (plain_begins quoted text word rest r) in
     let parts = spaced_more quoted (32 ∷ text) 1 refl (omega arith) (sym one) in
-    rw e (record { is = r.is; front = ap (λ (t : Parted). t.others) parts ∙ rw (one, r.only, r.others) refl; ends = r.ends })
+    rw e (record { is_a_word = r.is_a_word; front = ap (λ (t : Parted). t.others) parts ∙ rw (one, r.only, r.others) refl; ends = r.ends })
 
 -- ---- a pen that rests
 

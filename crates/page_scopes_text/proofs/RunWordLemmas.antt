@@ -106,7 +106,7 @@ run_more : (quoted : Bool) (text word mid run rest : List ℕ) (words : List (Li
 unfolding blank_words
 run_more quoted text word mid run rest words w r =
     record {
-      are = rw (w.is, r.are) refl;
+      are = rw (w.is_a_word, r.are) refl;
       bytes = ap (λ (bytes : List ℕ). 32 ∷ (word ++ bytes)) r.bytes;
       others = w.front ∙ ap (λ (o : List Spaced). blank_word word ∷ o) r.others;
       ends = r.ends;

@@ -12,7 +12,9 @@ use Rattle.page_core_numbers.specs.declared.scales.Scale.{Scale}
 use Rattle.page_core_numbers.specs.declared.scales.Scale.TheVariants.{En, Vertical}
 use Rattle.page_core_numbers.specs.Expressions.{expression_of, messages_at}
 use Rattle.page_scopes_words.specs.Words.{says}
-use Rattle.page_scopes_text.specs.declared.TheConstants.{BLANKS}
+use Rattle.page_core_limits.specs.declared.TheConstants.{BLANKS}
+use Rattle.page_core_limits.specs.Limits.{name_of}
+use Rattle.page_core_limits.specs.declared.Limit.TheVariants as limits
 
 -- the expression at a text's front; a number without a unit is in this one
 abbrev pub number_value : Scale → List ℕ → ℤ
@@ -46,7 +48,7 @@ rows_value text = min (rows_in (number_value Vertical text)) BLANKS
 
 -- and that is reported
 abbrev pub blanks_notes : Place → ℕ → List Item
-blanks_notes place rows = if nat_lt BLANKS rows then says Limit place (codes "BLANKS") ∷ [] else []
+blanks_notes place rows = if nat_lt BLANKS rows then says Limit place (name_of limits.Blanks) ∷ [] else []
 
 abbrev pub rows_notes : Place → List ℕ → List Item
 rows_notes place text = number_notes Vertical place text ++ blanks_notes place (rows_in (number_value Vertical text))

@@ -47,7 +47,7 @@ resting fonts column = record {
 -- a word at a text's front was read, all of which prints itself
 pub record ReadsPlain (quoted : Bool) (text word rest : List ℕ) : Type 0 where
   pub len : length word + length rest ≡ length text
-  pub is : is_word word ≡ true
+  pub is_a_word : is_word word ≡ true
   pub only : (words_of quoted text).word ≡ plain word ∷ []
   pub ends : begins_word rest ≡ false
   pub others : (words_of quoted rest).others ≡ (words_of quoted text).others

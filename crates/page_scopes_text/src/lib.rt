@@ -19,6 +19,3 @@ pub use numbers::{give_columns, give_number, give_rows};
 pub use pens::{Pen, TextStyle};
 pub use texts::give_text;
 pub use tokens::{fonts_after, give_blank_cells, give_token, report_token};
-
-/// The rows at most of `sp` and `PD`.
-pub const BLANKS: u32 = 100;

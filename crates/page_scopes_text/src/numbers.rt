@@ -6,8 +6,8 @@ ghost use Rattle.page_core_base.specs.Latches.{Came};
 ghost use Rattle.page_scopes_text.specs.Numbers as numbers;
 ghost use Rattle.page_scopes_text.specs.Numbers.{number_notes, number_value};
 
-use crate::BLANKS;
 use page_core_base::{Fault, Note, NoteKind, NoteSink, PieceOut, Place};
+use page_core_limits::{BLANKS, Limit};
 use page_core_numbers::{Scale, number};
 use page_scopes_words::report;
 
@@ -93,7 +93,7 @@ fn report_rows<O: PieceOut>(out: &mut O, place: Place, rows: u32)
     ensures { Came O.left out.old (numbers.blanks_notes place rows) out.new }
 {
     if rows > BLANKS {
-        report(out, NoteKind::Limit, place, b"BLANKS");
+        report(out, NoteKind::Limit, place, Limit::Blanks.name().as_bytes());
     }
 }
 

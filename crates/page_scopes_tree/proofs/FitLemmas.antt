@@ -21,7 +21,7 @@ use Rattle.page_scopes_tree.specs.Ends.{inside, up_to, line_scopes, up_to_explic
 use Rattle.page_scopes_tree.specs.Labels.{is_line, is_section, is_paragraph, is_explicit, is_level}
 use Rattle.page_scopes_tree.specs.Nests.{standing_by, step_ends, step_standing, scopes_nesting}
 use Rattle.page_scopes_tree.specs.Standings.{has_room, opened, closed, closer_fate, in_line_scope, is_dropped, request_fate, leaf_fate, deed_fate, act_fate, opener_label, is_passed_over}
-use Rattle.page_scopes_tree.specs.declared.TheConstants.{SCOPES}
+use Rattle.page_core_limits.specs.declared.TheConstants.{SCOPES}
 use Rattle.page_scopes_tree.specs.declared.acts.Act.{Act}
 use Rattle.page_scopes_tree.specs.declared.acts.Act.TheVariants as acts
 use Rattle.page_scopes_tree.specs.declared.labels.Explicit.{Explicit}

@@ -10,6 +10,7 @@ ghost use Rattle.page_sets_lines.specs.Events.{closer_seen, deed_seen, opener_se
 use crate::standings::Obstacle;
 use crate::{Act, Label, ScopeEnd};
 use page_core_base::{Note, NoteKind, PieceOut, Place};
+use page_core_limits::Limit;
 use page_sets_lines::{Closer, Deed, Event, Leaf, Opener};
 
 // Gives a message about a place.
@@ -138,7 +139,7 @@ pub(crate) fn report_obstacle<O: PieceOut>(
 {
     let place = act.place();
     match obstacle {
-        Obstacle::Scopes => report(out, NoteKind::Limit, place, b"SCOPES"),
+        Obstacle::Scopes => report(out, NoteKind::Limit, place, Limit::Scopes.name().as_bytes()),
         Obstacle::NotOpen => report(
             out,
             NoteKind::NotOpen,

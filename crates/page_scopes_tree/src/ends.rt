@@ -10,7 +10,8 @@ ghost use Rattle.page_sets_lines.specs.Events.{closer_seen, deed_seen, opener_se
 
 use crate::numbers::basic_number;
 use crate::runs::{Run, run_len};
-use crate::{Act, Explicit, Label, SCOPES};
+use crate::{Act, Explicit, Label};
+use page_core_limits::SCOPES;
 use page_scopes_laws::Scope;
 use page_sets_lines::{Closer, Deed, Event, Leaf, Opener};
 

@@ -9,7 +9,8 @@ ghost use Rattle.page_scopes_tree.specs.Edges.{ScopesEdge, events_edge, events_i
 ghost use Rattle.page_scopes_tree.specs.Nests.{scopes_nesting};
 ghost use Rattle.page_scopes_tree.specs.declared.labels.Label.{Label};
 
-use crate::{Laying, SCOPES};
+use crate::Laying;
+use page_core_limits::SCOPES;
 
 /// Events cut anywhere between two of them give what those before the cut give, and then what those after it give from the edge at the cut, the page's
 /// end too; and they leave the same.

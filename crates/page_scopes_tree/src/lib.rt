@@ -22,6 +22,3 @@ pub use labels::{Explicit, Label, LabelRow, ScopeEnd};
 pub use laws::{events_law, tree_law};
 pub use layings::Laying;
 pub use scope_stacks::ScopeStack;
-
-/// The scopes that may be open at once.
-pub const SCOPES: usize = 64;

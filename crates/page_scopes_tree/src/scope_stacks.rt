@@ -6,8 +6,9 @@ ghost use Rattle.page_scopes_tree.specs.Edges.{events_edge, events_items, page_e
 ghost use Rattle.page_sets_lines.specs.Events.{event_seen};
 
 use crate::stacks::{take_act, take_coming};
-use crate::{Act, Label, Laying, SCOPES};
+use crate::{Act, Label, Laying};
 use page_core_base::PieceOut;
+use page_core_limits::SCOPES;
 use page_scopes_laws::Scope;
 use page_sets_lines::Event;
 use std::alloc::{AllocError, Global};
@@ -25,7 +26,7 @@ impl<Y: Laying> Model for ScopeStack<Y> {
     ghost use Rattle.std.specs.Prelude.{◌≤◌, vec_capacity, vec_len};
     ghost use Rattle.page_scopes_tree.specs.Edges.{ScopesEdge};
     ghost use Rattle.page_scopes_tree.specs.Stacks.{stack_edge};
-    ghost use Rattle.page_scopes_tree.specs.declared.TheConstants.{SCOPES};
+    ghost use Rattle.page_core_limits.specs.declared.TheConstants.{SCOPES};
 
     ghost Value = { ScopesEdge Y Y.Kept };
 

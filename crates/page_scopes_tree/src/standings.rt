@@ -7,7 +7,8 @@ ghost use Rattle.page_scopes_tree.specs.Stacks as stacks;
 ghost use Rattle.page_scopes_tree.specs.Standings as standings;
 ghost use Rattle.page_sets_lines.specs.Events.{closer_seen, deed_seen, leaf_seen, opener_seen, request_seen, text_seen};
 
-use crate::{Act, Explicit, Label, SCOPES};
+use crate::{Act, Explicit, Label};
+use page_core_limits::SCOPES;
 use page_scopes_laws::Scope;
 use page_sets_lines::{Closer, Deed, Event, Leaf, Opener, Request};
 

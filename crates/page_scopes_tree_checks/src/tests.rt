@@ -2,9 +2,10 @@
 
 use crate::nested::Nested;
 use page_core_base::{Font, Note, Piece, PieceOut, Place};
+use page_core_limits::SCOPES;
 use page_roff_forms::{Argument, Quoting};
 use page_scopes_shown::Shown;
-use page_scopes_tree::{SCOPES, ScopeStack};
+use page_scopes_tree::ScopeStack;
 use page_sets_lines::{
     Closer, Deed, Event, FontMacro, HeadingName, Join, Leaf, LineOpener, Link, Opener,
     ParagraphName, Request, Role, TagName, Word,

@@ -1,7 +1,6 @@
 use Rattle.std.proofs.Common.{◌≡◌, ◌+◌, ◌≤◌, ◌++◌, length}
 use Rattle.std.specs.Vec.{vec_capacity}
-use Rattle.page_core_limits.specs.declared.TheConstants.{LINE}
-use Rattle.page_roff_values.specs.declared.call_arguments.TheConstants.{ARGS}
+use Rattle.page_core_limits.specs.declared.TheConstants.{ARGS, LINE}
 use Rattle.page_roff_effects.specs.Leaves.{packed}
 use Rattle.page_roff_effects.proofs.calls.append_arguments.Given as goal
 
