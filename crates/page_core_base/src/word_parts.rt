@@ -1,7 +1,8 @@
 //! The parts of a word: a row may end after a hyphen between two letters (roff(7), "Filling and adjusting").
 
 ghost use Rattle.std.specs.Prelude.{◌≡◌, ◌<◌, ◌≤◌, false, ◌==◌, ◌∷◌, length, take, drop};
-ghost use Rattle.page_core_base.specs.Words.{starts_with_letter, ends_part, last_start, parts_of};
+ghost use Rattle.std.specs.List.{list_any};
+ghost use Rattle.page_core_base.specs.Words.{starts_with_letter, ends_part, hyphen, last_start, parts_of};
 
 const HYPHEN: u8 = b'-';
 
@@ -21,6 +22,14 @@ fn ends_part(before: u8, byte: u8, after: &[u8]) -> bool
     byte == HYPHEN && before.is_ascii_alphabetic() && starts_with_letter(after)
 }
 
+// Whether a hyphen stands in a text. Most words have none, and are one part.
+#[inline(always)]
+fn has_hyphen(text: &[u8]) -> bool
+    ensures { result ≡ list_any (λ byte. byte == hyphen) text.now }
+{
+    text.iter().any(|byte| *byte == HYPHEN)
+}
+
 /// How many bytes the first part of a word has.
 pub fn first_part_len(word: &[u8]) -> usize
     requires some { (length word.now == 0) ≡ false }
@@ -28,6 +37,9 @@ pub fn first_part_len(word: &[u8]) -> usize
     ensures some { 0 < result }
     ensures within { result ≤ length word.now }
 {
+    if !has_hyphen(word) {
+        return word.len();
+    }
     let mut len = 0;
     let mut before = HYPHEN;
     while len < word.len() {
@@ -46,6 +58,9 @@ pub fn last_part_start(word: &[u8]) -> usize
     ensures value { result ≡ last_start (parts_of word.now) }
     ensures within { result ≤ length word.now }
 {
+    if !has_hyphen(word) {
+        return 0;
+    }
     let mut start = 0;
     let mut len = 0;
     let mut before = HYPHEN;

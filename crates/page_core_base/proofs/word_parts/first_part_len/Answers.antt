@@ -1,6 +1,6 @@
 use Rattle.std.proofs.Common.{◌+◌, ◌≤◌, length, sym, ◌∙◌, arith}
 use Rattle.std.proofs.lemmas.List.{take_rest}
-use Rattle.page_core_base.proofs.WordPartLemmas.{goes-all, goes-ends, goes-first, goes-more}
+use Rattle.page_core_base.proofs.WordPartLemmas.{goes-all, goes-ends, goes-first, goes-more, whole-first}
 use Rattle.page_core_base.proofs.word_parts.first_part_len.Goals as goal
 
 pub loop-len-init : goal.loop-len-init
@@ -20,3 +20,6 @@ pub returns-clause-first : goal.returns-clause-first
 returns-clause-first c =
     let end : length c.args.word.now ≤ c.loop-len.len = omega (arith, c.loop-len-test.false) in
     goes-all c.args.word.now c.loop-len.len c.loop-len.before c.requires.some end c.loop-len.invariant
+
+pub returns-then-not-has_hyphen-clause-first : goal.returns-then-not-has_hyphen-clause-first
+returns-then-not-has_hyphen-clause-first c = whole-first c.args.word.now c.requires.some (sym c.has_hyphen.ensures ∙ c.if-not-has_hyphen.true)

@@ -1,6 +1,6 @@
 use Rattle.std.proofs.Common.{◌+◌, ◌≤◌, length, sym, ◌∙◌, arith}
 use Rattle.std.proofs.lemmas.List.{take_rest}
-use Rattle.page_core_base.proofs.WordPartLemmas.{starts-all, starts-ends, starts-first, starts-goes}
+use Rattle.page_core_base.proofs.WordPartLemmas.{starts-all, starts-ends, starts-first, starts-goes, whole-start}
 use Rattle.page_core_base.proofs.word_parts.last_part_start.Goals as goal
 
 pub loop-len-init : goal.loop-len-init
@@ -20,3 +20,6 @@ pub returns-clause-value : goal.returns-clause-value
 returns-clause-value c =
     let end : length c.args.word.now ≤ c.loop-len.len = omega (arith, c.loop-len-test.false) in
     starts-all c.args.word.now c.loop-len.len c.loop-len.before c.loop-len.start end c.loop-len.invariant
+
+pub returns-then-not-has_hyphen-clause-value : goal.returns-then-not-has_hyphen-clause-value
+returns-then-not-has_hyphen-clause-value c = whole-start c.args.word.now (sym c.has_hyphen.ensures ∙ c.if-not-has_hyphen.true)
