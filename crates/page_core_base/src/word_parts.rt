@@ -30,16 +30,14 @@ fn has_hyphen(text: &[u8]) -> bool
     text.iter().any(|byte| *byte == HYPHEN)
 }
 
-/// How many bytes the first part of a word has.
-pub fn first_part_len(word: &[u8]) -> usize
+// How many bytes the first part of a word has, hyphen by hyphen. It is a call, so that what asks for the parts of words stays small.
+#[inline(never)]
+fn hyphened_part_len(word: &[u8]) -> usize
     requires some { (length word.now == 0) ≡ false }
     ensures first { parts_of word.now ≡ take result word.now ∷ parts_of (drop result word.now) }
     ensures some { 0 < result }
     ensures within { result ≤ length word.now }
 {
-    if !has_hyphen(word) {
-        return word.len();
-    }
     let mut len = 0;
     let mut before = HYPHEN;
     while len < word.len() {
@@ -53,14 +51,26 @@ pub fn first_part_len(word: &[u8]) -> usize
     len
 }
 
-/// Where the last part of a word begins, in bytes.
-pub fn last_part_start(word: &[u8]) -> usize
-    ensures value { result ≡ last_start (parts_of word.now) }
+/// How many bytes the first part of a word has.
+#[inline(always)]
+pub fn first_part_len(word: &[u8]) -> usize
+    requires some { (length word.now == 0) ≡ false }
+    ensures first { parts_of word.now ≡ take result word.now ∷ parts_of (drop result word.now) }
+    ensures some { 0 < result }
     ensures within { result ≤ length word.now }
 {
     if !has_hyphen(word) {
-        return 0;
+        return word.len();
     }
+    hyphened_part_len(word)
+}
+
+// Where the last part of a word begins, hyphen by hyphen.
+#[inline(never)]
+fn hyphened_part_start(word: &[u8]) -> usize
+    ensures value { result ≡ last_start (parts_of word.now) }
+    ensures within { result ≤ length word.now }
+{
     let mut start = 0;
     let mut len = 0;
     let mut before = HYPHEN;
@@ -73,4 +83,16 @@ pub fn last_part_start(word: &[u8]) -> usize
         before = byte;
     }
     start
+}
+
+/// Where the last part of a word begins, in bytes.
+#[inline(always)]
+pub fn last_part_start(word: &[u8]) -> usize
+    ensures value { result ≡ last_start (parts_of word.now) }
+    ensures within { result ≤ length word.now }
+{
+    if !has_hyphen(word) {
+        return 0;
+    }
+    hyphened_part_start(word)
 }
