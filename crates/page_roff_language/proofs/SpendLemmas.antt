@@ -379,18 +379,15 @@ module _ {R : Type 0} (spent : R → ℕ) (most : ℕ) (e : Effects R) (p : Spen
   unfolding next Kept Due unspent how
   step_due r q u h x = next_kept (depth r.under) r.top.kind r.top.region r.top.parts r.top.lines r.top r.under r.state q u h x
 
-  steps_due : (n : ℕ) (r q : Running (Budgeted R)) → AreMet r.under → spent r.state.rest + unspent most r + a ≤ most * r.state.taken + b
-      → LeadsIn (language e) n r q → spent q.state.rest + unspent most q + a ≤ most * q.state.taken + b
-  unfolding LeadsIn
-  steps_due zero r q u h x = subst (λ (y : Running (Budgeted R)). spent y.state.rest + unspent most y + a ≤ most * y.state.taken + b) x h
-  steps_due (suc n) r q u h x =
-      let k = step_due r x.0 u h x.1 in
-      steps_due n x.0 q k.0 k.1 x.2
+  steps_kept : (n : ℕ) (r q : Running (Budgeted R)) → Kept r → LeadsIn (language e) n r q → Kept q
+  unfolding LeadsIn Kept Due
+  steps_kept zero r q k x = subst Kept x k
+  steps_kept (suc n) r q k x = steps_kept n x.0 q (step_due r x.0 k.0 k.1 x.1) x.2
 
   pub leads_due : (r q : Running (Budgeted R)) → AreMet r.under → spent r.state.rest + unspent most r + a ≤ most * r.state.taken + b
-      → Leads (language e) r q → spent q.state.rest + unspent most q + a ≤ most * q.state.taken + b
-  unfolding Leads
-  leads_due r q u h x = steps_due x.0 r q u h x.1
+      → Leads (language e) r q → AreMet q.under × (spent q.state.rest + unspent most q + a ≤ most * q.state.taken + b)
+  unfolding Leads Kept Due
+  leads_due r q u h x = steps_kept x.0 r q (u, h) x.1
 
   pub page_base : (lines : List (List ℕ)) (x : At (Budgeted R)) → spent x.state.rest + a ≤ most * x.state.taken + b
       → spent (run_page (language e) lines x).state.rest + a ≤ most * (run_page (language e) lines x).state.taken + b
@@ -416,5 +413,11 @@ pub line_spends : {R : Type 0} (spent : R → ℕ) (most : ℕ) (e : Effects R) 
 unfolding unspent
 line_spends spent most e p r q u x t =
     let k = leads_due spent most e p (most * r.state.taken) (spent r.state.rest + unspent most r) r q u (omega arith) x in
-    let j = rw t at k in
+    let j = rw t at k.1 in
     omega (arith, j, unspent_most r.top.region r.top.parts r.top.spot.begun r.state.gave_up most)
+
+-- around each moment that comes later, too, each source stands past a part
+pub leads_met : {R : Type 0} (spent : R → ℕ) (most : ℕ) (e : Effects R) → Spends spent most e → (r q : Running (Budgeted R)) → AreMet r.under → Leads (language e) r q
+    → AreMet q.under
+leads_met spent most e p r q u x =
+    (leads_due spent most e p (most * r.state.taken) (spent r.state.rest + unspent most r) r q u (omega arith) x).0
