@@ -7,5 +7,6 @@ mod laws;
 
 pub use budgets::Budget;
 pub use laws::{
-    budget_law, calls_law, front_law, machine_law, measure_law, page_cut_law, spending_law,
+    budget_law, calls_law, each_line_law, front_law, machine_law, measure_law, page_cut_law,
+    spending_law,
 };
