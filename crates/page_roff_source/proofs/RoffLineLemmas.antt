@@ -1,4 +1,4 @@
--- The machine that runs a page's lines is at the page's edge: helpers of proofs.
+-- The machine that runs a page's lines stands at the page's edge: helpers of proofs.
 use Rattle.std.proofs.Common.{◌≡◌, ℕ, ◌+◌, ◌≤◌, ◌<◌, ◌^◌, Bool, true, false, not, if◌then◌else◌, List, [], ◌∷◌, length, Option, Some, None, refl, sym, ap, subst, ◌∙◌, arith}
 use Rattle.page_core_limits.specs.declared.TheConstants.{LINE, REREAD}
 use Rattle.page_core_base.specs.LinesTaken.{Line}
@@ -22,8 +22,8 @@ use Rattle.page_roff_machine.specs.Machines as machine
 use Rattle.page_roff_machine.proofs.MachineLemmas.{idle_stands, new_idle}
 use Rattle.page_roff_source.specs.declared.counts.Counts.{Counts}
 use Rattle.page_roff_source.specs.Caps.{RoffFits}
-use Rattle.page_roff_source.specs.Edges.{Edge, SourceLine, first_edge, before_line, run_line, line_begun, line_taken, left_if, counts_of, end_notes}
-use Rattle.page_roff_source.specs.PageMachines.{edge_of, Running, IsCounted, IsPageMachine}
+use Rattle.page_roff_source.specs.Edges.{Edge, LinesState, SourceLine, first_edge, before_line, run_line, line_begun, line_taken, left_if, counts_of, end_notes}
+use Rattle.page_roff_source.specs.RoffLines.{edge_of, state_of, IsCounted, IsAtEdge}
 use Rattle.page_roff_source.proofs.CountLemmas.{taken_bound}
 use Rattle.page_roff_source.proofs.RoomLemmas.{done_room}
 
@@ -103,7 +103,7 @@ begun_counted e line c few short =
     let s = done_room e line in
     record { source = omega arith; taken = omega (arith, t, c.taken); skipped = omega (arith, s, c.skipped) }
 
-pub room_to_begin : (m : Machine) (source : ℕ) → IsPageMachine m source true → (m.budget.taken ≤ 2 ^ 62) × ((place_of m).levels.skipped < 2 ^ 62)
+pub room_to_begin : (m : Machine) (source : ℕ) → IsAtEdge m source true → (m.budget.taken ≤ 2 ^ 62) × ((place_of m).levels.skipped < 2 ^ 62)
 room_to_begin m source p =
     let e = idle_stands m (p.idle refl) in
     let t : (outcome_of m).state.taken ≡ m.budget.taken = ap (λ (a : At (Budgeted State)). a.state.taken) e in
@@ -131,14 +131,13 @@ advanced left old new source s t result a =
 abbrev counts : ℕ → ℕ → ℕ → Counts
 counts source taken expansions = record { source = source; taken = taken; expansions = expansions }
 
-pub none_in : (m : Machine) (source : ℕ) (is_idle : Bool) (line : Line) (r : Running) → record { edge = edge_of m source is_idle; line = line } ≡ r
+pub none_in : (m : Machine) (source : ℕ) (is_idle : Bool) (r : LinesState) → state_of m source is_idle ≡ r
     → r.edge.to_come ≡ None → (edge_of m source is_idle).to_come ≡ None
-none_in m source is_idle line r e none = ap (λ (x : Running). x.edge.to_come) e ∙ none
+none_in m source is_idle r e none = ap (λ (x : LinesState). x.edge.to_come) e ∙ none
 
-pub few_in : (m : Machine) (source : ℕ) (is_idle : Bool) (line : Line) (r : Running) → record { edge = edge_of m source is_idle; line = line } ≡ r
-    → r.edge.source < 2 ^ 31 → source < 2 ^ 31
-few_in m source is_idle line r e few =
-    let h : source ≡ r.edge.source = ap (λ (x : Running). x.edge.source) e in
+pub few_in : (m : Machine) (source : ℕ) (is_idle : Bool) (r : LinesState) → state_of m source is_idle ≡ r → r.edge.source < 2 ^ 31 → source < 2 ^ 31
+few_in m source is_idle r e few =
+    let h : source ≡ r.edge.source = ap (λ (x : LinesState). x.edge.source) e in
     omega (arith, h, few)
 
 idle_unless : (result : Bool) (m : Machine) → IsIdleUnless result m → not result ≡ true → machine.is_idle m ≡ true
@@ -149,26 +148,26 @@ is_idle_of : (m : Machine) (source : ℕ) (is_idle : Bool) → (edge_of m source
 is_idle_of m source true e = refl
 is_idle_of m source false e = absurd (cc)
 
-pub new_invariant : (output : Output) (m : Machine) → IsNew output m → IsPageMachine m 0 true
+pub new_invariant : (output : Output) (m : Machine) → IsNew output m → IsAtEdge m 0 true
 new_invariant output m n = record {
   idle = λ _. new_idle output m n;
   counted = subst IsCounted (sym (new_at output m n)) (new_counted output);
 }
 
-pub begin_room : (m : Machine) (source : ℕ) (is_idle : Bool) → IsPageMachine m source is_idle → (edge_of m source is_idle).to_come ≡ None
+pub begin_room : (m : Machine) (source : ℕ) (is_idle : Bool) → IsAtEdge m source is_idle → (edge_of m source is_idle).to_come ≡ None
     → (m.budget.taken ≤ 2 ^ 62) × (m.stack.top.spot.levels.skipped < 2 ^ 62)
 begin_room m source true p none = room_to_begin m source p
 begin_room m source false p none = absurd (cc)
 
-pub begin_edge : (old new : Machine) (source : ℕ) (is_idle : Bool) (line : List ℕ) (number : ℕ) → IsPageMachine old source is_idle
+pub begin_edge : (old new : Machine) (source : ℕ) (is_idle : Bool) (line : List ℕ) (number : ℕ) → IsAtEdge old source is_idle
     → (edge_of old source is_idle).to_come ≡ None → Begins line number old new
     → edge_of new (source + 1) false ≡ line_begun (edge_of old source is_idle) (record { text = line; number = number; notes = [] })
 begin_edge old new source true line number p none b = begun old new source (record { text = line; number = number; notes = [] }) (p.idle refl) b
 begin_edge old new source false line number p none b = absurd (cc)
 
-pub begin_invariant : (old new : Machine) (source : ℕ) (is_idle : Bool) (line : List ℕ) (number : ℕ) → IsPageMachine old source is_idle
+pub begin_invariant : (old new : Machine) (source : ℕ) (is_idle : Bool) (line : List ℕ) (number : ℕ) → IsAtEdge old source is_idle
     → (edge_of old source is_idle).to_come ≡ None → Begins line number old new → source < 2 ^ 31 → length line ≤ LINE
-    → IsPageMachine new (source + 1) false
+    → IsAtEdge new (source + 1) false
 begin_invariant old new source is_idle line number p none b few short =
     let l : SourceLine = record { text = line; number = number; notes = [] } in
     let e = edge_of old source is_idle in
@@ -179,7 +178,7 @@ begin_invariant old new source is_idle line number p none b few short =
 
 -- after the next line, or at the end
 pub advance_invariant : {P S : Type 0} (left : P → S → List Message → Type 0) (old new : Machine) (source : ℕ) (s t : S) (result : Bool)
-    → IsPageMachine old source false → Advances left old s result new t → IsPageMachine new source (not result)
+    → IsAtEdge old source false → Advances left old s result new t → IsAtEdge new source (not result)
 advance_invariant left old new source s t result p a = record {
   idle = idle_unless result new a.idle;
   counted = subst IsCounted (sym (advanced left old new source s t result a))
@@ -187,13 +186,13 @@ advance_invariant left old new source s t result p a = record {
 }
 
 -- where all was given, the machine stands at the page's edge
-pub counts_at : (m : Machine) (source : ℕ) (is_idle : Bool) → IsPageMachine m source is_idle → (edge_of m source is_idle).to_come ≡ None
+pub counts_at : (m : Machine) (source : ℕ) (is_idle : Bool) → IsAtEdge m source is_idle → (edge_of m source is_idle).to_come ≡ None
     → counts source m.budget.taken m.actions.memory.expansions ≡ counts_of (edge_of m source is_idle)
 counts_at m source true p none =
     ap (λ (a : At (Budgeted State)). counts source a.state.taken a.state.rest.memory.expansions) (sym (idle_stands m (p.idle refl)))
 counts_at m source false p none = absurd (cc)
 
-pub fits_at : (m : Machine) (source : ℕ) (is_idle : Bool) → IsPageMachine m source is_idle → (edge_of m source is_idle).to_come ≡ None
+pub fits_at : (m : Machine) (source : ℕ) (is_idle : Bool) → IsAtEdge m source is_idle → (edge_of m source is_idle).to_come ≡ None
     → PlaceFits (place_of m) → MemoryFits m.actions.memory → RoffFits (edge_of m source is_idle)
 fits_at m source true p none f g =
     let e = sym (idle_stands m (p.idle refl)) in
@@ -203,7 +202,7 @@ fits_at m source true p none f g =
     }
 fits_at m source false p none f g = absurd (cc)
 
-pub end_notes_at : (m : Machine) (source : ℕ) (is_idle : Bool) → IsPageMachine m source is_idle → (edge_of m source is_idle).to_come ≡ None
+pub end_notes_at : (m : Machine) (source : ℕ) (is_idle : Bool) → IsAtEdge m source is_idle → (edge_of m source is_idle).to_come ≡ None
     → end_notes (edge_of m source is_idle) ≡ machine.end_notes m
 end_notes_at m source true p none =
     ap (λ (a : At (Budgeted State)). (finish_outcome a.place.region false a.state.rest.memory).notes) (idle_stands m (p.idle refl))
@@ -221,8 +220,8 @@ ended_counted old new source i j s b c =
     ∙ sym (ap (λ (a : At (Budgeted State)). a.place.levels.skipped) o) in
     record { source = c.source; taken = omega (arith, t, c.taken); skipped = omega (arith, k, c.skipped) }
 
-pub end_invariant : (old new : Machine) (source : ℕ) (is_idle : Bool) → IsPageMachine old source is_idle → (edge_of old source is_idle).to_come ≡ None
-    → new.stack ≡ old.stack → new.budget ≡ old.budget → IsPageMachine new source is_idle
+pub end_invariant : (old new : Machine) (source : ℕ) (is_idle : Bool) → IsAtEdge old source is_idle → (edge_of old source is_idle).to_come ≡ None
+    → new.stack ≡ old.stack → new.budget ≡ old.budget → IsAtEdge new source is_idle
 end_invariant old new source true p none s b =
     let i = ap (λ (x : stack.Stack). is_nothing (stack.next_of x)) s ∙ p.idle refl in
     record { idle = λ _. i; counted = ended_counted old new source (p.idle refl) i s b p.counted }
