@@ -1,4 +1,5 @@
--- What the lines taken spend, as interpolations: the same number each at most. Source: mandoc(1), "input stack limit".
+-- What the lines taken spend, as interpolations: the same number each at most, step by step. Trust needs no reading of it, but for moments of a
+-- run. Source: mandoc(1), "input stack limit".
 use Rattle.std.specs.Prelude.{◌≡◌, ℕ, zero, suc, ◌+◌, ◌≤◌, Bool, true, false, List, [], ◌∷◌, Option, Some, None}
 use Rattle.page_roff_heads.specs.declared.conditions.Condition.{Condition}
 use Rattle.page_roff_blocks.specs.declared.atoms.Atom.{Atom}

@@ -1,6 +1,9 @@
 //! Expansion of a text (roff(7), "Escape sequences"): strings, number registers, macro arguments and widths are interpolated, in one pass
 //! with a stack of texts, in memory that is reserved once. And the value of an expression (`numbers.rt`), and the latch through which the layers of roff
 //! give their messages (`note_latches.rt`).
+//!
+//! It stands above the names (`page_roff_names`), and conditions, definitions and lines are expanded by it. Read `specs/Values.antt` first,
+//! then `Parts.antt`; the code begins at `Expansion::expand` in `expansions.rt`.
 #![tactic(auto)]
 
 mod call_arguments;
