@@ -2,4 +2,3 @@ pub mod Filled
 pub mod PieceWords
 pub mod Filling
 pub mod Words
-pub mod FirstWords

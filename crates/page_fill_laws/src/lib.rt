@@ -4,5 +4,5 @@
 mod fillers;
 mod laws;
 
-pub use fillers::{finish_law, piece_law, take_words_law};
+pub use fillers::piece_law;
 pub use laws::{glue_law, part_law, word_law, words_law};
