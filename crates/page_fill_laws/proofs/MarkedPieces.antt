@@ -1,7 +1,7 @@
 -- What pieces of words lay is what their marks do.
-use Rattle.std.proofs.Common.{◌≡◌, ℕ, zero, suc, ◌==◌, Bool, true, false, not, ◌&&◌, ◌||◌, List, [], ◌∷◌, ◌++◌, length, replicate, map, Option, None, Some, inl, inr, refl, sym, subst, ap, ◌∙◌, arith, append-nil}
+use Rattle.std.proofs.Common.{◌≡◌, ℕ, zero, suc, ◌==◌, Bool, true, false, not, ◌&&◌, ◌||◌, List, [], ◌∷◌, ◌++◌, length, replicate, map, Option, None, Some, inl, inr, refl, sym, ap, ◌∙◌, append-nil}
 use Rattle.std.specs.Prelude.{if◌then◌else◌}
-use Rattle.std.proofs.lemmas.Bool.{cases_Bool, and_parts}
+use Rattle.std.proofs.lemmas.Bool.{cases_Bool}
 use Rattle.page_core_base.specs.declared.cells.Cell.{Cell}
 use Rattle.page_core_base.specs.declared.cells.Font.{Font}
 use Rattle.page_core_base.specs.declared.page_settings.Output.{Output}
@@ -15,11 +15,11 @@ use Rattle.page_fill.specs.declared.words.OpenWord.{OpenWord}
 use Rattle.page_fill_rows.specs.Sheets.{Sheet, over, blank, letter, letters, space, spaces, new_word, opens, passes}
 use Rattle.page_fill_rows.specs.Characters.{with_notes, cell_of, cells_of, characters_of, unknown_notes, put, character, characters, glyph}
 use Rattle.page_fill.specs.declared.words.Edge.{Edge}
-use Rattle.page_fill.specs.Fill.{laid, laid_piece, text, one_character, one_glyph, tab, opening, tab_notes, tells_tab, stands, fixed_tab, filled_tab, on_sheet, begun_word, blanks_wait, opened_word, glued_word}
-use Rattle.page_fill_laws.specs.InWords.{Mark, told, opened, spaced, lettered, letters_of, printed_marks, character_marks, text_marks, tab_marks, blank_marks, opening_marks, is_of_words, are_of_words, piece_marks, marks, words_after, laid_in_words}
+use Rattle.page_fill.specs.Fill.{laid_piece, text, one_character, one_glyph, tab, opening, tab_notes, tells_tab, stands, fixed_tab, filled_tab, on_sheet, begun_word, blanks_wait, opened_word, glued_word}
+use Rattle.page_fill_laws.proofs.Marks.{Mark, told, opened, spaced, lettered, letters_of, printed_marks, character_marks, text_marks, tab_marks, blank_marks, opening_marks, is_of_words, piece_marks}
 use Rattle.page_fill.specs.Caps.{is_sound}
 use Rattle.page_fill_laws.specs.PieceWords.{after_cell, word_after}
-use Rattle.page_fill_laws.proofs.InWordsRun.{step, run, run-append, rows-run}
+use Rattle.page_fill_laws.proofs.MarkRuns.{step, run, run-append}
 
 pub letters-run : (s : Sheet) (cells : List Cell) (place : Place) → letters s cells place ≡ run s (letters_of place cells)
 unfolding letters run
@@ -286,30 +286,3 @@ stands-after e empty (Tag hang form) h same = same-stands e empty e.word (λ u. 
 stands-after e empty TagEnd h same = same-stands e empty e.word (λ u. u) same
 stands-after e empty Heading h same = same-stands e empty e.word (λ u. u) same
 stands-after e empty (Column n) h same = same-stands e empty e.word (λ u. u) same
-
--- ---- pieces one after another
-
-pub laid-run : (e : Edge) (literal empty : Bool) (ps : List (Piece (List ℕ))) → e.sheet.literal ≡ literal → is_sound e.word ≡ true → AreStanding e empty → are_of_words literal ps ≡ true
-    → laid e ps ≡ over (run e.sheet (marks e.output literal empty e.word ps)) (with_word e (words_after literal e.word ps))
-unfolding laid marks words_after run
-laid-run e literal empty [] same h stand k = refl
-laid-run e literal empty (p ∷ ps) same h stand k =
-    let parts = and_parts (is_of_words literal p) (are_of_words literal ps) k in
-    let x = run e.sheet (piece_marks e.output literal empty e.word p) in
-    let w = word_after literal e.word p in
-    let Runs : Bool → Type 0 = λ b. laid_piece e p ≡ over (run e.sheet (piece_marks e.output b empty e.word p)) (with_word e (word_after b e.word p)) in
-    let Fits : Bool → Type 0 = λ b. is_of_words b p ≡ true in
-    let Stands : Bool → Type 0 = λ b. AreStanding (with_word e (word_after b e.word p) (run e.sheet (piece_marks e.output b empty e.word p)).edge) empty in
-    let first = subst Runs same (piece-run e empty p stand (subst Fits (sym same) parts.0)) in
-    let still = subst Stands same (stands-after e empty p h stand) in
-    let later = laid-run (with_word e w x.edge) literal empty ps (run-literal e.sheet (piece_marks e.output literal empty e.word p) ∙ same) (sound-after literal e.word p h) still parts.1 in
-    ap (λ (l : Laid Edge). seq l (λ f. laid f ps)) first
-    ∙ (ap (λ (l : Laid Edge). join (over x (with_word e w)) l) later
-    ∙ ap (λ l. over l (with_word e (words_after literal w ps))) (sym (run-append e.sheet (piece_marks e.output literal empty e.word p) (marks e.output literal empty w ps))))
-
-pub laid-in-words : (e : Edge) (ps : List (Piece (List ℕ))) → is_sound e.word ≡ true → are_of_words e.sheet.literal ps ≡ true → laid e ps ≡ laid_in_words e ps
-laid-in-words e ps h k =
-    let empty = length e.sheet.cells == 0 in
-    let ms = marks e.output e.sheet.literal empty e.word ps in
-    laid-run e e.sheet.literal empty ps refl h refl k
-    ∙ ap (λ l. over l (with_word e (words_after e.sheet.literal e.word ps))) (sym (rows-run (suc (length ms)) e.sheet ms (omega arith)))
