@@ -104,5 +104,8 @@ impl OpenScopes {
         ensures { ScopesFit self.now }
     {
         self.stack.depth();
+        if let Some(name) = &self.stack.state().name {
+            name.text.text();
+        }
     }
 }
