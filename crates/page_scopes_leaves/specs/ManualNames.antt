@@ -1,5 +1,5 @@
 -- The name of the manual: the first word of the first `Nm` that has one, which each `Nm` without words prints. Source: mdoc(7), `Nm`.
-use Rattle.std.specs.Prelude.{ℕ, min, nat_lt, false, ◌||◌, List, [], ◌∷◌, ◌++◌, length, Option, None, Some}
+use Rattle.std.specs.Prelude.{ℕ, min, nat_lt, ◌==◌, false, ◌||◌, if◌then◌else◌, List, [], ◌∷◌, ◌++◌, length, Option, None, Some}
 use Rattle.page_core_base.specs.Pieces.{Item, shown}
 use Rattle.page_core_base.specs.declared.cells.Font.TheVariants.{B}
 use Rattle.page_core_base.specs.declared.note_kinds.NoteKind.TheVariants.{MissingName}
@@ -61,11 +61,15 @@ missing_name place c r = record {
   running = with_sentence [] (phrase_running (nameless place) c r);
 }
 
--- in bold, a word even where it has no characters, without the messages of its escapes; a sentence ends as it is written
+-- a name of no bytes is a text without characters
+abbrev pub empty_items : Place → KeptText → List Item
+empty_items place name = if length name.text == 0 then shown (Text [] B place) ∷ [] else []
+
+-- in bold, without the messages of its escapes; a sentence ends as it is written
 unfoldable pub name_word : Place → KeptText → Context → Running → Outcome
 name_word place name c r = record {
   items = gap_items c.is_literal.value r place
-      ++ (shown (Text [] B place) ∷ parts_items c.is_literal.value place (own_fonts (Some B) c.fonts) (kept_tokens name));
+      ++ (empty_items place name ++ parts_items c.is_literal.value place (own_fonts (Some B) c.fonts) (kept_tokens name));
   context = record c { has_row = c.has_row || nat_lt 0 (length name.text) };
   running = with_sentence name.text (after_kept (is_text c.part) r);
 }

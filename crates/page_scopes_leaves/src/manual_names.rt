@@ -86,6 +86,19 @@ fn give_nameless<O: PieceOut>(
     running.line.is_sentence = ends_sentence(running.line.ends_blank, b"");
 }
 
+// A name of no bytes is a text without characters.
+fn give_empty<O: PieceOut>(out: &mut O, place: Place, name: &KeptText)
+    ensures { Came O.left out.old (names.empty_items place name.now) out.new }
+{
+    if name.text.text().is_empty() {
+        out.give(Piece::Text {
+            text: b"",
+            font: Font::B,
+            place,
+        });
+    }
+}
+
 // Gives a name in bold.
 #[tactic(auto, unfolding(crate::specs::ManualNames::name_word))]
 fn give_name_word<O: PieceOut>(
@@ -101,11 +114,7 @@ fn give_name_word<O: PieceOut>(
 {
     let is_literal = context.is_literal.value;
     give_kept_gap(out, is_literal, running, place);
-    out.give(Piece::Text {
-        text: b"",
-        font: Font::B,
-        place,
-    });
+    give_empty(out, place, name);
     let fonts = own_fonts(Some(Font::B), context.fonts);
     let _ = give_kept(out, is_literal, place, fonts, name);
     context.has_row = context.has_row || !name.text.text().is_empty();
