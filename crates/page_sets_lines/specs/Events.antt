@@ -1,8 +1,14 @@
--- Events with what their texts hold. Source: man(7).
+-- Events with what their texts hold. Source: man(7), mdoc(7).
 use Rattle.std.specs.Prelude.{◌≡◌, ℕ, List, [], ◌∷◌, Option, None, Some, MatchOption}
 use Rattle.std.specs.Borrow.{Bor}
 use Rattle.page_roff_forms.specs.declared.quotes.Argument.{Argument}
 use Rattle.page_roff_forms.specs.Arguments.{argument_seen}
+use Rattle.page_sets_lines.specs.declared.blocks.BlockOpener.{BlockOpener}
+use Rattle.page_sets_lines.specs.declared.blocks.BlockOpener.TheVariants as block_openers
+use Rattle.page_sets_lines.specs.declared.blocks.BlockCloser.{BlockCloser}
+use Rattle.page_sets_lines.specs.declared.blocks.BlockCloser.TheVariants as block_closers
+use Rattle.page_sets_lines.specs.declared.line_steps.LineStep.{LineStep}
+use Rattle.page_sets_lines.specs.declared.line_steps.LineStep.TheVariants as steps
 use Rattle.page_sets_lines.specs.declared.openers.Opener.{Opener}
 use Rattle.page_sets_lines.specs.declared.openers.Opener.TheVariants as openers
 use Rattle.page_sets_lines.specs.declared.openers.Closer.{Closer}
@@ -26,6 +32,16 @@ abbrev pub given_seen : Option (Argument (Bor (List ℕ))) → Option (Argument 
 given_seen None = None
 given_seen (Some argument) = Some (argument_seen argument)
 
+abbrev pub block_opener_seen : BlockOpener (Bor (List ℕ)) → BlockOpener (List ℕ)
+block_opener_seen (block_openers.Quotation quotation) = block_openers.Quotation quotation
+block_opener_seen (block_openers.Custom mark) = block_openers.Custom (given_seen mark)
+block_opener_seen block_openers.Extension = block_openers.Extension
+
+abbrev pub block_closer_seen : BlockCloser (Bor (List ℕ)) → BlockCloser (List ℕ)
+block_closer_seen (block_closers.Quotation quotation) = block_closers.Quotation quotation
+block_closer_seen (block_closers.Custom mark) = block_closers.Custom (given_seen mark)
+block_closer_seen block_closers.Extension = block_closers.Extension
+
 abbrev pub opener_seen : Opener (Bor (List ℕ)) → Opener (List ℕ)
 opener_seen openers.Section = openers.Section
 opener_seen openers.Subsection = openers.Subsection
@@ -36,12 +52,15 @@ opener_seen (openers.Hanging hang) = openers.Hanging (text_seen hang)
 opener_seen (openers.RelativeMargin columns) = openers.RelativeMargin (text_seen columns)
 opener_seen (openers.Target link target) = openers.Target link (argument_seen target)
 opener_seen (openers.Syntax name) = openers.Syntax (argument_seen name)
+opener_seen (openers.Block opener) = openers.Block (block_opener_seen opener)
 
 abbrev pub closer_seen : Closer (Bor (List ℕ)) → Closer (List ℕ)
 closer_seen closers.Line = closers.Line
 closer_seen (closers.RelativeMargin number) = closers.RelativeMargin (text_seen number)
 closer_seen (closers.Target link suffix) = closers.Target link (given_seen suffix)
 closer_seen closers.Syntax = closers.Syntax
+closer_seen closers.Enclosures = closers.Enclosures
+closer_seen (closers.Block closer) = closers.Block (block_closer_seen closer)
 
 abbrev pub request_seen : Request (Bor (List ℕ)) → Request (List ℕ)
 request_seen requests.Break = requests.Break
@@ -49,6 +68,12 @@ request_seen (requests.Space rows) = requests.Space (text_seen rows)
 request_seen (requests.Font name) = requests.Font (text_seen name)
 request_seen (requests.Shift columns) = requests.Shift (text_seen columns)
 request_seen (requests.Literal on) = requests.Literal on
+
+abbrev pub step_seen : LineStep (Bor (List ℕ)) → LineStep (List ℕ)
+step_seen steps.Glue = steps.Glue
+step_seen (steps.BodyParagraph name) = steps.BodyParagraph name
+step_seen (steps.Uri uri) = steps.Uri (argument_seen uri)
+step_seen steps.ManualName = steps.ManualName
 
 abbrev pub leaf_seen : Leaf (Bor (List ℕ)) → Leaf (List ℕ)
 leaf_seen leaves.BlankLine = leaves.BlankLine
@@ -60,6 +85,7 @@ leaf_seen (leaves.Example begins) = leaves.Example begins
 leaf_seen (leaves.Distance rows) = leaves.Distance (text_seen rows)
 leaf_seen (leaves.Fonts font) = leaves.Fonts font
 leaf_seen leaves.FurtherTag = leaves.FurtherTag
+leaf_seen (leaves.Step step) = leaves.Step (step_seen step)
 
 abbrev pub word_seen : Word (Bor (List ℕ)) → Word (List ℕ)
 word_seen word = record {

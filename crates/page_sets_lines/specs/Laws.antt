@@ -1,6 +1,12 @@
 -- What holds of the events of a line in every set of macros. Source: man(7), mdoc(7).
 use Rattle.std.specs.Prelude.{◌≡◌, ℕ, ◌+◌, ◌-◌, ◌≤◌, List, [], ◌∷◌, length, take, drop, Option, None, Some}
 use Rattle.page_roff_forms.specs.declared.quotes.Argument.{Argument}
+use Rattle.page_sets_lines.specs.declared.blocks.BlockOpener.{BlockOpener}
+use Rattle.page_sets_lines.specs.declared.blocks.BlockOpener.TheVariants as block_openers
+use Rattle.page_sets_lines.specs.declared.blocks.BlockCloser.{BlockCloser}
+use Rattle.page_sets_lines.specs.declared.blocks.BlockCloser.TheVariants as block_closers
+use Rattle.page_sets_lines.specs.declared.line_steps.LineStep.{LineStep}
+use Rattle.page_sets_lines.specs.declared.line_steps.LineStep.TheVariants as steps
 use Rattle.page_sets_lines.specs.declared.openers.Opener.{Opener}
 use Rattle.page_sets_lines.specs.declared.openers.Opener.TheVariants as openers
 use Rattle.page_sets_lines.specs.declared.openers.Closer.{Closer}
@@ -37,6 +43,16 @@ IsArgumentIfGiven line None = Unit {0}
 IsArgumentIfGiven line (Some argument) = IsArgument line argument
 
 -- each argument of an event is the slice of the line at its column, and each other text a slice of it
+abbrev pub BlockOpensSlices : List ℕ → BlockOpener (List ℕ) → Type 0
+BlockOpensSlices line (block_openers.Quotation quotation) = Unit {0}
+BlockOpensSlices line (block_openers.Custom mark) = IsArgumentIfGiven line mark
+BlockOpensSlices line block_openers.Extension = Unit {0}
+
+abbrev pub BlockClosesSlices : List ℕ → BlockCloser (List ℕ) → Type 0
+BlockClosesSlices line (block_closers.Quotation quotation) = Unit {0}
+BlockClosesSlices line (block_closers.Custom mark) = IsArgumentIfGiven line mark
+BlockClosesSlices line block_closers.Extension = Unit {0}
+
 abbrev pub OpensSlices : List ℕ → Opener (List ℕ) → Type 0
 OpensSlices line openers.Section = Unit {0}
 OpensSlices line openers.Subsection = Unit {0}
@@ -47,12 +63,15 @@ OpensSlices line (openers.Hanging hang) = IsPartIfGiven line hang
 OpensSlices line (openers.RelativeMargin columns) = IsPartIfGiven line columns
 OpensSlices line (openers.Target link target) = IsArgument line target
 OpensSlices line (openers.Syntax name) = IsArgument line name
+OpensSlices line (openers.Block opener) = BlockOpensSlices line opener
 
 abbrev pub ClosesSlices : List ℕ → Closer (List ℕ) → Type 0
 ClosesSlices line closers.Line = Unit {0}
 ClosesSlices line (closers.RelativeMargin number) = IsPartIfGiven line number
 ClosesSlices line (closers.Target link suffix) = IsArgumentIfGiven line suffix
 ClosesSlices line closers.Syntax = Unit {0}
+ClosesSlices line closers.Enclosures = Unit {0}
+ClosesSlices line (closers.Block closer) = BlockClosesSlices line closer
 
 abbrev pub RequestsSlices : List ℕ → Request (List ℕ) → Type 0
 RequestsSlices line requests.Break = Unit {0}
@@ -60,6 +79,12 @@ RequestsSlices line (requests.Space rows) = IsPartIfGiven line rows
 RequestsSlices line (requests.Font name) = IsPartIfGiven line name
 RequestsSlices line (requests.Shift columns) = IsPartIfGiven line columns
 RequestsSlices line (requests.Literal on) = Unit {0}
+
+abbrev pub StepsSlices : List ℕ → LineStep (List ℕ) → Type 0
+StepsSlices line steps.Glue = Unit {0}
+StepsSlices line (steps.BodyParagraph name) = Unit {0}
+StepsSlices line (steps.Uri uri) = IsArgument line uri
+StepsSlices line steps.ManualName = Unit {0}
 
 abbrev pub LeavesSlices : List ℕ → Leaf (List ℕ) → Type 0
 LeavesSlices line leaves.BlankLine = Unit {0}
@@ -71,6 +96,7 @@ LeavesSlices line (leaves.Example begins) = Unit {0}
 LeavesSlices line (leaves.Distance rows) = IsPartIfGiven line rows
 LeavesSlices line (leaves.Fonts font) = Unit {0}
 LeavesSlices line leaves.FurtherTag = Unit {0}
+LeavesSlices line (leaves.Step step) = StepsSlices line step
 
 abbrev pub HasSlices : List ℕ → Deed (List ℕ) → Type 0
 HasSlices line (deeds.Word word) = IsArgument line word.arg

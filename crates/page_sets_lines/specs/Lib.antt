@@ -1,3 +1,5 @@
+pub mod Marks
+pub mod Blocks
 pub mod MacroNames
 pub mod Events
 pub mod Laws

@@ -1,11 +1,15 @@
--- The names of macros, and the texts that macros print themselves. Source: man(7), "MACRO REFERENCE".
-use Rattle.std.specs.Prelude.{ℕ, List, codes}
+-- The names of macros, and the texts that macros print themselves. Source: man(7) and mdoc(7), "MACRO REFERENCE".
+use Rattle.std.specs.Prelude.{ℕ, Bool, true, false, List, codes}
 use Rattle.page_sets_lines.specs.declared.macro_names.ParagraphName.{ParagraphName}
 use Rattle.page_sets_lines.specs.declared.macro_names.ParagraphName.TheVariants as paragraphs
 use Rattle.page_sets_lines.specs.declared.macro_names.Link.{Link}
 use Rattle.page_sets_lines.specs.declared.macro_names.Link.TheVariants as links
 use Rattle.page_sets_lines.specs.declared.macro_names.HeadingName.{HeadingName}
 use Rattle.page_sets_lines.specs.declared.macro_names.HeadingName.TheVariants as headings
+use Rattle.page_sets_lines.specs.declared.macro_names.BodyParagraphName.{BodyParagraphName}
+use Rattle.page_sets_lines.specs.declared.macro_names.BodyParagraphName.TheVariants as bodies
+use Rattle.page_sets_lines.specs.declared.macro_names.OneLineName.{OneLineName}
+use Rattle.page_sets_lines.specs.declared.macro_names.OneLineName.TheVariants as lines
 use Rattle.page_sets_lines.specs.declared.macro_names.TagName.{TagName}
 use Rattle.page_sets_lines.specs.declared.macro_names.TagName.TheVariants as tags
 use Rattle.page_sets_lines.specs.declared.macro_names.FontMacro.{FontMacro}
@@ -13,9 +17,11 @@ use Rattle.page_sets_lines.specs.declared.macro_names.FontMacro.TheVariants as f
 use Rattle.page_sets_lines.specs.declared.macro_names.Prologue.{Prologue}
 use Rattle.page_sets_lines.specs.declared.macro_names.Prologue.TheVariants as prologues
 use Rattle.page_sets_lines.specs.declared.openers.LineOpener.{LineOpener}
-use Rattle.page_sets_lines.specs.declared.openers.LineOpener.TheVariants.{Heading, Tag, FontWords}
+use Rattle.page_sets_lines.specs.declared.openers.LineOpener.TheVariants.{Heading, Tag, FontWords, Enclosure, Description, OneLine}
 use Rattle.page_sets_lines.specs.declared.leaves.Own.{Own}
-use Rattle.page_sets_lines.specs.declared.leaves.Own.TheVariants.{OpenParenthesis, CloseParenthesis, OpenBracket, CloseBracket}
+use Rattle.page_sets_lines.specs.declared.leaves.Own.TheVariants.{OpenParenthesis, CloseParenthesis, OpenBracket, CloseBracket, OpenAngle, CloseAngle, OpenBrace, CloseBrace, OpenDouble, CloseDouble, OpenSingle, CloseSingle, Straight, Comma, Colon, Apostrophe, Dash}
+use Rattle.page_sets_lines.specs.declared.leaves.Own.TheVariants.{Flag, Files, Home, Bsd, BsdOs, DragonFly, FreeBsd, NetBsd, OpenBsd, Unix}
+use Rattle.page_sets_lines.specs.Marks.{marks_name}
 
 abbrev pub paragraph_name : ParagraphName → List ℕ
 paragraph_name paragraphs.PP = codes "PP"
@@ -33,6 +39,16 @@ link_closer_name links.MT = codes "ME"
 abbrev pub heading_name : HeadingName → List ℕ
 heading_name headings.SH = codes "SH"
 heading_name headings.SS = codes "SS"
+heading_name headings.Sh = codes "Sh"
+heading_name headings.Ss = codes "Ss"
+
+abbrev pub body_paragraph_name : BodyParagraphName → List ℕ
+body_paragraph_name bodies.Pp = codes "Pp"
+body_paragraph_name bodies.Lp = codes "Lp"
+
+abbrev pub one_line_name : OneLineName → List ℕ
+one_line_name lines.D1 = codes "D1"
+one_line_name lines.Dl = codes "Dl"
 
 abbrev pub tag_name : TagName → List ℕ
 tag_name tags.TP = codes "TP"
@@ -46,14 +62,73 @@ font_macro_name fonts.SB = codes "SB"
 
 abbrev pub prologue_name : Prologue → List ℕ
 prologue_name prologues.TH = codes "TH"
+prologue_name prologues.Dd = codes "Dd"
+prologue_name prologues.Dt = codes "Dt"
+prologue_name prologues.Os = codes "Os"
 
 abbrev pub line_opener_name : LineOpener → List ℕ
 line_opener_name (Heading heading) = heading_name heading
 line_opener_name (Tag tag) = tag_name tag
 line_opener_name (FontWords font_macro) = font_macro_name font_macro
+line_opener_name (Enclosure marks) = marks_name marks
+line_opener_name Description = codes "Nd"
+line_opener_name (OneLine name) = one_line_name name
 
 abbrev pub own_text : Own → List ℕ
 own_text OpenParenthesis = codes "("
 own_text CloseParenthesis = codes ")"
 own_text OpenBracket = codes "["
 own_text CloseBracket = codes "]"
+own_text OpenAngle = codes "<"
+own_text CloseAngle = codes ">"
+own_text OpenBrace = codes "{"
+own_text CloseBrace = codes "}"
+own_text OpenDouble = codes "\\(lq"
+own_text CloseDouble = codes "\\(rq"
+own_text OpenSingle = codes "\\(oq"
+own_text CloseSingle = codes "\\(cq"
+own_text Straight = codes "\""
+own_text Comma = codes ","
+own_text Colon = codes ":"
+own_text Apostrophe = codes "'"
+own_text Dash = codes "-"
+own_text Flag = codes "-"
+own_text Files = codes "file ..."
+own_text Home = codes "~"
+own_text Bsd = codes "BSD"
+own_text BsdOs = codes "BSD/OS"
+own_text DragonFly = codes "DragonFly"
+own_text FreeBsd = codes "FreeBSD"
+own_text NetBsd = codes "NetBSD"
+own_text OpenBsd = codes "OpenBSD"
+own_text Unix = codes "UNIX"
+
+-- a word, which can end a sentence or go on with one; the others are marks
+abbrev pub own_is_word : Own → Bool
+own_is_word OpenParenthesis = false
+own_is_word CloseParenthesis = false
+own_is_word OpenBracket = false
+own_is_word CloseBracket = false
+own_is_word OpenAngle = false
+own_is_word CloseAngle = false
+own_is_word OpenBrace = false
+own_is_word CloseBrace = false
+own_is_word OpenDouble = false
+own_is_word CloseDouble = false
+own_is_word OpenSingle = false
+own_is_word CloseSingle = false
+own_is_word Straight = false
+own_is_word Comma = false
+own_is_word Colon = false
+own_is_word Apostrophe = false
+own_is_word Dash = false
+own_is_word Flag = true
+own_is_word Files = true
+own_is_word Home = true
+own_is_word Bsd = true
+own_is_word BsdOs = true
+own_is_word DragonFly = true
+own_is_word FreeBsd = true
+own_is_word NetBsd = true
+own_is_word OpenBsd = true
+own_is_word Unix = true

@@ -1,5 +1,4 @@
-//! Events: what a macro set makes of a line, for the scopes of a page (man(7)). The macros of mdoc(7) join these with
-//! their set.
+//! Events: what a macro set makes of a line, for the scopes of a page (man(7), mdoc(7)).
 
 ghost use Rattle.std.specs.Prelude.{◌≡◌};
 
@@ -25,6 +24,10 @@ pub enum Role {
     Line,
     /// An argument of a macro.
     Argument,
+    /// A delimiter of mdoc(7).
+    Delimiter,
+    /// The first name that `Nm` has, with the column of the macro's own name.
+    Name { column: u32 },
 }
 
 /// A word, in a font of its own if it has one; `W` is a text.

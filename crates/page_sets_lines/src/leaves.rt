@@ -1,10 +1,11 @@
 //! What is no scope: macros and requests that change what follows, and words that a macro prints itself (man(7),
-//! roff(7)).
+//! mdoc(7), roff(7)).
 
 ghost use Rattle.std.specs.Prelude.{◌≡◌};
 ghost use Rattle.page_sets_lines.specs.MacroNames as names;
 
 use crate::events::Join;
+use crate::line_steps::LineStep;
 use crate::macro_names::Prologue;
 use page_core_base::Font;
 use std::alloc::AllocError;
@@ -34,6 +35,52 @@ pub enum Own {
     OpenBracket,
     /// `]`
     CloseBracket,
+    /// `<`
+    OpenAngle,
+    /// `>`
+    CloseAngle,
+    /// `{`
+    OpenBrace,
+    /// `}`
+    CloseBrace,
+    /// `\(lq`
+    OpenDouble,
+    /// `\(rq`
+    CloseDouble,
+    /// `\(oq`
+    OpenSingle,
+    /// `\(cq`
+    CloseSingle,
+    /// `"`, before and after.
+    Straight,
+    /// `,`
+    Comma,
+    /// `:`
+    Colon,
+    /// `'`
+    Apostrophe,
+    /// `-`
+    Dash,
+    /// `-`, where it stands for a flag.
+    Flag,
+    /// `file ...`
+    Files,
+    /// `~`
+    Home,
+    /// `BSD`
+    Bsd,
+    /// `BSD/OS`
+    BsdOs,
+    /// `DragonFly`
+    DragonFly,
+    /// `FreeBSD`
+    FreeBsd,
+    /// `NetBSD`
+    NetBsd,
+    /// `OpenBSD`
+    OpenBsd,
+    /// `UNIX`
+    Unix,
 }
 
 impl Own {
@@ -46,7 +93,49 @@ impl Own {
             Own::CloseParenthesis => ")",
             Own::OpenBracket => "[",
             Own::CloseBracket => "]",
+            Own::OpenAngle => "<",
+            Own::CloseAngle => ">",
+            Own::OpenBrace => "{",
+            Own::CloseBrace => "}",
+            Own::OpenDouble => "\\(lq",
+            Own::CloseDouble => "\\(rq",
+            Own::OpenSingle => "\\(oq",
+            Own::CloseSingle => "\\(cq",
+            Own::Straight => "\"",
+            Own::Comma => ",",
+            Own::Colon => ":",
+            Own::Apostrophe => "'",
+            Own::Dash => "-",
+            Own::Flag => "-",
+            Own::Files => "file ...",
+            Own::Home => "~",
+            Own::Bsd => "BSD",
+            Own::BsdOs => "BSD/OS",
+            Own::DragonFly => "DragonFly",
+            Own::FreeBsd => "FreeBSD",
+            Own::NetBsd => "NetBSD",
+            Own::OpenBsd => "OpenBSD",
+            Own::Unix => "UNIX",
         }
+    }
+
+    /// Whether it is a word, which a sentence can go on after; the others are marks.
+    pub fn is_word(self) -> bool
+        ensures { result ≡ names.own_is_word self }
+    {
+        matches!(
+            self,
+            Own::Flag
+                | Own::Files
+                | Own::Home
+                | Own::Bsd
+                | Own::BsdOs
+                | Own::DragonFly
+                | Own::FreeBsd
+                | Own::NetBsd
+                | Own::OpenBsd
+                | Own::Unix
+        )
     }
 }
 
@@ -78,6 +167,8 @@ pub enum Leaf<W> {
     Fonts(Option<Font>),
     /// `TQ`: a further tag, which is the line scope that follows.
     FurtherTag,
+    /// What a macro of mdoc(7) changes in its line, or prints there.
+    Step(LineStep<W>),
 }
 
 impl<W: Copy> Copy for Request<W> {}

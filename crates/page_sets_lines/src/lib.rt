@@ -5,20 +5,28 @@
 //! `src/macro_sets.rt` (what a set must keep to).
 #![tactic(auto)]
 
+mod blocks;
 mod control_lines;
 mod events;
 mod leaves;
+mod line_steps;
 mod macro_names;
 mod macro_sets;
+mod marks;
 mod openers;
 mod plain_lines;
 mod requests;
 
+pub use blocks::{Block, BlockCloser, BlockOpener};
 pub use control_lines::{NameSpan, find_name, first_of, open_quote, read_after};
 pub use events::{Deed, Event, Join, Role, Word};
 pub use leaves::{Leaf, Own, OwnWord, Request};
-pub use macro_names::{FontMacro, HeadingName, Link, ParagraphName, Prologue, TagName};
+pub use line_steps::LineStep;
+pub use macro_names::{
+    BodyParagraphName, FontMacro, HeadingName, Link, OneLineName, ParagraphName, Prologue, TagName,
+};
 pub use macro_sets::MacroSet;
+pub use marks::{Marks, Quotation};
 pub use openers::{Closer, LineOpener, Opener};
 pub use plain_lines::PlainLine;
 pub use requests::{layout_request, with_argument};

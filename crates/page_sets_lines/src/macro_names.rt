@@ -1,4 +1,4 @@
-//! Macros that messages and headings tell apart, by name (man(7)). Those of mdoc(7) join them with their set.
+//! Macros that messages and headings tell apart, by name (man(7), mdoc(7)).
 
 ghost use Rattle.std.specs.Prelude.{◌≡◌};
 ghost use Rattle.page_sets_lines.specs.MacroNames as names;
@@ -23,6 +23,22 @@ pub enum Link {
 pub enum HeadingName {
     SH,
     SS,
+    Sh,
+    Ss,
+}
+
+/// A paragraph of mdoc(7).
+#[derive(Clone, Copy, PartialEq, Eq)]
+pub enum BodyParagraphName {
+    Pp,
+    Lp,
+}
+
+/// A row that stands alone (mdoc(7)).
+#[derive(Clone, Copy, PartialEq, Eq)]
+pub enum OneLineName {
+    D1,
+    Dl,
 }
 
 /// A tag in the next line.
@@ -45,6 +61,9 @@ pub enum FontMacro {
 #[derive(Clone, Copy, PartialEq, Eq)]
 pub enum Prologue {
     TH,
+    Dd,
+    Dt,
+    Os,
 }
 
 impl ParagraphName {
@@ -90,6 +109,32 @@ impl HeadingName {
         match self {
             HeadingName::SH => "SH",
             HeadingName::SS => "SS",
+            HeadingName::Sh => "Sh",
+            HeadingName::Ss => "Ss",
+        }
+    }
+}
+
+impl BodyParagraphName {
+    /// The macro's name.
+    pub fn name(self) -> &'static str
+        ensures { result.now ≡ names.body_paragraph_name self }
+    {
+        match self {
+            BodyParagraphName::Pp => "Pp",
+            BodyParagraphName::Lp => "Lp",
+        }
+    }
+}
+
+impl OneLineName {
+    /// The macro's name.
+    pub fn name(self) -> &'static str
+        ensures { result.now ≡ names.one_line_name self }
+    {
+        match self {
+            OneLineName::D1 => "D1",
+            OneLineName::Dl => "Dl",
         }
     }
 }
@@ -127,6 +172,9 @@ impl Prologue {
     {
         match self {
             Prologue::TH => "TH",
+            Prologue::Dd => "Dd",
+            Prologue::Dt => "Dt",
+            Prologue::Os => "Os",
         }
     }
 }

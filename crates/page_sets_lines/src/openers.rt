@@ -1,17 +1,19 @@
-//! What opens a scope, and what closes one (man(7)).
+//! What opens a scope, and what closes one (man(7), mdoc(7)).
 
 ghost use Rattle.std.specs.Prelude.{◌≡◌};
 ghost use Rattle.page_sets_lines.specs.MacroNames as names;
 
-use crate::macro_names::{FontMacro, HeadingName, Link, ParagraphName, TagName};
+use crate::blocks::{BlockCloser, BlockOpener};
+use crate::macro_names::{FontMacro, HeadingName, Link, OneLineName, ParagraphName, TagName};
+use crate::marks::Marks;
 use page_roff_forms::Argument;
 use std::alloc::AllocError;
 
 /// What opens a scope that goes on after its line; `W` is a text, a number in it still an expression.
 pub enum Opener<W> {
-    /// `SH`; its heading is the line scope that follows.
+    /// `SH` and `Sh`; its heading is the line scope that follows.
     Section,
-    /// `SS`; its heading is the line scope that follows.
+    /// `SS` and `Ss`; its heading is the line scope that follows.
     Subsection,
     /// `PP`, `LP` and `P`.
     Paragraph(ParagraphName),
@@ -30,6 +32,8 @@ pub enum Opener<W> {
     Target(Link, Argument<W>),
     /// `SY`, with the command's name.
     Syntax(Argument<W>),
+    /// A macro of mdoc(7) that another one ends.
+    Block(BlockOpener<W>),
 }
 
 /// What closes a scope; `W` is a text.
@@ -42,21 +46,31 @@ pub enum Closer<W> {
     Target(Link, Option<Argument<W>>),
     /// `YS`.
     Syntax,
+    /// What ends the enclosures of a line before its last delimiters (mdoc(7)).
+    Enclosures,
+    /// A macro of mdoc(7) that ends what another one began.
+    Block(BlockCloser<W>),
 }
 
 /// What opens a scope that ends with a line: its own, or the next one that gives words.
 #[derive(Clone, Copy, PartialEq, Eq)]
 pub enum LineOpener {
-    /// The words of `SH` and `SS`.
+    /// The words of `SH SS Sh Ss`.
     Heading(HeadingName),
     /// The tag of `TP`, and a further one of `TQ`.
     Tag(TagName),
     /// `B`, `I`, `SM` and `SB` without words.
     FontWords(FontMacro),
+    /// `Aq Bq Brq Dq Op Pq Ql Qq Sq`.
+    Enclosure(Marks),
+    /// `Nd`.
+    Description,
+    /// `D1` and `Dl`.
+    OneLine(OneLineName),
 }
 
 impl LineOpener {
-    /// The macro's name.
+    /// The macro's name; of an enclosure that of the first macro with its marks.
     pub fn name(self) -> &'static str
         ensures { result.now ≡ names.line_opener_name self }
     {
@@ -64,6 +78,9 @@ impl LineOpener {
             LineOpener::Heading(heading) => heading.name(),
             LineOpener::Tag(tag) => tag.name(),
             LineOpener::FontWords(font_macro) => font_macro.name(),
+            LineOpener::Enclosure(marks) => marks.name(),
+            LineOpener::Description => "Nd",
+            LineOpener::OneLine(one_line) => one_line.name(),
         }
     }
 }

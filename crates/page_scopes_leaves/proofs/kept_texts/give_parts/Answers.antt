@@ -2,8 +2,8 @@ use Rattle.std.proofs.Common.{◌<◌, ◌≤◌, length, ap, sym, ◌∙◌, ap
 use Rattle.std.proofs.lemmas.Bool.Decides.{nat_tests}
 use Rattle.std.proofs.lemmas.List.{take_rest}
 use Rattle.page_core_escapes.specs.Tokens.{token_bytes}
-use Rattle.page_scopes_nodes.proofs.TokenLemmas.{fonts_more, fonts_none, parts_more, parts_none}
-use Rattle.page_scopes_nodes.proofs.targets.give_parts.Goals as goal
+use Rattle.page_scopes_leaves.proofs.KeptLemmas.{fonts_more, fonts_none, parts_more, parts_none}
+use Rattle.page_scopes_leaves.proofs.kept_texts.give_parts.Goals as goal
 
 pub loop-rest-preserved : goal.loop-rest-preserved
 loop-rest-preserved g c =

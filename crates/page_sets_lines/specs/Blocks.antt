@@ -1,0 +1,31 @@
+-- Blocks that one macro begins and another ends, and the names of these. Source: mdoc(7), "MACRO REFERENCE".
+use Rattle.std.specs.Prelude.{ℕ, List, codes}
+use Rattle.page_sets_lines.specs.declared.blocks.Block.{Block}
+use Rattle.page_sets_lines.specs.declared.blocks.Block.TheVariants.{Quotation, Custom, Extension}
+use Rattle.page_sets_lines.specs.declared.blocks.BlockOpener.{BlockOpener}
+use Rattle.page_sets_lines.specs.declared.blocks.BlockOpener.TheVariants as openers
+use Rattle.page_sets_lines.specs.declared.blocks.BlockCloser.{BlockCloser}
+use Rattle.page_sets_lines.specs.declared.blocks.BlockCloser.TheVariants as closers
+use Rattle.page_sets_lines.specs.Marks.{quotation_name, quotation_closer_name}
+
+abbrev pub block_name : Block → List ℕ
+block_name (Quotation quotation) = quotation_name quotation
+block_name Custom = codes "Eo"
+block_name Extension = codes "Xo"
+
+abbrev pub block_closer_name : Block → List ℕ
+block_closer_name (Quotation quotation) = quotation_closer_name quotation
+block_closer_name Custom = codes "Ec"
+block_closer_name Extension = codes "Xc"
+
+-- the block that is opened
+abbrev pub opened_block : BlockOpener (List ℕ) → Block
+opened_block (openers.Quotation quotation) = Quotation quotation
+opened_block (openers.Custom mark) = Custom
+opened_block openers.Extension = Extension
+
+-- the block that is closed
+abbrev pub closed_block : BlockCloser (List ℕ) → Block
+closed_block (closers.Quotation quotation) = Quotation quotation
+closed_block (closers.Custom mark) = Custom
+closed_block closers.Extension = Extension

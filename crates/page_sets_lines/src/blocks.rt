@@ -1,0 +1,115 @@
+//! Blocks that one macro begins and another ends (mdoc(7), "MACRO REFERENCE").
+
+ghost use Rattle.std.specs.Prelude.{◌≡◌};
+ghost use Rattle.page_sets_lines.specs.Blocks.{block_name, block_closer_name, opened_block, closed_block};
+ghost use Rattle.page_sets_lines.specs.Events.{block_opener_seen, block_closer_seen};
+
+use crate::marks::Quotation;
+use page_roff_forms::Argument;
+use std::alloc::AllocError;
+
+/// A block, without its texts.
+#[derive(Clone, Copy, PartialEq, Eq)]
+pub enum Block {
+    /// `Ao` and `Ac`, `Bo` and `Bc`, `Bro` and `Brc`, `Do` and `Dc`, `Oo` and `Oc`, `Po` and `Pc`, `Qo` and `Qc`,
+    /// `So` and `Sc`.
+    Quotation(Quotation),
+    /// `Eo` and `Ec`: the marks are their own.
+    Custom,
+    /// `Xo` and `Xc`: no marks.
+    Extension,
+}
+
+/// What opens a block; `W` is a text.
+pub enum BlockOpener<W> {
+    /// `Ao Bo Bro Do Oo Po Qo So`.
+    Quotation(Quotation),
+    /// `Eo`, with its mark.
+    Custom(Option<Argument<W>>),
+    /// `Xo`.
+    Extension,
+}
+
+/// What closes a block; `W` is a text.
+pub enum BlockCloser<W> {
+    /// `Ac Bc Brc Dc Oc Pc Qc Sc`; the name is that of the opener.
+    Quotation(Quotation),
+    /// `Ec`, with its mark.
+    Custom(Option<Argument<W>>),
+    /// `Xc`.
+    Extension,
+}
+
+impl Block {
+    /// The name of the macro that opens it.
+    pub fn name(self) -> &'static str
+        ensures { result.now ≡ block_name self }
+    {
+        match self {
+            Block::Quotation(quotation) => quotation.name(),
+            Block::Custom => "Eo",
+            Block::Extension => "Xo",
+        }
+    }
+
+    /// The name of the macro that closes it.
+    pub fn closer_name(self) -> &'static str
+        ensures { result.now ≡ block_closer_name self }
+    {
+        match self {
+            Block::Quotation(quotation) => quotation.closer_name(),
+            Block::Custom => "Ec",
+            Block::Extension => "Xc",
+        }
+    }
+}
+
+impl BlockOpener<&[u8]> {
+    /// The block that it opens.
+    pub fn block(&self) -> Block
+        ensures { result ≡ opened_block (block_opener_seen self.now) }
+    {
+        match *self {
+            BlockOpener::Quotation(quotation) => Block::Quotation(quotation),
+            BlockOpener::Custom(_) => Block::Custom,
+            BlockOpener::Extension => Block::Extension,
+        }
+    }
+}
+
+impl BlockCloser<&[u8]> {
+    /// The block that it closes.
+    pub fn block(&self) -> Block
+        ensures { result ≡ closed_block (block_closer_seen self.now) }
+    {
+        match *self {
+            BlockCloser::Quotation(quotation) => Block::Quotation(quotation),
+            BlockCloser::Custom(_) => Block::Custom,
+            BlockCloser::Extension => Block::Extension,
+        }
+    }
+}
+
+impl<W: Copy> Copy for BlockOpener<W> {}
+
+impl<W: Copy> Clone for BlockOpener<W> {
+    ghost is_clone = { λ x y. y ≡ x };
+
+    ghost is_infallible = { λ _. Unit {0} };
+
+    fn clone(&self) -> Result<BlockOpener<W>, AllocError> {
+        Ok(*self)
+    }
+}
+
+impl<W: Copy> Copy for BlockCloser<W> {}
+
+impl<W: Copy> Clone for BlockCloser<W> {
+    ghost is_clone = { λ x y. y ≡ x };
+
+    ghost is_infallible = { λ _. Unit {0} };
+
+    fn clone(&self) -> Result<BlockCloser<W>, AllocError> {
+        Ok(*self)
+    }
+}
