@@ -1,0 +1,3 @@
+pub mod Mdoc
+pub mod Plans
+pub mod MdocLaws
