@@ -59,9 +59,15 @@ impl MacroSet for Either {
 
     #[inline(always)]
     fn next<'a>(&self, line: Taken<'a>, place: &mut EitherPlace) -> Option<Event<&'a [u8]>> {
-        match place {
-            EitherPlace::Man(place) => Man.next(line, place),
-            EitherPlace::Mdoc(place) => Mdoc.next(line, place),
+        match self {
+            Either::Man => match place {
+                EitherPlace::Man(place) => Man.next(line, place),
+                EitherPlace::Mdoc(_) => None,
+            },
+            Either::Mdoc => match place {
+                EitherPlace::Mdoc(place) => Mdoc.next(line, place),
+                EitherPlace::Man(_) => None,
+            },
         }
     }
 }

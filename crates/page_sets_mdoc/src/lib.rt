@@ -2,6 +2,7 @@
 //! `plans.rt`.
 #![tactic(auto)]
 
+mod line_words;
 mod mdoc_set;
 mod plans;
 

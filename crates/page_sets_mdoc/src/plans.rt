@@ -5,18 +5,25 @@ ghost use Rattle.page_core_base.specs.LinesTaken.{line_seen};
 ghost use Rattle.page_sets_lines.specs.Events.{event_seen, deed_seen, TakesNext};
 ghost use Rattle.page_sets_lines.specs.PlainLines.{event_at, layout_request};
 ghost use Rattle.page_sets_mdoc.specs.Mdoc as mdoc;
-ghost use Rattle.page_sets_mdoc.specs.Plans.{plan_events, line_plan_events, IsPlanOf};
+ghost use Rattle.page_sets_mdoc.specs.Plans.{plan_events, line_plan_events, StandsIn, IsPlanOf};
+ghost use Rattle.page_sets_lines.specs.PlainLines.{line_end};
+ghost use Rattle.page_sets_mdoc_blocks.specs.FrontSteps.{front_events};
 
+use crate::line_words::{next_of_words, no_words, words_of};
 use page_core_base::{NoteKind, Place, Taken};
 use page_core_limits::LINE;
+use page_roff_forms::has_arguments;
 use page_sets_lines::{Deed, Event, PlainLine, find_name, layout_request};
-use page_sets_mdoc_blocks::{Front, is_to_come};
+use page_sets_mdoc_blocks::{Front, has_phrase, is_to_come};
 use page_sets_mdoc_rows::{LineMacro, line_macro};
+use page_sets_mdoc_words::MacroWords;
 
-/// What is still to come of a control line's events.
+/// What is still to come of a control line's events, in the order of the fields.
 #[derive(Clone, Copy)]
 pub struct Plan {
     pub(crate) front: Front,
+    /// The words of the macro in work; the macros that follow are found as the line is read.
+    pub(crate) words: MacroWords,
     /// The line's end.
     pub(crate) ends: bool,
 }
@@ -47,42 +54,72 @@ fn event_at<'a>(number: u32, column: u32, deed: Deed<&'a [u8]>) -> Event<&'a [u8
     }
 }
 
-// What comes before the words of a macro, or in place of them.
-fn macro_front(begins: LineMacro, line: Taken<'_>) -> Front
+// The plan of a line that has no words.
+fn wordless_plan(front: Front, line: Taken<'_>) -> Plan
+    ensures stands { StandsIn (line_seen line.entry) result.words }
+    ensures events { plan_events (line_seen line.entry) result ≡ front_events (line_seen line.entry) front ++ (line_end line.entry.line true ∷ []) }
+{
+    Plan {
+        front,
+        words: no_words(line),
+        ends: true,
+    }
+}
+
+// Whether a macro needs words, and has none.
+fn lacks_words(begins: LineMacro, line: Taken<'_>) -> bool
     requires { length line.text.now ≤ LINE }
-    ensures { plan_events (line_seen line.entry) (record { front = result; ends = true }) ≡ mdoc.macro_events begins (line_seen line.entry) }
+    ensures { result ≡ mdoc.lacks_words begins (line_seen line.entry) }
+{
+    has_phrase(begins) && !has_arguments(&line.text[find_name(line).end..])
+}
+
+// The plan of a macro that begins a line.
+fn macro_plan(begins: LineMacro, line: Taken<'_>) -> Plan
+    requires { length line.text.now ≤ LINE }
+    ensures stands { StandsIn (line_seen line.entry) result.words }
+    ensures events { plan_events (line_seen line.entry) result ≡ mdoc.macro_events begins (line_seen line.entry) }
 {
     if is_to_come(begins) {
-        Front::refused(NoteKind::UnknownMacro)
-    } else {
-        Front::of_macro(begins, line)
+        return wordless_plan(Front::refused(NoteKind::UnknownMacro), line);
+    }
+    if lacks_words(begins, line) {
+        return wordless_plan(Front::refused(NoteKind::EmptyMacro), line);
+    }
+    Plan {
+        front: Front::of_macro(begins, line),
+        words: words_of(begins, line),
+        ends: true,
     }
 }
 
-// The same of a name that is no macro's.
-fn request_front(name: &[u8], line: Taken<'_>) -> Front
+// The plan of a name that is no macro's.
+fn request_plan(name: &[u8], line: Taken<'_>) -> Plan
     requires { length line.text.now ≤ LINE }
-    ensures { plan_events (line_seen line.entry) (record { front = result; ends = true }) ≡ mdoc.request_events (layout_request name.now) (line_seen line.entry) }
+    ensures stands { StandsIn (line_seen line.entry) result.words }
+    ensures events { plan_events (line_seen line.entry) result ≡ mdoc.request_events (layout_request name.now) (line_seen line.entry) }
 {
     match layout_request(name) {
-        Some(request) => Front::of_request(request, line),
-        None => Front::refused(NoteKind::UnknownMacro),
+        Some(request) => wordless_plan(Front::of_request(request, line), line),
+        None => wordless_plan(Front::refused(NoteKind::UnknownMacro), line),
     }
 }
 
-// What comes before the words of a control line, or in place of them.
-fn control_front(line: Taken<'_>) -> Front
+// The plan of a control line.
+#[inline(never)]
+fn control_plan(line: Taken<'_>) -> Plan
     requires { length line.text.now ≤ LINE }
-    ensures { plan_events (line_seen line.entry) (record { front = result; ends = true }) ≡ mdoc.control_events (line_seen line.entry) }
+    ensures stands { StandsIn (line_seen line.entry) result.words }
+    ensures events { plan_events (line_seen line.entry) result ≡ mdoc.control_events (line_seen line.entry) }
 {
     let name = find_name(line);
     if name.is_empty() {
-        return Front::nothing();
+        return wordless_plan(Front::nothing(), line);
     }
     let bytes = &line.text[name.start..name.end];
     match line_macro(bytes) {
-        Some(begins) => macro_front(begins, line),
-        None => request_front(bytes, line),
+        Some(begins) => macro_plan(begins, line),
+        None => request_plan(bytes, line),
     }
 }
 
@@ -96,20 +133,22 @@ pub(crate) fn plan_of(line: Taken<'_>) -> LinePlan
 {
     match PlainLine::of(line) {
         Some(plain) => LinePlan::Plain(plain),
-        None => LinePlan::Control(Plan {
-            front: control_front(line),
-            ends: true,
-        }),
+        None => LinePlan::Control(control_plan(line)),
     }
 }
 
 // The next event of a control line.
 #[inline(never)]
 fn next_of_control<'a>(line: Taken<'a>, plan: &mut Plan) -> Option<Event<&'a [u8]>>
-    requires { length line.text.now ≤ LINE }
-    ensures { TakesNext (plan_events (line_seen line.entry) plan.old) result (plan_events (line_seen line.entry) plan.new) }
+    requires short { length line.text.now ≤ LINE }
+    requires stands { StandsIn (line_seen line) plan.old.words }
+    ensures stands { StandsIn (line_seen line.entry) plan.new.words }
+    ensures events { TakesNext (plan_events (line_seen line.entry) plan.old) result (plan_events (line_seen line.entry) plan.new) }
 {
     if let Some(event) = plan.front.next(line) {
+        return Some(event);
+    }
+    if let Some(event) = next_of_words(line, &mut plan.words) {
         return Some(event);
     }
     if plan.ends {

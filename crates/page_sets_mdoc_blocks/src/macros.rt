@@ -3,7 +3,7 @@
 ghost use Rattle.std.specs.Prelude.{◌≡◌};
 ghost use Rattle.page_sets_mdoc_blocks.specs.Macros as macros;
 
-use page_sets_mdoc_rows::LineMacro;
+use page_sets_mdoc_rows::{LineMacro, is_word_to_come};
 
 /// Whether the words after a macro are its title, its description or its row: `Sh Ss Nd D1 Dl`, which need one.
 pub fn has_phrase(begins: LineMacro) -> bool
@@ -19,8 +19,10 @@ pub fn has_phrase(begins: LineMacro) -> bool
 pub fn is_to_come(begins: LineMacro) -> bool
     ensures { result ≡ macros.is_to_come begins }
 {
-    !matches!(
-        begins,
-        LineMacro::Prologue(_) | LineMacro::Paragraph(_) | LineMacro::Target
-    )
+    match begins {
+        LineMacro::Inline(inline) => is_word_to_come(inline),
+        LineMacro::Begins(_) | LineMacro::Ends(_) | LineMacro::Item | LineMacro::Field(_) => true,
+        LineMacro::Sentence(_) | LineMacro::Include | LineMacro::Spacing => true,
+        _ => false,
+    }
 }
