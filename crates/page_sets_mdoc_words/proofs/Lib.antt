@@ -1,3 +1,6 @@
 pub mod WordLemmas
 pub mod StepLemmas
 pub mod SliceLemmas
+pub mod BeginLemmas
+pub mod PrintLemmas
+pub mod StepPrintLemmas

@@ -90,10 +90,10 @@ abbrev pub section : ℕ → List (Argument (List ℕ)) → List (Event (List �
 section number [] = []
 section number (word ∷ words) =
     if is_real word then
-      own_word number word.column owns.OpenParenthesis None Glued Glued
-      ∷ printed_word number None word
-      ∷ own_word number word.column owns.CloseParenthesis None Glued Apart
-      ∷ printed number None words
+    own_word number word.column owns.OpenParenthesis None Glued Glued
+    ∷ printed_word number None word
+    ∷ own_word number word.column owns.CloseParenthesis None Glued Apart
+    ∷ printed number None words
     else printed_word number None word ∷ section number words
 
 abbrev pub reference : ℕ → List (Argument (List ℕ)) → List (Event (List ℕ))

@@ -1,5 +1,5 @@
 -- The words of a macro, one after another: the code's own steps. The numbers in them say what is done with the words, whatever these are.
-use Rattle.std.specs.Prelude.{◌≡◌, ℕ, ◌-◌, min, Bool, true, false, List, [], ◌∷◌, ◌++◌, length, take, drop, Option, None, Some, MatchOption, if◌then◌else◌}
+use Rattle.std.specs.Prelude.{◌≡◌, ℕ, ◌+◌, ◌-◌, min, Bool, true, false, List, [], ◌∷◌, ◌++◌, length, take, drop, Option, None, Some, MatchOption, if◌then◌else◌}
 use Rattle.std.specs.Borrow.{Bor}
 use Rattle.page_core_base.specs.declared.cells.Font.{Font}
 use Rattle.page_core_base.specs.declared.cells.Font.TheVariants.{R, B, I}
@@ -20,15 +20,17 @@ use Rattle.page_sets_lines.specs.declared.openers.Closer.TheVariants as closers
 use Rattle.page_sets_lines.specs.declared.openers.LineOpener.TheVariants.{Enclosure}
 use Rattle.page_sets_lines.specs.declared.openers.Opener.TheVariants as openers
 use Rattle.page_sets_lines.specs.ControlLines.{first_of}
-use Rattle.page_sets_lines.specs.Events.{event_seen, TakesNext}
+use Rattle.page_sets_lines.specs.Events.{event_seen}
 use Rattle.page_sets_lines.specs.PlainLines.{event_at}
-use Rattle.page_sets_mdoc_rows.specs.declared.macros.Defaulted.{Defaulted}
 use Rattle.page_sets_mdoc_rows.specs.declared.macros.Pair.{Pair}
 use Rattle.page_sets_mdoc_rows.specs.declared.macros.Pair.TheVariants as pairs
 use Rattle.page_sets_mdoc_rows.specs.declared.macros.Inline.{Inline}
 use Rattle.page_sets_mdoc_rows.specs.declared.macros.Inline.TheVariants as inlines
+use Rattle.page_sets_mdoc_lines.specs.Cursors.{IsCursorOf}
+use Rattle.page_sets_mdoc_lines.specs.declared.cursors.Cursor.{Cursor}
 use Rattle.page_sets_mdoc_lines.specs.declared.extents.Extent.{Extent}
-use Rattle.page_sets_mdoc_lines.specs.LineWords.{arguments_after, is_real}
+use Rattle.page_sets_mdoc_lines.specs.LineWords.{arguments_after, takes_next}
+use Rattle.page_sets_mdoc_lines.specs.Parts.{LineParts, has_calls}
 use Rattle.page_sets_mdoc_words.specs.declared.flags.FlagStep.{FlagStep}
 use Rattle.page_sets_mdoc_words.specs.declared.flags.FlagStep.TheVariants as flag_steps
 use Rattle.page_sets_mdoc_words.specs.declared.fronts.Front.{Front}
@@ -52,8 +54,8 @@ use Rattle.page_sets_mdoc_words.specs.declared.steps.Begun.{Begun}
 use Rattle.page_sets_mdoc_words.specs.declared.steps.Given.{Given}
 use Rattle.page_sets_mdoc_words.specs.declared.steps.MacroWords.{MacroWords}
 use Rattle.page_sets_mdoc_words.specs.Printed.{printed_word, printed, own_word, step_event}
-use Rattle.page_sets_mdoc_words.specs.Inlines.{empty_macro, lone, named, manual_name, default_word, flags, lone_dash, section, reference, more_arguments, arguments, arguments_begin, function_words, function_end, system_word, bsd, colon, uri_event, address, link_words, missing_quote, prefix_word, opens_custom, closes_custom}
-use Rattle.page_sets_mdoc_words.specs.WordsLeft.{words_left, after_words, GoesOn}
+use Rattle.page_sets_mdoc_words.specs.Inlines.{empty_macro, lone, named, manual_name, default_word, flags, lone_dash, section, reference, more_arguments, arguments, arguments_begin, function_words, function_end, system_word, bsd, colon, uri_event, address, link_words, missing_quote, prefix_word, opens_custom, closes_custom, inline_events}
+use Rattle.page_sets_mdoc_words.specs.WordsLeft.{words_left}
 
 -- ---- before the words
 
@@ -137,6 +139,10 @@ abbrev pub is_opening_step : FunctionStep → Bool
 is_opening_step function_steps.Opening = true
 is_opening_step _ = false
 
+abbrev pub takes_comma : FunctionStep → Bool → Bool
+takes_comma function_steps.Comma true = true
+takes_comma _ is_real = false
+
 abbrev pub function_font : FunctionStep → Font
 function_font function_steps.Name = B
 function_font _ = I
@@ -190,22 +196,84 @@ Gives line column events result words =
 
 abbrev pub StepsOn : Begun → Step → WordsLeft → Option Given → WordsLeft → Type 0
 StepsOn begun step old result new =
-    GoesOn begun.line.text.now old new
-    × Gives (line_seen begun.line) begun.column (step_events (line_seen begun.line) begun.column step (words_left begun.line.text.now old)) result (words_left begun.line.text.now new)
+    Gives (line_seen begun.line) begun.column
+    (step_events (line_seen begun.line) begun.column step (words_left begun.line.text.now old)) result (words_left begun.line.text.now new)
 
 abbrev pub AddressOn : Begun → Argument (List ℕ) → ℕ → WordsLeft → Option Given → WordsLeft → Type 0
 AddressOn begun uri inside old result new =
-    GoesOn begun.line.text.now old new
-    × Gives (line_seen begun.line) begun.column (address_events begun.line.line begun.column uri inside (words_left begun.line.text.now old)) result (words_left begun.line.text.now new)
+    Gives (line_seen begun.line) begun.column
+    (address_events begun.line.line begun.column uri inside (words_left begun.line.text.now old)) result (words_left begun.line.text.now new)
 
 -- ---- the words of a macro
 
 abbrev pub macro_words_events : Line → MacroWords → List (Event (List ℕ))
 macro_words_events line words = step_events line words.column words.step (words_left line.text words.left)
 
--- the first of the events is given, if there is one; then, and not before, all words were read
-abbrev pub GivesWord : Line → MacroWords → Option (Event (Bor (List ℕ))) → MacroWords → Type 0
-GivesWord line old result new =
-    GoesOn line.text old.left new.left
-    × TakesNext (macro_words_events line old) result (macro_words_events line new)
-    × MatchOption result (new.left.count ≡ 0) (λ event. Unit {0})
+-- all words were read once no event is left
+abbrev pub EndsWith : Option (Event (Bor (List ℕ))) → MacroWords → Type 0
+EndsWith result new = MatchOption result (new.left.count ≡ 0) (λ event. Unit {0})
+
+-- ---- the first step of a macro
+
+abbrev pub needs : Extent → ℕ → Step → Step
+needs extent len step = if extent.has_real then step else steps.Front (fronts.Refused len)
+
+abbrev pub opening : Pair → Bool → Step
+opening (pairs.Quotation quotation) taken = steps.Front (fronts.Opens (blocks.Quotation quotation))
+opening pairs.Custom taken = if taken then steps.Taken takers.Opens else steps.Front (fronts.Opens blocks.Custom)
+opening pairs.Extension taken = steps.Front (fronts.Opens blocks.Extension)
+opening pairs.Function taken = steps.Printed None
+
+abbrev pub closing : Pair → Bool → Step
+closing (pairs.Quotation quotation) taken = steps.Front (fronts.Closes (blocks.Quotation quotation))
+closing pairs.Custom taken = if taken then steps.Taken takers.Closes else steps.Front (fronts.Closes blocks.Custom)
+closing pairs.Extension taken = steps.Front (fronts.Closes blocks.Extension)
+closing pairs.Function taken = steps.Printed None
+
+-- by the extent of its words, the length of its name, and whether it takes a word as it stands
+abbrev pub first_step : Inline → Bool → Extent → ℕ → Step
+first_step (inlines.Words font) taken extent len = needs extent len (steps.Printed (Some font))
+first_step inlines.Author taken extent len = if taken then steps.AuthorOption else needs extent len (steps.Printed (Some R))
+first_step inlines.Declaration taken extent len = needs extent len (steps.Printed (Some B))
+first_step inlines.TypeName taken extent len = needs extent len (steps.Printed (Some I))
+first_step inlines.Arguments taken extent len = needs extent len (steps.Printed (Some I))
+first_step inlines.Name taken extent len = if extent.has_real then steps.Named else steps.Lone lones.ManualName
+first_step (inlines.Defaulted default) taken extent len =
+    if extent.has_real then steps.Printed (Some I) else steps.Lone (lones.Default default)
+first_step inlines.Flag taken extent len =
+    if extent.has_real then steps.Flags flag_steps.Dash else steps.Lone (lones.Dash extent.follows)
+first_step inlines.Reference taken extent len = needs extent len (steps.Reference reference_steps.Name)
+first_step inlines.Function taken extent len = needs extent len (steps.Function function_steps.Name extent.inside)
+first_step (inlines.System system) taken extent len = steps.Front (fronts.System system)
+first_step inlines.Bsd taken extent len = steps.Version version_steps.Version
+first_step inlines.Link taken extent len = needs extent len (steps.Link (link_steps.Address extent.inside))
+first_step inlines.NoSpace taken extent len = steps.Front fronts.Glue
+first_step inlines.Apostrophe taken extent len = steps.Front fronts.Apostrophe
+first_step inlines.NextColumn taken extent len = steps.Printed None
+first_step inlines.Prefix taken extent len = if taken then steps.Taken takers.Prefix else steps.Front (fronts.Refused len)
+first_step (inlines.Enclosure marks) taken extent len = steps.Front (fronts.Enclosure marks)
+first_step (inlines.Opens pair) taken extent len = opening pair taken
+first_step (inlines.Closes pair) taken extent len = closing pair taken
+
+abbrev pub count_of : ℕ → Bool → ℕ
+count_of words taken = if taken then words + 1 else words
+
+-- whether a macro takes the first argument after its name, and the arguments after that
+abbrev pub takes_first : Inline → List (Argument (List ℕ)) → Bool
+takes_first inline [] = false
+takes_first inline (word ∷ words) = takes_next inline word
+
+abbrev pub after_first : Inline → List (Argument (List ℕ)) → List (Argument (List ℕ))
+after_first inline [] = []
+after_first inline (word ∷ words) = if takes_next inline word then words else word ∷ words
+
+abbrev pub TakesWord : List ℕ → Inline → Cursor → Bool × Cursor → Type 0
+TakesWord text inline cursor result =
+    IsCursorOf text result.1
+    × (result.0 ≡ takes_first inline (arguments_after cursor.rest text))
+    × (arguments_after result.1.rest text ≡ after_first inline (arguments_after cursor.rest text))
+
+-- the events of a macro whose name stands in a column and has this length
+abbrev pub begun_events : Line → ℕ → ℕ → Inline → LineParts → List (Event (List ℕ))
+begun_events line column len inline parts =
+    inline_events line.number column (take len (drop (column - 1) line.text)) inline parts.taken parts.words (has_calls parts.calls)

@@ -2,7 +2,7 @@
 use Rattle.std.specs.Prelude.{◌≡◌, ◌≤◌, ℕ, ◌-◌, List, [], ◌∷◌, take, drop, Option, MatchOption}
 use Rattle.std.specs.Borrow.{Bor}
 use Rattle.page_roff_forms.specs.declared.quotes.Argument.{Argument}
-use Rattle.page_roff_forms.specs.Arguments.{argument_seen, ReadsNext}
+use Rattle.page_roff_forms.specs.Arguments.{argument_seen}
 use Rattle.page_sets_mdoc_lines.specs.LineWords.{arguments_after}
 use Rattle.page_sets_mdoc_lines.specs.Cursors.{IsCursorOf}
 use Rattle.page_sets_mdoc_words.specs.declared.words_left.WordsLeft.{WordsLeft}
@@ -16,10 +16,6 @@ after_words text left = drop left.count (arguments_after left.cursor.rest text)
 -- what comes after a macro's words stays as it is, however many of them were read
 abbrev pub GoesOn : List ℕ → WordsLeft → WordsLeft → Type 0
 GoesOn text old new = IsCursorOf text new.cursor × (after_words text new ≡ after_words text old)
-
--- the first of the words is read, if there is one
-abbrev pub ReadsWord : List ℕ → WordsLeft → Option (Argument (Bor (List ℕ))) → WordsLeft → Type 0
-ReadsWord text old result new = GoesOn text old new × ReadsNext (words_left text old) result (words_left text new)
 
 -- the first word is read if it is one of this many; the others are in front of the same ones
 abbrev pub ReadsInside : List ℕ → WordsLeft → ℕ → Option (Argument (Bor (List ℕ)) × WordsLeft) → Type 0

@@ -5,6 +5,7 @@ ghost use Rattle.page_sets_mdoc_lines.specs.Cursors.{IsCursorOf};
 ghost use Rattle.page_sets_mdoc_words.specs.declared.flags.FlagStep.TheVariants as flags;
 ghost use Rattle.page_sets_mdoc_words.specs.declared.steps.Step.TheVariants as steps;
 ghost use Rattle.page_sets_mdoc_words.specs.Steps.{StepsOn};
+ghost use Rattle.page_sets_mdoc_words.specs.WordsLeft.{GoesOn};
 
 use crate::printed::{own_word, printed_word};
 use crate::steps::{Begun, Given, Step};
@@ -27,7 +28,8 @@ pub enum FlagStep {
 fn next_dash<'a>(begun: Begun<'a>, left: &mut WordsLeft) -> Option<Given<'a>>
     requires short { length begun.line.text.now ≤ LINE }
     requires within { IsCursorOf begun.line.text.now left.old.cursor }
-    ensures { StepsOn begun.entry (steps.Flags flags.Dash) left.old result left.new }
+    ensures goes { GoesOn begun.entry.line.text.now left.old left.new }
+    ensures gives { StepsOn begun.entry (steps.Flags flags.Dash) left.old result left.new }
 {
     let mut ahead = *left;
     let word = ahead.read(begun.line.text)?;
@@ -59,7 +61,8 @@ pub(crate) fn next_flag<'a>(
 ) -> Option<Given<'a>>
     requires short { length begun.line.text.now ≤ LINE }
     requires within { IsCursorOf begun.line.text.now left.old.cursor }
-    ensures { StepsOn begun.entry (steps.Flags step) left.old result left.new }
+    ensures goes { GoesOn begun.entry.line.text.now left.old left.new }
+    ensures gives { StepsOn begun.entry (steps.Flags step) left.old result left.new }
 {
     match step {
         FlagStep::Dash => next_dash(begun, left),

@@ -8,6 +8,7 @@ ghost use Rattle.page_sets_mdoc_words.specs.declared.steps.Step.TheVariants as s
 ghost use Rattle.page_sets_mdoc_words.specs.Inlines.{system_own};
 ghost use Rattle.page_sets_mdoc_words.specs.Steps as step_specs;
 ghost use Rattle.page_sets_mdoc_words.specs.Steps.{StepsOn};
+ghost use Rattle.page_sets_mdoc_words.specs.WordsLeft.{GoesOn};
 
 use crate::printed::{event_at, own_word, step_event};
 use crate::steps::{Begun, Given, Step};
@@ -114,7 +115,14 @@ fn front_event<'a>(begun: Begun<'a>, front: Front) -> Event<&'a [u8]>
         Front::Refused { len } => refusal(begun, len),
         Front::Glue => step_event(number, column, LineStep::Glue),
         Front::Apostrophe => {
-            own_word(number, column, Own::Apostrophe, None, Join::Glued, Join::Glued)
+            own_word(
+                number,
+                column,
+                Own::Apostrophe,
+                None,
+                Join::Glued,
+                Join::Glued,
+            )
         }
         Front::System(system) => own_word(
             number,
@@ -143,10 +151,15 @@ fn front_event<'a>(begun: Begun<'a>, front: Front) -> Event<&'a [u8]>
 }
 
 /// What a macro does before its words, which come next.
-pub(crate) fn next_front<'a>(begun: Begun<'a>, front: Front, left: &mut WordsLeft) -> Option<Given<'a>>
+pub(crate) fn next_front<'a>(
+    begun: Begun<'a>,
+    front: Front,
+    left: &mut WordsLeft,
+) -> Option<Given<'a>>
     requires short { length begun.line.text.now ≤ LINE }
     requires within { IsCursorOf begun.line.text.now left.old.cursor }
-    ensures { StepsOn begun.entry (steps.Front front) left.old result left.new }
+    ensures goes { GoesOn begun.entry.line.text.now left.old left.new }
+    ensures gives { StepsOn begun.entry (steps.Front front) left.old result left.new }
 {
     Some(Given {
         event: front_event(begun, front),

@@ -11,6 +11,7 @@ ghost use Rattle.page_sets_mdoc_words.specs.declared.steps.Step.TheVariants as s
 ghost use Rattle.page_sets_mdoc_words.specs.Printed.{own_word};
 ghost use Rattle.page_sets_mdoc_words.specs.Steps as step_specs;
 ghost use Rattle.page_sets_mdoc_words.specs.Steps.{StepsOn};
+ghost use Rattle.page_sets_mdoc_words.specs.WordsLeft.{GoesOn};
 
 use crate::printed::{own_word, printed_word};
 use crate::steps::{Begun, Given, Step};
@@ -45,6 +46,13 @@ fn font_of(step: FunctionStep) -> Font
     }
 }
 
+// Whether a comma comes before the next word.
+fn takes_comma(step: FunctionStep, is_real: bool) -> bool
+    ensures { result ≡ step_specs.takes_comma step is_real }
+{
+    is_real && matches!(step, FunctionStep::Comma)
+}
+
 // What comes after the next word, which is a delimiter or none.
 fn step_after(step: FunctionStep, is_real: bool) -> FunctionStep
     ensures { result ≡ step_specs.function_after step is_real }
@@ -63,14 +71,7 @@ fn mark<'a>(begun: Begun<'a>, own: Own, after: Join, step: Step) -> Given<'a>
     ensures step { result.step ≡ step }
 {
     Given {
-        event: own_word(
-            begun.line.line,
-            begun.column,
-            own,
-            None,
-            Join::Glued,
-            after,
-        ),
+        event: own_word(begun.line.line, begun.column, own, None, Join::Glued, after),
         step,
     }
 }
@@ -86,15 +87,26 @@ fn next_inside<'a>(
     requires short { length begun.line.text.now ≤ LINE }
     requires within { IsCursorOf begun.line.text.now left.old.cursor }
     requires opened { step_specs.is_opening_step step ≡ false }
-    ensures { StepsOn begun.entry (steps.Function step inside) left.old result left.new }
+    ensures goes { GoesOn begun.entry.line.text.now left.old left.new }
+    ensures gives { StepsOn begun.entry (steps.Function step inside) left.old result left.new }
 {
     let Some((word, ahead)) = read_inside(begun.line.text, *left, inside) else {
-        return Some(mark(begun, Own::CloseParenthesis, Join::Apart, Step::Printed(None)));
+        return Some(mark(
+            begun,
+            Own::CloseParenthesis,
+            Join::Apart,
+            Step::Printed(None),
+        ));
     };
     let real = is_real(word);
-    if real && matches!(step, FunctionStep::Comma) {
+    if takes_comma(step, real) {
         let step = FunctionStep::Argument;
-        return Some(mark(begun, Own::Comma, Join::Apart, Step::Function { step, inside }));
+        return Some(mark(
+            begun,
+            Own::Comma,
+            Join::Apart,
+            Step::Function { step, inside },
+        ));
     }
     *left = ahead;
     Some(Given {
@@ -115,7 +127,8 @@ pub(crate) fn next_of_function<'a>(
 ) -> Option<Given<'a>>
     requires short { length begun.line.text.now ≤ LINE }
     requires within { IsCursorOf begun.line.text.now left.old.cursor }
-    ensures { StepsOn begun.entry (steps.Function step inside) left.old result left.new }
+    ensures goes { GoesOn begun.entry.line.text.now left.old left.new }
+    ensures gives { StepsOn begun.entry (steps.Function step inside) left.old result left.new }
 {
     match step {
         FunctionStep::Opening => {

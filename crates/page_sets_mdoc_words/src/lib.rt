@@ -2,6 +2,7 @@
 //! definition is `inline_events` in `specs/Inlines.antt`, one row for each macro; read it first, then `src/steps.rt`.
 #![tactic(auto)]
 
+mod begins;
 mod flags;
 mod fronts;
 mod functions;
@@ -14,8 +15,8 @@ mod systems;
 mod taken_words;
 mod words_left;
 
-pub use fronts::Front;
 pub use flags::FlagStep;
+pub use fronts::Front;
 pub use functions::FunctionStep;
 pub use links::LinkStep;
 pub use names::Lone;

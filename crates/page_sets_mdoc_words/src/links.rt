@@ -10,6 +10,7 @@ ghost use Rattle.page_sets_mdoc_words.specs.declared.links.LinkStep.TheVariants 
 ghost use Rattle.page_sets_mdoc_words.specs.declared.steps.Step.TheVariants as steps;
 ghost use Rattle.page_sets_mdoc_words.specs.Inlines as inlines;
 ghost use Rattle.page_sets_mdoc_words.specs.Steps.{StepsOn, AddressOn};
+ghost use Rattle.page_sets_mdoc_words.specs.WordsLeft.{GoesOn};
 
 use crate::printed::{own_word, printed_word, step_event};
 use crate::steps::{Begun, Given, Step, next_printed};
@@ -50,7 +51,8 @@ fn next_of_address<'a>(
     requires short { length begun.line.text.now ≤ LINE }
     requires within { IsCursorOf begun.line.text.now left.old.cursor }
     requires address { first_of (arguments_after (min uri (length begun.line.text.now)) begun.line.text.now) ≡ Some (argument_seen address) }
-    ensures { AddressOn begun.entry (argument_seen address.entry) inside left.old result left.new }
+    ensures goes { GoesOn begun.entry.line.text.now left.old left.new }
+    ensures gives { AddressOn begun.entry (argument_seen address.entry) inside left.old result left.new }
 {
     match read_inside(begun.line.text, *left, inside) {
         Some((text, ahead)) => {
@@ -74,7 +76,8 @@ fn next_of_address<'a>(
 fn next_address<'a>(begun: Begun<'a>, inside: u32, left: &mut WordsLeft) -> Option<Given<'a>>
     requires short { length begun.line.text.now ≤ LINE }
     requires within { IsCursorOf begun.line.text.now left.old.cursor }
-    ensures { StepsOn begun.entry (steps.Link (links.Address inside)) left.old result left.new }
+    ensures goes { GoesOn begun.entry.line.text.now left.old left.new }
+    ensures gives { StepsOn begun.entry (steps.Link (links.Address inside)) left.old result left.new }
 {
     let Some((word, ahead)) = read_inside(begun.line.text, *left, inside) else {
         return next_printed(begun, None, left);
@@ -91,10 +94,16 @@ fn next_address<'a>(begun: Begun<'a>, inside: u32, left: &mut WordsLeft) -> Opti
 }
 
 // The next text, or the colon after the last one.
-fn next_text<'a>(begun: Begun<'a>, uri: usize, inside: u32, left: &mut WordsLeft) -> Option<Given<'a>>
+fn next_text<'a>(
+    begun: Begun<'a>,
+    uri: usize,
+    inside: u32,
+    left: &mut WordsLeft,
+) -> Option<Given<'a>>
     requires short { length begun.line.text.now ≤ LINE }
     requires within { IsCursorOf begun.line.text.now left.old.cursor }
-    ensures { StepsOn begun.entry (steps.Link (links.Texts uri inside)) left.old result left.new }
+    ensures goes { GoesOn begun.entry.line.text.now left.old left.new }
+    ensures gives { StepsOn begun.entry (steps.Link (links.Texts uri inside)) left.old result left.new }
 {
     let Some((text, ahead)) = read_inside(begun.line.text, *left, inside) else {
         return Some(Given {
@@ -123,7 +132,8 @@ fn next_text<'a>(begun: Begun<'a>, uri: usize, inside: u32, left: &mut WordsLeft
 fn next_uri<'a>(begun: Begun<'a>, uri: usize, left: &mut WordsLeft) -> Option<Given<'a>>
     requires short { length begun.line.text.now ≤ LINE }
     requires within { IsCursorOf begun.line.text.now left.old.cursor }
-    ensures { StepsOn begun.entry (steps.Link (links.Uri uri)) left.old result left.new }
+    ensures goes { GoesOn begun.entry.line.text.now left.old left.new }
+    ensures gives { StepsOn begun.entry (steps.Link (links.Uri uri)) left.old result left.new }
 {
     match first_of(begun.line.text, uri.min(begun.line.text.len())) {
         Some(address) => Some(Given {
@@ -142,7 +152,8 @@ pub(crate) fn next_of_link<'a>(
 ) -> Option<Given<'a>>
     requires short { length begun.line.text.now ≤ LINE }
     requires within { IsCursorOf begun.line.text.now left.old.cursor }
-    ensures { StepsOn begun.entry (steps.Link step) left.old result left.new }
+    ensures goes { GoesOn begun.entry.line.text.now left.old left.new }
+    ensures gives { StepsOn begun.entry (steps.Link step) left.old result left.new }
 {
     match step {
         LinkStep::Address { inside } => next_address(begun, inside, left),

@@ -7,6 +7,7 @@ ghost use Rattle.page_sets_mdoc_words.specs.declared.steps.Step.TheVariants as s
 ghost use Rattle.page_sets_mdoc_words.specs.Inlines as inlines;
 ghost use Rattle.page_sets_mdoc_words.specs.Steps as step_specs;
 ghost use Rattle.page_sets_mdoc_words.specs.Steps.{StepsOn};
+ghost use Rattle.page_sets_mdoc_words.specs.WordsLeft.{GoesOn};
 
 use crate::printed::{is_opening, own_word, printed_word, step_event, word_event};
 use crate::steps::{Begun, Given, Step};
@@ -79,7 +80,8 @@ fn lone_event<'a>(begun: Begun<'a>, lone: Lone, is_last: bool) -> Event<&'a [u8]
 pub(crate) fn next_lone<'a>(begun: Begun<'a>, lone: Lone, left: &mut WordsLeft) -> Option<Given<'a>>
     requires short { length begun.line.text.now ≤ LINE }
     requires within { IsCursorOf begun.line.text.now left.old.cursor }
-    ensures { StepsOn begun.entry (steps.Lone lone) left.old result left.new }
+    ensures goes { GoesOn begun.entry.line.text.now left.old left.new }
+    ensures gives { StepsOn begun.entry (steps.Lone lone) left.old result left.new }
 {
     let mut ahead = *left;
     match ahead.read(begun.line.text) {
@@ -105,7 +107,8 @@ pub(crate) fn next_lone<'a>(begun: Begun<'a>, lone: Lone, left: &mut WordsLeft) 
 pub(crate) fn next_named<'a>(begun: Begun<'a>, left: &mut WordsLeft) -> Option<Given<'a>>
     requires short { length begun.line.text.now ≤ LINE }
     requires within { IsCursorOf begun.line.text.now left.old.cursor }
-    ensures { StepsOn begun.entry steps.Named left.old result left.new }
+    ensures goes { GoesOn begun.entry.line.text.now left.old left.new }
+    ensures gives { StepsOn begun.entry steps.Named left.old result left.new }
 {
     let word = left.read(begun.line.text)?;
     if is_real(word) {

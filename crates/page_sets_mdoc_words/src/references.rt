@@ -9,6 +9,7 @@ ghost use Rattle.page_sets_mdoc_words.specs.declared.references.ReferenceStep.Th
 ghost use Rattle.page_sets_mdoc_words.specs.declared.steps.Step.TheVariants as steps;
 ghost use Rattle.page_sets_mdoc_words.specs.Printed.{own_word};
 ghost use Rattle.page_sets_mdoc_words.specs.Steps.{StepsOn};
+ghost use Rattle.page_sets_mdoc_words.specs.WordsLeft.{GoesOn};
 
 use crate::printed::{own_word, printed_word};
 use crate::steps::{Begun, Given, Step};
@@ -34,7 +35,8 @@ pub enum ReferenceStep {
 fn next_name<'a>(begun: Begun<'a>, left: &mut WordsLeft) -> Option<Given<'a>>
     requires short { length begun.line.text.now ≤ LINE }
     requires within { IsCursorOf begun.line.text.now left.old.cursor }
-    ensures { StepsOn begun.entry (steps.Reference references.Name) left.old result left.new }
+    ensures goes { GoesOn begun.entry.line.text.now left.old left.new }
+    ensures gives { StepsOn begun.entry (steps.Reference references.Name) left.old result left.new }
 {
     let word = left.read(begun.line.text)?;
     let after = if is_real(word) {
@@ -52,7 +54,8 @@ fn next_name<'a>(begun: Begun<'a>, left: &mut WordsLeft) -> Option<Given<'a>>
 fn next_opening<'a>(begun: Begun<'a>, left: &mut WordsLeft) -> Option<Given<'a>>
     requires short { length begun.line.text.now ≤ LINE }
     requires within { IsCursorOf begun.line.text.now left.old.cursor }
-    ensures { StepsOn begun.entry (steps.Reference references.Opening) left.old result left.new }
+    ensures goes { GoesOn begun.entry.line.text.now left.old left.new }
+    ensures gives { StepsOn begun.entry (steps.Reference references.Opening) left.old result left.new }
 {
     let mut ahead = *left;
     let word = ahead.read(begun.line.text)?;
@@ -102,7 +105,8 @@ pub(crate) fn next_of_reference<'a>(
 ) -> Option<Given<'a>>
     requires short { length begun.line.text.now ≤ LINE }
     requires within { IsCursorOf begun.line.text.now left.old.cursor }
-    ensures { StepsOn begun.entry (steps.Reference step) left.old result left.new }
+    ensures goes { GoesOn begun.entry.line.text.now left.old left.new }
+    ensures gives { StepsOn begun.entry (steps.Reference step) left.old result left.new }
 {
     match step {
         ReferenceStep::Name => next_name(begun, left),

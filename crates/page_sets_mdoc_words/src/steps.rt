@@ -2,9 +2,11 @@
 
 ghost use Rattle.std.specs.Prelude.{◌≤◌, length};
 ghost use Rattle.page_core_base.specs.LinesTaken.{line_seen};
+ghost use Rattle.page_sets_lines.specs.Events.{TakesNext};
 ghost use Rattle.page_sets_mdoc_lines.specs.Cursors.{IsCursorOf};
 ghost use Rattle.page_sets_mdoc_words.specs.declared.steps.Step.TheVariants as steps;
-ghost use Rattle.page_sets_mdoc_words.specs.Steps.{StepsOn, GivesWord};
+ghost use Rattle.page_sets_mdoc_words.specs.Steps.{StepsOn, macro_words_events, EndsWith};
+ghost use Rattle.page_sets_mdoc_words.specs.WordsLeft.{GoesOn};
 
 use crate::flags::{FlagStep, next_flag};
 use crate::fronts::{Front, next_front};
@@ -77,7 +79,8 @@ pub(crate) fn next_printed<'a>(
 ) -> Option<Given<'a>>
     requires short { length begun.line.text.now ≤ LINE }
     requires within { IsCursorOf begun.line.text.now left.old.cursor }
-    ensures { StepsOn begun.entry (steps.Printed font) left.old result left.new }
+    ensures goes { GoesOn begun.entry.line.text.now left.old left.new }
+    ensures gives { StepsOn begun.entry (steps.Printed font) left.old result left.new }
 {
     let word = left.read(begun.line.text)?;
     Some(Given {
@@ -90,7 +93,8 @@ pub(crate) fn next_printed<'a>(
 fn next_step<'a>(begun: Begun<'a>, step: Step, left: &mut WordsLeft) -> Option<Given<'a>>
     requires short { length begun.line.text.now ≤ LINE }
     requires within { IsCursorOf begun.line.text.now left.old.cursor }
-    ensures { StepsOn begun.entry step left.old result left.new }
+    ensures goes { GoesOn begun.entry.line.text.now left.old left.new }
+    ensures gives { StepsOn begun.entry step left.old result left.new }
 {
     match step {
         Step::Printed(font) => next_printed(begun, font, left),
@@ -109,10 +113,14 @@ fn next_step<'a>(begun: Begun<'a>, step: Step, left: &mut WordsLeft) -> Option<G
 
 impl MacroWords {
     /// The next event of a macro's words in their line, if there is one more.
+    #[tactic(auto, using(crate::proofs::WordLemmas::none_left))]
     pub fn next<'a>(&mut self, line: Taken<'a>) -> Option<Event<&'a [u8]>>
         requires short { length line.text.now ≤ LINE }
         requires within { IsCursorOf line.text.now self.old.left.cursor }
-        ensures { GivesWord (line_seen line.entry) self.old result self.new }
+        ensures goes { GoesOn line.entry.text.now self.old.left self.new.left }
+        ensures events { TakesNext (macro_words_events (line_seen line.entry) self.old) result
+            (macro_words_events (line_seen line.entry) self.new) }
+        ensures ends { EndsWith result self.new }
     {
         let begun = Begun {
             line,

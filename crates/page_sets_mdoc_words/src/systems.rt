@@ -10,6 +10,7 @@ ghost use Rattle.page_sets_mdoc_words.specs.declared.systems.VersionStep.TheVari
 ghost use Rattle.page_sets_mdoc_words.specs.declared.steps.Step.TheVariants as steps;
 ghost use Rattle.page_sets_mdoc_words.specs.Printed.{own_word};
 ghost use Rattle.page_sets_mdoc_words.specs.Steps.{StepsOn};
+ghost use Rattle.page_sets_mdoc_words.specs.WordsLeft.{GoesOn};
 
 use crate::printed::{is_opening, own_word, printed_word};
 use crate::steps::{Begun, Given, Step};
@@ -49,7 +50,8 @@ fn name<'a>(begun: Begun<'a>, before: Join) -> Given<'a>
 fn next_version<'a>(begun: Begun<'a>, left: &mut WordsLeft) -> Option<Given<'a>>
     requires short { length begun.line.text.now ≤ LINE }
     requires within { IsCursorOf begun.line.text.now left.old.cursor }
-    ensures { StepsOn begun.entry (steps.Version versions.Version) left.old result left.new }
+    ensures goes { GoesOn begun.entry.line.text.now left.old left.new }
+    ensures gives { StepsOn begun.entry (steps.Version versions.Version) left.old result left.new }
 {
     let mut ahead = *left;
     match ahead.read(begun.line.text) {
@@ -79,7 +81,8 @@ pub(crate) fn next_of_version<'a>(
 ) -> Option<Given<'a>>
     requires short { length begun.line.text.now ≤ LINE }
     requires within { IsCursorOf begun.line.text.now left.old.cursor }
-    ensures { StepsOn begun.entry (steps.Version step) left.old result left.new }
+    ensures goes { GoesOn begun.entry.line.text.now left.old left.new }
+    ensures gives { StepsOn begun.entry (steps.Version step) left.old result left.new }
 {
     match step {
         VersionStep::Version => next_version(begun, left),

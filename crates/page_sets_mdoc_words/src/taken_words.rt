@@ -7,6 +7,7 @@ ghost use Rattle.page_sets_mdoc_lines.specs.Cursors.{IsCursorOf};
 ghost use Rattle.page_sets_mdoc_words.specs.declared.steps.Step.TheVariants as steps;
 ghost use Rattle.page_sets_mdoc_words.specs.Steps as step_specs;
 ghost use Rattle.page_sets_mdoc_words.specs.Steps.{StepsOn};
+ghost use Rattle.page_sets_mdoc_words.specs.WordsLeft.{GoesOn};
 
 use crate::printed::{event_at, word_event};
 use crate::steps::{Begun, Given, Step, next_printed};
@@ -33,14 +34,7 @@ fn taken_event<'a>(begun: Begun<'a>, taker: Taker, word: Argument<&'a [u8]>) -> 
 {
     let number = begun.line.line;
     match taker {
-        Taker::Prefix => word_event(
-            number,
-            Role::Argument,
-            None,
-            Join::Apart,
-            Join::Glued,
-            word,
-        ),
+        Taker::Prefix => word_event(number, Role::Argument, None, Join::Apart, Join::Glued, word),
         Taker::Opens => event_at(
             number,
             begun.column,
@@ -62,7 +56,8 @@ pub(crate) fn next_taken<'a>(
 ) -> Option<Given<'a>>
     requires short { length begun.line.text.now ≤ LINE }
     requires within { IsCursorOf begun.line.text.now left.old.cursor }
-    ensures { StepsOn begun.entry (steps.Taken taker) left.old result left.new }
+    ensures goes { GoesOn begun.entry.line.text.now left.old left.new }
+    ensures gives { StepsOn begun.entry (steps.Taken taker) left.old result left.new }
 {
     let word = left.read(begun.line.text)?;
     Some(Given {
@@ -75,7 +70,8 @@ pub(crate) fn next_taken<'a>(
 pub(crate) fn next_option<'a>(begun: Begun<'a>, left: &mut WordsLeft) -> Option<Given<'a>>
     requires short { length begun.line.text.now ≤ LINE }
     requires within { IsCursorOf begun.line.text.now left.old.cursor }
-    ensures { StepsOn begun.entry steps.AuthorOption left.old result left.new }
+    ensures goes { GoesOn begun.entry.line.text.now left.old left.new }
+    ensures gives { StepsOn begun.entry steps.AuthorOption left.old result left.new }
 {
     let option = left.read(begun.line.text)?;
     if let Quoting::Unclosed = option.quoting {
