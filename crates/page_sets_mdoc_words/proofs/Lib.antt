@@ -4,3 +4,4 @@ pub mod SliceLemmas
 pub mod BeginLemmas
 pub mod PrintLemmas
 pub mod StepPrintLemmas
+pub mod BeginPrintLemmas

@@ -113,8 +113,8 @@ pub marked_first : (line : List ℕ) (more number : ℕ) (font : Option Font) (e
 marked_first line more number font event word words events w s h p =
     let k = printed_by line number font (word_delimiter word) word words h in
     record {
-      slices = (s, k.0, p.slices);
-      order = (word ∷ words, nothing_taken event.deed (word ∷ words) w, words, k.1, p.order);
+      slices = (s, (k.0, p.slices));
+      order = (word ∷ words, nothing_taken event.deed (word ∷ words) w, (words, k.1, p.order));
       few = let few = p.few in omega (arith, few);
     }
 
@@ -125,8 +125,8 @@ pub word_marked : (line : List ℕ) (more number : ℕ) (font : Option Font) (ev
 word_marked line more number font event word words events w s h p =
     let k = printed_by line number font (word_delimiter word) word words h in
     record {
-      slices = (k.0, s, p.slices);
-      order = (words, k.1, words, nothing_taken event.deed words w, p.order);
+      slices = (k.0, (s, p.slices));
+      order = (words, k.1, (words, nothing_taken event.deed words w, p.order));
       few = let few = p.few in omega (arith, few);
     }
 

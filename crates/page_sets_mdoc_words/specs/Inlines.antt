@@ -5,7 +5,6 @@ use Rattle.page_core_base.specs.declared.cells.Font.{Font}
 use Rattle.page_core_base.specs.declared.cells.Font.TheVariants.{R, B, I}
 use Rattle.page_core_base.specs.declared.note_kinds.NoteKind.TheVariants.{EmptyMacro, Unterminated}
 use Rattle.page_roff_forms.specs.declared.quotes.Argument.{Argument}
-use Rattle.page_sets_lines.specs.declared.blocks.Block.{Block}
 use Rattle.page_sets_lines.specs.declared.blocks.BlockOpener.TheVariants as openers
 use Rattle.page_sets_lines.specs.declared.blocks.BlockCloser.TheVariants as closers
 use Rattle.page_sets_lines.specs.declared.events.Join.TheVariants.{Apart, Glued}
@@ -16,7 +15,7 @@ use Rattle.page_sets_lines.specs.declared.leaves.Own.{Own}
 use Rattle.page_sets_lines.specs.declared.leaves.Own.TheVariants as owns
 use Rattle.page_sets_lines.specs.declared.line_steps.LineStep.TheVariants as steps
 use Rattle.page_sets_lines.specs.declared.openers.LineOpener.TheVariants as lines
-use Rattle.page_sets_lines.specs.declared.openers.Opener.TheVariants.{Block}
+use Rattle.page_sets_lines.specs.declared.openers.Opener.TheVariants as begins
 use Rattle.page_sets_lines.specs.declared.openers.Closer.TheVariants as ends
 use Rattle.page_sets_lines.specs.ControlLines.{is_unclosed}
 use Rattle.page_sets_lines.specs.PlainLines.{event_at}
@@ -27,7 +26,7 @@ use Rattle.page_sets_mdoc_rows.specs.declared.macros.System.TheVariants as syste
 use Rattle.page_sets_mdoc_rows.specs.declared.macros.Pair.{Pair}
 use Rattle.page_sets_mdoc_rows.specs.declared.macros.Pair.TheVariants as pairs
 use Rattle.page_sets_mdoc_rows.specs.declared.macros.Inline.{Inline}
-use Rattle.page_sets_mdoc_rows.specs.declared.macros.Inline.TheVariants.{Words, Author, Declaration, TypeName, Arguments, Name, Defaulted, Flag, Reference, Function, System, Bsd, Link, NoSpace, Apostrophe, NextColumn, Prefix, Enclosure, Opens, Closes}
+use Rattle.page_sets_mdoc_rows.specs.declared.macros.Inline.TheVariants as inlines
 use Rattle.page_sets_mdoc_lines.specs.LineWords.{is_real}
 use Rattle.page_sets_mdoc_words.specs.Printed.{word_event, printed_word, printed, own_word, step_event, is_opening, inside, outside}
 
@@ -198,17 +197,17 @@ prefix number column name (Some word) words = prefix_word number word ∷ printe
 -- ---- enclosures
 
 abbrev pub opens_custom : ℕ → ℕ → Option (Argument (List ℕ)) → Event (List ℕ)
-opens_custom number column mark = event_at number column (deeds.Open (Block (openers.Custom mark)))
+opens_custom number column mark = event_at number column (deeds.Open (begins.Block (openers.Custom mark)))
 
 abbrev pub closes_custom : ℕ → ℕ → Option (Argument (List ℕ)) → Event (List ℕ)
 closes_custom number column mark = event_at number column (deeds.Close (ends.Block (closers.Custom mark)))
 
 abbrev pub opened : ℕ → ℕ → Pair → Option (Argument (List ℕ)) → List (Argument (List ℕ)) → List (Event (List ℕ))
 opened number column (pairs.Quotation quotation) taken words =
-    event_at number column (deeds.Open (Block (openers.Quotation quotation))) ∷ printed number None words
+    event_at number column (deeds.Open (begins.Block (openers.Quotation quotation))) ∷ printed number None words
 opened number column pairs.Custom taken words = opens_custom number column taken ∷ printed number None words
 opened number column pairs.Extension taken words =
-    event_at number column (deeds.Open (Block openers.Extension)) ∷ printed number None words
+    event_at number column (deeds.Open (begins.Block openers.Extension)) ∷ printed number None words
 opened number column pairs.Function taken words = printed number None words
 
 abbrev pub closed : ℕ → ℕ → Pair → Option (Argument (List ℕ)) → List (Argument (List ℕ)) → List (Event (List ℕ))
@@ -223,28 +222,28 @@ closed number column pairs.Function taken words = printed number None words
 
 -- a macro of a line: where it stands, its name, the word that it takes as it stands, its other words, and whether calls come after them
 abbrev pub inline_events : ℕ → ℕ → List ℕ → Inline → Option (Argument (List ℕ)) → List (Argument (List ℕ)) → Bool → List (Event (List ℕ))
-inline_events number column name (Words font) taken words follows = with_words number column name words (printed number (Some font) words)
-inline_events number column name Author taken words follows = author number column name taken words
-inline_events number column name Declaration taken words follows = with_words number column name words (printed number (Some B) words)
-inline_events number column name TypeName taken words follows = with_words number column name words (printed number (Some I) words)
-inline_events number column name Arguments taken words follows = with_words number column name words (printed number (Some I) words)
-inline_events number column name Name taken words follows =
+inline_events number column name (inlines.Words font) taken words follows = with_words number column name words (printed number (Some font) words)
+inline_events number column name inlines.Author taken words follows = author number column name taken words
+inline_events number column name inlines.Declaration taken words follows = with_words number column name words (printed number (Some B) words)
+inline_events number column name inlines.TypeName taken words follows = with_words number column name words (printed number (Some I) words)
+inline_events number column name inlines.Arguments taken words follows = with_words number column name words (printed number (Some I) words)
+inline_events number column name inlines.Name taken words follows =
     if list_any is_real words then named number column words else lone number (manual_name number column) words
-inline_events number column name (Defaulted default) taken words follows =
+inline_events number column name (inlines.Defaulted default) taken words follows =
     if list_any is_real words then printed number (Some I) words else lone number (default_word number column default) words
-inline_events number column name Flag taken words follows =
+inline_events number column name inlines.Flag taken words follows =
     if list_any is_real words then flags number words else lone number (lone_dash number column follows) words
-inline_events number column name Reference taken words follows = with_words number column name words (reference number words)
-inline_events number column name Function taken words follows = with_words number column name words (function number column words)
-inline_events number column name (System system) taken words follows = system_word number column system ∷ printed number None words
-inline_events number column name Bsd taken words follows = bsd number column words
-inline_events number column name Link taken words follows = with_words number column name words (link number column words)
-inline_events number column name NoSpace taken words follows = step_event number column steps.Glue ∷ printed number None words
-inline_events number column name Apostrophe taken words follows =
+inline_events number column name inlines.Reference taken words follows = with_words number column name words (reference number words)
+inline_events number column name inlines.Function taken words follows = with_words number column name words (function number column words)
+inline_events number column name (inlines.System system) taken words follows = system_word number column system ∷ printed number None words
+inline_events number column name inlines.Bsd taken words follows = bsd number column words
+inline_events number column name inlines.Link taken words follows = with_words number column name words (link number column words)
+inline_events number column name inlines.NoSpace taken words follows = step_event number column steps.Glue ∷ printed number None words
+inline_events number column name inlines.Apostrophe taken words follows =
     own_word number column owns.Apostrophe None Glued Glued ∷ printed number None words
-inline_events number column name NextColumn taken words follows = printed number None words
-inline_events number column name Prefix taken words follows = prefix number column name taken words
-inline_events number column name (Enclosure marks) taken words follows =
+inline_events number column name inlines.NextColumn taken words follows = printed number None words
+inline_events number column name inlines.Prefix taken words follows = prefix number column name taken words
+inline_events number column name (inlines.Enclosure marks) taken words follows =
     event_at number column (deeds.LineScope (lines.Enclosure marks)) ∷ printed number None words
-inline_events number column name (Opens pair) taken words follows = opened number column pair taken words
-inline_events number column name (Closes pair) taken words follows = closed number column pair taken words
+inline_events number column name (inlines.Opens pair) taken words follows = opened number column pair taken words
+inline_events number column name (inlines.Closes pair) taken words follows = closed number column pair taken words
