@@ -12,6 +12,7 @@ use Rattle.page_sets_mdoc_rows.specs.declared.macros.Inline.{Inline}
 use Rattle.page_sets_mdoc_rows.specs.declared.macros.Inline.TheVariants as inlines
 use Rattle.page_sets_mdoc_lines.specs.LineWords.{is_closing, is_real, word_call, takes_next}
 use Rattle.page_sets_mdoc_lines.specs.Parts.{LineParts, parts, rest_parts, part_first, if_parsed, taken_first, is_something, as_list, extent_of, has_calls}
+use Rattle.page_sets_mdoc_lines.specs.declared.extents.Extent.{Extent}
 use Rattle.page_sets_mdoc_lines.proofs.PartLemmas.{words_taken, rest_goes_on}
 use Rattle.page_sets_mdoc_words.specs.declared.fronts.Front.TheVariants.{Refused}
 use Rattle.page_sets_mdoc_words.specs.declared.flags.FlagStep.TheVariants.{Dash}
@@ -164,3 +165,19 @@ begun_rest inline parsed (word ∷ words) =
           rw t (taken_rest (length q.words) word words q (rest_goes_on parsed words))
       | inr t ↦ rw t (rest_goes_on parsed (word ∷ words))
     ]
+
+-- ---- the same of what the code found
+
+pub begins_right : (line : Line) (column len count : ℕ) (inline : Inline) (parsed taken : Bool) (extent : Extent) (step : Step) (arguments others : List (Argument (List ℕ)))
+    → taken ≡ takes_first inline arguments → others ≡ after_first inline arguments → extent ≡ extent_of (parts None parsed others)
+    → step ≡ first_step inline taken extent len → count ≡ count_of extent.words taken
+    → step_events line column step (take count arguments) ≡ begun_events line column len inline (parts (Some inline) parsed arguments)
+begins_right line column len count inline parsed taken extent step arguments others t o e s n =
+    rw (s, n, e, o, t) (begun_gives line column len inline parsed arguments)
+
+pub goes_on_right : (count : ℕ) (inline : Inline) (parsed taken : Bool) (extent : Extent) (arguments others : List (Argument (List ℕ)))
+    → taken ≡ takes_first inline arguments → others ≡ after_first inline arguments → extent ≡ extent_of (parts None parsed others)
+    → count ≡ count_of extent.words taken
+    → parts None true (drop count arguments) ≡ rest_parts (parts (Some inline) parsed arguments)
+goes_on_right count inline parsed taken extent arguments others t o e n =
+    rw (n, e, o, t) (begun_rest inline parsed arguments)

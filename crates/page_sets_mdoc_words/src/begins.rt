@@ -69,7 +69,7 @@ fn closing(pair: Pair, taken: bool) -> Step
     }
 }
 
-// The step of a macro that has steps of its own where a word is real, and another where all are delimiters.
+// The first step of a macro, by the extent of its words, the length of its name and whether it takes a word.
 fn first_step(inline: Inline, taken: bool, extent: Extent, len: u32) -> Step
     ensures { result ≡ step_specs.first_step inline taken extent len }
 {
@@ -151,7 +151,7 @@ fn take_word(text: &[u8], inline: Inline, cursor: Cursor) -> (bool, Cursor)
 impl MacroWords {
     /// The words of a macro, of which the name stands in a column and has this length, and the line was read up to its
     /// end; in a line that is not parsed no word calls.
-    #[tactic(auto, using(crate::proofs::BeginLemmas::begun_rest, crate::proofs::BeginLemmas::begun_gives))]
+    #[tactic(auto, using(crate::proofs::BeginLemmas::goes_on_right, crate::proofs::BeginLemmas::begins_right))]
     pub fn begin(
         line: Taken<'_>,
         inline: Inline,
@@ -166,7 +166,8 @@ impl MacroWords {
         ensures rest { parts None true (after_words line.entry.text.now result.left)
             ≡ rest_parts (parts (Some inline) parsed (arguments_after cursor.rest line.entry.text.now)) }
         ensures events { macro_words_events (line_seen line.entry) result
-            ≡ begun_events (line_seen line.entry) column len inline (parts (Some inline) parsed (arguments_after cursor.rest line.entry.text.now)) }
+            ≡ begun_events (line_seen line.entry) column len inline
+            (parts (Some inline) parsed (arguments_after cursor.rest line.entry.text.now)) }
     {
         let (taken, ahead) = take_word(line.text, inline, cursor);
         let extent = find_extent(line.text, ahead, parsed);

@@ -67,7 +67,8 @@ fn step_after(step: FunctionStep, is_real: bool) -> FunctionStep
 
 // A mark of the macro's own, and the step after it.
 fn mark<'a>(begun: Begun<'a>, own: Own, after: Join, step: Step) -> Given<'a>
-    ensures event { event_seen result.event ≡ own_word begun.entry.line.line begun.entry.column own None Glued after }
+    ensures event { event_seen result.event
+        ≡ own_word begun.entry.line.line begun.entry.column own None Glued after }
     ensures step { result.step ≡ step }
 {
     Given {

@@ -35,7 +35,8 @@ pub enum LinkStep {
 
 // The address.
 fn uri_event<'a>(begun: Begun<'a>, uri: Argument<&'a [u8]>) -> Event<&'a [u8]>
-    ensures { event_seen result ≡ inlines.uri_event begun.entry.line.line begun.entry.column (argument_seen uri.entry) }
+    ensures { event_seen result
+        ≡ inlines.uri_event begun.entry.line.line begun.entry.column (argument_seen uri.entry) }
 {
     step_event(begun.line.line, begun.column, LineStep::Uri(uri))
 }
@@ -50,7 +51,8 @@ fn next_of_address<'a>(
 ) -> Option<Given<'a>>
     requires short { length begun.line.text.now ≤ LINE }
     requires within { IsCursorOf begun.line.text.now left.old.cursor }
-    requires address { first_of (arguments_after (min uri (length begun.line.text.now)) begun.line.text.now) ≡ Some (argument_seen address) }
+    requires address { first_of (arguments_after (min uri (length begun.line.text.now)) begun.line.text.now)
+        ≡ Some (argument_seen address) }
     ensures goes { GoesOn begun.entry.line.text.now left.old left.new }
     ensures gives { AddressOn begun.entry (argument_seen address.entry) inside left.old result left.new }
 {

@@ -81,7 +81,8 @@ fn next_opening<'a>(begun: Begun<'a>, left: &mut WordsLeft) -> Option<Given<'a>>
 
 // What closes the section.
 fn closing<'a>(begun: Begun<'a>, column: u32) -> Given<'a>
-    ensures event { event_seen result.event ≡ own_word begun.entry.line.line column CloseParenthesis None Glued Apart }
+    ensures event { event_seen result.event
+        ≡ own_word begun.entry.line.line column CloseParenthesis None Glued Apart }
     ensures step { result.step ≡ steps.Printed None }
 {
     Given {

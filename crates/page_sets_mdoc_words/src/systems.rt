@@ -30,7 +30,8 @@ pub enum VersionStep {
 
 // The name, and then the words that are left.
 fn name<'a>(begun: Begun<'a>, before: Join) -> Given<'a>
-    ensures event { event_seen result.event ≡ own_word begun.entry.line.line begun.entry.column Bsd None before Apart }
+    ensures event { event_seen result.event
+        ≡ own_word begun.entry.line.line begun.entry.column Bsd None before Apart }
     ensures step { result.step ≡ steps.Printed None }
 {
     Given {

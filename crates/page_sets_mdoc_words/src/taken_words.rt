@@ -30,7 +30,8 @@ pub enum Taker {
 
 // What is made of the word.
 fn taken_event<'a>(begun: Begun<'a>, taker: Taker, word: Argument<&'a [u8]>) -> Event<&'a [u8]>
-    ensures { event_seen result ≡ step_specs.taken_event begun.entry.line.line begun.entry.column taker (argument_seen word.entry) }
+    ensures { event_seen result
+        ≡ step_specs.taken_event begun.entry.line.line begun.entry.column taker (argument_seen word.entry) }
 {
     let number = begun.line.line;
     match taker {
