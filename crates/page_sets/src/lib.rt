@@ -1,8 +1,14 @@
-//! The door to the macro sets: what events a line of a page has. It gives out what `page_sets_lines` and `page_sets_man` hold; read those.
+//! The door to the macro sets: what events a line of a page has. It gives out what `page_sets_lines`, `page_sets_man` and
+//! `page_sets_mdoc` hold; read those. Of its own it has the set of a page, which is one of the two.
 #![tactic(auto)]
 
+mod either;
+
+pub use either::{Either, EitherPlace};
 pub use page_sets_lines::{
-    Closer, Deed, Event, FontMacro, HeadingName, Join, Leaf, LineOpener, Link, MacroSet, Opener,
-    Own, OwnWord, ParagraphName, Prologue, Request, Role, TagName, Word,
+    Block, BlockCloser, BlockOpener, BodyParagraphName, Closer, Deed, Event, FontMacro,
+    HeadingName, Join, Leaf, LineOpener, LineStep, Link, MacroSet, Marks, OneLineName, Opener, Own,
+    OwnWord, ParagraphName, Prologue, Quotation, Request, Role, TagName, Word,
 };
 pub use page_sets_man::Man;
+pub use page_sets_mdoc::Mdoc;

@@ -3,6 +3,8 @@
 
 mod collected;
 #[cfg(test)]
+mod mdoc_tests;
+#[cfg(test)]
 mod spelling;
 #[cfg(test)]
 mod tests;

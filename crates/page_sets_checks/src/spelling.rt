@@ -7,7 +7,10 @@ use arrayvec::ArrayVec;
 use page_core_base::{Font, NoteKind, Taken};
 use page_core_limits::LINE;
 use page_roff_forms::{Argument, Quoting};
-use page_sets::{Closer, Deed, Event, Join, Leaf, MacroSet, Opener, OwnWord, Request, Role, Word};
+use page_sets::{
+    BlockCloser, BlockOpener, Closer, Deed, Event, Join, Leaf, LineStep, MacroSet, Opener, OwnWord,
+    Request, Role, Word,
+};
 
 pub type Spelling = ArrayVec<u8, 500>;
 
@@ -62,23 +65,53 @@ fn font_name(font: Option<Font>) -> &'static str {
     }
 }
 
+// A kind with a sign on each side that is glued.
+fn joined(before: Join, after: Join, kinds: [&'static str; 4]) -> &'static str {
+    match (before, after) {
+        (Join::Apart, Join::Apart) => kinds[0],
+        (Join::Apart, Join::Glued) => kinds[1],
+        (Join::Glued, Join::Apart) => kinds[2],
+        (Join::Glued, Join::Glued) => kinds[3],
+    }
+}
+
 fn show_word<'a>(word: Word<&'a [u8]>) -> Shown<'a> {
-    let kind = match (word.role, word.before) {
-        (Role::Line, _) => "line",
-        (Role::Argument, Join::Apart) => "word",
-        (Role::Argument, Join::Glued) => "+word",
+    let kinds = match word.role {
+        Role::Line => ["line", "line+", "+line", "+line+"],
+        Role::Argument => ["word", "word+", "+word", "+word+"],
+        Role::Delimiter => ["delimiter", "delimiter+", "+delimiter", "+delimiter+"],
+        Role::Name { .. } => ["name", "name+", "+name", "+name+"],
     };
-    with(kind, font_name(word.font), Some(word.arg))
+    with(
+        joined(word.before, word.after, kinds),
+        font_name(word.font),
+        Some(word.arg),
+    )
 }
 
 fn show_own<'a>(word: OwnWord) -> Shown<'a> {
-    let kind = match (word.before, word.after) {
-        (Join::Apart, Join::Apart) => "mark",
-        (Join::Apart, Join::Glued) => "mark+",
-        (Join::Glued, Join::Apart) => "+mark",
-        (Join::Glued, Join::Glued) => "+mark+",
-    };
-    alone(kind, word.own.text())
+    let kinds = ["mark", "mark+", "+mark", "+mark+"];
+    with(
+        joined(word.before, word.after, kinds),
+        font_name(word.font),
+        Some(bare(word.own.text().as_bytes())),
+    )
+}
+
+fn show_block_opener<'a>(opener: BlockOpener<&'a [u8]>) -> Shown<'a> {
+    let name = opener.block().name();
+    match opener {
+        BlockOpener::Custom(mark) => with("open", name, mark),
+        BlockOpener::Quotation(_) | BlockOpener::Extension => alone("open", name),
+    }
+}
+
+fn show_block_closer<'a>(closer: BlockCloser<&'a [u8]>) -> Shown<'a> {
+    let name = closer.block().closer_name();
+    match closer {
+        BlockCloser::Custom(mark) => with("close", name, mark),
+        BlockCloser::Quotation(_) | BlockCloser::Extension => alone("close", name),
+    }
 }
 
 fn show_opener<'a>(opener: Opener<&'a [u8]>) -> Shown<'a> {
@@ -97,6 +130,7 @@ fn show_opener<'a>(opener: Opener<&'a [u8]>) -> Shown<'a> {
         Opener::RelativeMargin(columns) => with("open", "RS", given(columns)),
         Opener::Target(link, target) => with("open", link.name(), Some(target)),
         Opener::Syntax(name) => with("open", "SY", Some(name)),
+        Opener::Block(opener) => show_block_opener(opener),
     }
 }
 
@@ -106,6 +140,8 @@ fn show_closer<'a>(closer: Closer<&'a [u8]>) -> Shown<'a> {
         Closer::RelativeMargin(number) => with("close", "RE", given(number)),
         Closer::Target(link, suffix) => with("close", link.closer_name(), suffix),
         Closer::Syntax => alone("close", "YS"),
+        Closer::Enclosures => alone("close", "enclosures"),
+        Closer::Block(closer) => show_block_closer(closer),
     }
 }
 
@@ -116,6 +152,15 @@ fn show_request<'a>(request: Request<&'a [u8]>) -> Shown<'a> {
         Request::Font(name) => with("request", "ft", given(name)),
         Request::Shift(columns) => with("request", "in", given(columns)),
         Request::Literal(begins) => alone("request", if begins { "nf" } else { "fi" }),
+    }
+}
+
+fn show_step<'a>(step: LineStep<&'a [u8]>) -> Shown<'a> {
+    match step {
+        LineStep::Glue => alone("glue", ""),
+        LineStep::BodyParagraph(name) => alone("paragraph", name.name()),
+        LineStep::Uri(uri) => with("uri", "", Some(uri)),
+        LineStep::ManualName => alone("manual", ""),
     }
 }
 
@@ -130,6 +175,7 @@ fn show_leaf<'a>(leaf: Leaf<&'a [u8]>) -> Shown<'a> {
         Leaf::Distance(rows) => with("distance", "PD", given(rows)),
         Leaf::Fonts(font) => alone("fonts", font_name(font)),
         Leaf::FurtherTag => alone("tag", "TQ"),
+        Leaf::Step(step) => show_step(step),
     }
 }
 

@@ -1,7 +1,8 @@
 -- The laws of macro sets, event by event: helpers of proofs.
-use Rattle.std.proofs.Common.{◌≡◌, ℕ, ◌+◌, ◌-◌, ◌≤◌, Bool, true, false, List, [], ◌∷◌, ◌++◌, length, drop, refl, arith, length-drop, Option, None, Some}
+use Rattle.std.proofs.Common.{◌≡◌, ℕ, ◌+◌, ◌-◌, ◌≤◌, ◌<◌, ◌==◌, Bool, true, false, List, [], ◌∷◌, ◌++◌, length, drop, refl, arith, length-drop, Option, None, Some}
 use Rattle.std.proofs.lemmas.List.Sums.{prefix_len-le-length}
 use Rattle.std.proofs.Math.Seq.{take-length}
+use Rattle.std.proofs.lemmas.Bool.Decides.{nat_tests}
 use Rattle.page_core_base.specs.LinesTaken.{Line}
 use Rattle.page_roff_forms.specs.declared.quotes.Argument.{Argument}
 use Rattle.page_roff_forms.specs.LineForms.{is_white}
@@ -13,7 +14,7 @@ use Rattle.page_sets_lines.specs.declared.plain_lines.PlainLine.TheVariants as l
 use Rattle.page_roff_requests.specs.declared.requests.LayoutRequest.{LayoutRequest}
 use Rattle.page_roff_requests.specs.declared.requests.LayoutRequest.TheVariants as layout
 use Rattle.page_sets_lines.specs.Laws.{IsSlice, IsPart, IsArgument, IsPartIfGiven, IsArgumentIfGiven, RequestsSlices, HasSlices, AreSlices, past, BeginsFrom, AreInOrder}
-use Rattle.page_sets_lines.specs.ControlLines.{before_name, name_end, name_of, arguments_after, first_of, second_of, text_of}
+use Rattle.page_sets_lines.specs.ControlLines.{before_name, name_end, name_of, is_nameless, arguments_after, first_of, second_of, text_of}
 use Rattle.page_sets_lines.specs.PlainLines.{plain_deed, request}
 use Rattle.page_sets_lines.proofs.ArgumentLaws.{ArgumentsFrom, all_after, cut_at}
 
@@ -136,3 +137,17 @@ line_order lines.Words text = omega arith
 line_order lines.Wordless text = tt
 line_order lines.Blank text = tt
 line_order lines.Raw text = tt
+
+-- ---- a line with a name
+
+start_bytes : (text : List ℕ) → 1 ≤ length text → 1 ≤ before_name text
+start_bytes [] h = absurd (omega arith)
+start_bytes (control ∷ bytes) h = omega arith
+
+pub named_bytes : (line : Line) → is_nameless line ≡ false → (2 ≤ name_end line) × (name_end line ≤ length line.text)
+named_bytes line h =
+    let n : (before_name line.text == name_end line) ≡ false = h in
+    let w = end_within line in
+    let some : before_name line.text < name_end line = grind (arith, nat_tests) in
+    let s = start_bytes line.text (omega (arith, w, some)) in
+    (omega (arith, s, some), w)

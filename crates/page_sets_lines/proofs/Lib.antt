@@ -1,3 +1,4 @@
 pub mod ArgumentLaws
 pub mod LawLemmas
+pub mod OrderLemmas
 pub mod QuoteLemmas

@@ -22,7 +22,7 @@ use Rattle.page_sets_lines.specs.Laws.{IsPart, IsArgument, IsArgumentIfGiven, Op
 use Rattle.page_sets_lines.specs.ControlLines.{before_name, name_end, name_of, is_nameless, arguments_after, first_of}
 use Rattle.page_sets_lines.specs.PlainLines.{line_end, plain_line, layout_request}
 use Rattle.page_sets_lines.proofs.ArgumentLaws.{ArgumentsFrom, all_after, earlier, few_after}
-use Rattle.page_sets_lines.proofs.LawLemmas.{nothing_part, rest_part, end_within, name_part, first_slice_after, first_text_after, second_text_after, request_slices, line_slices, AreSlices-append, HasNoWord, order_after, order_before, line_order}
+use Rattle.page_sets_lines.proofs.LawLemmas.{nothing_part, rest_part, end_within, name_part, first_slice_after, first_text_after, second_text_after, request_slices, line_slices, AreSlices-append, HasNoWord, order_after, order_before, line_order, named_bytes}
 use Rattle.page_sets_man.specs.declared.rows.Opens.{Opens}
 use Rattle.page_sets_man.specs.declared.rows.Opens.TheVariants as opens
 use Rattle.page_sets_man.specs.declared.rows.Closes.{Closes}
@@ -529,18 +529,6 @@ light_row name row e =
 light_weight : (row : Row) → is_light row ≡ true → weight row ≤ 4
 unfolding is_light
 light_weight row h = grind (arith, nat_tests)
-
-start_bytes : (text : List ℕ) → 1 ≤ length text → 1 ≤ before_name text
-start_bytes [] h = absurd (omega arith)
-start_bytes (control ∷ bytes) h = omega arith
-
-named_bytes : (line : Line) → is_nameless line ≡ false → (2 ≤ name_end line) × (name_end line ≤ length line.text)
-named_bytes line h =
-    let n : (before_name line.text == name_end line) ≡ false = h in
-    let w = end_within line in
-    let some : before_name line.text < name_end line = grind (arith, nat_tests) in
-    let s = start_bytes line.text (omega (arith, w, some)) in
-    (omega (arith, s, some), w)
 
 few_lone : (alone : Alone) (number column : ℕ) (name : List ℕ) (events : List (Event (List ℕ))) (n : ℕ) → 2 ≤ n → length events ≤ n
     → length (lone_events alone number column name events) ≤ n

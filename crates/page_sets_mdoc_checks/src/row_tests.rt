@@ -1,8 +1,9 @@
 //! The table of macros, row by row.
 
+use page_core_base::Font;
+use page_sets_lines::{BodyParagraphName, HeadingName, Marks, OneLineName, Prologue, Quotation};
 use page_sets_mdoc_rows::{
-    Block, Defaulted, Delimiter, HeadingName, Inline, LineMacro, Marks, OneLineName, Pair,
-    ParagraphName, PrologueName, Quotation, Sentence, System, WordFont, called, delimiter_of,
+    Block, Defaulted, Delimiter, Inline, LineMacro, Pair, Sentence, System, called, delimiter_of,
     is_parsed, line_macro,
 };
 use std::process::Abort;
@@ -33,22 +34,22 @@ fn check_uncalled(rt: &impl Abort, name: &str) {
 #[test]
 fn words_in_a_font(rt: HostRuntime) {
     for (name, want) in [
-        ("Cm", Inline::Words(WordFont::Bold)),
-        ("Ic", Inline::Words(WordFont::Bold)),
-        ("Ms", Inline::Words(WordFont::Bold)),
-        ("Sy", Inline::Words(WordFont::Bold)),
-        ("Ad", Inline::Words(WordFont::Italic)),
-        ("Em", Inline::Words(WordFont::Italic)),
-        ("Mt", Inline::Words(WordFont::Italic)),
-        ("Sx", Inline::Words(WordFont::Italic)),
-        ("Va", Inline::Words(WordFont::Italic)),
-        ("At", Inline::Words(WordFont::Roman)),
-        ("Dv", Inline::Words(WordFont::Roman)),
-        ("Er", Inline::Words(WordFont::Roman)),
-        ("Ev", Inline::Words(WordFont::Roman)),
-        ("Li", Inline::Words(WordFont::Roman)),
-        ("No", Inline::Words(WordFont::Roman)),
-        ("Tn", Inline::Words(WordFont::Roman)),
+        ("Cm", Inline::Words(Font::B)),
+        ("Ic", Inline::Words(Font::B)),
+        ("Ms", Inline::Words(Font::B)),
+        ("Sy", Inline::Words(Font::B)),
+        ("Ad", Inline::Words(Font::I)),
+        ("Em", Inline::Words(Font::I)),
+        ("Mt", Inline::Words(Font::I)),
+        ("Sx", Inline::Words(Font::I)),
+        ("Va", Inline::Words(Font::I)),
+        ("At", Inline::Words(Font::R)),
+        ("Dv", Inline::Words(Font::R)),
+        ("Er", Inline::Words(Font::R)),
+        ("Ev", Inline::Words(Font::R)),
+        ("Li", Inline::Words(Font::R)),
+        ("No", Inline::Words(Font::R)),
+        ("Tn", Inline::Words(Font::R)),
     ] {
         check_called(&rt, name, want);
     }
@@ -126,16 +127,16 @@ fn enclosures_over_lines(rt: HostRuntime) {
 fn macros_that_begin_a_line(rt: HostRuntime) {
     for (name, want) in [
         ("Fd", LineMacro::Inline(Inline::Declaration)),
-        ("Lb", LineMacro::Inline(Inline::Words(WordFont::Roman))),
-        ("St", LineMacro::Inline(Inline::Words(WordFont::Roman))),
+        ("Lb", LineMacro::Inline(Inline::Words(Font::R))),
+        ("St", LineMacro::Inline(Inline::Words(Font::R))),
         ("Op", LineMacro::Inline(Inline::Enclosure(Marks::Square))),
-        ("Dd", LineMacro::Prologue(PrologueName::Dd)),
-        ("Dt", LineMacro::Prologue(PrologueName::Dt)),
-        ("Os", LineMacro::Prologue(PrologueName::Os)),
+        ("Dd", LineMacro::Prologue(Prologue::Dd)),
+        ("Dt", LineMacro::Prologue(Prologue::Dt)),
+        ("Os", LineMacro::Prologue(Prologue::Os)),
         ("Sh", LineMacro::Heading(HeadingName::Sh)),
         ("Ss", LineMacro::Heading(HeadingName::Ss)),
-        ("Pp", LineMacro::Paragraph(ParagraphName::Pp)),
-        ("Lp", LineMacro::Paragraph(ParagraphName::Lp)),
+        ("Pp", LineMacro::Paragraph(BodyParagraphName::Pp)),
+        ("Lp", LineMacro::Paragraph(BodyParagraphName::Lp)),
         ("Nd", LineMacro::Description),
         ("D1", LineMacro::OneLine(OneLineName::D1)),
         ("Dl", LineMacro::OneLine(OneLineName::Dl)),
@@ -155,20 +156,20 @@ fn macros_that_begin_a_line(rt: HostRuntime) {
         ("In", LineMacro::Include),
         ("Sm", LineMacro::Spacing),
         ("Tg", LineMacro::Target),
-        ("%A", LineMacro::Field(WordFont::Roman)),
-        ("%B", LineMacro::Field(WordFont::Italic)),
-        ("%C", LineMacro::Field(WordFont::Roman)),
-        ("%D", LineMacro::Field(WordFont::Roman)),
-        ("%I", LineMacro::Field(WordFont::Roman)),
-        ("%J", LineMacro::Field(WordFont::Italic)),
-        ("%N", LineMacro::Field(WordFont::Roman)),
-        ("%O", LineMacro::Field(WordFont::Roman)),
-        ("%P", LineMacro::Field(WordFont::Roman)),
-        ("%Q", LineMacro::Field(WordFont::Roman)),
-        ("%R", LineMacro::Field(WordFont::Roman)),
-        ("%T", LineMacro::Field(WordFont::Italic)),
-        ("%U", LineMacro::Field(WordFont::Roman)),
-        ("%V", LineMacro::Field(WordFont::Roman)),
+        ("%A", LineMacro::Field(Font::R)),
+        ("%B", LineMacro::Field(Font::I)),
+        ("%C", LineMacro::Field(Font::R)),
+        ("%D", LineMacro::Field(Font::R)),
+        ("%I", LineMacro::Field(Font::R)),
+        ("%J", LineMacro::Field(Font::I)),
+        ("%N", LineMacro::Field(Font::R)),
+        ("%O", LineMacro::Field(Font::R)),
+        ("%P", LineMacro::Field(Font::R)),
+        ("%Q", LineMacro::Field(Font::R)),
+        ("%R", LineMacro::Field(Font::R)),
+        ("%T", LineMacro::Field(Font::I)),
+        ("%U", LineMacro::Field(Font::R)),
+        ("%V", LineMacro::Field(Font::R)),
     ] {
         check_line(&rt, name, want);
     }

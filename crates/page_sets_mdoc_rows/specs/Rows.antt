@@ -4,17 +4,17 @@ use Rattle.std.specs.Prelude.{ℕ, Bool, true, false, List, [], ◌∷◌, Optio
 use Rattle.page_sets_mdoc_rows.specs.declared.macros.Inline.{Inline}
 use Rattle.page_sets_mdoc_rows.specs.declared.macros.Inline.TheVariants.{Words, Author, Declaration, TypeName, Arguments, Name, Flag, Reference, Function, Bsd, Link, NoSpace, Apostrophe, NextColumn, Prefix, Enclosure, Opens, Closes}
 use Rattle.page_sets_mdoc_rows.specs.declared.macros.Inline.TheVariants as inlines
-use Rattle.page_sets_mdoc_rows.specs.declared.macros.WordFont.TheVariants.{Roman, Bold, Italic}
+use Rattle.page_core_base.specs.declared.cells.Font.TheVariants.{R, B, I}
 use Rattle.page_sets_mdoc_rows.specs.declared.macros.Defaulted.TheVariants.{Files, Home}
 use Rattle.page_sets_mdoc_rows.specs.declared.macros.System.TheVariants.{BsdOs, DragonFly, FreeBsd, NetBsd, OpenBsd, Unix}
-use Rattle.page_sets_mdoc_rows.specs.declared.macros.Marks.TheVariants.{Angle, Square, Curly, Round, Double, Single, Straight}
-use Rattle.page_sets_mdoc_rows.specs.declared.macros.Quotation.TheVariants.{Ao, Bo, Bro, Do, Oo, Po, Qo, So}
+use Rattle.page_sets_lines.specs.declared.marks.Marks.TheVariants.{Angle, Square, Curly, Round, Double, Single, Straight}
+use Rattle.page_sets_lines.specs.declared.marks.Quotation.TheVariants.{Ao, Bo, Bro, Do, Oo, Po, Qo, So}
 use Rattle.page_sets_mdoc_rows.specs.declared.macros.Pair.{Pair}
 use Rattle.page_sets_mdoc_rows.specs.declared.macros.Pair.TheVariants as pairs
-use Rattle.page_sets_mdoc_rows.specs.declared.blocks.PrologueName.TheVariants.{Dd, Dt, Os}
-use Rattle.page_sets_mdoc_rows.specs.declared.blocks.HeadingName.TheVariants.{Sh, Ss}
-use Rattle.page_sets_mdoc_rows.specs.declared.blocks.ParagraphName.TheVariants.{Pp, Lp}
-use Rattle.page_sets_mdoc_rows.specs.declared.blocks.OneLineName.TheVariants.{D1, Dl}
+use Rattle.page_sets_lines.specs.declared.macro_names.Prologue.TheVariants.{Dd, Dt, Os}
+use Rattle.page_sets_lines.specs.declared.macro_names.HeadingName.TheVariants.{Sh, Ss}
+use Rattle.page_sets_lines.specs.declared.macro_names.BodyParagraphName.TheVariants.{Pp, Lp}
+use Rattle.page_sets_lines.specs.declared.macro_names.OneLineName.TheVariants.{D1, Dl}
 use Rattle.page_sets_mdoc_rows.specs.declared.blocks.Block.TheVariants as blocks
 use Rattle.page_sets_mdoc_rows.specs.declared.blocks.Sentence.TheVariants.{Exit, Return}
 use Rattle.page_sets_mdoc_rows.specs.declared.blocks.LineMacro.{LineMacro}
@@ -47,24 +47,24 @@ plain begins = record { begins = begins; is_parsed = false }
 
 abbrev pub words_rows : List (List ℕ × InlineRow)
 words_rows =
-    (codes "Cm", callable (Words Bold))
-    ∷ (codes "Ic", callable (Words Bold))
-    ∷ (codes "Ms", callable (Words Bold))
-    ∷ (codes "Sy", callable (Words Bold))
-    ∷ (codes "Ad", callable (Words Italic))
-    ∷ (codes "Em", callable (Words Italic))
-    ∷ (codes "Mt", callable (Words Italic))
-    ∷ (codes "Sx", callable (Words Italic))
-    ∷ (codes "Va", callable (Words Italic))
-    ∷ (codes "At", callable (Words Roman))
-    ∷ (codes "Dv", callable (Words Roman))
-    ∷ (codes "Er", callable (Words Roman))
-    ∷ (codes "Ev", callable (Words Roman))
-    ∷ (codes "Li", callable (Words Roman))
-    ∷ (codes "No", callable (Words Roman))
-    ∷ (codes "Tn", callable (Words Roman))
-    ∷ (codes "St", parsed (Words Roman))
-    ∷ (codes "Lb", unparsed (Words Roman))
+    (codes "Cm", callable (Words B))
+    ∷ (codes "Ic", callable (Words B))
+    ∷ (codes "Ms", callable (Words B))
+    ∷ (codes "Sy", callable (Words B))
+    ∷ (codes "Ad", callable (Words I))
+    ∷ (codes "Em", callable (Words I))
+    ∷ (codes "Mt", callable (Words I))
+    ∷ (codes "Sx", callable (Words I))
+    ∷ (codes "Va", callable (Words I))
+    ∷ (codes "At", callable (Words R))
+    ∷ (codes "Dv", callable (Words R))
+    ∷ (codes "Er", callable (Words R))
+    ∷ (codes "Ev", callable (Words R))
+    ∷ (codes "Li", callable (Words R))
+    ∷ (codes "No", callable (Words R))
+    ∷ (codes "Tn", callable (Words R))
+    ∷ (codes "St", parsed (Words R))
+    ∷ (codes "Lb", unparsed (Words R))
     ∷ []
 
 abbrev pub text_rows : List (List ℕ × InlineRow)
@@ -161,20 +161,20 @@ block_rows =
 
 abbrev pub leaf_rows : List (List ℕ × BlockRow)
 leaf_rows =
-    (codes "%A", plain (Field Roman))
-    ∷ (codes "%C", plain (Field Roman))
-    ∷ (codes "%D", plain (Field Roman))
-    ∷ (codes "%I", plain (Field Roman))
-    ∷ (codes "%N", plain (Field Roman))
-    ∷ (codes "%O", plain (Field Roman))
-    ∷ (codes "%P", plain (Field Roman))
-    ∷ (codes "%Q", plain (Field Roman))
-    ∷ (codes "%R", plain (Field Roman))
-    ∷ (codes "%U", plain (Field Roman))
-    ∷ (codes "%V", plain (Field Roman))
-    ∷ (codes "%B", plain (Field Italic))
-    ∷ (codes "%J", plain (Field Italic))
-    ∷ (codes "%T", plain (Field Italic))
+    (codes "%A", plain (Field R))
+    ∷ (codes "%C", plain (Field R))
+    ∷ (codes "%D", plain (Field R))
+    ∷ (codes "%I", plain (Field R))
+    ∷ (codes "%N", plain (Field R))
+    ∷ (codes "%O", plain (Field R))
+    ∷ (codes "%P", plain (Field R))
+    ∷ (codes "%Q", plain (Field R))
+    ∷ (codes "%R", plain (Field R))
+    ∷ (codes "%U", plain (Field R))
+    ∷ (codes "%V", plain (Field R))
+    ∷ (codes "%B", plain (Field I))
+    ∷ (codes "%J", plain (Field I))
+    ∷ (codes "%T", plain (Field I))
     ∷ (codes "Ex", plain (lines.Sentence Exit))
     ∷ (codes "Rv", plain (lines.Sentence Return))
     ∷ (codes "In", plain Include)
@@ -230,6 +230,13 @@ if_callable Unparsed inline = None
 abbrev pub called_of : Option InlineRow → Option Inline
 called_of None = None
 called_of (Some row) = if_callable row.calls row.inline
+
+-- macros whose events are still to come: the next column of a list, a function with its arguments over lines
+abbrev pub is_word_to_come : Inline → Bool
+is_word_to_come NextColumn = true
+is_word_to_come (Opens pairs.Function) = true
+is_word_to_come (Closes pairs.Function) = true
+is_word_to_come _ = false
 
 -- what a word of a line calls that is this name
 abbrev pub called : List ℕ → Option Inline

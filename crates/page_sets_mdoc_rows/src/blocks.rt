@@ -1,44 +1,8 @@
 //! What a macro that begins a line does (mdoc(7), "MACRO REFERENCE").
 
-use crate::macros::{Inline, WordFont};
-
-/// What tells a field of header and footer.
-#[derive(Clone, Copy, PartialEq, Eq)]
-pub enum PrologueName {
-    /// `Dd`: the date.
-    Dd,
-    /// `Dt`: title, section and architecture.
-    Dt,
-    /// `Os`: the system.
-    Os,
-}
-
-/// The heading of a section or subsection.
-#[derive(Clone, Copy, PartialEq, Eq)]
-pub enum HeadingName {
-    /// `Sh`.
-    Sh,
-    /// `Ss`.
-    Ss,
-}
-
-/// A paragraph.
-#[derive(Clone, Copy, PartialEq, Eq)]
-pub enum ParagraphName {
-    /// `Pp`.
-    Pp,
-    /// `Lp`.
-    Lp,
-}
-
-/// A row that stands alone.
-#[derive(Clone, Copy, PartialEq, Eq)]
-pub enum OneLineName {
-    /// `D1`.
-    D1,
-    /// `Dl`.
-    Dl,
-}
+use crate::macros::Inline;
+use page_core_base::Font;
+use page_sets_lines::{BodyParagraphName, HeadingName, OneLineName, Prologue};
 
 /// A block of lines between two macros.
 #[derive(Clone, Copy, PartialEq, Eq)]
@@ -70,11 +34,11 @@ pub enum LineMacro {
     /// What it also does among the words of a line; `Fd Lb St` only begin one.
     Inline(Inline),
     /// `Dd Dt Os`.
-    Prologue(PrologueName),
+    Prologue(Prologue),
     /// `Sh Ss`.
     Heading(HeadingName),
     /// `Pp Lp`.
-    Paragraph(ParagraphName),
+    Paragraph(BodyParagraphName),
     /// `Nd`: what the manual is about.
     Description,
     /// `D1 Dl`.
@@ -86,7 +50,7 @@ pub enum LineMacro {
     /// `It`: an item of a list.
     Item,
     /// A field of a reference: italic `%B %J %T`, roman `%A %C %D %I %N %O %P %Q %R %U %V`.
-    Field(WordFont),
+    Field(Font),
     /// `Ex Rv`.
     Sentence(Sentence),
     /// `In`: a file of declarations.

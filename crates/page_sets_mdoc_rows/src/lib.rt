@@ -7,9 +7,7 @@ mod delimiters;
 mod macros;
 mod rows;
 
-pub use blocks::{
-    Block, HeadingName, LineMacro, OneLineName, ParagraphName, PrologueName, Sentence,
-};
+pub use blocks::{Block, LineMacro, Sentence};
 pub use delimiters::{Delimiter, delimiter_of};
-pub use macros::{Defaulted, Inline, Marks, Pair, Quotation, System, WordFont};
-pub use rows::{called, is_parsed, line_macro};
+pub use macros::{Defaulted, Inline, Pair, System};
+pub use rows::{called, is_parsed, is_word_to_come, line_macro};

@@ -1,12 +1,7 @@
 //! What a macro among the words of a line does (mdoc(7), "MACRO REFERENCE"). Most of these can be called by a word.
 
-/// The font of a macro's words.
-#[derive(Clone, Copy, PartialEq, Eq)]
-pub enum WordFont {
-    Roman,
-    Bold,
-    Italic,
-}
+use page_core_base::Font;
+use page_sets_lines::{Marks, Quotation};
 
 /// What a macro prints where it has no words.
 #[derive(Clone, Copy, PartialEq, Eq)]
@@ -34,46 +29,6 @@ pub enum System {
     Unix,
 }
 
-/// The marks around the words of an enclosure.
-#[derive(Clone, Copy, PartialEq, Eq)]
-pub enum Marks {
-    /// `Aq`: `<` and `>`.
-    Angle,
-    /// `Bq` and `Op`: `[` and `]`.
-    Square,
-    /// `Brq`: `{` and `}`.
-    Curly,
-    /// `Pq`: `(` and `)`.
-    Round,
-    /// `Dq`: double quotation marks.
-    Double,
-    /// `Sq` and `Ql`: single quotation marks.
-    Single,
-    /// `Qq`: straight quotation marks.
-    Straight,
-}
-
-/// An enclosure that one macro begins and another ends; its name is that of the first.
-#[derive(Clone, Copy, PartialEq, Eq)]
-pub enum Quotation {
-    /// `Ao` and `Ac`: `<` and `>`.
-    Ao,
-    /// `Bo` and `Bc`: `[` and `]`.
-    Bo,
-    /// `Bro` and `Brc`: `{` and `}`.
-    Bro,
-    /// `Do` and `Dc`: double quotation marks.
-    Do,
-    /// `Oo` and `Oc`: `[` and `]`.
-    Oo,
-    /// `Po` and `Pc`: `(` and `)`.
-    Po,
-    /// `Qo` and `Qc`: straight quotation marks.
-    Qo,
-    /// `So` and `Sc`: single quotation marks.
-    So,
-}
-
 /// Two macros, of which the one begins a scope and the other ends it.
 #[derive(Clone, Copy, PartialEq, Eq)]
 pub enum Pair {
@@ -92,7 +47,7 @@ pub enum Pair {
 #[derive(Clone, Copy, PartialEq, Eq)]
 pub enum Inline {
     /// Prints its words in a font: bold `Cm Ic Ms Sy`, italic `Ad Em Mt Sx Va`, roman `At Dv Er Ev Lb Li No St Tn`.
-    Words(WordFont),
+    Words(Font),
     /// `An`: an author, or how authors are parted.
     Author,
     /// `Cd` and `Fd`: a declaration, on rows of its own in the SYNOPSIS.

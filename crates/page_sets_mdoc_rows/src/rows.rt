@@ -4,10 +4,10 @@
 ghost use Rattle.std.specs.Prelude.{◌≡◌};
 ghost use Rattle.page_sets_mdoc_rows.specs.Rows as rows;
 
-use crate::blocks::{
-    Block, HeadingName, LineMacro, OneLineName, ParagraphName, PrologueName, Sentence,
-};
-use crate::macros::{Defaulted, Inline, Marks, Pair, Quotation, System, WordFont};
+use crate::blocks::{Block, LineMacro, Sentence};
+use crate::macros::{Defaulted, Inline, Pair, System};
+use page_core_base::Font;
+use page_sets_lines::{BodyParagraphName, HeadingName, Marks, OneLineName, Prologue, Quotation};
 
 /// How a macro stands to those that words of a line call.
 #[derive(Clone, Copy)]
@@ -90,13 +90,13 @@ fn words_row(name: &[u8]) -> Option<InlineRow>
     ensures { result ≡ rows.words_row name.now }
 {
     match name {
-        b"Cm" | b"Ic" | b"Ms" | b"Sy" => Some(callable(Inline::Words(WordFont::Bold))),
-        b"Ad" | b"Em" | b"Mt" | b"Sx" | b"Va" => Some(callable(Inline::Words(WordFont::Italic))),
+        b"Cm" | b"Ic" | b"Ms" | b"Sy" => Some(callable(Inline::Words(Font::B))),
+        b"Ad" | b"Em" | b"Mt" | b"Sx" | b"Va" => Some(callable(Inline::Words(Font::I))),
         b"At" | b"Dv" | b"Er" | b"Ev" | b"Li" | b"No" | b"Tn" => Some(callable(Inline::Words(
-            WordFont::Roman,
+            Font::R,
         ))),
-        b"St" => Some(parsed(Inline::Words(WordFont::Roman))),
-        b"Lb" => Some(unparsed(Inline::Words(WordFont::Roman))),
+        b"St" => Some(parsed(Inline::Words(Font::R))),
+        b"Lb" => Some(unparsed(Inline::Words(Font::R))),
         _ => None,
     }
 }
@@ -189,13 +189,13 @@ fn block_row(name: &[u8]) -> Option<BlockRow>
     ensures { result ≡ rows.block_row name.now }
 {
     match name {
-        b"Dd" => Some(plain(LineMacro::Prologue(PrologueName::Dd))),
-        b"Dt" => Some(plain(LineMacro::Prologue(PrologueName::Dt))),
-        b"Os" => Some(plain(LineMacro::Prologue(PrologueName::Os))),
+        b"Dd" => Some(plain(LineMacro::Prologue(Prologue::Dd))),
+        b"Dt" => Some(plain(LineMacro::Prologue(Prologue::Dt))),
+        b"Os" => Some(plain(LineMacro::Prologue(Prologue::Os))),
         b"Sh" => Some(calling(LineMacro::Heading(HeadingName::Sh))),
         b"Ss" => Some(calling(LineMacro::Heading(HeadingName::Ss))),
-        b"Pp" => Some(plain(LineMacro::Paragraph(ParagraphName::Pp))),
-        b"Lp" => Some(plain(LineMacro::Paragraph(ParagraphName::Lp))),
+        b"Pp" => Some(plain(LineMacro::Paragraph(BodyParagraphName::Pp))),
+        b"Lp" => Some(plain(LineMacro::Paragraph(BodyParagraphName::Lp))),
         b"Nd" => Some(plain(LineMacro::Description)),
         b"D1" => Some(calling(LineMacro::OneLine(OneLineName::D1))),
         b"Dl" => Some(calling(LineMacro::OneLine(OneLineName::Dl))),
@@ -221,8 +221,8 @@ fn leaf_row(name: &[u8]) -> Option<BlockRow>
 {
     match name {
         b"%A" | b"%C" | b"%D" | b"%I" | b"%N" | b"%O" | b"%P" | b"%Q" | b"%R" | b"%U" | b"%V" =>
-            Some(plain(LineMacro::Field(WordFont::Roman))),
-        b"%B" | b"%J" | b"%T" => Some(plain(LineMacro::Field(WordFont::Italic))),
+            Some(plain(LineMacro::Field(Font::R))),
+        b"%B" | b"%J" | b"%T" => Some(plain(LineMacro::Field(Font::I))),
         b"Ex" => Some(plain(LineMacro::Sentence(Sentence::Exit))),
         b"Rv" => Some(plain(LineMacro::Sentence(Sentence::Return))),
         b"In" => Some(plain(LineMacro::Include)),
@@ -267,6 +267,17 @@ pub fn line_macro(name: &[u8]) -> Option<LineMacro>
     }
     let row = other_row(name)?;
     Some(row.begins)
+}
+
+/// Whether the events of a macro that can stand among words are still to come: `Ta`, `Fo` and `Fc`. No word calls it
+/// until then.
+pub fn is_word_to_come(inline: Inline) -> bool
+    ensures { result ≡ rows.is_word_to_come inline }
+{
+    matches!(
+        inline,
+        Inline::NextColumn | Inline::Opens(Pair::Function) | Inline::Closes(Pair::Function)
+    )
 }
 
 /// What a word of a line calls, if it names a macro that words can call ("Callable").

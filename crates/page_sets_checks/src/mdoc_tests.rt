@@ -1,0 +1,264 @@
+//! The events of lines in the set of mdoc(7), macro by macro.
+
+ghost use Rattle.std.specs.Prelude.{◌≤◌, length};
+
+use crate::spelling::spelled;
+use arrayvec::ArrayVec;
+use page_core_base::{Form, Taken};
+use page_core_limits::LINE;
+use page_roff_forms::{LineForm, form_of};
+use page_sets::{MacroSet, Mdoc};
+use std::process::Abort;
+
+// The bytes up to the end of the name of a raw control line.
+fn name_end(rt: &impl Abort, text: &str) -> u32 {
+    assert!(rt; text.len() < 100);
+    match form_of(text.as_bytes()) {
+        LineForm::Control { rest_column, .. } => rest_column.saturating_sub(1),
+        LineForm::Comment | LineForm::BlankLine | LineForm::Text(_) => 0,
+    }
+}
+
+// Checks control lines whose raw text is their finished text: each with its events but the last, which fills line scopes.
+fn check_lines(rt: &impl Abort, rows: &[(&str, &str)]) {
+    for (text, want) in rows {
+        assert!(rt; text.len() < 100);
+        let line = Taken {
+            form: Form::Control,
+            text: text.as_bytes(),
+            line: 7,
+            name_end: name_end(rt, text),
+        };
+        assert_eq!(rt;
+            spelled(&Mdoc, line).as_slice(),
+            want.as_bytes(),
+            "of {text}"
+        );
+    }
+}
+
+#[test]
+fn blocks(rt: HostRuntime) {
+    check_lines(
+        &rt,
+        &[
+            (".Dd July 4, 2024", "2 title Dd  July 4, 2024; 1 filled"),
+            (".Dt X 1", "2 title Dt  X 1; 1 filled"),
+            (".Os", "2 title Os ; 1 filled"),
+            (".Os \"x", "5 note quote; 2 title Os  \"x; 1 filled"),
+            (".Pp", "2 paragraph Pp; 1 filled"),
+            (".Lp x", "2 paragraph Lp; 1 filled"),
+            (".Pp \"x", "5 note quote; 2 paragraph Pp; 1 filled"),
+            (".Tg x", "1 filled"),
+            (".Tg \"x", "5 note quote; 1 filled"),
+            (".br", "2 request br; 1 filled"),
+            (".sp 2 3", "2 request sp 2; 1 filled"),
+            (".nf \"x", "5 note quote; 2 request nf; 1 filled"),
+            (".", "1 filled"),
+            (".ZZ a", "2 note unknown ZZ; 1 filled"),
+            (".SH X", "2 note unknown SH; 1 filled"),
+            (".Bt", "2 note unknown Bt; 1 filled"),
+            (".Bl -tag", "2 note unknown Bl; 1 filled"),
+            (".It \"x", "2 note unknown It; 1 filled"),
+            (".Fo f", "2 note unknown Fo; 1 filled"),
+            (".Ta", "2 note unknown Ta; 1 filled"),
+            (".%T x", "2 note unknown %T; 1 filled"),
+        ],
+    );
+    assert!(rt; Mdoc.indent() == 5);
+}
+
+#[test]
+fn phrases(rt: HostRuntime) {
+    check_lines(
+        &rt,
+        &[
+            (".Sh", "2 note empty Sh; 1 filled"),
+            (".Sh NAME", "2 open SH; 2 scope Sh; 5 word NAME; 1 filled"),
+            (
+                ".Ss A b .",
+                "2 open SS; 2 scope Ss; 5 word A; 7 word b; 9 close enclosures; 9 +delimiter R .; 1 filled",
+            ),
+            (
+                ".Sh ( Fl a",
+                "2 open SH; 2 scope Sh; 5 delimiter+ R (; 10 mark+ B -; 10 word B a; 1 filled",
+            ),
+            (
+                ".Sh \"Fl\"",
+                "2 open SH; 2 scope Sh; 6 word \"Fl\"; 1 filled",
+            ),
+            (
+                ".Sh .",
+                "2 open SH; 2 scope Sh; 5 close enclosures; 5 +delimiter R .; 1 filled",
+            ),
+            (".Nd", "2 note empty Nd; 1 filled"),
+            (
+                ".Nd a Fl b .",
+                "2 scope Nd; 5 word a; 7 word Fl; 10 word b; 12 close enclosures; 12 +delimiter R .; 1 filled",
+            ),
+            (".D1 a", "2 scope D1; 5 word a; 1 filled"),
+            (".Dl", "2 note empty Dl; 1 filled"),
+            (".Dl Fl x", "2 scope Dl; 8 mark+ B -; 8 word B x; 1 filled"),
+            (".Lb Fl x", "5 word R Fl; 8 word R x; 1 filled"),
+            (
+                ".Fd Em .",
+                "5 word B Em; 8 close enclosures; 8 +delimiter R .; 1 filled",
+            ),
+        ],
+    );
+}
+
+#[test]
+fn words(rt: HostRuntime) {
+    check_lines(
+        &rt,
+        &[
+            (".Em a b", "5 word I a; 7 word I b; 1 filled"),
+            (".Em", "2 note empty Em; 1 filled"),
+            (
+                ".Em .",
+                "2 note empty Em; 5 close enclosures; 5 +delimiter R .; 1 filled",
+            ),
+            (
+                ".Em ( a ) .",
+                "5 delimiter+ R (; 7 word I a; 9 close enclosures; 9 +delimiter R ); 11 +delimiter R .; 1 filled",
+            ),
+            (
+                ".Em a , b",
+                "5 word I a; 7 +delimiter R ,; 9 word I b; 1 filled",
+            ),
+            (".Em \".\"", "6 word I \".\"; 1 filled"),
+            (".Em | a", "5 delimiter R |; 7 word I a; 1 filled"),
+            (
+                ".Sy a Em b Ar",
+                "5 word B a; 10 word I b; 12 mark I file ...; 1 filled",
+            ),
+            (".Em Ta Fo", "5 word I Ta; 8 word I Fo; 1 filled"),
+            (".Fl", "2 mark B -; 1 filled"),
+            (
+                ".Fl a b",
+                "5 mark+ B -; 5 word B a; 7 mark+ B -; 7 word B b; 1 filled",
+            ),
+            (
+                ".Fl , a",
+                "5 +delimiter R ,; 7 mark+ B -; 7 word B a; 1 filled",
+            ),
+            (".Fl Ar x", "2 mark+ B -; 8 word I x; 1 filled"),
+            (
+                ".Fl ( Ar x",
+                "5 delimiter+ R (; 2 mark+ B -; 10 word I x; 1 filled",
+            ),
+            (".Fl |", "2 mark B -; 5 delimiter R |; 1 filled"),
+            (".Fl \"a b", "6 mark+ B -; 6 word B \"a b; 1 filled"),
+            (".Op Fl a", "2 scope Bq; 8 mark+ B -; 8 word B a; 1 filled"),
+            (
+                ".Op Fl a .",
+                "2 scope Bq; 8 mark+ B -; 8 word B a; 10 close enclosures; 10 +delimiter R .; 1 filled",
+            ),
+            (
+                ".Op \"Fl\" a",
+                "2 scope Bq; 6 word \"Fl\"; 10 word a; 1 filled",
+            ),
+            (".Op Pf .", "2 scope Bq; 8 word+ .; 1 filled"),
+            (
+                ".Pf . ,",
+                "5 word+ .; 7 close enclosures; 7 +delimiter R ,; 1 filled",
+            ),
+            (".Pf", "2 note empty Pf; 1 filled"),
+            (".Ns", "2 glue; 1 filled"),
+            (".Em a Ns Em b", "5 word I a; 7 glue; 13 word I b; 1 filled"),
+            (".Ap s", "2 +mark+ '; 5 word s; 1 filled"),
+            (".Nm x y", "5 name B x; 7 word B y; 1 filled"),
+            (".Nm", "2 manual; 1 filled"),
+            (
+                ".Nm .",
+                "2 manual; 5 close enclosures; 5 +delimiter R .; 1 filled",
+            ),
+            (".Nm ( x", "5 delimiter+ R (; 7 name B x; 1 filled"),
+            (".Nm (", "5 delimiter+ R (; 2 manual; 1 filled"),
+            (".An a", "5 word R a; 1 filled"),
+            (".An -split", "1 filled"),
+            (
+                ".An -split Xr a 1",
+                "15 word a; 17 +mark+ (; 17 word 1; 17 +mark ); 1 filled",
+            ),
+        ],
+    );
+}
+
+#[test]
+fn references_and_blocks_of_words(rt: HostRuntime) {
+    check_lines(
+        &rt,
+        &[
+            (
+                ".Xr a 1 b",
+                "5 word a; 7 +mark+ (; 7 word 1; 7 +mark ); 9 word b; 1 filled",
+            ),
+            (
+                ".Fn f a b ,",
+                "5 word B f; 2 +mark+ (; 7 word I a; 2 +mark ,; 9 word I b; 2 +mark ); 11 close enclosures; 11 +delimiter R ,; 1 filled",
+            ),
+            (
+                ".Fn f a , Xr b 1",
+                "5 word B f; 2 +mark+ (; 7 word I a; 2 +mark ); 9 +delimiter R ,; 14 word b; 16 +mark+ (; 16 word 1; 16 +mark ); 1 filled",
+            ),
+            (".Fn f", "5 word B f; 2 +mark+ (; 2 +mark ); 1 filled"),
+            (".Ox 7", "2 mark OpenBSD; 5 word 7; 1 filled"),
+            (".Bx 4.3", "5 word 4.3; 2 +mark BSD; 1 filled"),
+            (".Bx", "2 mark BSD; 1 filled"),
+            (".Lk u t", "7 word I t; 2 +mark :; 2 uri u; 1 filled"),
+            (".Lk u", "2 uri u; 1 filled"),
+            (".Oo a", "2 open Oo; 5 word a; 1 filled"),
+            (
+                ".Oc b ,",
+                "2 close Oc; 5 word b; 7 close enclosures; 7 +delimiter R ,; 1 filled",
+            ),
+            (".Eo <", "2 open Eo <; 1 filled"),
+            (
+                ".Ec > .",
+                "2 close Ec >; 7 close enclosures; 7 +delimiter R .; 1 filled",
+            ),
+            (".Eo Em a", "2 open Eo; 8 word I a; 1 filled"),
+            (".Xo", "2 open Xo; 1 filled"),
+            (".Xc", "2 close Xc; 1 filled"),
+            (".Dq a", "2 scope Dq; 5 word a; 1 filled"),
+        ],
+    );
+}
+
+fn count_events(line: Taken<'_>) -> usize
+    requires { length line.text.now ≤ LINE }
+{
+    let mut place = Mdoc.start(line);
+    let mut count: usize = 0;
+    while let Some(_event) = Mdoc.next(line, &mut place) {
+        count = count.saturating_add(1);
+    }
+    count
+}
+
+// A line of the longest length: the same words over and over, after its first ones. Its time is in proportion to its length.
+#[test]
+fn longest_lines(rt: HostRuntime) {
+    for (first, again, count) in [
+        (".Op", " Op", 21_846),
+        (".Fl", " Fl", 21_846),
+        (".Em", " (", 32_768),
+        (".Em", " .", 32_769),
+    ] {
+        let mut text = ArrayVec::<u8, LINE>::new();
+        let _ = text.try_extend_from_slice(first.as_bytes());
+        for _turn in 0..LINE {
+            let _ = text.try_extend_from_slice(again.as_bytes());
+        }
+        assert!(rt; text.len() <= LINE);
+        let line = Taken {
+            form: Form::Control,
+            text: text.as_slice(),
+            line: 7,
+            name_end: 3,
+        };
+        assert_eq!(rt; count_events(line), count, "of {again}");
+    }
+}

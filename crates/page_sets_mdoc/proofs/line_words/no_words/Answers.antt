@@ -1,0 +1,19 @@
+use Rattle.std.proofs.Common.{sym, ap, subst, ◌∙◌, arith}
+use Rattle.page_core_base.specs.LinesTaken.{line_seen}
+use Rattle.page_roff_forms.specs.Arguments.{argument_seen}
+use Rattle.page_sets_mdoc_lines.specs.declared.extents.Extent.{Extent}
+use Rattle.page_sets_mdoc_lines.specs.Cursors.{IsCursorOf}
+use Rattle.page_sets_mdoc_lines.proofs.CursorLemmas.{few_left}
+use Rattle.page_sets_mdoc_words.specs.declared.steps.MacroWords.{MacroWords}
+use Rattle.page_sets_mdoc.proofs.LineWordLemmas.{nothing_stands, nothing_comes, all_stand, all_come, tail_comes, words_stand, begun_stands, name_short, call_comes}
+use Rattle.page_sets_mdoc.proofs.line_words.no_words.Goals as goal
+
+pub returns-clause-stands : goal.returns-clause-stands
+returns-clause-stands c =
+    let w = c.words_from.ensures in (
+      subst (λ (words : MacroWords). IsCursorOf c.args.line.text.now words.left.cursor) (sym w) c.at_end.ensures.stands,
+      nothing_stands (line_seen c.args.line) c.at_end.result c.words_from.result w c.at_end.ensures.start,
+    )
+
+pub returns-clause-events : goal.returns-clause-events
+returns-clause-events c = nothing_comes (line_seen c.args.line) c.at_end.result c.words_from.result c.words_from.ensures c.at_end.ensures.start

@@ -1,0 +1,4 @@
+pub mod Mdoc
+pub mod Plans
+pub mod RestLaws
+pub mod MdocLaws

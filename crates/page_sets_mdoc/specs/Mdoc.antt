@@ -1,0 +1,101 @@
+-- The events of a line. Source: mdoc(7), "MACRO SYNTAX" and "MACRO REFERENCE".
+use Rattle.std.specs.Prelude.{ℕ, Bool, true, false, ◌&&◌, not, List, [], ◌∷◌, ◌++◌, Option, None, Some, if◌then◌else◌}
+use Rattle.page_core_base.specs.declared.note_kinds.NoteKind.{NoteKind}
+use Rattle.page_core_base.specs.declared.note_kinds.NoteKind.TheVariants.{UnknownMacro, EmptyMacro}
+use Rattle.page_core_base.specs.LinesTaken.{Line}
+use Rattle.page_roff_forms.specs.declared.quotes.Argument.{Argument}
+use Rattle.page_roff_forms.specs.Arguments.{has_arguments}
+use Rattle.page_roff_requests.specs.declared.requests.LayoutRequest.{LayoutRequest}
+use Rattle.page_sets_lines.specs.declared.events.Deed.TheVariants as deeds
+use Rattle.page_sets_lines.specs.declared.events.Event.{Event}
+use Rattle.page_sets_lines.specs.declared.openers.Closer.TheVariants as closers
+use Rattle.page_sets_lines.specs.declared.plain_lines.PlainLine.{PlainLine}
+use Rattle.page_sets_lines.specs.ControlLines.{name_of, rest_of, is_nameless}
+use Rattle.page_sets_lines.specs.PlainLines.{event_at, line_end, plain_line, plain_events, layout_request}
+use Rattle.page_sets_mdoc_rows.specs.declared.macros.Inline.{Inline}
+use Rattle.page_sets_mdoc_rows.specs.declared.blocks.LineMacro.{LineMacro}
+use Rattle.page_sets_mdoc_rows.specs.declared.blocks.LineMacro.TheVariants as lines
+use Rattle.page_sets_mdoc_rows.specs.Rows.{line_macro, is_parsed}
+use Rattle.page_sets_mdoc_lines.specs.Parts.{Call, LineParts, parts, has_calls}
+use Rattle.page_sets_mdoc_words.specs.Printed.{printed}
+use Rattle.page_sets_mdoc_words.specs.Inlines.{inline_events}
+use Rattle.page_sets_mdoc_blocks.specs.Macros.{has_phrase, is_to_come}
+use Rattle.page_sets_mdoc_blocks.specs.Fronts.{name_column, line_arguments, refusal, request_front, block_front}
+
+-- ---- the words of a line, with the macros among them
+
+-- a macro that a word calls stands at that word
+abbrev pub call_events : ℕ → Call → Bool → List (Event (List ℕ))
+call_events number call follows = inline_events number call.name.column call.name.text call.inline call.taken call.words follows
+
+abbrev pub calls_events : ℕ → List Call → List (Event (List ℕ))
+calls_events number [] = []
+calls_events number (call ∷ calls) = call_events number call (has_calls calls) ++ calls_events number calls
+
+-- the closing delimiters at the line's end stand outside its enclosures
+abbrev pub tail_events : ℕ → List (Argument (List ℕ)) → List (Event (List ℕ))
+tail_events number [] = []
+tail_events number (first ∷ more) = event_at number first.column (deeds.Close closers.Enclosures) ∷ printed number None (first ∷ more)
+
+-- what comes after the words of the macro that begins the line
+abbrev pub rest_events : ℕ → LineParts → List (Event (List ℕ))
+rest_events number parts = calls_events number parts.calls ++ tail_events number parts.tail
+
+-- a macro that can stand among words, and begins the line
+abbrev pub head_events : Line → Inline → LineParts → List (Event (List ℕ))
+head_events line inline parts =
+    inline_events line.number (name_column line) (name_of line) inline parts.taken parts.words (has_calls parts.calls)
+    ++ rest_events line.number parts
+
+-- the words of any other macro, in the font around them
+abbrev pub phrase_events : ℕ → LineParts → List (Event (List ℕ))
+phrase_events number parts = printed number None parts.words ++ rest_events number parts
+
+abbrev pub line_parts : Option Inline → Line → LineParts
+line_parts begun line = parts begun (is_parsed (name_of line)) (line_arguments line)
+
+abbrev pub words_events : LineMacro → Line → List (Event (List ℕ))
+words_events (lines.Inline inline) line = head_events line inline (line_parts (Some inline) line)
+words_events (lines.Heading name) line = phrase_events line.number (line_parts None line)
+words_events lines.Description line = phrase_events line.number (line_parts None line)
+words_events (lines.OneLine name) line = phrase_events line.number (line_parts None line)
+words_events _ line = []
+
+-- ---- a line
+
+-- a message that names the macro, which does nothing else
+abbrev pub refused_events : NoteKind → Line → List (Event (List ℕ))
+refused_events kind line = refusal kind line ∷ line_end line.number true ∷ []
+
+-- a macro needs words, and has none
+abbrev pub lacks_words : LineMacro → Line → Bool
+lacks_words begins line = has_phrase begins && not (has_arguments (rest_of line))
+
+-- a macro that begins the line; one whose events are still to come is unknown
+abbrev pub macro_events : LineMacro → Line → List (Event (List ℕ))
+macro_events begins line =
+    if is_to_come begins then refused_events UnknownMacro line
+    else if lacks_words begins line then refused_events EmptyMacro line
+    else block_front begins line ++ (words_events begins line ++ (line_end line.number true ∷ []))
+
+abbrev pub request_events : Option LayoutRequest → Line → List (Event (List ℕ))
+request_events None line = refused_events UnknownMacro line
+request_events (Some request) line = request_front request line ++ (line_end line.number true ∷ [])
+
+-- a name is that of a macro, or of a request that changes rows
+abbrev pub named_events : Option LineMacro → Line → List (Event (List ℕ))
+named_events None line = request_events (layout_request (name_of line)) line
+named_events (Some begins) line = macro_events begins line
+
+-- a line without a name does nothing; each control line fills line scopes
+abbrev pub control_events : Line → List (Event (List ℕ))
+control_events line =
+    if is_nameless line then line_end line.number true ∷ [] else named_events (line_macro (name_of line)) line
+
+abbrev pub line_events : Line → Option PlainLine → List (Event (List ℕ))
+line_events line None = control_events line
+line_events line (Some plain) = plain_events line.number line.text plain
+
+-- the events of a line
+unfoldable pub mdoc_events : Line → List (Event (List ℕ))
+mdoc_events line = line_events line (plain_line line.form line.text)

@@ -1,0 +1,162 @@
+//! The words of a line, macro after macro (mdoc(7), "MACRO SYNTAX").
+
+ghost use Rattle.std.specs.Prelude.{◌≡◌, ◌≤◌, ◌++◌, [], None, Some, true, length};
+ghost use Rattle.page_core_base.specs.LinesTaken.{line_seen};
+ghost use Rattle.page_sets_lines.specs.Events.{TakesNext};
+ghost use Rattle.page_sets_lines.specs.ControlLines.{name_of};
+ghost use Rattle.page_sets_mdoc_rows.specs.Rows as rows;
+ghost use Rattle.page_sets_mdoc_lines.specs.LineWords.{arguments_after};
+ghost use Rattle.page_sets_mdoc_lines.specs.Parts.{parts};
+ghost use Rattle.page_sets_mdoc_lines.specs.Cursors.{IsCursorOf};
+ghost use Rattle.page_sets_mdoc.specs.Mdoc as mdoc;
+ghost use Rattle.page_sets_mdoc.specs.Plans as plans;
+ghost use Rattle.page_sets_mdoc.specs.Plans.{words_to_come, StandsIn, GoesOnWith};
+
+use page_core_base::{Place, Taken};
+use page_core_limits::LINE;
+use page_sets_lines::{Closer, Deed, Event, find_name};
+use page_sets_mdoc_lines::{Cursor, find_extent, word_call};
+use page_sets_mdoc_rows::{Inline, LineMacro, is_parsed};
+use page_sets_mdoc_words::{MacroWords, Step, WordsLeft};
+
+// This many words as they are, without a macro.
+fn words_from(cursor: Cursor, count: usize) -> MacroWords
+    ensures { result ≡ plans.words_from cursor count }
+{
+    MacroWords {
+        column: 1,
+        step: Step::Printed(None),
+        left: WordsLeft { count, cursor },
+    }
+}
+
+/// No words, at the end of a line.
+#[tactic(auto, using(crate::proofs::LineWordLemmas::nothing_stands, crate::proofs::LineWordLemmas::nothing_comes))]
+pub(crate) fn no_words(line: Taken<'_>) -> MacroWords
+    ensures stands { StandsIn (line_seen line.entry) result }
+    ensures events { words_to_come (line_seen line.entry) result ≡ [] }
+{
+    words_from(Cursor::at_end(line.text), 0)
+}
+
+// Whether words of a line call macros.
+fn line_is_parsed(line: Taken<'_>) -> bool
+    requires { length line.text.now ≤ LINE }
+    ensures { result ≡ rows.is_parsed (name_of (line_seen line.entry)) }
+{
+    let name = find_name(line);
+    is_parsed(&line.text[name.start..name.end])
+}
+
+// The words of a macro that can stand among words, and begins the line.
+#[tactic(auto, using(crate::proofs::LineWordLemmas::begun_stands, crate::proofs::LineWordLemmas::head_comes))]
+fn head_words(line: Taken<'_>, inline: Inline) -> MacroWords
+    requires { length line.text.now ≤ LINE }
+    ensures stands { StandsIn (line_seen line.entry) result }
+    ensures events { words_to_come (line_seen line.entry) result
+        ≡ mdoc.head_events (line_seen line.entry) inline (mdoc.line_parts (Some inline) (line_seen line.entry)) }
+{
+    let name = find_name(line);
+    MacroWords::begin(
+        line,
+        inline,
+        name.start as u32 + 1,
+        (name.end - name.start) as u32,
+        Cursor::new(line.text, name.end),
+        line_is_parsed(line),
+    )
+}
+
+// The words of any other macro.
+#[tactic(auto, using(crate::proofs::LineWordLemmas::words_stand, crate::proofs::LineWordLemmas::words_come))]
+fn phrase_words(line: Taken<'_>) -> MacroWords
+    requires { length line.text.now ≤ LINE }
+    ensures stands { StandsIn (line_seen line.entry) result }
+    ensures events { words_to_come (line_seen line.entry) result
+        ≡ mdoc.phrase_events line.entry.line (mdoc.line_parts None (line_seen line.entry)) }
+{
+    let cursor = Cursor::new(line.text, find_name(line).end);
+    let extent = find_extent(line.text, cursor, line_is_parsed(line));
+    words_from(cursor, extent.words as usize)
+}
+
+/// The words of the macro that begins a line.
+pub(crate) fn words_of(begins: LineMacro, line: Taken<'_>) -> MacroWords
+    requires { length line.text.now ≤ LINE }
+    ensures stands { StandsIn (line_seen line.entry) result }
+    ensures events { words_to_come (line_seen line.entry) result ≡ mdoc.words_events begins (line_seen line.entry) }
+{
+    match begins {
+        LineMacro::Inline(inline) => head_words(line, inline),
+        LineMacro::Heading(_) | LineMacro::Description | LineMacro::OneLine(_) => {
+            phrase_words(line)
+        }
+        _ => no_words(line),
+    }
+}
+
+// The macro that the next word of a line calls; none where only the delimiters at the line's end are left.
+fn next_call(line: Taken<'_>, cursor: Cursor) -> Option<MacroWords>
+    requires short { length line.text.now ≤ LINE }
+    requires within { IsCursorOf line.text.now cursor }
+    requires call { (parts None true (arguments_after cursor.rest line.text.now)).words ≡ [] }
+    ensures { GoesOnWith (line_seen line.entry) (arguments_after cursor.rest line.entry.text.now) result }
+{
+    if cursor.is_in_tail() {
+        return None;
+    }
+    let mut ahead = cursor;
+    let name = ahead.read(line.text)?;
+    let inline = word_call(name)?;
+    Some(MacroWords::begin(
+        line,
+        inline,
+        name.column,
+        name.text.len() as u32,
+        ahead,
+        true,
+    ))
+}
+
+// The delimiters at the line's end, after the end of its enclosures.
+fn begin_tail<'a>(
+    line: Taken<'a>,
+    cursor: Cursor,
+    words: &mut MacroWords,
+) -> Option<Event<&'a [u8]>>
+    requires short { length line.text.now ≤ LINE }
+    requires within { IsCursorOf line.text.now cursor }
+    ensures stands { StandsIn (line_seen line.entry) words.new }
+    ensures events { TakesNext (mdoc.tail_events line.entry.line (arguments_after cursor.rest line.entry.text.now)) result
+        (words_to_come (line_seen line.entry) words.new) }
+{
+    *words = words_from(cursor, LINE);
+    let mut ahead = cursor;
+    let first = ahead.read(line.text)?;
+    Some(Event {
+        place: Place {
+            line: line.line,
+            column: first.column,
+        },
+        deed: Deed::Close(Closer::Enclosures),
+    })
+}
+
+/// The next event of a line's words, if there is one more.
+#[tactic(auto, using(crate::proofs::LineWordLemmas::over_comes, crate::proofs::LineWordLemmas::over_calls, crate::specs::RestLaws::rest_in_tail))]
+pub(crate) fn next_of_words<'a>(line: Taken<'a>, words: &mut MacroWords) -> Option<Event<&'a [u8]>>
+    requires short { length line.text.now ≤ LINE }
+    requires stands { StandsIn (line_seen line) words.old }
+    ensures stands { StandsIn (line_seen line.entry) words.new }
+    ensures events { TakesNext (words_to_come (line_seen line.entry) words.old) result (words_to_come (line_seen line.entry) words.new) }
+{
+    loop {
+        if let Some(event) = words.next(line) {
+            return Some(event);
+        }
+        match next_call(line, words.left.cursor) {
+            Some(next) => *words = next,
+            None => return begin_tail(line, words.left.cursor, words),
+        }
+    }
+}

@@ -1,0 +1,3 @@
+pub mod Macros
+pub mod Fronts
+pub mod FrontSteps

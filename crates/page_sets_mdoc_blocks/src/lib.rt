@@ -1,0 +1,9 @@
+//! What a macro of mdoc(7) that begins a line does before its words, and the requests that change rows. The definition
+//! is `specs/Fronts.antt`; read `fronts.rt`.
+#![tactic(auto)]
+
+mod fronts;
+mod macros;
+
+pub use fronts::Front;
+pub use macros::{has_phrase, is_to_come};

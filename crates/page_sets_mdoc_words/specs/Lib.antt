@@ -1,0 +1,4 @@
+pub mod Printed
+pub mod Inlines
+pub mod WordsLeft
+pub mod Steps

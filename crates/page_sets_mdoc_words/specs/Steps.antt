@@ -1,0 +1,279 @@
+-- The words of a macro, one after another: the code's own steps. The numbers in them say what is done with the words, whatever these are.
+use Rattle.std.specs.Prelude.{◌≡◌, ℕ, ◌+◌, ◌-◌, min, Bool, true, false, List, [], ◌∷◌, ◌++◌, length, take, drop, Option, None, Some, MatchOption, if◌then◌else◌}
+use Rattle.std.specs.Borrow.{Bor}
+use Rattle.page_core_base.specs.declared.cells.Font.{Font}
+use Rattle.page_core_base.specs.declared.cells.Font.TheVariants.{R, B, I}
+use Rattle.page_core_base.specs.LinesTaken.{Line, line_seen}
+use Rattle.page_roff_forms.specs.declared.quotes.Argument.{Argument}
+use Rattle.page_sets_lines.specs.declared.blocks.Block.{Block}
+use Rattle.page_sets_lines.specs.declared.blocks.Block.TheVariants as blocks
+use Rattle.page_sets_lines.specs.declared.blocks.BlockOpener.{BlockOpener}
+use Rattle.page_sets_lines.specs.declared.blocks.BlockOpener.TheVariants as block_openers
+use Rattle.page_sets_lines.specs.declared.blocks.BlockCloser.{BlockCloser}
+use Rattle.page_sets_lines.specs.declared.blocks.BlockCloser.TheVariants as block_closers
+use Rattle.page_sets_lines.specs.declared.events.Join.TheVariants.{Apart, Glued}
+use Rattle.page_sets_lines.specs.declared.events.Deed.TheVariants as deeds
+use Rattle.page_sets_lines.specs.declared.events.Event.{Event}
+use Rattle.page_sets_lines.specs.declared.leaves.Own.TheVariants as owns
+use Rattle.page_sets_lines.specs.declared.line_steps.LineStep.TheVariants as line_steps
+use Rattle.page_sets_lines.specs.declared.openers.Closer.TheVariants as closers
+use Rattle.page_sets_lines.specs.declared.openers.LineOpener.TheVariants.{Enclosure}
+use Rattle.page_sets_lines.specs.declared.openers.Opener.TheVariants as openers
+use Rattle.page_sets_lines.specs.ControlLines.{first_of}
+use Rattle.page_sets_lines.specs.Events.{event_seen}
+use Rattle.page_sets_lines.specs.PlainLines.{event_at}
+use Rattle.page_sets_mdoc_rows.specs.declared.macros.Pair.{Pair}
+use Rattle.page_sets_mdoc_rows.specs.declared.macros.Pair.TheVariants as pairs
+use Rattle.page_sets_mdoc_rows.specs.declared.macros.Inline.{Inline}
+use Rattle.page_sets_mdoc_rows.specs.declared.macros.Inline.TheVariants as inlines
+use Rattle.page_sets_mdoc_lines.specs.Cursors.{IsCursorOf}
+use Rattle.page_sets_mdoc_lines.specs.declared.cursors.Cursor.{Cursor}
+use Rattle.page_sets_mdoc_lines.specs.declared.extents.Extent.{Extent}
+use Rattle.page_sets_mdoc_lines.specs.LineWords.{arguments_after, takes_next}
+use Rattle.page_sets_mdoc_lines.specs.Parts.{LineParts, has_calls}
+use Rattle.page_sets_mdoc_words.specs.declared.flags.FlagStep.{FlagStep}
+use Rattle.page_sets_mdoc_words.specs.declared.flags.FlagStep.TheVariants as flag_steps
+use Rattle.page_sets_mdoc_words.specs.declared.fronts.Front.{Front}
+use Rattle.page_sets_mdoc_words.specs.declared.fronts.Front.TheVariants as fronts
+use Rattle.page_sets_mdoc_words.specs.declared.functions.FunctionStep.{FunctionStep}
+use Rattle.page_sets_mdoc_words.specs.declared.functions.FunctionStep.TheVariants as function_steps
+use Rattle.page_sets_mdoc_words.specs.declared.links.LinkStep.{LinkStep}
+use Rattle.page_sets_mdoc_words.specs.declared.links.LinkStep.TheVariants as link_steps
+use Rattle.page_sets_mdoc_words.specs.declared.names.Lone.{Lone}
+use Rattle.page_sets_mdoc_words.specs.declared.names.Lone.TheVariants as lones
+use Rattle.page_sets_mdoc_words.specs.declared.references.ReferenceStep.{ReferenceStep}
+use Rattle.page_sets_mdoc_words.specs.declared.references.ReferenceStep.TheVariants as reference_steps
+use Rattle.page_sets_mdoc_words.specs.declared.systems.VersionStep.{VersionStep}
+use Rattle.page_sets_mdoc_words.specs.declared.systems.VersionStep.TheVariants as version_steps
+use Rattle.page_sets_mdoc_words.specs.declared.taken_words.Taker.{Taker}
+use Rattle.page_sets_mdoc_words.specs.declared.taken_words.Taker.TheVariants as takers
+use Rattle.page_sets_mdoc_words.specs.declared.words_left.WordsLeft.{WordsLeft}
+use Rattle.page_sets_mdoc_words.specs.declared.steps.Step.{Step}
+use Rattle.page_sets_mdoc_words.specs.declared.steps.Step.TheVariants as steps
+use Rattle.page_sets_mdoc_words.specs.declared.steps.Begun.{Begun}
+use Rattle.page_sets_mdoc_words.specs.declared.steps.Given.{Given}
+use Rattle.page_sets_mdoc_words.specs.declared.steps.MacroWords.{MacroWords}
+use Rattle.page_sets_mdoc_words.specs.Printed.{printed_word, printed, own_word, step_event}
+use Rattle.page_sets_mdoc_words.specs.Inlines.{empty_macro, lone, named, manual_name, default_word, flags, lone_dash, section, reference, more_arguments, arguments, arguments_begin, function_words, function_end, system_word, bsd, colon, uri_event, address, link_words, missing_quote, prefix_word, opens_custom, closes_custom, inline_events}
+use Rattle.page_sets_mdoc_words.specs.WordsLeft.{words_left}
+
+-- ---- before the words
+
+-- the name of a macro is as long as its step says
+abbrev pub refusal : Line → ℕ → ℕ → Event (List ℕ)
+refusal line column len = empty_macro line.number column (take len (drop (column - 1) line.text))
+
+-- a block without a mark
+abbrev pub block_opener : Block → BlockOpener (List ℕ)
+block_opener (blocks.Quotation quotation) = block_openers.Quotation quotation
+block_opener blocks.Custom = block_openers.Custom None
+block_opener blocks.Extension = block_openers.Extension
+
+abbrev pub block_closer : Block → BlockCloser (List ℕ)
+block_closer (blocks.Quotation quotation) = block_closers.Quotation quotation
+block_closer blocks.Custom = block_closers.Custom None
+block_closer blocks.Extension = block_closers.Extension
+
+abbrev pub front_event : Line → ℕ → Front → Event (List ℕ)
+front_event line column (fronts.Refused len) = refusal line column len
+front_event line column fronts.Glue = step_event line.number column line_steps.Glue
+front_event line column fronts.Apostrophe = own_word line.number column owns.Apostrophe None Glued Glued
+front_event line column (fronts.System system) = system_word line.number column system
+front_event line column (fronts.Enclosure marks) = event_at line.number column (deeds.LineScope (Enclosure marks))
+front_event line column (fronts.Opens block) = event_at line.number column (deeds.Open (openers.Block (block_opener block)))
+front_event line column (fronts.Closes block) = event_at line.number column (deeds.Close (closers.Block (block_closer block)))
+
+-- ---- words that are taken
+
+abbrev pub taken_event : ℕ → ℕ → Taker → Argument (List ℕ) → Event (List ℕ)
+taken_event number column takers.Prefix word = prefix_word number word
+taken_event number column takers.Opens word = opens_custom number column (Some word)
+taken_event number column takers.Closes word = closes_custom number column (Some word)
+
+abbrev pub taken_events : ℕ → ℕ → Taker → List (Argument (List ℕ)) → List (Event (List ℕ))
+taken_events number column taker [] = []
+taken_events number column taker (word ∷ words) = taken_event number column taker word ∷ printed number None words
+
+abbrev pub option_events : ℕ → List (Argument (List ℕ)) → List (Event (List ℕ))
+option_events number [] = []
+option_events number (option ∷ words) = missing_quote number option ++ printed number (Some R) words
+
+-- ---- what has steps of its own
+
+abbrev pub lone_event : ℕ → ℕ → Lone → Bool → Event (List ℕ)
+lone_event number column lones.ManualName is_last = manual_name number column is_last
+lone_event number column (lones.Default default) is_last = default_word number column default is_last
+lone_event number column (lones.Dash follows) is_last = lone_dash number column follows is_last
+
+abbrev pub version_events : ℕ → ℕ → VersionStep → List (Argument (List ℕ)) → List (Event (List ℕ))
+version_events number column version_steps.Version words = bsd number column words
+version_events number column version_steps.Name words = own_word number column owns.Bsd None Glued Apart ∷ printed number None words
+
+abbrev pub flag_events : ℕ → FlagStep → List (Argument (List ℕ)) → List (Event (List ℕ))
+flag_events number flag_steps.Dash words = flags number words
+flag_events number flag_steps.Flag [] = []
+flag_events number flag_steps.Flag (word ∷ words) = printed_word number (Some B) word ∷ flags number words
+
+abbrev pub reference_events : ℕ → ReferenceStep → List (Argument (List ℕ)) → List (Event (List ℕ))
+reference_events number reference_steps.Name words = reference number words
+reference_events number reference_steps.Opening words = section number words
+reference_events number reference_steps.Section [] = []
+reference_events number reference_steps.Section (word ∷ words) =
+    printed_word number None word ∷ own_word number word.column owns.CloseParenthesis None Glued Apart ∷ printed number None words
+reference_events number (reference_steps.Closing column) words =
+    own_word number column owns.CloseParenthesis None Glued Apart ∷ printed number None words
+
+abbrev pub inside_events : ℕ → ℕ → FunctionStep → List (Argument (List ℕ)) → List (Event (List ℕ))
+inside_events number column function_steps.Name words = function_words number column words
+inside_events number column function_steps.Opening words = arguments_begin number column ∷ arguments number column words
+inside_events number column function_steps.First words = arguments number column words
+inside_events number column function_steps.Comma words = more_arguments number column words
+inside_events number column function_steps.Argument [] = []
+inside_events number column function_steps.Argument (word ∷ words) = printed_word number (Some I) word ∷ more_arguments number column words
+
+abbrev pub function_events : ℕ → ℕ → FunctionStep → ℕ → List (Argument (List ℕ)) → List (Event (List ℕ))
+function_events number column step inside words =
+    inside_events number column step (take inside words) ++ function_end number column (drop inside words)
+
+abbrev pub is_opening_step : FunctionStep → Bool
+is_opening_step function_steps.Opening = true
+is_opening_step _ = false
+
+abbrev pub takes_comma : FunctionStep → Bool → Bool
+takes_comma function_steps.Comma true = true
+takes_comma _ is_real = false
+
+abbrev pub function_font : FunctionStep → Font
+function_font function_steps.Name = B
+function_font _ = I
+
+abbrev pub function_after : FunctionStep → Bool → FunctionStep
+function_after function_steps.Name true = function_steps.Opening
+function_after function_steps.First true = function_steps.Comma
+function_after function_steps.Argument is_real = function_steps.Comma
+function_after step is_real = step
+
+-- the argument that begins after this many bytes is an address
+abbrev pub uri_at : Line → ℕ → Option (Argument (List ℕ))
+uri_at line uri = first_of (arguments_after (min uri (length line.text)) line.text)
+
+abbrev pub uri_events : ℕ → ℕ → Option (Argument (List ℕ)) → List (Event (List ℕ))
+uri_events number column None = []
+uri_events number column (Some uri) = uri_event number column uri ∷ []
+
+abbrev pub address_events : ℕ → ℕ → Argument (List ℕ) → ℕ → List (Argument (List ℕ)) → List (Event (List ℕ))
+address_events number column uri inside words = address number column uri (take inside words) ++ printed number None (drop inside words)
+
+abbrev pub link_events : Line → ℕ → LinkStep → List (Argument (List ℕ)) → List (Event (List ℕ))
+link_events line column (link_steps.Address inside) words =
+    link_words line.number column (take inside words) ++ printed line.number None (drop inside words)
+link_events line column (link_steps.Texts uri inside) words =
+    printed line.number (Some I) (take inside words)
+    ++ (colon line.number column ∷ (uri_events line.number column (uri_at line uri) ++ printed line.number None (drop inside words)))
+link_events line column (link_steps.Uri uri) words = uri_events line.number column (uri_at line uri) ++ printed line.number None words
+
+-- ---- all of them
+
+-- all events from a step on
+abbrev pub step_events : Line → ℕ → Step → List (Argument (List ℕ)) → List (Event (List ℕ))
+step_events line column (steps.Printed font) words = printed line.number font words
+step_events line column (steps.Front front) words = front_event line column front ∷ printed line.number None words
+step_events line column (steps.Taken taker) words = taken_events line.number column taker words
+step_events line column steps.AuthorOption words = option_events line.number words
+step_events line column steps.Named words = named line.number column words
+step_events line column (steps.Lone single) words = lone line.number (lone_event line.number column single) words
+step_events line column (steps.Version step) words = version_events line.number column step words
+step_events line column (steps.Flags step) words = flag_events line.number step words
+step_events line column (steps.Reference step) words = reference_events line.number step words
+step_events line column (steps.Function step inside) words = function_events line.number column step inside words
+step_events line column (steps.Link step) words = link_events line column step words
+
+-- the first of the events is given, if there is one, and the others come of the step after it and of the words that are left
+abbrev pub Gives : Line → ℕ → List (Event (List ℕ)) → Option Given → List (Argument (List ℕ)) → Type 0
+Gives line column events result words =
+    MatchOption result ((events ≡ []) × (words ≡ []))
+    (λ given. events ≡ event_seen given.event ∷ step_events line column given.step words)
+
+abbrev pub StepsOn : Begun → Step → WordsLeft → Option Given → WordsLeft → Type 0
+StepsOn begun step old result new =
+    Gives (line_seen begun.line) begun.column
+    (step_events (line_seen begun.line) begun.column step (words_left begun.line.text.now old)) result (words_left begun.line.text.now new)
+
+abbrev pub AddressOn : Begun → Argument (List ℕ) → ℕ → WordsLeft → Option Given → WordsLeft → Type 0
+AddressOn begun uri inside old result new =
+    Gives (line_seen begun.line) begun.column
+    (address_events begun.line.line begun.column uri inside (words_left begun.line.text.now old)) result (words_left begun.line.text.now new)
+
+-- ---- the words of a macro
+
+abbrev pub macro_words_events : Line → MacroWords → List (Event (List ℕ))
+macro_words_events line words = step_events line words.column words.step (words_left line.text words.left)
+
+-- all words were read once no event is left
+abbrev pub EndsWith : Option (Event (Bor (List ℕ))) → MacroWords → Type 0
+EndsWith result new = MatchOption result (new.left.count ≡ 0) (λ event. Unit {0})
+
+-- ---- the first step of a macro
+
+abbrev pub needs : Extent → ℕ → Step → Step
+needs extent len step = if extent.has_real then step else steps.Front (fronts.Refused len)
+
+abbrev pub opening : Pair → Bool → Step
+opening (pairs.Quotation quotation) taken = steps.Front (fronts.Opens (blocks.Quotation quotation))
+opening pairs.Custom taken = if taken then steps.Taken takers.Opens else steps.Front (fronts.Opens blocks.Custom)
+opening pairs.Extension taken = steps.Front (fronts.Opens blocks.Extension)
+opening pairs.Function taken = steps.Printed None
+
+abbrev pub closing : Pair → Bool → Step
+closing (pairs.Quotation quotation) taken = steps.Front (fronts.Closes (blocks.Quotation quotation))
+closing pairs.Custom taken = if taken then steps.Taken takers.Closes else steps.Front (fronts.Closes blocks.Custom)
+closing pairs.Extension taken = steps.Front (fronts.Closes blocks.Extension)
+closing pairs.Function taken = steps.Printed None
+
+-- by the extent of its words, the length of its name, and whether it takes a word as it stands
+abbrev pub first_step : Inline → Bool → Extent → ℕ → Step
+first_step (inlines.Words font) taken extent len = needs extent len (steps.Printed (Some font))
+first_step inlines.Author taken extent len = if taken then steps.AuthorOption else needs extent len (steps.Printed (Some R))
+first_step inlines.Declaration taken extent len = needs extent len (steps.Printed (Some B))
+first_step inlines.TypeName taken extent len = needs extent len (steps.Printed (Some I))
+first_step inlines.Arguments taken extent len = needs extent len (steps.Printed (Some I))
+first_step inlines.Name taken extent len = if extent.has_real then steps.Named else steps.Lone lones.ManualName
+first_step (inlines.Defaulted default) taken extent len =
+    if extent.has_real then steps.Printed (Some I) else steps.Lone (lones.Default default)
+first_step inlines.Flag taken extent len =
+    if extent.has_real then steps.Flags flag_steps.Dash else steps.Lone (lones.Dash extent.follows)
+first_step inlines.Reference taken extent len = needs extent len (steps.Reference reference_steps.Name)
+first_step inlines.Function taken extent len = needs extent len (steps.Function function_steps.Name extent.inside)
+first_step (inlines.System system) taken extent len = steps.Front (fronts.System system)
+first_step inlines.Bsd taken extent len = steps.Version version_steps.Version
+first_step inlines.Link taken extent len = needs extent len (steps.Link (link_steps.Address extent.inside))
+first_step inlines.NoSpace taken extent len = steps.Front fronts.Glue
+first_step inlines.Apostrophe taken extent len = steps.Front fronts.Apostrophe
+first_step inlines.NextColumn taken extent len = steps.Printed None
+first_step inlines.Prefix taken extent len = if taken then steps.Taken takers.Prefix else steps.Front (fronts.Refused len)
+first_step (inlines.Enclosure marks) taken extent len = steps.Front (fronts.Enclosure marks)
+first_step (inlines.Opens pair) taken extent len = opening pair taken
+first_step (inlines.Closes pair) taken extent len = closing pair taken
+
+abbrev pub count_of : ℕ → Bool → ℕ
+count_of words taken = if taken then words + 1 else words
+
+-- whether a macro takes the first argument after its name, and the arguments after that
+abbrev pub takes_first : Inline → List (Argument (List ℕ)) → Bool
+takes_first inline [] = false
+takes_first inline (word ∷ words) = takes_next inline word
+
+abbrev pub after_first : Inline → List (Argument (List ℕ)) → List (Argument (List ℕ))
+after_first inline [] = []
+after_first inline (word ∷ words) = if takes_next inline word then words else word ∷ words
+
+abbrev pub TakesWord : List ℕ → Inline → Cursor → Bool × Cursor → Type 0
+TakesWord text inline cursor result =
+    IsCursorOf text result.1
+    × (result.0 ≡ takes_first inline (arguments_after cursor.rest text))
+    × (arguments_after result.1.rest text ≡ after_first inline (arguments_after cursor.rest text))
+
+-- the events of a macro whose name stands in a column and has this length
+abbrev pub begun_events : Line → ℕ → ℕ → Inline → LineParts → List (Event (List ℕ))
+begun_events line column len inline parts =
+    inline_events line.number column (take len (drop (column - 1) line.text)) inline parts.taken parts.words (has_calls parts.calls)

@@ -1,0 +1,146 @@
+//! `Fn`: a function with its arguments (mdoc(7), "Fn").
+
+ghost use Rattle.std.specs.Prelude.{◌≡◌, ◌≤◌, None, false, length};
+ghost use Rattle.page_sets_lines.specs.declared.events.Join.TheVariants.{Apart, Glued};
+ghost use Rattle.page_sets_lines.specs.declared.leaves.Own.{Own};
+ghost use Rattle.page_sets_lines.specs.declared.leaves.Own.TheVariants.{CloseParenthesis};
+ghost use Rattle.page_sets_lines.specs.declared.events.Join.{Join};
+ghost use Rattle.page_sets_lines.specs.Events.{event_seen};
+ghost use Rattle.page_sets_mdoc_lines.specs.Cursors.{IsCursorOf};
+ghost use Rattle.page_sets_mdoc_words.specs.declared.steps.Step.TheVariants as steps;
+ghost use Rattle.page_sets_mdoc_words.specs.Printed.{own_word};
+ghost use Rattle.page_sets_mdoc_words.specs.Steps as step_specs;
+ghost use Rattle.page_sets_mdoc_words.specs.Steps.{StepsOn};
+ghost use Rattle.page_sets_mdoc_words.specs.WordsLeft.{GoesOn};
+
+use crate::printed::{own_word, printed_word};
+use crate::steps::{Begun, Given, Step};
+use crate::words_left::{WordsLeft, read_inside};
+use page_core_base::Font;
+use page_core_limits::LINE;
+use page_sets_lines::{Join, Own};
+use page_sets_mdoc_lines::is_real;
+
+/// What comes next of a function.
+#[derive(Clone, Copy)]
+pub enum FunctionStep {
+    /// Its name.
+    Name,
+    /// What opens its arguments.
+    Opening,
+    /// The first argument.
+    First,
+    /// A comma before the next argument.
+    Comma,
+    /// The argument after its comma.
+    Argument,
+}
+
+// The font of the next word.
+fn font_of(step: FunctionStep) -> Font
+    ensures { result ≡ step_specs.function_font step }
+{
+    match step {
+        FunctionStep::Name => Font::B,
+        _ => Font::I,
+    }
+}
+
+// Whether a comma comes before the next word.
+fn takes_comma(step: FunctionStep, is_real: bool) -> bool
+    ensures { result ≡ step_specs.takes_comma step is_real }
+{
+    is_real && matches!(step, FunctionStep::Comma)
+}
+
+// What comes after the next word, which is a delimiter or none.
+fn step_after(step: FunctionStep, is_real: bool) -> FunctionStep
+    ensures { result ≡ step_specs.function_after step is_real }
+{
+    match step {
+        FunctionStep::Name if is_real => FunctionStep::Opening,
+        FunctionStep::First if is_real => FunctionStep::Comma,
+        FunctionStep::Argument => FunctionStep::Comma,
+        _ => step,
+    }
+}
+
+// A mark of the macro's own, and the step after it.
+fn mark<'a>(begun: Begun<'a>, own: Own, after: Join, step: Step) -> Given<'a>
+    ensures event { event_seen result.event
+        ≡ own_word begun.entry.line.line begun.entry.column own None Glued after }
+    ensures step { result.step ≡ step }
+{
+    Given {
+        event: own_word(begun.line.line, begun.column, own, None, Join::Glued, after),
+        step,
+    }
+}
+
+// The next event of the words in front of the closing delimiters at the end, or what closes the arguments.
+#[tactic(auto, using(crate::proofs::StepLemmas::function_word, crate::proofs::StepLemmas::function_comma, crate::proofs::StepLemmas::function_ends))]
+fn next_inside<'a>(
+    begun: Begun<'a>,
+    step: FunctionStep,
+    inside: u32,
+    left: &mut WordsLeft,
+) -> Option<Given<'a>>
+    requires short { length begun.line.text.now ≤ LINE }
+    requires within { IsCursorOf begun.line.text.now left.old.cursor }
+    requires opened { step_specs.is_opening_step step ≡ false }
+    ensures goes { GoesOn begun.entry.line.text.now left.old left.new }
+    ensures gives { StepsOn begun.entry (steps.Function step inside) left.old result left.new }
+{
+    let Some((word, ahead)) = read_inside(begun.line.text, *left, inside) else {
+        return Some(mark(
+            begun,
+            Own::CloseParenthesis,
+            Join::Apart,
+            Step::Printed(None),
+        ));
+    };
+    let real = is_real(word);
+    if takes_comma(step, real) {
+        let step = FunctionStep::Argument;
+        return Some(mark(
+            begun,
+            Own::Comma,
+            Join::Apart,
+            Step::Function { step, inside },
+        ));
+    }
+    *left = ahead;
+    Some(Given {
+        event: printed_word(begun.line.line, Some(font_of(step)), word),
+        step: Step::Function {
+            step: step_after(step, real),
+            inside: inside - 1,
+        },
+    })
+}
+
+/// The next event of a function.
+pub(crate) fn next_of_function<'a>(
+    begun: Begun<'a>,
+    step: FunctionStep,
+    inside: u32,
+    left: &mut WordsLeft,
+) -> Option<Given<'a>>
+    requires short { length begun.line.text.now ≤ LINE }
+    requires within { IsCursorOf begun.line.text.now left.old.cursor }
+    ensures goes { GoesOn begun.entry.line.text.now left.old left.new }
+    ensures gives { StepsOn begun.entry (steps.Function step inside) left.old result left.new }
+{
+    match step {
+        FunctionStep::Opening => {
+            let step = FunctionStep::First;
+            Some(mark(
+                begun,
+                Own::OpenParenthesis,
+                Join::Glued,
+                Step::Function { step, inside },
+            ))
+        }
+        _ => next_inside(begun, step, inside, left),
+    }
+}

@@ -1,0 +1,141 @@
+//! The events of a macro's words, one after another (mdoc(7), "MACRO REFERENCE").
+
+ghost use Rattle.std.specs.Prelude.{◌≤◌, length};
+ghost use Rattle.page_core_base.specs.LinesTaken.{line_seen};
+ghost use Rattle.page_sets_lines.specs.Events.{TakesNext};
+ghost use Rattle.page_sets_mdoc_lines.specs.Cursors.{IsCursorOf};
+ghost use Rattle.page_sets_mdoc_words.specs.declared.steps.Step.TheVariants as steps;
+ghost use Rattle.page_sets_mdoc_words.specs.Steps.{StepsOn, macro_words_events, EndsWith};
+ghost use Rattle.page_sets_mdoc_words.specs.WordsLeft.{GoesOn};
+
+use crate::flags::{FlagStep, next_flag};
+use crate::fronts::{Front, next_front};
+use crate::functions::{FunctionStep, next_of_function};
+use crate::links::{LinkStep, next_of_link};
+use crate::names::{Lone, next_lone, next_named};
+use crate::printed::printed_word;
+use crate::references::{ReferenceStep, next_of_reference};
+use crate::systems::{VersionStep, next_of_version};
+use crate::taken_words::{Taker, next_option, next_taken};
+use crate::words_left::WordsLeft;
+use page_core_base::{Font, Taken};
+use page_core_limits::LINE;
+use page_sets_lines::Event;
+
+/// What comes next of a macro's words.
+#[derive(Clone, Copy)]
+pub enum Step {
+    /// The words, in a font if they have one.
+    Printed(Option<Font>),
+    /// An event before the words.
+    Front(Front),
+    /// The word that the macro takes as it stands, and then the others.
+    Taken(Taker),
+    /// `An`: the option that it takes, and then the words.
+    AuthorOption,
+    /// `Nm`: its words.
+    Named,
+    /// What the macro prints where all its words are delimiters.
+    Lone(Lone),
+    /// `Bx`.
+    Version(VersionStep),
+    /// `Fl`.
+    Flags(FlagStep),
+    /// `Xr`.
+    Reference(ReferenceStep),
+    /// `Fn`, and how many of the words stand in front of the closing delimiters at the end.
+    Function { step: FunctionStep, inside: u32 },
+    /// `Lk`.
+    Link(LinkStep),
+}
+
+/// A macro in work: its line, and the column of its name.
+#[derive(Clone, Copy)]
+pub(crate) struct Begun<'a> {
+    pub(crate) line: Taken<'a>,
+    pub(crate) column: u32,
+}
+
+/// The next event of a macro, and the step after it.
+#[derive(Drop)]
+pub(crate) struct Given<'a> {
+    pub(crate) event: Event<&'a [u8]>,
+    pub(crate) step: Step,
+}
+
+/// What is still to come of a macro's words: the column of its name, the next step, and the words that are left.
+#[derive(Clone, Copy)]
+pub struct MacroWords {
+    pub column: u32,
+    pub step: Step,
+    pub left: WordsLeft,
+}
+
+/// The next word, in a font.
+pub(crate) fn next_printed<'a>(
+    begun: Begun<'a>,
+    font: Option<Font>,
+    left: &mut WordsLeft,
+) -> Option<Given<'a>>
+    requires short { length begun.line.text.now ≤ LINE }
+    requires within { IsCursorOf begun.line.text.now left.old.cursor }
+    ensures goes { GoesOn begun.entry.line.text.now left.old left.new }
+    ensures gives { StepsOn begun.entry (steps.Printed font) left.old result left.new }
+{
+    let word = left.read(begun.line.text)?;
+    Some(Given {
+        event: printed_word(begun.line.line, font, word),
+        step: Step::Printed(font),
+    })
+}
+
+// The next event of a macro's words.
+fn next_step<'a>(begun: Begun<'a>, step: Step, left: &mut WordsLeft) -> Option<Given<'a>>
+    requires short { length begun.line.text.now ≤ LINE }
+    requires within { IsCursorOf begun.line.text.now left.old.cursor }
+    ensures goes { GoesOn begun.entry.line.text.now left.old left.new }
+    ensures gives { StepsOn begun.entry step left.old result left.new }
+{
+    match step {
+        Step::Printed(font) => next_printed(begun, font, left),
+        Step::Front(front) => next_front(begun, front, left),
+        Step::Taken(taker) => next_taken(begun, taker, left),
+        Step::AuthorOption => next_option(begun, left),
+        Step::Named => next_named(begun, left),
+        Step::Lone(lone) => next_lone(begun, lone, left),
+        Step::Version(step) => next_of_version(begun, step, left),
+        Step::Flags(step) => next_flag(begun, step, left),
+        Step::Reference(step) => next_of_reference(begun, step, left),
+        Step::Function { step, inside } => next_of_function(begun, step, inside, left),
+        Step::Link(step) => next_of_link(begun, step, left),
+    }
+}
+
+impl MacroWords {
+    /// The next event of a macro's words in their line, if there is one more.
+    #[tactic(auto, using(crate::proofs::WordLemmas::none_left))]
+    pub fn next<'a>(&mut self, line: Taken<'a>) -> Option<Event<&'a [u8]>>
+        requires short { length line.text.now ≤ LINE }
+        requires within { IsCursorOf line.text.now self.old.left.cursor }
+        ensures goes { GoesOn line.entry.text.now self.old.left self.new.left }
+        ensures events { TakesNext (macro_words_events (line_seen line.entry) self.old) result
+            (macro_words_events (line_seen line.entry) self.new) }
+        ensures ends { EndsWith result self.new }
+    {
+        let begun = Begun {
+            line,
+            column: self.column,
+        };
+        match next_step(begun, self.step, &mut self.left) {
+            Some(given) => {
+                self.step = given.step;
+                Some(given.event)
+            }
+            None => {
+                self.step = Step::Printed(None);
+                self.left.count = 0;
+                None
+            }
+        }
+    }
+}
