@@ -2,7 +2,7 @@
 
 ghost use Rattle.std.specs.Prelude.{◌≤◌, length};
 
-use crate::spelling::spelled;
+use crate::spelling::{Spelling, spelled};
 use arrayvec::ArrayVec;
 use page_core_base::{Form, Taken};
 use page_core_limits::LINE;
@@ -11,30 +11,44 @@ use page_sets::{MacroSet, Mdoc};
 use std::process::Abort;
 
 // The bytes up to the end of the name of a raw control line.
-fn name_end(rt: &impl Abort, text: &str) -> u32 {
+fn name_end(rt: &impl Abort, text: &[u8]) -> u32 {
     assert!(rt; text.len() < 100);
-    match form_of(text.as_bytes()) {
+    match form_of(text) {
         LineForm::Control { rest_column, .. } => rest_column.saturating_sub(1),
         LineForm::Comment | LineForm::BlankLine | LineForm::Text(_) => 0,
     }
 }
 
-// Checks control lines whose raw text is their finished text: each with its events but the last, which fills line scopes.
+// Checks a control line whose raw text is its finished text.
+fn check_line(rt: &impl Abort, text: &[u8], want: &[u8]) {
+    assert!(rt; text.len() < 100);
+    let line = Taken {
+        form: Form::Control,
+        text,
+        line: 7,
+        name_end: name_end(rt, text),
+    };
+    assert_eq!(rt; spelled(&Mdoc, line).as_slice(), want, "of {text:?}");
+}
+
+// Checks control lines: each with its events.
 fn check_lines(rt: &impl Abort, rows: &[(&str, &str)]) {
     for (text, want) in rows {
-        assert!(rt; text.len() < 100);
-        let line = Taken {
-            form: Form::Control,
-            text: text.as_bytes(),
-            line: 7,
-            name_end: name_end(rt, text),
-        };
-        assert_eq!(rt;
-            spelled(&Mdoc, line).as_slice(),
-            want.as_bytes(),
-            "of {text}"
-        );
+        check_line(rt, text.as_bytes(), want.as_bytes());
     }
+}
+
+// Checks a line and its events, each in parts.
+fn check_parts(rt: &impl Abort, text: &[&str], want: &[&str]) {
+    check_line(rt, joined(text).as_slice(), joined(want).as_slice());
+}
+
+fn joined(parts: &[&str]) -> Spelling {
+    let mut out = ArrayVec::new();
+    for part in parts {
+        let _ = out.try_extend_from_slice(part.as_bytes());
+    }
+    out
 }
 
 #[test]
@@ -260,5 +274,146 @@ fn longest_lines(rt: HostRuntime) {
             name_end: 3,
         };
         assert_eq!(rt; count_events(line), count, "of {again}");
+    }
+}
+
+#[test]
+fn words_in_each_font(rt: HostRuntime) {
+    for (font, name) in [
+        ("B", "Cd"),
+        ("B", "Cm"),
+        ("B", "Ic"),
+        ("B", "Ms"),
+        ("B", "Sy"),
+        ("I", "Ad"),
+        ("I", "Ar"),
+        ("I", "Em"),
+        ("I", "Fa"),
+        ("I", "Ft"),
+        ("I", "Mt"),
+        ("I", "Pa"),
+        ("I", "Sx"),
+        ("I", "Va"),
+        ("I", "Vt"),
+        ("R", "An"),
+        ("R", "At"),
+        ("R", "Dv"),
+        ("R", "Er"),
+        ("R", "Ev"),
+        ("R", "Li"),
+        ("R", "No"),
+        ("R", "Tn"),
+    ] {
+        check_parts(
+            &rt,
+            &[".", name, " a , b ."],
+            &[
+                "5 word ",
+                font,
+                " a; 7 +delimiter R ,; 9 word ",
+                font,
+                " b; 11 close enclosures; 11 +delimiter R .; 1 filled",
+            ],
+        );
+        check_parts(
+            &rt,
+            &[".Op ", name, " a"],
+            &["2 scope Bq; 8 word ", font, " a; 1 filled"],
+        );
+    }
+}
+
+#[test]
+fn each_delimiter(rt: HostRuntime) {
+    for (delimiter, kind, last) in [
+        ("(", "delimiter+", "delimiter+"),
+        ("[", "delimiter+", "delimiter+"),
+        ("|", "delimiter", "delimiter"),
+        (".", "+delimiter", "close enclosures; 7 +delimiter"),
+        (",", "+delimiter", "close enclosures; 7 +delimiter"),
+        (":", "+delimiter", "close enclosures; 7 +delimiter"),
+        (";", "+delimiter", "close enclosures; 7 +delimiter"),
+        (")", "+delimiter", "close enclosures; 7 +delimiter"),
+        ("]", "+delimiter", "close enclosures; 7 +delimiter"),
+        ("?", "+delimiter", "close enclosures; 7 +delimiter"),
+        ("!", "+delimiter", "close enclosures; 7 +delimiter"),
+    ] {
+        check_parts(
+            &rt,
+            &[".Em ", delimiter, " a"],
+            &["5 ", kind, " R ", delimiter, "; 7 word I a; 1 filled"],
+        );
+        check_parts(
+            &rt,
+            &[".Em a ", delimiter, " b"],
+            &[
+                "5 word I a; 7 ",
+                kind,
+                " R ",
+                delimiter,
+                "; 9 word I b; 1 filled",
+            ],
+        );
+        check_parts(
+            &rt,
+            &[".Em a ", delimiter],
+            &["5 word I a; 7 ", last, " R ", delimiter, "; 1 filled"],
+        );
+        check_parts(
+            &rt,
+            &[".Em \"", delimiter, "\""],
+            &["6 word I \"", delimiter, "\"; 1 filled"],
+        );
+    }
+}
+
+#[test]
+fn each_enclosure(rt: HostRuntime) {
+    for (name, scope) in [
+        ("Aq", "Aq"),
+        ("Bq", "Bq"),
+        ("Op", "Bq"),
+        ("Pq", "Pq"),
+        ("Dq", "Dq"),
+        ("Sq", "Sq"),
+        ("Ql", "Sq"),
+        ("Qq", "Qq"),
+    ] {
+        check_parts(
+            &rt,
+            &[".", name, " a"],
+            &["2 scope ", scope, "; 5 word a; 1 filled"],
+        );
+        check_parts(
+            &rt,
+            &[".Em ", name, " a ,"],
+            &[
+                "2 note empty Em; 5 scope ",
+                scope,
+                "; 8 word a; 10 close enclosures; 10 +delimiter R ,; 1 filled",
+            ],
+        );
+    }
+    for (opener, closer) in [
+        ("Ao", "Ac"),
+        ("Bo", "Bc"),
+        ("Do", "Dc"),
+        ("Oo", "Oc"),
+        ("Po", "Pc"),
+        ("Qo", "Qc"),
+        ("So", "Sc"),
+        ("Xo", "Xc"),
+    ] {
+        check_parts(
+            &rt,
+            &[".", opener, " a ", closer, " b"],
+            &[
+                "2 open ",
+                opener,
+                "; 5 word a; 7 close ",
+                closer,
+                "; 10 word b; 1 filled",
+            ],
+        );
     }
 }
