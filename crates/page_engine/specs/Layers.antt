@@ -1,4 +1,4 @@
--- The layers of a page, and the edge that they are at.
+-- The layers of a page, and the edge that they are at: steps of the code, of which trust needs no reading.
 use Rattle.std.specs.Prelude.{◌≡◌, Option, None, Some}
 use Rattle.page_engine.specs.declared.layers.Layers.{Layers}
 use Rattle.page_engine.specs.Page.{Edge}

@@ -1,4 +1,4 @@
--- A filler between pieces and a pair of sinks is a sink of pieces.
+-- A filler between pieces and a pair of sinks is a sink of pieces: steps of the code, of which trust needs no reading.
 use Rattle.std.specs.Prelude.{◌≡◌, ℕ, List, Option, Some, Result, MatchResult, refl}
 use Rattle.std.proofs.Common.{◌∙◌}
 use Rattle.page_core_base.specs.Messages.{Message}
