@@ -1,10 +1,12 @@
 -- The header and the footer of a page. Source: man(7), TH; mandoc(1), "ASCII Output" and "DIAGNOSTICS".
-use Rattle.std.specs.Prelude.{ℕ, ◌+◌, ◌-◌, ◌/◌, ◌≤◌, ◌==◌, max, true, false, List, [], ◌∷◌, ◌++◌, length, codes, if◌then◌else◌}
+use Rattle.std.specs.Prelude.{ℕ, ◌+◌, ◌-◌, ◌/◌, ◌≤◌, ◌==◌, max, true, false, List, [], ◌∷◌, ◌++◌, length, take, replicate, codes, if◌then◌else◌}
+use Rattle.page_core_limits.specs.declared.TheConstants.{CELLS}
 use Rattle.page_core_base.specs.Pieces.{Item, shown}
+use Rattle.page_core_base.specs.declared.cells.Font.TheVariants.{R}
 use Rattle.page_core_base.specs.declared.note_kinds.NoteKind.{NoteKind}
 use Rattle.page_core_base.specs.declared.note_kinds.NoteKind.TheVariants.{MissingTitle, UnknownSection, MissingDate}
 use Rattle.page_core_base.specs.declared.places.Place.{Place}
-use Rattle.page_core_base.specs.declared.pieces.Piece.TheVariants.{Break, Space, Indent, Literal, Column}
+use Rattle.page_core_base.specs.declared.pieces.Piece.TheVariants.{Break, Space, Indent, Literal}
 use Rattle.page_core_escapes.specs.Tokens.{TextToken, plain, tokens_of}
 use Rattle.page_scopes_words.specs.Fonts.{roman_fonts}
 use Rattle.page_scopes_words.specs.Words.{says}
@@ -12,7 +14,7 @@ use Rattle.page_engine_header.specs.declared.fields.Fields.{Fields}
 use Rattle.page_engine_header.specs.declared.headers.Measure.{Measure}
 use Rattle.page_engine_header.specs.declared.parts.Part.{Part}
 use Rattle.page_engine_header.specs.declared.parts.Part.TheVariants.{Name, Text}
-use Rattle.page_engine_header.specs.Printing.{tokens_columns, tokens_items}
+use Rattle.page_engine_header.specs.Printing.{in_font, tokens_columns, tokens_items}
 
 -- ---- a part of a row
 
@@ -54,13 +56,22 @@ abbrev pub third_column : Measure → (first second third : List TextToken) → 
 third_column m first second third =
     third_start m.width (part_columns m first) (part_columns m second) (part_columns m third)
 
--- a row that is kept as it is, from the left edge of the page on
+abbrev pub blanks : Place → ℕ → List Item
+blanks place count = in_font R place (replicate count 32)
+
+-- the characters of a row: its parts, and blanks between them up to where the second and the third begin
+unfoldable pub row_characters : Measure → Place → (first second third : List TextToken) → List Item
+row_characters m place first second third =
+    part_items m place first
+    ++ (blanks place (second_column m first second - part_columns m first) ++ (part_items m place second
+    ++ (blanks place (third_column m first second third - (second_column m first second + part_columns m second))
+    ++ part_items m place third)))
+
+-- a row that is kept as it is, from the left edge of the page on. It is one row: it ends where a row holds no more, without a message
 unfoldable pub row_items : Measure → Place → (first second third : List TextToken) → List Item
 row_items m place first second third =
-    shown (Literal true) ∷ shown (Indent 0 0) ∷ (part_items m place first
-    ++ (shown (Column (second_column m first second)) ∷ (part_items m place second
-    ++ (shown (Column (third_column m first second third)) ∷ (part_items m place third
-    ++ (shown Break ∷ shown (Literal false) ∷ []))))))
+    shown (Literal true) ∷ shown (Indent 0 0)
+    ∷ (take CELLS (row_characters m place first second third) ++ (shown Break ∷ shown (Literal false) ∷ []))
 
 abbrev pub header_row : Measure → Place → Fields → List Item
 header_row m place f =

@@ -1,11 +1,15 @@
 //! The header and the footer of a page (man(7), `TH`; mandoc(1), "ASCII Output").
 
-ghost use Rattle.std.specs.Prelude.{◌≡◌, ◌≤◌, ◌<◌, ◌-◌, ◌^◌};
+ghost use Rattle.std.specs.Prelude.{◌≡◌, ◌≤◌, ◌<◌, ◌-◌, ◌^◌, take};
+ghost use Rattle.page_core_limits.specs.declared.TheConstants.{CELLS};
 ghost use Rattle.page_core_base.specs.Latches.{Came};
-ghost use Rattle.page_engine_header.specs.Header.{second_start, third_start, part_tokens, IsShort, row_items, missing_items, header_items, header_row, footer_row};
+ghost use Rattle.page_engine_header.specs.Header.{second_start, third_start, part_tokens, IsShort, row_characters, row_items, missing_items, header_items, header_row, footer_row};
 
+use crate::printing::give_blanks;
+use crate::row_fronts::RowFront;
 use crate::{Fields, Part};
-use page_core_base::{NoteKind, Output, Piece, PieceOut, Place};
+use page_core_base::{Font, NoteKind, Output, Piece, PieceOut, Place};
+use page_core_limits::CELLS;
 use page_scopes_words::report;
 
 /// The measure of a page's rows.
@@ -36,6 +40,58 @@ fn third_start(width: u32, first: u32, second: u32, third: u32) -> u32
     (start + second + 1).max(width.saturating_sub(third))
 }
 
+// Gives the characters of a row of three parts.
+#[tactic(auto, unfolding(crate::specs::Header::row_characters))]
+fn give_characters<O: PieceOut>(
+    out: &mut O,
+    measure: Measure,
+    place: Place,
+    first: Part<'_>,
+    second: Part<'_>,
+    third: Part<'_>,
+)
+    requires first { IsShort first }
+    requires second { IsShort second }
+    requires third { IsShort third }
+    ensures { Came O.left out.old
+        (row_characters measure place (part_tokens first.entry) (part_tokens second.entry)
+        (part_tokens third.entry)) out.new }
+{
+    let output = measure.output;
+    let columns = (
+        first.columns(output),
+        second.columns(output),
+        third.columns(output),
+    );
+    let start = second_start(measure.width, columns.0, columns.1);
+    let last = third_start(measure.width, columns.0, columns.1, columns.2);
+    first.give(out, output, place);
+    give_blanks(out, Font::R, place, start - columns.0);
+    second.give(out, output, place);
+    give_blanks(out, Font::R, place, last - (start + columns.1));
+    third.give(out, output, place);
+}
+
+// Gives the characters of a row of three parts, as many as a row holds.
+fn give_front<O: PieceOut>(
+    out: &mut O,
+    measure: Measure,
+    place: Place,
+    first: Part<'_>,
+    second: Part<'_>,
+    third: Part<'_>,
+)
+    requires first { IsShort first }
+    requires second { IsShort second }
+    requires third { IsShort third }
+    ensures { Came O.left out.old
+        (take CELLS (row_characters measure place (part_tokens first.entry) (part_tokens second.entry)
+        (part_tokens third.entry))) out.new }
+{
+    let mut front = RowFront::new(out, CELLS);
+    give_characters(&mut front, measure, place, first, second, third);
+}
+
 // Gives a row of three parts, which is kept as it is.
 #[tactic(auto, unfolding(crate::specs::Header::row_items))]
 fn give_row<O: PieceOut>(
@@ -53,19 +109,9 @@ fn give_row<O: PieceOut>(
         (row_items measure place (part_tokens first.entry) (part_tokens second.entry)
         (part_tokens third.entry)) out.new }
 {
-    let output = measure.output;
-    let columns = (
-        first.columns(output),
-        second.columns(output),
-        third.columns(output),
-    );
     out.give(Piece::Literal(true));
     out.give(Piece::Indent { first: 0, rest: 0 });
-    first.give(out, output, place);
-    out.give(Piece::Column(second_start(measure.width, columns.0, columns.1)));
-    second.give(out, output, place);
-    out.give(Piece::Column(third_start(measure.width, columns.0, columns.1, columns.2)));
-    third.give(out, output, place);
+    give_front(out, measure, place, first, second, third);
     out.give(Piece::Break);
     out.give(Piece::Literal(false));
 }

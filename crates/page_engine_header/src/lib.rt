@@ -9,6 +9,7 @@ mod fields;
 mod headers;
 mod parts;
 mod printing;
+mod row_fronts;
 
 pub use fields::{Field, Fields, report_cut_fields};
 pub use headers::{Measure, give_footer_row, give_header};

@@ -69,8 +69,8 @@ pub(crate) fn give_char<O: PieceOut>(out: &mut O, font: Font, place: Place, c: c
     out.give(Piece::Char { c, font, place });
 }
 
-// Gives blanks.
-fn give_blanks<O: PieceOut>(out: &mut O, font: Font, place: Place, count: u32)
+/// Gives blanks.
+pub(crate) fn give_blanks<O: PieceOut>(out: &mut O, font: Font, place: Place, count: u32)
     ensures { Came O.left out.old (in_font font place (replicate count 32)) out.new }
 {
     let mut left = count;
