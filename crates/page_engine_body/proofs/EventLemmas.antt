@@ -24,6 +24,7 @@ leaf_short line (leaves.Example begins) short slices = tt
 leaf_short line (leaves.Distance rows) short slices = tt
 leaf_short line (leaves.Fonts font) short slices = tt
 leaf_short line leaves.FurtherTag short slices = tt
+leaf_short line (leaves.Step step) short slices = tt
 
 rest_short : (line : List ℕ) (deed : Deed (List ℕ)) → length line ≤ LINE → HasSlices line deed → RestIsShort deed
 rest_short line (deeds.Word word) short slices = tt

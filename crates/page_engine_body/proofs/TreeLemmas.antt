@@ -151,6 +151,7 @@ leaf_kinds (leaves.Own word) = inr (record { steps = λ e. refl; items = λ b e.
 leaf_kinds (leaves.Example begins) = inr (record { steps = λ e. refl; items = λ b e. refl; after = λ b e. refl })
 leaf_kinds (leaves.Distance rows) = inr (record { steps = λ e. refl; items = λ b e. refl; after = λ b e. refl })
 leaf_kinds (leaves.Fonts font) = inr (record { steps = λ e. refl; items = λ b e. refl; after = λ b e. refl })
+leaf_kinds (leaves.Step step) = inr (record { steps = λ e. refl; items = λ b e. refl; after = λ b e. refl })
 leaf_kinds leaves.FurtherTag = inr (record { steps = λ e. refl; items = λ b e. refl; after = λ b e. refl })
 
 deed_kinds : (deed : Deed (List ℕ)) → IsTitle deed ⊎ IsPlain deed

@@ -1,6 +1,6 @@
 -- The body of a page between its header and its footer: the events of each line, and the header before the event that begins the body.
 -- Source: man(7); mandoc(1), "ASCII Output" and "DIAGNOSTICS".
-use Rattle.std.specs.Prelude.{◌≡◌, ℕ, ◌==◌, ◌≤◌, Bool, List, [], ◌∷◌, ◌++◌, length, if◌then◌else◌, unwrap_or}
+use Rattle.std.specs.Prelude.{◌≡◌, ℕ, ◌==◌, ◌≤◌, Bool, false, List, [], ◌∷◌, ◌++◌, length, if◌then◌else◌, unwrap_or}
 use Rattle.page_core_limits.specs.declared.TheConstants.{LINE}
 use Rattle.page_core_base.specs.Latches.{Came}
 use Rattle.page_core_base.specs.Pieces.{Item, shown}
@@ -20,6 +20,7 @@ use Rattle.page_sets_lines.specs.declared.events.Deed.{Deed}
 use Rattle.page_sets_lines.specs.declared.events.Deed.TheVariants.{Leaf}
 use Rattle.page_sets_lines.specs.declared.events.Event.{Event}
 use Rattle.page_sets_lines.specs.declared.leaves.Leaf.TheVariants.{Prologue}
+use Rattle.page_sets_lines.specs.declared.macro_names.Prologue.{Prologue as PrologueName}
 use Rattle.page_sets_lines.specs.declared.plain_lines.PlainLine.{PlainLine}
 use Rattle.page_engine_body.specs.Titles.{title_items, title_fields}
 
@@ -42,7 +43,7 @@ has_begun b = b.scopes.state.running.has_begun
 
 -- the header stands before the event that begins the body
 abbrev pub header_of : BodyEdge → ℕ → List Item
-header_of b line = header_items b.header.measure (at line 1) b.header.fields
+header_of b line = header_items false b.header.measure (at line 1) b.header.fields
 
 abbrev pub begin_items : BodyEdge → Event (List ℕ) → List Item
 begin_items b event =
@@ -66,19 +67,19 @@ abbrev pub deed_items : Deed (List ℕ) → BodyEdge → Event (List ℕ) → Li
 deed_items (Leaf (Prologue name rest)) b event = title_items (has_begun b) event.place name rest
 deed_items _ b event = scope_items b event
 
-abbrev pub with_title : BodyEdge → List ℕ → BodyEdge
-with_title b rest =
+abbrev pub with_title : BodyEdge → PrologueName → List ℕ → BodyEdge
+with_title b name rest =
     record {
       header = record {
         measure = b.header.measure;
         os = b.header.os;
-        fields = title_fields (has_begun b) b.header.os rest b.header.fields;
+        fields = title_fields (has_begun b) name b.header.os rest b.header.fields;
       };
       scopes = b.scopes;
     }
 
 abbrev pub deed_after : Deed (List ℕ) → BodyEdge → Event (List ℕ) → BodyEdge
-deed_after (Leaf (Prologue name rest)) b event = with_title b rest
+deed_after (Leaf (Prologue name rest)) b event = with_title b name rest
 deed_after _ b event = with_scopes b (scopes.event_after b.scopes event)
 
 unfoldable pub event_items : BodyEdge → Event (List ℕ) → List Item

@@ -73,7 +73,7 @@ impl Body {
                 line: event.place.line,
                 column: 1,
             };
-            give_header(out, self.measure, place, &self.fields);
+            give_header(out, false, self.measure, place, &self.fields);
         }
     }
 
@@ -191,7 +191,7 @@ impl Body {
     {
         if !self.scopes.has_begun() {
             let place = Place { line, column: 1 };
-            give_header(out, self.measure, place, &self.fields);
+            give_header(out, false, self.measure, place, &self.fields);
             report(out, NoteKind::NoBody, place, b"");
         }
         self.scopes.give_end(line, out);

@@ -1,5 +1,6 @@
--- The fields of a page's header and footer. Source: man(7), TH; roff(7), "Macro syntax".
-use Rattle.std.specs.Prelude.{ℕ, ◌==◌, ◌&&◌, nat_lt, List, [], ◌∷◌, length, drop, codes, if◌then◌else◌}
+-- The fields of a page's header and footer. Source: man(7), TH; mdoc(7), Dd, Dt and Os; roff(7), "Macro syntax".
+use Rattle.std.specs.Prelude.{ℕ, ◌+◌, ◌-◌, ◌==◌, ◌&&◌, nat_eq, nat_lt, Bool, true, false, List, [], ◌∷◌, ◌++◌, length, take, drop, codes, if◌then◌else◌}
+use Rattle.std.specs.List.{flat_map, sum_by, starts_with, ends_with}
 use Rattle.page_core_base.specs.Messages.{text_front}
 use Rattle.page_core_base.specs.Pieces.{Item}
 use Rattle.page_core_base.specs.declared.note_kinds.NoteKind.TheVariants.{Limit}
@@ -8,6 +9,8 @@ use Rattle.page_core_limits.specs.declared.TheConstants.{FIELD}
 use Rattle.page_roff_forms.specs.declared.quotes.Argument.{Argument}
 use Rattle.page_roff_forms.specs.Arguments.{is_quoted}
 use Rattle.page_scopes_words.specs.Words.{says}
+use Rattle.page_sets_lines.specs.declared.macro_names.Prologue.{Prologue}
+use Rattle.page_sets_lines.specs.declared.macro_names.Prologue.TheVariants.{TH, Dd, Dt, Os}
 use Rattle.page_engine_header.specs.declared.fields.Fields.{Fields}
 
 -- a pair of quotes (34) in a quoted argument is one quote
@@ -22,11 +25,16 @@ single_quotes (byte ∷ []) = byte ∷ []
 single_quotes (byte ∷ next ∷ bytes) =
     if byte == 34 && next == 34 then 34 ∷ single_quotes bytes else byte ∷ single_quotes (next ∷ bytes)
 
--- an argument as a field: at most FIELD bytes as it is written, up to a character's end
+-- ---- one field
+
+-- the front of an argument that there is room for as it is written, up to a character's end
+abbrev pub written : ℕ → Argument (List ℕ) → List ℕ
+written room argument =
+    if is_quoted argument.quoting then single_quotes (text_front room argument.text) else text_front room argument.text
+
+-- an argument as a field: at most FIELD bytes as it is written
 abbrev pub field : Argument (List ℕ) → List ℕ
-field argument =
-    if is_quoted argument.quoting then single_quotes (text_front FIELD argument.text)
-    else text_front FIELD argument.text
+field argument = written FIELD argument
 
 abbrev pub first_field : List (Argument (List ℕ)) → List ℕ
 first_field [] = []
@@ -38,6 +46,42 @@ nth_field n arguments = first_field (drop n arguments)
 -- a field, or another where it is empty
 abbrev pub or_else : List ℕ → List ℕ → List ℕ
 or_else text other = if length text == 0 then other else text
+
+-- ---- words that are one field
+
+-- arguments with a blank (32) before each, as far as there is room for them as they are written
+abbrev pub words_text : ℕ → List (Argument (List ℕ)) → List ℕ
+words_text room [] = []
+words_text room (argument ∷ others) =
+    take room (32 ∷ []) ++ (written (room - 1) argument ++ words_text (room - 1 - length argument.text) others)
+
+-- arguments joined by one blank: at most FIELD bytes as they are written
+abbrev pub joined : List (Argument (List ℕ)) → List ℕ
+joined [] = []
+joined (argument ∷ others) = written FIELD argument ++ words_text (FIELD - length argument.text) others
+
+-- their bytes as they are written
+abbrev pub joined_len : List (Argument (List ℕ)) → ℕ
+joined_len [] = 0
+joined_len (argument ∷ others) = length argument.text + sum_by (λ a. 1 + length a.text) others
+
+-- the bytes of a date's keyword at a text's front, and where a text ends without the keyword's end
+abbrev pub keyword_len : List ℕ → ℕ
+keyword_len text = if starts_with nat_eq text (codes "$Mdocdate: ") then 11 else 0
+
+abbrev pub keyword_end : List ℕ → ℕ
+keyword_end text = if ends_with nat_eq text (codes " $") then length text - 2 else length text
+
+-- a date without the keyword of a revision that stands around it: `$Mdocdate: June 1 2020 $`
+abbrev pub without_keyword : List ℕ → List ℕ
+without_keyword text = take (keyword_end text - keyword_len text) (drop (keyword_len text) text)
+
+-- an argument in brackets after a blank, as far as there is room for it as it is written; there is room for the first bracket
+abbrev pub in_brackets : ℕ → Argument (List ℕ) → List ℕ
+in_brackets room argument =
+    codes " (" ++ (written (room - 2) argument ++ take (room - 2 - length argument.text) (codes ")"))
+
+-- ---- the volume
 
 -- the volume of a section, by its first byte: the digits from 1 (49) on
 abbrev pub volume_at : ℕ → List ℕ
@@ -57,25 +101,68 @@ abbrev pub volume_of : List ℕ → List ℕ
 volume_of [] = []
 volume_of (byte ∷ bytes) = volume_at byte
 
+-- a text, and the next argument in brackets after it, unless it is empty: one field
+abbrev pub bracketed : List ℕ → List (Argument (List ℕ)) → List ℕ
+bracketed text [] = text
+bracketed text (argument ∷ others) =
+    if length argument.text == 0 then text else text ++ in_brackets (FIELD - length text) argument
+
+-- ---- what each macro tells
+
 -- TH title section date source volume: the source is else the operating system's, the volume else the section's
-abbrev pub fields_of : List ℕ → List (Argument (List ℕ)) → Fields
-fields_of os arguments = record {
+abbrev pub th_fields : List ℕ → List (Argument (List ℕ)) → Fields → Fields
+th_fields os arguments f = record {
   title = nth_field 0 arguments;
   section = nth_field 1 arguments;
   date = nth_field 2 arguments;
   source = or_else (nth_field 3 arguments) os;
   volume = or_else (nth_field 4 arguments) (volume_of (nth_field 1 arguments));
+  os_came = f.os_came;
 }
 
--- before any TH
+-- Dt title section [arch]: the volume is the section's, and the architecture in brackets after it
+abbrev pub dt_fields : List (Argument (List ℕ)) → Fields → Fields
+dt_fields arguments f = record f {
+  title = nth_field 0 arguments;
+  section = nth_field 1 arguments;
+  volume = bracketed (volume_of (nth_field 1 arguments)) (drop 2 arguments);
+}
+
+-- Dd date; Os system: all words, and without words the system is that of the settings
+abbrev pub fields_after : Prologue → List ℕ → List (Argument (List ℕ)) → Fields → Fields
+fields_after TH os arguments f = th_fields os arguments f
+fields_after Dd os arguments f = record f { date = without_keyword (joined arguments) }
+fields_after Dt os arguments f = dt_fields arguments f
+fields_after Os os arguments f = record f { source = or_else (joined arguments) os; os_came = true }
+
+-- before any of them
 abbrev pub no_fields : List ℕ → Fields
-no_fields os = record { title = []; section = []; date = []; source = os; volume = [] }
+no_fields os = record { title = []; section = []; date = []; source = os; volume = []; os_came = false }
+
+-- ---- fields that are cut
+
+-- a field that is longer as it is written is reported at its macro
+abbrev pub cut_item : Place → ℕ → List Item
+cut_item place len = if nat_lt FIELD len then says Limit place (codes "FIELD") ∷ [] else []
+
+abbrev pub argument_cut : Place → Argument (List ℕ) → List Item
+argument_cut place argument = cut_item place (length argument.text)
 
 -- the fields of TH
 abbrev pub FIELDS : ℕ
 FIELDS = 5
 
--- an argument that is cut as a field is reported at its macro
-abbrev pub cut_items : Place → Argument (List ℕ) → List Item
-cut_items place argument =
-    if nat_lt FIELD (length argument.text) then says Limit place (codes "FIELD") ∷ [] else []
+-- the volume with the architecture in brackets
+abbrev pub arch_cut : Place → (volume : List ℕ) → List (Argument (List ℕ)) → List Item
+arch_cut place volume [] = []
+arch_cut place volume (arch ∷ others) = cut_item place (length volume + 3 + length arch.text)
+
+abbrev pub dt_cuts : Place → List (Argument (List ℕ)) → List Item
+dt_cuts place arguments =
+    flat_map (argument_cut place) (take 2 arguments) ++ arch_cut place (volume_of (nth_field 1 arguments)) (drop 2 arguments)
+
+abbrev pub cut_items : Prologue → Place → List (Argument (List ℕ)) → List Item
+cut_items TH place arguments = flat_map (argument_cut place) (take FIELDS arguments)
+cut_items Dd place arguments = cut_item place (joined_len arguments)
+cut_items Dt place arguments = dt_cuts place arguments
+cut_items Os place arguments = cut_item place (joined_len arguments)

@@ -1,10 +1,10 @@
 -- The header and the footer of a page. Source: man(7), TH; mandoc(1), "ASCII Output" and "DIAGNOSTICS".
-use Rattle.std.specs.Prelude.{ℕ, ◌+◌, ◌-◌, ◌/◌, ◌≤◌, ◌==◌, max, true, false, List, [], ◌∷◌, ◌++◌, length, take, replicate, codes, if◌then◌else◌}
+use Rattle.std.specs.Prelude.{ℕ, ◌+◌, ◌-◌, ◌/◌, ◌≤◌, ◌==◌, ◌&&◌, not, max, Bool, true, false, List, [], ◌∷◌, ◌++◌, length, take, replicate, codes, if◌then◌else◌}
 use Rattle.page_core_limits.specs.declared.TheConstants.{CELLS}
 use Rattle.page_core_base.specs.Pieces.{Item, shown}
 use Rattle.page_core_base.specs.declared.cells.Font.TheVariants.{R}
 use Rattle.page_core_base.specs.declared.note_kinds.NoteKind.{NoteKind}
-use Rattle.page_core_base.specs.declared.note_kinds.NoteKind.TheVariants.{MissingTitle, UnknownSection, MissingDate}
+use Rattle.page_core_base.specs.declared.note_kinds.NoteKind.TheVariants.{MissingTitle, UnknownSection, MissingDate, MissingOs}
 use Rattle.page_core_base.specs.declared.places.Place.{Place}
 use Rattle.page_core_base.specs.declared.pieces.Piece.TheVariants.{Break, Space, Indent, Literal}
 use Rattle.page_core_escapes.specs.Tokens.{TextToken, plain, tokens_of}
@@ -14,6 +14,7 @@ use Rattle.page_engine_header.specs.declared.fields.Fields.{Fields}
 use Rattle.page_engine_header.specs.declared.headers.Measure.{Measure}
 use Rattle.page_engine_header.specs.declared.parts.Part.{Part}
 use Rattle.page_engine_header.specs.declared.parts.Part.TheVariants.{Name, Text}
+use Rattle.page_engine_header.specs.Fields.{volume_of}
 use Rattle.page_engine_header.specs.Printing.{in_font, tokens_columns, tokens_items}
 
 -- ---- a part of a row
@@ -87,12 +88,21 @@ footer_row m place f =
 abbrev pub if_empty : List ℕ → NoteKind → Place → List ℕ → List Item
 if_empty f kind place detail = if length f == 0 then says kind place detail ∷ [] else []
 
-abbrev pub missing_items : Place → Fields → List Item
-missing_items place f =
+-- a page of mdoc(7) has its section's volume, whatever stands in brackets after it
+abbrev pub missing_volume : (is_mdoc : Bool) → Fields → List ℕ
+missing_volume is_mdoc f = if is_mdoc then volume_of f.section else f.volume
+
+-- and it has the macro Os, or the settings' system: the source where none came
+abbrev pub missing_os : (is_mdoc : Bool) → Place → Fields → List Item
+missing_os is_mdoc place f = if is_mdoc && not f.os_came then if_empty f.source MissingOs place [] else []
+
+abbrev pub missing_items : (is_mdoc : Bool) → Place → Fields → List Item
+missing_items is_mdoc place f =
     if_empty f.title MissingTitle place []
-    ++ (if_empty f.volume UnknownSection place f.section ++ if_empty f.date MissingDate place [])
+    ++ (if_empty (missing_volume is_mdoc f) UnknownSection place f.section
+    ++ (if_empty f.date MissingDate place [] ++ missing_os is_mdoc place f))
 
 -- the header, a blank row and what is missing; then text stands at the indent
-abbrev pub header_items : Measure → Place → Fields → List Item
-header_items m place f =
-    header_row m place f ++ (shown (Space 1) ∷ (missing_items place f ++ shown (Indent m.indent m.indent) ∷ []))
+abbrev pub header_items : (is_mdoc : Bool) → Measure → Place → Fields → List Item
+header_items is_mdoc m place f =
+    header_row m place f ++ (shown (Space 1) ∷ (missing_items is_mdoc place f ++ shown (Indent m.indent m.indent) ∷ []))

@@ -1,10 +1,11 @@
-//! The header and the footer of a page (man(7), `TH`; mandoc(1), "ASCII Output").
+//! The header and the footer of a page (man(7), `TH`; mdoc(7), `Dd`, `Dt`, `Os`; mandoc(1), "ASCII Output").
 
 ghost use Rattle.std.specs.Prelude.{◌≡◌, ◌≤◌, ◌<◌, ◌-◌, ◌^◌, take};
 ghost use Rattle.page_core_limits.specs.declared.TheConstants.{CELLS};
 ghost use Rattle.page_core_base.specs.Latches.{Came};
-ghost use Rattle.page_engine_header.specs.Header.{second_start, third_start, part_tokens, IsShort, row_characters, row_items, missing_items, header_items, header_row, footer_row};
+ghost use Rattle.page_engine_header.specs.Header.{second_start, third_start, part_tokens, IsShort, row_characters, row_items, if_empty, missing_items, header_items, header_row, footer_row};
 
+use crate::fields::volume_of;
 use crate::printing::give_blanks;
 use crate::row_fronts::RowFront;
 use crate::{Fields, Part};
@@ -153,28 +154,46 @@ pub fn give_footer_row<O: PieceOut>(out: &mut O, measure: Measure, place: Place,
     );
 }
 
-// Reports the fields that are missing.
-fn report_missing<O: PieceOut>(out: &mut O, place: Place, fields: &Fields)
-    ensures { Came O.left out.old (missing_items place fields.now) out.new }
+// Reports that a field is missing, with a detail.
+fn report_empty<O: PieceOut>(out: &mut O, text: &[u8], kind: NoteKind, place: Place, detail: &[u8])
+    ensures { Came O.left out.old (if_empty text.now kind place detail.now) out.new }
 {
-    if fields.title.is_empty() {
-        report(out, NoteKind::MissingTitle, place, b"");
-    }
-    if fields.volume.is_empty() {
-        report(out, NoteKind::UnknownSection, place, fields.section.text());
-    }
-    if fields.date.is_empty() {
-        report(out, NoteKind::MissingDate, place, b"");
+    if text.is_empty() {
+        report(out, kind, place, detail);
     }
 }
 
-/// Gives the header, a blank row and the messages of missing fields; then text stands at the indent.
-pub fn give_header<O: PieceOut>(out: &mut O, measure: Measure, place: Place, fields: &Fields)
-    ensures { Came O.left out.old (header_items measure place fields.now) out.new }
+// Reports the fields that are missing, in a page of mdoc(7) or of man(7).
+fn report_missing<O: PieceOut>(out: &mut O, is_mdoc: bool, place: Place, fields: &Fields)
+    ensures { Came O.left out.old (missing_items is_mdoc place fields.now) out.new }
+{
+    let section = fields.section.text();
+    let volume = if is_mdoc {
+        volume_of(section).as_bytes()
+    } else {
+        fields.volume.text()
+    };
+    report_empty(out, fields.title.text(), NoteKind::MissingTitle, place, b"");
+    report_empty(out, volume, NoteKind::UnknownSection, place, section);
+    report_empty(out, fields.date.text(), NoteKind::MissingDate, place, b"");
+    if is_mdoc && !fields.os_came {
+        report_empty(out, fields.source.text(), NoteKind::MissingOs, place, b"");
+    }
+}
+
+/// Gives the header of a page of mdoc(7) or of man(7), a blank row and the messages of missing fields; then text stands at the indent.
+pub fn give_header<O: PieceOut>(
+    out: &mut O,
+    is_mdoc: bool,
+    measure: Measure,
+    place: Place,
+    fields: &Fields,
+)
+    ensures { Came O.left out.old (header_items is_mdoc measure place fields.now) out.new }
 {
     give_header_row(out, measure, place, fields);
     out.give(Piece::Space(1));
-    report_missing(out, place, fields);
+    report_missing(out, is_mdoc, place, fields);
     out.give(Piece::Indent {
         first: measure.indent,
         rest: measure.indent,

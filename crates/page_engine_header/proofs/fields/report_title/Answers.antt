@@ -1,7 +1,7 @@
 use Rattle.std.proofs.Common.{append_assoc, arith}
 use Rattle.std.proofs.lemmas.Bool.Decides.{nat_tests}
 use Rattle.page_engine_header.proofs.FieldLemmas.{cuts_more}
-use Rattle.page_engine_header.proofs.fields.report_cut_fields.Goals as goal
+use Rattle.page_engine_header.proofs.fields.report_title.Goals as goal
 
 pub loop-left-preserved : goal.loop-left-preserved
 loop-left-preserved g c = λ plan rest h.
