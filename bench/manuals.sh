@@ -1,5 +1,6 @@
 #!/bin/sh
-# Compares the words of real pages of man(7) with those that another formatter, installed as `mandoc`, prints (bench/manuals.py).
+# Compares the words, and the rows, of real pages of man(7) with those that another formatter, installed as `mandoc`, prints
+# (bench/manuals.py): the share of pages with the same words, and of those with the same rows, headers and footers left aside.
 # With no folder, the pages of some packages are fetched into one that is removed at the end (Debian: apt-get download).
 # usage: bench/manuals.sh [FOLDER [LISTED]]
 cd "$(dirname "$0")/.." || exit 1

@@ -7,7 +7,7 @@ use page_core_base::{Fault, Output, Settings};
 use page_engine::{Outcome, run_page};
 use std::alloc::Global;
 use std::fs::{self, Files};
-use std::io::{self, Read, Write};
+use std::io::{self, BufWriter, Read, Write};
 
 /// The name that messages have of the standard input.
 const STANDARD_INPUT: &str = "<stdin>";
@@ -21,22 +21,23 @@ struct Done {
 
 /// Formats the pages of a command in their order, and answers the worst of their statuses (mandoc(1), EXIT STATUS).
 ///
-/// A file that can't be opened or read, or a page past a limit, is told of on `notes`, and the others go on. A writer that fails ends it.
+/// A file that can't be opened or read, or a page past a limit, is told of on `err`, and the others go on, also where that line can't be
+/// printed. A page whose rows or messages can't be written ends it.
 pub fn format_all<R: Files, I: Read, W: Write, V: Write>(
     rt: &R,
     alloc: Global,
     format: &Format,
     input: &mut I,
     out: &mut W,
-    notes: &mut V,
+    err: &mut V,
 ) -> u8 {
     let settings = &format.settings;
     if format.files.names().is_empty() {
-        return format_page(alloc, input, out, notes, STANDARD_INPUT, settings).status;
+        return format_page(alloc, input, out, err, STANDARD_INPUT, settings).status;
     }
     let mut worst = 0;
     for name in format.files.names() {
-        let done = format_file(rt, alloc, out, notes, name.as_str(), settings);
+        let done = format_file(rt, alloc, out, err, name.as_str(), settings);
         worst = worst.max(done.status);
         if done.stops {
             break;
@@ -50,35 +51,54 @@ fn format_file<R: Files, W: Write, V: Write>(
     rt: &R,
     alloc: Global,
     out: &mut W,
-    notes: &mut V,
+    err: &mut V,
     name: &str,
     settings: &Settings,
 ) -> Done {
     match fs::open(rt, name) {
-        Ok(mut file) => format_page(alloc, &mut file, out, notes, name, settings),
-        Err(_) => told(writeln!(notes, "mandoc: {name}: cannot open"), false),
+        Ok(mut file) => format_page(alloc, &mut file, out, err, name, settings),
+        Err(_) => {
+            let _ = writeln!(err, "mandoc: {name}: cannot open");
+            failed(false)
+        }
     }
 }
 
-// Formats a page, and tells of its fault.
+// Formats a page, and tells of its fault: at once, since a buffer that can't be put out would fail the next page too.
 fn format_page<I: Read, W: Write, V: Write>(
     alloc: Global,
     input: &mut I,
     out: &mut W,
-    notes: &mut V,
+    err: &mut V,
     name: &str,
     settings: &Settings,
 ) -> Done {
-    match run_flushing(alloc, input, out, notes, name, settings) {
+    match run_buffered(alloc, input, out, err, name, settings) {
         Ok(outcome) => Done {
             status: status_of(outcome.worst),
             stops: false,
         },
-        Err(fault) => told(
-            writeln!(notes, "mandoc: {name}: {fault}"),
-            matches!(fault, Fault::WriteText | Fault::WriteNotes),
-        ),
+        Err(fault) => {
+            let _ = writeln!(err, "mandoc: {name}: {fault}");
+            failed(matches!(fault, Fault::WriteText | Fault::WriteNotes))
+        }
     }
+}
+
+// Runs over a page with buffers of its own.
+fn run_buffered<I: Read, W: Write, V: Write>(
+    alloc: Global,
+    input: &mut I,
+    out: &mut W,
+    err: &mut V,
+    name: &str,
+    settings: &Settings,
+) -> Result<Outcome, Fault> {
+    let (Ok(mut rows), Ok(mut notes)) = (BufWriter::new(alloc, out), BufWriter::new(alloc, err))
+    else {
+        return Err(Fault::Memory);
+    };
+    run_flushing(alloc, input, &mut rows, &mut notes, name, settings)
 }
 
 // Runs over a page: what was written of it is put out before each read, and at its end.
@@ -127,10 +147,10 @@ fn put_out(
     Ok(outcome)
 }
 
-// What is left where a page failed, after that was told.
-fn told(written: io::Result<()>, stops: bool) -> Done {
+// What a page leaves that failed.
+fn failed(stops: bool) -> Done {
     Done {
         status: SYSTEM_FAILURE,
-        stops: stops || written.is_err(),
+        stops,
     }
 }

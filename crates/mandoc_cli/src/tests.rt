@@ -209,13 +209,10 @@ fn formats_files_in_turn(rt: HostRuntime) -> Result<(), Fail> {
         FLUSHED,
         "[out]",
         HEAD,
-        "[notes]",
-        warned.as_str(),
-        "\n[out]",
         TEXT,
-        "\n",
-        FLUSHED,
-        "[out]       y\n",
+        "\n[out flushed][notes]",
+        warned.as_str(),
+        "\n[notes flushed][out]       y\n",
         FOOT,
         FLUSHED,
         FLUSHED,
@@ -267,6 +264,8 @@ fn goes_on_after_a_file_that_fails(rt: HostRuntime) -> Result<(), Fail> {
     ];
     let words = [missing.as_str(), quiet.as_str()];
     tells(&rt, &words, NEVER, joined(alloc, &told)?, 6);
+    let unheard = (Fails::Never, Fails::Past(0));
+    tells(&rt, &words, unheard, joined(alloc, &told[3..])?, 6);
     let told = [
         FLUSHED,
         FLUSHED,
@@ -300,11 +299,15 @@ fn stops_after_a_writer_that_fails(rt: HostRuntime) -> Result<(), Fail> {
     )?;
     let fault = fault.as_str();
     let cases: [(Fails, Fails, &[&str]); 6] = [
-        (Fails::Past(0), Fails::Never, &[FLUSHED, FLUSHED, fault]),
+        (
+            Fails::Past(0),
+            Fails::Never,
+            &[FLUSHED, "[notes flushed][notes flushed]", fault],
+        ),
         (
             Fails::Past(HEAD.len()),
             Fails::Never,
-            &[FLUSHED, "[out]", HEAD, FLUSHED, FLUSHED, fault],
+            &[FLUSHED, "[out]", HEAD, FLUSHED, "[notes flushed]", fault],
         ),
         (
             Fails::AtFlush(0),
@@ -362,13 +365,11 @@ fn puts_out_what_there_is_before_it_reads_on(rt: HostRuntime) -> Result<(), Fail
         FLUSHED,
         "[in]",
         FLUSHED,
-        "[in][notes]mandoc: <stdin>:4:1: ",
-        WARNING,
-        "\n[out]",
+        "[in][out]",
         TEXT,
-        "\n",
-        FLUSHED,
-        "[in]",
+        "\n[out flushed][notes]mandoc: <stdin>:4:1: ",
+        WARNING,
+        "\n[notes flushed][in]",
         FLUSHED,
         "[in]",
         FLUSHED,

@@ -1,7 +1,7 @@
 -- The parts of a word, byte by byte.
 use Rattle.std.proofs.Common.{◌≡◌, ℕ, zero, suc, ◌+◌, ◌<◌, ◌≤◌, Bool, true, false, not, ◌==◌, List, [], ◌∷◌, ◌++◌, length, take, drop, get_or, if◌then◌else◌, refl, sym, ap, ◌∙◌, arith, inl, inr}
 use Rattle.std.specs.Bool.{⊤}
-use Rattle.std.specs.List.{list_all}
+use Rattle.std.specs.List.{list_all, list_any}
 use Rattle.std.proofs.lemmas.List.{drop_all, drop_more, take_all, take_more}
 use Rattle.std.proofs.lemmas.Bool.{cases_Bool}
 use Rattle.std.proofs.lemmas.Bool.Decides.{nat_tests}
@@ -28,6 +28,30 @@ parts-some before b bytes = elim (cases_Bool (ends_part before b bytes)) [
     front-some : (parts : List (List ℕ)) → (length (in_first b parts) == 0) ≡ false
     front-some [] = grind (arith, nat_tests)
     front-some (part ∷ parts) = grind (arith, nat_tests)
+
+-- ---- a word without a hyphen
+
+whole-after : (before b : ℕ) (bytes : List ℕ) → list_any (λ byte. byte == hyphen) (b ∷ bytes) ≡ false → parts_after before (b ∷ bytes) ≡ (b ∷ bytes) ∷ []
+unfolding parts_after
+whole-after before b [] none = let goes : ends_part before b [] ≡ false = grind (arith, none) in rw goes refl
+whole-after before b (c ∷ bytes) none =
+    let goes : ends_part before b (c ∷ bytes) ≡ false = grind (arith, none) in
+    let later : list_any (λ byte. byte == hyphen) (c ∷ bytes) ≡ false = grind (arith, none) in
+    rw goes (ap (in_first b) (whole-after b c bytes later))
+
+pub whole-first : (word : List ℕ) → (length word == 0) ≡ false → list_any (λ byte. byte == hyphen) word ≡ false
+    → parts_of word ≡ take (length word) word ∷ parts_of (drop (length word) word)
+unfolding parts_after
+whole-first [] some none = absurd (grind (arith, nat_tests, some))
+whole-first (b ∷ bytes) some none =
+    let all : take (length (b ∷ bytes)) (b ∷ bytes) ≡ b ∷ bytes = take_all (length (b ∷ bytes)) (b ∷ bytes) (omega arith) in
+    let rest : drop (length (b ∷ bytes)) (b ∷ bytes) ≡ [] = drop_all (length (b ∷ bytes)) (b ∷ bytes) (omega arith) in
+    rw (all, rest) (whole-after hyphen b bytes none)
+
+pub whole-start : (word : List ℕ) → list_any (λ byte. byte == hyphen) word ≡ false → 0 ≡ last_start (parts_of word)
+unfolding parts_after
+whole-start [] none = refl
+whole-start (b ∷ bytes) none = rw (whole-after hyphen b bytes none) refl
 
 -- ---- the first part, byte by byte
 

@@ -1,7 +1,8 @@
 //! The parts of a word: a row may end after a hyphen between two letters (roff(7), "Filling and adjusting").
 
 ghost use Rattle.std.specs.Prelude.{◌≡◌, ◌<◌, ◌≤◌, false, ◌==◌, ◌∷◌, length, take, drop};
-ghost use Rattle.page_core_base.specs.Words.{starts_with_letter, ends_part, last_start, parts_of};
+ghost use Rattle.std.specs.List.{list_any};
+ghost use Rattle.page_core_base.specs.Words.{starts_with_letter, ends_part, hyphen, last_start, parts_of};
 
 const HYPHEN: u8 = b'-';
 
@@ -21,8 +22,17 @@ fn ends_part(before: u8, byte: u8, after: &[u8]) -> bool
     byte == HYPHEN && before.is_ascii_alphabetic() && starts_with_letter(after)
 }
 
-/// How many bytes the first part of a word has.
-pub fn first_part_len(word: &[u8]) -> usize
+// Whether a hyphen stands in a text. Most words have none, and are one part.
+#[inline(always)]
+fn has_hyphen(text: &[u8]) -> bool
+    ensures { result ≡ list_any (λ byte. byte == hyphen) text.now }
+{
+    text.iter().any(|byte| *byte == HYPHEN)
+}
+
+// How many bytes the first part of a word has, hyphen by hyphen. It is a call, so that what asks for the parts of words stays small.
+#[inline(never)]
+fn hyphened_part_len(word: &[u8]) -> usize
     requires some { (length word.now == 0) ≡ false }
     ensures first { parts_of word.now ≡ take result word.now ∷ parts_of (drop result word.now) }
     ensures some { 0 < result }
@@ -41,8 +51,23 @@ pub fn first_part_len(word: &[u8]) -> usize
     len
 }
 
-/// Where the last part of a word begins, in bytes.
-pub fn last_part_start(word: &[u8]) -> usize
+/// How many bytes the first part of a word has.
+#[inline(always)]
+pub fn first_part_len(word: &[u8]) -> usize
+    requires some { (length word.now == 0) ≡ false }
+    ensures first { parts_of word.now ≡ take result word.now ∷ parts_of (drop result word.now) }
+    ensures some { 0 < result }
+    ensures within { result ≤ length word.now }
+{
+    if !has_hyphen(word) {
+        return word.len();
+    }
+    hyphened_part_len(word)
+}
+
+// Where the last part of a word begins, hyphen by hyphen.
+#[inline(never)]
+fn hyphened_part_start(word: &[u8]) -> usize
     ensures value { result ≡ last_start (parts_of word.now) }
     ensures within { result ≤ length word.now }
 {
@@ -58,4 +83,16 @@ pub fn last_part_start(word: &[u8]) -> usize
         before = byte;
     }
     start
+}
+
+/// Where the last part of a word begins, in bytes.
+#[inline(always)]
+pub fn last_part_start(word: &[u8]) -> usize
+    ensures value { result ≡ last_start (parts_of word.now) }
+    ensures within { result ≤ length word.now }
+{
+    if !has_hyphen(word) {
+        return 0;
+    }
+    hyphened_part_start(word)
 }

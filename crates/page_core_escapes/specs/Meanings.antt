@@ -1,5 +1,5 @@
 -- What an escape means: roff(7), "Escape sequences", and mandoc_char(7).
-use Rattle.std.specs.Prelude.{ℕ, ◌+◌, ◌-◌, ◌*◌, Bool, false, ◌&&◌, ◌||◌, not, ◌==◌, nat_le, List, [], ◌∷◌, length, take, drop, fold, codes, if◌then◌else◌, unwrap_or, slice_index}
+use Rattle.std.specs.Prelude.{ℕ, ◌+◌, ◌-◌, ◌*◌, Bool, true, false, ◌&&◌, ◌||◌, not, ◌==◌, nat_le, List, [], ◌∷◌, length, take, drop, fold, codes, if◌then◌else◌, unwrap_or, slice_index}
 use Rattle.std.specs.List.{list_any, list_all}
 use Rattle.std.specs.Str.{bytes_eq, chars, is_utf8}
 use Rattle.page_core_escapes.specs.declared.letters.Shape.{Shape}
@@ -92,6 +92,11 @@ face_of name =
     if is_one_of name (codes "B" ∷ codes "3" ∷ codes "CB" ∷ []) then bold else (
     if is_one_of name (codes "BI" ∷ codes "4" ∷ []) then bold_italic else (
     if is_one_of name (codes "P" ∷ [] ∷ []) then former else unknown name))))
+
+-- there is such a font
+abbrev pub is_known : Face → Bool
+is_known (unknown name) = false
+is_known _ = true
 
 -- ---- all escapes, by their letters
 

@@ -2,7 +2,7 @@
 ghost use Rattle.std.specs.Prelude.{◌≡◌, ◌<◌, ◌≤◌, length, drop, if◌then◌else◌, IfSome};
 ghost use Rattle.std.specs.List.{list_all, list_any};
 ghost use Rattle.std.specs.Str.{bytes_eq};
-ghost use Rattle.page_core_escapes.specs.Meanings.{meaning_of, argument_of, meaning_by, bare_name, bare_quoted, without_last, bracketed, names_code_point, is_hex_digit, hex_number, hex_value, face_of, first_char};
+ghost use Rattle.page_core_escapes.specs.Meanings.{meaning_of, argument_of, meaning_by, bare_name, bare_quoted, without_last, bracketed, names_code_point, is_hex_digit, hex_number, hex_value, face_of, is_known, first_char};
 ghost use Rattle.page_core_escapes.specs.Escapes.{meaning_seen, face_seen};
 ghost use Rattle.page_core_escapes.specs.Steps.{FontLetter};
 
@@ -21,6 +21,16 @@ pub enum FontName<'a> {
     Former,
     /// A name that no font has.
     Unknown(&'a [u8]),
+}
+
+impl<'a> FontName<'a> {
+    /// Whether there is such a font.
+    #[inline(always)]
+    pub fn is_known(self) -> bool
+        ensures { result ≡ is_known (face_seen self.entry) }
+    {
+        !matches!(self, FontName::Unknown(_))
+    }
 }
 
 /// What an escape means: roff(7), "Escape sequences", and mandoc_char(7).

@@ -5,7 +5,7 @@ ghost use Rattle.std.specs.List.{prefix_len};
 ghost use Rattle.std.specs.Simd.Lanes.{mask_l};
 ghost use Rattle.page_core_escapes.specs.Escapes.{face_seen, meaning_seen};
 ghost use Rattle.page_core_escapes.specs.ShortEscapes.{ShortEscape, ShortFont};
-ghost use Rattle.page_core_escapes.specs.Tokens.{is_white, begins_white, begins_word, begins_escape, begins_quote, prints_itself, is_space, token_at, token_bytes, token_seen};
+ghost use Rattle.page_core_escapes.specs.Tokens.{is_white, begins_white, begins_word, begins_escape, begins_quote, prints_itself, token_at, token_bytes, token_seen};
 
 use crate::meaning::font_by_letter;
 use crate::{Escape, FontName, escape};
@@ -47,13 +47,6 @@ impl<'a> Token<'a> {
         ensures { result ≡ length (token_bytes (token_seen self.now)) }
     {
         self.bytes().len()
-    }
-
-    /// Whether the token is white space.
-    pub fn is_space(&self) -> bool
-        ensures { result ≡ is_space (token_seen self.now) }
-    {
-        matches!(*self, Token::White(_))
     }
 }
 

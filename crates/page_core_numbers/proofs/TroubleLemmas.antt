@@ -1,16 +1,14 @@
 -- What is reported of an expression, one part after another.
-use Rattle.std.proofs.Common.{◌≡◌, ℕ, suc, ◌+◌, ◌-◌, ◌<◌, Bool, true, false, List, [], ◌∷◌, ◌++◌, Result, Ok, Err, replicate, refl, sym, ap, ◌∙◌, arith, append_assoc, append-nil}
+use Rattle.std.proofs.Common.{◌≡◌, ℕ, ◌+◌, Bool, true, false, List, [], ◌∷◌, ◌++◌, replicate, refl, sym, ap, ◌∙◌, arith, append_assoc, append-nil}
 use Rattle.std.specs.Prelude.{if◌then◌else◌}
 use Rattle.std.specs.Str.{IsUtf8}
 use Rattle.std.proofs.lemmas.Str.{utf8_valid_len-IsUtf8}
-use Rattle.std.proofs.lemmas.List.{replicate_more, replicate-append-replicate, map-append}
-use Rattle.page_core_base.specs.Sinks.{IsSink, UpTo, Gives}
+use Rattle.std.proofs.lemmas.List.{replicate_more, replicate-append-replicate}
 use Rattle.page_core_base.specs.Messages.{text_front}
 use Rattle.page_core_limits.specs.declared.Limit.TheVariants.{Parens}
 use Rattle.page_core_limits.specs.Limits.{name_of}
 use Rattle.page_core_numbers.specs.declared.troubles.Trouble.{Trouble}
 use Rattle.page_core_numbers.specs.declared.troubles.Trouble.TheVariants.{DivZero}
-use Rattle.page_core_numbers.specs.Expressions.{message_at, messages_at}
 
 -- perhaps one more division by 0
 pub division_more : (n more : ℕ) (divides : Bool) → more ≡ (if divides then 1 else 0) → replicate (n + more) DivZero ≡ replicate n DivZero ++ (if divides then DivZero ∷ [] else [])
@@ -33,29 +31,7 @@ stopping n m k more trouble divides e =
     (append_assoc (replicate n DivZero) (replicate m DivZero) _
     ∙ ap (λ l. replicate n DivZero ++ l) (sym (append_assoc (replicate m DivZero) (trouble ∷ replicate k DivZero) _)))
 
--- ---- messages
-
 -- the limit's name is short, so that it is shown whole
 pub limit-front : IsUtf8 (name_of Parens) → text_front 64 (name_of Parens) ≡ name_of Parens
 unfolding text_front
 limit-front utf8 = let whole = utf8_valid_len-IsUtf8 (name_of Parens) utf8 in rw whole refl
-
-pub messages-replicate : (line column n : ℕ) (trouble : Trouble) → messages_at line column (replicate (suc n) trouble) ≡ message_at line column trouble ∷ messages_at line column (replicate n trouble)
-messages-replicate line column n trouble = refl
-
-pub messages-append : (line column : ℕ) (xs ys : List Trouble) → messages_at line column (xs ++ ys) ≡ messages_at line column xs ++ messages_at line column ys
-messages-append line column xs ys = map-append (message_at line column) xs ys
-
--- one of those that are left
-pub messages-next : (line column count i : ℕ) → i < count → messages_at line column (replicate (count - i) DivZero)
-    ≡ (message_at line column DivZero ∷ []) ++ messages_at line column (replicate (count - (i + 1)) DivZero)
-messages-next line column count i h =
-    let left : count - i ≡ suc (count - (i + 1)) = omega arith in rw left (messages-replicate line column (count - (i + 1)) DivZero)
-
--- ---- sinks
-
--- all came but a part, and then a call gave that
-pub gives_last : {S I E : Type 0} {gave within : S → List I → S → Type 0} → IsSink gave within → {s t : S} {all next : List I} (u : S) (part : List I) (r : Result (Unit {0}) E)
-    → UpTo gave s all next t → next ≡ part → Gives r gave within t part u → Gives r gave within s all u
-gives_last k {s} {t} u part (Ok x) w e g = rw (w.parts ∙ ap (λ l. w.done ++ l) e) (k.more s t u w.done part w.given g)
-gives_last k {s} {t} u part (Err f) w e g = rw (w.parts ∙ ap (λ l. w.done ++ l) e) (k.after s t u w.done part w.given g)

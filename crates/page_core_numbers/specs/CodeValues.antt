@@ -1,29 +1,20 @@
 -- Of the code's own steps, which no public clause cites: what its values hold of an expression, as definitions speak of it.
-use Rattle.std.specs.Prelude.{ℕ, ◌+◌, List, [], ◌∷◌, ◌++◌, replicate, Option, Some, None, is_some, ℤ}
+use Rattle.std.specs.Prelude.{ℕ, ◌+◌, List, Option, Some, None, is_some, ℤ}
 use Rattle.page_core_numbers.specs.declared.decimals.Number.{Number}
 use Rattle.page_core_numbers.specs.declared.operators.Operator.{Operator}
 use Rattle.page_core_numbers.specs.declared.operators.FoundOperator.{FoundOperator}
-use Rattle.page_core_numbers.specs.declared.troubles.Trouble.{Trouble}
-use Rattle.page_core_numbers.specs.declared.troubles.Trouble.TheVariants.{DivZero}
 use Rattle.page_core_numbers.specs.declared.troubles.Troubles.{Troubles}
 use Rattle.page_core_numbers.specs.declared.troubles.Stopped.{Stopped}
 use Rattle.page_core_numbers.specs.declared.expressions.Operand.{Operand}
 use Rattle.page_core_numbers.specs.declared.expressions.Expression.{Expression}
 use Rattle.page_core_numbers.specs.Expressions.{Read}
+use Rattle.page_core_numbers.specs.Evaluations.{troubles_seen}
 
 abbrev pub number_seen : Number → ℤ × List ℕ
 number_seen n = (n.value, n.rest.now)
 
 abbrev pub found_seen : FoundOperator → Operator × List ℕ
 found_seen f = (f.operator, f.rest.now)
-
--- divisions by 0, why the expression ended early, and the divisions by 0 after that
-abbrev pub stop_seen : Option Stopped → List Trouble
-stop_seen None = []
-stop_seen (Some s) = s.trouble ∷ replicate s.divisions DivZero
-
-abbrev pub troubles_seen : Troubles → List Trouble
-troubles_seen t = replicate t.divisions DivZero ++ stop_seen t.stopped
 
 -- how many divisions by 0 there are
 abbrev pub stop_count : Option Stopped → ℕ

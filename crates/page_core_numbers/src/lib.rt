@@ -2,25 +2,26 @@
 //!
 //! It stands below roff and the scopes, which read with it what a request, a macro or an escape is given.
 //!
-//! Read first: `number` below, with `specs/Expressions.antt`; then `columns` in `text_columns.rt`.
+//! Read first: `number` below, with `specs/Expressions.antt`; `evaluate` (`evaluations.rt`), the same without a sink; then `columns` in
+//! `text_columns.rt`.
 #![tactic(auto)]
 
 ghost use Rattle.std.specs.Prelude.{◌≡◌, ◌+◌, length, IfOk, MatchResult};
 ghost use Rattle.page_core_base.specs.Fails.{Rose};
 ghost use Rattle.page_core_numbers.specs.Expressions.{expression_of, messages_at};
 
-use expressions::read_expression;
-use page_core_base::{Fault, NoteSink};
-use page_core_limits::PARENS;
-use troubles::report;
+use evaluations::report;
+use page_core_base::{Fault, NoteSink, Place};
 
 mod decimals;
+mod evaluations;
 mod expressions;
 mod operators;
 mod scales;
 mod text_columns;
 mod troubles;
 
+pub use evaluations::{Evaluation, EvaluationNotes, evaluate};
 pub use scales::Scale;
 pub use text_columns::{columns, escape_columns, printed_columns};
 
@@ -49,7 +50,7 @@ pub fn number<N: NoteSink>(
         (λ fault. (fault ≡ Fault.WriteNotes) × Rose (N.failed notes.old) (N.failed notes.new)) }
     ensures same { N.loans notes.new ≡ N.loans notes.old }
 {
-    let reading = read_expression(text, unit, PARENS);
-    report(reading.troubles, line, column, notes)?;
-    Ok((reading.value, text.len() - reading.rest.len()))
+    let found = evaluate(text, unit);
+    report(found.notes(Place { line, column }), notes)?;
+    Ok((found.value, found.len))
 }

@@ -1,14 +1,13 @@
-//! What is reported of an expression: mandoc(1), "DIAGNOSTICS". It is collected as the expression is read (`expressions`), and then given
-//! to a sink of messages.
+//! What is reported of an expression: mandoc(1), "DIAGNOSTICS". It is collected as the expression is read (`expressions`), and then taken
+//! message by message (`evaluations`).
 
-ghost use Rattle.std.specs.Prelude.{◌≡◌, ◌≤◌, ◌<◌, ◌+◌, ◌^◌, [], ◌∷◌, ◌++◌, replicate, is_some, if◌then◌else◌};
-ghost use Rattle.page_core_base.specs.Fails.{FailsAs};
-ghost use Rattle.page_core_base.specs.Sinks.{Gives};
+ghost use Rattle.std.specs.Prelude.{◌≡◌, ◌≤◌, ◌<◌, ◌+◌, ◌^◌, [], ◌∷◌, ◌++◌, is_some, if◌then◌else◌, MatchOption};
 ghost use Rattle.page_core_base.specs.Messages.{message_of};
-ghost use Rattle.page_core_numbers.specs.Expressions.{message_at, messages_at};
-ghost use Rattle.page_core_numbers.specs.CodeValues.{troubles_seen, stop_seen, count_of};
+ghost use Rattle.page_core_numbers.specs.Expressions.{message_at};
+ghost use Rattle.page_core_numbers.specs.Evaluations.{troubles_seen};
+ghost use Rattle.page_core_numbers.specs.CodeValues.{count_of};
 
-use page_core_base::{Fault, Note, NoteKind, NoteSink, Place};
+use page_core_base::{Note, NoteKind, Place};
 use page_core_limits::Limit;
 
 /// What may be wrong in an expression.
@@ -89,15 +88,27 @@ impl Troubles {
             },
         }
     }
+    /// Takes the first of them.
+    pub(crate) fn take_first(&mut self) -> Option<Trouble>
+        ensures { MatchOption result ((troubles_seen self.old ≡ []) × (troubles_seen self.new ≡ []))
+            (λ trouble. troubles_seen self.old ≡ trouble ∷ troubles_seen self.new) }
+    {
+        if self.divisions > 0 {
+            self.divisions -= 1;
+            return Some(Trouble::DivZero);
+        }
+        let stopped = self.stopped.take()?;
+        self.divisions = stopped.divisions;
+        Some(stopped.trouble)
+    }
 }
 
 impl Trouble {
-    // The message of it at a place.
+    /// The message of it at a place.
     #[tactic(auto, unfolding(page_core_base::specs::Messages::text_front))]
-    fn note(self, line: u32, column: u32) -> Note
-        ensures { message_of result ≡ message_at line column self }
+    pub(crate) fn note(self, place: Place) -> Note
+        ensures { message_of result ≡ message_at place.line place.column self }
     {
-        let place = Place { line, column };
         match self {
             Trouble::NotNumeric => Note::about(NoteKind::NotNumeric, place, b""),
             Trouble::DivZero => Note::about(NoteKind::DivZero, place, b""),
@@ -106,60 +117,4 @@ impl Trouble {
             }
         }
     }
-}
-
-// Reports divisions by 0.
-fn report_divisions<N: NoteSink>(
-    count: usize,
-    line: u32,
-    column: u32,
-    notes: &mut N,
-) -> Result<(), Fault>
-    ensures gives { Gives result N.gave N.within notes.old
-        (messages_at line column (replicate count Trouble.DivZero)) notes.new }
-    ensures fault { FailsAs Fault.WriteNotes result (N.failed notes.old) (N.failed notes.new) }
-    ensures same { N.loans notes.new ≡ N.loans notes.old }
-{
-    let note = Trouble::DivZero.note(line, column);
-    for _ in 0..count {
-        notes.note(&note)?;
-    }
-    Ok(())
-}
-
-// Reports why an expression ended early, if it did, and the divisions by 0 after that.
-fn report_stopped<N: NoteSink>(
-    stopped: Option<Stopped>,
-    line: u32,
-    column: u32,
-    notes: &mut N,
-) -> Result<(), Fault>
-    ensures gives { Gives result N.gave N.within notes.old
-        (messages_at line column (stop_seen stopped)) notes.new }
-    ensures fault { FailsAs Fault.WriteNotes result (N.failed notes.old) (N.failed notes.new) }
-    ensures same { N.loans notes.new ≡ N.loans notes.old }
-{
-    match stopped {
-        None => Ok(()),
-        Some(stopped) => {
-            notes.note(&stopped.trouble.note(line, column))?;
-            report_divisions(stopped.divisions, line, column, notes)
-        }
-    }
-}
-
-/// Reports what an expression has to report.
-pub(crate) fn report<N: NoteSink>(
-    troubles: Troubles,
-    line: u32,
-    column: u32,
-    notes: &mut N,
-) -> Result<(), Fault>
-    ensures gives { Gives result N.gave N.within notes.old
-        (messages_at line column (troubles_seen troubles)) notes.new }
-    ensures fault { FailsAs Fault.WriteNotes result (N.failed notes.old) (N.failed notes.new) }
-    ensures same { N.loans notes.new ≡ N.loans notes.old }
-{
-    report_divisions(troubles.divisions, line, column, notes)?;
-    report_stopped(troubles.stopped, line, column, notes)
 }

@@ -12,14 +12,14 @@ use crate::item_outs::ItemOut;
 use crate::taking::{give_taken, report_trailing};
 use page_core_base::{Fault, PieceLatch, PieceOut, PieceSink, Settings};
 use page_engine_body::Body;
-use page_roff_source::{Counts, Processor};
+use page_roff_source::{Counts, RoffLines};
 use std::alloc::Global;
 use std::marker::Model;
 
 /// What decides the pieces of the source lines to come.
 #[derive(Drop)]
 pub struct PageLines {
-    roff: Processor,
+    roff: RoffLines,
     body: Body,
 }
 
@@ -29,9 +29,9 @@ impl Model for PageLines {
 
     ghost Value = { LinesEdge };
 
-    ghost view = { λ l. record { roff = l.roff; body = l.body } };
+    ghost view = { λ l. record { roff = l.roff.edge; body = l.body } };
 
-    ghost invariant = { λ l. l.roff.to_come ≡ None };
+    ghost invariant = { λ l. l.roff.edge.to_come ≡ None };
 }
 
 impl PageLines {
@@ -40,7 +40,7 @@ impl PageLines {
         ensures ok { IfOk result (λ l. l ≡ lines.start_of settings.now) }
         ensures fault { IfErr result (λ fault. fault ≡ Fault.Memory) }
     {
-        let Ok(roff) = Processor::new(alloc, settings.output) else {
+        let Ok(roff) = RoffLines::new(alloc, settings.output) else {
             return Err(Fault::Memory);
         };
         let Ok(body) = Body::new(alloc, settings) else {

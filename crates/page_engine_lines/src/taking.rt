@@ -12,7 +12,7 @@ use page_core_base::{NoteKind, PieceOut, Place, Taken};
 use page_core_limits::LINE;
 use page_engine_body::Body;
 use page_roff_forms::{is_white, kept_len};
-use page_roff_source::Processor;
+use page_roff_source::RoffLines;
 use page_scopes_words::report;
 use page_sets_lines::PlainLine;
 
@@ -55,10 +55,10 @@ fn give_finished<L: PieceOut>(body: &mut Body, line: Taken<'_>, out: &mut ItemOu
 }
 
 /// Takes what is still to come of a source line, and gives the pieces and messages of its finished lines.
-pub(crate) fn give_taken<L: PieceOut>(roff: &mut Processor, body: &mut Body, out: &mut ItemOut<L>)
-    ensures came { Came L.left out.old.latch (given_items body.old (given_of roff.old)) out.new.latch }
-    ensures body { body.new ≡ body_after body.old (given_of roff.old) }
-    ensures roff { roff.new ≡ record roff.old { to_come = None } }
+pub(crate) fn give_taken<L: PieceOut>(roff: &mut RoffLines, body: &mut Body, out: &mut ItemOut<L>)
+    ensures came { Came L.left out.old.latch (given_items body.old (given_of roff.old.edge)) out.new.latch }
+    ensures body { body.new ≡ body_after body.old (given_of roff.old.edge) }
+    ensures roff { roff.new.edge ≡ record roff.old.edge { to_come = None } }
 {
     while let Some(taken) = roff.take_into(out) {
         give_finished(body, taken, out);

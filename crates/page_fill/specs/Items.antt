@@ -1,4 +1,5 @@
--- What the steps of filling lay of pieces and the messages between them.
+-- The steps of filling over pieces and the messages between them. Trust needs no reading of them, since `words_law` of page_fill_laws says
+-- that they lay what the definition in words does. Source: roff(7), "Filling and adjusting".
 use Rattle.std.specs.Prelude.{◌≡◌, List, [], ◌∷◌, ◌++◌, refl}
 use Rattle.std.proofs.Common.{◌∙◌, ap, sym}
 use Rattle.page_core_base.specs.Laid.{Laid, nothing, join, seq, join_assoc}

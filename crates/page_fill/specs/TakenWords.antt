@@ -1,4 +1,5 @@
--- The first words of a text, which a filler takes at once: they go into the open row as a whole, and settle nothing.
+-- The first words of a text, which a filler takes at once: the steps of filling lay them into the open row, and settle nothing. Trust in a
+-- page needs no reading of it: what a page is does not speak of it. Source: roff(7), "Filling and adjusting".
 use Rattle.std.specs.Prelude.{◌≡◌, ℕ, true, List, length, take, Option, Some}
 use Rattle.std.specs.List.{list_all}
 use Rattle.page_core_base.specs.declared.cells.Font.{Font}

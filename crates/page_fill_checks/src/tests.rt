@@ -621,6 +621,51 @@ fn long_rows_are_split(rt: HostRuntime) -> Result<(), Fail> {
     Ok(())
 }
 
+// Gives 4,096 cells as one word of 64 parts, each of 63 accents and a hyphen.
+fn give_parts<R: RowSink, N: NoteSink>(
+    filler: &mut Filler,
+    rows: &mut R,
+    notes: &mut N,
+) -> Result<(), Fault> {
+    for cell in 1..4097u32 {
+        if cell % 64 == 0 {
+            filler.piece(text("-"), rows, notes)?;
+            filler.piece(Piece::Split, rows, notes)?;
+        } else {
+            filler.piece(text("\u{301}"), rows, notes)?;
+        }
+    }
+    Ok(())
+}
+
+// A row of parts takes 4,096 cells, and ends before the part that passes the width, with no message.
+#[test]
+fn long_rows_of_parts_are_split(rt: HostRuntime) -> Result<(), Fail> {
+    let alloc = rt.alloc();
+    let mut settings = Settings::new();
+    settings.output = Output::Utf8;
+    for (width, is_literal, message) in [
+        (78, false, TOO_MANY),
+        (64, false, ""),
+        (64, true, TOO_MANY),
+    ] {
+        let mut messages = Vec::new(alloc);
+        let mut rows = Counter::new(9);
+        let mut notes = TextNotes::new(&mut messages, "t");
+        settings.width = width;
+        let mut filler = Filler::new(alloc, &settings)?;
+        filler.piece(Piece::Literal(is_literal), &mut rows, &mut notes)?;
+        give_parts(&mut filler, &mut rows, &mut notes)?;
+        check_count(&rt, filler.pending().len() as u32, 4096);
+        check_count(&rt, rows.calls, 0);
+        filler.piece(text("x"), &mut rows, &mut notes)?;
+        check_count(&rt, filler.pending().len() as u32, 1);
+        check_count(&rt, rows.calls, 1);
+        check_bytes(&rt, messages.as_slice(), message.as_bytes());
+    }
+    Ok(())
+}
+
 // A blank that would be cell 4,097 is dropped with its like; where rows are kept as they are it is a cell.
 #[test]
 fn blanks_of_a_full_row_are_dropped(rt: HostRuntime) -> Result<(), Fail> {

@@ -14,7 +14,7 @@ use Rattle.page_fill_rows.specs.Sheets.{letter, letters, space, spaces, broken, 
 use Rattle.page_fill_rows.specs.Characters.{character, cells_of}
 use Rattle.page_fill.specs.declared.words.Edge.{Edge}
 use Rattle.page_fill_laws.specs.Filled.{first_word, outcome, filling}
-use Rattle.page_fill_laws.specs.PieceWords.{words_of, word_after_items, words_laid, parts_laid}
+use Rattle.page_fill_laws.specs.PieceWords.{words_of, word_after_items, words_laid, content_laid}
 use Rattle.page_fill_laws.specs.Filling.{groups, other_laid, groups_laid}
 use Rattle.page_fill_laws.specs.Filling as filling_of
 use Rattle.page_fill.specs.Fill.{filled, laid, laid_piece, ended, paragraph, opening, one_character, no_word}
@@ -61,7 +61,7 @@ by_words = refl
 by_pieces : (filling_of.filled (at_start 9) (letter_item 97 ∷ shown Heading ∷ shown (Indent 1 4) ∷ shown (Para 1) ∷ shown (Tag 3 forms.Row) ∷ letter_item 98 ∷ shown TagEnd ∷ letter_item 99
     ∷ shown Break ∷ shown (Literal true) ∷ letter_item 100 ∷ shown (Tab R (record { line = 1; column = 1 })) ∷ letter_item 101 ∷ shown RowEnd ∷ [])).rows
     ≡ row_of 0 (cells_of R (97 ∷ [])) ∷ row_of 1 (cells_of R (98 ∷ 32 ∷ 32 ∷ 99 ∷ [])) ∷ row_of 4 (cells_of R (100 ∷ 32 ∷ 32 ∷ 32 ∷ 32 ∷ 32 ∷ 32 ∷ 32 ∷ 101 ∷ [])) ∷ []
-unfolding char_width first_word outcome filling words_of word_after_items words_laid parts_laid other_laid groups groups_laid
+unfolding char_width first_word outcome filling words_of word_after_items words_laid content_laid other_laid groups groups_laid
 by_pieces = refl
 
 -- the row may end after a hyphen: what follows begins the next one

@@ -22,17 +22,17 @@ use Rattle.page_fill_rows.specs.Sheets.{Sheet, over, blank, passes, letter, spac
 use Rattle.page_fill_rows.specs.Characters.{cell_of, cells_of, characters_of, unknown_notes, with_notes}
 use Rattle.page_fill.specs.Fill.{laid_piece, tab_notes}
 use Rattle.page_fill.specs.Items.{laid_items}
-use Rattle.page_fill_laws.specs.InWords.{Mark, told, opened, spaced, lettered, letters_of, printed_marks, character_marks, text_marks, tab_marks, blank_marks, opening_marks, is_of_words, piece_marks}
-use Rattle.page_fill_laws.specs.Filled.{Part, shown, noted, Row, filling}
+use Rattle.page_fill_laws.proofs.Marks.{Mark, told, opened, spaced, lettered, letters_of, printed_marks, character_marks, text_marks, tab_marks, blank_marks, opening_marks, is_of_words, piece_marks}
+use Rattle.page_fill_laws.specs.Filled.{CellOrNote, shown, noted, Row, filling}
 use Rattle.page_fill.specs.Caps.{IsHeld, is_sound}
-use Rattle.page_fill_laws.specs.PieceWords.{cell_parts, printed_parts, text_parts, tab_parts, Words, and_then, words_from, words_of, word_after_items, frame_of, open_row_of, blank_rows_after, heading_after, with_row, next_edge, going_on, words_laid, after_cell, word_after}
-use Rattle.page_fill_laws.proofs.InWordsRun.{step, run, run-append}
-use Rattle.page_fill_laws.proofs.InWordsPieces.{AreStanding, with_word, piece-run, stands-after, sound-after, run-literal}
+use Rattle.page_fill_laws.specs.PieceWords.{cell_content, printed_content, text_content, tab_content, Words, and_then, words_from, words_of, word_after_items, frame_of, open_row_of, blank_rows_after, heading_after, with_row, next_edge, going_on, words_laid, after_cell, word_after}
+use Rattle.page_fill_laws.proofs.MarkRuns.{step, run, run-append}
+use Rattle.page_fill_laws.proofs.MarkedPieces.{AreStanding, with_word, piece-run, stands-after, sound-after, run-literal}
 use Rattle.page_fill_laws.proofs.FilledWords.{mark_of, marks_of, word_marks, words_marks, run-held, run-frame, filling-run, rest-run}
 
--- ---- marks of parts
+-- ---- marks of cells and messages
 
-pub cell-marks : (place : Place) (cells : List Cell) → letters_of place cells ≡ marks_of (cell_parts place cells)
+pub cell-marks : (place : Place) (cells : List Cell) → letters_of place cells ≡ marks_of (cell_content place cells)
 cell-marks place [] = refl
 cell-marks place (cell ∷ cells) = ap (λ ms. lettered cell place ∷ ms) (cell-marks place cells)
 
@@ -40,21 +40,21 @@ noted-marks : (notes : List Message) → map told notes ≡ marks_of (map noted 
 noted-marks [] = refl
 noted-marks (m ∷ notes) = ap (λ ms. told m ∷ ms) (noted-marks notes)
 
-printed-marks : (p : Printing) (font : Font) (place : Place) → printed_marks p font place ≡ marks_of (printed_parts p font place)
+printed-marks : (p : Printing) (font : Font) (place : Place) → printed_marks p font place ≡ marks_of (printed_content p font place)
 printed-marks p font place =
     ap (λ ms. ms ++ letters_of place (cells_of font p.characters)) (noted-marks (unknown_notes p.unknown place))
     ∙ (ap (λ ms. marks_of (map noted (unknown_notes p.unknown place)) ++ ms) (cell-marks place (cells_of font p.characters))
-    ∙ sym (map-append mark_of (map noted (unknown_notes p.unknown place)) (cell_parts place (cells_of font p.characters))))
+    ∙ sym (map-append mark_of (map noted (unknown_notes p.unknown place)) (cell_content place (cells_of font p.characters))))
 
-text-marks : (output : Output) (cs : List ℕ) (font : Font) (place : Place) → text_marks output cs font place ≡ marks_of (text_parts output cs font place)
-unfolding text_marks text_parts character_marks
+text-marks : (output : Output) (cs : List ℕ) (font : Font) (place : Place) → text_marks output cs font place ≡ marks_of (text_content output cs font place)
+unfolding text_marks text_content character_marks
 text-marks output [] font place = refl
 text-marks output (c ∷ cs) font place =
     ap (λ ms. ms ++ text_marks output cs font place) (printed-marks (char_printed output c) font place)
-    ∙ (ap (λ ms. marks_of (printed_parts (char_printed output c) font place) ++ ms) (text-marks output cs font place)
-    ∙ sym (map-append mark_of (printed_parts (char_printed output c) font place) (text_parts output cs font place)))
+    ∙ (ap (λ ms. marks_of (printed_content (char_printed output c) font place) ++ ms) (text-marks output cs font place)
+    ∙ sym (map-append mark_of (printed_content (char_printed output c) font place) (text_content output cs font place)))
 
-tab-part-marks : (is_told : Bool) (font : Font) (place : Place) → tab_marks (not is_told) place ++ lettered (cell_of font 32) place ∷ [] ≡ marks_of (tab_parts is_told font place)
+tab-part-marks : (is_told : Bool) (font : Font) (place : Place) → tab_marks (not is_told) place ++ lettered (cell_of font 32) place ∷ [] ≡ marks_of (tab_content is_told font place)
 tab-part-marks is_told font place =
     ap (λ ms. ms ++ lettered (cell_of font 32) place ∷ []) (noted-marks (tab_notes (not is_told) place))
     ∙ sym (map-append mark_of (map noted (tab_notes (not is_told) place)) (shown (cell_of font 32) place ∷ []))
@@ -64,36 +64,36 @@ tab-part-marks is_told font place =
 abbrev pub all_marks : Words → List Mark
 all_marks words = marks_of words.first ++ words_marks words.later
 
-blanks-marks : (n : ℕ) (place : Place) (parts : List Part) → letters_of place (replicate n blank) ++ marks_of parts ≡ marks_of (cell_parts place (replicate n blank) ++ parts)
-blanks-marks n place parts =
-    ap (λ ms. ms ++ marks_of parts) (cell-marks place (replicate n blank)) ∙ sym (map-append mark_of (cell_parts place (replicate n blank)) parts)
+blanks-marks : (n : ℕ) (place : Place) (content : List CellOrNote) → letters_of place (replicate n blank) ++ marks_of content ≡ marks_of (cell_content place (replicate n blank) ++ content)
+blanks-marks n place content =
+    ap (λ ms. ms ++ marks_of content) (cell-marks place (replicate n blank)) ∙ sym (map-append mark_of (cell_content place (replicate n blank)) content)
 
-word-of-marks : (stands : Bool) (notes : List Message) (n : ℕ) (place : Place) (parts : List Part)
-    → map told notes ++ (opened ∷ (blank_marks stands n place ++ marks_of parts))
-    ≡ word_marks (if stands then record { notes = notes; blanks = 0; place = place; parts = cell_parts place (replicate n blank) ++ parts } else record { notes = notes; blanks = n; place = place; parts = parts })
-word-of-marks true notes n place parts = ap (λ ms. map told notes ++ (opened ∷ ms)) (blanks-marks n place parts)
-word-of-marks false notes n place parts = refl
+word-of-marks : (stands : Bool) (notes : List Message) (n : ℕ) (place : Place) (content : List CellOrNote)
+    → map told notes ++ (opened ∷ (blank_marks stands n place ++ marks_of content))
+    ≡ word_marks (if stands then record { notes = notes; blanks = 0; place = place; content = cell_content place (replicate n blank) ++ content } else record { notes = notes; blanks = n; place = place; content = content })
+word-of-marks true notes n place content = ap (λ ms. map told notes ++ (opened ∷ ms)) (blanks-marks n place content)
+word-of-marks false notes n place content = refl
 
-pub and-then-marks : (literal empty : Bool) (w : OpenWord) (place : Place) (ms : List Mark) (parts : List Part) (rest : Words) → ms ≡ marks_of parts
-    → (opening_marks literal empty w place ++ ms) ++ all_marks rest ≡ all_marks (and_then literal empty w place parts rest)
-and-then-marks literal empty w place ms parts rest is = elim (cases_Bool w.is_joined) [
+pub and-then-marks : (literal empty : Bool) (w : OpenWord) (place : Place) (ms : List Mark) (content : List CellOrNote) (rest : Words) → ms ≡ marks_of content
+    → (opening_marks literal empty w place ++ ms) ++ all_marks rest ≡ all_marks (and_then literal empty w place content rest)
+and-then-marks literal empty w place ms content rest is = elim (cases_Bool w.is_joined) [
   | inl j ↦
-      rw (j, is, map-append mark_of parts rest.first) (sym (append_assoc (marks_of parts) (marks_of rest.first) (words_marks rest.later)))
+      rw (j, is, map-append mark_of content rest.first) (sym (append_assoc (marks_of content) (marks_of rest.first) (words_marks rest.later)))
   | inr j ↦
       let stands = literal || (w.is_placed && empty) in
       let notes = tab_notes (w.has_tab && not literal) place in
-      let whole = marks_of parts ++ marks_of rest.first in
+      let whole = marks_of content ++ marks_of rest.first in
       rw (j, is)
-      (append_assoc (map told notes ++ (opened ∷ blank_marks stands w.blanks place)) (marks_of parts) (all_marks rest)
-      ∙ (append_assoc (map told notes) (opened ∷ blank_marks stands w.blanks place) (marks_of parts ++ all_marks rest)
-      ∙ (ap (λ l. map told notes ++ (opened ∷ (blank_marks stands w.blanks place ++ l))) (sym (append_assoc (marks_of parts) (marks_of rest.first) (words_marks rest.later)))
+      (append_assoc (map told notes ++ (opened ∷ blank_marks stands w.blanks place)) (marks_of content) (all_marks rest)
+      ∙ (append_assoc (map told notes) (opened ∷ blank_marks stands w.blanks place) (marks_of content ++ all_marks rest)
+      ∙ (ap (λ l. map told notes ++ (opened ∷ (blank_marks stands w.blanks place ++ l))) (sym (append_assoc (marks_of content) (marks_of rest.first) (words_marks rest.later)))
       ∙ (ap (λ l. map told notes ++ (opened ∷ l)) (sym (append_assoc (blank_marks stands w.blanks place) whole (words_marks rest.later)))
       ∙ (sym (append_assoc (map told notes) (opened ∷ (blank_marks stands w.blanks place ++ whole)) (words_marks rest.later))
-      ∙ (ap (λ l. (map told notes ++ (opened ∷ (blank_marks stands w.blanks place ++ l))) ++ words_marks rest.later) (sym (map-append mark_of parts rest.first))
-      ∙ ap (λ l. l ++ words_marks rest.later) (word-of-marks stands notes w.blanks place (parts ++ rest.first))))))))
+      ∙ (ap (λ l. (map told notes ++ (opened ∷ (blank_marks stands w.blanks place ++ l))) ++ words_marks rest.later) (sym (map-append mark_of content rest.first))
+      ∙ ap (λ l. l ++ words_marks rest.later) (word-of-marks stands notes w.blanks place (content ++ rest.first))))))))
 ]
 
-char-marks : (output : Output) (c : ℕ) (font : Font) (place : Place) → character_marks output c font place ≡ marks_of (printed_parts (char_printed output c) font place)
+char-marks : (output : Output) (c : ℕ) (font : Font) (place : Place) → character_marks output c font place ≡ marks_of (printed_content (char_printed output c) font place)
 unfolding character_marks
 char-marks output c font place = printed-marks (char_printed output c) font place
 
@@ -101,15 +101,15 @@ piece-words : (output : Output) (literal empty : Bool) (w : OpenWord) (p : Piece
     → piece_marks output literal empty w p ++ all_marks rest ≡ all_marks (words_from output literal empty w p rest)
 piece-words output literal empty w (Text bytes font place) rest = elim (cases_Bool (length (characters_of bytes) == 0)) [
   | inl z ↦ rw z refl
-  | inr z ↦ rw z (and-then-marks literal empty w place (text_marks output (characters_of bytes) font place) (text_parts output (characters_of bytes) font place) rest (text-marks output (characters_of bytes) font place))
+  | inr z ↦ rw z (and-then-marks literal empty w place (text_marks output (characters_of bytes) font place) (text_content output (characters_of bytes) font place) rest (text-marks output (characters_of bytes) font place))
 ]
 piece-words output literal empty w (Glyph name font place) rest =
-    and-then-marks literal empty w place (printed_marks (glyph_printed output name) font place) (printed_parts (glyph_printed output name) font place) rest (printed-marks (glyph_printed output name) font place)
+    and-then-marks literal empty w place (printed_marks (glyph_printed output name) font place) (printed_content (glyph_printed output name) font place) rest (printed-marks (glyph_printed output name) font place)
 piece-words output literal empty w (Char c font place) rest =
-    and-then-marks literal empty w place (character_marks output c font place) (printed_parts (char_printed output c) font place) rest (char-marks output c font place)
+    and-then-marks literal empty w place (character_marks output c font place) (printed_content (char_printed output c) font place) rest (char-marks output c font place)
 piece-words output literal empty w (Tab font place) rest =
     let is_told = (after_cell literal w).is_told in
-    and-then-marks literal empty w place (tab_marks (not is_told) place ++ lettered (cell_of font 32) place ∷ []) (tab_parts is_told font place) rest (tab-part-marks is_told font place)
+    and-then-marks literal empty w place (tab_marks (not is_told) place ++ lettered (cell_of font 32) place ∷ []) (tab_content is_told font place) rest (tab-part-marks is_told font place)
 piece-words output literal empty w (Blank count has_tab) rest = refl
 piece-words output literal empty w Glue rest = refl
 piece-words output literal empty w Split rest = elim (cases_Bool (w.is_joined && not literal)) [ inl b ↦ rw b refl | inr b ↦ rw b refl ]
@@ -200,7 +200,7 @@ unfolding laid_items words_of word_after_items run
 items-run e literal empty [] same h stand k = refl
 items-run e literal empty (items.noted m ∷ more) same h stand k = ap (λ (l : Laid Edge). with_notes (m ∷ []) l) (items-run e literal empty more same h stand k)
 items-run e literal empty (items.shown p ∷ more) same h stand k =
-    let parts = and_parts (is_of_words literal p) (are_items_of_words literal more) k in
+    let content = and_parts (is_of_words literal p) (are_items_of_words literal more) k in
     let ms = piece_marks e.output literal empty e.word p in
     let x = run e.sheet (piece_marks e.output literal empty e.word p) in
     let w = word_after literal e.word p in
@@ -208,9 +208,9 @@ items-run e literal empty (items.shown p ∷ more) same h stand k =
     let Runs : Bool → Type 0 = λ b. laid_piece e p ≡ over (run e.sheet (piece_marks e.output b empty e.word p)) (with_word e (word_after b e.word p)) in
     let Fits : Bool → Type 0 = λ b. is_of_words b p ≡ true in
     let Stands : Bool → Type 0 = λ b. AreStanding (with_word e (word_after b e.word p) (run e.sheet (piece_marks e.output b empty e.word p)).edge) empty in
-    let first = subst Runs same (piece-run e empty p stand (subst Fits (sym same) parts.0)) in
+    let first = subst Runs same (piece-run e empty p stand (subst Fits (sym same) content.0)) in
     let still = subst Stands same (stands-after e empty p h stand) in
-    let later = items-run (with_word e w x.edge) literal empty more (run-literal e.sheet ms ∙ same) (sound-after literal e.word p h) still parts.1 in
+    let later = items-run (with_word e w x.edge) literal empty more (run-literal e.sheet ms ∙ same) (sound-after literal e.word p h) still content.1 in
     ap (λ (l : Laid Edge). seq l (λ f. laid_items f more)) first
     ∙ (ap (λ (l : Laid Edge). join (over x (with_word e w)) l) later
     ∙ (ap (λ l. over l (with_word e (word_after_items literal w more))) (sym (run-append e.sheet ms (all_marks rest)))

@@ -11,66 +11,66 @@ use Rattle.page_core_limits.specs.declared.TheConstants.{CELLS}
 use Rattle.page_fill_rows.specs.Sheets.{Sheet, over, blank, passes, letter, space, given, begins, emptied}
 use Rattle.page_fill_rows.specs.Sheets as sheets
 use Rattle.page_fill_rows.specs.Characters.{with_notes}
-use Rattle.page_fill_laws.specs.InWords.{Mark, told, opened, spaced, lettered}
-use Rattle.page_fill_laws.specs.Filled.{Part, shown, noted, Word, Frame, Row, counted, with_cell, before_word, of_word, closed, row_begun, row_ended, full_row_ended, first_word, Outcome, fits, too_wide, too_many, after_note, is_wide, outcome, started, by_word, by_blanks, one_word, rest_of_word, filling}
+use Rattle.page_fill_laws.proofs.Marks.{Mark, told, opened, spaced, lettered}
+use Rattle.page_fill_laws.specs.Filled.{CellOrNote, shown, noted, Word, Frame, Row, counted, with_cell, before_word, of_word, closed, row_begun, row_ended, full_row_ended, first_word, Outcome, fits, too_wide, too_many, after_note, is_wide, outcome, started, by_word, by_blanks, one_word, rest_of_word, filling}
 use Rattle.page_fill.specs.Caps.{IsHeld}
 use Rattle.page_fill_laws.specs.PieceWords.{frame_of, open_row_of}
-use Rattle.page_fill_laws.proofs.InWordsRun.{step, run, run-append}
+use Rattle.page_fill_laws.proofs.MarkRuns.{step, run, run-append}
 use Rattle.page_fill_laws.proofs.HeldSheets.{letter-held, space-held, opens-held}
 
-abbrev pub mark_of : Part → Mark
+abbrev pub mark_of : CellOrNote → Mark
 mark_of (shown cell place) = lettered cell place
 mark_of (noted m) = told m
 
-abbrev pub marks_of : List Part → List Mark
-marks_of parts = map mark_of parts
+abbrev pub marks_of : List CellOrNote → List Mark
+marks_of content = map mark_of content
 
 -- ---- a row's first word
 
-pub first-run : (s : Sheet) (parts : List Part) → s.gap ≡ 0 → over (run s (marks_of parts)) open_row_of ≡ first_word (frame_of s) (open_row_of s) parts
+pub first-run : (s : Sheet) (content : List CellOrNote) → s.gap ≡ 0 → over (run s (marks_of content)) open_row_of ≡ first_word (frame_of s) (open_row_of s) content
 unfolding run first_word letter
 first-run s [] first = refl
-first-run s (noted m ∷ parts) first = ap (with_notes (m ∷ [])) (first-run s parts first)
-first-run s (shown cell place ∷ parts) first =
+first-run s (noted m ∷ content) first = ap (with_notes (m ∷ [])) (first-run s content first)
+first-run s (shown cell place ∷ content) first =
     let stays : passes (sheets.counted s cell) cell ≡ false = rw first (grind (arith, nat_tests)) in
     elim (cases_Bool (length s.cells == CELLS)) [
       | inl full ↦
-          rw (stays, full) (ap (λ l. join (full_row_ended (open_row_of s) s.cells place) l) (first-run (begins (given (sheets.counted s cell) s.cells) (cell ∷ [])) parts refl))
+          rw (stays, full) (ap (λ l. join (full_row_ended (open_row_of s) s.cells place) l) (first-run (begins (given (sheets.counted s cell) s.cells) (cell ∷ [])) content refl))
       | inr room ↦ elim (cases_Bool (length s.cells == 0)) [
-        | inl z ↦ rw (stays, room, z) (first-run (begins (sheets.counted s cell) (cell ∷ [])) parts refl)
-        | inr z ↦ rw (stays, room, z) (first-run (record (sheets.counted s cell) { cells = s.cells ++ cell ∷ [] }) parts first)
+        | inl z ↦ rw (stays, room, z) (first-run (begins (sheets.counted s cell) (cell ∷ [])) content refl)
+        | inr z ↦ rw (stays, room, z) (first-run (record (sheets.counted s cell) { cells = s.cells ++ cell ∷ [] }) content first)
       ]
     ]
 
 -- ---- another word of a row
 
 -- a row that begins with some cells and one more
-more-begun : (frame : Frame) (row : Row) (front : List Cell) (cell : Cell) (parts : List Part)
-    → first_word frame (row_begun frame row (front ++ cell ∷ [])) parts ≡ first_word frame (started frame row (front ++ cell ∷ [])) parts
-more-begun frame row front cell parts =
+more-begun : (frame : Frame) (row : Row) (front : List Cell) (cell : Cell) (content : List CellOrNote)
+    → first_word frame (row_begun frame row (front ++ cell ∷ [])) content ≡ first_word frame (started frame row (front ++ cell ∷ [])) content
+more-begun frame row front cell content =
     let more : (length (front ++ cell ∷ []) == 0) ≡ false = rw (length-append front (cell ∷ [])) (grind (arith, nat_tests)) in
     rw more refl
 
 -- one more cell stands there
-first-front : (frame : Frame) (row : Row) (front : List Cell) (cell : Cell) (place : Place) (parts : List Part) → length front < CELLS
-    → first_word frame (started frame (closed row) front) (shown cell place ∷ parts) ≡ first_word frame (started frame (counted (closed row) cell) (front ++ cell ∷ [])) parts
+first-front : (frame : Frame) (row : Row) (front : List Cell) (cell : Cell) (place : Place) (content : List CellOrNote) → length front < CELLS
+    → first_word frame (started frame (closed row) front) (shown cell place ∷ content) ≡ first_word frame (started frame (counted (closed row) cell) (front ++ cell ∷ [])) content
 unfolding first_word
-first-front frame row [] cell place parts room = refl
-first-front frame row (c ∷ cs) cell place parts room =
+first-front frame row [] cell place content room = refl
+first-front frame row (c ∷ cs) cell place content room =
     let full : (length (c ∷ cs) == CELLS) ≡ false = grind (arith, nat_tests) in
     let some : (length (c ∷ cs) == 0) ≡ false = grind (arith, nat_tests) in
     let more : (length (c ∷ (cs ++ cell ∷ [])) == 0) ≡ false = grind (arith, nat_tests) in
     rw (some, full, some, more) refl
 
-note-first : (frame : Frame) (row : Row) (m : Message) (parts : List Part) → with_notes (m ∷ []) (first_word frame row parts) ≡ first_word frame row (noted m ∷ parts)
+note-first : (frame : Frame) (row : Row) (m : Message) (content : List CellOrNote) → with_notes (m ∷ []) (first_word frame row content) ≡ first_word frame row (noted m ∷ content)
 unfolding first_word
-note-first frame row m parts = refl
+note-first frame row m content = refl
 
-by_word-note : (frame : Frame) (row : Row) (m : Message) (parts : List Part) (o : Outcome)
-    → with_notes (m ∷ []) (by_word frame row parts o) ≡ by_word frame row (noted m ∷ parts) (after_note m o)
-by_word-note frame row m parts (fits notes taken) = refl
-by_word-note frame row m parts (too_wide taken) = ap (λ l. join (row_ended row (before_word row)) l) (note-first frame (started frame (closed row) (of_word row)) m parts)
-by_word-note frame row m parts (too_many notes taken place left) = refl
+by_word-note : (frame : Frame) (row : Row) (m : Message) (content : List CellOrNote) (o : Outcome)
+    → with_notes (m ∷ []) (by_word frame row content o) ≡ by_word frame row (noted m ∷ content) (after_note m o)
+by_word-note frame row m content (fits notes taken) = refl
+by_word-note frame row m content (too_wide taken) = ap (λ l. join (row_ended row (before_word row)) l) (note-first frame (started frame (closed row) (of_word row)) m content)
+by_word-note frame row m content (too_many notes taken place left) = refl
 
 -- in the midst of a word that is not its row's first
 pub record IsInWord (s : Sheet) : Type 0 where
@@ -99,29 +99,29 @@ in-word-more s cell i room =
     let more : length s.cells < CELLS = grind (arith, nat_tests, i.bounded, room) in
     record { later = i.later; gap_within = i.gap_within; word_within = rw len (omega (arith, i.word_within)); bounded = rw len (omega (arith, more)) }
 
-wide-more : (frame : Frame) (row : Row) (cell : Cell) (place : Place) (parts : List Part) (base front : List Cell) → base ≡ before_word row → front ≡ of_word row ++ cell ∷ []
+wide-more : (frame : Frame) (row : Row) (cell : Cell) (place : Place) (content : List CellOrNote) (base front : List Cell) → base ≡ before_word row → front ≡ of_word row ++ cell ∷ []
     → length (of_word row) < CELLS
-    → join (row_ended row base) (first_word frame (started frame (counted (closed row) cell) front) parts)
-    ≡ join (row_ended row (before_word row)) (first_word frame (started frame (closed row) (of_word row)) (shown cell place ∷ parts))
-wide-more frame row cell place parts base front same more room =
-    rw (same, more) (ap (λ l. join (row_ended row (before_word row)) l) (sym (first-front frame row (of_word row) cell place parts room)))
+    → join (row_ended row base) (first_word frame (started frame (counted (closed row) cell) front) content)
+    ≡ join (row_ended row (before_word row)) (first_word frame (started frame (closed row) (of_word row)) (shown cell place ∷ content))
+wide-more frame row cell place content base front same more room =
+    rw (same, more) (ap (λ l. join (row_ended row (before_word row)) l) (sym (first-front frame row (of_word row) cell place content room)))
 
-by_word-more : (frame : Frame) (row : Row) (cell : Cell) (place : Place) (parts : List Part) (o : Outcome)
+by_word-more : (frame : Frame) (row : Row) (cell : Cell) (place : Place) (content : List CellOrNote) (o : Outcome)
     → row.gap ≤ length row.cells → row.word ≤ length row.cells → length (of_word row) < CELLS
-    → by_word frame (with_cell row cell) parts o ≡ by_word frame row (shown cell place ∷ parts) o
-by_word-more frame row cell place parts (fits notes taken) gap word room = refl
-by_word-more frame row cell place parts (too_wide taken) gap word room =
-    wide-more frame row cell place parts (before_word (with_cell row cell)) (of_word (with_cell row cell)) (take-append-le row.gap row.cells (cell ∷ []) gap) (drop-append-le row.word row.cells (cell ∷ []) word) room
-by_word-more frame row cell place parts (too_many notes taken at left) gap word room = refl
+    → by_word frame (with_cell row cell) content o ≡ by_word frame row (shown cell place ∷ content) o
+by_word-more frame row cell place content (fits notes taken) gap word room = refl
+by_word-more frame row cell place content (too_wide taken) gap word room =
+    wide-more frame row cell place content (before_word (with_cell row cell)) (of_word (with_cell row cell)) (take-append-le row.gap row.cells (cell ∷ []) gap) (drop-append-le row.word row.cells (cell ∷ []) word) room
+by_word-more frame row cell place content (too_many notes taken at left) gap word room = refl
 
 -- the cells of a word, from any of them on
-pub word-run : (s : Sheet) (parts : List Part) → IsInWord s
-    → over (run s (marks_of parts)) open_row_of ≡ by_word (frame_of s) (open_row_of s) parts (outcome (frame_of s) (open_row_of s) parts)
+pub word-run : (s : Sheet) (content : List CellOrNote) → IsInWord s
+    → over (run s (marks_of content)) open_row_of ≡ by_word (frame_of s) (open_row_of s) content (outcome (frame_of s) (open_row_of s) content)
 unfolding run outcome letter
 word-run s [] i = refl
-word-run s (noted m ∷ parts) i =
-    ap (with_notes (m ∷ [])) (word-run s parts i) ∙ by_word-note (frame_of s) (open_row_of s) m parts (outcome (frame_of s) (open_row_of s) parts)
-word-run s (shown cell place ∷ parts) i =
+word-run s (noted m ∷ content) i =
+    ap (with_notes (m ∷ [])) (word-run s content i) ∙ by_word-note (frame_of s) (open_row_of s) m content (outcome (frame_of s) (open_row_of s) content)
+word-run s (shown cell place ∷ content) i =
     let wide = passes-later s cell i.later in
     let short = front-short s i in
     let some : (length s.cells == 0) ≡ false = grind (arith, nat_tests, i.later, i.gap_within, i.word_within) in
@@ -132,16 +132,16 @@ word-run s (shown cell place ∷ parts) i =
           let t = begins (given (sheets.counted s cell) (take s.gap s.cells)) (drop s.word s.cells ++ cell ∷ []) in
           rw (wide, w)
           (ap (λ l. join (row_ended row (before_word row)) l)
-          (first-run t parts refl ∙ (more-begun frame (counted (closed row) cell) (of_word row) cell parts ∙ sym (first-front frame row (of_word row) cell place parts short))))
+          (first-run t content refl ∙ (more-begun frame (counted (closed row) cell) (of_word row) cell content ∙ sym (first-front frame row (of_word row) cell place content short))))
       | inr w ↦ elim (cases_Bool (length s.cells == CELLS)) [
         | inl full ↦
             rw (wide, w, full)
             (ap (λ l. join (full_row_ended row s.cells place) l)
-            (first-run (begins (given (sheets.counted s cell) s.cells) (cell ∷ [])) parts refl ∙ sym (first-front frame row [] cell place parts (lit< tt))))
+            (first-run (begins (given (sheets.counted s cell) s.cells) (cell ∷ [])) content refl ∙ sym (first-front frame row [] cell place content (lit< tt))))
         | inr room ↦
             rw (wide, w, room, some)
-            (word-run (record (sheets.counted s cell) { cells = s.cells ++ cell ∷ [] }) parts (in-word-more s cell i room)
-            ∙ by_word-more frame row cell place parts (outcome frame (with_cell row cell) parts) (omega (arith, i.gap_within, i.word_within)) i.word_within short)
+            (word-run (record (sheets.counted s cell) { cells = s.cells ++ cell ∷ [] }) content (in-word-more s cell i room)
+            ∙ by_word-more frame row cell place content (outcome frame (with_cell row cell) content) (omega (arith, i.gap_within, i.word_within)) i.word_within short)
       ]
     ]
 
@@ -170,16 +170,16 @@ in-blanks-more s i room =
 abbrev pub with_place : Row → ℕ → Row
 with_place row word = record row { word = word }
 
-blanks-end : (s : Sheet) (parts : List Part) (w : ℕ) → s.word ≡ length s.cells
-    → by_word (frame_of s) (open_row_of s) parts (outcome (frame_of s) (open_row_of s) parts) ≡ by_blanks (frame_of s) parts (fits [] (with_place (open_row_of s) w))
-blanks-end s parts w at_end = ap (λ (n : ℕ). by_word (frame_of s) (with_place (open_row_of s) n) parts (outcome (frame_of s) (with_place (open_row_of s) n) parts)) at_end
+blanks-end : (s : Sheet) (content : List CellOrNote) (w : ℕ) → s.word ≡ length s.cells
+    → by_word (frame_of s) (open_row_of s) content (outcome (frame_of s) (open_row_of s) content) ≡ by_blanks (frame_of s) content (fits [] (with_place (open_row_of s) w))
+blanks-end s content w at_end = ap (λ (n : ℕ). by_word (frame_of s) (with_place (open_row_of s) n) content (outcome (frame_of s) (with_place (open_row_of s) n) content)) at_end
 
-pub blanks-run : (s : Sheet) (n : ℕ) (place : Place) (parts : List Part) (w : ℕ) → IsInWord s → s.word ≡ length s.cells
-    → over (run s (replicate n (spaced place) ++ marks_of parts)) open_row_of
-    ≡ by_blanks (frame_of s) parts (outcome (frame_of s) (with_place (open_row_of s) w) (replicate n (shown blank place)))
+pub blanks-run : (s : Sheet) (n : ℕ) (place : Place) (content : List CellOrNote) (w : ℕ) → IsInWord s → s.word ≡ length s.cells
+    → over (run s (replicate n (spaced place) ++ marks_of content)) open_row_of
+    ≡ by_blanks (frame_of s) content (outcome (frame_of s) (with_place (open_row_of s) w) (replicate n (shown blank place)))
 unfolding run outcome space
-blanks-run s zero place parts w i at_end = word-run s parts i ∙ blanks-end s parts w at_end
-blanks-run s (suc n) place parts w i at_end =
+blanks-run s zero place content w i at_end = word-run s content i ∙ blanks-end s content w at_end
+blanks-run s (suc n) place content w i at_end =
     let wide = passes-blank s i.later in
     let some : (length s.cells == 0) ≡ false = grind (arith, nat_tests, i.later, i.gap_within, i.word_within) in
     let row = open_row_of s in
@@ -187,37 +187,37 @@ blanks-run s (suc n) place parts w i at_end =
       | inl p ↦
           let t = emptied (given s (take s.gap s.cells)) in
           rw (some, wide, p)
-          (ap (λ l. join (row_ended row (before_word row)) (over l open_row_of)) (no-blanks t n place (marks_of parts) refl)
-          ∙ ap (λ l. join (row_ended row (before_word row)) l) (first-run t parts refl))
+          (ap (λ l. join (row_ended row (before_word row)) (over l open_row_of)) (no-blanks t n place (marks_of content) refl)
+          ∙ ap (λ l. join (row_ended row (before_word row)) l) (first-run t content refl))
       | inr p ↦ elim (cases_Bool (length s.cells == CELLS)) [
         | inl full ↦
             let t = emptied (given s (take s.gap s.cells)) in
             rw (some, wide, p, full)
-            (ap (λ l. join (full_row_ended row (before_word row) place) (over l open_row_of)) (no-blanks t n place (marks_of parts) refl)
-            ∙ ap (λ l. join (full_row_ended row (before_word row) place) l) (first-run t parts refl))
+            (ap (λ l. join (full_row_ended row (before_word row) place) (over l open_row_of)) (no-blanks t n place (marks_of content) refl)
+            ∙ ap (λ l. join (full_row_ended row (before_word row) place) l) (first-run t content refl))
         | inr room ↦
             let t : Sheet = record (sheets.counted s blank) { cells = s.cells ++ blank ∷ []; word = length s.cells + 1 } in
             let len : length (s.cells ++ blank ∷ []) ≡ length s.cells + 1 = length-append s.cells (blank ∷ []) in
-            rw (some, wide, p, room) (blanks-run t n place parts w (in-blanks-more s i room) (sym len))
+            rw (some, wide, p, room) (blanks-run t n place content w (in-blanks-more s i room) (sym len))
       ]
     ]
 
 -- ---- a word
 
 abbrev pub word_marks : Word → List Mark
-word_marks w = map told w.notes ++ (opened ∷ (replicate w.blanks (spaced w.place) ++ marks_of w.parts))
+word_marks w = map told w.notes ++ (opened ∷ (replicate w.blanks (spaced w.place) ++ marks_of w.content))
 
 opened-in : (s : Sheet) → length s.cells ≤ CELLS → (length s.cells == 0) ≡ false → IsInWord (sheets.opens s)
 opened-in s bound some = record { later = grind (arith, nat_tests, some); gap_within = omega arith; word_within = omega arith; bounded = bound }
 
 one-word-run : (s : Sheet) (w : Word) → length s.cells ≤ CELLS
-    → over (run s (opened ∷ (replicate w.blanks (spaced w.place) ++ marks_of w.parts))) open_row_of ≡ one_word (frame_of s) (open_row_of s) w
+    → over (run s (opened ∷ (replicate w.blanks (spaced w.place) ++ marks_of w.content))) open_row_of ≡ one_word (frame_of s) (open_row_of s) w
 unfolding run
 one-word-run s w bound = elim (cases_Bool (length s.cells == 0)) [
   | inl z ↦
       let gap : length s.cells ≡ 0 = grind (arith, nat_tests, z) in
-      rw z (ap (λ l. over l open_row_of) (no-blanks (sheets.opens s) w.blanks w.place (marks_of w.parts) z) ∙ first-run (sheets.opens s) w.parts gap)
-  | inr z ↦ rw z (blanks-run (sheets.opens s) w.blanks w.place w.parts (length s.cells) (opened-in s bound z) refl)
+      rw z (ap (λ l. over l open_row_of) (no-blanks (sheets.opens s) w.blanks w.place (marks_of w.content) z) ∙ first-run (sheets.opens s) w.content gap)
+  | inr z ↦ rw z (blanks-run (sheets.opens s) w.blanks w.place w.content (length s.cells) (opened-in s bound z) refl)
 ]
 
 -- ---- words one after another
@@ -270,7 +270,7 @@ pub filling-run : (s : Sheet) (ws : List Word) → IsHeld s → over (run s (wor
 unfolding run filling
 filling-run s [] h = refl
 filling-run s (w ∷ ws) h =
-    let ms = opened ∷ (replicate w.blanks (spaced w.place) ++ marks_of w.parts) in
+    let ms = opened ∷ (replicate w.blanks (spaced w.place) ++ marks_of w.content) in
     let x = run s ms in
     let word = one-word-run s w h.bounded in
     ap (λ l. over l open_row_of)
@@ -282,10 +282,10 @@ filling-run s (w ∷ ws) h =
 
 -- ---- from any open row
 
-pub rest-run : (s : Sheet) (parts : List Part) → IsHeld s → over (run s (marks_of parts)) open_row_of ≡ rest_of_word (frame_of s) (open_row_of s) parts
-rest-run s parts h = elim (cases_Bool (s.gap == 0)) [
-  | inl z ↦ let start : s.gap ≡ 0 = grind (arith, nat_tests, z) in rw z (first-run s parts start)
+pub rest-run : (s : Sheet) (content : List CellOrNote) → IsHeld s → over (run s (marks_of content)) open_row_of ≡ rest_of_word (frame_of s) (open_row_of s) content
+rest-run s content h = elim (cases_Bool (s.gap == 0)) [
+  | inl z ↦ let start : s.gap ≡ 0 = grind (arith, nat_tests, z) in rw z (first-run s content start)
   | inr z ↦
       let later : 0 < s.gap = grind (arith, nat_tests, z) in
-      rw z (word-run s parts (record { later = later; gap_within = h.gap_within; word_within = h.word_within; bounded = h.bounded }))
+      rw z (word-run s content (record { later = later; gap_within = h.gap_within; word_within = h.word_within; bounded = h.bounded }))
 ]

@@ -16,15 +16,15 @@ use Rattle.page_fill.specs.declared.words.Edge.{Edge}
 use Rattle.page_fill.specs.Fill.{laid_piece, on_sheet, opening, tab, fixed_tab, filled_tab, to_stop, ended, paragraph, spaced, row_ended, heading, headed, without_tag, fits_hang}
 use Rattle.page_fill.specs.Fill as fill
 use Rattle.page_fill_rows.specs.Sheets.{over, blank, broken, empty_rows}
-use Rattle.page_fill_laws.specs.InWords.{Mark, letters_of, opening_marks}
-use Rattle.page_fill_laws.specs.InWords as marks
-use Rattle.page_fill_laws.specs.Filled.{Part}
+use Rattle.page_fill_laws.proofs.Marks.{Mark, letters_of, opening_marks}
+use Rattle.page_fill_laws.proofs.Marks as marks
+use Rattle.page_fill_laws.specs.Filled.{CellOrNote}
 use Rattle.page_fill.specs.Caps.{IsHeld, is_sound}
-use Rattle.page_fill_laws.specs.PieceWords.{cell_parts, and_then, no_more, words_laid, parts_laid, after_cell}
+use Rattle.page_fill_laws.specs.PieceWords.{cell_content, and_then, no_more, words_laid, content_laid, after_cell}
 use Rattle.page_fill.specs.Items.{laid_items, laid_items-append}
-use Rattle.page_fill_laws.specs.Filling.{Group, words, other, is_of_words, in_front, groups, row_end, blank_rows, after_tag, tag_ended, stop_parts, other_laid, groups_laid, filled}
-use Rattle.page_fill_laws.proofs.InWordsRun.{run}
-use Rattle.page_fill_laws.proofs.InWordsPieces.{letters-run, opening-run, run-literal, with_word}
+use Rattle.page_fill_laws.specs.Filling.{Group, words, other, is_of_words, in_front, groups, row_end, blank_rows, after_tag, tag_ended, stop_content, other_laid, groups_laid, filled}
+use Rattle.page_fill_laws.proofs.MarkRuns.{run}
+use Rattle.page_fill_laws.proofs.MarkedPieces.{letters-run, opening-run, run-literal, with_word}
 use Rattle.page_fill_laws.proofs.SoundWords.{piece-sound}
 use Rattle.page_fill_laws.proofs.HeldSheets.{piece-held, opening-held}
 use Rattle.page_fill_laws.proofs.FilledWords.{marks_of}
@@ -77,22 +77,22 @@ tag-law e (Some t) = ap (λ (l : Laid Edge). if e.sheet.tag_begun then l else no
 
 -- ---- tabs
 
-parts-law : (e : Edge) (place : Place) (ms : List Mark) (parts : List Part) → ms ≡ marks_of parts → IsHeld e.sheet
-    → over (run e.sheet (opening_marks e.sheet.literal (length e.sheet.cells == 0) e.word place ++ ms)) (with_word e (after_cell e.sheet.literal e.word)) ≡ parts_laid e place parts
-unfolding parts_laid
-parts-law e place ms parts is h =
+content-law : (e : Edge) (place : Place) (ms : List Mark) (content : List CellOrNote) → ms ≡ marks_of content → IsHeld e.sheet
+    → over (run e.sheet (opening_marks e.sheet.literal (length e.sheet.cells == 0) e.word place ++ ms)) (with_word e (after_cell e.sheet.literal e.word)) ≡ content_laid e place content
+unfolding content_laid
+content-law e place ms content is h =
     let literal = e.sheet.literal in
     let empty = length e.sheet.cells == 0 in
     let w = after_cell e.sheet.literal e.word in
     let front = opening_marks literal empty e.word place ++ ms in
-    ap (λ l. over (run e.sheet l) (with_word e w)) (sym (append-nil front) ∙ and-then-marks literal empty e.word place ms parts no_more is)
-    ∙ edge-run e w (and_then literal empty e.word place parts no_more) h
+    ap (λ l. over (run e.sheet l) (with_word e w)) (sym (append-nil front) ∙ and-then-marks literal empty e.word place ms content no_more is)
+    ∙ edge-run e w (and_then literal empty e.word place content no_more) h
 
-opening-law : (e : Edge) (place : Place) → IsHeld e.sheet → opening e place ≡ parts_laid e place []
+opening-law : (e : Edge) (place : Place) → IsHeld e.sheet → opening e place ≡ content_laid e place []
 opening-law e place h =
     let ms = opening_marks e.sheet.literal (length e.sheet.cells == 0) e.word place in
     opening-run e (length e.sheet.cells == 0) place refl
-    ∙ (ap (λ l. over (run e.sheet l) (with_word e (after_cell e.sheet.literal e.word))) (sym (append-nil ms)) ∙ parts-law e place [] [] refl h)
+    ∙ (ap (λ l. over (run e.sheet l) (with_word e (after_cell e.sheet.literal e.word))) (sym (append-nil ms)) ∙ content-law e place [] [] refl h)
 
 opening-joined : (e : Edge) (place : Place) → (opening e place).edge.word.is_joined ≡ true
 unfolding opening
@@ -103,12 +103,12 @@ opening-literal e place =
     let ms = opening_marks e.sheet.literal (length e.sheet.cells == 0) e.word place in
     ap (λ (l : Laid Edge). l.edge.sheet.literal) (opening-run e (length e.sheet.cells == 0) place refl) ∙ run-literal e.sheet ms
 
-fixed-law : (f : Edge) (place : Place) → f.word.is_joined ≡ true → IsHeld f.sheet → fixed_tab f place ≡ parts_laid f place (stop_parts f.sheet.cells place)
+fixed-law : (f : Edge) (place : Place) → f.word.is_joined ≡ true → IsHeld f.sheet → fixed_tab f place ≡ content_laid f place (stop_content f.sheet.cells place)
 fixed-law f place j h =
     let cells = replicate (to_stop f.sheet.cells) blank in
     let ms = letters_of place cells in
     let runs : over (run f.sheet (opening_marks f.sheet.literal (length f.sheet.cells == 0) f.word place ++ ms)) (with_word f (after_cell f.sheet.literal f.word)) ≡ over (run f.sheet ms) (on_sheet f) = rw j refl in
-    ap (λ l. over l (on_sheet f)) (letters-run f.sheet cells place) ∙ (sym runs ∙ parts-law f place ms (cell_parts place cells) (cell-marks place cells) h)
+    ap (λ l. over l (on_sheet f)) (letters-run f.sheet cells place) ∙ (sym runs ∙ content-law f place ms (cell_content place cells) (cell-marks place cells) h)
 
 -- ---- pieces
 
@@ -120,19 +120,19 @@ one-law : (e : Edge) (p : Piece (List ℕ)) → IsHeld e.sheet → is_sound e.wo
 one-law e p h s k = sym (one-item e p) ∙ words-law e (shown p ∷ []) h s (rw k refl)
 
 kept-tab : (e : Edge) (font : Font) (place : Place) → e.sheet.literal ≡ true → IsHeld e.sheet
-    → laid_piece e (Tab font place) ≡ seq (parts_laid e place []) (λ f. parts_laid f place (stop_parts f.sheet.cells place))
+    → laid_piece e (Tab font place) ≡ seq (content_laid e place []) (λ f. content_laid f place (stop_content f.sheet.cells place))
 unfolding laid_piece tab
 kept-tab e font place l h =
     let f = (opening e place).edge in
     let still : (opening e place).edge.sheet.literal ≡ true = opening-literal e place ∙ l in
     let choice : (if (opening e place).edge.sheet.literal then fixed_tab f place else filled_tab f font place) ≡ fixed_tab f place = rw still refl in
     ap (λ (m : Laid Edge). join (opening e place) m) (choice ∙ fixed-law f place (opening-joined e place) (opening-held e place h))
-    ∙ ap (λ (m : Laid Edge). seq m (λ g. parts_laid g place (stop_parts g.sheet.cells place))) (opening-law e place h)
+    ∙ ap (λ (m : Laid Edge). seq m (λ g. content_laid g place (stop_content g.sheet.cells place))) (opening-law e place h)
 
 tab-law : (e : Edge) (font : Font) (place : Place) → IsHeld e.sheet → is_sound e.word ≡ true → laid_piece e (Tab font place) ≡ other_laid e (Tab font place)
 unfolding other_laid
 tab-law e font place h s =
-    choice e.sheet.literal (laid_piece e (Tab font place)) (seq (parts_laid e place []) (λ f. parts_laid f place (stop_parts f.sheet.cells place))) (words_laid e (shown (Tab font place) ∷ []))
+    choice e.sheet.literal (laid_piece e (Tab font place)) (seq (content_laid e place []) (λ f. content_laid f place (stop_content f.sheet.cells place))) (words_laid e (shown (Tab font place) ∷ []))
     (λ l. kept-tab e font place l h) (λ l. one-law e (Tab font place) h s (rw l refl))
 
 other-law : (e : Edge) (p : Piece (List ℕ)) → IsHeld e.sheet → is_sound e.word ≡ true → laid_piece e p ≡ other_laid e p

@@ -1,5 +1,6 @@
-pub mod InWordsRun
-pub mod InWordsPieces
+pub mod Marks
+pub mod MarkRuns
+pub mod MarkedPieces
 pub mod SoundWords
 pub mod GlueLaw
 pub mod WordLaw
@@ -9,3 +10,4 @@ pub mod FilledWords
 pub mod FilledPieces
 pub mod HeldSheets
 pub mod FillingLaw
+pub mod FillerLaw

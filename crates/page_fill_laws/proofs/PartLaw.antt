@@ -1,136 +1,177 @@
 -- What a part of a word does to a row: the row takes it where it fits, and else ends before it.
-use Rattle.std.proofs.Common.{◌≡◌, ap, ◌∙◌, ℕ, ◌+◌, ◌<◌, ◌≤◌, ◌==◌, true, false, List, [], ◌∷◌, ◌++◌, length, replicate, refl, arith, length-append, if◌then◌else◌}
+use Rattle.std.proofs.Common.{◌≡◌, ap, ◌∙◌, ℕ, ◌+◌, ◌<◌, ◌≤◌, ◌==◌, ◌||◌, Bool, true, false, List, [], ◌∷◌, ◌++◌, length, replicate, nat_lt, inl, inr, refl, arith, append-nil, length-append}
 use Rattle.std.proofs.Math.Bool.{and-false}
+use Rattle.std.proofs.lemmas.Bool.{cases_Bool}
 use Rattle.std.proofs.lemmas.Bool.Decides.{nat_tests}
 use Rattle.std.proofs.lemmas.List.{length-map, length-replicate}
 use Rattle.page_core_base.specs.declared.cells.Cell.{Cell}
 use Rattle.page_core_base.specs.declared.cells.Font.{Font}
-use Rattle.page_core_base.specs.declared.pieces.Piece.{Piece}
+use Rattle.page_core_base.specs.declared.page_settings.Output.{Output}
 use Rattle.page_core_base.specs.declared.pieces.Piece.TheVariants.{Text, Split}
 use Rattle.page_core_base.specs.declared.places.Place.{Place}
-use Rattle.page_core_base.specs.Laid.{Laid, nothing, join, seq}
+use Rattle.page_core_base.specs.Laid.{Laid, nothing, seq}
+use Rattle.page_core_base.specs.Pieces.{Item, shown}
 use Rattle.page_core_limits.specs.declared.TheConstants.{CELLS}
-use Rattle.page_fill_rows.specs.Sheets.{Sheet, over, columns, blank, letters, spaces, opens, new_word}
-use Rattle.page_fill_rows.specs.Characters.{cell_of, cells_of, characters, with_notes}
-use Rattle.page_fill_rows.specs.Plain.{is_printable_ascii}
+use Rattle.page_core_tables.specs.Printed.{char_printed, known}
 use Rattle.page_fill.specs.declared.words.Edge.{Edge}
-use Rattle.page_fill.specs.Fill.{laid, laid_piece, text, opening, on_sheet, stands, tells_tab, tab_notes, word_begun}
-use Rattle.page_fill_rows.proofs.PlainLemmas.{characters_of-plain, characters-plain, columns-plain}
-use Rattle.page_fill_laws.specs.Words.{with_word, with_part, part_wrapped, begun_with}
-use Rattle.page_fill_laws.proofs.GlueLaw.{first-text, new-text, going, seq-nothing}
-use Rattle.page_fill_laws.proofs.WordLaw.{word-fits, word-passes, columns-append, columns-blanks}
+use Rattle.page_fill.specs.declared.words.OpenWord.{OpenWord}
+use Rattle.page_fill.specs.Edges.{begun_word}
+use Rattle.page_fill_rows.specs.OpenRows.{Sheet, columns, blank}
+use Rattle.page_fill_rows.specs.Characters.{cell_of, cells_of, characters_of}
+use Rattle.page_fill_rows.specs.Plain.{is_printable, is_printable_ascii}
+use Rattle.page_fill_rows.proofs.PlainLemmas.{characters_of-plain, columns-plain, first-plain, rest-plain}
+use Rattle.page_fill_laws.specs.Filled.{Word, Frame, Row, first_word, outcome, one_word, rest_of_word, filling}
+use Rattle.page_fill_laws.specs.PieceWords.{cell_content, text_content, Words, words_of, word_after_items, frame_of, open_row_of, next_edge, going_on}
+use Rattle.page_fill_laws.specs.Filling.{groups, filled}
+use Rattle.page_fill_laws.specs.Words.{with_word, word_wrapped}
+use Rattle.page_fill_laws.proofs.GlueLaw.{seq-nothing, one-group, laid-by}
+use Rattle.page_fill_laws.proofs.WordLaw.{apart, word-fits, passes-law, columns-append, columns-blanks}
 
--- ---- cells of a part
+-- ---- what a plain text holds
 
-part-fits : (s : Sheet) (cells : List Cell) (place : Place) → 0 < length s.cells → length s.cells + length cells ≤ CELLS
-    → s.margin + columns s.cells + columns cells ≤ s.width → letters (opens s) cells place ≡ nothing (with_part s cells)
-unfolding spaces
-part-fits s cells place some room fits =
-    let whole : seq (new_word s 0 false place) (λ t. letters t cells place) ≡ nothing (with_word s 0 cells) = word-fits s 0 cells place some (omega arith) (omega arith) in
-    let z : length s.cells + 0 ≡ length s.cells = omega arith in
-    whole ∙ rw z refl
+prints-itself : (output : Output) (b : ℕ) → is_printable b ≡ true → char_printed output b ≡ known (b ∷ [])
+prints-itself output b byte =
+    let ascii : nat_lt b 0x80 ≡ true = grind (arith, nat_tests, byte) in
+    let other : (b == 0x09 || b == 0xA0) ≡ false = grind (arith, nat_tests, byte) in
+    rw (other, ascii) refl
 
-part-passes : (s : Sheet) (cells : List Cell) (place : Place) → s.literal ≡ false → 0 < length s.cells → length s.cells + length cells ≤ CELLS
-    → s.margin + columns s.cells ≤ s.width → s.width < s.margin + columns s.cells + columns cells → letters (opens s) cells place ≡ part_wrapped s cells
-unfolding spaces
-part-passes s cells place fill some room fits past = word-passes s 0 cells place fill some (omega arith) (omega arith) (omega arith)
+bytes-content : (output : Output) (bytes : List ℕ) (font : Font) (place : Place) → is_printable_ascii bytes ≡ true
+    → text_content output bytes font place ≡ cell_content place (cells_of font bytes)
+unfolding text_content
+bytes-content output [] font place plain = refl
+bytes-content output (b ∷ bytes) font place plain =
+    let others = bytes-content output bytes font place (rest-plain b bytes plain) in
+    rw (prints-itself output b (first-plain b bytes plain), others) refl
 
--- ---- a text that is a part
+-- the content of a plain text, with nothing after it
+plain-content : (output : Output) (bytes : List ℕ) (font : Font) (place : Place) → is_printable_ascii bytes ≡ true
+    → text_content output (characters_of bytes) font place ++ [] ≡ cell_content place (cells_of font bytes)
+plain-content output bytes font place plain =
+    append-nil (text_content output (characters_of bytes) font place)
+    ∙ (ap (λ cs. text_content output cs font place) (characters_of-plain bytes plain) ∙ bytes-content output bytes font place plain)
 
-some-cells : (bytes : List ℕ) → 0 < length bytes → (length bytes == 0) ≡ false
-some-cells bytes some = grind (arith, nat_tests)
+some-plain : (bytes : List ℕ) → is_printable_ascii bytes ≡ true → 0 < length bytes → (length (characters_of bytes) == 0) ≡ false
+some-plain bytes plain some = let e : (length bytes == 0) ≡ false = grind (arith, nat_tests) in rw (characters_of-plain bytes plain) e
 
-split-step : (e : Edge) → e.word.is_joined ≡ true → e.sheet.literal ≡ false → laid_piece e Split ≡ nothing (on_sheet e (opens e.sheet))
-unfolding laid_piece
-split-step e joined fill = rw (joined, fill) refl
+-- ---- words that go on from an open row
 
--- a text that goes on with a word
-opening-joined : (e : Edge) (place : Place) → e.word.is_joined ≡ true → opening e place ≡ nothing e
-unfolding opening
-opening-joined e place joined = ap (λ b. if b then nothing e else with_notes (tab_notes (tells_tab e) place) (word_begun e (tells_tab e) place)) joined
+nothing-left : (frame : Frame) (row : Row) → rest_of_word frame row [] ≡ nothing row
+unfolding first_word outcome
+nothing-left frame row = elim (cases_Bool (row.gap == 0)) [ inl z ↦ rw z refl | inr z ↦ rw z refl ]
 
-joined-text : (e : Edge) (b : List ℕ) (font : Font) (place : Place) → e.word.is_joined ≡ true → is_printable_ascii b ≡ true → 0 < length b
-    → text e b font place ≡ over (letters e.sheet (cells_of font b) place) (on_sheet e)
-joined-text e b font place joined plain some =
-    first-text e b font place (some-cells b some)
-    ∙ (ap (λ (l : Laid Edge). seq l (λ f. over (characters f.output f.sheet b font place) (on_sheet f))) (opening-joined e place joined)
-    ∙ ap (λ (l : Laid Sheet). over l (on_sheet e)) (characters-plain e.output e.sheet b font place plain))
+abbrev later : List Word → Words
+later words = record { first = []; later = words }
 
--- ---- pieces one after another
+later-words : (s : Sheet) (words : List Word) → going_on s (later words) ≡ filling (frame_of s) (open_row_of s) words
+later-words s words = ap (λ (l : Laid Row). seq l (λ r. filling (frame_of s) r words)) (nothing-left (frame_of s) (open_row_of s))
 
-then-rest : (e f : Edge) (p : Piece (List ℕ)) (ps : List (Piece (List ℕ))) → laid_piece e p ≡ nothing f → laid e (p ∷ ps) ≡ laid f ps
-unfolding laid
-then-rest e f p ps step = ap (λ (l : Laid Edge). seq l (λ g. laid g ps)) step
+one-word : (frame : Frame) (row : Row) (n : ℕ) (cells : List Cell) (p q : Place) → filling frame row (apart n cells p q ∷ []) ≡ one_word frame row (apart n cells p q)
+unfolding filling
+one-word frame row n cells p q = seq-nothing (one_word frame row (apart n cells p q))
 
-one-piece : (e : Edge) (p : Piece (List ℕ)) → laid e (p ∷ []) ≡ laid_piece e p
-unfolding laid
-one-piece e p = seq-nothing (laid_piece e p)
+word-before : (frame : Frame) (row next : Row) (n : ℕ) (cells : List Cell) (p q : Place) (words : List Word) → one_word frame row (apart n cells p q) ≡ nothing next
+    → filling frame row (apart n cells p q ∷ words) ≡ filling frame next words
+unfolding filling
+word-before frame row next n cells p q words step = ap (λ (l : Laid Row). seq l (λ r. filling frame r words)) step
 
-text-piece : (e : Edge) (b : List ℕ) (font : Font) (place : Place) → is_printable_ascii b ≡ true → laid_piece e (Text b font place) ≡ text e b font place
-unfolding laid_piece
-text-piece e b font place plain = ap (λ cs. text e cs font place) (characters_of-plain b plain)
+-- ---- the words of the pieces
 
-part-text : (e : Edge) (b : List ℕ) (font : Font) (place : Place) → e.word.is_joined ≡ true → e.sheet.literal ≡ false → is_printable_ascii b ≡ true → 0 < length b
-    → laid e (Split ∷ Text b font place ∷ []) ≡ over (letters (opens e.sheet) (cells_of font b) place) (on_sheet e)
-part-text e b font place joined fill plain some =
-    let f = on_sheet e (opens e.sheet) in
-    then-rest e f Split (Text b font place ∷ []) (split-step e joined fill)
-    ∙ (one-piece f (Text b font place)
-    ∙ (text-piece f b font place plain
-    ∙ joined-text f b font place joined plain some))
+-- the place of a part's blanks, of which there are none
+abbrev nowhere : Place
+nowhere = record { line = 0; column = 0 }
+
+abbrev part : List ℕ → Font → Place → List Item
+part b font place = shown Split ∷ shown (Text b font place) ∷ []
+
+part-after : (literal : Bool) (w : OpenWord) (b : List ℕ) (font : Font) (place : Place) → w.is_joined ≡ true → (length (characters_of b) == 0) ≡ false
+    → word_after_items literal w (part b font place) ≡ w
+unfolding word_after_items
+part-after literal w b font place joined some = rw (some, joined) refl
+
+part-words : (output : Output) (literal empty : Bool) (w : OpenWord) (b : List ℕ) (font : Font) (place : Place) → w.is_joined ≡ true → literal ≡ false → is_printable_ascii b ≡ true
+    → (length (characters_of b) == 0) ≡ false → words_of output literal empty w (part b font place) ≡ later (apart 0 (cells_of font b) nowhere place ∷ [])
+unfolding words_of
+part-words output literal empty w b font place joined fill plain some =
+    rw (some, joined, fill) (ap (λ content. later (record { notes = []; blanks = 0; place = nowhere; content = content } ∷ [])) (plain-content output b font place plain))
+
+abbrev two_parts : List ℕ → List ℕ → Font → Place → List Item
+two_parts a b font place = shown (Text a font place) ∷ shown Split ∷ shown (Text b font place) ∷ []
+
+parts-after : (literal : Bool) (w : OpenWord) (a b : List ℕ) (font : Font) (place : Place) → w.is_joined ≡ false → w.has_tab ≡ false
+    → (length (characters_of a) == 0) ≡ false → (length (characters_of b) == 0) ≡ false → word_after_items literal w (two_parts a b font place) ≡ begun_word false
+unfolding word_after_items
+parts-after literal w a b font place new untabbed some some' = rw (some, some', new, untabbed) refl
+
+parts-words : (output : Output) (literal empty : Bool) (w : OpenWord) (a b : List ℕ) (font : Font) (place : Place) → w.is_joined ≡ false → w.has_tab ≡ false → literal ≡ false → empty ≡ false
+    → is_printable_ascii a ≡ true → is_printable_ascii b ≡ true → (length (characters_of a) == 0) ≡ false → (length (characters_of b) == 0) ≡ false
+    → words_of output literal empty w (two_parts a b font place) ≡ later (apart w.blanks (cells_of font a) place place ∷ apart 0 (cells_of font b) nowhere place ∷ [])
+unfolding words_of
+parts-words output literal empty w a b font place new untabbed fill begun plain plain' some some' =
+    rw (some, some', new, untabbed, fill, begun, and-false w.is_placed)
+    (ap (λ x. later (record { notes = []; blanks = w.blanks; place = place; content = x }
+    ∷ record { notes = []; blanks = 0; place = nowhere; content = text_content output (characters_of b) font place ++ [] } ∷ [])) (plain-content output a font place plain)
+    ∙ ap (λ x. later (apart w.blanks (cells_of font a) place place ∷ record { notes = []; blanks = 0; place = nowhere; content = x } ∷ [])) (plain-content output b font place plain'))
+
+-- ---- a part
+
+part-laid : (e : Edge) (b : List ℕ) (font : Font) (place : Place) → e.word.is_joined ≡ true → e.sheet.literal ≡ false → is_printable_ascii b ≡ true → 0 < length b
+    → filled e (part b font place) ≡ next_edge e e.word (one_word (frame_of e.sheet) (open_row_of e.sheet) (apart 0 (cells_of font b) nowhere place))
+unfolding groups
+part-laid e b font place joined fill plain some =
+    let s = some-plain b plain some in
+    let word = apart 0 (cells_of font b) nowhere place in
+    one-group e (part b font place)
+    ∙ (laid-by e (part b font place) e.word (later (word ∷ [])) (part-after e.sheet.literal e.word b font place joined s) (part-words e.output e.sheet.literal (length e.sheet.cells == 0) e.word b font place joined fill plain s)
+    ∙ ap (next_edge e e.word) (later-words e.sheet (word ∷ []) ∙ one-word (frame_of e.sheet) (open_row_of e.sheet) 0 (cells_of font b) nowhere place))
 
 pub next-fits : (e : Edge) (b : List ℕ) (font : Font) (place : Place) → e.word.is_joined ≡ true → e.sheet.literal ≡ false → 0 < length e.sheet.cells
     → is_printable_ascii b ≡ true → 0 < length b → length e.sheet.cells + length b ≤ CELLS
     → e.sheet.margin + columns e.sheet.cells + length b ≤ e.sheet.width
-    → laid e (Split ∷ Text b font place ∷ []) ≡ nothing (on_sheet e (with_part e.sheet (cells_of font b)))
+    → filled e (shown Split ∷ shown (Text b font place) ∷ []) ≡ next_edge e e.word (nothing (with_word (open_row_of e.sheet) 0 (cells_of font b)))
 next-fits e b font place joined fill begun plain some room fits =
     let n : length (cells_of font b) ≡ length b = length-map b (cell_of font) in
     let w = columns-plain font b plain in
-    part-text e b font place joined fill plain some
-    ∙ ap (λ (l : Laid Sheet). over l (on_sheet e)) (part-fits e.sheet (cells_of font b) place begun (omega arith) (omega arith))
+    part-laid e b font place joined fill plain some
+    ∙ ap (next_edge e e.word) (word-fits (frame_of e.sheet) (open_row_of e.sheet) 0 (cells_of font b) nowhere place begun (omega arith) (omega arith))
+
+filling-rows : (s : Sheet) → s.literal ≡ false → (frame_of s).fills ≡ true
+filling-rows s fill = rw fill refl
 
 pub next-passes : (e : Edge) (b : List ℕ) (font : Font) (place : Place) → e.word.is_joined ≡ true → e.sheet.literal ≡ false → 0 < length e.sheet.cells
     → is_printable_ascii b ≡ true → 0 < length b → length e.sheet.cells + length b ≤ CELLS
     → e.sheet.margin + columns e.sheet.cells ≤ e.sheet.width → e.sheet.width < e.sheet.margin + columns e.sheet.cells + length b
-    → laid e (Split ∷ Text b font place ∷ []) ≡ over (part_wrapped e.sheet (cells_of font b)) (on_sheet e)
+    → filled e (shown Split ∷ shown (Text b font place) ∷ []) ≡ next_edge e e.word (word_wrapped (frame_of e.sheet) (open_row_of e.sheet) 0 (cells_of font b))
 next-passes e b font place joined fill begun plain some room fits past =
     let n : length (cells_of font b) ≡ length b = length-map b (cell_of font) in
     let w = columns-plain font b plain in
-    part-text e b font place joined fill plain some
-    ∙ ap (λ (l : Laid Sheet). over l (on_sheet e)) (part-passes e.sheet (cells_of font b) place fill begun (omega arith) (omega arith) (omega arith))
+    part-laid e b font place joined fill plain some
+    ∙ ap (next_edge e e.word) (passes-law (frame_of e.sheet) (open_row_of e.sheet) 0 (cells_of font b) nowhere place (filling-rows e.sheet fill) begun (omega arith) (omega arith) (omega arith))
 
 -- ---- a word of two parts
 
--- an edge whose row is filled, and has a cell, goes on with the blanks that wait and a text
-begun-text : (e : Edge) (a : List ℕ) (font : Font) (place : Place) → e.word.is_joined ≡ false → e.word.has_tab ≡ false → e.sheet.literal ≡ false → 0 < length e.sheet.cells
-    → is_printable_ascii a ≡ true → 0 < length a
-    → text e a font place ≡ over (seq (new_word e.sheet e.word.blanks false place) (λ s. letters s (cells_of font a) place)) (going e false)
-begun-text e a font place new untabbed fill begun plain some =
-    let tab : tells_tab e ≡ false = rw untabbed refl in
-    let cells : (length e.sheet.cells == 0) ≡ false = grind (arith, nat_tests) in
-    let apart : stands e ≡ false = rw (fill, cells) (and-false e.word.is_placed) in
-    new-text e a font place new (some-cells a some)
-    ∙ (ap (λ b. over (seq (with_notes (tab_notes b place) (new_word e.sheet e.word.blanks (stands e) place)) (λ s. characters e.output s a font place)) (going e b)) tab
-    ∙ (ap (λ b. over (seq (new_word e.sheet e.word.blanks b place) (λ s. characters e.output s a font place)) (going e false)) apart
-    ∙ ap (λ (l : Laid Sheet). over (join (new_word e.sheet e.word.blanks false place) l) (going e false))
-    (characters-plain e.output (new_word e.sheet e.word.blanks false place).edge a font place plain)))
-
-first-fits : (e : Edge) (a : List ℕ) (font : Font) (place : Place) → e.word.is_joined ≡ false → e.word.has_tab ≡ false → e.sheet.literal ≡ false
-    → 0 < length e.sheet.cells → is_printable_ascii a ≡ true → 0 < length a → length e.sheet.cells + e.word.blanks + length a ≤ CELLS
-    → e.sheet.margin + columns e.sheet.cells + e.word.blanks + length a ≤ e.sheet.width
-    → laid_piece e (Text a font place) ≡ nothing (begun_with e (cells_of font a))
-first-fits e a font place new untabbed fill begun plain some room fits =
+parts-laid : (e : Edge) (a b : List ℕ) (font : Font) (place : Place) → e.word.is_joined ≡ false → e.word.has_tab ≡ false → e.sheet.literal ≡ false → 0 < length e.sheet.cells
+    → is_printable_ascii a ≡ true → 0 < length a → is_printable_ascii b ≡ true → 0 < length b
+    → length e.sheet.cells + e.word.blanks + length a ≤ CELLS → e.sheet.margin + columns e.sheet.cells + e.word.blanks + length a ≤ e.sheet.width
+    → filled e (two_parts a b font place) ≡ next_edge e (begun_word false)
+    (one_word (frame_of e.sheet) (with_word (open_row_of e.sheet) e.word.blanks (cells_of font a)) (apart 0 (cells_of font b) nowhere place))
+unfolding groups
+parts-laid e a b font place new untabbed fill begun plain some plain' some' room fits =
+    let frame = frame_of e.sheet in
+    let row = open_row_of e.sheet in
+    let s = some-plain a plain some in
+    let t = some-plain b plain' some' in
     let n : length (cells_of font a) ≡ length a = length-map a (cell_of font) in
     let w = columns-plain font a plain in
-    let word = word-fits e.sheet e.word.blanks (cells_of font a) place begun (omega arith) (omega arith) in
-    text-piece e a font place plain ∙ (begun-text e a font place new untabbed fill begun plain some ∙ ap (λ (l : Laid Sheet). over l (going e false)) word)
-
-begins-word : (e : Edge) (a : List ℕ) (font : Font) (place : Place) (ps : List (Piece (List ℕ))) → e.word.is_joined ≡ false → e.word.has_tab ≡ false → e.sheet.literal ≡ false
-    → 0 < length e.sheet.cells → is_printable_ascii a ≡ true → 0 < length a → length e.sheet.cells + e.word.blanks + length a ≤ CELLS
-    → e.sheet.margin + columns e.sheet.cells + e.word.blanks + length a ≤ e.sheet.width
-    → laid e (Text a font place ∷ ps) ≡ laid (begun_with e (cells_of font a)) ps
-begins-word e a font place ps new untabbed fill begun plain some room fits =
-    then-rest e (begun_with e (cells_of font a)) (Text a font place) ps (first-fits e a font place new untabbed fill begun plain some room fits)
+    let cells : (length e.sheet.cells == 0) ≡ false = grind (arith, nat_tests) in
+    let second = apart 0 (cells_of font b) nowhere place in
+    let all = apart e.word.blanks (cells_of font a) place place ∷ second ∷ [] in
+    let first = word-fits frame row e.word.blanks (cells_of font a) place place begun (omega arith) (omega arith) in
+    one-group e (two_parts a b font place)
+    ∙ (laid-by e (two_parts a b font place) (begun_word false) (later all) (parts-after e.sheet.literal e.word a b font place new untabbed s t)
+    (parts-words e.output e.sheet.literal (length e.sheet.cells == 0) e.word a b font place new untabbed fill cells plain plain' s t)
+    ∙ ap (next_edge e (begun_word false)) (later-words e.sheet all
+    ∙ (word-before frame row (with_word row e.word.blanks (cells_of font a)) e.word.blanks (cells_of font a) place place (second ∷ []) first
+    ∙ one-word frame (with_word row e.word.blanks (cells_of font a)) 0 (cells_of font b) nowhere place)))
 
 with-columns : (cells : List Cell) (n : ℕ) (a : List ℕ) (font : Font) → is_printable_ascii a ≡ true
     → columns (cells ++ (replicate n blank ++ cells_of font a)) ≡ columns cells + n + length a
@@ -144,21 +185,29 @@ pub both-fit : (e : Edge) (a b : List ℕ) (font : Font) (place : Place) → e.w
     → 0 < length e.sheet.cells → is_printable_ascii a ≡ true → 0 < length a → is_printable_ascii b ≡ true → 0 < length b
     → length e.sheet.cells + e.word.blanks + length a + length b ≤ CELLS
     → e.sheet.margin + columns e.sheet.cells + e.word.blanks + length a + length b ≤ e.sheet.width
-    → laid e (Text a font place ∷ Split ∷ Text b font place ∷ []) ≡ nothing (on_sheet (begun_with e (cells_of font a)) (with_part (with_word e.sheet e.word.blanks (cells_of font a)) (cells_of font b)))
+    → filled e (shown (Text a font place) ∷ shown Split ∷ shown (Text b font place) ∷ [])
+    ≡ next_edge e (begun_word false) (nothing (with_word (with_word (open_row_of e.sheet) e.word.blanks (cells_of font a)) 0 (cells_of font b)))
 both-fit e a b font place new untabbed fill begun plain some plain' some' room fits =
+    let row = with_word (open_row_of e.sheet) e.word.blanks (cells_of font a) in
     let w = with-columns e.sheet.cells e.word.blanks a font plain in
     let n = with-length e.sheet.cells e.word.blanks a font in
-    begins-word e a font place (Split ∷ Text b font place ∷ []) new untabbed fill begun plain some (omega arith) (omega arith)
-    ∙ next-fits (begun_with e (cells_of font a)) b font place refl fill (omega arith) plain' some' (omega arith) (omega arith)
+    let m : length (cells_of font b) ≡ length b = length-map b (cell_of font) in
+    let v = columns-plain font b plain' in
+    parts-laid e a b font place new untabbed fill begun plain some plain' some' (omega arith) (omega arith)
+    ∙ ap (next_edge e (begun_word false)) (word-fits (frame_of e.sheet) row 0 (cells_of font b) nowhere place (omega arith) (omega arith) (omega arith))
 
 pub second-passes : (e : Edge) (a b : List ℕ) (font : Font) (place : Place) → e.word.is_joined ≡ false → e.word.has_tab ≡ false → e.sheet.literal ≡ false
     → 0 < length e.sheet.cells → is_printable_ascii a ≡ true → 0 < length a → is_printable_ascii b ≡ true → 0 < length b
     → length e.sheet.cells + e.word.blanks + length a + length b ≤ CELLS
     → e.sheet.margin + columns e.sheet.cells + e.word.blanks + length a ≤ e.sheet.width
     → e.sheet.width < e.sheet.margin + columns e.sheet.cells + e.word.blanks + length a + length b
-    → laid e (Text a font place ∷ Split ∷ Text b font place ∷ []) ≡ over (part_wrapped (with_word e.sheet e.word.blanks (cells_of font a)) (cells_of font b)) (on_sheet (begun_with e (cells_of font a)))
+    → filled e (shown (Text a font place) ∷ shown Split ∷ shown (Text b font place) ∷ [])
+    ≡ next_edge e (begun_word false) (word_wrapped (frame_of e.sheet) (with_word (open_row_of e.sheet) e.word.blanks (cells_of font a)) 0 (cells_of font b))
 second-passes e a b font place new untabbed fill begun plain some plain' some' room fits past =
+    let row = with_word (open_row_of e.sheet) e.word.blanks (cells_of font a) in
     let w = with-columns e.sheet.cells e.word.blanks a font plain in
     let n = with-length e.sheet.cells e.word.blanks a font in
-    begins-word e a font place (Split ∷ Text b font place ∷ []) new untabbed fill begun plain some (omega arith) fits
-    ∙ next-passes (begun_with e (cells_of font a)) b font place refl fill (omega arith) plain' some' (omega arith) (omega arith) (omega arith)
+    let m : length (cells_of font b) ≡ length b = length-map b (cell_of font) in
+    let v = columns-plain font b plain' in
+    parts-laid e a b font place new untabbed fill begun plain some plain' some' (omega arith) fits
+    ∙ ap (next_edge e (begun_word false)) (passes-law (frame_of e.sheet) row 0 (cells_of font b) nowhere place (filling-rows e.sheet fill) (omega arith) (omega arith) (omega arith) (omega arith))

@@ -14,7 +14,7 @@ use Rattle.page_fill_rows.specs.Characters.{characters_of}
 use Rattle.page_fill.specs.declared.words.Edge.{Edge}
 use Rattle.page_fill.specs.Fill.{laid_piece, text, one_character, one_glyph, tab, opening, ended, paragraph, spaced, row_ended, heading, tag_ended, after_tag, fits_hang, without_tag}
 use Rattle.page_fill.specs.Caps.{is_sound}
-use Rattle.page_fill_laws.proofs.InWordsPieces.{sound-after}
+use Rattle.page_fill_laws.proofs.MarkedPieces.{sound-after}
 
 opening-sound : (e : Edge) (place : Place) → is_sound e.word ≡ true → is_sound (opening e place).edge.word ≡ true
 unfolding opening

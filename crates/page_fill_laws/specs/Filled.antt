@@ -1,4 +1,5 @@
--- What filling is, in words. Between two breaks stands a list of words, each with the blanks before it. A row takes words up to its first offending
+-- What filling is, in words. Between two breaks stands a list of words. A word is a list of parts, which end after its hyphens, and only its first
+-- part has blanks before it; since a row may end before each part, a `Word` here is one such part. A row takes them up to its first offending
 -- cell: the first one with which margin and columns pass the width while its word isn't the row's first, or else that would be one cell too many.
 -- In the first case the row ends before that word, in the second before that cell, which is reported. Blanks before a word count with that word,
 -- and are dropped where a row ends before them or among them. A row without an offending cell goes on. Where rows are kept as they are (no-fill
@@ -17,17 +18,18 @@ use Rattle.page_fill_rows.specs.Characters.{with_notes}
 
 -- ---- words
 
--- a part of a word: a cell, at the place that a message about it names; or a message
-pub data Part : Type 0 where
-  shown : Cell → Place → Part
-  noted : Message → Part
+-- what a word holds: a cell, at the place that a message about it names; or a message
+pub data CellOrNote : Type 0 where
+  shown : Cell → Place → CellOrNote
+  noted : Message → CellOrNote
 
--- a word: messages before it, the blanks before it, with the place that a message about them names, and its parts
+-- a word, or a part of one: messages before it, the blanks before it (none before a part that is not the first), with the place that a message
+-- about them names, and what it holds
 pub record Word : Type 0 where
   pub notes : List Message
   pub blanks : ℕ
   pub place : Place
-  pub parts : List Part
+  pub content : List CellOrNote
 
 -- ---- rows
 
@@ -95,64 +97,64 @@ abbrev pub first_cell : Frame → Row → Cell → Row
 first_cell frame row cell = if length row.cells == 0 then row_begun frame (counted row cell) (cell ∷ []) else with_cell row cell
 
 -- a row's first word, or what is left of it: the row ends only before a cell that would be one too many
-unfoldable pub first_word : Frame → Row → List Part → Laid Row
+unfoldable pub first_word : Frame → Row → List CellOrNote → Laid Row
 first_word frame row [] = nothing row
-first_word frame row (noted m ∷ parts) = with_notes (m ∷ []) (first_word frame row parts)
-first_word frame row (shown cell place ∷ parts) =
-    if length row.cells == CELLS then seq (full_row_ended row row.cells place) (λ r. first_word frame (first_cell frame r cell) parts)
-    else first_word frame (first_cell frame row cell) parts
+first_word frame row (noted m ∷ content) = with_notes (m ∷ []) (first_word frame row content)
+first_word frame row (shown cell place ∷ content) =
+    if length row.cells == CELLS then seq (full_row_ended row row.cells place) (λ r. first_word frame (first_cell frame r cell) content)
+    else first_word frame (first_cell frame row cell) content
 
 -- ---- the other words of a row
 
--- what parts do in a row: no cell offends, and the row is this one after them; at one the columns pass the width, before which the row is this one;
--- or one is too many, before which the row is this one, at this place, and from which on these parts are left
+-- what a word's cells and messages do in a row: no cell offends, and the row is this one after them; at one the columns pass the width, before which the row is this one;
+-- or one is too many, before which the row is this one, at this place, and from which on these are left
 pub data Outcome : Type 0 where
   fits : List Message → Row → Outcome
   too_wide : Row → Outcome
-  too_many : List Message → Row → Place → List Part → Outcome
+  too_many : List Message → Row → Place → List CellOrNote → Outcome
 
 abbrev pub after_note : Message → Outcome → Outcome
 after_note m (fits notes row) = fits (m ∷ notes) row
 after_note m (too_wide row) = too_wide row
-after_note m (too_many notes row place parts) = too_many (m ∷ notes) row place parts
+after_note m (too_many notes row place content) = too_many (m ∷ notes) row place content
 
 -- margin and columns pass the width with the cell
 abbrev pub is_wide : Frame → Row → Cell → Bool
 is_wide frame row cell = frame.fills && nat_lt frame.width (row.margin + columns row.cells + cell_columns cell)
 
-unfoldable pub outcome : Frame → Row → List Part → Outcome
+unfoldable pub outcome : Frame → Row → List CellOrNote → Outcome
 outcome frame row [] = fits [] row
-outcome frame row (noted m ∷ parts) = after_note m (outcome frame row parts)
-outcome frame row (shown cell place ∷ parts) =
+outcome frame row (noted m ∷ content) = after_note m (outcome frame row content)
+outcome frame row (shown cell place ∷ content) =
     if is_wide frame row cell then too_wide row
-    else if length row.cells == CELLS then too_many [] row place (shown cell place ∷ parts)
-    else outcome frame (with_cell row cell) parts
+    else if length row.cells == CELLS then too_many [] row place (shown cell place ∷ content)
+    else outcome frame (with_cell row cell) content
 
 -- the next row with these cells, none where it has not begun
 abbrev pub started : Frame → Row → List Cell → Row
 started frame row cells = if length cells == 0 then row else row_begun frame row cells
 
--- the row's last word, which is not its first, goes on with the parts: the row takes them, or ends before the word, or in it
-abbrev pub by_word : Frame → Row → List Part → Outcome → Laid Row
-by_word frame row parts (fits notes taken) = with_notes notes (nothing taken)
-by_word frame row parts (too_wide taken) = seq (row_ended row (before_word row)) (λ r. first_word frame (started frame r (of_word row)) parts)
-by_word frame row parts (too_many notes taken place left) = with_notes notes (seq (full_row_ended taken taken.cells place) (λ r. first_word frame r left))
+-- the row's last word, which is not its first, goes on with this content: the row takes it, or ends before the word, or in it
+abbrev pub by_word : Frame → Row → List CellOrNote → Outcome → Laid Row
+by_word frame row content (fits notes taken) = with_notes notes (nothing taken)
+by_word frame row content (too_wide taken) = seq (row_ended row (before_word row)) (λ r. first_word frame (started frame r (of_word row)) content)
+by_word frame row content (too_many notes taken place left) = with_notes notes (seq (full_row_ended taken taken.cells place) (λ r. first_word frame r left))
 
--- the row took the blanks before a word of these parts, or ends before them
-abbrev pub by_blanks : Frame → List Part → Outcome → Laid Row
-by_blanks frame parts (fits notes taken) = by_word frame (after_blanks taken) parts (outcome frame (after_blanks taken) parts)
-by_blanks frame parts (too_wide taken) = seq (row_ended taken (before_word taken)) (λ r. first_word frame r parts)
-by_blanks frame parts (too_many notes taken place left) = seq (full_row_ended taken (before_word taken) place) (λ r. first_word frame r parts)
+-- the row took the blanks before a word of this content, or ends before them
+abbrev pub by_blanks : Frame → List CellOrNote → Outcome → Laid Row
+by_blanks frame content (fits notes taken) = by_word frame (after_blanks taken) content (outcome frame (after_blanks taken) content)
+by_blanks frame content (too_wide taken) = seq (row_ended taken (before_word taken)) (λ r. first_word frame r content)
+by_blanks frame content (too_many notes taken place left) = seq (full_row_ended taken (before_word taken) place) (λ r. first_word frame r content)
 
 -- a row that is open takes one more word, or none is
 abbrev pub one_word : Frame → Row → Word → Laid Row
 one_word frame row word =
-    if length row.cells == 0 then first_word frame (opens row) word.parts
-    else by_blanks frame word.parts (outcome frame (opens row) (replicate word.blanks (shown blank word.place)))
+    if length row.cells == 0 then first_word frame (opens row) word.content
+    else by_blanks frame word.content (outcome frame (opens row) (replicate word.blanks (shown blank word.place)))
 
--- the row's last word goes on with these parts
-abbrev pub rest_of_word : Frame → Row → List Part → Laid Row
-rest_of_word frame row parts = if row.gap == 0 then first_word frame row parts else by_word frame row parts (outcome frame row parts)
+-- the row's last word goes on with this content
+abbrev pub rest_of_word : Frame → Row → List CellOrNote → Laid Row
+rest_of_word frame row content = if row.gap == 0 then first_word frame row content else by_word frame row content (outcome frame row content)
 
 -- ---- words one after another
 

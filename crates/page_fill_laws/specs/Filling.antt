@@ -14,8 +14,8 @@ use Rattle.page_fill.specs.declared.words.Edge.{Edge}
 use Rattle.page_fill.specs.declared.TheConstants.{HANG_MAX, TAB_STOP}
 use Rattle.page_fill.specs.Edges.{no_word, placed_word}
 use Rattle.page_fill_rows.specs.OpenRows.{over, blank, columns, more_blank_rows}
-use Rattle.page_fill_laws.specs.Filled.{Part, at_break}
-use Rattle.page_fill_laws.specs.PieceWords.{cell_parts, open_row_of, next_edge, words_laid, parts_laid}
+use Rattle.page_fill_laws.specs.Filled.{CellOrNote, at_break}
+use Rattle.page_fill_laws.specs.PieceWords.{cell_content, open_row_of, next_edge, words_laid, content_laid}
 
 -- ---- groups
 
@@ -87,8 +87,8 @@ tag_ended e (Some tag) = if e.sheet.tag_begun then after_tag e tag else nothing 
 abbrev pub to_column : List Cell → ℕ → ℕ
 to_column cells n = if length cells == 0 then n else if nat_lt (columns cells) n then n - columns cells else 1
 
-abbrev pub stop_parts : List Cell → Place → List Part
-stop_parts cells place = cell_parts place (replicate (TAB_STOP - columns cells % TAB_STOP) blank)
+abbrev pub stop_content : List Cell → Place → List CellOrNote
+stop_content cells place = cell_content place (replicate (TAB_STOP - columns cells % TAB_STOP) blank)
 
 unfoldable pub other_laid : Edge → Piece (List ℕ) → Laid Edge
 -- the row ends; that of a line that is kept as it is ends with a blank row where it has no cell
@@ -108,7 +108,7 @@ other_laid e TagEnd = tag_ended (record e { tag = None }) e.tag
 -- the next word is placed at a column
 other_laid e (Column n) = placed e (to_column e.sheet.cells n)
 -- the word goes on: in a row that is kept as it is by blanks up to the next stop, else as words_of has it
-other_laid e (Tab font place) = if e.sheet.literal then seq (parts_laid e place []) (λ f. parts_laid f place (stop_parts f.sheet.cells place)) else words_laid e (shown (Tab font place) ∷ [])
+other_laid e (Tab font place) = if e.sheet.literal then seq (content_laid e place []) (λ f. content_laid f place (stop_content f.sheet.cells place)) else words_laid e (shown (Tab font place) ∷ [])
 -- the others are of words
 other_laid e p = words_laid e (shown p ∷ [])
 

@@ -1,5 +1,4 @@
-pub mod InWords
-pub mod Words
 pub mod Filled
 pub mod PieceWords
 pub mod Filling
+pub mod Words

@@ -1,5 +1,5 @@
--- The words of pieces between two breaks, and the messages among them: each word with the blanks before it, and its parts, cells and messages.
--- Parts that are glued are one word. From an edge they lead to the next one.
+-- The words of pieces between two breaks, and the messages among them: each word with the blanks before it, and what it holds, cells and
+-- messages. Texts that are glued are one word. From an edge they lead to the next one.
 -- Source: roff(7), "Filling and adjusting".
 use Rattle.std.specs.Prelude.{ℕ, Bool, true, false, not, ◌&&◌, ◌||◌, ◌==◌, List, [], ◌∷◌, ◌++◌, length, map, replicate, if◌then◌else◌}
 use Rattle.page_core_base.specs.declared.cells.Cell.{Cell}
@@ -15,28 +15,28 @@ use Rattle.page_fill.specs.declared.words.Edge.{Edge}
 use Rattle.page_fill_rows.specs.OpenRows.{Sheet, over, blank, more_blank_rows}
 use Rattle.page_fill_rows.specs.Characters.{cell_of, cells_of, characters_of, unknown_notes}
 use Rattle.page_fill.specs.Edges.{tab_notes, begun_word, blanks_wait, opened_word, glued_word}
-use Rattle.page_fill_laws.specs.Filled.{Part, shown, noted, Word, Frame, Row, rest_of_word, filling}
+use Rattle.page_fill_laws.specs.Filled.{CellOrNote, shown, noted, Word, Frame, Row, rest_of_word, filling}
 use Rattle.page_core_base.specs.Pieces.{Item}
 use Rattle.page_core_base.specs.Pieces as items
 use Rattle.page_core_base.specs.Rows.{LaidRow, is_blank_row}
 use Rattle.page_core_base.specs.Laid.{Laid, seq}
 
--- ---- parts
+-- ---- cells and messages
 
-abbrev pub cell_parts : Place → List Cell → List Part
-cell_parts place cells = map (λ cell. shown cell place) cells
+abbrev pub cell_content : Place → List Cell → List CellOrNote
+cell_content place cells = map (λ cell. shown cell place) cells
 
 -- what is printed, after a message about what can't be
-abbrev pub printed_parts : Printing → Font → Place → List Part
-printed_parts printing font place = map noted (unknown_notes printing.unknown place) ++ cell_parts place (cells_of font printing.characters)
+abbrev pub printed_content : Printing → Font → Place → List CellOrNote
+printed_content printing font place = map noted (unknown_notes printing.unknown place) ++ cell_content place (cells_of font printing.characters)
 
-unfoldable pub text_parts : Output → List ℕ → Font → Place → List Part
-text_parts output [] font place = []
-text_parts output (c ∷ cs) font place = printed_parts (char_printed output c) font place ++ text_parts output cs font place
+unfoldable pub text_content : Output → List ℕ → Font → Place → List CellOrNote
+text_content output [] font place = []
+text_content output (c ∷ cs) font place = printed_content (char_printed output c) font place ++ text_content output cs font place
 
 -- a tab is a blank of its word, which is reported once a word
-abbrev pub tab_parts : (is_told : Bool) → Font → Place → List Part
-tab_parts is_told font place = map noted (tab_notes (not is_told) place) ++ shown (cell_of font 32) place ∷ []
+abbrev pub tab_content : (is_told : Bool) → Font → Place → List CellOrNote
+tab_content is_told font place = map noted (tab_notes (not is_told) place) ++ shown (cell_of font 32) place ∷ []
 
 -- ---- what waits
 
@@ -56,41 +56,41 @@ word_after literal w _ = w
 
 -- ---- words
 
--- the parts that go on with the open word, and the words after it
+-- what goes on with the open word, and the words after it
 pub record Words : Type 0 where
-  pub first : List Part
+  pub first : List CellOrNote
   pub later : List Word
 
 abbrev pub no_more : Words
 no_more = record { first = []; later = [] }
 
 -- a word with the blanks that wait before it. They are cells of it where rows are kept as they are, and where they place it in an empty row.
-abbrev pub word_of : (literal empty : Bool) → OpenWord → Place → List Part → Word
-word_of literal empty w place parts =
+abbrev pub word_of : (literal empty : Bool) → OpenWord → Place → List CellOrNote → Word
+word_of literal empty w place content =
     let notes = tab_notes (w.has_tab && not literal) place in
-    if literal || (w.is_placed && empty) then record { notes = notes; blanks = 0; place = place; parts = cell_parts place (replicate w.blanks blank) ++ parts }
-    else record { notes = notes; blanks = w.blanks; place = place; parts = parts }
+    if literal || (w.is_placed && empty) then record { notes = notes; blanks = 0; place = place; content = cell_content place (replicate w.blanks blank) ++ content }
+    else record { notes = notes; blanks = w.blanks; place = place; content = content }
 
--- parts go on with the open word, or begin one, which the parts after them may go on with
-abbrev pub and_then : (literal empty : Bool) → OpenWord → Place → List Part → Words → Words
-and_then literal empty w place parts rest =
-    if w.is_joined then record { first = parts ++ rest.first; later = rest.later }
-    else record { first = []; later = word_of literal empty w place (parts ++ rest.first) ∷ rest.later }
+-- content goes on with the open word, or begins one, which what follows may go on with
+abbrev pub and_then : (literal empty : Bool) → OpenWord → Place → List CellOrNote → Words → Words
+and_then literal empty w place content rest =
+    if w.is_joined then record { first = content ++ rest.first; later = rest.later }
+    else record { first = []; later = word_of literal empty w place (content ++ rest.first) ∷ rest.later }
 
 -- the open word is parted: what follows is a word without a blank
 abbrev pub parted : Words → Words
-parted rest = record { first = []; later = record { notes = []; blanks = 0; place = record { line = 0; column = 0 }; parts = rest.first } ∷ rest.later }
+parted rest = record { first = []; later = record { notes = []; blanks = 0; place = record { line = 0; column = 0 }; content = rest.first } ∷ rest.later }
 
 abbrev pub words_from : Output → (literal empty : Bool) → OpenWord → Piece (List ℕ) → Words → Words
 words_from output literal empty w (Text bytes font place) rest =
-    if length (characters_of bytes) == 0 then rest else and_then literal empty w place (text_parts output (characters_of bytes) font place) rest
-words_from output literal empty w (Glyph name font place) rest = and_then literal empty w place (printed_parts (glyph_printed output name) font place) rest
-words_from output literal empty w (Char c font place) rest = and_then literal empty w place (printed_parts (char_printed output c) font place) rest
-words_from output literal empty w (Tab font place) rest = and_then literal empty w place (tab_parts (after_cell literal w).is_told font place) rest
+    if length (characters_of bytes) == 0 then rest else and_then literal empty w place (text_content output (characters_of bytes) font place) rest
+words_from output literal empty w (Glyph name font place) rest = and_then literal empty w place (printed_content (glyph_printed output name) font place) rest
+words_from output literal empty w (Char c font place) rest = and_then literal empty w place (printed_content (char_printed output c) font place) rest
+words_from output literal empty w (Tab font place) rest = and_then literal empty w place (tab_content (after_cell literal w).is_told font place) rest
 words_from output literal empty w Split rest = if w.is_joined && not literal then parted rest else rest
 words_from output literal empty w _ rest = rest
 
--- a message stands after the parts that came
+-- a message stands after what came
 abbrev pub after_message : Message → Words → Words
 after_message m rest = record { first = noted m ∷ rest.first; later = rest.later }
 
@@ -148,7 +148,7 @@ with_row s row rows = record s {
 abbrev pub next_edge : Edge → OpenWord → Laid Row → Laid Edge
 next_edge e w l = over l (λ row. record e { sheet = with_row e.sheet row l.rows; word = w })
 
--- words go on from an edge: parts may go on with the open row's last word, and the words after it follow
+-- words go on from an edge: the first may go on with the open row's last word, and the others follow
 abbrev pub going_on : Sheet → Words → Laid Row
 going_on s words = seq (rest_of_word (frame_of s) (open_row_of s) words.first) (λ r. filling (frame_of s) r words.later)
 
@@ -158,8 +158,8 @@ words_laid e items =
     let literal = e.sheet.literal in
     next_edge e (word_after_items literal e.word items) (going_on e.sheet (words_of e.output literal (length e.sheet.cells == 0) e.word items))
 
--- the open word goes on with these parts; or one begins with the blanks that wait, and they are its first ones
-unfoldable pub parts_laid : Edge → Place → List Part → Laid Edge
-parts_laid e place parts =
+-- the open word goes on with this content; or one begins with the blanks that wait, and this is its first
+unfoldable pub content_laid : Edge → Place → List CellOrNote → Laid Edge
+content_laid e place content =
     let literal = e.sheet.literal in
-    next_edge e (after_cell literal e.word) (going_on e.sheet (and_then literal (length e.sheet.cells == 0) e.word place parts no_more))
+    next_edge e (after_cell literal e.word) (going_on e.sheet (and_then literal (length e.sheet.cells == 0) e.word place content no_more))

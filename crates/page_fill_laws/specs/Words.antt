@@ -1,11 +1,18 @@
--- A word with its blanks in a row, or a word's next part: taken whole, or at the beginning of the next row. Source: roff(7), "Filling and adjusting".
-use Rattle.std.specs.Prelude.{ℕ, ◌+◌, ◌-◌, min, Bool, true, false, List, [], ◌∷◌, ◌++◌, length, replicate}
+-- What a word does to a row, in the laws of words: the row takes it with its blanks, or ends before it and it begins the next one. A word's
+-- next part is a word without blanks. Trust in a page needs no reading of it. Source: roff(7), "Filling and adjusting".
+use Rattle.std.specs.Prelude.{ℕ, ◌+◌, ◌-◌, min, Bool, true, List, [], ◌∷◌, ◌++◌, length, replicate}
 use Rattle.page_core_base.specs.declared.cells.Cell.{Cell}
+use Rattle.page_core_base.specs.declared.places.Place.{Place}
 use Rattle.page_core_base.specs.Laid.{Laid}
+use Rattle.page_core_base.specs.Rows.{row_of}
 use Rattle.page_fill_rows.specs.declared.TheConstants.{TAG_COLUMNS}
-use Rattle.page_fill_rows.specs.Sheets.{Sheet, over, columns, cell_columns, blank, gives, begins}
-use Rattle.page_fill.specs.declared.words.Edge.{Edge}
-use Rattle.page_fill.specs.Fill.{begun_word}
+use Rattle.page_fill_rows.specs.OpenRows.{columns, cell_columns, blank}
+use Rattle.page_fill_laws.specs.Filled.{Word, Frame, Row, row_begun}
+use Rattle.page_fill_laws.specs.PieceWords.{cell_content}
+
+-- a word of cells, after blanks
+abbrev pub word_of_cells : ℕ → List Cell → Place → Word
+word_of_cells n cells place = record { notes = []; blanks = n; place = place; content = cell_content place cells }
 
 -- the columns of the open tag with more cells, and whether it has one
 abbrev pub tally : ℕ → List Cell → ℕ
@@ -16,38 +23,26 @@ abbrev pub has_cell : Bool → List Cell → Bool
 has_cell b [] = b
 has_cell b (c ∷ cs) = has_cell true cs
 
-abbrev pub tallied : Sheet → List Cell → Sheet
-tallied s cells = record s { tag_columns = tally s.tag_columns cells; tag_begun = has_cell s.tag_begun cells }
+abbrev pub tallied : Row → List Cell → Row
+tallied row cells = record row { tag_columns = tally row.tag_columns cells; tag_begun = has_cell row.tag_begun cells }
 
 -- the row with one more word, and the blanks before it
-abbrev pub with_word : Sheet → ℕ → List Cell → Sheet
-with_word s n cells =
-    record (tallied s (replicate n blank ++ cells)) { cells = s.cells ++ (replicate n blank ++ cells); gap = length s.cells; word = length s.cells + n }
+abbrev pub with_word : Row → ℕ → List Cell → Row
+with_word row n cells =
+    record (tallied row (replicate n blank ++ cells)) { cells = row.cells ++ (replicate n blank ++ cells); gap = length row.cells; word = length row.cells + n }
 
 -- the blanks that fit in the row
-abbrev pub fitting : Sheet → ℕ
-fitting s = s.width - (s.margin + columns s.cells)
-
--- the row ends before the word, which begins the next one
-abbrev pub word_wrapped : Sheet → ℕ → List Cell → Laid Sheet
-word_wrapped s n cells = over (gives (tallied s (replicate n blank ++ cells)) s.cells) (λ t. begins t cells)
-
--- the same where the blanks before it don't fit
-abbrev pub word_after_end : Sheet → List Cell → Laid Sheet
-word_after_end s cells = over (gives (tallied s (replicate (fitting s) blank ++ cells)) s.cells) (λ t. begins t cells)
+abbrev pub fitting : Frame → Row → ℕ
+fitting frame row = frame.width - (row.margin + columns row.cells)
 
 -- the word begins a row
-abbrev pub word_first : Sheet → List Cell → Sheet
-word_first s cells = begins (tallied s cells) cells
+abbrev pub word_first : Frame → Row → List Cell → Row
+word_first frame row cells = row_begun frame (tallied row cells) cells
 
--- the row's last word with one more part, before which the row may end
-abbrev pub with_part : Sheet → List Cell → Sheet
-with_part s cells = record (tallied s cells) { cells = s.cells ++ cells; gap = length s.cells; word = length s.cells }
-
--- the row ends before the part, which begins the next one
-abbrev pub part_wrapped : Sheet → List Cell → Laid Sheet
-part_wrapped s cells = over (gives (tallied s cells) s.cells) (λ t. begins t cells)
-
--- the row took the blanks that wait and a word of these cells, which may go on
-abbrev pub begun_with : Edge → List Cell → Edge
-begun_with e cells = record e { sheet = with_word e.sheet e.word.blanks cells; word = begun_word false }
+-- the row ends before the word, which begins the next one; so many blanks before it stood in the row
+abbrev pub word_wrapped : Frame → Row → ℕ → List Cell → Laid Row
+word_wrapped frame row n cells = record {
+  rows = row_of row.margin row.cells ∷ [];
+  notes = [];
+  edge = word_first frame (tallied row (replicate n blank)) cells;
+}

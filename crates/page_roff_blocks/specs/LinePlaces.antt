@@ -1,4 +1,4 @@
--- Places in a raw line, between its parts: how the code goes through a line. Source: roff(7), "if", "ie", "el".
+-- Places in a raw line, between its parts: how the code goes through a line. Trust needs no reading of it. Source: roff(7), "if", "ie", "el".
 use Rattle.std.specs.Prelude.{◌≡◌, ℕ, ◌-◌, ◌≤◌, Bool, true, false, not, ◌&&◌, is_none, List, ◌∷◌, length, drop, Option, Some, None}
 use Rattle.page_roff_blocks.specs.declared.atoms.Atom.{Atom}
 use Rattle.page_roff_blocks.specs.declared.atoms.Atom.TheVariants.{Leaf}

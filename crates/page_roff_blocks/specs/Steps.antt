@@ -1,4 +1,4 @@
--- The parts of a source, one after another: the steps of the code. Source: roff(7), "if", "de", "ig".
+-- The parts of a source, one after another: the steps of the code. Trust needs no reading of it. Source: roff(7), "if", "de", "ig".
 use Rattle.std.specs.Prelude.{ℕ, Bool, true, false, List, [], ◌∷◌, length, Option, Some, None}
 use Rattle.page_roff_blocks.specs.declared.atoms.Atom.{Atom}
 use Rattle.page_roff_blocks.specs.declared.atoms.Atom.TheVariants.{Leaf, Guard, Block, End, Region}

@@ -1,5 +1,8 @@
 //! The raw lines of a source as a forest of leaves, regions and blocks: what heads and ends them is found
 //! from the raw text alone (roff(7), "if", "ie", "el", "de", "am", "ig").
+//!
+//! It stands above the heads of conditionals (`page_roff_heads`); `page_roff_language` runs such a forest. Read `specs/Forest.antt` first,
+//! then `specs/Run.antt` (what a forest does), and `parts.rt` for the code.
 #![tactic(auto)]
 
 mod atoms;

@@ -13,7 +13,7 @@ use Rattle.page_roff_names.specs.declared.rows.Meaning.TheVariants.{String}
 use Rattle.page_roff_names.specs.Entries.{definition, Definition}
 use Rattle.page_roff_names.specs.Names.{Definitions, look, string_of, number_of, with_text, without_text, with_register, without_register, refusal}
 use Rattle.page_roff_values.specs.Latches.{Came}
-use Rattle.page_roff_expressions.specs.Values.{value_of, messages_of}
+use Rattle.page_roff_values.specs.Numbers.{value_of, messages_of}
 use Rattle.page_roff_definitions.specs.declared.definitions.RequestLine.{RequestLine}
 use Rattle.page_roff_requests.specs.declared.requests.DefinitionRequest.{DefinitionRequest}
 use Rattle.page_roff_requests.specs.declared.requests.DefinitionRequest.TheVariants.{DefineString, AppendString, SetRegister, Remove, Rename, RemoveRegisters}

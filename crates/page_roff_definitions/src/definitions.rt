@@ -11,11 +11,10 @@ ghost use Rattle.page_roff_definitions.specs.Definitions.{Does, FitsRequest};
 use crate::arguments::{report_closings, value_after};
 use page_core_base::{Note, NoteKind, Place};
 use page_core_limits::Limit;
-use page_roff_expressions::expression;
 use page_roff_forms::Arguments;
 use page_roff_names::Names;
 use page_roff_requests::DefinitionRequest;
-use page_roff_values::NoteOut;
+use page_roff_values::{NoteOut, expression};
 
 /// Whether the rest of a request's line is expanded in copy mode.
 pub fn is_in_copy_mode(request: DefinitionRequest) -> bool

@@ -1,4 +1,5 @@
--- What the code's object holds, and what its calls do, in terms of the effects of parts. Source: roff(7), "LANGUAGE SYNTAX".
+-- What the code's object holds, and what its calls do, in terms of the effects of parts. Trust needs no reading of it.
+-- Source: roff(7), "LANGUAGE SYNTAX".
 use Rattle.std.specs.Prelude.{◌≡◌, ℕ, ◌≤◌, Bool, true, false, nat_le, List, [], length, Option, Some, None, if◌then◌else◌}
 use Rattle.page_core_limits.specs.declared.TheConstants.{ARGS, BODY}
 use Rattle.page_core_base.specs.Messages.{Message}

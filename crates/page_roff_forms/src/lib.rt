@@ -1,4 +1,7 @@
 //! The form of a raw line, and the arguments of a control line (roff(7), "LANGUAGE SYNTAX" and "Macro syntax").
+//!
+//! The lowest crate of roff: heads, commands and calls are read by it, and so are the lines that the sets of macros get. Read
+//! `specs/LineForms.antt` and `Arguments.antt` first.
 #![tactic(auto)]
 
 mod arguments;

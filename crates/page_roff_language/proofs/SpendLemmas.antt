@@ -17,7 +17,9 @@ use Rattle.page_roff_blocks.proofs.FoldLemmas.{run_is_steps}
 use Rattle.page_core_limits.specs.declared.TheConstants.{CALLS}
 use Rattle.page_roff_language.specs.Languages.{Kind, page, body, Done, gives, calls, finish_at, call_with, gives_at, meaning_at, run_page}
 use Rattle.page_roff_language.specs.Budgets.{Budgeted, Effects, with_rest, charge_by, charge, begin_line, whether_run, meet, test, unopened_by, read_line, end_line, meaning, done_with, language}
-use Rattle.page_roff_language.specs.Spending.{after_leaf, Spends}
+use Rattle.page_roff_language.specs.Machine.{Frame, Running, entered, at_part, depth, is_some, next, next_in, leaf_next, part_next, region_next, line_next, source_next}
+use Rattle.page_roff_language.specs.Machine as machine
+use Rattle.page_roff_language.specs.Spending.{after_leaf, Spends, unspent_if, unspent_at, unspent, AreMet, LeadsIn, Leads}
 
 guard_past : {S : Type 0} (m : Meaning (List ℕ) S) (is_met : Bool) (h : Head (List ℕ)) (spot : Spot) (s : S) → (guard_met m is_met h spot s).0.begun ≡ true
 unfolding guard_met guard_with guarded_by
@@ -28,6 +30,27 @@ block_past : {S : Type 0} (m : Meaning (List ℕ) S) (is_met : Bool) (h : Head (
 unfolding block_met block_with after_part
 block_past m true h spot s = refl
 block_past m false h spot s = refl
+
+-- nothing is left to spend past the first part of a line, and where no part is left
+past_none : (region : Option Opened) (parts : List (Atom (List ℕ))) (begun gave_up : Bool) (most : ℕ) → begun ≡ true → unspent_at region parts begun gave_up most ≡ 0
+unfolding unspent_at unspent_if
+past_none (Some o) parts begun gave_up most h = refl
+past_none None [] begun gave_up most h = refl
+past_none None (part ∷ more) true gave_up most h = refl
+past_none None (part ∷ more) false gave_up most h = absurd (cc)
+
+empty_none : (region : Option Opened) (begun gave_up : Bool) (most : ℕ) → unspent_at region [] begun gave_up most ≡ 0
+unfolding unspent_at
+empty_none (Some o) begun gave_up most = refl
+empty_none None begun gave_up most = refl
+
+unspent_most : (region : Option Opened) (parts : List (Atom (List ℕ))) (begun gave_up : Bool) (most : ℕ) → unspent_at region parts begun gave_up most ≤ most
+unfolding unspent_at unspent_if
+unspent_most (Some o) parts begun gave_up most = omega arith
+unspent_most None [] begun gave_up most = omega arith
+unspent_most None (part ∷ more) true gave_up most = omega arith
+unspent_most None (part ∷ more) false true most = omega arith
+unspent_most None (part ∷ more) false false most = omega arith
 
 module _ {R : Type 0} (spent : R → ℕ) (most : ℕ) (e : Effects R) (p : Spends spent most e) (a b : ℕ) where
   -- what was spent was paid for
@@ -232,6 +255,140 @@ module _ {R : Type 0} (spent : R → ℕ) (most : ℕ) (e : Effects R) (p : Spen
       finish_base (run_lines (meaning_at (language e) d (body args)) (λ t. t) ls x) (run_base d (body args) (gives_base d (body args)) ls x h))
       s (e.leaf true kind text s.rest) h (p.leaf true kind text s.rest)
 
+  -- ---- step by step
+
+  -- what was spent, and what the line may still spend, was paid for
+  Due : Running (Budgeted R) → Type 0
+  Due r = spent r.state.rest + unspent most r + a ≤ most * r.state.taken + b
+
+  Kept : Running (Budgeted R) → Type 0
+  Kept r = AreMet r.under × Due r
+
+  kept_past : (f : Frame) (under : List Frame) (s : Budgeted R) → f.spot.begun ≡ true → AreMet under → Base s → Kept (record { top = f; under = under; state = s })
+  unfolding Kept Due Base unspent
+  kept_past f under s t u h = (u, omega (arith, h, past_none f.region f.parts f.spot.begun s.gave_up most t))
+
+  kept_empty : (f : Frame) (under : List Frame) (s : Budgeted R) → f.parts ≡ [] → AreMet under → Base s → Kept (record { top = f; under = under; state = s })
+  unfolding Kept Due Base unspent
+  kept_empty f under s t u h =
+      let k : unspent_at f.region f.parts f.spot.begun s.gave_up most ≡ 0 = rw t (empty_none f.region f.spot.begun s.gave_up most) in
+      (u, omega (arith, h, k))
+
+  due_if : (begun gave_up : Bool) (left taken : ℕ) (rest : R)
+      → let s : Budgeted R = record { left = left; gave_up = gave_up; taken = taken; rest = rest } in
+      spent rest + unspent_if begun gave_up most + a ≤ most * taken + b → Line begun s
+  unfolding unspent_if Base Full Ready Fresh Line
+  due_if true gave_up left taken rest h = omega (arith, h)
+  due_if false true left taken rest h = omega (arith, h)
+  due_if false false left taken rest h = omega (arith, h)
+
+  fresh_due : (gave_up : Bool) (left taken : ℕ) (rest : R)
+      → let s : Budgeted R = record { left = left; gave_up = gave_up; taken = taken; rest = rest } in
+      Fresh s → (parts : List (Atom (List ℕ))) → spent rest + unspent_at None parts false gave_up most + a ≤ most * taken + b
+  unfolding unspent_at unspent_if Base Full Ready Fresh
+  fresh_due true left taken rest h [] = omega (arith, h)
+  fresh_due false left taken rest h [] = omega (arith, h)
+  fresh_due true left taken rest h (part ∷ more) = omega (arith, h)
+  fresh_due false left taken rest h (part ∷ more) = omega (arith, h)
+
+  done_kept : (may_call : Bool) (f : Frame) (under : List Frame) (s : Budgeted R) (done : Done R) → f.spot.begun ≡ true → AreMet under → Full s
+      → spent (after_leaf done) ≤ spent s.rest + most → Kept (leaf_next (language e) may_call f under (done_with e s done))
+  unfolding leaf_next done_with with_rest entered Full Base AreMet
+  done_kept may_call f under s (gives r) t u h k = kept_past f under (with_rest e s r) t u (omega (arith, h, k))
+  done_kept false f under s (calls ls args r) t u h k = kept_past f under (with_rest e s r) t u (omega (arith, h, k))
+  done_kept true f under s (calls ls args r) t u h k = kept_empty (entered ls args) (f ∷ under) (with_rest e s r) refl (t, u) (omega (arith, h, k))
+
+  leaf_kept : (is_met : Bool) (text : List ℕ) (f : Frame) (under : List Frame) (s : Budgeted R) → f.spot.begun ≡ true → AreMet under → Ready is_met s
+      → Kept (machine.leaf_if (language e) is_met text f under s)
+  unfolding machine.leaf_if language Ready
+  leaf_kept true text f under s t u h =
+      let may_call = is_some (depth under) in
+      done_kept may_call f under s (e.leaf may_call f.kind text s.rest) t u h (p.leaf may_call f.kind text s.rest)
+  leaf_kept false text f under s t u h = kept_past f under s t u h
+
+  module _ (d : ℕ) (kind : Kind) where
+    part_kept : (part : Atom (List ℕ)) (more : List (Atom (List ℕ))) (f : Frame) (under : List Frame) (s : Budgeted R) → AreMet under → Line f.spot.begun s
+        → Kept (part_next (language e) (how d kind) part more f under s)
+    unfolding part_next step_guard step_block step_end step_region at_part after_part
+    part_kept (Leaf text) more f under s u h =
+        let q = met (how d kind) f.spot s in
+        leaf_kept q.0 text (at_part f more (after_part f.spot.levels)) under q.1 refl u (met_ready d kind f.spot s h)
+    part_kept (Guard head) more f under s u h =
+        let q = met (how d kind) f.spot s in
+        let r = step_guard (how d kind) head f.spot s in
+        kept_past (at_part f more r.0) under r.1 (guard_past (how d kind) q.0 head f.spot q.1) u (guard_base d kind q.0 head f.spot q.1 (met_ready d kind f.spot s h))
+    part_kept (Block head) more f under s u h =
+        let q = met (how d kind) f.spot s in
+        let r = step_block (how d kind) head f.spot s in
+        kept_past (at_part f more r.0) under r.1 (block_past (how d kind) q.0 head f.spot q.1) u (block_base d kind q.0 head f.spot q.1 (met_ready d kind f.spot s h))
+    part_kept End more f under s u h =
+        let r = step_end (how d kind) f.spot s in
+        kept_past (at_part f more r.0) under r.1 refl u (end_base d kind (has_block f.spot.levels) s (line_base f.spot.begun s h))
+    part_kept (Region head) more f under s u h =
+        let q = met (how d kind) f.spot s in
+        let x = step_region (how d kind) head f.spot s in
+        kept_empty (record { kind = f.kind; region = x.place.region; parts = []; spot = at_line x.place.levels; lines = f.lines }) under x.state refl u
+        (opens_base d kind head q.0 q.1 (ready_base q.0 q.1 (met_ready d kind f.spot s h)))
+
+    region_kept : (is_end : Bool) (o : Opened) (line : List ℕ) (more : List (List ℕ)) (f : Frame) (under : List Frame) (s : Budgeted R) → AreMet under → Base s
+        → Kept (region_next (language e) (how d kind) is_end o line more f under s)
+    unfolding region_next how meaning_at language meaning
+    region_kept true o line more f under s u h =
+        kept_empty (record { kind = f.kind; region = None; parts = []; spot = at_line f.spot.levels; lines = more }) under (end_line e kind o line s) refl u
+        (ends_base d kind o line s h)
+    region_kept false o line more f under s u h =
+        kept_empty (record { kind = f.kind; region = Some o; parts = []; spot = at_line f.spot.levels; lines = more }) under (read_line e kind o line s) refl u
+        (reads_base d kind o line s h)
+
+    line_kept : (line : List ℕ) (more : List (List ℕ)) (f : Frame) (under : List Frame) (s : Budgeted R) → AreMet under → Base s
+        → Kept (line_next (language e) (how d kind) line more f under s)
+    unfolding line_next how meaning_at language meaning at_line Kept Due unspent
+    line_kept line more f under s u h =
+        let t = begin_line e kind s in
+        (u, fresh_due t.gave_up t.left t.taken t.rest (begin_fresh kind s h) (atoms line))
+
+    same_kept : (x y : Running (Budgeted R)) → Kept x → Some x ≡ Some y → Kept y
+    same_kept x y h k = let l : x ≡ y = cc in subst Kept l h
+
+    source_kept : (region : Option Opened) (under : List Frame) (s : Budgeted R) (q : Running (Budgeted R)) → AreMet under → Base s
+        → source_next (language e) region under s ≡ Some q → Kept q
+    unfolding source_next language AreMet with_rest Base
+    source_kept region [] s q u h x = absurd (cc)
+    source_kept region (g ∷ gs) s q u h x =
+        let t = with_rest e s (e.finish region s.gave_up s.rest) in
+        same_kept (record { top = g; under = gs; state = t }) q
+        (kept_past g gs t u.0 u.1 (omega (arith, h, p.finish region s.gave_up s.rest))) x
+
+    next_kept : (region : Option Opened) (parts : List (Atom (List ℕ))) (lines : List (List ℕ)) (f : Frame) (under : List Frame) (s : Budgeted R) (q : Running (Budgeted R))
+        → AreMet under → spent s.rest + unspent_at region parts f.spot.begun s.gave_up most + a ≤ most * s.taken + b
+        → next_in (language e) (how d kind) region parts lines f under s ≡ Some q → Kept q
+    unfolding next_in unspent_at Base
+    next_kept None (part ∷ more) lines f under s q u h x =
+        same_kept (part_next (language e) (how d kind) part more f under s) q
+        (part_kept part more f under s u (due_if f.spot.begun s.gave_up s.left s.taken s.rest h)) x
+    next_kept None [] (line ∷ more) f under s q u h x =
+        same_kept (line_next (language e) (how d kind) line more f under s) q (line_kept line more f under s u (omega (arith, h))) x
+    next_kept None [] [] f under s q u h x = source_kept None under s q u (omega (arith, h)) x
+    next_kept (Some o) parts (line ∷ more) f under s q u h x =
+        same_kept (region_next (language e) (how d kind) (is_ending o.ending line) o line more f under s) q
+        (region_kept (is_ending o.ending line) o line more f under s u (omega (arith, h))) x
+    next_kept (Some o) parts [] f under s q u h x = source_kept (Some o) under s q u (omega (arith, h)) x
+
+  pub step_due : (r q : Running (Budgeted R)) → AreMet r.under → spent r.state.rest + unspent most r + a ≤ most * r.state.taken + b
+      → next (language e) r ≡ Some q → AreMet q.under × (spent q.state.rest + unspent most q + a ≤ most * q.state.taken + b)
+  unfolding next Kept Due unspent how
+  step_due r q u h x = next_kept (depth r.under) r.top.kind r.top.region r.top.parts r.top.lines r.top r.under r.state q u h x
+
+  steps_kept : (n : ℕ) (r q : Running (Budgeted R)) → Kept r → LeadsIn (language e) n r q → Kept q
+  unfolding LeadsIn Kept Due
+  steps_kept zero r q k x = subst Kept x k
+  steps_kept (suc n) r q k x = steps_kept n x.0 q (step_due r x.0 k.0 k.1 x.1) x.2
+
+  pub leads_due : (r q : Running (Budgeted R)) → AreMet r.under → spent r.state.rest + unspent most r + a ≤ most * r.state.taken + b
+      → Leads (language e) r q → AreMet q.under × (spent q.state.rest + unspent most q + a ≤ most * q.state.taken + b)
+  unfolding Leads Kept Due
+  leads_due r q u h x = steps_kept x.0 r q (u, h) x.1
+
   pub page_base : (lines : List (List ℕ)) (x : At (Budgeted R)) → spent x.state.rest + a ≤ most * x.state.taken + b
       → spent (run_page (language e) lines x).state.rest + a ≤ most * (run_page (language e) lines x).state.taken + b
   unfolding run_page Base
@@ -242,3 +399,25 @@ pub page_spends : {R : Type 0} (spent : R → ℕ) (most : ℕ) (e : Effects R) 
     → let y = run_page (language e) lines x in
     spent y.state.rest + most * x.state.taken ≤ most * y.state.taken + spent x.state.rest
 page_spends spent most e p lines x = page_base spent most e p (most * x.state.taken) (spent x.state.rest) lines x (omega arith)
+
+-- a step spends no more than the lines that it takes
+pub step_spends : {R : Type 0} (spent : R → ℕ) (most : ℕ) (e : Effects R) → Spends spent most e → (r q : Running (Budgeted R)) → AreMet r.under → next (language e) r ≡ Some q
+    → AreMet q.under × (spent q.state.rest + unspent most q + most * r.state.taken ≤ spent r.state.rest + unspent most r + most * q.state.taken)
+step_spends spent most e p r q u x =
+    let k = step_due spent most e p (most * r.state.taken) (spent r.state.rest + unspent most r) r q u (omega arith) x in
+    (k.0, omega (arith, k.1))
+
+-- no more is spent while no line is taken
+pub line_spends : {R : Type 0} (spent : R → ℕ) (most : ℕ) (e : Effects R) → Spends spent most e → (r q : Running (Budgeted R)) → AreMet r.under → Leads (language e) r q
+    → q.state.taken ≡ r.state.taken → spent q.state.rest ≤ spent r.state.rest + most
+unfolding unspent
+line_spends spent most e p r q u x t =
+    let k = leads_due spent most e p (most * r.state.taken) (spent r.state.rest + unspent most r) r q u (omega arith) x in
+    let j = rw t at k.1 in
+    omega (arith, j, unspent_most r.top.region r.top.parts r.top.spot.begun r.state.gave_up most)
+
+-- around each moment that comes later, too, each source stands past a part
+pub leads_met : {R : Type 0} (spent : R → ℕ) (most : ℕ) (e : Effects R) → Spends spent most e → (r q : Running (Budgeted R)) → AreMet r.under → Leads (language e) r q
+    → AreMet q.under
+leads_met spent most e p r q u x =
+    (leads_due spent most e p (most * r.state.taken) (spent r.state.rest + unspent most r) r q u (omega arith) x).0

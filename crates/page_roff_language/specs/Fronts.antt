@@ -1,4 +1,5 @@
--- A change of the state that nothing of a source looks at, as what was given out before. Source: roff(7), "Macros".
+-- A change of the state that nothing of a source looks at, as what was given out before: for proofs. Trust needs no reading of it.
+-- Source: roff(7), "Macros".
 use Rattle.std.specs.Prelude.{◌≡◌, ℕ, Bool, List, Option}
 use Rattle.page_roff_heads.specs.declared.conditions.Condition.{Condition}
 use Rattle.page_roff_blocks.specs.declared.atoms.Head.{Head}

@@ -1,4 +1,5 @@
--- The sources that are being run, one inside another: the steps of the code. Source: roff(7), "Macros".
+-- The sources that are being run, one inside another: the steps of the code (`machine_law`). Trust needs no reading of it, but for moments of a
+-- run. Source: roff(7), "Macros".
 use Rattle.std.specs.Prelude.{ℕ, zero, suc, ◌-◌, Bool, true, false, List, [], ◌∷◌, length, Option, Some, None}
 use Rattle.page_roff_blocks.specs.declared.atoms.Atom.{Atom}
 use Rattle.page_roff_blocks.specs.declared.atoms.Atom.TheVariants.{Leaf, Guard, Block, End, Region}

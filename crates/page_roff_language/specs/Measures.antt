@@ -1,4 +1,4 @@
--- How much work is left of sources that are run, at most: steps of the code. Source: mandoc(1), "input stack limit".
+-- How much work is left of sources that are run, at most: steps of the code. Trust needs no reading of it. Source: mandoc(1), "input stack limit".
 use Rattle.std.specs.Prelude.{◌≡◌, ℕ, suc, ◌+◌, ◌*◌, ◌≤◌, Bool, true, false, List, [], ◌∷◌, length}
 use Rattle.page_roff_blocks.specs.declared.atoms.Atom.{Atom}
 use Rattle.page_roff_blocks.specs.Levels.{Spot}

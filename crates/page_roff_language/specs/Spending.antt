@@ -1,11 +1,14 @@
--- What the lines taken spend, as interpolations: the same number each at most. Source: mandoc(1), "input stack limit".
-use Rattle.std.specs.Prelude.{◌≡◌, ℕ, ◌+◌, ◌≤◌, Bool, true, false, List, Option}
+-- What the lines taken spend, as interpolations: the same number each at most, step by step. Trust needs no reading of it, but for moments of a
+-- run. Source: mandoc(1), "input stack limit".
+use Rattle.std.specs.Prelude.{◌≡◌, ℕ, zero, suc, ◌+◌, ◌≤◌, Bool, true, false, List, [], ◌∷◌, Option, Some, None}
 use Rattle.page_roff_heads.specs.declared.conditions.Condition.{Condition}
+use Rattle.page_roff_blocks.specs.declared.atoms.Atom.{Atom}
 use Rattle.page_roff_blocks.specs.declared.atoms.Head.{Head}
 use Rattle.page_roff_blocks.specs.declared.regions.RegionHead.{RegionHead}
 use Rattle.page_roff_blocks.specs.Levels.{Opened}
-use Rattle.page_roff_language.specs.Languages.{Kind, Done, gives, calls}
-use Rattle.page_roff_language.specs.Budgets.{Effects}
+use Rattle.page_roff_language.specs.Languages.{Kind, Done, gives, calls, Language}
+use Rattle.page_roff_language.specs.Machine.{Frame, Running, next}
+use Rattle.page_roff_language.specs.Budgets.{Budgeted, Effects}
 
 abbrev pub after_leaf : {R : Type 0} → Done R → R
 after_leaf (gives r) = r
@@ -23,3 +26,31 @@ pub record Spends {R : Type 0} (spent : R → ℕ) (most : ℕ) (e : Effects R) 
   pub passes : (kind : Kind) (o : Opened) (line : List ℕ) (r : R) → spent (e.reads kind o false line r) ≡ spent r
   pub ends_region : (kind : Kind) (o : Opened) (is_run : Bool) (line : List ℕ) (r : R) → spent (e.ends_region kind o is_run line r) ≡ spent r
   pub finish : (region : Option Opened) (gave_up : Bool) (r : R) → spent (e.finish region gave_up r) ≡ spent r
+
+-- what a line that was taken may still spend: all of it until its first part is passed, where not all was given up
+unfoldable pub unspent_if : Bool → Bool → ℕ → ℕ
+unspent_if true gave_up most = 0
+unspent_if false true most = 0
+unspent_if false false most = most
+
+unfoldable pub unspent_at : Option Opened → List (Atom (List ℕ)) → Bool → Bool → ℕ → ℕ
+unspent_at (Some o) parts begun gave_up most = 0
+unspent_at None [] begun gave_up most = 0
+unspent_at None (part ∷ more) begun gave_up most = unspent_if begun gave_up most
+
+unfoldable pub unspent : {R : Type 0} → ℕ → Running (Budgeted R) → ℕ
+unspent most r = unspent_at r.top.region r.top.parts r.top.spot.begun r.state.gave_up most
+
+-- each source around the innermost one stands past a part, which called the next
+unfoldable pub AreMet : List Frame → Type 0
+AreMet [] = Unit {0}
+AreMet (f ∷ fs) = (f.spot.begun ≡ true) × AreMet fs
+
+module _ {S : Type 0} (l : Language S) where
+  -- a number of steps leads from one moment to another
+  unfoldable pub LeadsIn : ℕ → Running S → Running S → Type 0
+  LeadsIn zero r q = r ≡ q
+  LeadsIn (suc n) r q = (p : Running S) × (next l r ≡ Some p) × LeadsIn n p q
+
+  unfoldable pub Leads : Running S → Running S → Type 0
+  Leads r q = (n : ℕ) × LeadsIn n r q

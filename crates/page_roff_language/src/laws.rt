@@ -7,7 +7,7 @@ ghost use Rattle.page_roff_language.specs.Budgets.{Budgeted, Effects, language};
 ghost use Rattle.page_roff_language.specs.Fronts.{over, over_running, IsFront};
 ghost use Rattle.page_roff_language.specs.Languages.{Language, run_page, run_page_lines};
 ghost use Rattle.page_roff_language.specs.Measures.{measure, HasMeasure, HasBodyWithin, IsFirst};
-ghost use Rattle.page_roff_language.specs.Spending.{Spends};
+ghost use Rattle.page_roff_language.specs.Spending.{Spends, unspent, AreMet, Leads};
 ghost use Rattle.page_roff_language.specs.Machine.{Running, at_page, rest_of, next, stands_at};
 
 /// What is still to come of running sources is what comes of them after one step more, from a line of the page down to its end.
@@ -55,6 +55,18 @@ pub fn spending_law<R>()
         → (lines : List (List ℕ)) (at : At (Budgeted R))
         → let after = run_page (language e) lines at in
         spent after.state.rest + most * at.state.taken ≤ most * after.state.taken + spent at.state.rest }
+{}
+
+/// Each line taken spends the same number at most, from one step to the next: between two moments with the same count of lines taken no
+/// more is spent.
+pub fn each_line_law<R>()
+    ensures step { (spent : R → ℕ) (most : ℕ) (e : Effects R) → Spends spent most e
+        → (r q : Running (Budgeted R)) → AreMet r.under → next (language e) r ≡ Some q
+        → AreMet q.under × (spent q.state.rest + unspent most q + most * r.state.taken
+        ≤ spent r.state.rest + unspent most r + most * q.state.taken) }
+    ensures line { (spent : R → ℕ) (most : ℕ) (e : Effects R) → Spends spent most e
+        → (r q : Running (Budgeted R)) → AreMet r.under → Leads (language e) r q
+        → q.state.taken ≡ r.state.taken → spent q.state.rest ≤ spent r.state.rest + most }
 {}
 
 /// No more than `CALLS` macros run inside one another.

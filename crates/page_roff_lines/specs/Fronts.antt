@@ -1,4 +1,4 @@
--- The code's own, which no public clause cites: what it knows of a character at the front of some bytes.
+-- The code's own, which no public clause cites: what it knows of a character at the front of some bytes. Trust needs no reading of it.
 use Rattle.std.specs.Prelude.{ℕ, ◌-◌, List, take}
 use Rattle.page_roff_lines.specs.declared.characters.Front.{Front}
 use Rattle.page_roff_lines.specs.declared.characters.Front.TheVariants.{Same, Latin1, Bad}

@@ -1,4 +1,4 @@
--- A fast way of the code, which no public clause cites: a run of bytes that are read alike.
+-- A fast way of the code, which no public clause cites: a run of bytes that are read alike. Trust needs no reading of it.
 use Rattle.std.specs.Prelude.{◌≡◌, ℕ, ◌+◌, ◌-◌, ◌<◌, ◌≤◌, Bool, true, false, not, ◌&&◌, ◌==◌, List, [], length, slice_index}
 use Rattle.memchr.specs.Find.{is_byte, is_byte2}
 use Rattle.page_roff_lines.specs.declared.Mode.{Mode}

@@ -1,4 +1,4 @@
--- A fast way of the code, which no public clause cites: text, bytes that stand for themselves in each encoding.
+-- A fast way of the code, which no public clause cites: text, bytes that stand for themselves in each encoding. Trust needs no reading of it.
 use Rattle.std.specs.Prelude.{ℕ, Bool, not, ◌==◌, ◌&&◌}
 use Rattle.page_roff_lines.specs.Bytes.{backslash}
 use Rattle.page_roff_lines.specs.Characters.{is_printable}

@@ -1,4 +1,7 @@
 //! The logical lines of a page: physical lines cut from its bytes, read pairwise, joined and decoded.
+//!
+//! The front of the pipeline: `Cutter` takes chunks of bytes and lends lines, which go to `page_roff_source`. Read `specs/Decoding.antt` and
+//! `Logical.antt` first, then `cutter.rt`.
 #![tactic(auto)]
 
 mod characters;

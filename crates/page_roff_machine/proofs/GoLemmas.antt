@@ -134,14 +134,14 @@ shifts_call old mid new em e callable =
 -- the macro that was taken last is called
 pub calls_it : (r new : Runner) (stack : Stack) (bytes packed : List ℕ)
     → bytes ≡ r.doing.actions.call.body → packed ≡ r.doing.actions.call.packed
-    → stack ≡ call_of (lines_in bytes) (arguments_in packed) r.stack
+    → stack ≡ call_of bytes packed r.stack
     → new ≡ with_arguments_of stack.top.kind (record { stack = stack; doing = r.doing }) → new ≡ called r
 unfolding entered
 calls_it r new stack bytes packed eb ep es e =
     let to : Stack → Runner = λ stack. with_arguments_of stack.top.kind (record { stack = stack; doing = r.doing }) in
     e ∙ ap to es
-    ∙ ap (λ bytes. to (call_of (lines_in bytes) (arguments_in packed) r.stack)) eb
-    ∙ ap (λ packed. to (call_of (lines_in r.doing.actions.call.body) (arguments_in packed) r.stack)) ep
+    ∙ ap (λ bytes. to (call_of bytes packed r.stack)) eb
+    ∙ ap (λ packed. to (call_of r.doing.actions.call.body packed r.stack)) ep
 
 -- ---- past heads and lines
 

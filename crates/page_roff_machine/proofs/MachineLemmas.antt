@@ -101,7 +101,7 @@ new_sound output r e h = record {
   way = inr (λ k. ap (λ (s : Stack). s.top.lines) e, rw e tt);
 }
 
-pub begun_sound : (old new : Runner) (line : List ℕ) (number : ℕ) → new.stack ≡ record { top = page_line line old.stack.top; under = [] }
+pub begun_sound : (old new : Runner) (line : List ℕ) (number : ℕ) → new.stack ≡ record { top = page_line line old.stack.top; under = []; texts = [] }
     → new.doing.actions ≡ with_number number (with_arguments None old.doing.actions) → new.doing.budget ≡ renewed old.doing.budget
     → old.doing.budget.taken ≤ 2 ^ 62 → IsSound new
 unfolding IsFirst
@@ -110,7 +110,7 @@ begun_sound old new line number es ea eb h = record {
   way = inl ((line, ap (λ (s : Stack). s.top.lines) es, ap (λ (s : Stack). s.top.parts) es, ap (λ (s : Stack). s.under) es), rw eb h);
 }
 
-pub begins : (old new : Runner) (line : List ℕ) (number : ℕ) → new.stack ≡ record { top = page_line line old.stack.top; under = [] }
+pub begins : (old new : Runner) (line : List ℕ) (number : ℕ) → new.stack ≡ record { top = page_line line old.stack.top; under = []; texts = [] }
     → new.doing.actions ≡ with_number number (with_arguments None old.doing.actions) → new.doing.budget ≡ renewed old.doing.budget
     → Begins line number (machine_of old) (machine_of new)
 unfolding at_page

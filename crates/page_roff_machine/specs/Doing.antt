@@ -1,4 +1,4 @@
--- What the parts of sources do under the budget of the source line: the code's own form of it.
+-- What the parts of sources do under the budget of the source line: the code's own form of it. Trust needs no reading of it.
 use Rattle.std.specs.Prelude.{◌≡◌, ℕ, ◌≤◌, ◌^◌, Bool, true, false, List, [], ◌∷◌, ◌++◌, map, Option, Some, None}
 use Rattle.page_core_base.specs.Messages.{Message}
 use Rattle.page_core_base.specs.declared.page_settings.Output.{Output}

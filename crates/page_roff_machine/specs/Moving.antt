@@ -1,4 +1,4 @@
--- How the input stack moves on, once the part that comes next was done: the code's own form of a step.
+-- How the input stack moves on, once the part that comes next was done: the code's own form of a step. Trust needs no reading of it.
 use Rattle.std.specs.Prelude.{◌≡◌, ℕ, ◌≤◌, suc, Bool, true, List, [], ◌∷◌, ◌++◌, length, map, Option, Some, None}
 use Rattle.page_core_base.specs.Messages.{Message}
 use Rattle.page_core_base.specs.declared.page_settings.Output.{Output}
@@ -6,7 +6,7 @@ use Rattle.page_roff_blocks.specs.declared.atoms.Branch.{Branch}
 use Rattle.page_roff_blocks.specs.declared.atoms.Branch.TheVariants.{Else}
 use Rattle.page_roff_blocks.specs.Levels.{Spot, after_part, guarded_by, bit_after, way_of, enter, skip, leave, has_block}
 use Rattle.page_roff_blocks.specs.Run.{refuse_if, unopened_if}
-use Rattle.page_roff_values.specs.Arguments.{arguments_in, lines_in}
+use Rattle.page_roff_values.specs.Arguments.{arguments_in}
 use Rattle.page_roff_values.specs.Latches.{Came}
 use Rattle.page_roff_language.specs.Languages.{Kind, page, body}
 use Rattle.page_roff_language.specs.Machine.{Frame, Running, depth, is_some, leaf_next, next}
@@ -95,7 +95,7 @@ with_arguments_of kind r = record {
 -- the macro that was taken last is called
 abbrev pub with_call : Runner → Runner
 with_call r = record {
-  stack = call_of (lines_in r.doing.actions.call.body) (arguments_in r.doing.actions.call.packed) r.stack;
+  stack = call_of r.doing.actions.call.body r.doing.actions.call.packed r.stack;
   doing = r.doing;
 }
 

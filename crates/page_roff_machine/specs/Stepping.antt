@@ -1,4 +1,4 @@
--- Steps of the machine, one after another: the code's own form of them.
+-- Steps of the machine, one after another: the code's own form of them. Trust needs no reading of it.
 use Rattle.std.specs.Prelude.{◌≡◌, ◌≤◌, ◌^◌, ◌⊎◌, true, List, [], ◌++◌, map}
 use Rattle.page_core_base.specs.Messages.{Message}
 use Rattle.page_roff_values.specs.Latches.{Came}

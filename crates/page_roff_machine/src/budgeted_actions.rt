@@ -72,7 +72,7 @@ impl BudgetedActions {
         }
     }
 
-    /// The head of a conditional is reached at a level with this bit: its value, where it is run.
+    /// The head of a conditional comes, reached like this, at a level with this bit. Answers its value; none where it is not run.
     pub(crate) fn answer<O: NoteOut>(
         &mut self,
         reached: Reached,
@@ -107,7 +107,8 @@ impl BudgetedActions {
         is_run
     }
 
-    /// A line that heads nothing is reached, where one more macro may run or not. What comes of it is lent from then on.
+    /// A line that heads nothing comes, reached like this; `may_call` says whether one more macro may run. Answers which kind of thing comes of
+    /// it, and lends that thing from then on.
     pub(crate) fn leaf<O: NoteOut>(
         &mut self,
         reached: Reached,
@@ -134,7 +135,7 @@ impl BudgetedActions {
         region.is_run() && !self.budget.gave_up()
     }
 
-    /// A line of a region comes. What comes of it is lent from then on.
+    /// A line of a region comes. Answers which kind of thing comes of it, and lends that thing from then on.
     pub(crate) fn read_line<O: NoteOut>(
         &mut self,
         is_page: bool,
@@ -152,7 +153,7 @@ impl BudgetedActions {
         self.actions.read_line(region, is_run, line, out)
     }
 
-    /// The end line of a region comes.
+    /// The line that ends a region comes.
     pub(crate) fn end_region<O: NoteOut>(&mut self, is_page: bool, region: &OpenRegion, out: &mut O)
         requires { HasRoom is_page self.old.budget }
         ensures { Makes O.left self.old out.old (IsAt is_page self.old)

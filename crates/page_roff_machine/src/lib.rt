@@ -1,4 +1,8 @@
 //! The machine that runs a page's lines: what comes next in its sources is done, and the input stack moves on (roff(7)).
+//!
+//! It drives the input stack (`page_roff_stack`), what the parts of lines do (`page_roff_effects`) and the budget (`page_roff_language`), a
+//! finished line at a time, for `page_roff_source`. Read `specs/Giving.antt` first, then `Machine` in `machines.rt` and the steps in
+//! `runners.rt`.
 #![tactic(auto)]
 
 mod budgeted_actions;

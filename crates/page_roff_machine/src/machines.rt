@@ -1,9 +1,9 @@
 //! The machine that runs the lines of a page (roff(7), "LANGUAGE SYNTAX"): its macros, conditionals and regions.
 
-ghost use Rattle.std.specs.Prelude.{◌≡◌, ◌<◌, ◌≤◌, ◌^◌, true, IfOk, length};
+ghost use Rattle.std.specs.Prelude.{◌≡◌, ◌+◌, ◌*◌, ◌<◌, ◌≤◌, ◌^◌, true, IfOk, length, sum_by};
 ghost use Rattle.page_core_base.specs.LinesTaken.{line_seen};
 ghost use Rattle.page_core_base.specs.Texts.{IsLine};
-ghost use Rattle.page_core_limits.specs.declared.TheConstants.{LINE};
+ghost use Rattle.page_core_limits.specs.declared.TheConstants.{ARGS, BODY, CALLS, LINE};
 ghost use Rattle.page_roff_blocks.specs.Caps.{PlaceFits};
 ghost use Rattle.page_roff_values.specs.Latches.{Came};
 ghost use Rattle.page_roff_effects.specs.Caps.{MemoryFits};
@@ -116,11 +116,13 @@ impl Machine {
         self.runner.doing.actions.expansions()
     }
 
-    /// Where the innermost source stands, and what is remembered, are within their limits. Nothing is done: the parts
-    /// tell it.
+    /// Where the innermost source stands, what is remembered, and what is held of the macros that run are within their limits. Nothing is
+    /// done: the input stack and the actions tell it.
     pub fn caps_law(&self)
         ensures place { PlaceFits (place_of self.now) }
         ensures memory { MemoryFits self.now.actions.memory }
+        ensures count { length self.now.stack.texts ≤ CALLS }
+        ensures bytes { sum_by length self.now.stack.texts ≤ CALLS * (BODY + ARGS) }
     {
         self.runner.stack.caps_law();
         self.runner.doing.actions.caps_law();

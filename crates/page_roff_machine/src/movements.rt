@@ -2,24 +2,24 @@
 
 use page_roff_effects::ProductKind;
 
-/// How the input stack moves on, once the part or line that comes next was done.
+/// How the input stack moves on, after what comes next was done.
 #[derive(Clone, Copy)]
 pub(crate) enum Movement {
-    /// Past a line that heads nothing, of which this came.
+    /// Past a line that heads nothing; this came of it.
     Leaf(ProductKind),
-    /// Past a head without a block, which has this value where it is run.
+    /// Past a head without a block; its value, if it was run.
     Guard(Option<bool>),
-    /// Into a block: the value of its head, where it is run, and the column of that.
+    /// Into a block; the value of its head, if it was run, and the column of the head.
     Block(Option<bool>, u32),
     /// Out of a block.
     BlockEnd,
     /// Into a region, which is run or not.
     Region(bool),
-    /// Past a line of a region, of which this came.
+    /// Past a line of a region; this came of it.
     RegionLine(ProductKind),
     /// Out of a region.
     RegionEnd,
-    /// Back to the source around this one.
+    /// Back to the caller of the macro that ends.
     SourceEnd,
 }
 

@@ -1,5 +1,5 @@
 -- What each change of one set keeps.
-use Rattle.std.proofs.Common.{◌≡◌, ℕ, zero, suc, ◌+◌, ◌<◌, ◌≤◌, Bool, true, false, cond, not, List, [], ◌∷◌, ◌++◌, length, unwrap_or, T, Some, None, MatchOption, subst, refl, sym, ap, ◌∙◌, arith}
+use Rattle.std.proofs.Common.{◌≡◌, ℕ, zero, suc, ◌+◌, ◌<◌, ◌≤◌, Bool, true, false, cond, not, List, [], ◌∷◌, ◌++◌, length, unwrap_or, T, Some, None, MatchOption, subst, refl, sym, ap, ◌∙◌, add_comm, arith}
 use Rattle.std.specs.declared.cmp.Ordering.{Ordering}
 use Rattle.std.specs.declared.cmp.Ordering.TheVariants.{Less, Equal, Greater}
 use Rattle.std.specs.Ordering.{is_eq}
@@ -16,7 +16,7 @@ use Rattle.page_roff_names.specs.declared.changes.OtherSet.{OtherSet}
 use Rattle.page_roff_names.specs.declared.rows.Meaning.{Meaning}
 use Rattle.page_roff_names.specs.Caps.{EntryFits, EntriesFit, DefinitionsFit}
 use Rattle.page_roff_names.specs.Entries.{Entries, Definition, definition, size, name_at, definition_at, value_at}
-use Rattle.page_roff_names.specs.Names.{Definitions, definitions, with_text, Defines, by_bytes, look, put, without}
+use Rattle.page_roff_names.specs.Names.{Definitions, definitions, with_text, Defines, by_bytes, first_passed, look, put, without}
 use Rattle.page_roff_names.specs.Changes.{refusal_beside, Settles, RenamesBeside, IsKept, IsStore, IsBelow, IsAbove}
 use Rattle.page_roff_names.proofs.Laid.{length-remove, size-remove, length-insert, size-insert}
 use Rattle.page_roff_names.proofs.Search.{same_name, look_hit, put_hit, without_hit, look_miss, put_miss}
@@ -192,3 +192,22 @@ appended m so_far o n more items t r new old res is e f s =
     subst (λ old. Defines n (unwrap_or (so_far old) [] ++ more) (with_text n (definition m (unwrap_or (so_far old) [] ++ more)) old) old res (definitions new r)) is
     (subst (λ v. Defines n (v ++ more) (with_text n (definition m (v ++ more)) (definitions t r)) (definitions t r) res (definitions new r)) f
     (defined_at o n (definition m (items ++ more)) t r new res e s))
+
+-- limits count both sets together
+beside : (o : OtherSet) (n : List ℕ) (d : Definition) (t r : Entries) → (o.names ≡ length t) × (o.bytes ≡ size t)
+    → first_passed (length n) (length t + length (put n d r)) (length d.value) (size t + size (put n d r)) ≡ refusal_beside o n d.value (put n d r)
+beside o n d t r e =
+    same_limits (length n) (add_comm (length t) (length (put n d r)) ∙ ap (λ k. length (put n d r) + k) (sym e.0)) refl
+    (add_comm (size t) (size (put n d r)) ∙ ap (λ k. size (put n d r) + k) (sym e.1))
+
+registered_at : (o : OtherSet) (n : List ℕ) (d : Definition) (t r new : Entries) (res : Result (Unit {0}) Limit) → (o.names ≡ length t) × (o.bytes ≡ size t)
+    → Settles o n d.value (put n d r) r res new → Defines n d.value (definitions t (put n d r)) (definitions t r) res (definitions t new)
+registered_at o n d t r new (Ok u) e s = (beside o n d t r e ∙ s.0, ap (λ r. definitions t r) s.1)
+registered_at o n d t r new (Err l) e s = (beside o n d t r e ∙ s.0, ap (λ r. definitions t r) s.1)
+
+-- the same of a register, beside strings and macros
+pub registered : (o : OtherSet) (n : List ℕ) (d : Definition) (t r new : Entries) (old : Definitions) (res : Result (Unit {0}) Limit) → definitions t r ≡ old
+    → (o.names ≡ length t) × (o.bytes ≡ size t) → Settles o n d.value (put n d r) r res new
+    → Defines n d.value (definitions old.texts (put n d old.registers)) old res (definitions t new)
+registered o n d t r new old res is e s =
+    subst (λ (old : Definitions). Defines n d.value (definitions old.texts (put n d old.registers)) old res (definitions t new)) is (registered_at o n d t r new res e s)

@@ -3,5 +3,5 @@ pub mod CutLemmas
 pub mod GivenLemmas
 pub mod LineLemmas
 pub mod NoteLatchLemmas
-pub mod PageMachineLemmas
+pub mod RoffLineLemmas
 pub mod RoomLemmas

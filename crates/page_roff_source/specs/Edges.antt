@@ -30,6 +30,13 @@ pub record Edge : Type 0 where
   pub taken : ℕ
   pub to_come : Option (List Given)
 
+-- The lines of a page as they run: what decides the rest; the finished line that was given last; and the body with the arguments of each
+-- macro that runs, from the inside out, which say how much is held and decide nothing that comes.
+pub record LinesState : Type 0 where
+  pub edge : Edge
+  pub line : Line
+  pub running : List (List ℕ)
+
 -- before the first line of a page
 abbrev pub first_edge : Output → Edge
 first_edge output = record {

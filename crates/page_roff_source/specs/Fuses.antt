@@ -1,10 +1,33 @@
--- Roff over a sink of messages: its edge, as long as no message was refused and the page has not ended.
-use Rattle.std.specs.Prelude.{◌≡◌, ℕ, Bool, true, List, Option, Some, None, Result, MatchResult}
+-- Roff over a sink of messages: as long as no message was refused and the page has not ended, it has an edge. Source: roff(7), "LANGUAGE SYNTAX".
+use Rattle.std.specs.Prelude.{◌≡◌, ℕ, Bool, true, List, [], Option, Some, None, Result, MatchResult}
 use Rattle.page_core_base.specs.Fails.{Rose}
 use Rattle.page_core_base.specs.Messages.{Message}
 use Rattle.page_core_base.specs.declared.faults.Fault.{Fault}
 use Rattle.page_core_base.specs.declared.faults.Fault.TheVariants.{WriteNotes}
-use Rattle.page_roff_source.specs.Edges.{Edge, is_idle}
+use Rattle.page_core_base.specs.declared.page_settings.Output.{Output}
+use Rattle.page_roff_effects.specs.States.{Given}
+use Rattle.page_roff_source.specs.declared.counts.Counts.{Counts}
+use Rattle.page_roff_source.specs.Edges.{Edge, first_edge, is_idle, counts_of}
+
+-- What decides the rest, until a message is refused or the page ends; the body with the arguments of each macro that runs, from the inside
+-- out; and what was counted up to the last line that is done.
+pub record RoffState : Type 0 where
+  pub edge : Option Edge
+  pub running : List (List ℕ)
+  pub counts : Counts
+
+-- before the first line of a page
+abbrev pub first_state : Output → RoffState
+first_state output = record { edge = Some (first_edge output); running = []; counts = counts_of (first_edge output) }
+
+-- the counts at an edge: its own where a line is done, inside a line those from before it
+abbrev pub counts_with : Option (List Given) → Edge → Counts → Counts
+counts_with None e before = counts_of e
+counts_with (Some given) e before = before
+
+abbrev pub counts_from : Counts → Option Edge → Counts
+counts_from before None = before
+counts_from before (Some e) = counts_with e.to_come e before
 
 abbrev pub is_idle_at : Option Edge → Bool
 is_idle_at None = true

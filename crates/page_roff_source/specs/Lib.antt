@@ -3,4 +3,5 @@ pub mod Edges
 pub mod Fuses
 pub mod Given
 pub mod LineByLine
-pub mod PageMachines
+pub mod Moments
+pub mod RoffLines

@@ -1,4 +1,5 @@
--- A machine: what roff gives of a page's lines, one line after another. That it gives what the forest of all lines gives is the law `forest_law`.
+-- A machine: what roff gives of a page's lines, one line after another. That it gives what the forest of all lines gives is the law
+-- `forest_law`; trust needs no reading of it.
 use Rattle.std.specs.Prelude.{◌≡◌, List, [], ◌∷◌, ◌++◌, map}
 use Rattle.page_roff_blocks.specs.Run.{At}
 use Rattle.page_roff_language.specs.Budgets.{Budgeted}

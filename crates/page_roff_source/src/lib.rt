@@ -1,13 +1,16 @@
 //! What roff gives of a page's lines, one finished line at a time (roff(7), "LANGUAGE SYNTAX").
+//!
+//! The top of roff: it takes the lines of `page_roff_lines`, runs them on `page_roff_machine`, and lends finished lines to the sets of macros:
+//! `RoffLines` to the page, `Roff` over a sink of messages. Read `specs/Given.antt` (all lines) and `Edges.antt` (one line) first, then
+//! `roff_lines.rt`.
 #![tactic(auto)]
 
 mod counts;
 mod laws;
-mod page_machines;
-mod processors;
+mod roff_lines;
 mod roffs;
 
 pub use counts::Counts;
 pub use laws::{count_law, cut_law, forest_law, room_law};
-pub use processors::Processor;
+pub use roff_lines::RoffLines;
 pub use roffs::Roff;

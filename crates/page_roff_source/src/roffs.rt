@@ -7,13 +7,13 @@ ghost use Rattle.page_core_base.specs.LinesTaken.{line_seen};
 ghost use Rattle.page_core_base.specs.Texts.{IsLine};
 ghost use Rattle.page_core_limits.specs.declared.TheConstants.{LINE};
 ghost use Rattle.page_roff_machine.specs.Giving.{notes_before, next_line};
-ghost use Rattle.page_roff_source.specs.Caps.{RoffFits};
-ghost use Rattle.page_roff_source.specs.Edges.{Edge, first_edge, line_begun, given_of, line_taken, end_notes, counts_of};
+ghost use Rattle.page_roff_source.specs.Caps.{RoffFits, RunsWithin};
+ghost use Rattle.page_roff_source.specs.Edges.{Edge, line_begun, given_of, line_taken, end_notes, counts_of};
 ghost use Rattle.page_roff_machine.specs.Machines.{taken_if};
-ghost use Rattle.page_roff_source.specs.Fuses.{is_idle_at, Tells};
+ghost use Rattle.page_roff_source.specs.Fuses.{first_state, is_idle_at, counts_from, Tells};
 
 use crate::counts::Counts;
-use crate::page_machines::PageMachine;
+use crate::roff_lines::RoffLines;
 use page_core_base::{Fault, NoteSink, Settings, Taken};
 use page_roff_values::NoteLatch;
 use std::alloc::Global;
@@ -24,30 +24,40 @@ use std::marker::Model;
 /// After a failure of the sink, and after the end, it is of no use. All memory is reserved by [`Roff::new`].
 #[derive(Drop)]
 pub struct Roff {
-    machine: PageMachine,
+    lines: RoffLines,
+    // What was counted up to the last line that is done.
+    counts: Counts,
     is_going: bool,
 }
 
 impl Model for Roff {
-    ghost use Rattle.std.specs.Prelude.{Option, Some, None, if◌then◌else◌};
-    ghost use Rattle.page_roff_source.specs.Edges.{Edge};
+    ghost use Rattle.std.specs.Prelude.{◌≡◌, true, Some, None, if◌then◌else◌};
+    ghost use Rattle.page_roff_source.specs.Fuses.{RoffState};
 
-    ghost Value = { Option Edge };
+    ghost Value = { RoffState };
 
-    ghost view = { λ r. if r.is_going then Some r.machine.edge else None };
+    ghost view = { λ r. record {
+      edge = if r.is_going then Some r.lines.edge else None;
+      running = r.lines.running;
+      counts = r.counts;
+    } };
+
+    ghost use Rattle.page_roff_source.specs.Edges.{counts_of};
+
+    ghost invariant = { λ r. r.is_going ≡ true → r.lines.edge.to_come ≡ None → r.counts ≡ counts_of r.lines.edge };
 }
 
 // Runs on up to the next finished line over a sink; whether there is one.
-fn advance<N: NoteSink>(machine: &mut PageMachine, notes: &mut N) -> Result<bool, Fault>
+fn advance<N: NoteSink>(lines: &mut RoffLines, notes: &mut N) -> Result<bool, Fault>
     ensures tells { Tells N.gave N.within N.failed result notes.old
-        (notes_before (given_of machine.old.edge)) notes.new }
-    ensures line { IfOk result (λ is_taken. next_line (given_of machine.old.edge)
-        ≡ taken_if is_taken machine.new.line) }
-    ensures edge { machine.new.edge ≡ line_taken machine.old.edge }
+        (notes_before (given_of lines.old.edge)) notes.new }
+    ensures line { IfOk result (λ is_taken. next_line (given_of lines.old.edge)
+        ≡ taken_if is_taken lines.new.line) }
+    ensures edge { lines.new.edge ≡ line_taken lines.old.edge }
     ensures same { N.loans notes.new ≡ N.loans notes.old }
 {
     let mut latch = NoteLatch::new(notes);
-    let is_taken = machine.advance(&mut latch);
+    let is_taken = lines.advance(&mut latch);
     match latch.done() {
         Ok(()) => Ok(is_taken),
         Err(fault) => Err(fault),
@@ -55,13 +65,13 @@ fn advance<N: NoteSink>(machine: &mut PageMachine, notes: &mut N) -> Result<bool
 }
 
 // Ends the page over a sink.
-fn end<N: NoteSink>(machine: &mut PageMachine, notes: &mut N) -> Result<(), Fault>
-    requires { machine.old.edge.to_come ≡ None }
-    ensures tells { Tells N.gave N.within N.failed result notes.old (end_notes machine.old.edge) notes.new }
+fn end<N: NoteSink>(lines: &mut RoffLines, notes: &mut N) -> Result<(), Fault>
+    requires { lines.old.edge.to_come ≡ None }
+    ensures tells { Tells N.gave N.within N.failed result notes.old (end_notes lines.old.edge) notes.new }
     ensures same { N.loans notes.new ≡ N.loans notes.old }
 {
     let mut latch = NoteLatch::new(notes);
-    machine.end(&mut latch);
+    lines.end_into(&mut latch);
     latch.done()
 }
 
@@ -70,14 +80,19 @@ impl Roff {
 
     /// Before the first line of a page of settings that pass their check. Its fault is [`Fault::Memory`].
     pub fn new(alloc: Global, settings: &Settings) -> Result<Roff, Fault>
-        ensures ok { IfOk result (λ r. r ≡ Some (first_edge settings.now.output)) }
+        ensures ok { IfOk result (λ r. r ≡ first_state settings.now.output) }
         ensures fault { IfErr result (λ fault. fault ≡ Fault.Memory) }
     {
-        let Ok(machine) = PageMachine::new(alloc, settings.output) else {
+        let Ok(lines) = RoffLines::new(alloc, settings.output) else {
             return Err(Fault::Memory);
         };
         Ok(Roff {
-            machine,
+            lines,
+            counts: Counts {
+                source: 0,
+                taken: 0,
+                expansions: 0,
+            },
             is_going: true,
         })
     }
@@ -85,14 +100,15 @@ impl Roff {
     /// A source line begins, of a number; there are at most 2^31 of them in a page. What it gives is asked for by [`Roff::take`], up to
     /// its end, before another one.
     pub fn source(&mut self, line: &[u8], number: u32)
-        requires idle { IfSome self.old (λ e. e.to_come ≡ None) }
+        requires idle { IfSome self.old.edge (λ e. e.to_come ≡ None) }
         requires line { IsLine line.now }
-        requires count { IfSome self.old (λ e. e.source < 2 ^ 31) }
-        ensures { self.new ≡ option_map
-            (λ e. line_begun e (record { text = line.now; number = number; notes = [] })) self.old }
+        requires count { IfSome self.old.edge (λ e. e.source < 2 ^ 31) }
+        ensures edge { self.new.edge ≡ option_map
+            (λ e. line_begun e (record { text = line.now; number = number; notes = [] })) self.old.edge }
+        ensures counts { self.new.counts ≡ self.old.counts }
     {
         if self.is_going {
-            self.machine.begin(line, number);
+            self.lines.source(line, number);
         }
     }
 
@@ -101,22 +117,30 @@ impl Roff {
     ///
     /// Its fault is [`Fault::WriteNotes`]; after it, and after the end, it is [`Fault::Failed`].
     pub fn take<N: NoteSink>(&mut self, notes: &mut N) -> Result<Option<Taken<'_>>, Fault>
-        ensures tells { (e : Edge) → self.old ≡ Some e
+        ensures tells { (e : Edge) → self.old.edge ≡ Some e
             → Tells N.gave N.within N.failed result notes.old (notes_before (given_of e)) notes.new }
-        ensures line { (e : Edge) → self.old ≡ Some e
+        ensures line { (e : Edge) → self.old.edge ≡ Some e
             → IfOk result (λ taken. option_map line_seen taken ≡ next_line (given_of e)) }
         ensures short { IfOk result (λ taken. IfSome taken (λ t. length t.text.now ≤ LINE)) }
-        ensures closed { self.old ≡ None → (result ≡ Err Fault.Failed) × (notes.new ≡ notes.old) }
+        ensures closed { self.old.edge ≡ None → (result ≡ Err Fault.Failed) × (notes.new ≡ notes.old) }
         ensures same { N.loans notes.new ≡ N.loans notes.old }
         ensures* after { sem 𝓛 (follows_so the_row the_row self.entry.ghost_name none (λ _ _. ⊤)
-            (λ v. MatchResult result (λ _. v ≡ option_map line_taken self.old) (λ _. v ≡ None))) }
+            (λ v. MatchResult result
+            (λ _. (v.edge ≡ option_map line_taken self.old.edge) × (v.counts ≡ counts_from self.old.counts v.edge)
+            × RunsWithin v.running)
+            (λ _. (v.edge ≡ None) × (v.counts ≡ self.old.counts)))) }
     {
         if !self.is_going {
             return Err(Fault::Failed);
         }
-        match advance(&mut self.machine, notes) {
-            Ok(true) => Ok(Some(self.machine.line())),
-            Ok(false) => Ok(None),
+        let advanced = advance(&mut self.lines, notes);
+        self.lines.caps_law();
+        match advanced {
+            Ok(true) => Ok(Some(self.lines.line())),
+            Ok(false) => {
+                self.counts = self.lines.counts();
+                Ok(None)
+            }
             Err(fault) => {
                 self.is_going = false;
                 Err(fault)
@@ -128,38 +152,40 @@ impl Roff {
     ///
     /// Its fault is [`Fault::WriteNotes`]; after it, and after an earlier end, it is [`Fault::Failed`].
     pub fn end<N: NoteSink>(&mut self, notes: &mut N) -> Result<(), Fault>
-        requires { IfSome self.old (λ e. e.to_come ≡ None) }
-        ensures tells { (e : Edge) → self.old ≡ Some e
+        requires { IfSome self.old.edge (λ e. e.to_come ≡ None) }
+        ensures tells { (e : Edge) → self.old.edge ≡ Some e
             → Tells N.gave N.within N.failed result notes.old (end_notes e) notes.new }
-        ensures closed { self.old ≡ None → (result ≡ Err Fault.Failed) × (notes.new ≡ notes.old) }
-        ensures ended { self.new ≡ None }
+        ensures closed { self.old.edge ≡ None → (result ≡ Err Fault.Failed) × (notes.new ≡ notes.old) }
+        ensures ended { (self.new.edge ≡ None) × (self.new.counts ≡ self.old.counts) }
         ensures same { N.loans notes.new ≡ N.loans notes.old }
     {
         if !self.is_going {
             return Err(Fault::Failed);
         }
         self.is_going = false;
-        end(&mut self.machine, notes)
+        end(&mut self.lines, notes)
     }
 
     /// Whether the last source line is done, or none came; after a failure and the end there is none.
     pub fn idle(&self) -> bool
-        ensures { result ≡ is_idle_at self.now }
+        ensures { result ≡ is_idle_at self.now.edge }
     {
-        !self.is_going || self.machine.is_idle()
+        !self.is_going || self.lines.is_idle()
     }
 
-    /// What was counted up to the last line that is done.
+    /// What was counted up to the last line that is done: inside a line, and after a failure and the end too.
     pub fn counts(&self) -> Counts
-        ensures { IfSome self.now (λ e. e.to_come ≡ None → result ≡ counts_of e) }
+        ensures value { result ≡ self.now.counts }
+        ensures done { IfSome self.now.edge (λ e. e.to_come ≡ None → result ≡ counts_of e) }
     {
-        self.machine.counts()
+        self.counts
     }
 
-    /// What is held between two lines is within its limits. Nothing is done: the machine tells it.
+    /// What is held, between two lines and in a line, is within its limits. Nothing is done: the lines tell it.
     pub fn caps_law(&self)
-        ensures { IfSome self.now (λ e. e.to_come ≡ None → RoffFits e) }
+        ensures fits { IfSome self.now.edge (λ e. e.to_come ≡ None → RoffFits e) }
+        ensures running { RunsWithin self.now.running }
     {
-        self.machine.caps_law();
+        self.lines.caps_law();
     }
 }

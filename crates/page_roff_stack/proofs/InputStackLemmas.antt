@@ -1,18 +1,22 @@
 -- The input stack as its innermost source changes: helpers of proofs.
 use Rattle.std.proofs.Common.{◌≡◌, ℕ, suc, ◌+◌, ◌-◌, ◌<◌, ◌≤◌, nat_lt, ◌==◌, true, false, inl, inr, List, [], ◌∷◌, ◌++◌, length, take, reverse, refl, ap, sym, ◌∙◌, arith, length-append}
 use Rattle.std.specs.Vec.{vec_capacity}
-use Rattle.std.proofs.Math.Seq.{take-append_seam}
+use Rattle.std.specs.Prelude.{◌*◌, drop, sum_by, All}
+use Rattle.std.proofs.Math.Seq.{take-append_seam, drop-append_seam}
 use Rattle.std.proofs.lemmas.Bool.{cases_Bool}
 use Rattle.std.proofs.lemmas.Bool.Decides.{nat_tests}
-use Rattle.std.proofs.lemmas.List.{length-reverse, reverse-append}
+use Rattle.std.proofs.lemmas.List.{length-reverse, reverse-append, length-take-le, length-drop}
+use Rattle.std.proofs.lemmas.List.Elements.{All-nil, All-cons}
+use Rattle.std.proofs.lemmas.List.Sums.{sum_by-le}
 use Rattle.page_roff_blocks.specs.Levels.{Spot}
 use Rattle.page_core_limits.specs.declared.TheConstants.{ARGS, BODY, CALLS, LINE}
 use Rattle.page_roff_language.specs.Machine.{Frame, at_part, depth, entered, is_some}
+use Rattle.page_roff_values.specs.Arguments.{arguments_in, lines_in}
 use Rattle.page_roff_stack.specs.declared.input_stacks.Caller.{Caller}
 use Rattle.page_roff_stack.specs.declared.input_stacks.InputStack.TheInside.{Inside}
 use Rattle.page_roff_stack.specs.declared.input_frames.InputFrame.{InputFrame}
 use Rattle.page_roff_stack.specs.Changes.{past, page_line, is_page}
-use Rattle.page_roff_stack.specs.InputStacks.{frames_in, stack_of, room_for, AreHeld, IsStack}
+use Rattle.page_roff_stack.specs.InputStacks.{frames_in, stack_of, room_for, texts_in, AreHeld, IsStack}
 use Rattle.page_roff_stack.specs.InputFrames.{frame_of, IsHeld}
 use Rattle.page_roff_stack.specs.Stacks.{Stack, call_of}
 
@@ -29,7 +33,6 @@ top_held a top text t held kind h =
       page = rw same h.page;
       top = rw t at held;
       around = h.around;
-      fits = h.fits;
       deep = h.deep;
       room = h.room;
       calls = h.calls;
@@ -99,28 +102,63 @@ pub deeper : (callers : List Caller) (caller : Caller) (text more : List ℕ) �
 deeper callers caller text more e =
     rw (around_one callers caller, e, take-append_seam text more) refl
 
-pub deeper_held : (callers : List Caller) (caller : Caller) (text more : List ℕ) → caller.end ≡ length text → length text ≤ room_for (length callers)
+pub deeper_held : (callers : List Caller) (caller : Caller) (text more : List ℕ) → caller.end ≡ length text → length more ≤ BODY + ARGS
     → IsHeld caller.source text → AreHeld text (reverse callers) → AreHeld (text ++ more) (reverse (callers ++ (caller ∷ [])))
 deeper_held callers caller text more e p held around =
-    rw (around_one callers caller, e, take-append_seam text more) (rw (length-reverse callers) p, held, around)
+    let n = length-append text more in
+    rw (around_one callers caller, e, take-append_seam text more) (omega (arith, n), omega (arith, n, p), held, around)
+
+deeper_texts : (callers : List Caller) (caller : Caller) (text more : List ℕ) → caller.end ≡ length text
+    → texts_in (text ++ more) (reverse (callers ++ (caller ∷ []))) ≡ more ∷ texts_in text (reverse callers)
+deeper_texts callers caller text more e =
+    rw (around_one callers caller, e, take-append_seam text more, drop-append_seam text more) refl
+
+-- ---- what is held of the macros that run
+
+-- the texts have their room
+fits_in : (text : List ℕ) (callers : List Caller) → AreHeld text callers → length text ≤ room_for (length callers)
+fits_in text [] h = omega (arith, h)
+fits_in text (c ∷ cs) h = omega (arith, h.1, length-take-le c.end text h.0, fits_in (take c.end text) cs h.3)
+
+pub fits : (a : Inside) → IsStack a → length a.text.items ≤ room_for (length a.callers.items)
+fits a h = omega (arith, length-reverse a.callers.items, fits_in a.text.items (reverse a.callers.items) h.around)
+
+texts_len : (text : List ℕ) (callers : List Caller) → length (texts_in text callers) ≡ length callers
+texts_len text [] = refl
+texts_len text (c ∷ cs) = ap suc (texts_len (take c.end text) cs)
+
+pub texts_are : (a : Inside) → length (stack_of a).texts ≡ length a.callers.items
+texts_are a = texts_len a.text.items (reverse a.callers.items) ∙ length-reverse a.callers.items
+
+texts_each : (text : List ℕ) (callers : List Caller) → AreHeld text callers → All (λ t. length t ≤ BODY + ARGS) (texts_in text callers)
+texts_each text [] h = All-nil (λ t. length t ≤ BODY + ARGS)
+texts_each text (c ∷ cs) h =
+    All-cons (λ t. length t ≤ BODY + ARGS) (drop c.end text) (texts_in (take c.end text) cs) (omega (arith, h.1, length-drop c.end text))
+    (texts_each (take c.end text) cs h.3)
+
+texts_short : (a : Inside) → IsStack a → All (λ t. length t ≤ BODY + ARGS) (stack_of a).texts
+texts_short a h = texts_each a.text.items (reverse a.callers.items) h.around
+
+pub texts_bytes : (a : Inside) → IsStack a → sum_by length (stack_of a).texts ≤ CALLS * (BODY + ARGS)
+texts_bytes a h =
+    omega (arith, sum_by-le length (BODY + ARGS) (stack_of a).texts (texts_short a h), texts_are a, h.deep)
 
 -- ---- a line of the page
 
 pub line_set : (a b : Inside) (line : List ℕ) → b.callers.items ≡ [] → CALLS ≤ vec_capacity b.callers → IsHeld b.top b.text.items
     → frame_of b.top b.text.items ≡ page_line line (frame_of a.top a.text.items) → length b.text.items ≤ LINE + 1 → room_for CALLS ≤ vec_capacity b.text
-    → let new : Stack = record { top = page_line line (frame_of a.top a.text.items); under = [] } in
+    → let new : Stack = record { top = page_line line (frame_of a.top a.text.items); under = []; texts = [] } in
     IsStack b × (stack_of b ≡ new)
 line_set a b line none calls held frame fits room = (
   record {
     page = rw none (ap (λ f. is_page f.kind) frame);
     top = held;
-    around = rw none tt;
-    fits = rw none fits;
+    around = rw none fits;
     deep = rw none (omega arith);
     room = room;
     calls = calls;
   },
-  rw none (ap (λ f. let t : Stack = record { top = f; under = [] } in t) frame),
+  rw none (ap (λ f. let t : Stack = record { top = f; under = []; texts = [] } in t) frame),
 )
 
 -- ---- a call
@@ -129,7 +167,7 @@ pub may_be_called : (a : Inside) → is_some (depth (stack_of a).under) ≡ true
 may_be_called a h = omega (arith, is_room (stack_of a).under h, under_len a)
 
 pub call_room : (a : Inside) → length a.callers.items < CALLS → IsStack a → length a.text.items + BODY + ARGS ≤ vec_capacity a.text
-call_room a p h = omega (arith, p, h.fits, h.room)
+call_room a p h = omega (arith, p, fits a h, h.room)
 
 -- one more source runs inside the innermost one, and its text comes after that of it
 pub record IsCalled (a b : Inside) (caller : Caller) (more : List ℕ) : Type 0 where
@@ -147,9 +185,12 @@ called_under a b caller more c =
     rw (c.callers, c.text) (deeper a.callers.items caller a.text.items more c.end)
     ∙ ap (λ source. frame_of source a.text.items ∷ (stack_of a).under) c.source
 
-pub called_stack : (a b : Inside) (caller : Caller) (more : List ℕ) (lines args : List (List ℕ)) → IsCalled a b caller more → frame_of b.top b.text.items ≡ entered lines args
-    → stack_of b ≡ call_of lines args (stack_of a)
-called_stack a b caller more lines args c frame = rw (frame, called_under a b caller more c) refl
+called_texts : (a b : Inside) (caller : Caller) (more : List ℕ) → IsCalled a b caller more → (stack_of b).texts ≡ more ∷ (stack_of a).texts
+called_texts a b caller more c = rw (c.callers, c.text) (deeper_texts a.callers.items caller a.text.items more c.end)
+
+pub called_stack : (a b : Inside) (caller : Caller) (body packed : List ℕ) → IsCalled a b caller (body ++ packed)
+    → frame_of b.top b.text.items ≡ entered (lines_in body) (arguments_in packed) → stack_of b ≡ call_of body packed (stack_of a)
+called_stack a b caller body packed c frame = rw (frame, called_under a b caller (body ++ packed) c, called_texts a b caller (body ++ packed) c) refl
 
 pub called_held : (a b : Inside) (caller : Caller) (more : List ℕ) → IsCalled a b caller more → length a.callers.items < CALLS → IsStack a → IsStack b
 called_held a b caller more c p h =
@@ -158,8 +199,7 @@ called_held a b caller more c p h =
     record {
       page = rw (called_under a b caller more c) h.page;
       top = c.held;
-      around = rw (c.callers, c.text) (deeper_held a.callers.items caller a.text.items more c.end h.fits held h.around);
-      fits = omega (arith, ap length c.text, length-append a.text.items more, ap length c.callers, n, c.short, h.fits);
+      around = rw (c.callers, c.text) (deeper_held a.callers.items caller a.text.items more c.end c.short held h.around);
       deep = omega (arith, ap length c.callers, n, p);
       room = c.room;
       calls = c.calls;

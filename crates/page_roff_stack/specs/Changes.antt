@@ -1,4 +1,5 @@
--- What becomes of a source that is being run as its parts and lines are passed, as the steps of the machine have it. Source: roff(7), "Macros".
+-- What becomes of a source that is being run as its parts and lines are passed, as the steps of the code have it. Trust needs no reading of it.
+-- Source: roff(7), "Macros".
 use Rattle.std.specs.Prelude.{ℕ, ◌+◌, ◌≤◌, ◌<◌, ◌^◌, Bool, true, false, List, [], ◌∷◌, length, drop, Option, Some, None}
 use Rattle.page_core_limits.specs.declared.TheConstants.{LINE}
 use Rattle.page_roff_blocks.specs.declared.atoms.Atom.{Atom}

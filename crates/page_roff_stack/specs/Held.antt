@@ -1,4 +1,4 @@
--- How the code holds a source: places in its text.
+-- How the code holds a source: places in its text. Trust needs no reading of it.
 use Rattle.std.specs.Prelude.{◌≡◌, ℕ, ◌+◌, ◌-◌, ◌≤◌, List, [], ◌∷◌, length, take, drop, Option, Some, None}
 use Rattle.page_core_limits.specs.declared.TheConstants.{ARGS}
 use Rattle.page_roff_values.specs.Arguments.{arguments_in, lines_in}

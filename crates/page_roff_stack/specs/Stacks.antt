@@ -1,5 +1,6 @@
--- The input stack: the sources that run, one inside another, and what comes next in them. Source: mandoc(1), "input stack limit"; roff(7), "Macros".
-use Rattle.std.specs.Prelude.{◌≡◌, ℕ, Bool, true, false, List, [], ◌∷◌, drop, Option, Some, None}
+-- The input stack, as the code goes through it: the sources that run, one inside another, and what comes next in them. Trust needs no reading
+-- of it. Source: mandoc(1), "input stack limit"; roff(7), "Macros".
+use Rattle.std.specs.Prelude.{◌≡◌, ℕ, Bool, true, false, List, [], ◌∷◌, ◌++◌, drop, Option, Some, None}
 use Rattle.page_roff_blocks.specs.declared.atoms.Atom.{Atom}
 use Rattle.page_roff_blocks.specs.declared.atoms.Branch.{Branch}
 use Rattle.page_roff_blocks.specs.declared.atoms.Branch.TheVariants.{Else}
@@ -8,14 +9,17 @@ use Rattle.page_roff_blocks.specs.Regions.{is_ending}
 use Rattle.page_roff_blocks.specs.Run.{Meaning}
 use Rattle.page_roff_language.specs.Languages.{Kind, Language, meaning_at}
 use Rattle.page_roff_language.specs.Machine.{Frame, Running, depth, entered, part_next, line_next, region_next, source_next}
+use Rattle.page_roff_values.specs.Arguments.{arguments_in, lines_in}
 use Rattle.page_roff_stack.specs.declared.next.Next.{Next}
 use Rattle.page_roff_stack.specs.declared.next.Next.TheVariants.{Part, Line, RegionLine, SourceEnd, Nothing}
 use Rattle.page_roff_stack.specs.Changes.{first_frame, branch_of, region_of, is_page}
 
--- the innermost source, and those around it from the inside out
+-- The innermost source, and those around it from the inside out; and the body with the arguments of each macro that runs, from the inside
+-- out. These texts say how much is held, and decide nothing that comes.
 pub record Stack : Type 0 where
   pub top : Frame
   pub under : List Frame
+  pub texts : List (List ℕ)
 
 -- the sources with a state
 abbrev pub running : {S : Type 0} → Stack → S → Running S
@@ -23,14 +27,15 @@ running s state = record { top = s.top; under = s.under; state = state }
 
 -- the page before its first line
 abbrev pub first_stack : Stack
-first_stack = record { top = first_frame; under = [] }
+first_stack = record { top = first_frame; under = []; texts = [] }
 
 abbrev pub with_top : Frame → Stack → Stack
-with_top f s = record { top = f; under = s.under }
+with_top f s = record { top = f; under = s.under; texts = s.texts }
 
--- a macro begins
-abbrev pub call_of : List (List ℕ) → List (List ℕ) → Stack → Stack
-call_of lines args s = record { top = entered lines args; under = s.top ∷ s.under }
+-- a macro begins, with this body and these arguments
+abbrev pub call_of : List ℕ → List ℕ → Stack → Stack
+call_of text packed s =
+    record { top = entered (lines_in text) (arguments_in packed); under = s.top ∷ s.under; texts = (text ++ packed) ∷ s.texts }
 
 -- ---- what comes next
 

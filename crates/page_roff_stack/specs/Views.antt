@@ -1,4 +1,4 @@
--- What is lent of a source: of the program, with what its texts hold.
+-- What the code lends of a source, with what its texts hold. Trust needs no reading of it.
 use Rattle.std.specs.Prelude.{◌≡◌, ◌≤◌, ℕ, List, [], ◌∷◌, length, Option, Some, None}
 use Rattle.std.specs.Borrow.{Bor}
 use Rattle.page_core_limits.specs.declared.TheConstants.{LINE}

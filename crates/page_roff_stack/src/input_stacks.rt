@@ -1,14 +1,13 @@
 //! The input stack (mandoc(1), "input stack limit exceeded, infinite loop?").
 
-ghost use Rattle.std.specs.Prelude.{◌≡◌, [], ◌∷◌, ◌≤◌, ◌<◌, ◌^◌, true, length, IfOk, IfSome, None, Some, option_map};
+ghost use Rattle.std.specs.Prelude.{◌≡◌, [], ◌∷◌, ◌+◌, ◌*◌, ◌≤◌, ◌<◌, ◌^◌, true, length, drop, sum_by, IfOk, IfSome, None, Some, option_map};
 ghost use Rattle.page_core_base.specs.Texts.{IsLine};
-ghost use Rattle.page_core_limits.specs.declared.TheConstants.{ARGS, BODY};
+ghost use Rattle.page_core_limits.specs.declared.TheConstants.{ARGS, BODY, CALLS};
 ghost use Rattle.page_roff_blocks.specs.Atoms.{atom_seen, FitsAtom};
 ghost use Rattle.page_roff_blocks.specs.Caps.{PlaceFits};
 ghost use Rattle.page_roff_blocks.specs.Levels.{after_part, guarded_by, way_of, enter, bit_after, skip, leave, has_block, reached, opened_seen};
 ghost use Rattle.page_roff_blocks.specs.Regions.{text_seen};
 ghost use Rattle.page_roff_language.specs.Machine.{depth, is_some};
-ghost use Rattle.page_roff_values.specs.Arguments.{arguments_in, lines_in};
 ghost use Rattle.page_roff_stack.specs.Changes.{page_line, past, in_region, next_line, first_atoms, is_page};
 ghost use Rattle.page_roff_stack.specs.Stacks.{first_stack, with_top, call_of, next_around, next_of, part_in, is_part, is_line, is_source_end, is_nothing, branch_in, region_in};
 ghost use Rattle.page_roff_stack.specs.Views.{kind_of, next_seen, FitsNext};
@@ -201,7 +200,7 @@ impl InputStack {
         requires idle { is_nothing (next_of self.old) ≡ true }
         requires line { IsLine line.now }
         requires skips { self.old.top.spot.levels.skipped < 2 ^ 62 }
-        ensures { self.new ≡ record { top = page_line line.now self.old.top; under = [] } }
+        ensures { self.new ≡ record { top = page_line line.now self.old.top; under = []; texts = [] } }
     {
         self.top.set_line(&mut self.text, line);
     }
@@ -295,7 +294,7 @@ impl InputStack {
         requires room { is_some (depth self.old.under) ≡ true }
         requires body { length body.now ≤ BODY }
         requires arguments { length arguments.now ≤ ARGS }
-        ensures { self.new ≡ call_of (lines_in body.now) (arguments_in arguments.now) self.old }
+        ensures { self.new ≡ call_of body.now arguments.now self.old }
     {
         let end = self.text.len();
         let callee = InputFrame::enter(&mut self.text, body, arguments);
@@ -306,16 +305,21 @@ impl InputStack {
     /// The innermost macro ends.
     pub fn end_source(&mut self)
         requires { is_source_end (next_of self.old) ≡ true }
-        ensures { self.old.under ≡ self.new.top ∷ self.new.under }
+        ensures sources { self.old.under ≡ self.new.top ∷ self.new.under }
+        ensures texts { self.new.texts ≡ drop 1 self.old.texts }
     {
         let Caller { source, end } = self.callers.pop().unwrap();
         self.text.truncate(end);
         self.top = source;
     }
 
-    /// Where the innermost source stands is within its limits. Nothing is done: the source tells it.
+    /// Where the innermost source stands, and what is held of the macros that run, their bodies and arguments, is within its limits. Nothing
+    /// is done: the source and those around it tell it.
     pub fn caps_law(&self)
-        ensures { PlaceFits (record { region = self.now.top.region; levels = self.now.top.spot.levels }) }
+        ensures place { PlaceFits (record { region = self.now.top.region; levels = self.now.top.spot.levels }) }
+        ensures macros { length self.now.texts ≡ length self.now.under }
+        ensures count { length self.now.texts ≤ CALLS }
+        ensures bytes { sum_by length self.now.texts ≤ CALLS * (BODY + ARGS) }
     {
         self.top.caps_law();
     }

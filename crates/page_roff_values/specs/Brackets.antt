@@ -1,4 +1,4 @@
--- What the code knows of the brackets in what is left of a text: the code's own form of it.
+-- What the code knows of the brackets in what is left of a text: the code's own form of it. Trust needs no reading of it.
 use Rattle.std.specs.Prelude.{◌≡◌, ℕ, Bool, false, ◌&&◌, ◌||◌, ◌==◌, List, [], ◌∷◌}
 
 -- whether a closing bracket (93) stands in a text

@@ -1,4 +1,4 @@
--- How the code holds a line: the code's own form of it.
+-- How the code holds a line: the code's own form of it. Trust needs no reading of it.
 use Rattle.std.specs.Prelude.{◌+◌, ◌*◌, ◌^◌, ◌≤◌, length, take, drop}
 use Rattle.std.specs.Vec.{vec_capacity}
 use Rattle.page_core_limits.specs.declared.TheConstants.{LINE, NEST}

@@ -1,4 +1,4 @@
--- How the code holds the arguments of a macro: the code's own form of them.
+-- How the code holds the arguments of a macro: the code's own form of them. Trust needs no reading of it.
 use Rattle.std.specs.Prelude.{◌≡◌, ℕ, ◌+◌, ◌*◌, ◌≤◌, List, length}
 use Rattle.page_core_limits.specs.declared.TheConstants.{ARGS}
 use Rattle.page_roff_values.specs.Arguments.{arguments_in, spaced, spaced_quoted}

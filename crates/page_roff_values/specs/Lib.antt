@@ -6,6 +6,7 @@ pub mod Fronts
 pub mod Held
 pub mod Latches
 pub mod NotePlans
+pub mod Numbers
 pub mod Parts
 pub mod Rest
 pub mod Steps

@@ -1,4 +1,4 @@
--- What a latch over a sink of messages knows of a plan: a machine of proofs, which no public clause cites.
+-- What a latch over a sink of messages knows of a plan: a machine of proofs, which no public clause cites. Trust needs no reading of it.
 use Rattle.std.specs.Prelude.{◌≡◌, ℕ, List, Option, MatchOption}
 use Rattle.std.specs.Borrow.{GName}
 use Rattle.page_core_base.specs.Fails.{Rose}

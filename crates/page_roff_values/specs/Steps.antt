@@ -1,4 +1,4 @@
--- The code's own steps on a line.
+-- The code's own steps on a line. Trust needs no reading of it.
 use Rattle.std.specs.Prelude.{ℕ, take, drop, Option}
 use Rattle.page_roff_values.specs.Values.{Spot}
 

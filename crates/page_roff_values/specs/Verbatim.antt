@@ -1,4 +1,5 @@
--- A fast way of the code, which no public clause cites: texts that are their own value, since nothing in them is interpolated.
+-- A fast way of the code, which no public clause cites: texts that are their own value, since nothing in them is interpolated. Trust needs no
+-- reading of it.
 -- Source: roff(7), "Escape sequences".
 use Rattle.std.specs.Prelude.{◌≡◌, ◌==◌, ◌||◌, ◌&&◌, ◌+◌, ◌<◌, ◌≤◌, ℕ, Bool, false, List, [], ◌∷◌, ◌++◌, length, get_or, Option, Some, None, option_map}
 use Rattle.page_roff_values.specs.declared.parts.Part.{Part}

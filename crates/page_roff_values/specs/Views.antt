@@ -1,4 +1,4 @@
--- How the code's values are seen.
+-- How the code's values are seen. Trust needs no reading of it.
 use Rattle.std.specs.Prelude.{ℕ, List}
 use Rattle.std.specs.Borrow.{Bor}
 use Rattle.page_roff_values.specs.declared.parts.Call.{Call}

@@ -24,14 +24,17 @@ use page_core_numbers::columns;
 use std::alloc::{AllocError, Global};
 use std::marker::Model;
 
-/// A line as far as it is expanded: what is finished of it, how many interpolations it made, and whether it has ended. While the text of a
-/// width is expanded, `start` is where that text begins.
+/// A line that is being expanded: the text that is finished, how many interpolations it made, and whether it has ended.
 #[derive(Drop)]
 pub struct Expansion {
     text: Vec<u8>,
+    // Where the text of a width begins, while it is expanded.
     start: usize,
+    // The number of the line, for messages.
     line: u32,
+    // The bytes before the text in its raw line, from which columns are counted.
     base: u32,
+    // The column of all messages, inside a width.
     fixed: Option<u32>,
     count: u32,
     ended: bool,

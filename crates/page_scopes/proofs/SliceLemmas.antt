@@ -2,11 +2,19 @@
 use Rattle.std.proofs.Common.{◌≡◌, ℕ, ◌≤◌, List, [], ◌∷◌, length, Option, None, Some, arith}
 use Rattle.page_core_limits.specs.declared.TheConstants.{LINE}
 use Rattle.page_roff_forms.specs.declared.quotes.Argument.{Argument}
-use Rattle.page_scopes_leaves.specs.Fits.{ArgumentFits, CloserFits, DeedFits, GivenFits, OpenerFits}
-use Rattle.page_sets_lines.specs.Laws.{AreSlices, ClosesSlices, HasSlices, IsArgument, IsArgumentIfGiven, OpensSlices}
+use Rattle.page_scopes_leaves.specs.Fits.{ArgumentFits, BlockCloserFits, BlockOpenerFits, CloserFits, DeedFits, GivenFits, LeafFits, OpenerFits, StepFits}
+use Rattle.page_sets_lines.specs.Laws.{AreSlices, BlockClosesSlices, BlockOpensSlices, ClosesSlices, HasSlices, IsArgument, IsArgumentIfGiven, LeavesSlices, OpensSlices, StepsSlices}
+use Rattle.page_sets_lines.specs.declared.blocks.BlockCloser.{BlockCloser}
+use Rattle.page_sets_lines.specs.declared.blocks.BlockCloser.TheVariants as block_closers
+use Rattle.page_sets_lines.specs.declared.blocks.BlockOpener.{BlockOpener}
+use Rattle.page_sets_lines.specs.declared.blocks.BlockOpener.TheVariants as block_openers
 use Rattle.page_sets_lines.specs.declared.events.Deed.{Deed}
 use Rattle.page_sets_lines.specs.declared.events.Deed.TheVariants as deeds
 use Rattle.page_sets_lines.specs.declared.events.Event.{Event}
+use Rattle.page_sets_lines.specs.declared.leaves.Leaf.{Leaf}
+use Rattle.page_sets_lines.specs.declared.leaves.Leaf.TheVariants as leaves
+use Rattle.page_sets_lines.specs.declared.line_steps.LineStep.{LineStep}
+use Rattle.page_sets_lines.specs.declared.line_steps.LineStep.TheVariants as steps
 use Rattle.page_sets_lines.specs.declared.openers.Closer.{Closer}
 use Rattle.page_sets_lines.specs.declared.openers.Closer.TheVariants as closers
 use Rattle.page_sets_lines.specs.declared.openers.Opener.{Opener}
@@ -22,6 +30,16 @@ given_fits : (line : List ℕ) (argument : Option (Argument (List ℕ))) → len
 given_fits line None short slice = tt
 given_fits line (Some argument) short slice = argument_fits line argument short slice
 
+block_opener_fits : (line : List ℕ) (opener : BlockOpener (List ℕ)) → length line ≤ LINE → BlockOpensSlices line opener → BlockOpenerFits opener
+block_opener_fits line (block_openers.Quotation quotation) short slices = tt
+block_opener_fits line (block_openers.Custom mark) short slices = given_fits line mark short slices
+block_opener_fits line block_openers.Extension short slices = tt
+
+block_closer_fits : (line : List ℕ) (closer : BlockCloser (List ℕ)) → length line ≤ LINE → BlockClosesSlices line closer → BlockCloserFits closer
+block_closer_fits line (block_closers.Quotation quotation) short slices = tt
+block_closer_fits line (block_closers.Custom mark) short slices = given_fits line mark short slices
+block_closer_fits line block_closers.Extension short slices = tt
+
 opener_fits : (line : List ℕ) (opener : Opener (List ℕ)) → length line ≤ LINE → OpensSlices line opener → OpenerFits opener
 opener_fits line openers.Section short slices = tt
 opener_fits line openers.Subsection short slices = tt
@@ -32,12 +50,33 @@ opener_fits line (openers.Hanging hang) short slices = tt
 opener_fits line (openers.RelativeMargin columns) short slices = tt
 opener_fits line (openers.Target link target) short slices = argument_fits line target short slices
 opener_fits line (openers.Syntax name) short slices = argument_fits line name short slices
+opener_fits line (openers.Block opener) short slices = block_opener_fits line opener short slices
 
 closer_fits : (line : List ℕ) (closer : Closer (List ℕ)) → length line ≤ LINE → ClosesSlices line closer → CloserFits closer
 closer_fits line closers.Line short slices = tt
 closer_fits line (closers.RelativeMargin number) short slices = tt
 closer_fits line (closers.Target link suffix) short slices = given_fits line suffix short slices
 closer_fits line closers.Syntax short slices = tt
+closer_fits line closers.Enclosures short slices = tt
+closer_fits line (closers.Block closer) short slices = block_closer_fits line closer short slices
+
+step_fits : (line : List ℕ) (step : LineStep (List ℕ)) → length line ≤ LINE → StepsSlices line step → StepFits step
+step_fits line steps.Glue short slices = tt
+step_fits line (steps.BodyParagraph name) short slices = tt
+step_fits line (steps.Uri uri) short slices = argument_fits line uri short slices
+step_fits line steps.ManualName short slices = tt
+
+leaf_fits : (line : List ℕ) (leaf : Leaf (List ℕ)) → length line ≤ LINE → LeavesSlices line leaf → LeafFits leaf
+leaf_fits line leaves.BlankLine short slices = tt
+leaf_fits line (leaves.Wordless text) short slices = tt
+leaf_fits line (leaves.Request request) short slices = tt
+leaf_fits line (leaves.Prologue name rest) short slices = tt
+leaf_fits line (leaves.Own word) short slices = tt
+leaf_fits line (leaves.Example begins) short slices = tt
+leaf_fits line (leaves.Distance rows) short slices = tt
+leaf_fits line (leaves.Fonts font) short slices = tt
+leaf_fits line leaves.FurtherTag short slices = tt
+leaf_fits line (leaves.Step step) short slices = step_fits line step short slices
 
 -- the texts of an event of a line, which are slices of it, stand in a line
 pub deed_fits : (line : List ℕ) (deed : Deed (List ℕ)) → length line ≤ LINE → HasSlices line deed → DeedFits deed
@@ -45,7 +84,7 @@ deed_fits line (deeds.Word word) short slices = argument_fits line word.arg shor
 deed_fits line (deeds.Open opener) short slices = opener_fits line opener short slices
 deed_fits line (deeds.Close closer) short slices = closer_fits line closer short slices
 deed_fits line (deeds.LineScope opener) short slices = tt
-deed_fits line (deeds.Leaf leaf) short slices = tt
+deed_fits line (deeds.Leaf leaf) short slices = leaf_fits line leaf short slices
 deed_fits line (deeds.Raw text) short slices = tt
 deed_fits line (deeds.End fills) short slices = tt
 deed_fits line (deeds.Note kind detail begins_body) short slices = tt

@@ -10,7 +10,7 @@ use Rattle.page_scopes_laws.specs.Forests.{Ender, by_act, still_open, Forest, no
 use Rattle.page_scopes_laws.specs.Layouts.{Layout, scope_of, closing_state, after, if_open, open_in, open_outer, labels, edge}
 use Rattle.page_scopes_laws.specs.declared.Scope.{Scope}
 use Rattle.page_scopes_nodes.specs.Begins.{opener_target, kept_target}
-use Rattle.page_scopes_nodes.specs.declared.targets.Target.{Target}
+use Rattle.page_scopes_leaves.specs.declared.kept_texts.KeptText.{KeptText}
 use Rattle.page_scopes_tree.specs.Acts.{Step}
 use Rattle.page_scopes_tree.specs.Frames.{framed, act_of, event_of}
 use Rattle.page_scopes_tree.specs.Nests.{Fact, scopes_nesting}
@@ -25,7 +25,7 @@ use Rattle.page_scopes.specs.Tables.{layout_tables}
 use Rattle.page_scopes.specs.declared.layouts.Kept.{Kept}
 use Rattle.page_scopes.specs.declared.layouts.LayoutState.{LayoutState}
 
-abbrev TargetFits : Option Target → Type 0
+abbrev TargetFits : Option KeptText → Type 0
 TargetFits target = IfSome target (λ target. length target.text ≤ FIELD)
 
 front_is_short : (n : ℕ) (text : List ℕ) → length (text_front n text) ≤ n
@@ -45,6 +45,7 @@ opener_fits (openers.Hanging width) = tt
 opener_fits (openers.RelativeMargin width) = tt
 opener_fits (openers.Target link target) = front_is_short FIELD target.text
 opener_fits (openers.Syntax name) = tt
+opener_fits (openers.Block opener) = tt
 
 deed_fits : (deed : Deed (List ℕ)) → TargetFits (kept_target deed)
 deed_fits (deeds.Word word) = tt

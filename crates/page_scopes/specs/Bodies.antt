@@ -1,28 +1,33 @@
--- The front of a page's body, and what events give that open no scope. Source: man(7); mandoc(1), "DIAGNOSTICS".
-use Rattle.std.specs.Prelude.{ℕ, Bool, true, false, not, ◌&&◌, List, [], ◌∷◌, ◌++◌, None, Some, if◌then◌else◌}
+-- The front of a page's body, and what events give that open no scope. Source: man(7), mdoc(7); mandoc(1), "DIAGNOSTICS".
+use Rattle.std.specs.Prelude.{ℕ, Bool, true, false, not, ◌&&◌, List, [], ◌∷◌, ◌++◌, Option, None, Some, if◌then◌else◌}
 use Rattle.page_core_base.specs.Pieces.{Item, shown}
 use Rattle.page_core_base.specs.declared.note_kinds.NoteKind.TheVariants.{BeforeSection}
 use Rattle.page_core_base.specs.declared.pieces.Piece.TheVariants as pieces
 use Rattle.page_core_base.specs.declared.places.Place.{Place}
 use Rattle.page_core_numbers.specs.declared.scales.Scale.TheVariants.{Basic}
+use Rattle.page_roff_forms.specs.declared.quotes.Argument.{Argument}
 use Rattle.page_scopes_layout.specs.Nodes.{margin_items}
 use Rattle.page_scopes_layout.specs.declared.contexts.Context.{Context}
-use Rattle.page_scopes_leaves.specs.Deeds.{deed_outcome}
-use Rattle.page_scopes_leaves.specs.LineWords.{line_word}
+use Rattle.page_scopes_leaves.specs.Deeds.{deed_outcome, name_after}
+use Rattle.page_scopes_leaves.specs.LineWords.{argument_word, line_word}
 use Rattle.page_scopes_leaves.specs.Outcomes.{Outcome, nothing}
 use Rattle.page_scopes_leaves.specs.Runnings.{row_ended}
+use Rattle.page_scopes_leaves.specs.declared.kept_texts.KeptText.{KeptText}
 use Rattle.page_scopes_leaves.specs.declared.runnings.Running.{Running}
-use Rattle.page_scopes_nodes.specs.Openers.{argument_word}
 use Rattle.page_scopes_text.specs.Numbers.{number_notes}
 use Rattle.page_scopes_tree.specs.declared.acts.Act.{Act}
 use Rattle.page_scopes_tree.specs.declared.acts.Act.TheVariants as acts
 use Rattle.page_scopes_words.specs.Words.{at, says}
+use Rattle.page_sets_lines.specs.declared.blocks.BlockCloser.{BlockCloser}
+use Rattle.page_sets_lines.specs.declared.blocks.BlockCloser.TheVariants as block_closers
 use Rattle.page_sets_lines.specs.declared.events.Event.{Event}
 use Rattle.page_sets_lines.specs.declared.events.Deed.{Deed}
 use Rattle.page_sets_lines.specs.declared.events.Deed.TheVariants as deeds
 use Rattle.page_sets_lines.specs.declared.events.Join.TheVariants.{Glued}
 use Rattle.page_sets_lines.specs.declared.leaves.Leaf.{Leaf}
 use Rattle.page_sets_lines.specs.declared.leaves.Leaf.TheVariants as leaves
+use Rattle.page_sets_lines.specs.declared.line_steps.LineStep.{LineStep}
+use Rattle.page_sets_lines.specs.declared.line_steps.LineStep.TheVariants as steps
 use Rattle.page_sets_lines.specs.declared.openers.Closer.{Closer}
 use Rattle.page_sets_lines.specs.declared.openers.Closer.TheVariants as closers
 use Rattle.page_sets_lines.specs.declared.openers.Opener.{Opener}
@@ -30,9 +35,15 @@ use Rattle.page_sets_lines.specs.declared.openers.Opener.TheVariants as openers
 
 -- ---- what begins the body: words, scopes, and lines as they are; a message where its macro does
 
+abbrev pub step_begins : LineStep (List ℕ) → Bool
+step_begins (steps.Uri uri) = true
+step_begins steps.ManualName = true
+step_begins _ = false
+
 abbrev pub leaf_begins : Leaf (List ℕ) → Bool
 leaf_begins (leaves.Own word) = true
 leaf_begins leaves.FurtherTag = true
+leaf_begins (leaves.Step step) = step_begins step
 leaf_begins _ = false
 
 abbrev pub deed_begins : Deed (List ℕ) → Bool
@@ -88,9 +99,22 @@ coming place deed c r = record {
 
 -- ---- an act stands that opens nothing: after a closer its suffix is glued to what its scope ended with
 
+abbrev pub block_suffix : BlockCloser (List ℕ) → Option (Argument (List ℕ))
+block_suffix (block_closers.Custom mark) = mark
+block_suffix _ = None
+
+-- the suffix of `UE` and `ME`, and the mark of `Ec`
+abbrev pub closer_suffix : Closer (List ℕ) → Option (Argument (List ℕ))
+closer_suffix (closers.Target link argument) = argument
+closer_suffix (closers.Block closer) = block_suffix closer
+closer_suffix _ = None
+
+abbrev pub given_suffix : ℕ → Option (Argument (List ℕ)) → Context → Running → Outcome
+given_suffix line None c r = nothing c r
+given_suffix line (Some argument) c r = line_word line (argument_word None Glued argument) c r
+
 abbrev pub suffix : ℕ → Closer (List ℕ) → Context → Running → Outcome
-suffix line (closers.Target link (Some argument)) c r = line_word line (argument_word None Glued argument) c r
-suffix line _ c r = nothing c r
+suffix line closer c r = given_suffix line (closer_suffix closer) c r
 
 -- before the body requests, blank lines and lines without a word give nothing
 abbrev pub leaf_waits : Leaf (List ℕ) → Bool
@@ -102,18 +126,23 @@ leaf_waits _ = false
 abbrev pub is_early : Leaf (List ℕ) → Running → Bool
 is_early leaf r = not r.has_begun && leaf_waits leaf
 
-abbrev pub leaf_stands : Place → Leaf (List ℕ) → Context → Running → Outcome
-leaf_stands place leaf c r = if is_early leaf r then nothing c r else deed_outcome place (deeds.Leaf leaf) c r
+abbrev pub leaf_stands : Place → Leaf (List ℕ) → Option KeptText → Context → Running → Outcome
+leaf_stands place leaf name c r = if is_early leaf r then nothing c r else deed_outcome place (deeds.Leaf leaf) name c r
 
-abbrev pub deed_stands : Place → Deed (List ℕ) → Context → Running → Outcome
-deed_stands place (deeds.Close closer) c r = suffix place.line closer c r
-deed_stands place (deeds.Leaf leaf) c r = leaf_stands place leaf c r
-deed_stands place deed c r = deed_outcome place deed c r
+abbrev pub deed_stands : Place → Deed (List ℕ) → Option KeptText → Context → Running → Outcome
+deed_stands place (deeds.Close closer) name c r = suffix place.line closer c r
+deed_stands place (deeds.Leaf leaf) name c r = leaf_stands place leaf name c r
+deed_stands place deed name c r = deed_outcome place deed name c r
 
 -- at the page's end the row ends
 abbrev pub page_ends : Context → Running → Outcome
 page_ends c r = record { items = shown pieces.Break ∷ []; context = c; running = row_ended r }
 
-unfoldable pub stands : Act (Event (List ℕ)) → Context → Running → Outcome
-stands (acts.Event event) c r = deed_stands event.place event.deed c r
-stands (acts.PageEnd line) c r = page_ends c r
+-- the name is that of the manual
+unfoldable pub stands : Act (Event (List ℕ)) → Option KeptText → Context → Running → Outcome
+stands (acts.Event event) name c r = deed_stands event.place event.deed name c r
+stands (acts.PageEnd line) name c r = page_ends c r
+
+abbrev pub act_name : Act (Event (List ℕ)) → Option KeptText → Option KeptText
+act_name (acts.Event event) name = name_after event.deed name
+act_name (acts.PageEnd line) name = name

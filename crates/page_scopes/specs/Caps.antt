@@ -1,4 +1,4 @@
--- How much is held of the open scopes between two lines. Source: man(7), UR, MT; mandoc(1), "DIAGNOSTICS".
+-- How much is held of the open scopes between two lines. Source: man(7), UR, MT; mdoc(7), Nm; mandoc(1), "DIAGNOSTICS".
 use Rattle.std.specs.Prelude.{◌≤◌, List, [], ◌∷◌, length, IfSome}
 use Rattle.page_core_limits.specs.declared.TheConstants.{FIELD, SCOPES}
 use Rattle.page_scopes_laws.specs.declared.Scope.{Scope}
@@ -12,7 +12,8 @@ TargetsFit [] = Unit {0}
 TargetsFit (scope ∷ scopes) =
     IfSome scope.before.target (λ target. length target.text ≤ FIELD) × TargetsFit scopes
 
--- these, and how many scopes are open
+-- these, how many scopes are open, and the bytes of the manual's name
 pub record ScopesFit (edge : PageEdge) : Type 0 where
   pub targets : TargetsFit edge.scopes
   pub depth : length edge.scopes ≤ SCOPES
+  pub name : IfSome edge.state.name (λ name. length name.text ≤ FIELD)

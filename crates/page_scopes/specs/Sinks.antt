@@ -5,19 +5,37 @@ use Rattle.page_core_base.specs.Pieces.{Item}
 use Rattle.page_core_base.specs.declared.faults.Fault.{Fault}
 use Rattle.page_core_base.specs.declared.faults.Fault.TheVariants.{Failed}
 use Rattle.page_core_base.specs.declared.page_settings.Settings.{Settings}
-use Rattle.page_scopes.specs.Edges.{PageEdge}
+use Rattle.page_scopes.specs.Edges.{PageEdge, event_after, start_edge}
 use Rattle.page_scopes_nodes.specs.declared.page_layouts.PageLayout.{PageLayout}
+use Rattle.page_sets_lines.specs.declared.events.Event.{Event}
+
+-- what decides the rest while the page goes on: its edge, the line of the last event, 1 before the first, and the indent that the settings give
+pub record SinkEdge : Type 0 where
+  pub page : PageEdge
+  pub line : ℕ
+  pub indent : Option ℕ
 
 -- the indent is that of the settings, or else that of the set
 abbrev pub layout_of : Settings → ℕ → PageLayout
 layout_of settings indent = record { indent = unwrap_or settings.indent indent; output = settings.output }
 
+-- before a page's first line
+abbrev pub start_of : Settings → ℕ → SinkEdge
+start_of settings indent = record { page = start_edge (layout_of settings indent); line = 1; indent = settings.indent }
+
+-- a set of macros is chosen before anything came: the page stands at its indent, unless the settings give another
+abbrev pub chosen : ℕ → SinkEdge → SinkEdge
+chosen indent sink = record sink { page = start_edge (record sink.page.state.page { indent = unwrap_or sink.indent indent }) }
+
+abbrev pub after_event : Event (List ℕ) → SinkEdge → SinkEdge
+after_event event sink = record sink { page = event_after sink.page event; line = event.place.line }
+
 -- at Ok these items came, and no other; else a front of them, and then the fault; where the page is over none
 abbrev pub Settles : {S : Type 0} → Result (Unit {0}) Fault → (S → List Item → S → Type 0) → (S → Fault → List Item → S → Type 0)
-    → Option PageEdge → (PageEdge → List Item) → S → S → Type 0
+    → Option SinkEdge → (SinkEdge → List Item) → S → S → Type 0
 Settles r gave broke None items s t = (r ≡ Err Failed) × (t ≡ s)
-Settles r gave broke (Some edge) items s t = Emits r gave broke s (items edge) t
+Settles r gave broke (Some sink) items s t = Emits r gave broke s (items sink) t
 
 -- a call that succeeds leads to the next edge; after one that fails the page is over
-abbrev pub GoesOn : Result (Unit {0}) Fault → Option PageEdge → (PageEdge → PageEdge) → Option PageEdge → Type 0
+abbrev pub GoesOn : Result (Unit {0}) Fault → Option SinkEdge → (SinkEdge → SinkEdge) → Option SinkEdge → Type 0
 GoesOn r old next new = MatchResult r (λ _. new ≡ option_map next old) (λ _. new ≡ None)

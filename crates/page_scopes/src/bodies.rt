@@ -1,22 +1,41 @@
-//! The front of a page's body, and what events give that open no scope (man(7)).
+//! The front of a page's body, and what events give that open no scope (man(7), mdoc(7)).
 
 ghost use Rattle.std.specs.Prelude.{◌≡◌};
 ghost use Rattle.page_core_base.specs.Latches.{Came};
 ghost use Rattle.page_scopes.specs.Bodies as bodies;
+ghost use Rattle.page_scopes_leaves.specs.Deeds.{name_after};
 ghost use Rattle.page_scopes_leaves.specs.Fits.{CloserFits, DeedFits};
 ghost use Rattle.page_scopes_leaves.specs.Outcomes.{GivesOutcome};
 ghost use Rattle.page_scopes_tree.specs.Acts.{TakesAct, act_seen};
-ghost use Rattle.page_sets_lines.specs.Events.{closer_seen, deed_seen, leaf_seen};
+ghost use Rattle.page_sets_lines.specs.Events.{closer_seen, deed_seen, given_seen, leaf_seen, step_seen};
 
 use page_core_base::{NoteKind, Piece, PieceOut, Place};
 use page_core_numbers::Scale;
+use page_roff_forms::Argument;
 use page_scopes_layout::{Context, give_margins};
-use page_scopes_leaves::{Running, give_deed, give_line_word};
-use page_scopes_nodes::argument_word;
+use page_scopes_leaves::{KeptText, Running, argument_word, give_deed, give_line_word};
 use page_scopes_text::give_number;
 use page_scopes_tree::Act;
 use page_scopes_words::report;
-use page_sets_lines::{Closer, Deed, Event, Join, Leaf, Opener};
+use page_sets_lines::{BlockCloser, Closer, Deed, Event, Join, Leaf, LineStep, Opener};
+
+// Whether a step of a line may begin the body: the address of `Lk`, and the name of the manual.
+fn step_begins(step: &LineStep<&[u8]>) -> bool
+    ensures { result ≡ bodies.step_begins (step_seen step.now) }
+{
+    matches!(step, LineStep::Uri(_) | LineStep::ManualName)
+}
+
+// Whether a leaf may begin the body.
+fn leaf_begins(leaf: &Leaf<&[u8]>) -> bool
+    ensures { result ≡ bodies.leaf_begins (leaf_seen leaf.now) }
+{
+    match leaf {
+        Leaf::Own(_) | Leaf::FurtherTag => true,
+        Leaf::Step(step) => step_begins(step),
+        _ => false,
+    }
+}
 
 // Whether a deed may begin the body.
 fn deed_begins(deed: &Deed<&[u8]>) -> bool
@@ -24,7 +43,7 @@ fn deed_begins(deed: &Deed<&[u8]>) -> bool
 {
     match deed {
         Deed::Word(_) | Deed::Open(_) | Deed::LineScope(_) | Deed::Raw(_) => true,
-        Deed::Leaf(leaf) => matches!(leaf, Leaf::Own(_) | Leaf::FurtherTag),
+        Deed::Leaf(leaf) => leaf_begins(leaf),
         Deed::Note { begins_body, .. } => *begins_body,
         Deed::Close(_) | Deed::End { .. } => false,
     }
@@ -92,6 +111,17 @@ pub(crate) fn give_coming<O: PieceOut>(
     report_number(out, place, deed);
 }
 
+// What follows the end of a closer's scope: the suffix of `UE` and `ME`, and the mark of `Ec`.
+fn closer_suffix<'a>(closer: &Closer<&'a [u8]>) -> Option<Argument<&'a [u8]>>
+    ensures { given_seen result ≡ bodies.closer_suffix (closer_seen closer.now) }
+{
+    match *closer {
+        Closer::Target(_, suffix) => suffix,
+        Closer::Block(BlockCloser::Custom(mark)) => mark,
+        _ => None,
+    }
+}
+
 // Gives the suffix of a closer.
 #[inline(never)]
 fn give_suffix<O: PieceOut>(
@@ -106,7 +136,7 @@ fn give_suffix<O: PieceOut>(
         (bodies.suffix line (closer_seen closer.now) context.old running.old)
         out.new context.new running.new }
 {
-    if let Closer::Target(_, Some(suffix)) = *closer {
+    if let Some(suffix) = closer_suffix(closer) {
         let word = argument_word(None, Join::Glued, suffix);
         give_line_word(out, line, &word, context, running);
     }
@@ -119,47 +149,53 @@ fn is_early(leaf: &Leaf<&[u8]>, running: &Running) -> bool
     !running.has_begun && matches!(leaf, Leaf::BlankLine | Leaf::Wordless(_) | Leaf::Request(_))
 }
 
-// Gives a deed that opens nothing.
+// Gives a deed that opens nothing. The name is that of the manual.
 #[inline(always)]
 fn give_deed_standing<O: PieceOut>(
     out: &mut O,
     place: Place,
     deed: &Deed<&[u8]>,
+    name: &mut Option<KeptText>,
     context: &mut Context,
     running: &mut Running,
 )
     requires { DeedFits (deed_seen deed.now) }
-    ensures { GivesOutcome O.left out.old
-        (bodies.deed_stands place (deed_seen deed.now) context.old running.old)
+    ensures gives { GivesOutcome O.left out.old
+        (bodies.deed_stands place (deed_seen deed.now) name.old context.old running.old)
         out.new context.new running.new }
+    ensures name { name.new ≡ name_after (deed_seen deed.now) name.old }
 {
     match deed {
         Deed::Close(closer) => give_suffix(out, place.line, closer, context, running),
         Deed::Leaf(leaf) => {
             if !is_early(leaf, running) {
-                give_deed(out, place, deed, context, running);
+                give_deed(out, place, deed, name, context, running);
             }
         }
-        _ => give_deed(out, place, deed, context, running),
+        _ => give_deed(out, place, deed, name, context, running),
     }
 }
 
-/// Gives an act that opens nothing.
+/// Gives an act that opens nothing. The name is that of the manual.
 #[tactic(auto, unfolding(crate::specs::Bodies::stands))]
 #[inline(always)]
 pub(crate) fn give_standing<O: PieceOut>(
     out: &mut O,
     act: &Act<&Event<&[u8]>>,
+    name: &mut Option<KeptText>,
     context: &mut Context,
     running: &mut Running,
 )
     requires { TakesAct (λ event. DeedFits event.deed) (act_seen act.now) }
-    ensures { GivesOutcome O.left out.old
-        (bodies.stands (act_seen act.now) context.old running.old)
+    ensures gives { GivesOutcome O.left out.old
+        (bodies.stands (act_seen act.now) name.old context.old running.old)
         out.new context.new running.new }
+    ensures name { name.new ≡ bodies.act_name (act_seen act.now) name.old }
 {
     match act {
-        Act::Event(event) => give_deed_standing(out, event.place, &event.deed, context, running),
+        Act::Event(event) => {
+            give_deed_standing(out, event.place, &event.deed, name, context, running);
+        }
         Act::PageEnd(_) => {
             out.give(Piece::Break);
             running.end_row();

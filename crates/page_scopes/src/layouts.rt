@@ -1,9 +1,9 @@
-//! The layout of man(7).
+//! The layout of man(7) and mdoc(7).
 
 ghost use Rattle.std.specs.Prelude.{◌≡◌, ◌<◌, ◌∷◌, reverse, vec_capacity, vec_len};
 ghost use Rattle.page_roff_forms.specs.Arguments.{argument_seen};
 ghost use Rattle.page_scopes.specs.Tables.{start};
-ghost use Rattle.page_scopes_nodes.specs.Targets.{target_of};
+ghost use Rattle.page_scopes_leaves.specs.KeptTexts.{kept_of};
 ghost use Rattle.page_scopes_tree.specs.Stacks.{Keeps};
 
 use crate::bodies::{give_coming, give_standing};
@@ -11,8 +11,8 @@ use page_core_base::{PieceOut, Place};
 use page_roff_forms::Argument;
 use page_scopes_laws::Scope;
 use page_scopes_layout::Context;
-use page_scopes_leaves::Running;
-use page_scopes_nodes::{PageLayout, Target, give_begun, give_ended};
+use page_scopes_leaves::{KeptText, Running};
+use page_scopes_nodes::{PageLayout, give_begun, give_ended};
 use page_scopes_tree::{Act, Label, Laying};
 use page_sets_lines::{Deed, Event, Opener};
 
@@ -22,13 +22,15 @@ pub struct LayoutState {
     pub page: PageLayout,
     pub context: Context,
     pub running: Running,
+    /// The name of the manual, which `Nm` gives.
+    pub name: Option<KeptText>,
 }
 
 /// What a scope keeps: the context before it, and the target of a link.
 #[derive(Drop)]
 pub struct Kept {
     pub context: Context,
-    pub target: Option<Target>,
+    pub target: Option<KeptText>,
 }
 
 impl LayoutState {
@@ -40,6 +42,7 @@ impl LayoutState {
             page,
             context: Context::start(page.indent),
             running: Running::start(),
+            name: None,
         }
     }
 
@@ -48,14 +51,14 @@ impl LayoutState {
     fn keep_link(&self, label: Label, target: Argument<&[u8]>, scopes: &mut Vec<Scope<Label, Kept>>)
         requires { vec_len scopes.old < vec_capacity scopes.old }
         ensures { Keeps scopes.old scopes.new
-            (record { label = label; before = record { context = self.now.context; target = Some (target_of (argument_seen target.entry)) } }
+            (record { label = label; before = record { context = self.now.context; target = Some (kept_of (argument_seen target.entry)) } }
             ∷ reverse scopes.old.items) }
     {
         scopes.push_reserved(Scope {
             label,
             before: Kept {
                 context: self.context,
-                target: Some(Target::of(target)),
+                target: Some(KeptText::of(target)),
             },
         });
     }
@@ -102,7 +105,13 @@ impl Laying for LayoutState {
 
     #[inline(always)]
     fn leaf<O: PieceOut>(&mut self, act: &Act<&Event<&[u8]>>, out: &mut O) {
-        give_standing(out, act, &mut self.context, &mut self.running);
+        give_standing(
+            out,
+            act,
+            &mut self.name,
+            &mut self.context,
+            &mut self.running,
+        );
     }
 
     fn end<O: PieceOut>(&mut self, label: Label, before: &Kept, place: Place, out: &mut O) {

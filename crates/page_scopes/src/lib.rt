@@ -13,4 +13,5 @@ mod sinks;
 pub use laws::scopes_law;
 pub use layouts::{Kept, LayoutState};
 pub use open_scopes::OpenScopes;
+pub use page_core_base::{Piece, PieceSink};
 pub use sinks::Scopes;

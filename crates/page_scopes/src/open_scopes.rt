@@ -44,6 +44,20 @@ impl OpenScopes {
         })
     }
 
+    /// All is as before a page's first line, for this layout: no scope is open.
+    pub fn restart(&mut self, page: PageLayout)
+        ensures { self.new ≡ start_edge page }
+    {
+        self.stack.restart(LayoutState::start(page));
+    }
+
+    /// What of the page's settings it is laid out by.
+    pub fn page(&self) -> PageLayout
+        ensures { result ≡ self.now.state.page }
+    {
+        self.stack.state().page
+    }
+
     /// The number of open scopes.
     pub fn depth(&self) -> usize
         ensures is { result ≡ length self.now.scopes }
@@ -90,5 +104,8 @@ impl OpenScopes {
         ensures { ScopesFit self.now }
     {
         self.stack.depth();
+        if let Some(name) = &self.stack.state().name {
+            name.text.text();
+        }
     }
 }

@@ -1,8 +1,8 @@
 //! The scopes of a page over a sink of pieces (man(7), mdoc(7)).
 
-ghost use Rattle.std.specs.Prelude.{◌≡◌, ◌≤◌, None, Some, MatchResult};
-ghost use Rattle.page_scopes.specs.Edges.{end_items, event_after, event_items, start_edge};
-ghost use Rattle.page_scopes.specs.Sinks.{GoesOn, Settles, layout_of};
+ghost use Rattle.std.specs.Prelude.{◌≡◌, ◌≤◌, None, Some, IfSome, MatchResult, length, option_map};
+ghost use Rattle.page_scopes.specs.Edges.{end_items, event_items, start_edge};
+ghost use Rattle.page_scopes.specs.Sinks.{GoesOn, Settles, after_event, chosen, layout_of, start_of};
 ghost use Rattle.page_scopes_leaves.specs.Fits.{DeedFits};
 ghost use Rattle.page_sets_lines.specs.Events.{deed_seen, event_seen};
 
@@ -19,16 +19,21 @@ use std::marker::Model;
 #[derive(Drop)]
 pub struct Scopes {
     scopes: OpenScopes,
+    // The line of the last event, 1 before the first.
+    line: u32,
+    // The indent that the settings give.
+    indent: Option<u32>,
     is_over: bool,
 }
 
 impl Model for Scopes {
     ghost use Rattle.std.specs.Prelude.{Option, None, Some, if◌then◌else◌};
-    ghost use Rattle.page_scopes.specs.Edges.{PageEdge};
+    ghost use Rattle.page_scopes.specs.Sinks.{SinkEdge};
 
-    ghost Value = { Option PageEdge };
+    ghost Value = { Option SinkEdge };
 
-    ghost view = { λ s. if s.is_over then None else Some s.scopes };
+    ghost view = { λ s. if s.is_over then None
+        else Some (record { page = s.scopes; line = s.line; indent = s.indent }) };
 }
 
 // What of settings scopes are laid out by; the indent is that of a set of macros where they give none.
@@ -45,21 +50,37 @@ impl Scopes {
     /// The scopes of a page before its first line. Its fault is [`Fault::Memory`].
     pub fn new<S: MacroSet>(alloc: Global, settings: &Settings, set: &S) -> Result<Scopes, Fault>
         ensures { MatchResult result
-            (λ scopes. scopes ≡ Some (start_edge (layout_of settings.now (S.page_indent set.now))))
+            (λ scopes. scopes ≡ Some (start_of settings.now (S.page_indent set.now)))
             (λ fault. fault ≡ Fault.Memory) }
     {
         match OpenScopes::new(alloc, layout_of(settings, set.indent())) {
             Ok(scopes) => Ok(Scopes {
                 scopes,
+                line: 1,
+                indent: settings.indent,
                 is_over: false,
             }),
             Err(_) => Err(Fault::Memory),
         }
     }
 
+    /// The page is one of a set of macros from here on, and stands at its indent, unless the settings give another. Nothing
+    /// has come of it yet.
+    pub fn choose<S: MacroSet>(&mut self, set: &S)
+        requires { IfSome self.old (λ sink. sink.page ≡ start_edge sink.page.state.page) }
+        ensures { self.new ≡ option_map (chosen (S.page_indent set.now)) self.old }
+    {
+        let page = PageLayout {
+            indent: self.indent.unwrap_or(set.indent()),
+            output: self.scopes.page().output,
+        };
+        self.scopes.restart(page);
+    }
+
     /// The number of open scopes.
     pub fn depth(&self) -> usize
-        ensures { result ≤ SCOPES }
+        ensures is { IfSome self.now (λ sink. result ≡ length sink.page.scopes) }
+        ensures within { result ≤ SCOPES }
     {
         self.scopes.depth()
     }
@@ -68,9 +89,8 @@ impl Scopes {
     pub fn apply<O: PieceSink>(&mut self, event: Event<&[u8]>, out: &mut O) -> Result<(), Fault>
         requires { DeedFits (deed_seen event.deed) }
         ensures gives { Settles result O.gave O.broke self.old
-            (λ edge. event_items edge (event_seen event.entry)) out.old out.new }
-        ensures edge { GoesOn result self.old
-            (λ edge. event_after edge (event_seen event.entry)) self.new }
+            (λ sink. event_items sink.page (event_seen event.entry)) out.old out.new }
+        ensures edge { GoesOn result self.old (after_event (event_seen event.entry)) self.new }
         ensures same { O.loans out.new ≡ O.loans out.old }
     {
         if self.is_over {
@@ -78,14 +98,16 @@ impl Scopes {
         }
         let mut latch = PieceLatch::new(out);
         self.scopes.give_event(&event, &mut latch);
+        self.line = event.place.line;
         let done = latch.done();
         self.is_over = done.is_err();
         done
     }
 
-    /// Ends the page on the line of a number: all scopes end, and the row.
-    pub fn finish<O: PieceSink>(&mut self, line: u32, out: &mut O) -> Result<(), Fault>
-        ensures gives { Settles result O.gave O.broke self.old (λ edge. end_items edge line) out.old out.new }
+    /// Ends the page on the line of its last event: all scopes end, and the row.
+    pub fn finish<O: PieceSink>(&mut self, out: &mut O) -> Result<(), Fault>
+        ensures gives { Settles result O.gave O.broke self.old
+            (λ sink. end_items sink.page sink.line) out.old out.new }
         ensures over { self.new ≡ None }
         ensures same { O.loans out.new ≡ O.loans out.old }
     {
@@ -93,7 +115,7 @@ impl Scopes {
             return Err(Fault::Failed);
         }
         let mut latch = PieceLatch::new(out);
-        self.scopes.give_end(line, &mut latch);
+        self.scopes.give_end(self.line, &mut latch);
         self.is_over = true;
         latch.done()
     }

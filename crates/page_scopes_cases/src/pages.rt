@@ -1,16 +1,19 @@
 //! A page, whose lines come one by one.
 
 ghost use Rattle.std.specs.Prelude.{◌≡◌, ◌≤◌, length};
+ghost use Rattle.page_scopes_leaves.specs.Fits.{GivenFits};
+ghost use Rattle.page_sets_lines.specs.Events.{given_seen};
 
 use crate::shown::Shown;
-use page_core_base::{Form, Output, Taken};
+use crate::spelled::{deed_of, read_part};
+use page_core_base::{Form, Output, Place, Taken};
 use page_core_limits::LINE;
-use page_roff_forms::{LineForm, form_of};
+use page_roff_forms::{Argument, LineForm, form_of};
 use page_scopes::OpenScopes;
 use page_scopes_nodes::PageLayout;
 use page_sets::Man;
 use page_sets_checks::Verbatim;
-use page_sets_lines::MacroSet;
+use page_sets_lines::{Event, MacroSet};
 use std::alloc::{AllocError, Global};
 
 /// The scopes of a page, and the number of its next line.
@@ -72,6 +75,34 @@ where
     }
 }
 
+// Gives what an event in a column of a line settles.
+fn give_spelled_event(
+    scopes: &mut OpenScopes,
+    out: &mut Shown,
+    place: Place,
+    name: &str,
+    text: Option<Argument<&[u8]>>,
+)
+    requires { GivenFits (given_seen text) }
+{
+    let event = Event {
+        place,
+        deed: deed_of(name, place.column, text),
+    };
+    scopes.give_event(&event, out);
+}
+
+// Gives what the events of a line settle, which are spelled, and the line's end.
+fn give_spelled(text: &str, line: u32, scopes: &mut OpenScopes, out: &mut Shown) {
+    let mut column = 2u32;
+    for part in text.split(' ') {
+        let (name, text) = read_part(part, column);
+        give_spelled_event(scopes, out, Place { line, column }, name, text);
+        column = column.saturating_add(1).saturating_add(part.len() as u32);
+    }
+    give_spelled_event(scopes, out, Place { line, column: 1 }, "", None);
+}
+
 impl Page {
     /// A page before its first line, at an indent of 7 columns.
     pub(crate) fn new(alloc: Global) -> Result<Page, AllocError> {
@@ -113,6 +144,8 @@ impl Page {
         }
         if text == "end" {
             self.scopes.give_end(self.line, out);
+        } else if let Some(spelled) = text.strip_prefix('&') {
+            give_spelled(spelled, self.line, &mut self.scopes, out);
         } else {
             self.take_line(out, text.as_bytes());
         }

@@ -1,4 +1,4 @@
--- The context in which a scope begins. Source: man(7), "MACRO OVERVIEW".
+-- The context in which a scope begins. Source: man(7), "MACRO OVERVIEW"; mdoc(7), "MACRO REFERENCE".
 use Rattle.std.specs.Prelude.{ℕ, false, Option, None, Some, unwrap_or, ℤ, pos, ◌+ℤ◌}
 use Rattle.page_core_base.specs.declared.cells.Font.{Font}
 use Rattle.page_core_base.specs.declared.cells.Font.TheVariants.{R, B}
@@ -26,7 +26,7 @@ reset c = record c { fonts = set_to roman_fonts; shift = set_to (pos 0) }
 abbrev pub flat : Context → Context
 flat c = record c { hang = pos 0; first = None }
 
--- a section (`SH`, `SS`) stands at the page's indent, filled
+-- a section (`SH`, `SS`, `Sh`, `Ss`) stands at the page's indent, filled
 abbrev pub section_begun : ℕ → Context → Context
 section_begun page_indent c = record (flat (reset c)) {
   margin = page_indent;
@@ -35,7 +35,7 @@ section_begun page_indent c = record (flat (reset c)) {
   is_literal = set_to false;
 }
 
--- a heading (of `SH`, `SS`) stands at its column, bold
+-- a heading (of `SH`, `SS`, `Sh`, `Ss`) stands at its column, bold
 abbrev pub heading_begun : ℕ → Context → Context
 heading_begun column c = record c {
   part = parts.Heading column;
@@ -80,3 +80,7 @@ text_margin c = hold (pos c.margin +ℤ c.hang)
 -- the words of a synopsis (`SY`) stand after the command's name, which is its tag
 abbrev pub syntax_begun : (at hang : ℕ) → Context → Context
 syntax_begun at hang c = record (flat c) { margin = hold (pos at +ℤ pos hang) }
+
+-- a row that stands alone (`D1`, `Dl`) stands 6 columns further in than the text
+abbrev pub one_line_begun : Context → Context
+one_line_begun c = record (flat c) { margin = hold (pos c.margin +ℤ (c.hang +ℤ pos 6)) }

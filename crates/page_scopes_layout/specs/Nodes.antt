@@ -1,4 +1,4 @@
--- What a scope gives where it begins and where it ends, but its words. Source: man(7), "MACRO OVERVIEW".
+-- What a scope gives where it begins and where it ends, but its words. Source: man(7), "MACRO OVERVIEW"; mdoc(7), "MACRO REFERENCE".
 use Rattle.std.specs.Prelude.{List, [], ◌∷◌, false}
 use Rattle.page_core_base.specs.Pieces.{Item, shown}
 use Rattle.page_core_base.specs.declared.pieces.Piece.TheVariants as pieces
@@ -6,7 +6,7 @@ use Rattle.page_core_base.specs.declared.pieces.TagForm.TheVariants.{Row}
 use Rattle.page_sets_lines.specs.declared.openers.LineOpener.{LineOpener}
 use Rattle.page_sets_lines.specs.declared.openers.LineOpener.TheVariants as lines
 use Rattle.page_scopes_tree.specs.declared.labels.Explicit.{Explicit}
-use Rattle.page_scopes_tree.specs.declared.labels.Explicit.TheVariants.{RelativeMargin, Target, Syntax}
+use Rattle.page_scopes_tree.specs.declared.labels.Explicit.TheVariants.{RelativeMargin, Target, Syntax, Block}
 use Rattle.page_scopes_tree.specs.declared.labels.Label.{Label}
 use Rattle.page_scopes_tree.specs.declared.labels.Label.TheVariants as labels
 use Rattle.page_scopes_layout.specs.Margins.{hold, margins}
@@ -21,11 +21,15 @@ line_begin_items (lines.Heading name) c = margin_items c
 line_begin_items (lines.Tag name) c =
     shown (pieces.Indent (margins c).first (margins c).rest) ∷ shown (pieces.Tag (hold c.hang) Row) ∷ []
 line_begin_items (lines.FontWords name) c = []
+line_begin_items (lines.Enclosure marks) c = []
+line_begin_items lines.Description c = []
+line_begin_items (lines.OneLine name) c = shown pieces.Break ∷ margin_items c
 
 abbrev pub explicit_begin_items : Explicit → Context → List Item
 explicit_begin_items RelativeMargin c = shown pieces.Break ∷ margin_items c
 explicit_begin_items (Target link) c = []
 explicit_begin_items Syntax c = shown pieces.Break ∷ []
+explicit_begin_items (Block block) c = []
 
 -- in the context of a scope's front: a section is a paragraph, and filled; a relative margin and a synopsis break the row
 abbrev pub begin_items : Label → Context → List Item
@@ -39,11 +43,15 @@ abbrev pub line_end_items : LineOpener → Context → List Item
 line_end_items (lines.Heading name) c = shown pieces.Heading ∷ margin_items c
 line_end_items (lines.Tag name) c = shown pieces.TagEnd ∷ margin_items c
 line_end_items (lines.FontWords name) c = []
+line_end_items (lines.Enclosure marks) c = margin_items c
+line_end_items lines.Description c = margin_items c
+line_end_items (lines.OneLine name) c = shown pieces.Break ∷ margin_items c
 
 abbrev pub explicit_end_items : Explicit → Context → List Item
 explicit_end_items RelativeMargin c = shown pieces.Break ∷ margin_items c
 explicit_end_items (Target link) c = margin_items c
 explicit_end_items Syntax c = shown pieces.Break ∷ margin_items c
+explicit_end_items (Block block) c = margin_items c
 
 -- in the context after a scope: its margins hold again
 abbrev pub end_items : Label → Context → List Item

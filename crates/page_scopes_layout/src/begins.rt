@@ -1,4 +1,4 @@
-//! The context in which a scope begins (man(7)).
+//! The context in which a scope begins (man(7), mdoc(7)).
 
 ghost use Rattle.std.specs.Prelude.{◌≡◌};
 ghost use Rattle.page_scopes_layout.specs.Begins as begins;
@@ -6,6 +6,9 @@ ghost use Rattle.page_scopes_layout.specs.Begins as begins;
 use crate::{Context, PREVAILING, PagePart, Setting, hold};
 use page_core_base::Font;
 use page_scopes_words::{Fonts, ROMAN};
+
+// The columns that a row which stands alone (`D1`, `Dl`) stands further in.
+const ONE_LINE: i64 = 6;
 
 impl Context {
     /// The context at the front of a scope: nothing is set in it yet.
@@ -34,9 +37,9 @@ impl Context {
         }
     }
 
-    // No paragraph stands further in.
+    /// No paragraph stands further in.
     #[inline(always)]
-    fn flat(self) -> Context
+    pub fn flat(self) -> Context
         ensures { result ≡ begins.flat self }
     {
         Context {
@@ -46,7 +49,7 @@ impl Context {
         }
     }
 
-    /// A section (`SH`) or subsection (`SS`) begins, at the page's indent in columns.
+    /// A section (`SH`, `Sh`) or subsection (`SS`, `Ss`) begins, at the page's indent in columns.
     #[inline(always)]
     pub fn section_begun(self, page_indent: u32) -> Context
         ensures { result ≡ begins.section_begun page_indent self }
@@ -60,7 +63,7 @@ impl Context {
         }
     }
 
-    /// A heading (of `SH`, `SS`) begins, at a column.
+    /// A heading (of `SH`, `SS`, `Sh`, `Ss`) begins, at a column.
     #[inline(always)]
     pub fn heading_begun(self, column: u32) -> Context
         ensures { result ≡ begins.heading_begun column self }
@@ -179,6 +182,18 @@ impl Context {
         ensures { result ≡ begins.text_margin self.now }
     {
         hold(i64::from(self.margin) + i64::from(self.hang))
+    }
+
+    /// A row that stands alone (`D1`, `Dl`) begins, 6 columns further in.
+    #[inline(always)]
+    pub fn one_line_begun(self) -> Context
+        ensures { result ≡ begins.one_line_begun self }
+    {
+        let further = i64::from(self.hang) + ONE_LINE;
+        Context {
+            margin: hold(i64::from(self.margin) + further),
+            ..self.flat()
+        }
     }
 
     /// A synopsis (`SY`) begins whose command's name stands at a margin, with a hang, in columns.

@@ -1,4 +1,4 @@
-//! What a scope gives where it begins and where it ends, but its words (man(7)).
+//! What a scope gives where it begins and where it ends, but its words (man(7), mdoc(7)).
 
 ghost use Rattle.std.specs.Prelude.{◌≡◌, [], ◌∷◌};
 ghost use Rattle.page_core_base.specs.Latches.{Came};
@@ -34,12 +34,16 @@ fn give_line_begin<O: PieceOut>(out: &mut O, opener: LineOpener, context: &Conte
                 form: TagForm::Row,
             });
         }
-        LineOpener::FontWords(_) => {}
+        LineOpener::OneLine(_) => {
+            out.give(Piece::Break);
+            give_margins(out, context);
+        }
+        LineOpener::FontWords(_) | LineOpener::Enclosure(_) | LineOpener::Description => {}
     }
 }
 
-/// Gives what a scope begins with, in the context of its front: `SH`, `SS`, paragraphs (`PP`, `LP`, `P`, `TP`, `IP`, `HP`), `RS`, `SY`, `UR`,
-/// `MT`, and line scopes.
+/// Gives what a scope begins with, in the context of its front: `SH`, `SS`, `Sh`, `Ss`, paragraphs (`PP`, `LP`, `P`, `TP`, `IP`, `HP`),
+/// `RS`, `SY`, `UR`, `MT`, blocks of mdoc(7), and line scopes.
 #[inline(always)]
 pub fn give_begin<O: PieceOut>(out: &mut O, label: Label, context: &Context)
     ensures { Came O.left out.old (nodes.begin_items label context.now) out.new }
@@ -58,7 +62,7 @@ pub fn give_begin<O: PieceOut>(out: &mut O, label: Label, context: &Context)
             give_margins(out, context);
         }
         Label::Explicit(Explicit::Syntax) => out.give(Piece::Break),
-        Label::Explicit(Explicit::Target(_)) => {}
+        Label::Explicit(Explicit::Target(_) | Explicit::Block(_)) => {}
         Label::Line(opener) => give_line_begin(out, opener, context),
     }
 }
@@ -76,11 +80,16 @@ fn give_line_end<O: PieceOut>(out: &mut O, opener: LineOpener, context: &Context
             out.give(Piece::TagEnd);
             give_margins(out, context);
         }
+        LineOpener::OneLine(_) => {
+            out.give(Piece::Break);
+            give_margins(out, context);
+        }
+        LineOpener::Enclosure(_) | LineOpener::Description => give_margins(out, context),
         LineOpener::FontWords(_) => {}
     }
 }
 
-/// Gives what ends a scope, and the margins of the context after it; `RE` and `YS` end the row first.
+/// Gives what ends a scope, and the margins of the context after it; `RE`, `YS` and the end of `D1` or `Dl` end the row first.
 pub fn give_end<O: PieceOut>(out: &mut O, label: Label, context: &Context)
     ensures { Came O.left out.old (nodes.end_items label context.now) out.new }
 {
@@ -88,7 +97,7 @@ pub fn give_end<O: PieceOut>(out: &mut O, label: Label, context: &Context)
         Label::Section
         | Label::Subsection
         | Label::Paragraph
-        | Label::Explicit(Explicit::Target(_)) => give_margins(out, context),
+        | Label::Explicit(Explicit::Target(_) | Explicit::Block(_)) => give_margins(out, context),
         Label::Explicit(Explicit::RelativeMargin | Explicit::Syntax) => {
             out.give(Piece::Break);
             give_margins(out, context);

@@ -3,7 +3,9 @@
 use page_core_base::{Font, Note, Piece, PieceOut, Place};
 use page_scopes_layout::{Context, Setting, give_begin, give_end, margins_of};
 use page_scopes_tree::{Explicit, Label};
-use page_sets_lines::{FontMacro, HeadingName, LineOpener, Link, TagName};
+use page_sets_lines::{
+    Block, FontMacro, HeadingName, LineOpener, Link, Marks, OneLineName, TagName,
+};
 use std::alloc::Global;
 use std::process::Abort;
 use std::test::Fail;
@@ -140,7 +142,7 @@ fn check_given(rt: &impl Abort, alloc: Global, label: Label, wanted: &str) {
 }
 
 // What a scope begins with, and what it ends with.
-const GIVEN: [(Label, &str); 9] = [
+const GIVEN: [(Label, &str); 13] = [
     (Label::Section, "PL I07"),
     (Label::Subsection, "PL I07"),
     (Label::Paragraph, "PI07 I07"),
@@ -153,6 +155,13 @@ const GIVEN: [(Label, &str); 9] = [
     ),
     (Label::Line(LineOpener::Tag(TagName::TP)), "I07T tI07"),
     (Label::Line(LineOpener::FontWords(FontMacro::B)), " "),
+    (Label::Explicit(Explicit::Block(Block::Extension)), " I07"),
+    (Label::Line(LineOpener::Enclosure(Marks::Angle)), " I07"),
+    (Label::Line(LineOpener::Description), " I07"),
+    (
+        Label::Line(LineOpener::OneLine(OneLineName::D1)),
+        "BI07 BI07",
+    ),
 ];
 
 #[test]

@@ -1,1 +1,2 @@
 pub mod RawCells
+pub mod KeptLemmas

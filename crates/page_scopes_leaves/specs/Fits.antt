@@ -1,9 +1,17 @@
--- Texts that stand in a line of a page. Source: roff(7), "LANGUAGE SYNTAX".
+-- Texts that stand in a line of a page. Source: roff(7), "LANGUAGE SYNTAX"; mdoc(7).
 use Rattle.std.specs.Prelude.{ℕ, ◌≤◌, ◌<◌, ◌+◌, ◌^◌, List, length, Option, None, Some}
 use Rattle.page_core_limits.specs.declared.TheConstants.{LINE}
 use Rattle.page_roff_forms.specs.declared.quotes.Argument.{Argument}
+use Rattle.page_sets_lines.specs.declared.blocks.BlockCloser.{BlockCloser}
+use Rattle.page_sets_lines.specs.declared.blocks.BlockCloser.TheVariants as block_closers
+use Rattle.page_sets_lines.specs.declared.blocks.BlockOpener.{BlockOpener}
+use Rattle.page_sets_lines.specs.declared.blocks.BlockOpener.TheVariants as block_openers
 use Rattle.page_sets_lines.specs.declared.events.Deed.{Deed}
 use Rattle.page_sets_lines.specs.declared.events.Deed.TheVariants as deeds
+use Rattle.page_sets_lines.specs.declared.leaves.Leaf.{Leaf}
+use Rattle.page_sets_lines.specs.declared.leaves.Leaf.TheVariants as leaves
+use Rattle.page_sets_lines.specs.declared.line_steps.LineStep.{LineStep}
+use Rattle.page_sets_lines.specs.declared.line_steps.LineStep.TheVariants as steps
 use Rattle.page_sets_lines.specs.declared.openers.Closer.{Closer}
 use Rattle.page_sets_lines.specs.declared.openers.Closer.TheVariants as closers
 use Rattle.page_sets_lines.specs.declared.openers.Opener.{Opener}
@@ -21,19 +29,38 @@ abbrev pub GivenFits : Option (Argument (List ℕ)) → Type 0
 GivenFits None = Unit {0}
 GivenFits (Some argument) = ArgumentFits argument
 
+abbrev pub BlockOpenerFits : BlockOpener (List ℕ) → Type 0
+BlockOpenerFits (block_openers.Custom mark) = GivenFits mark
+BlockOpenerFits _ = Unit {0}
+
+abbrev pub BlockCloserFits : BlockCloser (List ℕ) → Type 0
+BlockCloserFits (block_closers.Custom mark) = GivenFits mark
+BlockCloserFits _ = Unit {0}
+
 abbrev pub OpenerFits : Opener (List ℕ) → Type 0
 OpenerFits (openers.Indented tag hang) = GivenFits tag
 OpenerFits (openers.Target link target) = ArgumentFits target
 OpenerFits (openers.Syntax name) = ArgumentFits name
+OpenerFits (openers.Block opener) = BlockOpenerFits opener
 OpenerFits _ = Unit {0}
 
 abbrev pub CloserFits : Closer (List ℕ) → Type 0
 CloserFits (closers.Target link suffix) = GivenFits suffix
+CloserFits (closers.Block closer) = BlockCloserFits closer
 CloserFits _ = Unit {0}
+
+abbrev pub StepFits : LineStep (List ℕ) → Type 0
+StepFits (steps.Uri uri) = ArgumentFits uri
+StepFits _ = Unit {0}
+
+abbrev pub LeafFits : Leaf (List ℕ) → Type 0
+LeafFits (leaves.Step step) = StepFits step
+LeafFits _ = Unit {0}
 
 -- the texts that a deed prints stand in a line
 abbrev pub DeedFits : Deed (List ℕ) → Type 0
 DeedFits (deeds.Word word) = ArgumentFits word.arg
 DeedFits (deeds.Open opener) = OpenerFits opener
 DeedFits (deeds.Close closer) = CloserFits closer
+DeedFits (deeds.Leaf leaf) = LeafFits leaf
 DeedFits _ = Unit {0}

@@ -1,4 +1,4 @@
--- What opens and closes nothing: what each leaf gives, and what it leaves. Source: man(7); roff(7).
+-- What opens and closes nothing: what each leaf gives, and what it leaves. Source: man(7), mdoc(7); roff(7).
 use Rattle.std.specs.Prelude.{ℕ, nat_lt, Bool, true, false, ◌||◌, List, [], ◌∷◌, length, Option, None, Some, unwrap_or}
 use Rattle.page_core_base.specs.Pieces.{Item, shown}
 use Rattle.page_core_base.specs.declared.cells.Font.{Font}
@@ -12,6 +12,8 @@ use Rattle.page_scopes_leaves.specs.LineWords.{own_word}
 use Rattle.page_scopes_leaves.specs.Outcomes.{Outcome, nothing, row_margin_items}
 use Rattle.page_scopes_leaves.specs.Requests.{given_rows, given_rows_notes, literal, request}
 use Rattle.page_scopes_leaves.specs.Runnings.{row_ended, with_content}
+use Rattle.page_scopes_leaves.specs.Steps.{step_outcome}
+use Rattle.page_scopes_leaves.specs.declared.kept_texts.KeptText.{KeptText}
 use Rattle.page_scopes_leaves.specs.declared.runnings.Running.{Running}
 use Rattle.page_scopes_words.specs.Words.{says, white_cells}
 use Rattle.page_sets_lines.specs.declared.leaves.Leaf.{Leaf}
@@ -87,15 +89,16 @@ further_tag c r = record {
   running = row_ended r;
 }
 
--- ---- one row for each leaf
+-- ---- one row for each leaf; the name is that of the manual
 
-unfoldable pub leaf_outcome : Place → Leaf (List ℕ) → Context → Running → Outcome
-leaf_outcome place leaves.BlankLine c r = blank_line place c r
-leaf_outcome place (leaves.Wordless text) c r = wordless_line c.is_literal.value place text c r
-leaf_outcome place (leaves.Request row_request) c r = request place row_request c r
-leaf_outcome place (leaves.Prologue name rest) c r = nothing c r
-leaf_outcome place (leaves.Own word) c r = own_word place word c r
-leaf_outcome place (leaves.Example begins) c r = literal begins c r
-leaf_outcome place (leaves.Distance rows) c r = distance place rows c r
-leaf_outcome place (leaves.Fonts font) c r = fonts font c r
-leaf_outcome place leaves.FurtherTag c r = further_tag c r
+unfoldable pub leaf_outcome : Place → Leaf (List ℕ) → Option KeptText → Context → Running → Outcome
+leaf_outcome place leaves.BlankLine name c r = blank_line place c r
+leaf_outcome place (leaves.Wordless text) name c r = wordless_line c.is_literal.value place text c r
+leaf_outcome place (leaves.Request row_request) name c r = request place row_request c r
+leaf_outcome place (leaves.Prologue macro rest) name c r = nothing c r
+leaf_outcome place (leaves.Own word) name c r = own_word place word c r
+leaf_outcome place (leaves.Example begins) name c r = literal begins c r
+leaf_outcome place (leaves.Distance rows) name c r = distance place rows c r
+leaf_outcome place (leaves.Fonts font) name c r = fonts font c r
+leaf_outcome place leaves.FurtherTag name c r = further_tag c r
+leaf_outcome place (leaves.Step step) name c r = step_outcome place step name c r

@@ -3,9 +3,12 @@ pub mod Fits
 pub mod Outcomes
 pub mod Phrases
 pub mod LineWords
+pub mod KeptTexts
+pub mod ManualNames
 pub mod Tags
 pub mod Requests
 pub mod RawLines
+pub mod Steps
 pub mod Leaves
 pub mod LineEnds
 pub mod Deeds

@@ -1,5 +1,5 @@
--- What an event gives, and what it leaves. Source: man(7).
-use Rattle.std.specs.Prelude.{◌≡◌, List, [], ◌∷◌}
+-- What an event gives, and what it leaves. Source: man(7), mdoc(7).
+use Rattle.std.specs.Prelude.{◌≡◌, List, [], ◌∷◌, ◌++◌}
 use Rattle.page_core_base.specs.Latches.{Came}
 use Rattle.page_core_base.specs.Pieces.{Item, shown}
 use Rattle.page_core_base.specs.declared.pieces.Piece.TheVariants.{Break}
@@ -27,3 +27,15 @@ nothing c r = record { items = []; context = c; running = r }
 -- the row ends, and other margins hold
 abbrev pub row_margin_items : Context → List Item
 row_margin_items c = shown Break ∷ margin_items c
+
+-- messages come first
+abbrev pub after_notes : List Item → Outcome → Outcome
+after_notes notes o = record o { items = notes ++ o.items }
+
+-- one after the other
+abbrev pub followed_by : Outcome → (Context → Running → Outcome) → Outcome
+followed_by first next = record {
+  items = first.items ++ (next first.context first.running).items;
+  context = (next first.context first.running).context;
+  running = (next first.context first.running).running;
+}

@@ -4,7 +4,7 @@ use Rattle.page_core_base.specs.Pieces.{Item, shown}
 use Rattle.page_core_base.specs.declared.pieces.Piece.TheVariants as pieces
 use Rattle.page_core_base.specs.declared.places.Place.{Place}
 use Rattle.page_core_escapes.specs.Meanings as meanings
-use Rattle.page_core_escapes.specs.Meanings.{Face, face_of}
+use Rattle.page_core_escapes.specs.Meanings.{Face, face_of, is_known}
 use Rattle.page_core_numbers.specs.Numbers.{in_range}
 use Rattle.page_scopes_layout.specs.Settings.{set_to}
 use Rattle.page_scopes_layout.specs.declared.contexts.Context.{Context}
@@ -13,7 +13,6 @@ use Rattle.page_scopes_leaves.specs.Outcomes.{Outcome, row_margin_items}
 use Rattle.page_scopes_leaves.specs.Runnings.{row_ended, with_content}
 use Rattle.page_scopes_leaves.specs.declared.runnings.Running.{Running}
 use Rattle.page_scopes_text.specs.Numbers.{columns_notes, columns_value, rows_notes, rows_value}
-use Rattle.page_scopes_text.specs.Words.{is_known}
 use Rattle.page_scopes_words.specs.Fonts.{face_fonts}
 use Rattle.page_scopes_words.specs.Words.{face_notes}
 use Rattle.page_scopes_words.specs.declared.fonts.Fonts.{Fonts}

@@ -1,14 +1,16 @@
-//! What opens and closes nothing (man(7); roff(7)).
+//! What opens and closes nothing (man(7), mdoc(7); roff(7)).
 
 ghost use Rattle.std.specs.Prelude.{◌≡◌};
 ghost use Rattle.page_core_base.specs.Latches.{Came};
+ghost use Rattle.page_scopes_leaves.specs.Fits.{LeafFits};
 ghost use Rattle.page_scopes_leaves.specs.Leaves as leaves;
 ghost use Rattle.page_scopes_leaves.specs.Outcomes.{GivesOutcome};
 ghost use Rattle.page_sets_lines.specs.Events.{leaf_seen, text_seen};
 
 use crate::margins::give_row_margins;
 use crate::requests::{give_given_rows, give_literal, give_request};
-use crate::{Running, give_own_word};
+use crate::steps::give_step;
+use crate::{KeptText, Running, give_own_word};
 use page_core_base::{Font, NoteKind, Piece, PieceOut, Place};
 use page_scopes_layout::{Context, Setting};
 use page_scopes_words::{give_white_cells, report};
@@ -90,18 +92,20 @@ fn give_further_tag<O: PieceOut>(out: &mut O, context: &mut Context, running: &m
     running.end_row();
 }
 
-/// Gives what a leaf gives, in the context of a page's body.
+/// Gives what a leaf gives, in the context of a page's body; the name is that of the manual.
 #[tactic(auto, unfolding(crate::specs::Leaves::leaf_outcome))]
 #[inline(never)]
 pub fn give_leaf<O: PieceOut>(
     out: &mut O,
     place: Place,
     leaf: &Leaf<&[u8]>,
+    name: &Option<KeptText>,
     context: &mut Context,
     running: &mut Running,
 )
+    requires { LeafFits (leaf_seen leaf.now) }
     ensures { GivesOutcome O.left out.old
-        (leaves.leaf_outcome place (leaf_seen leaf.now) context.old running.old)
+        (leaves.leaf_outcome place (leaf_seen leaf.now) name.now context.old running.old)
         out.new context.new running.new }
 {
     match *leaf {
@@ -114,5 +118,6 @@ pub fn give_leaf<O: PieceOut>(
         Leaf::Distance(rows) => give_distance(out, place, rows, context),
         Leaf::Fonts(font) => set_fonts(font, context, running),
         Leaf::FurtherTag => give_further_tag(out, context, running),
+        Leaf::Step(step) => give_step(out, place, &step, name, context, running),
     }
 }

@@ -1,7 +1,8 @@
-//! Words of a line, and words that a macro prints itself (man(7); roff(7), "Macro syntax").
+//! Words of a line, and words that a macro prints itself (man(7), mdoc(7); roff(7), "Macro syntax").
 
 ghost use Rattle.std.specs.Prelude.{◌≡◌};
 ghost use Rattle.page_core_base.specs.Latches.{Came};
+ghost use Rattle.page_roff_forms.specs.Arguments.{argument_seen};
 ghost use Rattle.page_scopes_leaves.specs.Fits.{FitsAt};
 ghost use Rattle.page_scopes_leaves.specs.LineWords as lines;
 ghost use Rattle.page_scopes_leaves.specs.Outcomes.{GivesOutcome};
@@ -9,12 +10,12 @@ ghost use Rattle.page_scopes_leaves.specs.Phrases.{phrase_seen};
 ghost use Rattle.page_sets_lines.specs.Events.{word_seen};
 
 use crate::{Phrase, Running, give_phrase};
-use page_core_base::{NoteKind, PieceOut, Place};
+use page_core_base::{Font, NoteKind, PieceOut, Place};
 use page_core_limits::LINE;
-use page_roff_forms::Quoting;
+use page_roff_forms::{Argument, Quoting};
 use page_scopes_layout::Context;
 use page_scopes_words::{ends_sentence, report};
-use page_sets_lines::{OwnWord, Role, Word};
+use page_sets_lines::{Join, OwnWord, Role, Word};
 
 // Reports a quote without its end.
 fn report_quote<O: PieceOut>(out: &mut O, line: u32, quoting: Quoting, column: u32)
@@ -35,7 +36,24 @@ fn is_line(role: Role) -> bool
 {
     match role {
         Role::Line => true,
-        Role::Argument => false,
+        Role::Argument | Role::Delimiter | Role::Name { .. } => false,
+    }
+}
+
+/// An argument as a word, in a font of its own if it has one.
+pub fn argument_word<'a>(
+    font: Option<Font>,
+    before: Join,
+    argument: Argument<&'a [u8]>,
+) -> Word<&'a [u8]>
+    ensures { word_seen result ≡ lines.argument_word font before (argument_seen argument.entry) }
+{
+    Word {
+        arg: argument,
+        role: Role::Argument,
+        font,
+        before,
+        after: Join::Apart,
     }
 }
 
@@ -106,4 +124,5 @@ pub fn give_own_word<O: PieceOut>(
         out.new context.new running.new }
 {
     give_phrase(out, place.line, &own_phrase(place, word), context, running);
+    running.line.is_sentence = running.line.is_sentence && !word.own.is_word();
 }

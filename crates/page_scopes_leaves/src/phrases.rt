@@ -45,8 +45,8 @@ impl<W: Copy> Clone for Phrase<W> {
     }
 }
 
-// The fonts at a phrase's front.
-fn own_fonts(font: Option<Font>, fonts: Setting<Fonts>) -> Setting<Fonts>
+/// The fonts at a phrase's front.
+pub(crate) fn own_fonts(font: Option<Font>, fonts: Setting<Fonts>) -> Setting<Fonts>
     ensures { result ≡ phrases.own_fonts font fonts }
 {
     match font {
@@ -61,8 +61,8 @@ fn own_fonts(font: Option<Font>, fonts: Setting<Fonts>) -> Setting<Fonts>
     }
 }
 
-// The count of blanks where a phrase is joined; blanks at a text's end may part it all the same.
-fn joined_gap(join: Join, parts: bool, gap: u32) -> u32
+/// The count of blanks where a phrase is joined; blanks at a text's end may part it all the same.
+pub(crate) fn joined_gap(join: Join, parts: bool, gap: u32) -> u32
     ensures { result ≡ phrases.joined_gap join parts gap }
 {
     match join {
@@ -71,8 +71,8 @@ fn joined_gap(join: Join, parts: bool, gap: u32) -> u32
     }
 }
 
-// Whether blanks at a text's end part it from a phrase that is glued.
-fn blanks_part(ends_blank: bool, context: &Context) -> bool
+/// Whether blanks at a text's end part it from a phrase that is glued.
+pub(crate) fn blanks_part(ends_blank: bool, context: &Context) -> bool
     ensures { result ≡ phrases.blanks_part ends_blank context.now }
 {
     ends_blank && !context.is_literal.value
@@ -158,8 +158,8 @@ fn end_gap(pen: &Pen) -> u32
     }
 }
 
-// Whether a part of a page is its text.
-fn is_text(part: PagePart) -> bool
+/// Whether a part of a page is its text.
+pub(crate) fn is_text(part: PagePart) -> bool
     ensures { result ≡ phrases.is_text part }
 {
     matches!(part, PagePart::Text)

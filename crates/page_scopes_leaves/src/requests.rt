@@ -7,7 +7,6 @@ ghost use Rattle.page_scopes_leaves.specs.Outcomes.{GivesOutcome};
 ghost use Rattle.page_scopes_leaves.specs.Requests as requests;
 ghost use Rattle.page_scopes_leaves.specs.Runnings.{row_ended, with_content};
 ghost use Rattle.page_scopes_text.specs.Numbers.{columns_notes};
-ghost use Rattle.page_scopes_text.specs.Words.{is_known};
 ghost use Rattle.page_sets_lines.specs.Events.{request_seen, text_seen};
 
 use crate::Running;
@@ -107,20 +106,13 @@ fn give_shift<O: PieceOut>(
     running.end_row();
 }
 
-// Whether there is a font of a name.
-fn is_known(name: FontName<'_>) -> bool
-    ensures { result ≡ is_known (face_seen name.entry) }
-{
-    !matches!(name, FontName::Unknown(_))
-}
-
 // The fonts after one is asked for by its name.
 fn fonts_named(name: FontName<'_>, fonts: Setting<Fonts>) -> Setting<Fonts>
     ensures { result ≡ requests.fonts_named (face_seen name.entry) fonts }
 {
     Setting {
         value: fonts.value.named(name),
-        is_set: fonts.is_set || is_known(name),
+        is_set: fonts.is_set || name.is_known(),
     }
 }
 

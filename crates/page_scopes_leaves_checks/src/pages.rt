@@ -5,7 +5,7 @@ use page_roff_forms::{LineForm, form_of};
 use page_scopes_layout::Context;
 use page_scopes_leaves::{Running, give_deed};
 use page_scopes_shown::Shown;
-use page_sets::{Deed, Event, Man};
+use page_sets::{Deed, Event, Leaf, Man};
 use page_sets_checks::events_of;
 use std::alloc::Global;
 use std::process::Abort;
@@ -31,6 +31,7 @@ impl Page {
 
     /// Gives what an event gives.
     pub fn give_event(&mut self, out: &mut Shown, event: &Event<&[u8]>) {
+        let mut name = None;
         match event.deed {
             Deed::Word(word) => {
                 if word.arg.text.len() <= MOST && word.arg.column <= MOST as u32 {
@@ -38,16 +39,18 @@ impl Page {
                         out,
                         event.place,
                         &Deed::Word(word),
+                        &mut name,
                         &mut self.context,
                         &mut self.running,
                     );
                 }
             }
-            Deed::Open(_) | Deed::Close(_) => {}
+            Deed::Open(_) | Deed::Close(_) | Deed::Leaf(Leaf::Step(_)) => {}
             _ => give_deed(
                 out,
                 event.place,
                 &event.deed,
+                &mut name,
                 &mut self.context,
                 &mut self.running,
             ),

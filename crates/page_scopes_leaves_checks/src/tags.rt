@@ -108,7 +108,7 @@ fn marks(rt: HostRuntime) -> Result<(), Fail> {
     give_line_word(&mut out, 1, &argument("a.", None), context, running);
     give_own_word(&mut out, place, mark, context, running);
     end_line(&mut out, context, running);
-    give_leaf(&mut out, place, &Leaf::Own(mark), context, running);
+    give_leaf(&mut out, place, &Leaf::Own(mark), &None, context, running);
     give_raw_line(&mut out, place, b"b", context, running);
     out.add_number(running.gap);
     assert_eq!(rt; out.text(), b"1[a.][]][]]/L[b]=F1".as_slice());

@@ -4,11 +4,9 @@ use Rattle.page_core_base.specs.declared.page_settings.Output.{Output}
 use Rattle.page_core_base.specs.declared.places.Place.{Place}
 use Rattle.page_core_escapes.specs.Tokens.{token_at, token_len, tokens_of}
 use Rattle.page_core_escapes.proofs.TokenLemmas.{tokens_more, tokens_none}
-use Rattle.page_scopes_layout.specs.declared.settings.Setting.{Setting}
-use Rattle.page_scopes_text.specs.Words.{fonts_after, token_notes}
-use Rattle.page_scopes_words.specs.declared.fonts.Fonts.{Fonts}
+use Rattle.page_scopes_text.specs.Words.{token_notes}
 use Rattle.page_scopes_nodes.specs.Names.{name_columns, token_columns, tokens_columns}
-use Rattle.page_scopes_nodes.specs.Targets.{fonts_through, notes_of, part_items, parts_items}
+use Rattle.page_scopes_nodes.specs.Targets.{notes_of}
 
 pub columns_more : (output : Output) (quoted : Bool) (text : List ℕ) (n : ℕ) → 0 < n → n ≡ token_len quoted text
     → name_columns output quoted text ≡ token_columns output (token_at quoted text) + name_columns output quoted (drop n text)
@@ -23,19 +21,3 @@ notes_more quoted place text n k e = ap (notes_of place) (tokens_more quoted tex
 
 pub notes_none : (quoted : Bool) (place : Place) (text : List ℕ) → length text ≤ 0 → notes_of place (tokens_of quoted text) ≡ []
 notes_none quoted place text h = ap (notes_of place) (tokens_none quoted text h)
-
-pub parts_more : (literal quoted : Bool) (place : Place) (fonts : Setting Fonts) (text : List ℕ) (n : ℕ) → 0 < n → n ≡ token_len quoted text
-    → parts_items literal place fonts (tokens_of quoted text)
-    ≡ part_items literal place fonts.value.font (token_at quoted text) ++ parts_items literal place (fonts_after (token_at quoted text) fonts) (tokens_of quoted (drop n text))
-parts_more literal quoted place fonts text n k e = ap (parts_items literal place fonts) (tokens_more quoted text n k e)
-
-pub parts_none : (literal quoted : Bool) (place : Place) (fonts : Setting Fonts) (text : List ℕ) → length text ≤ 0
-    → parts_items literal place fonts (tokens_of quoted text) ≡ []
-parts_none literal quoted place fonts text h = ap (parts_items literal place fonts) (tokens_none quoted text h)
-
-pub fonts_more : (quoted : Bool) (fonts : Setting Fonts) (text : List ℕ) (n : ℕ) → 0 < n → n ≡ token_len quoted text
-    → fonts_through fonts (tokens_of quoted text) ≡ fonts_through (fonts_after (token_at quoted text) fonts) (tokens_of quoted (drop n text))
-fonts_more quoted fonts text n k e = ap (fonts_through fonts) (tokens_more quoted text n k e)
-
-pub fonts_none : (quoted : Bool) (fonts : Setting Fonts) (text : List ℕ) → length text ≤ 0 → fonts_through fonts (tokens_of quoted text) ≡ fonts
-fonts_none quoted fonts text h = ap (fonts_through fonts) (tokens_none quoted text h)

@@ -1,11 +1,16 @@
--- What a scope begins with, of any event that opens one, and what it keeps. Source: man(7), "MACRO OVERVIEW".
+-- What a scope begins with, of any event that opens one, and what it keeps. Source: man(7), "MACRO OVERVIEW"; mdoc(7), "MACRO REFERENCE".
 use Rattle.std.specs.Prelude.{ℕ, List, Option, None, Some}
 use Rattle.page_core_base.specs.declared.cells.Font.{Font}
 use Rattle.page_core_base.specs.declared.cells.Font.TheVariants as faces
-use Rattle.page_scopes_layout.specs.Begins.{entered_context, font_begun, heading_begun, tag_begun}
+use Rattle.page_core_base.specs.declared.places.Place.{Place}
+use Rattle.page_scopes_layout.specs.Begins.{entered_context, font_begun, heading_begun, one_line_begun, tag_begun}
 use Rattle.page_scopes_layout.specs.Nodes.{line_begin_items}
 use Rattle.page_scopes_layout.specs.declared.contexts.Context.{Context}
-use Rattle.page_scopes_leaves.specs.Outcomes.{Outcome, nothing}
+use Rattle.page_scopes_blocks.specs.BlockWords.{line_words}
+use Rattle.page_scopes_leaves.specs.KeptTexts.{kept_of}
+use Rattle.page_scopes_leaves.specs.Outcomes.{Outcome, followed_by, nothing}
+use Rattle.page_scopes_leaves.specs.Runnings.{row_ended}
+use Rattle.page_scopes_leaves.specs.declared.kept_texts.KeptText.{KeptText}
 use Rattle.page_scopes_leaves.specs.declared.runnings.Running.{Running}
 use Rattle.page_sets_lines.specs.declared.events.Deed.{Deed}
 use Rattle.page_sets_lines.specs.declared.events.Deed.TheVariants as deeds
@@ -19,15 +24,16 @@ use Rattle.page_sets_lines.specs.declared.openers.LineOpener.TheVariants as line
 use Rattle.page_sets_lines.specs.declared.openers.Opener.{Opener}
 use Rattle.page_sets_lines.specs.declared.openers.Opener.TheVariants as openers
 use Rattle.page_scopes_nodes.specs.Openers.{opened}
-use Rattle.page_scopes_nodes.specs.Targets.{target_of}
 use Rattle.page_scopes_nodes.specs.declared.page_layouts.PageLayout.{PageLayout}
-use Rattle.page_scopes_nodes.specs.declared.targets.Target.{Target}
 
--- ---- scopes that end with a line: headings at the left edge (`SH`) or 3 columns in (`SS`), tags (`TP`, `TQ`), fonts (`B`, `I`, `SM`, `SB`)
+-- ---- scopes that end with a line: headings at the left edge (`SH`, `Sh`) or 3 columns in (`SS`, `Ss`), tags (`TP`, `TQ`), fonts (`B`, `I`, `SM`,
+-- `SB`), rows that stand alone (`D1`, `Dl`), enclosures and descriptions (`Nd`)
 
 abbrev pub heading_column : HeadingName → ℕ
 heading_column headings.SH = 0
 heading_column headings.SS = 3
+heading_column headings.Sh = 0
+heading_column headings.Ss = 3
 
 abbrev pub font_of : FontMacro → Font
 font_of fonts.B = faces.B
@@ -39,24 +45,34 @@ abbrev pub line_context : LineOpener → Context → Context
 line_context (lines.Heading name) c = heading_begun (heading_column name) c
 line_context (lines.Tag name) c = tag_begun c
 line_context (lines.FontWords font_macro) c = font_begun (font_of font_macro) c
+line_context (lines.Enclosure marks) c = c
+line_context lines.Description c = c
+line_context (lines.OneLine name) c = one_line_begun c
 
 abbrev pub line_running : LineOpener → Running → Running
 line_running (lines.Heading name) r = record r { gap = 1 }
 line_running (lines.Tag name) r = r
 line_running (lines.FontWords font_macro) r = r
+line_running (lines.Enclosure marks) r = r
+line_running lines.Description r = r
+line_running (lines.OneLine name) r = row_ended r
 
-abbrev pub line_opened : LineOpener → Context → Running → Outcome
-line_opened opener c r = record {
+abbrev pub line_front : LineOpener → Context → Running → Outcome
+line_front opener c r = record {
   items = line_begin_items opener (line_context opener (entered_context c));
   context = line_context opener (entered_context c);
   running = line_running opener r;
 }
 
+-- then what it prints itself
+abbrev pub line_opened : Place → LineOpener → Context → Running → Outcome
+line_opened place opener c r = followed_by (line_front opener c r) (line_words place opener)
+
 -- ---- an event that opens a scope
 
 abbrev pub deed_begun : PageLayout → Event (List ℕ) → Deed (List ℕ) → Context → Running → Outcome
 deed_begun page event (deeds.Open opener) c r = opened page event.place opener c r
-deed_begun page event (deeds.LineScope opener) c r = line_opened opener c r
+deed_begun page event (deeds.LineScope opener) c r = line_opened event.place opener c r
 deed_begun page event _ c r = nothing c r
 
 unfoldable pub begun_by : PageLayout → Event (List ℕ) → Context → Running → Outcome
@@ -64,10 +80,10 @@ begun_by page event c r = deed_begun page event event.deed c r
 
 -- ---- what a link keeps
 
-abbrev pub opener_target : Opener (List ℕ) → Option Target
-opener_target (openers.Target link target) = Some (target_of target)
+abbrev pub opener_target : Opener (List ℕ) → Option KeptText
+opener_target (openers.Target link target) = Some (kept_of target)
 opener_target _ = None
 
-abbrev pub kept_target : Deed (List ℕ) → Option Target
+abbrev pub kept_target : Deed (List ℕ) → Option KeptText
 kept_target (deeds.Open opener) = opener_target opener
 kept_target _ = None

@@ -1,10 +1,11 @@
--- What a scope ends with: the target of a link, its own pieces, and what is known after it. Source: man(7), "MACRO OVERVIEW".
+-- What a scope ends with: the target of a link or the mark of an enclosure, its own pieces, and what is known after it. Source: man(7), "MACRO OVERVIEW"; mdoc(7), "MACRO REFERENCE".
 use Rattle.std.specs.Prelude.{false, Option, None, Some}
 use Rattle.page_core_base.specs.declared.places.Place.{Place}
 use Rattle.page_scopes_layout.specs.Contexts.{restored}
 use Rattle.page_scopes_layout.specs.Nodes.{end_items}
 use Rattle.page_scopes_layout.specs.declared.contexts.Context.{Context}
-use Rattle.page_scopes_leaves.specs.Outcomes.{Outcome, nothing}
+use Rattle.page_scopes_blocks.specs.BlockWords.{last_words}
+use Rattle.page_scopes_leaves.specs.Outcomes.{Outcome, followed_by}
 use Rattle.page_scopes_leaves.specs.Runnings.{row_ended}
 use Rattle.page_scopes_leaves.specs.declared.runnings.Running.{Running}
 use Rattle.page_scopes_tree.specs.declared.labels.Explicit.{Explicit}
@@ -13,25 +14,28 @@ use Rattle.page_scopes_tree.specs.declared.labels.Label.{Label}
 use Rattle.page_scopes_tree.specs.declared.labels.Label.TheVariants as labels
 use Rattle.page_sets_lines.specs.declared.openers.LineOpener.{LineOpener}
 use Rattle.page_sets_lines.specs.declared.openers.LineOpener.TheVariants as lines
-use Rattle.page_scopes_nodes.specs.Openers.{followed_by}
 use Rattle.page_scopes_nodes.specs.Targets.{target_word}
-use Rattle.page_scopes_nodes.specs.declared.targets.Target.{Target}
+use Rattle.page_scopes_leaves.specs.declared.kept_texts.KeptText.{KeptText}
 
 -- the target of a link (`UR` up to `UE`, `MT` up to `ME`) is its last word
-abbrev pub last_word : Place → Option Target → Context → Running → Outcome
-last_word place None c r = nothing c r
-last_word place (Some target) c r = target_word place target c r
+abbrev pub last_word : Place → Label → Option KeptText → Context → Running → Outcome
+last_word place label None c r = last_words place label c r
+last_word place label (Some target) c r = target_word place target c r
 
--- after `RE`, `YS` and a heading the row has ended; after a heading nothing stands yet; the padding of a tag stands in place of a blank
+-- after `RE`, `YS`, a row that stands alone and a heading the row has ended; after a heading nothing stands yet; the padding of a tag stands in place of a blank
 abbrev pub line_running : LineOpener → Running → Running
 line_running (lines.Heading name) r = record (row_ended r) { has_content = false }
 line_running (lines.Tag name) r = record r { gap = 0 }
 line_running (lines.FontWords font_macro) r = r
+line_running (lines.Enclosure marks) r = r
+line_running lines.Description r = r
+line_running (lines.OneLine name) r = row_ended r
 
 abbrev pub explicit_running : Explicit → Running → Running
 explicit_running explicits.RelativeMargin r = row_ended r
 explicit_running (explicits.Target link) r = r
 explicit_running explicits.Syntax r = row_ended r
+explicit_running (explicits.Block block) r = r
 
 abbrev pub label_running : Label → Running → Running
 label_running (labels.Explicit explicit) r = explicit_running explicit r
@@ -46,5 +50,5 @@ left label before c r = record {
   running = label_running label r;
 }
 
-unfoldable pub ended : Label → Context → Option Target → Place → Context → Running → Outcome
-ended label before target place c r = followed_by (last_word place target c r) (left label before)
+unfoldable pub ended : Label → Context → Option KeptText → Place → Context → Running → Outcome
+ended label before target place c r = followed_by (last_word place label target c r) (left label before)

@@ -1,4 +1,4 @@
--- What the scopes that go on after their line begin with, macro by macro. Source: man(7), "MACRO OVERVIEW".
+-- What the scopes that go on after their line begin with, macro by macro. Source: man(7), "MACRO OVERVIEW"; mdoc(7), "MACRO REFERENCE".
 use Rattle.std.specs.Prelude.{ℕ, ◌+◌, List, [], ◌∷◌, ◌++◌, Option, None, Some, option_map, ℤ, pos, if◌then◌else◌}
 use Rattle.page_core_base.specs.Pieces.{Item}
 use Rattle.page_core_base.specs.declared.cells.Font.{Font}
@@ -11,7 +11,9 @@ use Rattle.page_scopes_layout.specs.Begins.{entered_context, hanging_begun, inde
 use Rattle.page_scopes_layout.specs.Margins.{hold}
 use Rattle.page_scopes_layout.specs.Nodes.{begin_items}
 use Rattle.page_scopes_layout.specs.declared.contexts.Context.{Context}
-use Rattle.page_scopes_leaves.specs.Outcomes.{Outcome, nothing}
+use Rattle.page_scopes_blocks.specs.BlockWords.{block_words}
+use Rattle.page_scopes_leaves.specs.LineWords.{argument_word}
+use Rattle.page_scopes_leaves.specs.Outcomes.{Outcome, after_notes, followed_by, nothing}
 use Rattle.page_scopes_leaves.specs.Runnings.{row_ended}
 use Rattle.page_scopes_leaves.specs.Tags.{tag}
 use Rattle.page_scopes_leaves.specs.declared.runnings.Running.{Running}
@@ -22,10 +24,8 @@ use Rattle.page_scopes_tree.specs.declared.labels.Label.{Label}
 use Rattle.page_scopes_tree.specs.declared.labels.Label.TheVariants as labels
 use Rattle.page_scopes_words.specs.Words.{says}
 use Rattle.page_sets_lines.specs.MacroNames.{paragraph_name}
-use Rattle.page_sets_lines.specs.declared.events.Join.{Join}
+use Rattle.page_sets_lines.specs.declared.blocks.BlockOpener.{BlockOpener}
 use Rattle.page_sets_lines.specs.declared.events.Join.TheVariants.{Apart}
-use Rattle.page_sets_lines.specs.declared.events.Role.TheVariants as roles
-use Rattle.page_sets_lines.specs.declared.events.Word.{Word}
 use Rattle.page_sets_lines.specs.declared.macro_names.ParagraphName.{ParagraphName}
 use Rattle.page_sets_lines.specs.declared.openers.Opener.{Opener}
 use Rattle.page_sets_lines.specs.declared.openers.Opener.TheVariants as openers
@@ -45,21 +45,7 @@ given_notes place (Some text) = columns_notes place text
 abbrev pub begun : Label → Context → Running → Outcome
 begun label front r = record { items = begin_items label front; context = front; running = row_ended r }
 
-abbrev pub after_notes : List Item → Outcome → Outcome
-after_notes notes o = record o { items = notes ++ o.items }
-
-abbrev pub followed_by : Outcome → (Context → Running → Outcome) → Outcome
-followed_by first next = record {
-  items = first.items ++ (next first.context first.running).items;
-  context = (next first.context first.running).context;
-  running = (next first.context first.running).running;
-}
-
--- an argument as a word
-abbrev pub argument_word : Option Font → Join → Argument (List ℕ) → Word (List ℕ)
-argument_word font before argument = record { arg = argument; role = roles.Argument; font = font; before = before; after = Apart }
-
--- `SH`, `SS`: at the page's indent
+-- `SH`, `SS`, `Sh`, `Ss`: at the page's indent
 abbrev pub section : PageLayout → Context → Running → Outcome
 section page c r = begun labels.Section (section_begun page.indent (entered_context c)) r
 
@@ -110,6 +96,10 @@ name_place page at name = record { margin = at; hang = hold (pos (name_hang page
 abbrev pub synopsis : PageLayout → ℕ → Argument (List ℕ) → Context → Running → Outcome
 synopsis page line name c r = followed_by (synopsis_begun page name c r) (bold_tag line (name_place page (text_margin c) name) name)
 
+-- a block of mdoc(7), as `Oo`: what it prints itself
+abbrev pub block : Place → BlockOpener (List ℕ) → Context → Running → Outcome
+block place opener c r = block_words place opener (entered_context c) r
+
 -- ---- all of them
 
 unfoldable pub opened : PageLayout → Place → Opener (List ℕ) → Context → Running → Outcome
@@ -122,3 +112,4 @@ opened page place (openers.Hanging hang) c r = hanging place hang c r
 opened page place (openers.RelativeMargin columns) c r = margin place columns c r
 opened page place (openers.Target kind target) c r = link place target c r
 opened page place (openers.Syntax name) c r = synopsis page place.line name c r
+opened page place (openers.Block opener) c r = block place opener c r

@@ -1,38 +1,28 @@
 -- The target of a link: its messages where the link begins, and the target in angles where it ends. Source: man(7), `UR`, `MT`.
-use Rattle.std.specs.Prelude.{ℕ, Bool, true, false, ◌||◌, ◌==◌, nat_lt, List, [], ◌∷◌, ◌++◌, length, codes, if◌then◌else◌}
-use Rattle.page_core_base.specs.Messages.{text_front}
+use Rattle.std.specs.Prelude.{ℕ, true, List, [], ◌∷◌, ◌++◌, codes}
 use Rattle.page_core_base.specs.Pieces.{Item, shown}
 use Rattle.page_core_base.specs.declared.cells.Font.{Font}
-use Rattle.page_core_base.specs.declared.cells.Font.TheVariants.{R}
-use Rattle.page_core_base.specs.declared.note_kinds.NoteKind.TheVariants.{Limit}
-use Rattle.page_core_base.specs.declared.pieces.Piece.TheVariants.{Text, Blank}
+use Rattle.page_core_base.specs.declared.pieces.Piece.TheVariants.{Text}
 use Rattle.page_core_base.specs.declared.places.Place.{Place}
-use Rattle.page_core_escapes.specs.Tokens.{TextToken, white, tokens_of}
-use Rattle.page_core_limits.specs.declared.TheConstants.{FIELD}
+use Rattle.page_core_escapes.specs.Tokens.{TextToken, tokens_of}
 use Rattle.page_roff_forms.specs.Arguments.{is_quoted}
 use Rattle.page_roff_forms.specs.declared.quotes.Argument.{Argument}
 use Rattle.page_scopes_layout.specs.declared.contexts.Context.{Context}
 use Rattle.page_scopes_layout.specs.declared.settings.Setting.{Setting}
+use Rattle.page_scopes_leaves.specs.KeptTexts.{after_kept, cut_notes, fonts_through, gap_items, kept_tokens, parts_items}
 use Rattle.page_scopes_leaves.specs.Outcomes.{Outcome}
 use Rattle.page_scopes_leaves.specs.Phrases.{is_text}
+use Rattle.page_scopes_leaves.specs.declared.kept_texts.KeptText.{KeptText}
 use Rattle.page_scopes_leaves.specs.declared.runnings.Running.{Running}
-use Rattle.page_scopes_text.specs.Words.{blank_cells, fonts_after, token_items, token_notes}
-use Rattle.page_scopes_words.specs.Words.{at, has_tab, says, white_cells}
+use Rattle.page_scopes_text.specs.Words.{token_notes}
+use Rattle.page_scopes_words.specs.Words.{at}
 use Rattle.page_scopes_words.specs.declared.fonts.Fonts.{Fonts}
-use Rattle.page_scopes_nodes.specs.declared.targets.Target.{Target}
 
 -- ---- where the link begins
-
--- the first FIELD bytes are kept, up to a character's end
-abbrev pub target_of : Argument (List ℕ) → Target
-target_of argument = record { text = text_front FIELD argument.text; is_quoted = is_quoted argument.quoting }
 
 abbrev pub notes_of : Place → List TextToken → List Item
 notes_of place [] = []
 notes_of place (token ∷ tokens) = token_notes place token ++ notes_of place tokens
-
-abbrev pub cut_notes : Place → List ℕ → List Item
-cut_notes place text = if nat_lt FIELD (length text) then says Limit place (codes "FIELD") ∷ [] else []
 
 -- its escapes are reported at its column, and that it is cut at the macro
 abbrev pub target_notes : Place → Argument (List ℕ) → List Item
@@ -41,63 +31,19 @@ target_notes place argument =
 
 -- ---- where it ends
 
--- the blanks before it
-abbrev pub kept_gap : Running → Place → List Item
-kept_gap r place = if r.line.is_after_word then blank_cells r.gap R place else []
-
-abbrev pub filled_gap : ℕ → List Item
-filled_gap gap = if gap == 0 then [] else shown (Blank gap false) ∷ []
-
-abbrev pub gap_items : Bool → Running → Place → List Item
-gap_items literal r place = if literal then kept_gap r place else filled_gap r.gap
-
--- its parts are one blank apart, which is reported where it stands for a tab, or as they are written
-abbrev pub white_items : Bool → Place → List ℕ → List Item
-white_items literal place bytes = if literal then white_cells place bytes else shown (Blank 1 (has_tab bytes)) ∷ []
-
-abbrev pub part_items : Bool → Place → Font → TextToken → List Item
-part_items literal place font (white bytes) = white_items literal place bytes
-part_items literal place font token = token_items font place token
-
-abbrev pub parts_items : Bool → Place → Setting Fonts → List TextToken → List Item
-parts_items literal place fonts [] = []
-parts_items literal place fonts (token ∷ tokens) =
-    part_items literal place fonts.value.font token ++ parts_items literal place (fonts_after token fonts) tokens
-
-abbrev pub fonts_through : Setting Fonts → List TextToken → Setting Fonts
-fonts_through fonts [] = fonts
-fonts_through fonts (token ∷ tokens) = fonts_through (fonts_after token fonts) tokens
-
-abbrev pub target_tokens : Target → List TextToken
-target_tokens target = tokens_of target.is_quoted target.text
-
-abbrev pub target_fonts : Target → Context → Setting Fonts
-target_fonts target c = fonts_through c.fonts (target_tokens target)
+abbrev pub target_fonts : KeptText → Context → Setting Fonts
+target_fonts target c = fonts_through c.fonts (kept_tokens target)
 
 abbrev pub mark_items : Font → Place → List ℕ → List Item
 mark_items font place mark = shown (Text mark font place) ∷ []
 
--- it is a word; a mark ends no sentence, and leaves one that has ended
-abbrev pub after_target : Bool → Running → Running
-after_target in_text r = record r {
-  has_content = true;
-  gap = 1;
-  line = record r.line {
-    has_words = true;
-    has_row_words = r.line.has_row_words || in_text;
-    is_after_word = true;
-    is_cut = false;
-    ends_blank = false;
-  };
-}
-
--- the target in angles, without the messages of its escapes, all at the place where the link ends
-unfoldable pub target_word : Place → Target → Context → Running → Outcome
+-- the target in angles, a word, without the messages of its escapes, all at the place where the link ends; a mark ends no sentence, and leaves one that has ended
+unfoldable pub target_word : Place → KeptText → Context → Running → Outcome
 target_word place target c r = record {
   items = gap_items c.is_literal.value r place
       ++ (mark_items c.fonts.value.font place (codes "<")
-      ++ (parts_items c.is_literal.value place c.fonts (target_tokens target)
+      ++ (parts_items c.is_literal.value place c.fonts (kept_tokens target)
       ++ mark_items (target_fonts target c).value.font place (codes ">")));
   context = record c { fonts = target_fonts target c; has_row = true };
-  running = after_target (is_text c.part) r;
+  running = after_kept (is_text c.part) r;
 }

@@ -1,4 +1,4 @@
-//! What a scope begins with, of any event that opens one (man(7)).
+//! What a scope begins with, of any event that opens one (man(7), mdoc(7)).
 
 ghost use Rattle.std.specs.Prelude.{◌≡◌};
 ghost use Rattle.page_scopes_layout.specs.Begins.{entered_context};
@@ -9,19 +9,20 @@ ghost use Rattle.page_sets_lines.specs.Events.{deed_seen, event_seen};
 
 use crate::PageLayout;
 use crate::openers::give_opened;
-use page_core_base::{Font, PieceOut};
+use page_core_base::{Font, PieceOut, Place};
+use page_scopes_blocks::give_line_words;
 use page_scopes_layout::{Context, give_begin};
 use page_scopes_leaves::Running;
 use page_scopes_tree::Label;
 use page_sets_lines::{Deed, Event, FontMacro, HeadingName, LineOpener};
 
-// The column of the heading of `SH` or `SS`.
+// The column of the heading of `SH`, `SS`, `Sh` or `Ss`.
 fn heading_column(name: HeadingName) -> u32
     ensures { result ≡ begins.heading_column name }
 {
     match name {
-        HeadingName::SH => 0,
-        HeadingName::SS => 3,
+        HeadingName::SH | HeadingName::Sh => 0,
+        HeadingName::SS | HeadingName::Ss => 3,
     }
 }
 
@@ -36,8 +37,8 @@ fn font_of(font_macro: FontMacro) -> Font
     }
 }
 
-// A line scope begins in the context of its front: the heading of `SH` and `SS`, the tag of `TP` and `TQ`, the words of `B`, `I`, `SM` and
-// `SB`.
+// A line scope begins in the context of its front: the heading of `SH`, `SS`, `Sh` and `Ss`, the tag of `TP` and `TQ`, the words of `B`, `I`,
+// `SM` and `SB`, the row of `D1` and `Dl`, the words of an enclosure and of `Nd`.
 #[inline(always)]
 fn enter_line(opener: LineOpener, context: &mut Context)
     ensures { context.new ≡ begins.line_context opener (entered_context context.old) }
@@ -50,25 +51,38 @@ fn enter_line(opener: LineOpener, context: &mut Context)
         LineOpener::FontWords(font_macro) => {
             *context = context.entered().font_begun(font_of(font_macro));
         }
+        LineOpener::OneLine(_) => *context = context.entered().one_line_begun(),
+        LineOpener::Enclosure(_) | LineOpener::Description => *context = context.entered(),
+    }
+}
+
+// What is known along the page at the front of a line scope: before the words of a heading one blank stands, and `D1` and `Dl` end the row.
+fn pass_begin(opener: LineOpener, running: &mut Running)
+    ensures { running.new ≡ begins.line_running opener running.old }
+{
+    match opener {
+        LineOpener::Heading(_) => running.gap = 1,
+        LineOpener::OneLine(_) => running.end_row(),
+        _ => {}
     }
 }
 
 // Gives what a line scope begins with.
 fn give_line_opened<O: PieceOut>(
     out: &mut O,
+    place: Place,
     opener: LineOpener,
     context: &mut Context,
     running: &mut Running,
 )
     ensures { GivesOutcome O.left out.old
-        (begins.line_opened opener context.old running.old)
+        (begins.line_opened place opener context.old running.old)
         out.new context.new running.new }
 {
     enter_line(opener, context);
     give_begin(out, Label::Line(opener), context);
-    if let LineOpener::Heading(_) = opener {
-        running.gap = 1;
-    }
+    pass_begin(opener, running);
+    give_line_words(out, place, opener, context, running);
 }
 
 /// Gives what the scope that an event opens begins with.
@@ -87,7 +101,9 @@ pub fn give_begun<O: PieceOut>(
 {
     match &event.deed {
         Deed::Open(opener) => give_opened(out, page, event.place, opener, context, running),
-        Deed::LineScope(opener) => give_line_opened(out, *opener, context, running),
+        Deed::LineScope(opener) => {
+            give_line_opened(out, event.place, *opener, context, running);
+        }
         _ => {}
     }
 }

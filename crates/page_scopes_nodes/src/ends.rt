@@ -1,41 +1,44 @@
-//! What a scope ends with (man(7)).
+//! What a scope ends with (man(7), mdoc(7)).
 
 ghost use Rattle.std.specs.Prelude.{◌≡◌};
 ghost use Rattle.page_scopes_leaves.specs.Outcomes.{GivesOutcome};
 ghost use Rattle.page_scopes_nodes.specs.Ends as ends;
 
-use crate::Target;
 use crate::targets::give_target;
 use page_core_base::{PieceOut, Place};
+use page_scopes_blocks::give_last_words;
 use page_scopes_layout::{Context, give_end};
-use page_scopes_leaves::Running;
+use page_scopes_leaves::{KeptText, Running};
 use page_scopes_tree::{Explicit, Label};
 use page_sets_lines::LineOpener;
 
-// Gives the last word of a scope: the target of `UR` up to `UE`, and of `MT` up to `ME`.
+// Gives the last words of a scope: the target of `UR` up to `UE`, and of `MT` up to `ME`, and the marks of enclosures.
 fn give_last_word<O: PieceOut>(
     out: &mut O,
     place: Place,
-    target: &Option<Target>,
+    label: Label,
+    target: &Option<KeptText>,
     context: &mut Context,
     running: &mut Running,
 )
     ensures { GivesOutcome O.left out.old
-        (ends.last_word place target.now context.old running.old)
+        (ends.last_word place label target.now context.old running.old)
         out.new context.new running.new }
 {
-    if let Some(target) = target {
-        give_target(out, place, target, context, running);
+    match target {
+        Some(target) => give_target(out, place, target, context, running),
+        None => give_last_words(out, place, label, context, running),
     }
 }
 
-// What is known along the page after a scope: `RS` up to `RE` and `SY` up to `YS` end the row, the headings of `SH` and `SS` too; after the tag
-// of `TP` or `TQ` no blank stands.
+// What is known along the page after a scope: `RS` up to `RE`, `SY` up to `YS`, `D1` and `Dl` end the row, the headings of `SH`, `SS`, `Sh` and
+// `Ss` too; after the tag of `TP` or `TQ` no blank stands.
 fn pass_end(label: Label, running: &mut Running)
     ensures { running.new ≡ ends.label_running label running.old }
 {
     match label {
-        Label::Explicit(Explicit::RelativeMargin | Explicit::Syntax) => running.end_row(),
+        Label::Explicit(Explicit::RelativeMargin | Explicit::Syntax)
+        | Label::Line(LineOpener::OneLine(_)) => running.end_row(),
         Label::Line(LineOpener::Heading(_)) => {
             running.end_row();
             running.has_content = false;
@@ -68,7 +71,7 @@ pub fn give_ended<O: PieceOut>(
     out: &mut O,
     label: Label,
     before: &Context,
-    target: &Option<Target>,
+    target: &Option<KeptText>,
     place: Place,
     context: &mut Context,
     running: &mut Running,
@@ -77,6 +80,6 @@ pub fn give_ended<O: PieceOut>(
         (ends.ended label before.now target.now place context.old running.old)
         out.new context.new running.new }
 {
-    give_last_word(out, place, target, context, running);
+    give_last_word(out, place, label, target, context, running);
     give_left(out, label, before, context, running);
 }

@@ -1,4 +1,4 @@
-//! What scopes begin with and end with, words and all: tags, names, targets of links, headings and fonts (man(7)).
+//! What scopes begin with and end with, words and all: tags, names, targets of links, headings and fonts (man(7), mdoc(7)).
 //!
 //! Where an event opens or ends a scope, its outcome stands here, macro by macro; what opens and closes nothing is in `page_scopes_leaves`. Read
 //! `specs/Openers.antt` first, then `Begins.antt` (line scopes) and `Ends.antt`.
@@ -13,6 +13,4 @@ mod targets;
 
 pub use begins::give_begun;
 pub use ends::give_ended;
-pub use openers::argument_word;
 pub use page_layouts::PageLayout;
-pub use targets::Target;

@@ -7,7 +7,7 @@ use Rattle.std.proofs.lemmas.Bool.{cases_Bool}
 use Rattle.page_core_base.specs.Pieces.{Item}
 use Rattle.page_core_base.specs.declared.places.Place.{Place}
 use Rattle.page_core_escapes.specs.Meanings as meanings
-use Rattle.page_core_escapes.specs.Meanings.{Face, face}
+use Rattle.page_core_escapes.specs.Meanings.{Face, face, is_known}
 use Rattle.page_core_escapes.specs.ShortEscapes.{ShortFont}
 use Rattle.page_core_escapes.specs.Tokens.{TextToken, plain, escaped, begins_word, prints_itself, token_at, token_len, token_seen}
 use Rattle.page_scopes_words.specs.Words.{face_notes}
@@ -15,7 +15,7 @@ use Rattle.page_scopes_text.proofs.PartedLemmas.{no_word, plain_begins, plain_to
 use Rattle.page_scopes_text.proofs.PlainWordLemmas.{blank_len}
 use Rattle.page_scopes_text.specs.FontWords.{ReadsBlankFontWord, ReadsFont, ReadsFontWord, ReadsPart, Silent, font_tokens, part_tokens}
 use Rattle.page_scopes_text.specs.Parted.{Parted}
-use Rattle.page_scopes_text.specs.Words.{is_known, pen_after, pen_through, printed_items, tokens_items}
+use Rattle.page_scopes_text.specs.Words.{pen_after, pen_through, printed_items, tokens_items}
 use Rattle.page_scopes_text.specs.declared.font_words.FontWord.{FontWord}
 use Rattle.page_scopes_text.specs.declared.pens.Pen.{Pen}
 

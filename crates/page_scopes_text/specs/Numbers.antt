@@ -1,13 +1,9 @@
 -- The value of an expression in basic units, in columns and in rows, and its messages. Source: roff(7), "Numerical expressions", "Scaling Widths", `sp`.
 use Rattle.std.specs.Prelude.{ℕ, ◌/◌, nat_lt, min, List, [], ◌∷◌, ◌++◌, map, codes, if◌then◌else◌, ℤ, pos, negsuc, int_div}
-use Rattle.std.proofs.Common.{append_assoc}
-use Rattle.std.proofs.lemmas.List.{map-append}
 use Rattle.page_core_base.specs.declared.note_kinds.NoteKind.TheVariants.{Limit}
 use Rattle.page_core_base.specs.declared.places.Place.{Place}
-use Rattle.page_core_base.specs.Latches.{Came}
 use Rattle.page_core_base.specs.Messages.{Message}
 use Rattle.page_core_base.specs.Pieces.{Item, noted}
-use Rattle.page_core_base.specs.Sinks.{IsSink}
 use Rattle.page_core_numbers.specs.declared.scales.Scale.{Scale}
 use Rattle.page_core_numbers.specs.declared.scales.Scale.TheVariants.{En, Vertical}
 use Rattle.page_core_numbers.specs.Expressions.{expression_of, messages_at}
@@ -52,18 +48,3 @@ blanks_notes place rows = if nat_lt BLANKS rows then says Limit place (name_of l
 
 abbrev pub rows_notes : Place → List ℕ → List Item
 rows_notes place text = number_notes Vertical place text ++ blanks_notes place (rows_in (number_value Vertical text))
-
--- ---- a sink that gives each message to a latch
-
-abbrev pub CameNotes : {P A : Type 0} → (P → A → List Item → Type 0) → A → List Message → A → Type 0
-CameNotes left s notes t = Came left s (map noted notes) t
-
--- what gives each message to a latch is a sink that never fails
-abbrev pub came-sink : {P A S : Type 0} (left : P → A → List Item → Type 0) (inner : S → A)
-    → IsSink (λ (s : S) (notes : List Message) (t : S). CameNotes left (inner s) notes (inner t)) (λ s notes t. Unit {0})
-came-sink left inner = record {
-  none = λ s plan more h. h;
-  more = λ s t u xs ys a b plan rest h. b plan rest (a plan (map noted ys ++ rest) (rw (map-append noted xs ys, append_assoc) at h));
-  after = λ s t u xs ys a b. tt;
-  before = λ s t xs ys a. tt;
-}

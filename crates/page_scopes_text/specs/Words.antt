@@ -8,7 +8,7 @@ use Rattle.page_core_base.specs.declared.pieces.Piece.TheVariants.{Text, Blank}
 use Rattle.page_core_base.specs.declared.places.Place.{Place}
 use Rattle.page_core_base.specs.Words.{part_pieces, parts_of}
 use Rattle.page_core_escapes.specs.Meanings as meanings
-use Rattle.page_core_escapes.specs.Meanings.{Face, Meaning}
+use Rattle.page_core_escapes.specs.Meanings.{Meaning, is_known}
 use Rattle.page_core_escapes.specs.Tokens.{TextToken, escaped, plain, token_bytes}
 use Rattle.page_core_numbers.specs.Columns.{characters_columns, printed_escape}
 use Rattle.page_core_numbers.specs.declared.scales.Scale.TheVariants.{Em}
@@ -73,10 +73,6 @@ token_prints token = true
 -- ---- fonts
 
 -- whether an escape asks for a font that there is
-abbrev pub is_known : Face → Bool
-is_known (meanings.unknown name) = false
-is_known _ = true
-
 abbrev pub escape_sets : Meaning → Bool
 escape_sets (meanings.face face) = is_known face
 escape_sets _ = false

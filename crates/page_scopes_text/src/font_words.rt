@@ -8,7 +8,6 @@ ghost use Rattle.page_scopes_text.specs.Words as words;
 
 use crate::Pen;
 use crate::parts::give_plain_token;
-use crate::tokens::is_known;
 use page_core_base::{PieceOut, Place};
 use page_core_escapes::{Escape, Token, begins_word, plain_len, short_font};
 
@@ -27,7 +26,7 @@ fn split_font(text: &[u8]) -> Option<(Token<'_>, &[u8])>
     ensures { IfSome result (λ parts. ReadsFont text.now (token_seen parts.0) parts.1.now) }
 {
     let (name, len) = short_font(text)?;
-    if !is_known(name) {
+    if !name.is_known() {
         return None;
     }
     let (bytes, rest) = text.split_at(len);

@@ -3,14 +3,14 @@
 ghost use Rattle.std.specs.Prelude.{◌≡◌, false, [], ◌∷◌};
 ghost use Rattle.page_core_base.specs.Latches.{Came};
 ghost use Rattle.page_core_base.specs.Pieces.{shown};
-ghost use Rattle.page_core_escapes.specs.Escapes.{face_seen, meaning_seen};
+ghost use Rattle.page_core_escapes.specs.Escapes.{meaning_seen};
 ghost use Rattle.page_core_escapes.specs.Tokens.{is_space, token_seen};
 ghost use Rattle.page_scopes_text.specs.Words as words;
 ghost use Rattle.page_scopes_words.specs.Words.{is_glue};
 
 use crate::give_number;
 use page_core_base::{Font, Output, Piece, PieceOut, Place};
-use page_core_escapes::{Escape, FontName, Token};
+use page_core_escapes::{Escape, Token};
 use page_core_numbers::{Scale, escape_columns};
 use page_scopes_layout::Setting;
 use page_scopes_words::{Fonts, report_escape, token_piece};
@@ -106,13 +106,6 @@ pub(crate) fn is_glue(token: &Token<'_>) -> bool
     }
 }
 
-/// Whether a font is asked for that there is.
-pub(crate) fn is_known(name: FontName<'_>) -> bool
-    ensures { result ≡ words.is_known (face_seen name.entry) }
-{
-    !matches!(name, FontName::Unknown(_))
-}
-
 // Whether a token asks for a font that there is.
 fn token_sets(token: &Token<'_>) -> bool
     ensures { result ≡ words.token_sets (token_seen token.now) }
@@ -121,7 +114,7 @@ fn token_sets(token: &Token<'_>) -> bool
         Token::Escaped {
             meaning: Escape::Font(name),
             ..
-        } => is_known(name),
+        } => name.is_known(),
         _ => false,
     }
 }

@@ -6,6 +6,7 @@ use Rattle.std.proofs.lemmas.List.Sums.{prefix_len-le-length}
 use Rattle.page_core_numbers.specs.Expressions.{expression_of}
 use Rattle.page_core_numbers.specs.declared.scales.Scale.TheVariants.{Basic}
 use Rattle.page_scopes_laws.specs.Nestings.{as_node, as_nothing, IsSound}
+use Rattle.page_sets_lines.specs.Blocks.{closed_block}
 use Rattle.page_sets_lines.specs.declared.events.Event.{Event}
 use Rattle.page_sets_lines.specs.declared.events.Deed.{Deed}
 use Rattle.page_sets_lines.specs.declared.events.Deed.TheVariants as deeds
@@ -18,14 +19,14 @@ use Rattle.page_sets_lines.specs.declared.openers.Closer.{Closer}
 use Rattle.page_sets_lines.specs.declared.openers.Closer.TheVariants as closers
 use Rattle.page_scopes_tree.specs.Acts.{Step, comes, does}
 use Rattle.page_scopes_tree.specs.Ends.{inside, up_to, line_scopes, up_to_explicit, up_to_paragraph, place_of_margin, but_outside, up_to_margin, opener_ends, closer_ends, leaf_ends, deed_ends, act_ends}
-use Rattle.page_scopes_tree.specs.Labels.{is_line, is_section, is_paragraph, is_explicit, is_level}
+use Rattle.page_scopes_tree.specs.Labels.{is_line, is_enclosure, is_section, is_paragraph, is_explicit, is_level}
 use Rattle.page_scopes_tree.specs.Nests.{standing_by, step_ends, step_standing, scopes_nesting}
 use Rattle.page_scopes_tree.specs.Standings.{has_room, opened, closed, closer_fate, in_line_scope, is_dropped, request_fate, leaf_fate, deed_fate, act_fate, opener_label, is_passed_over}
 use Rattle.page_core_limits.specs.declared.TheConstants.{SCOPES}
 use Rattle.page_scopes_tree.specs.declared.acts.Act.{Act}
 use Rattle.page_scopes_tree.specs.declared.acts.Act.TheVariants as acts
 use Rattle.page_scopes_tree.specs.declared.labels.Explicit.{Explicit}
-use Rattle.page_scopes_tree.specs.declared.labels.Explicit.TheVariants.{RelativeMargin, Target, Syntax}
+use Rattle.page_scopes_tree.specs.declared.labels.Explicit.TheVariants.{RelativeMargin, Target, Syntax, Block}
 use Rattle.page_scopes_tree.specs.declared.labels.Label.{Label}
 use Rattle.page_scopes_tree.specs.declared.labels.Label.TheVariants as labels
 use Rattle.page_scopes_tree.specs.declared.standings.Fate.{Fate}
@@ -66,6 +67,7 @@ opener-fits (openers.Hanging hang) nodes = paragraph-fits nodes
 opener-fits (openers.RelativeMargin columns) nodes = omega arith
 opener-fits (openers.Target link target) nodes = omega arith
 opener-fits (openers.Syntax name) nodes = explicit-fits Syntax nodes
+opener-fits (openers.Block opener) nodes = omega arith
 
 closer-fits : (closer : Closer (List ℕ)) (nodes : List Label) → closer_ends closer nodes ≤ length nodes
 closer-fits closers.Line nodes = prefix_len-le-length is_line nodes
@@ -73,6 +75,8 @@ closer-fits (closers.RelativeMargin None) nodes = explicit-fits RelativeMargin n
 closer-fits (closers.RelativeMargin (Some number)) nodes = margin-fits (expression_of Basic number).value nodes
 closer-fits (closers.Target link suffix) nodes = explicit-fits (Target link) nodes
 closer-fits closers.Syntax nodes = explicit-fits Syntax nodes
+closer-fits closers.Enclosures nodes = prefix_len-le-length is_enclosure nodes
+closer-fits (closers.Block closer) nodes = explicit-fits (Block (closed_block closer)) nodes
 
 leaf-fits : (leaf : Leaf (List ℕ)) (nodes : List Label) → leaf_ends leaf nodes ≤ length nodes
 leaf-fits leaves.BlankLine nodes = prefix_len-le-length is_line nodes
@@ -123,6 +127,8 @@ closer-opens closers.Line n h = h
 closer-opens (closers.RelativeMargin number) n h = closed-opens _ n h
 closer-opens (closers.Target link suffix) n h = closed-opens _ n h
 closer-opens closers.Syntax n h = closed-opens _ n h
+closer-opens closers.Enclosures n h = h
+closer-opens (closers.Block closer) n h = closed-opens _ n h
 
 dropped-opens : (test : Bool) → Opens (if test then fates.Nothing else fates.Leaf) → ⊥
 unfolding Opens
@@ -145,6 +151,7 @@ leaf-opens (leaves.Example begins) remaining h = h
 leaf-opens (leaves.Distance rows) remaining h = h
 leaf-opens (leaves.Fonts font) remaining h = h
 leaf-opens leaves.FurtherTag remaining h = h
+leaf-opens (leaves.Step step) remaining h = h
 
 deed-room : (deed : Deed (List ℕ)) (n : ℕ) (remaining : List Label) → Opens (deed_fate deed n remaining) → length remaining < SCOPES
 unfolding Opens

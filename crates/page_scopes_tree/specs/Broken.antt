@@ -6,6 +6,7 @@ use Rattle.page_core_base.specs.Pieces.{Item, noted}
 use Rattle.page_core_base.specs.declared.note_kinds.NoteKind.{NoteKind}
 use Rattle.page_core_base.specs.declared.note_kinds.NoteKind.TheVariants as kinds
 use Rattle.page_core_base.specs.declared.places.Place.{Place}
+use Rattle.page_sets_lines.specs.Blocks.{block_closer_name, closed_block}
 use Rattle.page_sets_lines.specs.MacroNames.{link_closer_name}
 use Rattle.page_sets_lines.specs.declared.events.Event.{Event}
 use Rattle.page_sets_lines.specs.declared.events.Deed.{Deed}
@@ -35,6 +36,8 @@ closer_name closers.Line = []
 closer_name (closers.RelativeMargin number) = codes "RE"
 closer_name (closers.Target link suffix) = link_closer_name link
 closer_name closers.Syntax = codes "YS"
+closer_name closers.Enclosures = []
+closer_name (closers.Block closer) = block_closer_name (closed_block closer)
 
 -- the next synopsis ends one as its closer does
 abbrev pub opener_closer_name : Opener (List ℕ) → List ℕ

@@ -1,9 +1,10 @@
--- How many of the open scopes, the innermost first, an event ends. Source: man(7), "MACRO OVERVIEW".
+-- How many of the open scopes, the innermost first, an event ends. Source: man(7), "MACRO OVERVIEW"; mdoc(7), "MACRO REFERENCE".
 use Rattle.std.specs.Prelude.{ℕ, suc, ◌+◌, ◌-◌, ◌==◌, nat_lt, Bool, not, List, [], ◌∷◌, length, reverse, Option, None, Some, if◌then◌else◌, ℤ, pos, int_lt, nat_abs}
 use Rattle.std.specs.Option.{option_map}
 use Rattle.std.specs.List.{prefix_len}
 use Rattle.page_core_numbers.specs.Expressions.{expression_of}
 use Rattle.page_core_numbers.specs.declared.scales.Scale.TheVariants.{Basic}
+use Rattle.page_sets_lines.specs.Blocks.{closed_block}
 use Rattle.page_sets_lines.specs.declared.events.Event.{Event}
 use Rattle.page_sets_lines.specs.declared.events.Deed.{Deed}
 use Rattle.page_sets_lines.specs.declared.events.Deed.TheVariants as deeds
@@ -13,11 +14,11 @@ use Rattle.page_sets_lines.specs.declared.openers.Opener.{Opener}
 use Rattle.page_sets_lines.specs.declared.openers.Opener.TheVariants as openers
 use Rattle.page_sets_lines.specs.declared.openers.Closer.{Closer}
 use Rattle.page_sets_lines.specs.declared.openers.Closer.TheVariants as closers
-use Rattle.page_scopes_tree.specs.Labels.{is_line, is_section, is_paragraph, is_explicit, is_margin, is_level}
+use Rattle.page_scopes_tree.specs.Labels.{is_line, is_enclosure, is_section, is_paragraph, is_explicit, is_margin, is_level}
 use Rattle.page_scopes_tree.specs.declared.acts.Act.{Act}
 use Rattle.page_scopes_tree.specs.declared.acts.Act.TheVariants as acts
 use Rattle.page_scopes_tree.specs.declared.labels.Explicit.{Explicit}
-use Rattle.page_scopes_tree.specs.declared.labels.Explicit.TheVariants.{RelativeMargin, Target, Syntax}
+use Rattle.page_scopes_tree.specs.declared.labels.Explicit.TheVariants.{RelativeMargin, Target, Syntax, Block}
 use Rattle.page_scopes_tree.specs.declared.labels.Label.{Label}
 
 -- the scopes inside the innermost one of which something holds; all where it holds of none
@@ -31,6 +32,10 @@ up_to found end = if nat_lt found end then found + 1 else 0
 -- the line scopes that are innermost
 abbrev pub line_scopes : List Label → ℕ
 line_scopes nodes = prefix_len is_line nodes
+
+-- the enclosures that are innermost
+abbrev pub enclosures : List Label → ℕ
+enclosures nodes = prefix_len is_enclosure nodes
 
 -- all inside the section
 abbrev pub inside_section : List Label → ℕ
@@ -75,12 +80,15 @@ opener_ends (openers.Hanging hang) nodes = up_to_paragraph nodes
 opener_ends (openers.RelativeMargin columns) nodes = 0
 opener_ends (openers.Target link target) nodes = 0
 opener_ends (openers.Syntax name) nodes = up_to_explicit Syntax nodes
+opener_ends (openers.Block opener) nodes = 0
 
 abbrev pub closer_ends : Closer (List ℕ) → List Label → ℕ
 closer_ends closers.Line nodes = line_scopes nodes
 closer_ends (closers.RelativeMargin number) nodes = margin_ends number nodes
 closer_ends (closers.Target link suffix) nodes = up_to_explicit (Target link) nodes
 closer_ends closers.Syntax nodes = up_to_explicit Syntax nodes
+closer_ends closers.Enclosures nodes = enclosures nodes
+closer_ends (closers.Block closer) nodes = up_to_explicit (Block (closed_block closer)) nodes
 
 abbrev pub leaf_ends : Leaf (List ℕ) → List Label → ℕ
 leaf_ends leaves.BlankLine nodes = line_scopes nodes

@@ -1,11 +1,14 @@
--- What an open scope is, and what is known of it by that alone: one row for each. Source: man(7), "MACRO OVERVIEW", "MACRO REFERENCE".
+-- What an open scope is, and what is known of it by that alone: one row for each. Source: man(7), "MACRO OVERVIEW"; mdoc(7), "MACRO REFERENCE".
 use Rattle.std.specs.Prelude.{ℕ, Bool, true, false, List, codes}
 use Rattle.std.specs.Borrow.{Bor}
 use Rattle.std.specs.Str.{bytes_eq}
-use Rattle.page_sets_lines.specs.MacroNames.{font_macro_name, heading_name, link_closer_name, link_name, tag_name}
-use Rattle.page_sets_lines.specs.declared.openers.LineOpener.TheVariants.{Heading, Tag, FontWords}
+use Rattle.page_sets_lines.specs.Blocks.{block_closer_name, block_name}
+use Rattle.page_sets_lines.specs.MacroNames.{font_macro_name, heading_name, link_closer_name, link_name, one_line_name, tag_name}
+use Rattle.page_sets_lines.specs.Marks.{marks_name}
+use Rattle.page_sets_lines.specs.declared.openers.LineOpener.{LineOpener}
+use Rattle.page_sets_lines.specs.declared.openers.LineOpener.TheVariants.{Heading, Tag, FontWords, Enclosure, Description, OneLine}
 use Rattle.page_scopes_tree.specs.declared.labels.Explicit.{Explicit}
-use Rattle.page_scopes_tree.specs.declared.labels.Explicit.TheVariants.{RelativeMargin, Target, Syntax}
+use Rattle.page_scopes_tree.specs.declared.labels.Explicit.TheVariants.{RelativeMargin, Target, Syntax, Block}
 use Rattle.page_scopes_tree.specs.declared.labels.Label.{Label}
 use Rattle.page_scopes_tree.specs.declared.labels.Label.TheVariants as labels
 use Rattle.page_scopes_tree.specs.declared.labels.LabelRow.{LabelRow}
@@ -41,6 +44,14 @@ guard_row name = record { name = name; end = Line; is_level = false; owns_prevai
 
 -- ---- the table
 
+abbrev pub line_row : LineOpener → LabelRow (List ℕ)
+line_row (Heading name) = guard_row (heading_name name)
+line_row (Tag name) = plain_row (tag_name name) Line
+line_row (FontWords name) = guard_row (font_macro_name name)
+line_row (Enclosure marks) = plain_row (marks_name marks) Line
+line_row Description = plain_row (codes "Nd") Line
+line_row (OneLine name) = plain_row (one_line_name name) Line
+
 abbrev pub label_row : Label → LabelRow (List ℕ)
 label_row labels.Section = level_row (codes "SH") Implied
 label_row labels.Subsection = level_row (codes "SS") Implied
@@ -48,9 +59,8 @@ label_row labels.Paragraph = plain_row (codes "PP") Implied
 label_row (labels.Explicit RelativeMargin) = level_row (codes "RS") (Closer (codes "RE"))
 label_row (labels.Explicit (Target link)) = plain_row (link_name link) (Closer (link_closer_name link))
 label_row (labels.Explicit Syntax) = plain_row (codes "SY") (Closer (codes "YS"))
-label_row (labels.Line (Heading name)) = guard_row (heading_name name)
-label_row (labels.Line (Tag name)) = plain_row (tag_name name) Line
-label_row (labels.Line (FontWords name)) = guard_row (font_macro_name name)
+label_row (labels.Explicit (Block block)) = plain_row (block_name block) (Closer (block_closer_name block))
+label_row (labels.Line opener) = line_row opener
 
 -- ---- its columns
 
@@ -83,6 +93,15 @@ is_level label = (label_row label).is_level
 abbrev pub is_section : Label → Bool
 is_section labels.Section = true
 is_section _ = false
+
+-- an enclosure that ends with a line (`Aq Bq Brq Dq Op Pq Ql Qq Sq`)
+abbrev pub encloses : LineOpener → Bool
+encloses (Enclosure marks) = true
+encloses _ = false
+
+abbrev pub is_enclosure : Label → Bool
+is_enclosure (labels.Line opener) = encloses opener
+is_enclosure _ = false
 
 abbrev pub is_paragraph : Label → Bool
 is_paragraph labels.Paragraph = true

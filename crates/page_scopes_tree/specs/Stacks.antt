@@ -15,7 +15,7 @@ use Rattle.page_sets_lines.specs.declared.openers.Closer.TheVariants as closers
 use Rattle.page_scopes_tree.specs.Acts.{Step}
 use Rattle.page_scopes_tree.specs.Frames.{Tables, framed}
 use Rattle.page_scopes_tree.specs.Nests.{Fact, scopes_nesting, standing_by}
-use Rattle.page_scopes_tree.specs.Standings.{act_fate, in_line_scope}
+use Rattle.page_scopes_tree.specs.Standings.{act_fate, in_enclosure, in_line_scope}
 use Rattle.page_scopes_tree.specs.declared.acts.Act.{Act}
 use Rattle.page_scopes_tree.specs.declared.acts.Act.TheVariants as acts
 use Rattle.page_scopes_tree.specs.declared.labels.Label.{Label}
@@ -42,9 +42,10 @@ abbrev pub stands_alone : Act (Event (List ℕ)) → List Label → Bool
 stands_alone (acts.Event event) nodes = deed_stands_alone event.deed nodes
 stands_alone (acts.PageEnd line) nodes = false
 
--- A break of line scopes where the innermost scope is none: it does nothing.
+-- A break of line scopes where the innermost scope is none, and an end of enclosures where it is none: it does nothing.
 abbrev pub closer_is_idle : Closer (List ℕ) → List Label → Bool
 closer_is_idle closers.Line nodes = not (in_line_scope nodes)
+closer_is_idle closers.Enclosures nodes = not (in_enclosure nodes)
 closer_is_idle _ nodes = false
 
 abbrev pub deed_is_idle : Deed (List ℕ) → List Label → Bool

@@ -1,5 +1,6 @@
--- What becomes of an event itself, once it ended what it ends. Source: man(7), "MACRO OVERVIEW".
+-- What becomes of an event itself, once it ended what it ends. Source: man(7), "MACRO OVERVIEW"; mdoc(7), "MACRO REFERENCE".
 use Rattle.std.specs.Prelude.{ℕ, zero, suc, Bool, true, false, ◌||◌, ◌&&◌, not, nat_lt, List, [], ◌∷◌, length, Option, None, Some, if◌then◌else◌}
+use Rattle.page_sets_lines.specs.Blocks.{opened_block}
 use Rattle.page_sets_lines.specs.declared.events.Event.{Event}
 use Rattle.page_sets_lines.specs.declared.events.Deed.{Deed}
 use Rattle.page_sets_lines.specs.declared.events.Deed.TheVariants as deeds
@@ -11,11 +12,13 @@ use Rattle.page_sets_lines.specs.declared.openers.Opener.{Opener}
 use Rattle.page_sets_lines.specs.declared.openers.Opener.TheVariants as openers
 use Rattle.page_sets_lines.specs.declared.openers.Closer.{Closer}
 use Rattle.page_sets_lines.specs.declared.openers.Closer.TheVariants as closers
-use Rattle.page_scopes_tree.specs.Labels.{is_line}
+use Rattle.page_sets_lines.specs.declared.openers.LineOpener.{LineOpener}
+use Rattle.page_sets_lines.specs.declared.openers.LineOpener.TheVariants.{Description, OneLine}
+use Rattle.page_scopes_tree.specs.Labels.{is_line, is_enclosure}
 use Rattle.page_core_limits.specs.declared.TheConstants.{SCOPES}
 use Rattle.page_scopes_tree.specs.declared.acts.Act.{Act}
 use Rattle.page_scopes_tree.specs.declared.acts.Act.TheVariants as acts
-use Rattle.page_scopes_tree.specs.declared.labels.Explicit.TheVariants.{RelativeMargin, Target, Syntax}
+use Rattle.page_scopes_tree.specs.declared.labels.Explicit.TheVariants.{RelativeMargin, Target, Syntax, Block}
 use Rattle.page_scopes_tree.specs.declared.labels.Label.{Label}
 use Rattle.page_scopes_tree.specs.declared.labels.Label.TheVariants as labels
 use Rattle.page_scopes_tree.specs.declared.standings.Fate.{Fate}
@@ -34,6 +37,7 @@ opener_label (openers.Hanging hang) = labels.Paragraph
 opener_label (openers.RelativeMargin columns) = labels.Explicit RelativeMargin
 opener_label (openers.Target link target) = labels.Explicit (Target link)
 opener_label (openers.Syntax name) = labels.Explicit Syntax
+opener_label (openers.Block opener) = labels.Explicit (Block (opened_block opener))
 
 abbrev pub has_room : List Label → Bool
 has_room remaining = nat_lt (length remaining) SCOPES
@@ -57,11 +61,18 @@ closer_fate closers.Line n = fates.Nothing
 closer_fate (closers.RelativeMargin number) n = closed (margin_obstacle number) n
 closer_fate (closers.Target link suffix) n = closed NotOpen n
 closer_fate closers.Syntax n = closed NotOpen n
+closer_fate closers.Enclosures n = fates.Nothing
+closer_fate (closers.Block closer) n = closed NotOpen n
 
 -- whether the innermost scope is a line scope
 abbrev pub in_line_scope : List Label → Bool
 in_line_scope [] = false
 in_line_scope (label ∷ nodes) = is_line label
+
+-- whether it is an enclosure that ends with a line
+abbrev pub in_enclosure : List Label → Bool
+in_enclosure [] = false
+in_enclosure (label ∷ nodes) = is_enclosure label
 
 -- a line scope drops breaks and blank rows
 abbrev pub is_dropped : Request (List ℕ) → Bool
@@ -102,10 +113,17 @@ opens_paragraph (openers.Indented tag hang) = true
 opens_paragraph (openers.Hanging hang) = true
 opens_paragraph _ = false
 
+-- so does a description (`Nd`), or a row that stands alone (`D1`, `Dl`)
+abbrev pub opens_row : LineOpener → Bool
+opens_row Description = true
+opens_row (OneLine name) = true
+opens_row _ = false
+
 -- whether the rest of the line is passed over after a deed
 abbrev pub deed_skips : Bool → Deed (List ℕ) → List Label → Bool
 deed_skips skips (deeds.End fills) remaining = false
 deed_skips skips (deeds.Open opener) remaining = skips || (opens_paragraph opener && not (has_room remaining))
+deed_skips skips (deeds.LineScope opener) remaining = skips || (opens_row opener && not (has_room remaining))
 deed_skips skips _ remaining = skips
 
 abbrev pub act_skips : Bool → Act (Event (List ℕ)) → List Label → Bool

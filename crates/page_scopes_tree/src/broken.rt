@@ -25,10 +25,11 @@ fn closer_name(closer: &Closer<&[u8]>) -> &'static str
     ensures { result.now ≡ broken.closer_name (closer_seen closer.now) }
 {
     match *closer {
-        Closer::Line => "",
+        Closer::Line | Closer::Enclosures => "",
         Closer::RelativeMargin(_) => "RE",
         Closer::Target(link, _) => link.closer_name(),
         Closer::Syntax => "YS",
+        Closer::Block(ref closer) => closer.block().closer_name(),
     }
 }
 

@@ -85,7 +85,7 @@ fn margin_ends<B>(number: Option<&[u8]>, scopes: &[Scope<Label, B>]) -> usize
     }
 }
 
-// What an opener ends: `SH` all, `SS` all inside the section, a paragraph (`PP LP P TP IP HP`) the one before it, `SY` the synopsis before it.
+// What an opener ends: `SH` and `Sh` all, `SS` and `Ss` all inside the section, a paragraph (`PP LP P TP IP HP`) the one before it, `SY` the synopsis before it.
 #[inline(never)]
 fn opener_ends<B>(opener: &Opener<&[u8]>, scopes: &[Scope<Label, B>]) -> usize
     requires { length scopes.now ≤ SCOPES }
@@ -97,12 +97,12 @@ fn opener_ends<B>(opener: &Opener<&[u8]>, scopes: &[Scope<Label, B>]) -> usize
         Opener::Paragraph(_) | Opener::Tagged(_) | Opener::Indented { .. } | Opener::Hanging(_) => {
             up_to_paragraph(scopes)
         }
-        Opener::RelativeMargin(_) | Opener::Target(_, _) => 0,
+        Opener::RelativeMargin(_) | Opener::Target(_, _) | Opener::Block(_) => 0,
         Opener::Syntax(_) => up_to_explicit(Explicit::Syntax, scopes),
     }
 }
 
-// What a closer ends: `RE`, `UE`, `ME`, `YS`, or a macro that breaks line scopes.
+// What a closer ends: `RE`, `UE`, `ME`, `YS`, a macro that breaks line scopes, the last delimiters of a line, or `Ac` to `Xc`.
 #[inline(never)]
 fn closer_ends<B>(closer: &Closer<&[u8]>, scopes: &[Scope<Label, B>]) -> usize
     requires { length scopes.now ≤ SCOPES }
@@ -113,6 +113,8 @@ fn closer_ends<B>(closer: &Closer<&[u8]>, scopes: &[Scope<Label, B>]) -> usize
         Closer::RelativeMargin(number) => margin_ends(*number, scopes),
         Closer::Target(link, _) => up_to_explicit(Explicit::Target(*link), scopes),
         Closer::Syntax => up_to_explicit(Explicit::Syntax, scopes),
+        Closer::Enclosures => run_len(Run::Enclosures, scopes),
+        Closer::Block(closer) => up_to_explicit(Explicit::Block(closer.block()), scopes),
     }
 }
 

@@ -1,9 +1,9 @@
-//! What an open scope is, and what is known of it by that alone: one row for each (man(7)). The scopes of mdoc(7) join these with their set.
+//! What an open scope is, and what is known of it by that alone: one row for each (man(7), mdoc(7)).
 
 ghost use Rattle.std.specs.Prelude.{◌≡◌};
 ghost use Rattle.page_scopes_tree.specs.Labels as labels;
 
-use page_sets_lines::{LineOpener, Link};
+use page_sets_lines::{Block, LineOpener, Link};
 use std::alloc::AllocError;
 
 /// A scope with a closer of its own.
@@ -15,14 +15,16 @@ pub enum Explicit {
     Target(Link),
     /// `SY` up to `YS`.
     Syntax,
+    /// A block of mdoc(7), as `Oo` up to `Oc`.
+    Block(Block),
 }
 
 /// What an open scope is.
 #[derive(Clone, Copy, PartialEq, Eq)]
 pub enum Label {
-    /// A section: `SH`.
+    /// A section: `SH` and `Sh`.
     Section,
-    /// A subsection: `SS`.
+    /// A subsection: `SS` and `Ss`.
     Subsection,
     /// A paragraph: `PP`, `LP`, `P`, `TP`, `IP` and `HP`.
     Paragraph,
@@ -121,6 +123,21 @@ fn guard_row(name: &'static str) -> LabelRow<&'static str>
     }
 }
 
+// The row of a scope that ends with a line.
+#[inline(always)]
+fn line_row(opener: LineOpener) -> LabelRow<&'static str>
+    ensures { labels.row_seen result ≡ labels.line_row opener }
+{
+    match opener {
+        LineOpener::Heading(heading) => guard_row(heading.name()),
+        LineOpener::Tag(tag) => plain_row(tag.name(), ScopeEnd::Line),
+        LineOpener::FontWords(font_macro) => guard_row(font_macro.name()),
+        LineOpener::Enclosure(marks) => plain_row(marks.name(), ScopeEnd::Line),
+        LineOpener::Description => plain_row("Nd", ScopeEnd::Line),
+        LineOpener::OneLine(name) => plain_row(name.name(), ScopeEnd::Line),
+    }
+}
+
 impl Label {
     /// What is known of the scope by its label alone.
     #[inline(always)]
@@ -136,9 +153,10 @@ impl Label {
                 plain_row(link.name(), ScopeEnd::Closer(link.closer_name()))
             }
             Label::Explicit(Explicit::Syntax) => plain_row("SY", ScopeEnd::Closer("YS")),
-            Label::Line(LineOpener::Heading(heading)) => guard_row(heading.name()),
-            Label::Line(LineOpener::Tag(tag)) => plain_row(tag.name(), ScopeEnd::Line),
-            Label::Line(LineOpener::FontWords(font_macro)) => guard_row(font_macro.name()),
+            Label::Explicit(Explicit::Block(block)) => {
+                plain_row(block.name(), ScopeEnd::Closer(block.closer_name()))
+            }
+            Label::Line(opener) => line_row(opener),
         }
     }
 
@@ -162,6 +180,13 @@ impl Label {
         ensures { result ≡ labels.is_line self }
     {
         matches!(self.row().end, ScopeEnd::Line)
+    }
+
+    /// Whether the scope is an enclosure that ends with a line.
+    pub(crate) fn is_enclosure(self) -> bool
+        ensures { result ≡ labels.is_enclosure self }
+    {
+        matches!(self, Label::Line(LineOpener::Enclosure(_)))
     }
 
     /// Whether the scope is a section.

@@ -1,4 +1,4 @@
-//! A search among open scopes, from the inside (man(7)). They stand in a list with the outermost first.
+//! A search among open scopes, from the inside (man(7), mdoc(7)). They stand in a list with the outermost first.
 
 ghost use Rattle.std.specs.Prelude.{◌≡◌, ◌≤◌, length, reverse};
 ghost use Rattle.std.specs.List.{prefix_len};
@@ -13,6 +13,8 @@ use page_scopes_laws::Scope;
 pub(crate) enum Run {
     /// Those that end with a line.
     Lines,
+    /// Enclosures that end with a line.
+    Enclosures,
     /// Those inside a section.
     InsideSection,
     /// Those inside what parts paragraphs from those around it.
@@ -30,6 +32,7 @@ impl Run {
     {
         match self {
             Run::Lines => label.is_line(),
+            Run::Enclosures => label.is_enclosure(),
             Run::InsideSection => !label.is_section(),
             Run::InsideLevel => !label.is_level(),
             Run::InsideParagraph => !label.is_paragraph(),

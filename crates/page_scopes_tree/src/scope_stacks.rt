@@ -47,6 +47,15 @@ impl<Y: Laying> ScopeStack<Y> {
         })
     }
 
+    /// All is as before a page's first event, at this state of the layout: no scope is open.
+    pub fn restart(&mut self, state: Y)
+        ensures { self.new ≡ record { mode = false; scopes = []; state = state } }
+    {
+        self.scopes.clear();
+        self.skips = false;
+        self.state = state;
+    }
+
     /// The number of open scopes.
     pub fn depth(&self) -> usize
         ensures is { result ≡ length self.now.scopes }

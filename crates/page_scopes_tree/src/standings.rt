@@ -10,7 +10,7 @@ ghost use Rattle.page_sets_lines.specs.Events.{closer_seen, deed_seen, leaf_seen
 use crate::{Act, Explicit, Label};
 use page_core_limits::SCOPES;
 use page_scopes_laws::Scope;
-use page_sets_lines::{Closer, Deed, Event, Leaf, Opener, Request};
+use page_sets_lines::{Closer, Deed, Event, Leaf, LineOpener, Opener, Request};
 
 /// Why an event is refused.
 #[derive(Clone, Copy, PartialEq, Eq)]
@@ -49,6 +49,7 @@ fn opener_label(opener: &Opener<&[u8]>) -> Label
         Opener::RelativeMargin(_) => Label::Explicit(Explicit::RelativeMargin),
         Opener::Target(link, _) => Label::Explicit(Explicit::Target(link)),
         Opener::Syntax(_) => Label::Explicit(Explicit::Syntax),
+        Opener::Block(ref opener) => Label::Explicit(Explicit::Block(opener.block())),
     }
 }
 
@@ -100,9 +101,11 @@ fn closer_fate(closer: &Closer<&[u8]>, count: usize) -> Fate
     ensures { result ≡ standings.closer_fate (closer_seen closer.now) count }
 {
     match *closer {
-        Closer::Line => Fate::Nothing,
+        Closer::Line | Closer::Enclosures => Fate::Nothing,
         Closer::RelativeMargin(number) => closed(margin_obstacle(number), count),
-        Closer::Target(_, _) | Closer::Syntax => closed(Obstacle::NotOpen, count),
+        Closer::Target(_, _) | Closer::Syntax | Closer::Block(_) => {
+            closed(Obstacle::NotOpen, count)
+        }
     }
 }
 
@@ -113,6 +116,17 @@ fn in_line_scope<B>(remaining: &[Scope<Label, B>]) -> bool
 {
     match remaining.last() {
         Some(scope) => scope.label.is_line(),
+        None => false,
+    }
+}
+
+// Whether the innermost scope is an enclosure that ends with a line.
+fn in_enclosure<B>(remaining: &[Scope<Label, B>]) -> bool
+    requires { length remaining.now ≤ SCOPES }
+    ensures { result ≡ standings.in_enclosure (labels (reverse remaining.now)) }
+{
+    match remaining.last() {
+        Some(scope) => scope.label.is_enclosure(),
         None => false,
     }
 }
@@ -199,7 +213,7 @@ pub(crate) fn stands_alone<B>(act: &Act<&Event<&[u8]>>, scopes: &[Scope<Label, B
     }
 }
 
-// Whether a deed does nothing: a break of line scopes where the innermost scope is none.
+// Whether a deed does nothing: a break of line scopes where the innermost scope is none, and an end of enclosures alike.
 #[inline(always)]
 fn deed_is_idle<B>(deed: &Deed<&[u8]>, scopes: &[Scope<Label, B>]) -> bool
     requires { length scopes.now ≤ SCOPES }
@@ -207,11 +221,12 @@ fn deed_is_idle<B>(deed: &Deed<&[u8]>, scopes: &[Scope<Label, B>]) -> bool
 {
     match deed {
         Deed::Close(Closer::Line) => !in_line_scope(scopes),
+        Deed::Close(Closer::Enclosures) => !in_enclosure(scopes),
         _ => false,
     }
 }
 
-/// Whether an act does nothing, as most breaks of line scopes do.
+/// Whether an act does nothing, as most breaks of line scopes and most ends of enclosures do.
 #[inline(always)]
 pub(crate) fn is_idle<B>(act: &Act<&Event<&[u8]>>, scopes: &[Scope<Label, B>]) -> bool
     requires { length scopes.now ≤ SCOPES }
@@ -233,6 +248,13 @@ fn opens_paragraph(opener: &Opener<&[u8]>) -> bool
     )
 }
 
+// Whether an opener is of a description or of a row that stands alone.
+fn opens_row(opener: LineOpener) -> bool
+    ensures { result ≡ standings.opens_row opener }
+{
+    matches!(opener, LineOpener::Description | LineOpener::OneLine(_))
+}
+
 // Whether the rest of the line is passed over after a deed.
 #[inline(always)]
 fn deed_skips<B>(skips: bool, deed: &Deed<&[u8]>, remaining: &[Scope<Label, B>]) -> bool
@@ -242,6 +264,7 @@ fn deed_skips<B>(skips: bool, deed: &Deed<&[u8]>, remaining: &[Scope<Label, B>])
     match deed {
         Deed::End { .. } => false,
         Deed::Open(opener) => skips || (opens_paragraph(opener) && !has_room(remaining)),
+        Deed::LineScope(opener) => skips || (opens_row(*opener) && !has_room(remaining)),
         _ => skips,
     }
 }

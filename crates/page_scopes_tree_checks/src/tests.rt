@@ -7,8 +7,8 @@ use page_roff_forms::{Argument, Quoting};
 use page_scopes_shown::Shown;
 use page_scopes_tree::ScopeStack;
 use page_sets_lines::{
-    Closer, Deed, Event, FontMacro, HeadingName, Join, Leaf, LineOpener, Link, Opener,
-    ParagraphName, Request, Role, TagName, Word,
+    BlockCloser, BlockOpener, Closer, Deed, Event, FontMacro, HeadingName, Join, Leaf, LineOpener,
+    Link, Marks, OneLineName, Opener, ParagraphName, Quotation, Request, Role, TagName, Word,
 };
 use std::alloc::Global;
 use std::process::Abort;
@@ -83,6 +83,9 @@ fn opener(letter: u8) -> Option<Opener<&'static [u8]>> {
         b'U' => Some(Opener::Target(Link::UR, TEXT)),
         b'M' => Some(Opener::Target(Link::MT, TEXT)),
         b'S' => Some(Opener::Syntax(TEXT)),
+        b'O' => Some(Opener::Block(BlockOpener::Quotation(Quotation::Oo))),
+        b'A' => Some(Opener::Block(BlockOpener::Quotation(Quotation::Ao))),
+        b'y' => Some(Opener::Block(BlockOpener::Extension)),
         _ => None,
     }
 }
@@ -99,6 +102,10 @@ fn closer(letter: u8) -> Option<Closer<&'static [u8]>> {
         b'u' => Some(Closer::Target(Link::UR, None)),
         b'm' => Some(Closer::Target(Link::MT, None)),
         b's' => Some(Closer::Syntax),
+        b'x' => Some(Closer::Enclosures),
+        b'o' => Some(Closer::Block(BlockCloser::Quotation(Quotation::Oo))),
+        b'a' => Some(Closer::Block(BlockCloser::Quotation(Quotation::Ao))),
+        b'z' => Some(Closer::Block(BlockCloser::Extension)),
         _ => None,
     }
 }
@@ -109,6 +116,9 @@ fn other(letter: u8) -> Deed<&'static [u8]> {
         b't' => Deed::LineScope(LineOpener::Tag(TagName::TP)),
         b'b' => Deed::LineScope(LineOpener::FontWords(FontMacro::B)),
         b'd' => Deed::LineScope(LineOpener::Heading(HeadingName::SH)),
+        b'q' => Deed::LineScope(LineOpener::Enclosure(Marks::Square)),
+        b'n' => Deed::LineScope(LineOpener::Description),
+        b'l' => Deed::LineScope(LineOpener::OneLine(OneLineName::Dl)),
         b'B' => Deed::Leaf(Leaf::BlankLine),
         b'.' => Deed::Leaf(Leaf::Request(Request::Break)),
         b'X' => Deed::Raw(b"x"),
@@ -159,7 +169,7 @@ fn given_by(alloc: Global, script: &str) -> Result<Levels, Fail> {
 }
 
 // Letters as above; then what they give, and what the page's end gives.
-const CASES: [(&str, &str); 23] = [
+const CASES: [(&str, &str); 33] = [
     ("RUr", "RSUR!BadNest UR;)1)0 "),
     ("R3", "RS!FewerRs; !MissingEnd RS;)0"),
     ("R0", "RS!FewerRs; !MissingEnd RS;)0"),
@@ -183,6 +193,16 @@ const CASES: [(&str, &str); 23] = [
     ("umrs", "!NotOpen UE;!NotOpen ME;!NotOpen RE;!NotOpen YS; "),
     ("SUS", "SYUR!MissingEnd UR;)1)0SY !MissingEnd SY;)0"),
     ("MUm", "MTUR!BadNest UR;)1)0 "),
+    ("qOwx", "BqOow !MissingEnd Oo;)1)0"),
+    ("qOwEowxwE", "BqOow)1w)0w "),
+    ("qOoxw", "BqOo)1)0w "),
+    ("HdqwxwE", "SHSHBqw)2w)1 )0"),
+    ("nqwxwE", "NdBqw)1w)0 "),
+    ("lwxE", "Dlw)0 "),
+    ("OAo", "OoAo!BadNest Ao;)1)0 "),
+    ("oaz", "!NotOpen Oc;!NotOpen Ac;!NotOpen Xc; "),
+    ("Oqo", "OoBq)1)0 "),
+    ("OHy", "Oo!MissingEnd Oo;)0SHXo !MissingEnd Xo;)1)0"),
 ];
 
 #[test]
@@ -197,7 +217,8 @@ fn scopes_of_events(rt: HostRuntime) -> Result<(), Fail> {
     Ok(())
 }
 
-// The 65th scope is refused; so is a paragraph, which passes over the rest of its line.
+// The 65th scope is refused; so is a paragraph, which passes over the rest of its line, as a description and a row that stands alone do. The
+// words of an enclosure stay.
 #[test]
 fn a_scope_too_many(rt: HostRuntime) -> Result<(), Fail> {
     let mut out = Levels::new(rt.alloc());
@@ -209,6 +230,13 @@ fn a_scope_too_many(rt: HostRuntime) -> Result<(), Fail> {
     let mut out = Levels::new(rt.alloc());
     apply_letters(&mut scopes, &mut out, "RewETtwEwEr");
     check_bytes(&rt, out.shown.text(), b"!Limit SCOPES;w!Limit SCOPES;w)3");
+    let mut out = Levels::new(rt.alloc());
+    apply_letters(&mut scopes, &mut out, "RnwElwEqwEr");
+    check_bytes(
+        &rt,
+        out.shown.text(),
+        b"RS!Limit SCOPES;!Limit SCOPES;!Limit SCOPES;w)3",
+    );
     check_count(&rt, scopes.depth(), SCOPES - 1);
     Ok(())
 }

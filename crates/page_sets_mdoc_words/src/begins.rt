@@ -151,7 +151,7 @@ fn take_word(text: &[u8], inline: Inline, cursor: Cursor) -> (bool, Cursor)
 impl MacroWords {
     /// The words of a macro, of which the name stands in a column and has this length, and the line was read up to its
     /// end; in a line that is not parsed no word calls.
-    #[tactic(auto, using(crate::proofs::BeginLemmas::goes_on_right, crate::proofs::BeginLemmas::begins_right))]
+    #[tactic(auto, using(crate::proofs::BeginLemmas::goes_on_right))]
     pub fn begin(
         line: Taken<'_>,
         inline: Inline,

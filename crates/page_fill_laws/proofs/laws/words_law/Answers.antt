@@ -1,5 +1,6 @@
+use Rattle.std.proofs.Common.{refl}
 use Rattle.page_fill_laws.proofs.FillingLaw.{items-law, cut-law, held-law, end-law}
-use Rattle.page_fill_laws.proofs.HeldSheets.{fresh-held, piece-held}
+use Rattle.page_fill_laws.proofs.HeldSheets.{fresh-held}
 use Rattle.page_fill_laws.proofs.laws.words_law.Goals as goal
 
 pub returns-clause-items : goal.returns-clause-items
@@ -15,7 +16,4 @@ pub returns-clause-end : goal.returns-clause-end
 returns-clause-end c = end-law
 
 pub returns-clause-start : goal.returns-clause-start
-returns-clause-start c = fresh-held
-
-pub returns-clause-kept : goal.returns-clause-kept
-returns-clause-kept c = piece-held
+returns-clause-start c = λ width. (fresh-held width, refl)

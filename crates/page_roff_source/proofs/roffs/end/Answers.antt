@@ -5,10 +5,10 @@ use Rattle.page_roff_source.proofs.roffs.end.Goals as goal
 
 pub returns-clause-tells : goal.returns-clause-tells
 returns-clause-tells g c =
-    let k = latched g.met.N.NoteSink.laws (end_notes c.args.machine.now.edge) c.done.result c.new-latch.ensures.fault c.end.ensures.came c.done.ensures in
+    let k = latched g.met.N.NoteSink.laws (end_notes c.args.lines.now.edge) c.done.result c.new-latch.ensures.fault c.end_into.ensures.came c.done.ensures in
     search (rules, k.0, k.2)
 
 pub returns-clause-same : goal.returns-clause-same
 returns-clause-same g c =
-    let k = latched g.met.N.NoteSink.laws (end_notes c.args.machine.now.edge) c.done.result c.new-latch.ensures.fault c.end.ensures.came c.done.ensures in
+    let k = latched g.met.N.NoteSink.laws (end_notes c.args.lines.now.edge) c.done.result c.new-latch.ensures.fault c.end_into.ensures.came c.done.ensures in
     search (rules, k.0, k.1)

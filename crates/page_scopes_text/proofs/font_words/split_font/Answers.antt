@@ -1,6 +1,6 @@
 use Rattle.std.proofs.Common.{◌≡◌, true, sym, ◌∙◌}
 use Rattle.page_core_escapes.specs.Escapes.{face_seen}
-use Rattle.page_scopes_text.specs.Words.{is_known}
+use Rattle.page_core_escapes.specs.Meanings.{is_known}
 use Rattle.page_scopes_text.proofs.FontWordLemmas.{reads_font}
 use Rattle.page_scopes_text.proofs.font_words.split_font.Goals as goal
 

@@ -58,4 +58,4 @@ returns c =
     let lines = lines_in c.args.body.now in
     let args = arguments_in c.args.arguments.now in
     let frame : frame_of b.top b.text.items ≡ entered lines args = rw c.replace-source.ensures.after c.enter-callee.ensures.frame in
-    called_stack a b caller more lines args called frame ∙ ap (λ s. call_of lines args s) c.self.view_is
+    called_stack a b caller c.args.body.now c.args.arguments.now called frame ∙ ap (λ s. call_of c.args.body.now c.args.arguments.now s) c.self.view_is

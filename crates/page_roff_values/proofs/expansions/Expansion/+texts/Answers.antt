@@ -26,7 +26,7 @@ call-returns-then-not-charge-clause-goes g x c =
     let ts = outer_of c.args.sources.now.outer.items in
     let call = call_of c.args.call in
     goes_on g.O.NoteOut.left _ _ (seq (call_at env (room_in room (t ∷ ts)) call s) (rest env room (t ∷ ts))) (ends Loop (codes "EXPAND") s) c.report_end.new.self (rest env room (t ∷ ts))
-    (call_ends env (room_in room (t ∷ ts)) call s (rest env room (t ∷ ts)) (sym c.if-not-charge.ensures.fits)) (rw c.if-not-charge.ensures.counted at c.report_end.ensures)
+    (call_ends env (room_in room (t ∷ ts)) call s (rest env room (t ∷ ts)) (sym c.if-not-charge.ensures.fits)) (rw (c.if-not-charge.ensures.counted, c.as_bytes.ensures.value, c.name.ensures) at c.report_end.ensures)
 
 pub call-returns-then-not-charge-clause-falls : goal.call-returns-then-not-charge-clause-falls
 unfolding steps
@@ -41,7 +41,7 @@ call-returns-then-room-depth-clause-goes g x c =
     let ts = outer_of c.args.sources.now.outer.items in
     let call = call_of c.args.call in
     rw c.if-not-charge.ensures.counted (goes_on g.O.NoteOut.left _ _ (seq (call_at env (room_in room (t ∷ ts)) call s) (rest env room (t ∷ ts))) (says Loop (codes "NEST") (counts s)) (counts s) (rest env room (t ∷ ts))
-    (call_deep env room t ts call s (rest env room (t ∷ ts)) (sym c.if-not-charge.ensures.fits) (omega (arith, c.depth.ensures.value))) (rw c.if-not-charge.ensures.counted at c.report.ensures))
+    (call_deep env room t ts call s (rest env room (t ∷ ts)) (sym c.if-not-charge.ensures.fits) (omega (arith, c.depth.ensures.value))) (rw (c.if-not-charge.ensures.counted, c.as_bytes-then-room-depth.ensures.value, c.name-then-room-depth.ensures) at c.report.ensures))
 
 pub call-returns-then-room-depth-clause-falls : goal.call-returns-then-room-depth-clause-falls
 call-returns-then-room-depth-clause-falls g x c =

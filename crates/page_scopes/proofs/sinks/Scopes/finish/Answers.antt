@@ -7,12 +7,12 @@ pub returns-clause-gives : goal.returns-clause-gives
 returns-clause-gives g c =
     let edge = c.self.inside.scopes in
     let is = rw c.if-self.false at c.self.view_is in
-    let items = end_items edge c.args.line in
+    let items = end_items edge c.self.inside.line in
     let k = latched g.met.O.PieceSink.laws items c.done.result c.new-latch.ensures.fault c.give_end.ensures.came c.done.ensures in
     rw (← is) (search (rules, k.0, k.2))
 
 pub returns-clause-same : goal.returns-clause-same
 returns-clause-same g c =
-    let items = end_items c.self.inside.scopes c.args.line in
+    let items = end_items c.self.inside.scopes c.self.inside.line in
     let k = latched g.met.O.PieceSink.laws items c.done.result c.new-latch.ensures.fault c.give_end.ensures.came c.done.ensures in
     search (rules, k.0, k.1)

@@ -1,0 +1,228 @@
+-- The machine that runs a page's lines stands at the page's edge: helpers of proofs.
+use Rattle.std.proofs.Common.{◌≡◌, ℕ, ◌+◌, ◌≤◌, ◌<◌, ◌^◌, Bool, true, false, not, if◌then◌else◌, List, [], ◌∷◌, length, Option, Some, None, refl, sym, ap, subst, ◌∙◌, arith}
+use Rattle.page_core_limits.specs.declared.TheConstants.{LINE, REREAD}
+use Rattle.page_core_base.specs.LinesTaken.{Line}
+use Rattle.page_core_base.specs.Messages.{Message}
+use Rattle.page_core_base.specs.declared.page_settings.Output.{Output}
+use Rattle.page_roff_blocks.specs.Caps.{PlaceFits}
+use Rattle.page_roff_blocks.specs.Levels.{at_line, outside, first_place}
+use Rattle.page_roff_blocks.specs.Run.{At}
+use Rattle.page_roff_language.specs.Languages.{run_page}
+use Rattle.page_roff_language.specs.Counting.{Budget}
+use Rattle.page_roff_language.specs.Machine.{next}
+use Rattle.page_roff_language.specs.Budgets.{Budgeted}
+use Rattle.page_roff_stack.specs.Stacks.{is_nothing}
+use Rattle.page_roff_stack.specs.Stacks as stack
+use Rattle.page_roff_effects.specs.Caps.{MemoryFits}
+use Rattle.page_roff_effects.specs.RegionLines.{finish_outcome}
+use Rattle.page_roff_effects.specs.States.{Given, State, Memory, Setting, first_memory, numbered}
+use Rattle.page_roff_machine.specs.Giving.{next_line, after_line}
+use Rattle.page_roff_machine.specs.Machines.{Machine, output_of, language_of, running_of, outcome_of, to_come, end_of, place_of, stands, begun_at, Begins, Advances, taken_if, IsIdleUnless, IsNew}
+use Rattle.page_roff_machine.specs.Machines as machine
+use Rattle.page_roff_machine.proofs.MachineLemmas.{idle_stands, new_idle}
+use Rattle.page_roff_source.specs.declared.counts.Counts.{Counts}
+use Rattle.page_roff_source.specs.Caps.{RoffFits}
+use Rattle.page_roff_source.specs.Edges.{Edge, LinesState, SourceLine, first_edge, before_line, run_line, line_begun, line_taken, left_if, counts_of, end_notes}
+use Rattle.page_roff_source.specs.RoffLines.{edge_of, state_of, IsCounted, IsAtEdge}
+use Rattle.page_roff_source.proofs.CountLemmas.{taken_bound}
+use Rattle.page_roff_source.proofs.RoomLemmas.{done_room}
+
+-- an edge by what leaves the page there
+abbrev edge_with : Output → At (Budgeted State) → ℕ → Option (List Given) → Edge
+edge_with output a source to_come = record {
+  output = output;
+  place = a.place;
+  memory = a.state.rest.memory;
+  source = source;
+  taken = a.state.taken;
+  to_come = to_come;
+}
+
+abbrev begun_with : Output → At (Budgeted State) → ℕ → Edge
+begun_with output a source = edge_with output a source (Some a.state.rest.out)
+
+abbrev at_stack : Output → stack.Stack → Memory → ℕ → Edge
+at_stack output s memory taken = record {
+  output = output;
+  place = record { region = s.top.region; levels = s.top.spot.levels };
+  memory = memory;
+  source = 0;
+  taken = taken;
+  to_come = None;
+}
+
+-- a line begins where the page stands
+abbrev begun_from : At (Budgeted State) → ℕ → At (Budgeted State)
+begun_from a number = record {
+  place = a.place;
+  state = record {
+    left = REREAD;
+    gave_up = false;
+    taken = a.state.taken;
+    rest = record { memory = numbered number a.state.rest.memory; out = [] };
+  };
+}
+
+-- ---- before the first line
+
+new_edge : (output : Output) (m : Machine) → IsNew output m → outcome_of m ≡ stands m → edge_of m 0 true ≡ first_edge output
+unfolding at_line first_place
+new_edge output m n e =
+    ap (λ (a : At (Budgeted State)). edge_with (output_of m) a 0 None) e
+    ∙ ap (λ (s : Setting). edge_with s.output (stands m) 0 None) n.actions.setting
+    ∙ ap (λ (s : stack.Stack). at_stack output s m.actions.memory m.budget.taken) n.stack
+    ∙ ap (λ (k : Memory). at_stack output stack.first_stack k m.budget.taken) n.actions.memory
+    ∙ ap (λ (b : Budget). at_stack output stack.first_stack first_memory b.taken) n.budget
+
+pub new_at : (output : Output) (m : Machine) → IsNew output m → edge_of m 0 true ≡ first_edge output
+new_at output m n = new_edge output m n (idle_stands m (new_idle output m n))
+
+pub new_counted : (output : Output) → IsCounted (first_edge output)
+unfolding first_place outside
+new_counted output = record { source = omega arith; taken = omega arith; skipped = omega arith }
+
+-- ---- a line begins
+
+before_at : (m : Machine) (source : ℕ) (line : SourceLine) → outcome_of m ≡ stands m
+    → before_line (edge_of m source true) line ≡ begun_at line.number m
+unfolding before_line
+before_at m source line e = ap (λ (a : At (Budgeted State)). begun_from a line.number) e
+
+pub begun : (old new : Machine) (source : ℕ) (line : SourceLine) → machine.is_idle old ≡ true → Begins line.text line.number old new
+    → edge_of new (source + 1) false ≡ line_begun (edge_of old source true) line
+unfolding run_line
+begun old new source line idle b =
+    let e = before_at old source line (idle_stands old idle) in
+    let outcome = b.outcome ∙ sym (ap (run_page (language_of old) (line.text ∷ [])) e) in
+    ap (λ (o : Output). begun_with o (outcome_of new) (source + 1)) b.output
+    ∙ ap (λ (a : At (Budgeted State)). begun_with (output_of old) a (source + 1)) outcome
+
+pub begun_counted : (e : Edge) (line : SourceLine) → IsCounted e → e.source < 2 ^ 31 → length line.text ≤ LINE → IsCounted (line_begun e line)
+begun_counted e line c few short =
+    let t = taken_bound e line in
+    let s = done_room e line in
+    record { source = omega arith; taken = omega (arith, t, c.taken); skipped = omega (arith, s, c.skipped) }
+
+pub room_to_begin : (m : Machine) (source : ℕ) → IsAtEdge m source true → (m.budget.taken ≤ 2 ^ 62) × ((place_of m).levels.skipped < 2 ^ 62)
+room_to_begin m source p =
+    let e = idle_stands m (p.idle refl) in
+    let t : (outcome_of m).state.taken ≡ m.budget.taken = ap (λ (a : At (Budgeted State)). a.state.taken) e in
+    let s : (outcome_of m).place.levels.skipped ≡ (place_of m).levels.skipped = ap (λ (a : At (Budgeted State)). a.place.levels.skipped) e in
+    let c = p.counted in
+    (omega (arith, t, c.source, c.taken), omega (arith, s, c.source, c.skipped))
+
+-- ---- the next line
+
+left_by : (result : Bool) (line : Line) (next : Option Line) (given rest : List Given) → next ≡ taken_if result line → rest ≡ given
+    → (if not result then None else Some rest) ≡ left_if next given
+left_by true line next given rest e r = rw (e, r) refl
+left_by false line next given rest e r = rw e refl
+
+pub advanced : {P S : Type 0} (left : P → S → List Message → Type 0) (old new : Machine) (source : ℕ) (s t : S) (result : Bool)
+    → Advances left old s result new t → edge_of new source (not result) ≡ line_taken (edge_of old source false)
+advanced left old new source s t result a =
+    ap (λ (o : Output). edge_with o (end_of new) source (if not result then None else Some (to_come new))) a.output
+    ∙ ap (λ (x : At (Budgeted State)). edge_with (output_of old) x source (if not result then None else Some (to_come new))) a.ends
+    ∙ ap (λ (c : Option (List Given)). edge_with (output_of old) (end_of old) source c)
+    (left_by result new.actions.line (next_line (to_come old)) (after_line (to_come old)) (to_come new) a.line a.rest)
+
+-- ---- the code's object
+
+abbrev counts : ℕ → ℕ → ℕ → Counts
+counts source taken expansions = record { source = source; taken = taken; expansions = expansions }
+
+pub none_in : (m : Machine) (source : ℕ) (is_idle : Bool) (r : LinesState) → state_of m source is_idle ≡ r
+    → r.edge.to_come ≡ None → (edge_of m source is_idle).to_come ≡ None
+none_in m source is_idle r e none = ap (λ (x : LinesState). x.edge.to_come) e ∙ none
+
+pub few_in : (m : Machine) (source : ℕ) (is_idle : Bool) (r : LinesState) → state_of m source is_idle ≡ r → r.edge.source < 2 ^ 31 → source < 2 ^ 31
+few_in m source is_idle r e few =
+    let h : source ≡ r.edge.source = ap (λ (x : LinesState). x.edge.source) e in
+    omega (arith, h, few)
+
+idle_unless : (result : Bool) (m : Machine) → IsIdleUnless result m → not result ≡ true → machine.is_idle m ≡ true
+idle_unless true m h e = absurd (cc)
+idle_unless false m h e = h
+
+is_idle_of : (m : Machine) (source : ℕ) (is_idle : Bool) → (edge_of m source is_idle).to_come ≡ None → is_idle ≡ true
+is_idle_of m source true e = refl
+is_idle_of m source false e = absurd (cc)
+
+pub new_invariant : (output : Output) (m : Machine) → IsNew output m → IsAtEdge m 0 true
+new_invariant output m n = record {
+  idle = λ _. new_idle output m n;
+  counted = subst IsCounted (sym (new_at output m n)) (new_counted output);
+}
+
+pub begin_room : (m : Machine) (source : ℕ) (is_idle : Bool) → IsAtEdge m source is_idle → (edge_of m source is_idle).to_come ≡ None
+    → (m.budget.taken ≤ 2 ^ 62) × (m.stack.top.spot.levels.skipped < 2 ^ 62)
+begin_room m source true p none = room_to_begin m source p
+begin_room m source false p none = absurd (cc)
+
+pub begin_edge : (old new : Machine) (source : ℕ) (is_idle : Bool) (line : List ℕ) (number : ℕ) → IsAtEdge old source is_idle
+    → (edge_of old source is_idle).to_come ≡ None → Begins line number old new
+    → edge_of new (source + 1) false ≡ line_begun (edge_of old source is_idle) (record { text = line; number = number; notes = [] })
+begin_edge old new source true line number p none b = begun old new source (record { text = line; number = number; notes = [] }) (p.idle refl) b
+begin_edge old new source false line number p none b = absurd (cc)
+
+pub begin_invariant : (old new : Machine) (source : ℕ) (is_idle : Bool) (line : List ℕ) (number : ℕ) → IsAtEdge old source is_idle
+    → (edge_of old source is_idle).to_come ≡ None → Begins line number old new → source < 2 ^ 31 → length line ≤ LINE
+    → IsAtEdge new (source + 1) false
+begin_invariant old new source is_idle line number p none b few short =
+    let l : SourceLine = record { text = line; number = number; notes = [] } in
+    let e = edge_of old source is_idle in
+    record {
+      idle = λ h. absurd (cc);
+      counted = subst IsCounted (sym (begin_edge old new source is_idle line number p none b)) (begun_counted e l p.counted few short);
+    }
+
+-- after the next line, or at the end
+pub advance_invariant : {P S : Type 0} (left : P → S → List Message → Type 0) (old new : Machine) (source : ℕ) (s t : S) (result : Bool)
+    → IsAtEdge old source false → Advances left old s result new t → IsAtEdge new source (not result)
+advance_invariant left old new source s t result p a = record {
+  idle = idle_unless result new a.idle;
+  counted = subst IsCounted (sym (advanced left old new source s t result a))
+      (record { source = p.counted.source; taken = p.counted.taken; skipped = p.counted.skipped });
+}
+
+-- where all was given, the machine stands at the page's edge
+pub counts_at : (m : Machine) (source : ℕ) (is_idle : Bool) → IsAtEdge m source is_idle → (edge_of m source is_idle).to_come ≡ None
+    → counts source m.budget.taken m.actions.memory.expansions ≡ counts_of (edge_of m source is_idle)
+counts_at m source true p none =
+    ap (λ (a : At (Budgeted State)). counts source a.state.taken a.state.rest.memory.expansions) (sym (idle_stands m (p.idle refl)))
+counts_at m source false p none = absurd (cc)
+
+pub fits_at : (m : Machine) (source : ℕ) (is_idle : Bool) → IsAtEdge m source is_idle → (edge_of m source is_idle).to_come ≡ None
+    → PlaceFits (place_of m) → MemoryFits m.actions.memory → RoffFits (edge_of m source is_idle)
+fits_at m source true p none f g =
+    let e = sym (idle_stands m (p.idle refl)) in
+    record {
+      memory = subst (λ (a : At (Budgeted State)). MemoryFits a.state.rest.memory) e g;
+      place = subst (λ (a : At (Budgeted State)). PlaceFits a.place) e f;
+    }
+fits_at m source false p none f g = absurd (cc)
+
+pub end_notes_at : (m : Machine) (source : ℕ) (is_idle : Bool) → IsAtEdge m source is_idle → (edge_of m source is_idle).to_come ≡ None
+    → end_notes (edge_of m source is_idle) ≡ machine.end_notes m
+end_notes_at m source true p none =
+    ap (λ (a : At (Budgeted State)). (finish_outcome a.place.region false a.state.rest.memory).notes) (idle_stands m (p.idle refl))
+end_notes_at m source false p none = absurd (cc)
+
+ended_counted : (old new : Machine) (source : ℕ) → machine.is_idle old ≡ true → machine.is_idle new ≡ true → new.stack ≡ old.stack → new.budget ≡ old.budget
+    → IsCounted (edge_of old source true) → IsCounted (edge_of new source true)
+ended_counted old new source i j s b c =
+    let o = idle_stands old i in
+    let n = idle_stands new j in
+    let t : (outcome_of new).state.taken ≡ (outcome_of old).state.taken =
+    ap (λ (a : At (Budgeted State)). a.state.taken) n ∙ ap (λ (x : Budget). x.taken) b ∙ sym (ap (λ (a : At (Budgeted State)). a.state.taken) o) in
+    let k : (outcome_of new).place.levels.skipped ≡ (outcome_of old).place.levels.skipped =
+    ap (λ (a : At (Budgeted State)). a.place.levels.skipped) n ∙ ap (λ (x : stack.Stack). x.top.spot.levels.skipped) s
+    ∙ sym (ap (λ (a : At (Budgeted State)). a.place.levels.skipped) o) in
+    record { source = c.source; taken = omega (arith, t, c.taken); skipped = omega (arith, k, c.skipped) }
+
+pub end_invariant : (old new : Machine) (source : ℕ) (is_idle : Bool) → IsAtEdge old source is_idle → (edge_of old source is_idle).to_come ≡ None
+    → new.stack ≡ old.stack → new.budget ≡ old.budget → IsAtEdge new source is_idle
+end_invariant old new source true p none s b =
+    let i = ap (λ (x : stack.Stack). is_nothing (stack.next_of x)) s ∙ p.idle refl in
+    record { idle = λ _. i; counted = ended_counted old new source (p.idle refl) i s b p.counted }
+end_invariant old new source false p none s b = absurd (cc)

@@ -1,0 +1,29 @@
+use Rattle.std.proofs.Common.{[], ap, ◌∙◌}
+use Rattle.page_roff_source.specs.Edges.{LinesState}
+use Rattle.page_roff_source.specs.Edges.{line_begun}
+use Rattle.page_roff_source.proofs.RoffLineLemmas.{none_in, few_in, begin_room, begin_edge, begin_invariant}
+use Rattle.page_roff_source.proofs.roff_lines.RoffLines.source.Goals as goal
+
+pub begin-requires-clause-skips : goal.begin-requires-clause-skips
+begin-requires-clause-skips c =
+    let a = c.self.inside in
+    (begin_room a.machine a.source a.is_idle c.self.invariant (none_in a.machine a.source a.is_idle _ c.self.view_is c.requires.idle)).1
+
+pub begin-requires-clause-count : goal.begin-requires-clause-count
+begin-requires-clause-count c =
+    let a = c.self.inside in
+    (begin_room a.machine a.source a.is_idle c.self.invariant (none_in a.machine a.source a.is_idle _ c.self.view_is c.requires.idle)).0
+
+pub invariant_of-self : goal.invariant_of-self
+invariant_of-self c =
+    let a = c.self.inside in
+    begin_invariant a.machine c.begin.new.self a.source a.is_idle c.args.line.now c.args.number c.self.invariant
+    (none_in a.machine a.source a.is_idle _ c.self.view_is c.requires.idle) c.begin.ensures
+    (few_in a.machine a.source a.is_idle _ c.self.view_is c.requires.count) c.requires.line.bounded
+
+pub returns : goal.returns
+returns c =
+    let a = c.self.inside in
+    begin_edge a.machine c.begin.new.self a.source a.is_idle c.args.line.now c.args.number c.self.invariant
+    (none_in a.machine a.source a.is_idle _ c.self.view_is c.requires.idle) c.begin.ensures
+    ∙ ap (λ (r : LinesState). line_begun r.edge (record { text = c.args.line.now; number = c.args.number; notes = [] })) c.self.view_is

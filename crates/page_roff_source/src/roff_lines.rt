@@ -1,0 +1,142 @@
+//! The source lines of a page, run one after another.
+
+ghost use Rattle.std.specs.Prelude.{◌≡◌, ◌≤◌, ◌<◌, ◌^◌, ⊤, [], length, IfOk, IfSome, None, option_map};
+ghost use mathlib.Core.Option.{none};
+ghost use Rattle.std.specs.Borrow.{sem, follows_so};
+ghost use Rattle.page_core_base.specs.LinesTaken.{line_seen};
+ghost use Rattle.page_core_base.specs.Texts.{IsLine};
+ghost use Rattle.page_core_limits.specs.declared.TheConstants.{LINE};
+ghost use Rattle.page_roff_values.specs.Latches.{Came};
+ghost use Rattle.page_roff_machine.specs.Giving.{notes_before, next_line};
+ghost use Rattle.page_roff_source.specs.Caps.{RoffFits, RunsWithin};
+ghost use Rattle.page_roff_source.specs.Edges.{first_edge, line_begun, given_of, line_taken, end_notes, is_idle, counts_of};
+ghost use Rattle.page_roff_source.specs.RoffLines.{RunsOn};
+
+use crate::counts::Counts;
+use page_core_base::{Output, Taken};
+use page_roff_machine::Machine;
+use page_roff_values::NoteOut;
+use std::alloc::{AllocError, Global};
+use std::marker::Model;
+
+/// Runs the source lines of a page one after another, with the macros that they call, and lends the finished lines that they give.
+///
+/// It reports to what never fails; [`Roff`](crate::Roff) reports to a sink. All memory is reserved by [`RoffLines::new`].
+#[derive(Drop)]
+pub struct RoffLines {
+    machine: Machine,
+    source: u64,
+    is_idle: bool,
+}
+
+impl Model for RoffLines {
+    ghost use Rattle.page_roff_source.specs.Edges.{LinesState};
+
+    ghost Value = { LinesState };
+
+    ghost use Rattle.page_roff_source.specs.RoffLines.{state_of, IsAtEdge};
+
+    ghost view = { λ l. state_of l.machine l.source l.is_idle };
+
+    ghost invariant = { λ l. IsAtEdge l.machine l.source l.is_idle };
+}
+
+impl RoffLines {
+    ghost use Rattle.page_roff_source.specs.contracts.roff_lines.RoffLines.{the_row};
+
+    /// Before the first line of a page of an output.
+    pub fn new(alloc: Global, output: Output) -> Result<RoffLines, AllocError>
+        ensures edge { IfOk result (λ l. l.edge ≡ first_edge output) }
+        ensures running { IfOk result (λ l. l.running ≡ []) }
+    {
+        Ok(RoffLines {
+            machine: Machine::new(alloc, output)?,
+            source: 0,
+            is_idle: true,
+        })
+    }
+
+    /// A source line begins, of a number; there are at most 2^31 of them in a page. What it gives is asked for by
+    /// [`RoffLines::take_into`], up to its end, before another one.
+    pub fn source(&mut self, line: &[u8], number: u32)
+        requires idle { self.old.edge.to_come ≡ None }
+        requires line { IsLine line.now }
+        requires count { self.old.edge.source < 2 ^ 31 }
+        ensures { self.new.edge ≡ line_begun self.old.edge (record { text = line.now; number = number; notes = [] }) }
+    {
+        self.source += 1;
+        self.is_idle = false;
+        self.machine.begin(line, number);
+    }
+
+    /// Runs on up to the next finished line; whether there is one.
+    pub(crate) fn advance<O: NoteOut>(&mut self, out: &mut O) -> bool
+        ensures { RunsOn O.left self.old out.old result self.new out.new }
+    {
+        if self.is_idle {
+            return false;
+        }
+        let is_taken = self.machine.advance(out);
+        self.is_idle = !is_taken;
+        is_taken
+    }
+
+    /// The finished line that was given last.
+    pub(crate) fn line(&self) -> Taken<'_>
+        ensures line { line_seen result ≡ self.now.line }
+        ensures short { length result.text.now ≤ LINE }
+    {
+        self.machine.line()
+    }
+
+    /// The next finished line of the source line, of at most `LINE` bytes; none where the source line is done. The messages before it are
+    /// reported first.
+    pub fn take_into<O: NoteOut>(&mut self, out: &mut O) -> Option<Taken<'_>>
+        ensures came { Came O.left out.old (notes_before (given_of self.old.edge)) out.new }
+        ensures line { option_map line_seen result ≡ next_line (given_of self.old.edge) }
+        ensures short { IfSome result (λ taken. length taken.text.now ≤ LINE) }
+        ensures* after { sem 𝓛 (follows_so the_row the_row self.entry.ghost_name none (λ _ _. ⊤)
+            (λ v. v.edge ≡ line_taken self.old.edge)) }
+    {
+        if self.advance(out) {
+            Some(self.line())
+        } else {
+            None
+        }
+    }
+
+    /// The page ends after a line that is done: an open region is reported.
+    pub fn end_into<O: NoteOut>(&mut self, out: &mut O)
+        requires { self.old.edge.to_come ≡ None }
+        ensures came { Came O.left out.old (end_notes self.old.edge) out.new }
+        ensures idle { self.new.edge.to_come ≡ None }
+    {
+        self.machine.end(out);
+    }
+
+    /// Whether the last source line is done, or none came.
+    pub(crate) fn is_idle(&self) -> bool
+        ensures { result ≡ is_idle self.now.edge }
+    {
+        self.is_idle
+    }
+
+    /// What was counted up to the last line that is done.
+    pub fn counts(&self) -> Counts
+        ensures { self.now.edge.to_come ≡ None → result ≡ counts_of self.now.edge }
+    {
+        Counts {
+            source: self.source,
+            taken: self.machine.taken(),
+            expansions: self.machine.expansions(),
+        }
+    }
+
+    /// What is held, between two lines and in a line, is within its limits. Nothing is done: the machine tells it.
+    pub fn caps_law(&self)
+        ensures fits { self.now.edge.to_come ≡ None → RoffFits self.now.edge }
+        ensures running { RunsWithin self.now.running }
+    {
+        self.machine.caps_law();
+    }
+}

@@ -1,0 +1,95 @@
+-- The words that blocks and line scopes of mdoc(7) print themselves, where they begin and where they end. Source: mdoc(7), "MACRO REFERENCE".
+use Rattle.std.specs.Prelude.{ℕ, min, false, List, Option, None, Some, codes}
+use Rattle.page_core_base.specs.declared.places.Place.{Place}
+use Rattle.page_core_limits.specs.declared.TheConstants.{LINE}
+use Rattle.page_roff_forms.specs.declared.quotes.Argument.{Argument}
+use Rattle.page_scopes_layout.specs.declared.contexts.Context.{Context}
+use Rattle.page_scopes_leaves.specs.LineWords.{argument_word, line_word, own_word}
+use Rattle.page_scopes_leaves.specs.Outcomes.{Outcome, nothing}
+use Rattle.page_scopes_leaves.specs.Phrases.{phrase_context, phrase_items, phrase_running}
+use Rattle.page_scopes_leaves.specs.declared.phrases.Phrase.{Phrase}
+use Rattle.page_scopes_leaves.specs.declared.runnings.Running.{Running}
+use Rattle.page_scopes_tree.specs.declared.labels.Explicit.{Explicit}
+use Rattle.page_scopes_tree.specs.declared.labels.Explicit.TheVariants as explicits
+use Rattle.page_scopes_tree.specs.declared.labels.Label.{Label}
+use Rattle.page_scopes_tree.specs.declared.labels.Label.TheVariants as labels
+use Rattle.page_sets_lines.specs.Marks.{closing, opening, quotation_marks}
+use Rattle.page_sets_lines.specs.declared.blocks.Block.{Block}
+use Rattle.page_sets_lines.specs.declared.blocks.Block.TheVariants as blocks
+use Rattle.page_sets_lines.specs.declared.blocks.BlockOpener.{BlockOpener}
+use Rattle.page_sets_lines.specs.declared.blocks.BlockOpener.TheVariants as openers
+use Rattle.page_sets_lines.specs.declared.events.Join.TheVariants.{Apart, Glued}
+use Rattle.page_sets_lines.specs.declared.events.Word.{Word}
+use Rattle.page_sets_lines.specs.declared.leaves.OwnWord.{OwnWord}
+use Rattle.page_sets_lines.specs.declared.marks.Marks.{Marks}
+use Rattle.page_sets_lines.specs.declared.openers.LineOpener.{LineOpener}
+use Rattle.page_sets_lines.specs.declared.openers.LineOpener.TheVariants as lines
+
+-- ---- where a scope begins
+
+-- the words of an enclosure are glued to its marks
+abbrev pub opening_word : Marks → OwnWord
+opening_word marks = record { own = opening marks; font = None; before = Apart; after = Glued }
+
+-- a dash stands before a description (`Nd`)
+abbrev pub dash_phrase : Place → Phrase (List ℕ)
+dash_phrase place = record {
+  text = codes "\\(en";
+  column = min place.column LINE;
+  is_quoted = false;
+  is_line = false;
+  is_written = false;
+  font = None;
+  before = Apart;
+  after = Apart;
+}
+
+abbrev pub dash : Place → Context → Running → Outcome
+dash place c r = record {
+  items = phrase_items place.line (dash_phrase place) c r;
+  context = phrase_context (dash_phrase place) c r;
+  running = phrase_running (dash_phrase place) c r;
+}
+
+-- `Aq Bq Brq Dq Op Pq Ql Qq Sq`, and `Nd`
+abbrev pub line_words : Place → LineOpener → Context → Running → Outcome
+line_words place (lines.Enclosure marks) c r = own_word place (opening_word marks) c r
+line_words place lines.Description c r = dash place c r
+line_words place _ c r = nothing c r
+
+-- the mark of `Eo` is a word
+abbrev pub mark_word : Argument (List ℕ) → Word (List ℕ)
+mark_word mark = record (argument_word None Apart mark) { after = Glued }
+
+abbrev pub given_mark : ℕ → Option (Argument (List ℕ)) → Context → Running → Outcome
+given_mark line None c r = nothing c r
+given_mark line (Some mark) c r = line_word line (mark_word mark) c r
+
+-- `Ao Bo Bro Do Oo Po Qo So`, and `Eo`; `Xo` has no mark
+abbrev pub block_words : Place → BlockOpener (List ℕ) → Context → Running → Outcome
+block_words place (openers.Quotation quotation) c r = own_word place (opening_word (quotation_marks quotation)) c r
+block_words place (openers.Custom mark) c r = given_mark place.line mark c r
+block_words place openers.Extension c r = nothing c r
+
+-- ---- where it ends, by its closer, with its line, by force or with the page
+
+abbrev pub closing_word : Marks → OwnWord
+closing_word marks = record { own = closing marks; font = None; before = Glued; after = Apart }
+
+abbrev pub block_last_words : Place → Block → Context → Running → Outcome
+block_last_words place (blocks.Quotation quotation) c r = own_word place (closing_word (quotation_marks quotation)) c r
+block_last_words place _ c r = nothing c r
+
+abbrev pub explicit_last_words : Place → Explicit → Context → Running → Outcome
+explicit_last_words place (explicits.Block block) c r = block_last_words place block c r
+explicit_last_words place _ c r = nothing c r
+
+abbrev pub line_last_words : Place → LineOpener → Context → Running → Outcome
+line_last_words place (lines.Enclosure marks) c r = own_word place (closing_word marks) c r
+line_last_words place _ c r = nothing c r
+
+-- the mark of `Ec` is a word after its block has ended
+abbrev pub last_words : Place → Label → Context → Running → Outcome
+last_words place (labels.Explicit explicit) c r = explicit_last_words place explicit c r
+last_words place (labels.Line opener) c r = line_last_words place opener c r
+last_words place _ c r = nothing c r

@@ -1,0 +1,165 @@
+//! The words that blocks and line scopes of mdoc(7) print themselves (mdoc(7), "MACRO REFERENCE").
+
+ghost use Rattle.std.specs.Prelude.{◌≡◌};
+ghost use Rattle.page_roff_forms.specs.Arguments.{argument_seen};
+ghost use Rattle.page_scopes_blocks.specs.BlockWords as words;
+ghost use Rattle.page_scopes_leaves.specs.Fits.{BlockOpenerFits, FitsAt, GivenFits};
+ghost use Rattle.page_scopes_leaves.specs.Outcomes.{GivesOutcome};
+ghost use Rattle.page_scopes_leaves.specs.Phrases.{phrase_seen};
+ghost use Rattle.page_sets_lines.specs.Events.{block_opener_seen, given_seen, word_seen};
+
+use page_core_base::{PieceOut, Place};
+use page_core_limits::LINE;
+use page_roff_forms::Argument;
+use page_scopes_layout::Context;
+use page_scopes_leaves::{
+    Phrase, Running, argument_word, give_line_word, give_own_word, give_phrase,
+};
+use page_scopes_tree::{Explicit, Label};
+use page_sets_lines::{Block, BlockOpener, Join, LineOpener, Marks, OwnWord, Word};
+
+// The mark before the words of an enclosure.
+fn opening_word(marks: Marks) -> OwnWord
+    ensures { result ≡ words.opening_word marks }
+{
+    OwnWord {
+        own: marks.opening(),
+        font: None,
+        before: Join::Apart,
+        after: Join::Glued,
+    }
+}
+
+// The mark after the words of an enclosure.
+fn closing_word(marks: Marks) -> OwnWord
+    ensures { result ≡ words.closing_word marks }
+{
+    OwnWord {
+        own: marks.closing(),
+        font: None,
+        before: Join::Glued,
+        after: Join::Apart,
+    }
+}
+
+// The dash of `Nd`, at its macro.
+fn dash_phrase(place: Place) -> Phrase<&'static [u8]>
+    ensures seen { phrase_seen result ≡ words.dash_phrase place }
+    ensures fits { FitsAt result.column result.text.now }
+{
+    Phrase {
+        text: b"\\(en",
+        column: place.column.min(LINE as u32),
+        is_quoted: false,
+        is_line: false,
+        is_written: false,
+        font: None,
+        before: Join::Apart,
+        after: Join::Apart,
+    }
+}
+
+// Gives the dash of `Nd`.
+fn give_dash<O: PieceOut>(out: &mut O, place: Place, context: &mut Context, running: &mut Running)
+    ensures { GivesOutcome O.left out.old
+        (words.dash place context.old running.old)
+        out.new context.new running.new }
+{
+    give_phrase(out, place.line, &dash_phrase(place), context, running);
+}
+
+/// Gives the words that a line scope begins with, in the context of its front: the marks of `Aq Bq Brq Dq Op Pq Ql Qq Sq`, and the dash of `Nd`.
+pub fn give_line_words<O: PieceOut>(
+    out: &mut O,
+    place: Place,
+    opener: LineOpener,
+    context: &mut Context,
+    running: &mut Running,
+)
+    ensures { GivesOutcome O.left out.old
+        (words.line_words place opener context.old running.old)
+        out.new context.new running.new }
+{
+    match opener {
+        LineOpener::Enclosure(marks) => {
+            give_own_word(out, place, opening_word(marks), context, running);
+        }
+        LineOpener::Description => give_dash(out, place, context, running),
+        _ => {}
+    }
+}
+
+// The mark of `Eo` as a word, to which the next one is glued.
+fn mark_word<'a>(mark: Argument<&'a [u8]>) -> Word<&'a [u8]>
+    ensures { word_seen result ≡ words.mark_word (argument_seen mark.entry) }
+{
+    Word {
+        after: Join::Glued,
+        ..argument_word(None, Join::Apart, mark)
+    }
+}
+
+// Gives the mark of `Eo`, where it has one.
+fn give_mark<O: PieceOut>(
+    out: &mut O,
+    line: u32,
+    mark: Option<Argument<&[u8]>>,
+    context: &mut Context,
+    running: &mut Running,
+)
+    requires { GivenFits (given_seen mark) }
+    ensures { GivesOutcome O.left out.old
+        (words.given_mark line (given_seen mark.entry) context.old running.old)
+        out.new context.new running.new }
+{
+    if let Some(mark) = mark {
+        give_line_word(out, line, &mark_word(mark), context, running);
+    }
+}
+
+/// Gives the words that a block begins with, in the context of its front: the marks of `Ao Bo Bro Do Oo Po Qo So` and of `Eo`.
+pub fn give_block_words<O: PieceOut>(
+    out: &mut O,
+    place: Place,
+    opener: &BlockOpener<&[u8]>,
+    context: &mut Context,
+    running: &mut Running,
+)
+    requires { BlockOpenerFits (block_opener_seen opener.now) }
+    ensures { GivesOutcome O.left out.old
+        (words.block_words place (block_opener_seen opener.now) context.old running.old)
+        out.new context.new running.new }
+{
+    match *opener {
+        BlockOpener::Quotation(quotation) => {
+            let word = opening_word(quotation.marks());
+            give_own_word(out, place, word, context, running);
+        }
+        BlockOpener::Custom(mark) => give_mark(out, place.line, mark, context, running),
+        BlockOpener::Extension => {}
+    }
+}
+
+/// Gives the words that a scope ends with, in its own context: the mark after an enclosure's words, of whatever ends it.
+pub fn give_last_words<O: PieceOut>(
+    out: &mut O,
+    place: Place,
+    label: Label,
+    context: &mut Context,
+    running: &mut Running,
+)
+    ensures { GivesOutcome O.left out.old
+        (words.last_words place label context.old running.old)
+        out.new context.new running.new }
+{
+    match label {
+        Label::Line(LineOpener::Enclosure(marks)) => {
+            give_own_word(out, place, closing_word(marks), context, running);
+        }
+        Label::Explicit(Explicit::Block(Block::Quotation(quotation))) => {
+            let word = closing_word(quotation.marks());
+            give_own_word(out, place, word, context, running);
+        }
+        _ => {}
+    }
+}

@@ -1,0 +1,199 @@
+//! Events of mdoc(7) as they are spelled here: each between blanks, by the name of its macro, with a text after `=` where it has one. `head` and
+//! `subhead` are the headings of `Sh` and `Ss`, `in` and `out` delimiters before and after words, `w`, `b` and `i` words in no font of their own, in
+//! bold and in italic, and `tail` is what ends the enclosures before a line's last delimiters.
+
+ghost use Rattle.std.specs.Prelude.{IfSome};
+ghost use Rattle.page_scopes_leaves.specs.Fits.{ArgumentFits, DeedFits, GivenFits};
+ghost use Rattle.page_roff_forms.specs.Arguments.{argument_seen};
+ghost use Rattle.page_sets_lines.specs.Events.{deed_seen, given_seen, word_seen};
+
+use page_core_base::Font;
+use page_roff_forms::{Argument, Quoting};
+use page_sets_lines::{
+    BlockCloser, BlockOpener, BodyParagraphName, Closer, Deed, HeadingName, Join, Leaf, LineOpener,
+    LineStep, Marks, OneLineName, Opener, Own, OwnWord, Quotation, Role, Word,
+};
+
+// The bytes at most of a text, and the columns of a line.
+const MOST: usize = 1_000;
+
+// The marks of an enclosure that ends with its line.
+fn marks_of(name: &str) -> Option<Marks> {
+    match name {
+        "Aq" => Some(Marks::Angle),
+        "Bq" | "Op" => Some(Marks::Square),
+        "Brq" => Some(Marks::Curly),
+        "Pq" => Some(Marks::Round),
+        "Dq" => Some(Marks::Double),
+        "Sq" | "Ql" => Some(Marks::Single),
+        "Qq" => Some(Marks::Straight),
+        _ => None,
+    }
+}
+
+// What a macro begins that another one ends.
+fn opened_of(name: &str) -> Option<Quotation> {
+    match name {
+        "Ao" => Some(Quotation::Ao),
+        "Bo" => Some(Quotation::Bo),
+        "Bro" => Some(Quotation::Bro),
+        "Do" => Some(Quotation::Do),
+        "Oo" => Some(Quotation::Oo),
+        "Po" => Some(Quotation::Po),
+        "Qo" => Some(Quotation::Qo),
+        "So" => Some(Quotation::So),
+        _ => None,
+    }
+}
+
+// What that one ends.
+fn closed_of(name: &str) -> Option<Quotation> {
+    match name {
+        "Ac" => Some(Quotation::Ao),
+        "Bc" => Some(Quotation::Bo),
+        "Brc" => Some(Quotation::Bro),
+        "Dc" => Some(Quotation::Do),
+        "Oc" => Some(Quotation::Oo),
+        "Pc" => Some(Quotation::Po),
+        "Qc" => Some(Quotation::Qo),
+        "Sc" => Some(Quotation::So),
+        _ => None,
+    }
+}
+
+// What needs no text.
+fn bare_deed<'a>(name: &str) -> Option<Deed<&'a [u8]>>
+    ensures { IfSome result (λ deed. DeedFits (deed_seen deed)) }
+{
+    match name {
+        "Sh" => Some(Deed::Open(Opener::Section)),
+        "Ss" => Some(Deed::Open(Opener::Subsection)),
+        "head" => Some(Deed::LineScope(LineOpener::Heading(HeadingName::Sh))),
+        "subhead" => Some(Deed::LineScope(LineOpener::Heading(HeadingName::Ss))),
+        "Nd" => Some(Deed::LineScope(LineOpener::Description)),
+        "D1" => Some(Deed::LineScope(LineOpener::OneLine(OneLineName::D1))),
+        "Pp" => Some(Deed::Leaf(Leaf::Step(LineStep::BodyParagraph(BodyParagraphName::Pp)))),
+        "tail" => Some(Deed::Close(Closer::Enclosures)),
+        _ => None,
+    }
+}
+
+// What has marks of its own.
+fn marked_deed<'a>(name: &str, text: Option<Argument<&'a [u8]>>) -> Option<Deed<&'a [u8]>>
+    requires { GivenFits (given_seen text) }
+    ensures { IfSome result (λ deed. DeedFits (deed_seen deed)) }
+{
+    if let Some(marks) = marks_of(name) {
+        return Some(Deed::LineScope(LineOpener::Enclosure(marks)));
+    }
+    if let Some(quotation) = opened_of(name) {
+        let opener = BlockOpener::Quotation(quotation);
+        return Some(Deed::Open(Opener::Block(opener)));
+    }
+    if let Some(quotation) = closed_of(name) {
+        let closer = BlockCloser::Quotation(quotation);
+        return Some(Deed::Close(Closer::Block(closer)));
+    }
+    match name {
+        "Eo" => Some(Deed::Open(Opener::Block(BlockOpener::Custom(text)))),
+        "Ec" => Some(Deed::Close(Closer::Block(BlockCloser::Custom(text)))),
+        "Xo" => Some(Deed::Open(Opener::Block(BlockOpener::Extension))),
+        "Xc" => Some(Deed::Close(Closer::Block(BlockCloser::Extension))),
+        _ => None,
+    }
+}
+
+// A word as it is spelled: its role and font, and how it stands beside others.
+fn word_of<'a>(name: &str, column: u32, argument: Argument<&'a [u8]>) -> Word<&'a [u8]>
+    requires { ArgumentFits (argument_seen argument) }
+    ensures { ArgumentFits (word_seen result).arg }
+{
+    let (role, font) = match name {
+        "Nm" => (Role::Name { column }, Some(Font::B)),
+        "b" => (Role::Argument, Some(Font::B)),
+        "i" => (Role::Argument, Some(Font::I)),
+        "in" | "out" => (Role::Delimiter, Some(Font::R)),
+        _ => (Role::Argument, None),
+    };
+    let (before, after) = match name {
+        "in" => (Join::Apart, Join::Glued),
+        "out" => (Join::Glued, Join::Apart),
+        _ => (Join::Apart, Join::Apart),
+    };
+    Word {
+        arg: argument,
+        role,
+        font,
+        before,
+        after,
+    }
+}
+
+// A text that a macro prints itself.
+fn own_deed<'a>(own: Own, font: Font, after: Join) -> Deed<&'a [u8]>
+    ensures { DeedFits (deed_seen result) }
+{
+    Deed::Leaf(Leaf::Own(OwnWord {
+        own,
+        font: Some(font),
+        before: Join::Apart,
+        after,
+    }))
+}
+
+// What has no text.
+fn unworded_deed<'a>(name: &str) -> Deed<&'a [u8]>
+    ensures { DeedFits (deed_seen result) }
+{
+    match name {
+        "Nm" => Deed::Leaf(Leaf::Step(LineStep::ManualName)),
+        "Ns" => Deed::Leaf(Leaf::Step(LineStep::Glue)),
+        "Fl" => own_deed(Own::Dash, Font::B, Join::Glued),
+        "Ar" => own_deed(Own::Files, Font::I, Join::Apart),
+        _ => Deed::End { fills: true },
+    }
+}
+
+/// What an event does, by its name in a column and its text.
+pub(crate) fn deed_of<'a>(
+    name: &str,
+    column: u32,
+    text: Option<Argument<&'a [u8]>>,
+) -> Deed<&'a [u8]>
+    requires { GivenFits (given_seen text) }
+    ensures { DeedFits (deed_seen result) }
+{
+    if let Some(deed) = bare_deed(name) {
+        return deed;
+    }
+    if let Some(deed) = marked_deed(name, text) {
+        return deed;
+    }
+    match text {
+        None => unworded_deed(name),
+        Some(argument) => {
+            if name == "Lk" {
+                return Deed::Leaf(Leaf::Step(LineStep::Uri(argument)));
+            }
+            Deed::Word(word_of(name, column, argument))
+        }
+    }
+}
+
+/// The name and the text of an event that begins in a column.
+pub(crate) fn read_part(part: &str, column: u32) -> (&str, Option<Argument<&[u8]>>)
+    ensures { GivenFits (given_seen result.1) }
+{
+    let Some((name, text)) = part.split_once('=') else {
+        return (part, None);
+    };
+    if text.len() > MOST || name.len() > MOST || column > MOST as u32 {
+        return (part, None);
+    }
+    let argument = Argument {
+        text: text.as_bytes(),
+        column: column + name.len() as u32 + 1,
+        quoting: Quoting::Bare,
+    };
+    (name, Some(argument))
+}
