@@ -1,13 +1,14 @@
 -- A page: the rows and messages that its lines settle, and the page to its end. The forest of all lines (roff(7)) gives lines and messages, these are the
--- acts of one block tree (man(7)), its pieces are filled (roff(7), "Filling and adjusting"), and messages go by their levels. Source: mandoc(1).
+-- acts of one block tree (man(7), mdoc(7)), after that of the lines that leave its language open; its pieces are filled (roff(7), "Filling and
+-- adjusting"), and messages go by their levels. Source: mandoc(1).
 use Rattle.std.specs.Prelude.{◌≡◌, ℕ, true, Option, None, List, [], ◌∷◌, ◌++◌, map}
 use Rattle.page_core_base.specs.declared.note_kinds.Level.{Level}
 use Rattle.page_core_base.specs.declared.page_settings.Settings.{Settings}
 use Rattle.page_core_base.specs.Messages.{Message}
 use Rattle.page_core_base.specs.Laid.{Laid, seq}
 use Rattle.page_core_base.specs.Pieces.{Item}
-use Rattle.page_engine_body.specs.Trees.{tree_items}
-use Rattle.page_engine_lines.specs.Acts.{raw_line, lines_steps, lines_items, lines_after, end_steps}
+use Rattle.page_engine_lines.specs.Acts as acts
+use Rattle.page_engine_lines.specs.Acts.{raw_line, lines_items, lines_after}
 use Rattle.page_fill.specs.declared.words.Edge.{Edge as FillEdge}
 use Rattle.page_fill.specs.Edges as fill
 use Rattle.page_engine_lines.specs.Lines.{LinesEdge, footer_items, start_of}
@@ -85,9 +86,7 @@ text_line text number = record { number = number; text = text; notes = [] }
 
 -- the pieces and messages of lines and of the page's end after them: what roff left open, a missing header, the end of all scopes
 abbrev pub page_items : Edge → List Line → List Item
-page_items e lines =
-    let f = after e lines in
-    tree_items e.lines.body (lines_steps e.lines (raw_lines lines) ++ end_steps f.lines.roff f.last)
+page_items e lines = acts.page_items e.lines (raw_lines lines) (after e lines).last
 
 -- the footer after a blank row, unless one stands there, and the end of the row
 abbrev pub footer_laid : Edge → FillEdge → Laid FillEdge

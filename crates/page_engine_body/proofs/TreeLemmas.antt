@@ -151,7 +151,6 @@ leaf_kinds (leaves.Own word) = inr (record { steps = λ e. refl; items = λ b e.
 leaf_kinds (leaves.Example begins) = inr (record { steps = λ e. refl; items = λ b e. refl; after = λ b e. refl })
 leaf_kinds (leaves.Distance rows) = inr (record { steps = λ e. refl; items = λ b e. refl; after = λ b e. refl })
 leaf_kinds (leaves.Fonts font) = inr (record { steps = λ e. refl; items = λ b e. refl; after = λ b e. refl })
-leaf_kinds (leaves.Step step) = inr (record { steps = λ e. refl; items = λ b e. refl; after = λ b e. refl })
 leaf_kinds leaves.FurtherTag = inr (record { steps = λ e. refl; items = λ b e. refl; after = λ b e. refl })
 leaf_kinds (leaves.Step step) = inr (record { steps = λ e. refl; items = λ b e. refl; after = λ b e. refl })
 
@@ -195,6 +194,28 @@ events_tree_after b (event ∷ events) =
     tree_after-append b (event_steps event) (events_steps events)
     ∙ ap (λ (c : BodyEdge). tree_after c (events_steps events)) (event_tree b event).1
     ∙ events_tree_after (event_after b event) events
+
+-- ---- the language
+
+-- events leave the language as it was
+Keeps : BodyEdge → BodyEdge → Type 0
+Keeps next b = (next.header.set ≡ b.header.set) × (next.header.is_decided ≡ b.header.is_decided)
+
+deed_keeps : (deed : Deed (List ℕ)) (b : BodyEdge) (event : Event (List ℕ)) → Keeps (deed_after deed b event) b
+unfolding IsTitle Keeps
+deed_keeps deed b event = elim (deed_kinds deed) [
+  | inl t ↦ rw t.2 (refl, refl)
+  | inr p ↦ rw (p.after b event) (refl, refl)
+]
+
+pub events_keep : (b : BodyEdge) (events : List (Event (List ℕ)))
+    → ((events_after b events).header.set ≡ b.header.set) × ((events_after b events).header.is_decided ≡ b.header.is_decided)
+unfolding event_after events_after Keeps
+events_keep b [] = (refl, refl)
+events_keep b (event ∷ events) =
+    let first = deed_keeps event.deed b event in
+    let next = events_keep (event_after b event) events in
+    (next.0 ∙ first.0, next.1 ∙ first.1)
 
 -- ---- the page's end
 

@@ -1,10 +1,13 @@
 -- The body of a page between its header and its footer: the events of each line, and the header before the event that begins the body.
 -- Source: man(7); mandoc(1), "ASCII Output" and "DIAGNOSTICS".
-use Rattle.std.specs.Prelude.{◌≡◌, ℕ, ◌==◌, ◌≤◌, Bool, false, List, [], ◌∷◌, ◌++◌, length, if◌then◌else◌, unwrap_or}
+use Rattle.std.specs.Prelude.{◌≡◌, ℕ, ◌==◌, ◌≤◌, Bool, true, false, Option, None, Some, List, [], ◌∷◌, ◌++◌, length, if◌then◌else◌, unwrap_or}
 use Rattle.page_core_limits.specs.declared.TheConstants.{LINE}
 use Rattle.page_core_base.specs.Latches.{Came}
 use Rattle.page_core_base.specs.Pieces.{Item, shown}
 use Rattle.page_core_base.specs.declared.note_kinds.NoteKind.TheVariants.{NoBody}
+use Rattle.page_core_base.specs.LinesTaken.{Line}
+use Rattle.page_core_base.specs.declared.page_settings.Language.{Language}
+use Rattle.page_core_base.specs.declared.page_settings.Language.TheVariants as languages
 use Rattle.page_core_base.specs.declared.page_settings.Settings.{Settings}
 use Rattle.page_core_base.specs.declared.pieces.Piece.TheVariants as pieces
 use Rattle.page_engine_header.specs.Fields.{no_fields}
@@ -15,6 +18,10 @@ use Rattle.page_scopes_leaves.specs.Fits.{DeedFits}
 use Rattle.page_scopes_words.specs.Words.{at, says}
 use Rattle.page_scopes.specs.Edges as scopes
 use Rattle.page_scopes.specs.Edges.{PageEdge}
+use Rattle.page_sets.specs.Either.{either_indent}
+use Rattle.page_sets.specs.declared.either.Either.{Either}
+use Rattle.page_sets.specs.declared.either.Either.TheVariants as sets
+use Rattle.page_engine_body.specs.Languages.{language_of}
 use Rattle.page_sets_lines.specs.PlainLines.{event_at, plain_deed}
 use Rattle.page_sets_lines.specs.declared.events.Deed.{Deed}
 use Rattle.page_sets_lines.specs.declared.events.Deed.TheVariants.{Leaf}
@@ -24,9 +31,13 @@ use Rattle.page_sets_lines.specs.declared.macro_names.Prologue.{Prologue as Prol
 use Rattle.page_sets_lines.specs.declared.plain_lines.PlainLine.{PlainLine}
 use Rattle.page_engine_body.specs.Titles.{title_items, title_fields}
 
--- What decides the header and the footer: the measure of rows, the system that is the source of a page without one, and the fields.
+-- What decides the header and the footer: the measure of rows, with the indent that the settings give; the set of macros, and whether a line or the
+-- settings decided it; the system that is the source of a page without one; and the fields.
 pub record HeaderEdge : Type 0 where
   pub measure : Measure
+  pub indent : Option ℕ
+  pub set : Either
+  pub is_decided : Bool
   pub os : List ℕ
   pub fields : Fields
 
@@ -41,9 +52,13 @@ has_begun b = b.scopes.state.running.has_begun
 
 -- ---- the header
 
+abbrev pub is_mdoc : Either → Bool
+is_mdoc sets.Man = false
+is_mdoc sets.Mdoc = true
+
 -- the header stands before the event that begins the body
 abbrev pub header_of : BodyEdge → ℕ → List Item
-header_of b line = header_items false b.header.measure (at line 1) b.header.fields
+header_of b line = header_items (is_mdoc b.header.set) b.header.measure (at line 1) b.header.fields
 
 abbrev pub begin_items : BodyEdge → Event (List ℕ) → List Item
 begin_items b event =
@@ -70,11 +85,7 @@ deed_items _ b event = scope_items b event
 abbrev pub with_title : BodyEdge → PrologueName → List ℕ → BodyEdge
 with_title b name rest =
     record {
-      header = record {
-        measure = b.header.measure;
-        os = b.header.os;
-        fields = title_fields (has_begun b) name b.header.os rest b.header.fields;
-      };
+      header = record b.header { fields = title_fields (has_begun b) name b.header.os rest b.header.fields };
       scopes = b.scopes;
     }
 
@@ -131,15 +142,54 @@ unfoldable pub footer_items : HeaderEdge → ℕ → ℕ → List Item
 footer_items h line blank_rows =
     (if blank_rows == 0 then shown (pieces.Space 1) ∷ [] else []) ++ footer_row h.measure (at line 1) h.fields
 
+-- ---- the language
+
+-- the indent of a page is that of its settings, else that of its set of macros
+abbrev pub indent_of : Option ℕ → Either → ℕ
+indent_of given set = unwrap_or given (either_indent set)
+
+-- before a line of a set: text stands at its indent, and no scope is open
+abbrev pub chosen : BodyEdge → Either → BodyEdge
+chosen b set =
+    let m = record b.header.measure { indent = indent_of b.header.indent set } in
+    record {
+      header = record b.header { measure = m; set = set; is_decided = true };
+      scopes = scopes.start_edge (record { indent = m.indent; output = m.output });
+    }
+
+abbrev pub chosen_if : BodyEdge → Option Either → BodyEdge
+chosen_if b None = b
+chosen_if b (Some set) = chosen b set
+
+-- the body for a line, which decides the language unless one is decided
+abbrev pub decided : BodyEdge → Line → BodyEdge
+decided b line = if b.header.is_decided then b else chosen_if b (language_of line)
+
 -- ---- the start
 
--- a page's indent is that of its settings, else that of its set of macros
-abbrev pub measure_of : Settings → ℕ → Measure
-measure_of s indent = record { width = s.width; indent = unwrap_or s.indent indent; output = s.output }
+-- a page is read as man(7) until its language is decided
+abbrev pub asked_set : Language → Either
+asked_set languages.Auto = sets.Man
+asked_set languages.Man = sets.Man
+asked_set languages.Mdoc = sets.Mdoc
+
+abbrev pub is_asked : Language → Bool
+is_asked languages.Auto = false
+is_asked languages.Man = true
+is_asked languages.Mdoc = true
 
 -- before a page's first line
-abbrev pub start_of : Settings → ℕ → BodyEdge
-start_of s indent = record {
-  header = record { measure = measure_of s indent; os = s.os.bytes; fields = no_fields s.os.bytes };
-  scopes = scopes.start_edge (record { indent = unwrap_or s.indent indent; output = s.output });
-}
+abbrev pub start_of : Settings → BodyEdge
+start_of s =
+    let indent = indent_of s.indent (asked_set s.language) in
+    record {
+      header = record {
+        measure = record { width = s.width; indent = indent; output = s.output };
+        indent = s.indent;
+        set = asked_set s.language;
+        is_decided = is_asked s.language;
+        os = s.os.bytes;
+        fields = no_fields s.os.bytes;
+      };
+      scopes = scopes.start_edge (record { indent = indent; output = s.output });
+    }

@@ -1,3 +1,4 @@
+pub mod Languages
 pub mod Bodies
 pub mod Caps
 pub mod Titles

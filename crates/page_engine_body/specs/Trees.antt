@@ -25,7 +25,7 @@ use Rattle.page_sets_lines.specs.declared.events.Deed.TheVariants.{Leaf}
 use Rattle.page_sets_lines.specs.declared.events.Event.{Event}
 use Rattle.page_sets_lines.specs.declared.leaves.Leaf.TheVariants.{Prologue}
 use Rattle.page_sets_lines.specs.declared.macro_names.Prologue.{Prologue as PrologueName}
-use Rattle.page_engine_body.specs.Bodies.{BodyEdge, HeaderEdge}
+use Rattle.page_engine_body.specs.Bodies.{BodyEdge, HeaderEdge, is_mdoc}
 use Rattle.page_engine_body.specs.Titles.{title_items, title_fields}
 
 -- what stands among the acts of events: a message; a macro of the prologue, with the rest of its line; the page's end, on a line, before its scopes end
@@ -54,7 +54,7 @@ page_end_steps line = aside (closes line) ∷ act (does (acts.PageEnd line)) ∷
 -- ---- what they give
 
 abbrev pub header_at : ℕ → HeaderEdge → List Item
-header_at line h = header_items false h.measure (at line 1) h.fields
+header_at line h = header_items (is_mdoc h.set) h.measure (at line 1) h.fields
 
 -- the header stands before the event that begins the body
 abbrev pub before_fact : Fact → HeaderEdge → LayoutState → List Item
@@ -71,7 +71,7 @@ aside_items (closes line) h s = if s.running.has_begun then [] else (header_at l
 abbrev pub aside_header : Aside → HeaderEdge → LayoutState → HeaderEdge
 aside_header (tells m) h s = h
 aside_header (titles place name rest) h s =
-    record { measure = h.measure; os = h.os; fields = title_fields s.running.has_begun name h.os rest h.fields }
+    record h { fields = title_fields s.running.has_begun name h.os rest h.fields }
 aside_header (closes line) h s = h
 
 abbrev pub body_sides : Sides Aside Step Fact HeaderEdge LayoutState Item

@@ -9,23 +9,28 @@ ghost use Rattle.page_engine_body.specs.Caps.{BodyFits};
 ghost use Rattle.page_sets_lines.specs.Events.{event_seen};
 ghost use Rattle.page_sets_lines.specs.PlainLines.{line_end, plain_events};
 
+use crate::languages::language_of;
 use crate::titles::give_title;
 use arrayvec::ArrayString;
-use page_core_base::{NoteKind, Piece, PieceOut, Place, Settings, Taken};
+use page_core_base::{Language, NoteKind, Piece, PieceOut, Place, Settings, Taken};
 use page_core_limits::LINE;
 use page_engine_header::{Fields, Measure, give_footer_row, give_header};
 use page_scopes::OpenScopes;
 use page_scopes_nodes::PageLayout;
 use page_scopes_words::report;
-use page_sets::{Deed, Event, Leaf, MacroSet};
+use page_sets::{Deed, Either, Event, Leaf, MacroSet};
 use page_sets_lines::PlainLine;
 use std::alloc::{AllocError, Global};
 use std::marker::Model;
 
-/// What decides the pieces of the lines to come: the fields of header and footer, and the open scopes.
+/// What decides the pieces of the lines to come: the fields of header and footer, the set of macros, and the open scopes.
 #[derive(Drop)]
 pub struct Body {
     measure: Measure,
+    // the indent that the settings give
+    indent: Option<u32>,
+    set: Either,
+    is_decided: bool,
     os: ArrayString<256>,
     fields: Fields,
     scopes: OpenScopes,
@@ -37,31 +42,96 @@ impl Model for Body {
     ghost Value = { BodyEdge };
 
     ghost view = { λ b. record {
-      header = record { measure = b.measure; os = b.os.bytes; fields = b.fields };
+      header = record {
+        measure = b.measure;
+        indent = b.indent;
+        set = b.set;
+        is_decided = b.is_decided;
+        os = b.os.bytes;
+        fields = b.fields;
+      };
       scopes = b.scopes;
     } };
 }
 
+// The layout of a page by its measure.
+fn layout_of(measure: Measure) -> PageLayout
+    ensures { result ≡ record { indent = measure.indent; output = measure.output } }
+{
+    PageLayout {
+        indent: measure.indent,
+        output: measure.output,
+    }
+}
+
+// The set of macros that the settings ask for, and whether they ask for one.
+fn asked(language: Language) -> (Either, bool)
+    ensures { result ≡ (bodies.asked_set language, bodies.is_asked language) }
+{
+    match language {
+        Language::Auto => (Either::Man, false),
+        Language::Man => (Either::Man, true),
+        Language::Mdoc => (Either::Mdoc, true),
+    }
+}
+
 impl Body {
-    /// The body of a page that begins, by settings that pass their check, at the indent of a set of macros.
-    pub fn new(alloc: Global, settings: &Settings, indent: u32) -> Result<Body, AllocError>
-        ensures { IfOk result (λ body. body ≡ bodies.start_of settings.now indent) }
+    /// The body of a page that begins, by settings that pass their check.
+    pub fn new(alloc: Global, settings: &Settings) -> Result<Body, AllocError>
+        ensures { IfOk result (λ body. body ≡ bodies.start_of settings.now) }
     {
+        let (set, is_decided) = asked(settings.language);
         let measure = Measure {
             width: settings.width,
-            indent: settings.indent.unwrap_or(indent),
-            output: settings.output,
-        };
-        let page = PageLayout {
-            indent: measure.indent,
+            indent: settings.indent.unwrap_or(set.indent()),
             output: settings.output,
         };
         Ok(Body {
             measure,
+            indent: settings.indent,
+            set,
+            is_decided,
             os: settings.os,
             fields: Fields::new(settings.os.as_str().as_bytes()),
-            scopes: OpenScopes::new(alloc, page)?,
+            scopes: OpenScopes::new(alloc, layout_of(measure))?,
         })
+    }
+
+    /// The set of macros that the page is read by.
+    pub fn set(&self) -> Either
+        ensures { result ≡ self.now.header.set }
+    {
+        self.set
+    }
+
+    // Begins the page anew by a set of macros.
+    #[inline(never)]
+    fn choose(&mut self, set: Either)
+        ensures { self.new ≡ bodies.chosen self.old set }
+    {
+        self.set = set;
+        self.is_decided = true;
+        self.measure.indent = self.indent.unwrap_or(set.indent());
+        self.scopes.restart(layout_of(self.measure));
+    }
+
+    /// Decides the language of the page by a line, unless it is decided.
+    #[inline(always)]
+    pub fn decide(&mut self, line: Taken<'_>)
+        ensures { self.new ≡ bodies.decided self.old (line_seen line.entry) }
+    {
+        if !self.is_decided {
+            if let Some(set) = language_of(line) {
+                self.choose(set);
+            }
+        }
+    }
+
+    // Whether the page is read by the macros of mdoc(7).
+    fn is_mdoc(&self) -> bool
+        ensures { result ≡ bodies.is_mdoc self.now.header.set }
+    {
+        matches!(self.set, Either::Mdoc)
     }
 
     // Gives the header before an event that begins the body.
@@ -73,7 +143,7 @@ impl Body {
                 line: event.place.line,
                 column: 1,
             };
-            give_header(out, false, self.measure, place, &self.fields);
+            give_header(out, self.is_mdoc(), self.measure, place, &self.fields);
         }
     }
 
@@ -191,7 +261,7 @@ impl Body {
     {
         if !self.scopes.has_begun() {
             let place = Place { line, column: 1 };
-            give_header(out, false, self.measure, place, &self.fields);
+            give_header(out, self.is_mdoc(), self.measure, place, &self.fields);
             report(out, NoteKind::NoBody, place, b"");
         }
         self.scopes.give_end(line, out);

@@ -7,6 +7,7 @@
 #![tactic(auto)]
 
 mod bodies;
+mod languages;
 mod laws;
 mod titles;
 

@@ -12,13 +12,18 @@ use Rattle.page_engine_body.specs.Bodies.{BodyEdge}
 use Rattle.page_engine_lines.specs.Given.{given_items, line_items, line_after, body_after}
 use Rattle.page_sets_lines.specs.declared.plain_lines.PlainLine.{PlainLine}
 use Rattle.page_sets_lines.specs.PlainLines.{plain_events, plain_line}
-use Rattle.page_sets_man.specs.Man.{line_events, man_events}
+use Rattle.page_sets.specs.Either.{either_events}
+use Rattle.page_sets.specs.declared.either.Either.{Either}
+use Rattle.page_sets.specs.declared.either.Either.TheVariants as sets
+use Rattle.page_sets_man.specs.Man.{line_events as man_line_events, man_events}
+use Rattle.page_sets_mdoc.specs.Mdoc.{line_events as mdoc_line_events, mdoc_events}
 
 -- a line that is no control line has the events that all sets of macros give of it
-pub plain_gives : (line : Line) (plain : PlainLine) → plain_line line.form line.text ≡ Some plain
-    → man_events line ≡ plain_events line.number line.text plain
-unfolding man_events
-plain_gives line plain h = ap (line_events line) h
+pub plain_gives : (set : Either) (line : Line) (plain : PlainLine) → plain_line line.form line.text ≡ Some plain
+    → either_events set line ≡ plain_events line.number line.text plain
+unfolding man_events mdoc_events
+plain_gives sets.Man line plain h = ap (man_line_events line) h
+plain_gives sets.Mdoc line plain h = ap (mdoc_line_events line) h
 
 one_before : {A B : Type 0} (x : A) (o : Option B) (all front : List A) (rest : B → List A)
     → MatchOption o (all ≡ front) (λ b. all ≡ front ++ rest b) → MatchOption o (x ∷ all ≡ x ∷ front) (λ b. x ∷ all ≡ x ∷ (front ++ rest b))

@@ -1,5 +1,6 @@
 -- The block tree of what roff gives over all lines is what the lines give one after another: helpers of proofs.
-use Rattle.std.proofs.Common.{◌≡◌, ℕ, ◌+◌, nat_lt, Bool, true, false, List, [], ◌∷◌, ◌++◌, length, map, Option, None, refl, sym, ap, ◌∙◌, append_assoc, append-nil, if◌then◌else◌}
+use Rattle.std.proofs.Common.{◌≡◌, ℕ, ◌+◌, nat_lt, Bool, true, false, List, [], ◌∷◌, ◌++◌, length, map, Option, None, Some, ◌⊎◌, inl, inr, refl, sym, ap, ◌∙◌, append_assoc, append-nil, if◌then◌else◌}
+use Rattle.std.proofs.lemmas.Bool.{cases_Bool}
 use Rattle.std.proofs.lemmas.List.{map-append}
 use Rattle.page_core_base.specs.LinesTaken.{Line}
 use Rattle.page_core_base.specs.Messages.{Message, message_about}
@@ -13,69 +14,208 @@ use Rattle.page_roff_source.specs.Given.{given, done}
 use Rattle.page_roff_source.specs.LineByLine.{lines_given, lines_done}
 use Rattle.page_roff_source.proofs.CutLemmas.{given-append, done-append}
 use Rattle.page_roff_source.proofs.LineLemmas.{given-by_line, done-by_line}
-use Rattle.page_engine_body.specs.Bodies.{BodyEdge, end_items as body_end_items}
+use Rattle.page_engine_body.specs.Bodies.{BodyEdge, chosen, chosen_if, decided, events_after, events_items, end_items as body_end_items}
+use Rattle.page_engine_body.specs.Languages.{language_of}
 use Rattle.page_engine_body.specs.Trees.{Aside, tells, events_steps, page_end_steps, tree_items, tree_after}
-use Rattle.page_engine_body.proofs.TreeLemmas.{tree_items-append, tree_after-append, tree_items-none, tree_after-none, aside_items_is, aside_after_is, events_tree_items, events_tree_after, end_tree}
+use Rattle.page_engine_body.proofs.TreeLemmas.{tree_items-append, tree_after-append, tree_items-none, tree_after-none, aside_items_is, aside_after_is, events_tree_items, events_tree_after, events_keep, end_tree}
 use Rattle.page_scopes_laws.specs.Asides.{With, aside}
 use Rattle.page_scopes_tree.specs.Acts.{Step}
 use Rattle.page_scopes_words.specs.Words.{at}
-use Rattle.page_sets_man.specs.Man.{man_events}
-use Rattle.page_engine_lines.specs.Acts.{given_steps, trailing_messages, raw_line, lines_steps, lines_items, lines_after, end_steps}
-use Rattle.page_engine_lines.specs.Given.{line_items, line_after, given_items, body_after}
+use Rattle.page_sets.specs.Either.{either_events}
+use Rattle.page_sets.specs.declared.either.Either.{Either}
+use Rattle.page_engine_lines.specs.Acts.{given_steps, before_language, from_language, first_language, front, rest, front_steps, reader, rest_steps, given_then, trailing_messages, raw_line, lines_items, lines_after, end_steps, page_items}
+use Rattle.page_engine_lines.specs.Given.{set_events, line_items, line_after, given_items, body_after}
 use Rattle.page_engine_lines.specs.Lines.{LinesEdge, source_line, trailing_notes, source_items, source_after, end_items}
 
--- ---- the acts of what was given
+language_cases : (o : Option Either) → (o ≡ None) ⊎ ((set : Either) × (o ≡ Some set))
+language_cases None = inl refl
+language_cases (Some set) = inr (set, refl)
 
-given_steps-append : (above below : List Given) → given_steps (above ++ below) ≡ given_steps above ++ given_steps below
-given_steps-append [] below = refl
-given_steps-append (says m ∷ above) below = ap (λ (t : List (With Aside Step)). aside (tells m) ∷ t) (given_steps-append above below)
-given_steps-append (takes line ∷ above) below =
-    ap (λ (t : List (With Aside Step)). events_steps (man_events line) ++ t) (given_steps-append above below)
-    ∙ sym (append_assoc (events_steps (man_events line)) (given_steps above) (given_steps below))
+-- ---- what was given, once the language is decided
 
-pub given_tree_items : (b : BodyEdge) (all : List Given) → tree_items b (given_steps all) ≡ given_items b all
+pub decided_items : (set : Either) (b : BodyEdge) (all : List Given) → b.header.is_decided ≡ true → b.header.set ≡ set
+    → tree_items b (given_steps set all) ≡ given_items b all
 unfolding given_items
-given_tree_items b [] = tree_items-none b
-given_tree_items b (says m ∷ more) =
-    tree_items-append b (aside (tells m) ∷ []) (given_steps more)
-    ∙ ap (λ (t : List Item). t ++ tree_items (tree_after b (aside (tells m) ∷ [])) (given_steps more)) (aside_items_is b (tells m))
-    ∙ ap (λ (c : BodyEdge). noted m ∷ tree_items c (given_steps more)) (aside_after_is b (tells m))
-    ∙ ap (λ (t : List Item). noted m ∷ t) (given_tree_items b more)
-given_tree_items b (takes line ∷ more) =
-    let steps = events_steps (man_events line) in
-    tree_items-append b steps (given_steps more)
-    ∙ ap (λ (t : List Item). t ++ tree_items (tree_after b steps) (given_steps more)) (events_tree_items b (man_events line))
-    ∙ ap (λ (c : BodyEdge). line_items b line ++ tree_items c (given_steps more)) (events_tree_after b (man_events line))
-    ∙ ap (λ (t : List Item). line_items b line ++ t) (given_tree_items (line_after b line) more)
+decided_items set b [] d s = tree_items-none b
+decided_items set b (says m ∷ more) d s =
+    tree_items-append b (aside (tells m) ∷ []) (given_steps set more)
+    ∙ ap (λ (t : List Item). t ++ tree_items (tree_after b (aside (tells m) ∷ [])) (given_steps set more)) (aside_items_is b (tells m))
+    ∙ ap (λ (c : BodyEdge). noted m ∷ tree_items c (given_steps set more)) (aside_after_is b (tells m))
+    ∙ ap (λ (t : List Item). noted m ∷ t) (decided_items set b more d s)
+decided_items set b (takes line ∷ more) d s =
+    let events = either_events set line in
+    let steps = events_steps events in
+    let c = events_after b events in
+    let keeps = events_keep b events in
+    let same : decided b line ≡ b = rw d refl in
+    let own : set_events b line ≡ events = rw s refl in
+    rw (same, own) (tree_items-append b steps (given_steps set more)
+    ∙ ap (λ (t : List Item). t ++ tree_items (tree_after b steps) (given_steps set more)) (events_tree_items b events)
+    ∙ ap (λ (x : BodyEdge). events_items b events ++ tree_items x (given_steps set more)) (events_tree_after b events)
+    ∙ ap (λ (t : List Item). events_items b events ++ t) (decided_items set c more (keeps.1 ∙ d) (keeps.0 ∙ s)))
 
-pub given_tree_after : (b : BodyEdge) (all : List Given) → tree_after b (given_steps all) ≡ body_after b all
+pub decided_after : (set : Either) (b : BodyEdge) (all : List Given) → b.header.is_decided ≡ true → b.header.set ≡ set
+    → tree_after b (given_steps set all) ≡ body_after b all
 unfolding body_after
-given_tree_after b [] = tree_after-none b
-given_tree_after b (says m ∷ more) =
-    tree_after-append b (aside (tells m) ∷ []) (given_steps more)
-    ∙ ap (λ (c : BodyEdge). tree_after c (given_steps more)) (aside_after_is b (tells m))
-    ∙ given_tree_after b more
-given_tree_after b (takes line ∷ more) =
-    tree_after-append b (events_steps (man_events line)) (given_steps more)
-    ∙ ap (λ (c : BodyEdge). tree_after c (given_steps more)) (events_tree_after b (man_events line))
-    ∙ given_tree_after (line_after b line) more
+decided_after set b [] d s = tree_after-none b
+decided_after set b (says m ∷ more) d s =
+    tree_after-append b (aside (tells m) ∷ []) (given_steps set more)
+    ∙ ap (λ (c : BodyEdge). tree_after c (given_steps set more)) (aside_after_is b (tells m))
+    ∙ decided_after set b more d s
+decided_after set b (takes line ∷ more) d s =
+    let events = either_events set line in
+    let c = events_after b events in
+    let keeps = events_keep b events in
+    let same : decided b line ≡ b = rw d refl in
+    let own : set_events b line ≡ events = rw s refl in
+    rw (same, own) (tree_after-append b (events_steps events) (given_steps set more)
+    ∙ ap (λ (x : BodyEdge). tree_after x (given_steps set more)) (events_tree_after b events)
+    ∙ decided_after set c more (keeps.1 ∙ d) (keeps.0 ∙ s))
+
+-- ---- and before
+
+turned : BodyEdge → Either → List Given → BodyEdge
+turned b set all = chosen_if (tree_after b (given_steps set (before_language all))) (first_language all)
+
+parted_items : BodyEdge → Either → List Given → List (With Aside Step) → List Item
+parted_items b set all last =
+    let c = turned b set all in
+    tree_items b (given_steps set (before_language all)) ++ tree_items c (given_steps c.header.set (from_language all) ++ last)
+
+parted_after : BodyEdge → Either → List Given → BodyEdge
+parted_after b set all = let c = turned b set all in tree_after c (given_steps c.header.set (from_language all))
+
+-- acts in front of all that is given before the language is decided
+front_more : (b c : BodyEdge) (set : Either) (steps : List (With Aside Step)) (items : List Item) (all more : List Given) (last : List (With Aside Step))
+    → tree_items b steps ≡ items → tree_after b steps ≡ c → given_steps set (before_language all) ≡ steps ++ given_steps set (before_language more)
+    → first_language all ≡ first_language more → from_language all ≡ from_language more
+    → (parted_items b set all last ≡ items ++ parted_items c set more last) × (parted_after b set all ≡ parted_after c set more)
+unfolding turned parted_items parted_after
+front_more b c set steps items all more last i a f l r =
+    let g = given_steps set (before_language more) in
+    let next : tree_after b (steps ++ g) ≡ tree_after c g = tree_after-append b steps g ∙ ap (λ (x : BodyEdge). tree_after x g) a in
+    let given : tree_items b (steps ++ g) ≡ items ++ tree_items c g =
+    tree_items-append b steps g ∙ ap (λ (t : List Item). t ++ tree_items (tree_after b steps) g) i ∙ ap (λ (x : BodyEdge). items ++ tree_items x g) a in
+    rw (f, l, r, next, given) (append_assoc items (tree_items c g) _, refl)
+
+-- a line that decides the language
+line_decides : (b : BodyEdge) (set : Either) (line : Line) (language : Either) (more : List Given) (last : List (With Aside Step))
+    → b.header.is_decided ≡ false → language_of line ≡ Some language
+    → (parted_items b set (takes line ∷ more) last ≡ given_items b (takes line ∷ more) ++ tree_items (body_after b (takes line ∷ more)) last)
+    × (parted_after b set (takes line ∷ more) ≡ body_after b (takes line ∷ more))
+unfolding turned parted_items parted_after given_items body_after
+line_decides b set line language more last u o =
+    let c = chosen b language in
+    let all = takes line ∷ more in
+    let steps = given_steps language all in
+    let items = decided_items language c all refl refl in
+    let after = decided_after language c all refl refl in
+    let append = tree_items-append c steps last in
+    rw (u, o, tree_items-none b, tree_after-none b) (
+      append ∙ ap (λ (t : List Item). t ++ tree_items (tree_after c steps) last) items
+          ∙ ap (λ (x : BodyEdge). given_items c all ++ tree_items x last) after,
+      after,
+    )
+
+-- what is given before a language is decided, and from there on, is what its lines give one after another
+parted_is : (b : BodyEdge) (set : Either) (all : List Given) (last : List (With Aside Step)) → b.header.is_decided ≡ false → b.header.set ≡ set
+    → (parted_items b set all last ≡ given_items b all ++ tree_items (body_after b all) last) × (parted_after b set all ≡ body_after b all)
+unfolding turned parted_items parted_after given_items body_after
+parted_is b set [] last u s = rw (tree_items-none b, tree_after-none b) (refl, tree_after-none b)
+parted_is b set (says m ∷ more) last u s =
+    let steps : List (With Aside Step) = aside (tells m) ∷ [] in
+    let k = front_more b b set steps (noted m ∷ []) (says m ∷ more) more last (aside_items_is b (tells m)) (aside_after_is b (tells m)) refl refl refl in
+    let h = parted_is b set more last u s in
+    (k.0 ∙ ap (λ (t : List Item). noted m ∷ t) h.0, k.1 ∙ h.1)
+parted_is b set (takes line ∷ more) last u s = elim (language_cases (language_of line)) [
+  | inl o ↦
+      let events = either_events set line in
+      let c = events_after b events in
+      let keeps = events_keep b events in
+      let same : decided b line ≡ b = rw (u, o) refl in
+      let own : set_events b line ≡ events = rw s refl in
+      let k = front_more b c set (events_steps events) (events_items b events) (takes line ∷ more) more last (events_tree_items b events)
+      (events_tree_after b events) (rw o refl) (rw o refl) (rw o refl) in
+      let h = parted_is c set more last (keeps.1 ∙ u) (keeps.0 ∙ s) in
+      rw (same, own) (
+        k.0 ∙ ap (λ (t : List Item). events_items b events ++ t) h.0
+            ∙ sym (append_assoc (events_items b events) (given_items c more) (tree_items (body_after c more) last)),
+        k.1 ∙ h.1,
+      )
+  | inr l ↦ line_decides b set line l.0 more last u l.1
+]
+
+decided_then : (b : BodyEdge) (all : List Given) (last : List (With Aside Step)) → b.header.is_decided ≡ true
+    → (given_then b all last ≡ given_items b all ++ tree_items (body_after b all) last)
+    × (tree_after (reader b all) (rest_steps b all) ≡ body_after b all)
+decided_then b all last d =
+    let steps = given_steps b.header.set all in
+    let after = decided_after b.header.set b all d refl in
+    rw (d, tree_items-none b) (
+      tree_items-append b steps last ∙ ap (λ (t : List Item). t ++ tree_items (tree_after b steps) last) (decided_items b.header.set b all d refl)
+          ∙ ap (λ (x : BodyEdge). given_items b all ++ tree_items x last) after,
+      after,
+    )
+
+undecided_then : (b : BodyEdge) (all : List Given) (last : List (With Aside Step)) → b.header.is_decided ≡ false
+    → (given_then b all last ≡ given_items b all ++ tree_items (body_after b all) last)
+    × (tree_after (reader b all) (rest_steps b all) ≡ body_after b all)
+unfolding turned parted_items parted_after
+undecided_then b all last u = rw u (parted_is b b.header.set all last u refl)
+
+pub given_then_is : (b : BodyEdge) (all : List Given) (last : List (With Aside Step))
+    → (given_then b all last ≡ given_items b all ++ tree_items (body_after b all) last)
+    × (tree_after (reader b all) (rest_steps b all) ≡ body_after b all)
+given_then_is b all last = elim (cases_Bool b.header.is_decided) [ inl d ↦ decided_then b all last d | inr u ↦ undecided_then b all last u ]
+
+pub given_tree_items : (b : BodyEdge) (all : List Given) → given_then b all [] ≡ given_items b all
+given_tree_items b all =
+    (given_then_is b all []).0 ∙ ap (λ (t : List Item). given_items b all ++ t) (tree_items-none (body_after b all)) ∙ append-nil (given_items b all)
+
+pub given_tree_after : (b : BodyEdge) (all : List Given) → tree_after (reader b all) (rest_steps b all) ≡ body_after b all
+given_tree_after b all = (given_then_is b all []).1
 
 -- ---- cut between two lines
+
+given_items-append : (b : BodyEdge) (above below : List Given) → given_items b (above ++ below) ≡ given_items b above ++ given_items (body_after b above) below
+unfolding given_items body_after
+given_items-append b [] below = refl
+given_items-append b (says m ∷ above) below = ap (λ (t : List Item). noted m ∷ t) (given_items-append b above below)
+given_items-append b (takes line ∷ above) below =
+    let c = line_after b line in
+    ap (λ (t : List Item). line_items b line ++ t) (given_items-append c above below)
+    ∙ sym (append_assoc (line_items b line) (given_items c above) (given_items (body_after c above) below))
+
+body_after-append : (b : BodyEdge) (above below : List Given) → body_after b (above ++ below) ≡ body_after (body_after b above) below
+unfolding body_after
+body_after-append b [] below = refl
+body_after-append b (says m ∷ above) below = body_after-append b above below
+body_after-append b (takes line ∷ above) below = body_after-append (line_after b line) above below
 
 pub lines_items-append : (e : LinesEdge) (above below : List SourceLine)
     → lines_items e (above ++ below) ≡ lines_items e above ++ lines_items (lines_after e above) below
 lines_items-append e above below =
-    ap (λ (g : List Given). tree_items e.body (given_steps g)) (given-append e.roff above below)
-    ∙ ap (λ (t : List (With Aside Step)). tree_items e.body t) (given_steps-append (given e.roff above) (given (done e.roff above) below))
-    ∙ tree_items-append e.body (lines_steps e above) (given_steps (given (done e.roff above) below))
+    let first = given e.roff above in
+    let next = given (done e.roff above) below in
+    let after = given_tree_after e.body first in
+    given_tree_items e.body (given e.roff (above ++ below))
+    ∙ ap (λ (g : List Given). given_items e.body g) (given-append e.roff above below)
+    ∙ given_items-append e.body first next
+    ∙ ap (λ (t : List Item). t ++ given_items (body_after e.body first) next) (sym (given_tree_items e.body first))
+    ∙ ap (λ (t : List Item). lines_items e above ++ t) (sym (given_tree_items (body_after e.body first) next))
+    ∙ ap (λ (x : BodyEdge). lines_items e above ++ given_then x next []) (sym after)
 
 pub lines_after-append : (e : LinesEdge) (above below : List SourceLine) → lines_after e (above ++ below) ≡ lines_after (lines_after e above) below
 lines_after-append e above below =
+    let first = given e.roff above in
     let next = given (done e.roff above) below in
-    let body : tree_after e.body (lines_steps e (above ++ below)) ≡ tree_after (tree_after e.body (lines_steps e above)) (given_steps next) =
-    ap (λ (g : List Given). tree_after e.body (given_steps g)) (given-append e.roff above below)
-    ∙ ap (λ (t : List (With Aside Step)). tree_after e.body t) (given_steps-append (given e.roff above) next)
-    ∙ tree_after-append e.body (lines_steps e above) (given_steps next) in
+    let all = given e.roff (above ++ below) in
+    let body : (lines_after e (above ++ below)).body ≡ (lines_after (lines_after e above) below).body =
+    given_tree_after e.body all
+    ∙ ap (λ (g : List Given). body_after e.body g) (given-append e.roff above below)
+    ∙ body_after-append e.body first next
+    ∙ ap (λ (x : BodyEdge). body_after x next) (sym (given_tree_after e.body first))
+    ∙ sym (given_tree_after (lines_after e above).body next) in
     rw (done-append e.roff above below, body) refl
 
 -- ---- one line
@@ -135,7 +275,7 @@ pub one_after : (e : LinesEdge) (number : ℕ) (text : List ℕ) (notes : List M
 one_after e number text notes idle =
     let line = raw_line number text notes in
     let own = line_given e.roff (source_line text number) in
-    let body : tree_after e.body (lines_steps e (line ∷ [])) ≡ body_after e.body own =
+    let body : (lines_after e (line ∷ [])).body ≡ body_after e.body own =
     given_tree_after e.body (given e.roff (line ∷ []))
     ∙ ap (λ (g : List Given). body_after e.body g) (one_given e.roff line)
     ∙ front_after e.body (notes ++ trailing_messages number text) own in
@@ -144,14 +284,14 @@ one_after e number text notes idle =
 -- ---- no line, and the end
 
 pub no_items : (e : LinesEdge) → lines_items e [] ≡ []
-unfolding lines_given
-no_items e = ap (λ (g : List Given). tree_items e.body (given_steps g)) (given-by_line e.roff []) ∙ tree_items-none e.body
+unfolding lines_given given_items
+no_items e = given_tree_items e.body (given e.roff []) ∙ ap (λ (g : List Given). given_items e.body g) (given-by_line e.roff [])
 
 pub none_after : (e : LinesEdge) → e.roff.to_come ≡ None → lines_after e [] ≡ e
-unfolding lines_given lines_done
+unfolding lines_given lines_done body_after
 none_after e idle =
-    let body : tree_after e.body (lines_steps e []) ≡ e.body =
-    ap (λ (g : List Given). tree_after e.body (given_steps g)) (given-by_line e.roff []) ∙ tree_after-none e.body in
+    let body : (lines_after e []).body ≡ e.body =
+    given_tree_after e.body (given e.roff []) ∙ ap (λ (g : List Given). body_after e.body g) (given-by_line e.roff []) in
     rw (done-by_line e.roff [] idle, body) refl
 
 told_items : (b : BodyEdge) (notes : List Message) (line : ℕ)
@@ -166,10 +306,12 @@ told_items b (m ∷ notes) line =
 
 -- what lines give, and then the page's end
 pub end_items_after : (e : LinesEdge) (lines : List SourceLine) (line : ℕ)
-    → tree_items e.body (lines_steps e lines ++ end_steps (done e.roff lines) line)
-    ≡ lines_items e lines ++ end_items (lines_after e lines) line
+    → page_items e lines line ≡ lines_items e lines ++ end_items (lines_after e lines) line
 unfolding end_items
 end_items_after e lines line =
-    tree_items-append e.body (lines_steps e lines) (end_steps (done e.roff lines) line)
-    ∙ ap (λ (t : List Item). lines_items e lines ++ t)
-    (told_items (tree_after e.body (lines_steps e lines)) (end_notes (done e.roff lines)) line)
+    let all = given e.roff lines in
+    let roff = done e.roff lines in
+    (given_then_is e.body all (end_steps roff line)).0
+    ∙ ap (λ (t : List Item). t ++ tree_items (body_after e.body all) (end_steps roff line)) (sym (given_tree_items e.body all))
+    ∙ ap (λ (x : BodyEdge). lines_items e lines ++ tree_items x (end_steps roff line)) (sym (given_tree_after e.body all))
+    ∙ ap (λ (t : List Item). lines_items e lines ++ t) (told_items (lines_after e lines).body (end_notes roff) line)

@@ -1,5 +1,5 @@
 -- What roff gives of a page's lines, as acts of one block tree. Source: mandoc(1), "DIAGNOSTICS".
-use Rattle.std.specs.Prelude.{ℕ, ◌+◌, nat_lt, List, [], ◌∷◌, ◌++◌, length, map, if◌then◌else◌}
+use Rattle.std.specs.Prelude.{ℕ, ◌+◌, nat_lt, List, [], ◌∷◌, ◌++◌, length, map, Option, None, Some, is_some, if◌then◌else◌}
 use Rattle.page_core_base.specs.LinesTaken.{Line}
 use Rattle.page_core_base.specs.Messages.{Message, message_about}
 use Rattle.page_core_base.specs.Pieces.{Item}
@@ -9,18 +9,62 @@ use Rattle.page_roff_forms.specs.Ends.{kept_len}
 use Rattle.page_roff_forms.specs.LineForms.{is_white}
 use Rattle.page_roff_source.specs.Edges.{Edge, SourceLine, end_notes}
 use Rattle.page_roff_source.specs.Given.{given, done}
+use Rattle.page_engine_body.specs.Bodies.{BodyEdge, chosen_if}
+use Rattle.page_engine_body.specs.Languages.{language_of}
 use Rattle.page_engine_body.specs.Trees.{Aside, tells, events_steps, page_end_steps, tree_items, tree_after}
 use Rattle.page_engine_lines.specs.Lines.{LinesEdge}
 use Rattle.page_scopes_laws.specs.Asides.{With, aside}
 use Rattle.page_scopes_tree.specs.Acts.{Step}
 use Rattle.page_scopes_words.specs.Words.{at}
-use Rattle.page_sets_man.specs.Man.{man_events}
+use Rattle.page_sets.specs.Either.{either_events}
+use Rattle.page_sets.specs.declared.either.Either.{Either}
 
--- a message stands where it was given, a line is the events that the macros make of it
-abbrev pub given_steps : List Given → List (With Aside Step)
-given_steps [] = []
-given_steps (says m ∷ more) = aside (tells m) ∷ given_steps more
-given_steps (takes line ∷ more) = events_steps (man_events line) ++ given_steps more
+-- a message stands where it was given, a line is the events that the macros of a set make of it
+abbrev pub given_steps : Either → List Given → List (With Aside Step)
+given_steps set [] = []
+given_steps set (says m ∷ more) = aside (tells m) ∷ given_steps set more
+given_steps set (takes line ∷ more) = events_steps (either_events set line) ++ given_steps set more
+
+-- ---- the language
+
+-- what is given before the first line that decides the language, from this line on, and what it decides
+abbrev pub before_language : List Given → List Given
+before_language [] = []
+before_language (says m ∷ more) = says m ∷ before_language more
+before_language (takes line ∷ more) = if is_some (language_of line) then [] else takes line ∷ before_language more
+
+abbrev pub from_language : List Given → List Given
+from_language [] = []
+from_language (says m ∷ more) = from_language more
+from_language (takes line ∷ more) = if is_some (language_of line) then takes line ∷ more else from_language more
+
+abbrev pub or_language : Option Either → Option Either → Option Either
+or_language None other = other
+or_language (Some set) other = Some set
+
+abbrev pub first_language : List Given → Option Either
+first_language [] = None
+first_language (says m ∷ more) = first_language more
+first_language (takes line ∷ more) = or_language (language_of line) (first_language more)
+
+-- a body reads what is given by its own set up to where the language is decided, if it is not decided yet
+abbrev pub front : BodyEdge → List Given → List Given
+front b given = if b.header.is_decided then [] else before_language given
+
+abbrev pub rest : BodyEdge → List Given → List Given
+rest b given = if b.header.is_decided then given else from_language given
+
+-- the acts up to there, and the body that reads the rest
+abbrev pub front_steps : BodyEdge → List Given → List (With Aside Step)
+front_steps b given = given_steps b.header.set (front b given)
+
+abbrev pub reader : BodyEdge → List Given → BodyEdge
+reader b given =
+    if b.header.is_decided then b else chosen_if (tree_after b (front_steps b given)) (first_language given)
+
+-- the acts from there on
+abbrev pub rest_steps : BodyEdge → List Given → List (With Aside Step)
+rest_steps b given = given_steps (reader b given).header.set (rest b given)
 
 -- the messages of white space at a line's end
 abbrev pub trailing_messages : ℕ → List ℕ → List Message
@@ -31,17 +75,25 @@ trailing_messages number text =
 abbrev pub raw_line : ℕ → List ℕ → List Message → SourceLine
 raw_line number text notes = record { text = text; number = number; notes = notes ++ trailing_messages number text }
 
--- the acts of all lines, by the forest of them
-abbrev pub lines_steps : LinesEdge → List SourceLine → List (With Aside Step)
-lines_steps e lines = given_steps (given e.roff lines)
+-- ---- all lines
 
--- their pieces and messages, by the block tree of these acts, and what decides those of the lines to come
+-- the pieces and messages of what is given, and then of further acts, by the block trees of the acts before the language is decided and after
+abbrev pub given_then : BodyEdge → List Given → List (With Aside Step) → List Item
+given_then b given more = tree_items b (front_steps b given) ++ tree_items (reader b given) (rest_steps b given ++ more)
+
+-- of the lines, by the forest of them, and what decides those of the lines to come
 abbrev pub lines_items : LinesEdge → List SourceLine → List Item
-lines_items e lines = tree_items e.body (lines_steps e lines)
+lines_items e lines = given_then e.body (given e.roff lines) []
 
 abbrev pub lines_after : LinesEdge → List SourceLine → LinesEdge
-lines_after e lines = record { roff = done e.roff lines; body = tree_after e.body (lines_steps e lines) }
+lines_after e lines =
+    let all = given e.roff lines in
+    record { roff = done e.roff lines; body = tree_after (reader e.body all) (rest_steps e.body all) }
 
 -- the acts at the page's end, on a line: what roff left open is told, and then the body ends
 abbrev pub end_steps : Edge → ℕ → List (With Aside Step)
 end_steps e line = map (λ m. aside (tells m)) (end_notes e) ++ page_end_steps line
+
+-- the pieces and messages of lines, and of the page's end after them, on a line
+abbrev pub page_items : LinesEdge → List SourceLine → ℕ → List Item
+page_items e lines line = given_then e.body (given e.roff lines) (end_steps (done e.roff lines) line)

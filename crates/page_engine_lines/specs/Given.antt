@@ -1,17 +1,22 @@
 -- What roff gives of a source line, as pieces and messages. Source: mandoc(1), "DIAGNOSTICS".
-use Rattle.std.specs.Prelude.{List, [], ◌∷◌, ◌++◌}
+use Rattle.std.specs.Prelude.{ℕ, List, [], ◌∷◌, ◌++◌}
 use Rattle.page_core_base.specs.Pieces.{Item, noted}
 use Rattle.page_roff_effects.specs.States.{Given, says, takes}
 use Rattle.page_core_base.specs.LinesTaken.{Line}
-use Rattle.page_engine_body.specs.Bodies.{BodyEdge, events_after, events_items}
-use Rattle.page_sets_man.specs.Man.{man_events}
+use Rattle.page_engine_body.specs.Bodies.{BodyEdge, decided, events_after, events_items}
+use Rattle.page_sets.specs.Either.{either_events}
+use Rattle.page_sets_lines.specs.declared.events.Event.{Event}
 
--- what the macros of man(7) make of a line
+-- what the macros of a body's set make of a line
+abbrev pub set_events : BodyEdge → Line → List (Event (List ℕ))
+set_events b line = either_events b.header.set line
+
+-- a line decides the language, unless it is decided, and then is what the macros make of it
 abbrev pub line_items : BodyEdge → Line → List Item
-line_items b line = events_items b (man_events line)
+line_items b line = events_items (decided b line) (set_events (decided b line) line)
 
 abbrev pub line_after : BodyEdge → Line → BodyEdge
-line_after b line = events_after b (man_events line)
+line_after b line = events_after (decided b line) (set_events (decided b line) line)
 
 -- a message is itself, a line is what the macros make of it
 unfoldable pub given_items : BodyEdge → List Given → List Item

@@ -10,7 +10,6 @@ use Rattle.page_roff_source.specs.Edges.{Edge, SourceLine}
 use Rattle.page_engine_body.specs.Bodies as bodies
 use Rattle.page_engine_body.specs.Bodies.{BodyEdge}
 use Rattle.page_scopes_words.specs.Words.{at, says}
-use Rattle.page_sets_man.specs.declared.man_set.TheConstants.{PAGE_INDENT}
 use Rattle.page_engine_lines.specs.Given.{given_items, body_after}
 
 -- what decides the pieces of the lines to come
@@ -45,4 +44,4 @@ footer_items e line blank_rows = bodies.footer_items e.body.header line blank_ro
 
 -- the start of a page
 abbrev pub start_of : Settings → LinesEdge
-start_of s = record { roff = roff.first_edge s.output; body = bodies.start_of s PAGE_INDENT }
+start_of s = record { roff = roff.first_edge s.output; body = bodies.start_of s }

@@ -5,25 +5,23 @@ ghost use Rattle.page_core_base.specs.Messages.{Message};
 ghost use Rattle.page_core_base.specs.Pieces.{noted};
 ghost use Rattle.page_roff_effects.specs.States.{Given};
 ghost use Rattle.page_roff_source.specs.Edges.{SourceLine};
-ghost use Rattle.page_roff_source.specs.Given.{done};
 ghost use Rattle.page_engine_body.specs.Bodies.{BodyEdge};
-ghost use Rattle.page_engine_body.specs.Trees.{tree_after, tree_items};
-ghost use Rattle.page_engine_lines.specs.Acts.{end_steps, given_steps, lines_after, lines_items, lines_steps, raw_line};
+ghost use Rattle.page_engine_body.specs.Trees.{tree_after};
+ghost use Rattle.page_engine_lines.specs.Acts.{given_then, lines_after, lines_items, page_items, raw_line, reader, rest_steps};
 ghost use Rattle.page_engine_lines.specs.Given.{body_after, given_items};
 ghost use Rattle.page_engine_lines.specs.Lines.{LinesEdge, end_items, source_after, source_items};
 
-/// The block tree of all that roff gives, messages and lines, is what these give one after another, and leaves the same; one line gives the messages
-/// in front of it and what `source_items` says; and after all lines the page's end gives what `end_items` says.
+/// The block trees of all that roff gives, messages and lines, up to the line that decides the page's language and from it on, are what these give one
+/// after another, and leave the same; one line gives the messages in front of it and what `source_items` says; and after all lines the page's end gives what `end_items` says.
 pub fn tree_law()
-    ensures items { (b : BodyEdge) (given : List Given) → tree_items b (given_steps given) ≡ given_items b given }
-    ensures after { (b : BodyEdge) (given : List Given) → tree_after b (given_steps given) ≡ body_after b given }
+    ensures items { (b : BodyEdge) (given : List Given) → given_then b given [] ≡ given_items b given }
+    ensures after { (b : BodyEdge) (given : List Given) → tree_after (reader b given) (rest_steps b given) ≡ body_after b given }
     ensures line_items { (e : LinesEdge) (number : ℕ) (text : List ℕ) (notes : List Message)
         → lines_items e (raw_line number text notes ∷ []) ≡ map noted notes ++ source_items e number text }
     ensures line_after { (e : LinesEdge) (number : ℕ) (text : List ℕ) (notes : List Message) → e.roff.to_come ≡ None
         → lines_after e (raw_line number text notes ∷ []) ≡ source_after e number text }
     ensures end { (e : LinesEdge) (lines : List SourceLine) (line : ℕ)
-        → tree_items e.body (lines_steps e lines ++ end_steps (done e.roff lines) line)
-        ≡ lines_items e lines ++ end_items (lines_after e lines) line }
+        → page_items e lines line ≡ lines_items e lines ++ end_items (lines_after e lines) line }
 {}
 
 /// A page's lines may be cut anywhere, whatever region, blocks and scopes are open: the forest and the block tree of all lines give what those before the

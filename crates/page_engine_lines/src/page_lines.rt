@@ -13,7 +13,6 @@ use crate::taking::{give_taken, report_trailing};
 use page_core_base::{Fault, PieceLatch, PieceOut, PieceSink, Settings};
 use page_engine_body::Body;
 use page_roff_source::{Counts, RoffLines};
-use page_sets::{MacroSet, Man};
 use std::alloc::Global;
 use std::marker::Model;
 
@@ -44,7 +43,7 @@ impl PageLines {
         let Ok(roff) = RoffLines::new(alloc, settings.output) else {
             return Err(Fault::Memory);
         };
-        let Ok(body) = Body::new(alloc, settings, Man.indent()) else {
+        let Ok(body) = Body::new(alloc, settings) else {
             return Err(Fault::Memory);
         };
         Ok(PageLines { roff, body })

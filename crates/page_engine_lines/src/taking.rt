@@ -14,7 +14,6 @@ use page_engine_body::Body;
 use page_roff_forms::{is_white, kept_len};
 use page_roff_source::RoffLines;
 use page_scopes_words::report;
-use page_sets::Man;
 use page_sets_lines::PlainLine;
 
 /// Reports white space at a line's end.
@@ -37,7 +36,7 @@ pub(crate) fn report_trailing<O: PieceOut>(out: &mut O, number: u32, text: &[u8]
     }
 }
 
-// Gives the pieces and messages of a finished line, at once where it is no control line.
+// Gives the pieces and messages of a finished line, at once where it is no control line. It decides the language, unless it is decided.
 #[inline(always)]
 fn give_finished<L: PieceOut>(body: &mut Body, line: Taken<'_>, out: &mut ItemOut<L>)
     requires { length line.text.now ≤ LINE }
@@ -45,9 +44,13 @@ fn give_finished<L: PieceOut>(body: &mut Body, line: Taken<'_>, out: &mut ItemOu
         (line_items body.old (line_seen line.entry)) out.new.latch }
     ensures after { body.new ≡ line_after body.old (line_seen line.entry) }
 {
+    body.decide(line);
     match PlainLine::of(line) {
         Some(plain) => body.give_plain(line, plain, out),
-        None => body.give_line(&Man, line, out),
+        None => {
+            let set = body.set();
+            body.give_line(&set, line, out);
+        }
     }
 }
 
