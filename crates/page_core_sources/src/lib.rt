@@ -7,4 +7,4 @@
 
 mod sources;
 
-pub use sources::{BYTES, Counted, READS, Reading, Source};
+pub use sources::{BYTES, Counted, READS, Reading, SliceSource, Source};

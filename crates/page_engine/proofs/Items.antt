@@ -4,12 +4,13 @@ use Rattle.page_core_base.specs.Sinks.{IsSink}
 use Rattle.page_core_base.specs.Messages.{Message}
 use Rattle.page_core_base.specs.Rows.{LaidRow}
 use Rattle.page_core_base.specs.declared.faults.Fault.{Fault}
+use Rattle.page_core_base.specs.declared.faults.Fault.TheVariants.{WriteNotes}
 use Rattle.page_core_base.specs.declared.pieces.Piece.{Piece}
 use Rattle.page_core_base.specs.Laid.{Laid, Gets, join}
-use Rattle.page_core_base.specs.Fails.{FailsBySink}
+use Rattle.page_core_base.specs.Fails.{FailsAs, FailsBySink}
 use Rattle.page_fill.specs.declared.words.Edge.{Edge as FillEdge}
 use Rattle.page_fill.specs.Fill as fill
-use Rattle.page_core_base.specs.Pieces.{Item, shown}
+use Rattle.page_core_base.specs.Pieces.{Item, shown, noted}
 use Rattle.page_fill.specs.Items.{laid_item, laid_items}
 use Rattle.page_engine.specs.PageSinks.{Passed, Broken, Ends, cause_later}
 
@@ -29,6 +30,19 @@ piece_passes rg rw_ rf ng nw nf (Ok x) f f' r r' n n' piece gets edge faults = �
     rw laid_items_one record { filler = edge row e; rows = (gets row e).rows; notes = (gets row e).notes; rows_failed = (faults row e).0; notes_failed = (faults row e).1 }
 piece_passes rg rw_ rf ng nw nf (Err x) f f' r r' n n' piece gets edge faults = λ row e.
     rw laid_items_one record { rows = (gets row e).rows; notes = (gets row e).notes; cause = faults row e }
+
+-- a message passes the filler by, and goes to its sink
+pub note_passes : {R N : Type 0} (rg rw_ : R → List LaidRow → R → Type 0) (rf : R → ℕ) (ng nw : N → List Message → N → Type 0) (nf : N → ℕ)
+    → IsSink rg rw_ → ((r r' : R) (xs : List LaidRow) → rg r xs r' → rw_ r xs r')
+    → (res : Result (Unit {0}) Fault) (f : Option FillEdge) (r : R) (n n' : N) (m : Message)
+    → MatchResult res (λ _. ng n (m ∷ []) n') (λ _. nw n (m ∷ []) n') → FailsAs WriteNotes res (nf n) (nf n')
+    → MatchResult res (λ _. (row : FillEdge) → f ≡ Some row → Passed rg rf ng nf f f r r n n' (laid_items row (noted m ∷ [])))
+    (λ fault. (row : FillEdge) → f ≡ Some row → Broken rw_ rf nw nf r r n n' fault (laid_items row (noted m ∷ [])))
+unfolding laid_items
+note_passes rg rw_ rf ng nw nf k whole (Ok x) f r n n' m g h = λ row e.
+    record { filler = e; rows = k.none r; notes = g; rows_failed = refl; notes_failed = h }
+note_passes rg rw_ rf ng nw nf k whole (Err x) f r n n' m g h = λ row e.
+    record { rows = whole r r [] (k.none r); notes = g; cause = rw h.0 h.1 }
 
 -- items, and then the end of the row
 pub ends_after : {R N : Type 0} {rg rw_ : R → List LaidRow → R → Type 0} {rf : R → ℕ} {ng nw : N → List Message → N → Type 0} {nf : N → ℕ}

@@ -5,8 +5,10 @@ pub mod Cuts
 pub mod Phases
 pub mod Lists
 pub mod WholeLines
+pub mod TextBytes
 pub mod Cutting
 pub mod LineCounts
 pub mod BytesRead
 pub mod Through
 pub mod WholeRuns
+pub mod KnownBytes

@@ -20,20 +20,21 @@ use Rattle.page_engine_lines.proofs.TreeLemmas.{lines_items-append, lines_after-
 use Rattle.page_engine.specs.Levels.{given, worst_of, given-append, worst_of-append}
 use Rattle.page_engine.specs.Page.{Edge, IsReached, of_page, start, raw, raw_lines, last_number, after, settled, edge, page, page_items, footer_laid, counts_at, text_line}
 use Rattle.page_engine.specs.ByLine as by_line
+use Rattle.page_engine.specs.Shown.{is_silent, shown_rows-append, shown_rows-nil}
 
 -- ---- one thing after another, by levels
 
-of_page-join : (e f g : Edge) (a b : Laid FillEdge) → f.least ≡ e.least
+of_page-join : (e f g : Edge) (a b : Laid FillEdge) → f.output ≡ e.output → f.least ≡ e.least
     → of_page e g (join a b) ≡ join (of_page e f a) (of_page (of_page e f a).edge g b)
-of_page-join e f g a b h = rw (h, given-append, worst_of-append) refl
+of_page-join e f g a b o h = rw (o, h, shown_rows-append, given-append, worst_of-append) refl
 
--- of the edge beside the open row and the worst level, three fields count
-of_page-same : (e f g : Edge) (l : Laid FillEdge) → f.least ≡ g.least → f.lines ≡ g.lines → f.last ≡ g.last → of_page e f l ≡ of_page e g l
-of_page-same e f g l least lines last = rw (least, lines, last) refl
+-- of the edge beside the open row and the worst level, four fields count
+of_page-same : (e f g : Edge) (l : Laid FillEdge) → f.output ≡ g.output → f.least ≡ g.least → f.lines ≡ g.lines → f.last ≡ g.last → of_page e f l ≡ of_page e g l
+of_page-same e f g l output least lines last = rw (output, least, lines, last) refl
 
 no_messages : (e : Edge) → of_page e e (nothing e.fill) ≡ nothing e
 unfolding given worst_of
-no_messages e = refl
+no_messages e = rw shown_rows-nil refl
 
 -- ---- lists of lines
 
@@ -67,7 +68,7 @@ settled_none e r =
     let none : filled e.fill (lines_items e.lines []) ≡ nothing e.fill =
     ap (λ (l : List Item). filled e.fill l) (no_items e.lines) ∙ sym (items-law e.fill [] r.row r.word) in
     ap (λ (l : Laid FillEdge). of_page e (after e []) l) none
-    ∙ of_page-same e (after e []) e (nothing e.fill) refl (none_after e.lines r.idle) refl
+    ∙ of_page-same e (after e []) e (nothing e.fill) refl refl (none_after e.lines r.idle) refl
     ∙ no_messages e
 
 pub settled-append : (e : Edge) (xs ys : List Line) → IsReached e → settled e (xs ++ ys) ≡ join (settled e xs) (settled (edge e xs) ys)
@@ -82,9 +83,9 @@ settled-append e xs ys r =
     let all = after e (xs ++ ys) in
     ap (λ (l : List Item). of_page e all (filled e.fill l)) (items-append e.lines xs ys)
     ∙ ap (λ (l : Laid FillEdge). of_page e all l) (cut-law e.fill above below r.row r.word)
-    ∙ of_page-join e (after e xs) all a b refl
+    ∙ of_page-join e (after e xs) all a b refl refl
     ∙ ap (λ (l : Laid Edge). join (of_page e (after e xs) a) l)
-    (of_page-same f all (after f ys) b refl (after-append e.lines xs ys) (last_number-append e.last xs ys))
+    (of_page-same f all (after f ys) b refl refl (after-append e.lines xs ys) (last_number-append e.last xs ys))
 
 -- ---- one line
 
@@ -105,9 +106,9 @@ one_line e line r =
     ∙ ap (λ (l : Laid FillEdge). of_page e all l) (sym (items-law e.fill (map noted line.notes ++ items) r.row r.word))
     ∙ ap (λ (l : Laid FillEdge). of_page e all l) (laid_items-append e.fill (map noted line.notes) items)
     ∙ ap (λ (l : Laid FillEdge). of_page e all (join l (laid_items l.edge items))) (told_notes e.fill line.notes)
-    ∙ of_page-join e e all notes laid refl
+    ∙ of_page-join e e all notes laid refl refl
     ∙ ap (λ (l : Laid Edge). join (of_page e e notes) l)
-    (of_page-same f all (by_line.passed f line.text line.number) laid refl (one_after e.lines line.number line.text line.notes r.idle) refl)
+    (of_page-same f all (by_line.passed f line.text line.number) laid refl refl (one_after e.lines line.number line.text line.notes r.idle) refl)
 
 pub line_reached : (e : Edge) (line : Line) → IsReached e → IsReached (by_line.settled_line e line).edge
 line_reached e line r = subst (λ (l : Laid Edge). IsReached l.edge) (one_line e line r) (reached e (line ∷ []) r)
@@ -115,7 +116,8 @@ line_reached e line r = subst (λ (l : Laid Edge). IsReached l.edge) (one_line e
 -- a line without a message of its cutting
 pub text_settled : (e : Edge) (text : List ℕ) (number : ℕ) → IsReached e → settled e (text_line text number ∷ []) ≡ by_line.settled_text e text number
 unfolding given worst_of
-text_settled e text number r = one_line e (text_line text number) r
+text_settled e text number r =
+    one_line e (text_line text number) r ∙ ap (λ (l : Laid Edge). join l (by_line.settled_text l.edge text number)) (no_messages e)
 
 pub text_reached : (e : Edge) (text : List ℕ) (number : ℕ) → IsReached e → IsReached (by_line.settled_text e text number).edge
 text_reached e text number r =
@@ -153,8 +155,8 @@ page_is e lines r =
     ap (λ (l : List Item). of_page e f (seq (filled e.fill l) (λ h. footer_laid f h))) (end_items_after e.lines (raw_lines lines) f.last)
     ∙ ap (λ (l : Laid FillEdge). of_page e f (seq l (λ h. footer_laid f h))) (cut-law e.fill above end r.row r.word)
     ∙ ap (λ (l : Laid FillEdge). of_page e f l) (join_assoc a z w)
-    ∙ of_page-join e f f a (join z w) refl
-    ∙ ap (λ (l : Laid Edge). join (of_page e f a) l) (of_page-same g f g (join z w) refl refl refl)
+    ∙ of_page-join e f f a (join z w) refl refl
+    ∙ ap (λ (l : Laid Edge). join (of_page e f a) l) (of_page-same g f g (join z w) refl refl refl refl)
 
 pub page-append : (e : Edge) (xs ys : List Line) → IsReached e → page e (xs ++ ys) ≡ join (settled e xs) (page (edge e xs) ys)
 page-append e xs ys r =

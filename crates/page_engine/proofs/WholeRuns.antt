@@ -15,13 +15,14 @@ use Rattle.page_engine.specs.declared.runs.Outcome.{Outcome}
 use Rattle.page_engine.specs.declared.runs.Run.{Run}
 use Rattle.page_engine.specs.States.{IsOpenAt, CannotStart, Ends}
 use Rattle.page_engine.specs.Page.{Edge, counts_at, page, start, settled}
-use Rattle.page_engine.specs.Sources.{SourceState}
+use Rattle.page_core_sources.specs.Sources.{SourceState}
 use Rattle.page_engine.specs.Streams.{Streams, Sinks, AllCame}
 use Rattle.page_engine.specs.Runs.{RunsOver, Stopped, HasCause, Broken, whole_page, page_from, settled_from}
 use Rattle.page_engine.specs.PageSinks.{cause_later}
 use Rattle.page_roff_source.specs.declared.counts.Counts.{Counts}
 use Rattle.page_engine.specs.Steps.{source_lines, TookLast, Finished, Finishes, Through, EndedWell, StoppedFrom, ReadsAll}
-use Rattle.page_engine.proofs.BytesRead.{given_none, both_gave, both_within, page_last, lines_last}
+use Rattle.page_core_sources.proofs.GivenLemmas.{given_none, lean_none}
+use Rattle.page_engine.proofs.BytesRead.{both_gave, both_within, page_last, lines_last}
 use Rattle.page_engine.proofs.Through.{broken_front, broken_end}
 use Rattle.page_engine.proofs.WholeLines.{start_reached, page_end, end_counts}
 
@@ -34,7 +35,7 @@ page_start s bytes = ap (page (start s)) (sym (lines-one_by_one s.encoding bytes
 -- the last line was taken, and then the page's end
 pub finished : {R N : Type 0} (k : Sinks R N) → IsSink k.to.row_gave k.to.row_within → IsSink k.to.note_gave k.to.note_within
     → (run mid run' : Run) (r a r' : R) (n b n' : N) (res : Result (Unit {0}) Fault) → TookLast k run mid r a n b
-    → ((e : Edge) → IsOpenAt mid.page e → Ends res k a r' b n' (page e []) run'.page) → Finishes res k run run' r r' n n'
+    → ((e : Edge) → IsOpenAt mid.page e → Ends res k a r' b n' e (page e []) run'.page) → Finishes res k run run' r r' n n'
 finished k rows notes run mid run' r a r' n b n' (Ok o) t ends = record {
   came = λ e h.
       let l = settled e (last_line run.cutter.point) in
@@ -147,6 +148,7 @@ runs_stopped k rows notes {a = a} {b = b} {r = r} {r' = r'} {n = n} {n' = n'} s 
       asked = h.asked;
       few = h.few;
       source = h.source;
+      lean = h.lean;
       runs = stopped_run k rows notes a b r r' n n' s h.asked bytes fault g f;
       cause = cause_of k a b r r' n n' s h.asked bytes fault f;
     }
@@ -162,6 +164,7 @@ runs_well k s p bytes o q g h ow oc =
       asked = h.asked;
       few = h.few;
       source = h.source;
+      lean = h.lean;
       runs = record {
         gave = rw (← page_start) f.came.gave;
         worst = ow ∙ (f.worst ∙ ap (λ (m : Laid Edge). m.edge.worst) (page_start s bytes));
@@ -185,6 +188,7 @@ runs_refused k rows notes a r n s fault h = record {
   asked = 0;
   few = omega arith;
   source = given_none a;
+  lean = lean_none a;
   runs = (h, refl, none_came k.to rows notes r n (start s));
   cause = record { source = refl; rows = refl; notes = refl };
 }
@@ -195,6 +199,7 @@ runs_without_memory k rows notes a r n s g = record {
   asked = 0;
   few = omega arith;
   source = given_none a;
+  lean = lean_none a;
   runs = (g, refl, none_came k.to rows notes r n (start s));
   cause = record { source = refl; rows = refl; notes = refl };
 }

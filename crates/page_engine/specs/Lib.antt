@@ -7,8 +7,6 @@ pub mod Streams
 pub mod States
 pub mod Within
 pub mod Shown
-pub mod Sources
-pub mod Readings
 pub mod Runs
 pub mod Steps
 pub mod Written

@@ -1,8 +1,9 @@
 -- A page: the rows and messages that its lines settle, and the page to its end. The forest of all lines (roff(7)) gives lines and messages, these are the
 -- acts of one block tree (man(7), mdoc(7)), after that of the lines that leave its language open; its pieces are filled (roff(7), "Filling and
--- adjusting"), and messages go by their levels. Source: mandoc(1).
+-- adjusting"), messages go by their levels, and lint has no rows. Source: mandoc(1).
 use Rattle.std.specs.Prelude.{◌≡◌, ℕ, true, Option, None, List, [], ◌∷◌, ◌++◌, map}
 use Rattle.page_core_base.specs.declared.note_kinds.Level.{Level}
+use Rattle.page_core_base.specs.declared.page_settings.Output.{Output}
 use Rattle.page_core_base.specs.declared.page_settings.Settings.{Settings}
 use Rattle.page_core_base.specs.Messages.{Message}
 use Rattle.page_core_base.specs.Laid.{Laid, seq}
@@ -18,9 +19,12 @@ use Rattle.page_roff_lines.specs.Decoding.{Line}
 use Rattle.page_roff_source.specs.Edges.{SourceLine, counts_of}
 use Rattle.page_roff_source.specs.declared.counts.Counts.{Counts}
 use Rattle.page_engine.specs.Levels.{given, worst_of}
+use Rattle.page_engine.specs.Shown.{is_silent, shown_rows}
 
 -- What decides the rest of a page, and is all that is held of its lines.
 pub record Edge : Type 0 where
+  -- the output: lint has no rows
+  pub output : Output
   -- the least level of messages that are given, and the worst that was
   pub least : Option Level
   pub worst : Option Level
@@ -34,7 +38,14 @@ pub record Edge : Type 0 where
 
 -- the start of a page
 abbrev pub start : Settings → Edge
-start s = record { least = s.least; worst = None; lines = start_of s; fill = fill.start s; last = 1 }
+start s = record {
+  output = s.output;
+  least = s.least;
+  worst = None;
+  lines = start_of s;
+  fill = fill.start s;
+  last = 1;
+}
 
 -- source lines, lines taken of them, and interpolations
 abbrev pub counts_at : Edge → Counts
@@ -46,10 +57,10 @@ pub record IsReached (e : Edge) : Type 0 where
   pub row : IsHeld e.fill.sheet
   pub word : is_sound e.fill.word ≡ true
 
--- of what is filled, the messages by their levels, and the worst of these
+-- of what is filled, the rows unless the output is lint, the messages by their levels, and the worst of these
 abbrev pub of_page : Edge → Edge → Laid FillEdge → Laid Edge
 of_page e next l = record {
-  rows = l.rows;
+  rows = shown_rows (is_silent e.output) l.rows;
   notes = given e.least l.notes;
   edge = record next { worst = worst_of e.worst (given e.least l.notes); fill = l.edge };
 }

@@ -1,5 +1,5 @@
 -- What a run over the bytes of a page did. Source: mandoc(1).
-use Rattle.std.specs.Prelude.{◌≡◌, ◌<◌, ◌≤◌, ℕ, ◌-◌, ◌^◌, List, [], ◌++◌, Option, Result, MatchResult, ◌⊎◌, length, take}
+use Rattle.std.specs.Prelude.{◌≡◌, ◌<◌, ◌≤◌, ℕ, ◌-◌, ◌^◌, List, [], ◌++◌, Option, Some, Result, MatchResult, ◌⊎◌, length, take}
 use Rattle.std.specs.Io.KnownBytes.{IsAtEnd}
 use Rattle.page_core_base.specs.Fails.{IsSinkFault, Rose}
 use Rattle.page_core_base.specs.declared.faults.Fault.{Fault}
@@ -11,7 +11,7 @@ use Rattle.page_roff_lines.specs.Cutting.{Point, first_point, point_after, lines
 use Rattle.page_core_base.specs.Checks.{IsGood, IsFirst}
 use Rattle.page_engine.specs.declared.runs.Outcome.{Outcome}
 use Rattle.page_engine.specs.Page.{Edge, counts_at, settled, page, start}
-use Rattle.page_engine.specs.Sources.{SourceState, HasGiven}
+use Rattle.page_core_sources.specs.Sources.{SourceState, HasGiven, IsLean}
 use Rattle.page_engine.specs.Streams.{Streams, Sinks, AllCame, FrontCame}
 
 -- from an edge and a point between two bytes: the page of the bytes to come, and what their lines settle
@@ -113,13 +113,40 @@ pub record Quiet {R N : Type 0} (k : Sinks R N) (a b : SourceState) (r r' : R) (
   pub rows : k.rows_failed r' ≡ k.rows_failed r
   pub notes : k.notes_failed n' ≡ k.notes_failed n
 
--- a run over a source: by this number of calls, at most 2^32 - 1, it gave these bytes
+-- a run over a source: by this number of calls, at most 2^32 - 1, it gave these bytes; but for one of them, each gave a byte or was empty
 pub record RunsOver {R N : Type 0} (res : Result Outcome Fault) (k : Sinks R N) (a b : SourceState)
     (r r' : R) (n n' : N) (s : PageSettings) (bytes : List ℕ) : Type 0 where
   pub asked : ℕ
   pub few : asked ≤ 2 ^ 32 - 1
   pub source : HasGiven a b asked bytes
+  pub lean : IsLean a b asked bytes
   pub runs : Runs res k.to r r' n n' s bytes b.remaining
   pub cause : MatchResult res
       (λ _. Quiet k a b r r' n n')
       (λ fault. HasCause k a b r r' n n' s asked bytes fault)
+
+-- ---- a run over bytes in memory
+
+-- a front of the page came that a front of the bytes makes
+pub record Began {R N : Type 0} (j : Streams R N) (r r' : R) (n n' : N) (s : PageSettings) (bytes : List ℕ) : Type 0 where
+  pub read : List ℕ
+  pub left : List ℕ
+  pub parts : bytes ≡ read ++ left
+  pub front : FrontCame j r r' n n' (whole_page s read)
+
+-- by its fault: no read fails, and a page is too long by its bytes alone
+abbrev pub StoppedIn : {R N : Type 0} → Streams R N → R → R → N → N → PageSettings → List ℕ → Fault → Type 0
+StoppedIn j r r' n n' s bytes Memory = IsGood s × AllCame j r r' n n' (nothing (start s))
+StoppedIn j r r' n n' s bytes Read = ⊥
+StoppedIn j r r' n n' s bytes TooLong =
+    IsGood s × (2 ^ 31 - 1 < length bytes) × AllCame j r r' n n' (settled_page s (take (2 ^ 31 - 1) bytes))
+StoppedIn j r r' n n' s bytes WriteText = IsGood s × Began j r r' n n' s bytes
+StoppedIn j r r' n n' s bytes WriteNotes = IsGood s × Began j r r' n n' s bytes
+StoppedIn j r r' n n' s bytes (Settings fault) = IsFirst s fault × AllCame j r r' n n' (nothing (start s))
+StoppedIn j r r' n n' s bytes Failed = ⊥
+StoppedIn j r r' n n' s bytes Ended = ⊥
+StoppedIn j r r' n n' s bytes (BadIndex line) = ⊥
+
+abbrev pub RunsIn : {R N : Type 0} → Result Outcome Fault → Streams R N → R → R → N → N → PageSettings → List ℕ → Type 0
+RunsIn res j r r' n n' s bytes =
+    MatchResult res (Whole j r r' n n' s bytes (Some [])) (λ fault. StoppedIn j r r' n n' s bytes fault)

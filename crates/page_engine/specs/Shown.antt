@@ -1,4 +1,4 @@
--- Rows that are shown or not. Source: mandoc(1), -T lint.
+-- Rows that are given or not. Source: mandoc(1), -T lint.
 use Rattle.std.specs.Prelude.{◌≡◌, Bool, List, [], ◌++◌, refl}
 use Rattle.std.proofs.Common.{◌∙◌, true, false}
 use Rattle.page_core_base.specs.Rows.{LaidRow}

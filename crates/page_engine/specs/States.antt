@@ -6,15 +6,13 @@ use Rattle.page_core_base.specs.declared.faults.Fault.TheVariants as faults
 use Rattle.page_core_base.specs.declared.note_kinds.Level.{Level}
 use Rattle.page_core_base.specs.declared.page_settings.Settings.{Settings}
 use Rattle.page_core_base.specs.Laid.{Laid}
-use Rattle.page_engine_lines.specs.Lines.{LinesEdge}
-use Rattle.page_roff_source.specs.Edges.{counts_of}
 use Rattle.page_roff_source.specs.declared.counts.Counts.{Counts}
 use Rattle.page_engine.specs.declared.pages.Phase.{Phase}
 use Rattle.page_engine.specs.declared.pages.Phase.TheVariants.{Open, Failed, Ended}
 use Rattle.page_engine.specs.Page.{Edge, IsReached, counts_at}
 use Rattle.page_engine.specs.Streams.{Sinks, Came, Front}
 
--- open, failed or ended; the edge, while it is open; the worst level and the counts, also once it has ended
+-- open, failed or ended; the edge, while it is open; the worst level and the counts, also once it has failed or ended
 pub record PageState : Type 0 where
   pub phase : Phase
   pub edge : Option Edge
@@ -29,17 +27,17 @@ pub record IsOpenAt (p : PageState) (e : Edge) : Type 0 where
   pub worst : p.worst ≡ e.worst
   pub counts : p.counts ≡ counts_at e
 
+-- failed, with the worst level and the counts of the edge before the line, or the end, at which a sink failed
+pub record IsFailedAt (p : PageState) (e : Edge) : Type 0 where
+  pub phase : p.phase ≡ Failed
+  pub worst : p.worst ≡ e.worst
+  pub counts : p.counts ≡ counts_at e
+
 -- ended, with the worst level and the counts of an edge
 pub record IsEndedAt (p : PageState) (e : Edge) : Type 0 where
   pub phase : p.phase ≡ Ended
   pub worst : p.worst ≡ e.worst
   pub counts : p.counts ≡ counts_at e
-
--- while a page is open its counts are those of its lines
-abbrev pub KeepsCounts : Phase → Counts → LinesEdge → Type 0
-KeepsCounts Open counts lines = counts ≡ counts_of lines.roff
-KeepsCounts Failed counts lines = Unit {0}
-KeepsCounts Ended counts lines = Unit {0}
 
 -- ---- faults
 
@@ -80,17 +78,17 @@ pub record IsRefused {R N : Type 0} (res : Result (Unit {0}) Fault) (fault : Fau
 
 -- ---- what is given
 
--- At Ok all that is laid came to the sinks, and the page is open at its edge. At a fault a sink failed, a front
--- of it came to each, and the page has failed.
-abbrev pub Takes : {R N : Type 0} → Result (Unit {0}) Fault → Sinks R N → R → R → N → N → Laid Edge
+-- From an edge: at Ok all that is laid came to the sinks, and the page is open at the next edge. At a fault a sink failed, a front
+-- of it came to each, and the page has failed, with the worst level and the counts from before.
+abbrev pub Takes : {R N : Type 0} → Result (Unit {0}) Fault → Sinks R N → R → R → N → N → Edge → Laid Edge
     → PageState → Type 0
-Takes res k r r' n n' l after = MatchResult res
+Takes res k r r' n n' e l after = MatchResult res
     (λ _. Came k r r' n n' l × IsOpenAt after l.edge)
-    (λ fault. Front k r r' n n' l fault × (after.phase ≡ Failed))
+    (λ fault. Front k r r' n n' l fault × IsFailedAt after e)
 
 -- the same of the end of a page
-abbrev pub Ends : {R N : Type 0} → Result (Unit {0}) Fault → Sinks R N → R → R → N → N → Laid Edge
+abbrev pub Ends : {R N : Type 0} → Result (Unit {0}) Fault → Sinks R N → R → R → N → N → Edge → Laid Edge
     → PageState → Type 0
-Ends res k r r' n n' l after = MatchResult res
+Ends res k r r' n n' e l after = MatchResult res
     (λ _. Came k r r' n n' l × IsEndedAt after l.edge)
-    (λ fault. Front k r r' n n' l fault × (after.phase ≡ Failed))
+    (λ fault. Front k r r' n n' l fault × IsFailedAt after e)

@@ -9,7 +9,7 @@ use Rattle.page_roff_lines.specs.Cutting.{Point, first_point, point_after, lines
 use Rattle.page_engine.specs.declared.runs.Run.{Run}
 use Rattle.page_engine.specs.States.{PageState, IsOpenAt}
 use Rattle.page_engine.specs.Page.{Edge, counts_at, settled, page, start}
-use Rattle.page_engine.specs.Sources.{SourceState, HasGiven}
+use Rattle.page_core_sources.specs.Sources.{SourceState, HasGiven, IsLean}
 use Rattle.page_engine.specs.Streams.{Sinks, AllCame, Came, Front}
 use Rattle.page_engine.specs.Runs.{page_from, settled_from, Broken, IsTooLong}
 
@@ -155,6 +155,7 @@ pub record ReadsAll {R N : Type 0} (res : Result (Unit {0}) Fault) (k : Sinks R 
   pub asked : ℕ
   pub few : asked ≤ 2 ^ 32 - 1
   pub source : HasGiven a b asked bytes
+  pub lean : IsLean a b asked bytes
   pub ends : MatchResult res
       (λ _. EndedWell k run' a b r r' n n' e p bytes)
       (λ fault. StoppedFrom k a b r r' n n' e p asked bytes fault)

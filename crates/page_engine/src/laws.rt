@@ -7,6 +7,7 @@ ghost use Rattle.page_roff_lines.specs.Decoding.{Line};
 ghost use Rattle.page_core_limits.specs.declared.TheConstants.{EXPAND, REREAD};
 ghost use Rattle.page_engine.specs.ByLine as by_line;
 ghost use Rattle.page_engine.specs.Page.{Edge, IsReached, settled, edge, page, counts_at, start};
+ghost use Rattle.page_engine.specs.Within.{IsWithin, text_bytes};
 
 /// The edges that a page comes to: the one of its start, and from each such edge the one that lines leave.
 pub fn reached_law()
@@ -40,4 +41,10 @@ pub fn count_law()
     ensures expansions { (e : Edge) (lines : List Line)
         → (counts_at (edge e lines)).expansions + EXPAND * (counts_at e).taken
         ≤ EXPAND * (counts_at (edge e lines)).taken + (counts_at e).expansions }
+{}
+
+/// The texts that are held between two lines, those of the open row aside, have at most 100,224 bytes: names and what they stand for 65,536, an open
+/// region 16,512, the targets of links 16,384, and up to seven fields of 256 each the rest.
+pub fn texts_law()
+    ensures { (e : Edge) → IsWithin e → text_bytes e ≤ 100224 }
 {}

@@ -10,12 +10,13 @@ ghost use Rattle.page_fill.specs.declared.words.Edge.{Edge as FillEdge};
 ghost use Rattle.page_engine.specs.Layers.{IsAt};
 ghost use Rattle.page_engine.specs.Within.{IsWithin};
 ghost use Rattle.page_engine.specs.ByLine.{settled_text, settled_line, ended, end_laid};
-ghost use Rattle.page_engine.specs.Page.{Edge, start};
+ghost use Rattle.page_engine.specs.Page.{Edge, IsReached, start};
 ghost use Rattle.page_engine.specs.PageSinks.{Ends};
 
 use crate::level_filters::LevelFilter;
 use crate::page_sinks::PageSink;
-use page_core_base::{Fault, Level, NoteSink, RowSink, Settings};
+use crate::shown::{Shown, is_silent};
+use page_core_base::{Fault, Level, NoteSink, Output, RowSink, Settings};
 use page_engine_lines::PageLines;
 use page_fill::Filler;
 use page_roff_lines::Cutter;
@@ -27,6 +28,7 @@ use std::alloc::Global;
 pub(crate) struct Layers {
     pub(crate) filler: Filler,
     pub(crate) lines: PageLines,
+    pub(crate) output: Output,
     pub(crate) least: Option<Level>,
     pub(crate) worst: Option<Level>,
     pub(crate) last: u32,
@@ -37,13 +39,14 @@ impl<R: RowSink, N: NoteSink> PageSink<'_, '_, '_, R, N> {
     fn end(&mut self, lines: &mut PageLines, last: u32) -> Result<(), Fault>
         ensures ends { (f : FillEdge) (e : Edge) → self.old.filler.now ≡ Some f → f ≡ e.fill
             → lines.old ≡ e.lines → last ≡ e.last →
-            Ends result R.gave R.within R.failed ⟦<LevelFilter<'static, N> as NoteSink>⟧.gave
+            Ends result ⟦<Shown<'static, R> as RowSink>⟧.gave ⟦<Shown<'static, R> as RowSink>⟧.within
+            ⟦<Shown<'static, R> as RowSink>⟧.failed ⟦<LevelFilter<'static, N> as NoteSink>⟧.gave
             ⟦<LevelFilter<'static, N> as NoteSink>⟧.within ⟦<LevelFilter<'static, N> as NoteSink>⟧.failed
-            self.old.rows.now self.new.rows.now self.old.notes self.new.notes (end_laid e) }
+            self.old.rows self.new.rows self.old.notes self.new.notes (end_laid e) }
         ensures filler { self.new.filler.ghost_name ≡ self.old.filler.ghost_name }
-        ensures rows { self.new.rows.ghost_name ≡ self.old.rows.ghost_name }
+        ensures rows { self.new.rows.rows.ghost_name ≡ self.old.rows.rows.ghost_name }
         ensures notes { self.new.notes.notes.ghost_name ≡ self.old.notes.notes.ghost_name }
-        ensures rows_same { R.loans self.new.rows.now ≡ R.loans self.old.rows.now }
+        ensures rows_same { R.loans self.new.rows.rows.now ≡ R.loans self.old.rows.rows.now }
         ensures notes_same { N.loans self.new.notes.notes.now ≡ N.loans self.old.notes.notes.now }
     {
         if let Err(fault) = lines.end(self, last) {
@@ -53,7 +56,7 @@ impl<R: RowSink, N: NoteSink> PageSink<'_, '_, '_, R, N> {
         if let Err(fault) = lines.footer(self, last, blank_rows) {
             return Err(fault);
         }
-        self.filler.finish(self.rows, &mut self.notes)
+        self.filler.finish(&mut self.rows, &mut self.notes)
     }
 }
 
@@ -68,6 +71,7 @@ impl Layers {
         Ok(Layers {
             filler,
             lines,
+            output: settings.output,
             least: settings.least,
             worst: None,
             last: 1,
@@ -101,6 +105,10 @@ impl Layers {
             notes,
             least: self.least,
             worst: self.worst,
+        };
+        let rows = Shown {
+            rows,
+            is_silent: is_silent(self.output),
         };
         let mut sink = PageSink {
             filler: &mut self.filler,
@@ -172,6 +180,10 @@ impl Layers {
             least: self.least,
             worst: self.worst,
         };
+        let rows = Shown {
+            rows,
+            is_silent: is_silent(self.output),
+        };
         let mut sink = PageSink {
             filler: &mut self.filler,
             rows,
@@ -191,7 +203,7 @@ impl Layers {
 
     /// What is held between two lines is within its limits.
     pub(crate) fn caps_law(&self)
-        ensures { (e : Edge) → IsAt self.now e → IsWithin e }
+        ensures { (e : Edge) → IsAt self.now e → IsReached e → IsWithin e }
     {
         self.filler.caps_law();
         self.lines.caps_law();

@@ -13,10 +13,9 @@ mod page_sinks;
 mod pages;
 mod runs;
 mod shown;
-mod sources;
 
-pub use laws::{count_law, cut_law, line_by_line_law, reached_law};
+pub use laws::{count_law, cut_law, line_by_line_law, reached_law, texts_law};
+pub use page_core_sources::{BYTES, Counted, READS, Reading, SliceSource, Source};
 pub use page_roff_source::Counts;
 pub use pages::{LINES, Page, Phase};
-pub use runs::{BYTES, Outcome, READS, run_page, run_sinks};
-pub use sources::{Counted, Reading, Source};
+pub use runs::{Outcome, run_bytes, run_page, run_sinks};

@@ -3,49 +3,53 @@
 ghost use Rattle.std.specs.Prelude.{◌≡◌, ℕ, List, Option, Some};
 ghost use Rattle.std.specs.Borrow.{GName};
 ghost use Rattle.page_engine.specs.Levels.{filter-sink};
+ghost use Rattle.page_engine.specs.Shown.{shown-sink};
 ghost use Rattle.page_engine.specs.PageSinks.{PageSinkGave, PageSinkBroke, page-sink};
 
 use crate::level_filters::LevelFilter;
+use crate::shown::Shown;
 use page_core_base::{Fault, Font, Note, NoteSink, Piece, PieceSink, Place, RowSink};
 use page_fill::Filler;
 
-/// Fills pieces, and passes rows and messages on.
+/// Fills pieces, and passes rows and messages on: rows unless the output is lint, messages by their level.
 #[derive(Drop)]
 pub struct PageSink<'f, 'r, 'n, R, N> {
     pub(crate) filler: &'f mut Filler,
-    pub(crate) rows: &'r mut R,
+    pub(crate) rows: Shown<'r, R>,
     pub(crate) notes: LevelFilter<'n, N>,
 }
 
 impl<R: RowSink, N: NoteSink> PieceSink for PageSink<'_, '_, '_, R, N> {
-    ghost gave = { PageSinkGave R.gave R.failed
+    ghost gave = { PageSinkGave ⟦<Shown<'static, R> as RowSink>⟧.gave ⟦<Shown<'static, R> as RowSink>⟧.failed
         ⟦<LevelFilter<'static, N> as NoteSink>⟧.gave ⟦<LevelFilter<'static, N> as NoteSink>⟧.failed
-        (λ s. s.filler.now) (λ s. s.rows.now) (λ s. s.notes) };
+        (λ s. s.filler.now) (λ s. s.rows) (λ s. s.notes) };
 
-    ghost broke = { PageSinkBroke R.within R.failed
+    ghost broke = { PageSinkBroke ⟦<Shown<'static, R> as RowSink>⟧.within ⟦<Shown<'static, R> as RowSink>⟧.failed
         ⟦<LevelFilter<'static, N> as NoteSink>⟧.within ⟦<LevelFilter<'static, N> as NoteSink>⟧.failed
-        (λ s. s.filler.now) (λ s. s.rows.now) (λ s. s.notes) };
+        (λ s. s.filler.now) (λ s. s.rows) (λ s. s.notes) };
 
     ghost Loans = { GName × GName × GName × R.Loans × N.Loans };
 
     ghost loans = { λ s. (
       s.filler.ghost_name,
-      s.rows.ghost_name,
+      s.rows.rows.ghost_name,
       s.notes.notes.ghost_name,
-      R.loans s.rows.now,
+      R.loans s.rows.rows.now,
       N.loans s.notes.notes.now,
     ) };
 
-    ghost laws = { page-sink R.gave R.within R.failed ⟦<LevelFilter<'static, N> as NoteSink>⟧.gave
+    ghost laws = { page-sink ⟦<Shown<'static, R> as RowSink>⟧.gave ⟦<Shown<'static, R> as RowSink>⟧.within
+        ⟦<Shown<'static, R> as RowSink>⟧.failed ⟦<LevelFilter<'static, N> as NoteSink>⟧.gave
         ⟦<LevelFilter<'static, N> as NoteSink>⟧.within ⟦<LevelFilter<'static, N> as NoteSink>⟧.failed
-        R.laws (filter-sink N.gave N.within N.laws (λ s. s.notes.now) (λ s. s.least) (λ s. s.worst))
-        (λ s. s.filler.now) (λ s. s.rows.now) (λ s. s.notes) };
+        (shown-sink R.gave R.within R.laws (λ s. s.rows.now) (λ s. s.is_silent))
+        (filter-sink N.gave N.within N.laws (λ s. s.notes.now) (λ s. s.least) (λ s. s.worst))
+        (λ s. s.filler.now) (λ s. s.rows) (λ s. s.notes) };
 
     // The filler's own `piece` is put in its place, so that a piece of a known kind costs no copy and no match.
     #[inline(always)]
     #[tactic(auto, unfolding(page_fill::specs::Items::laid_items))]
     fn piece(&mut self, piece: Piece<&[u8]>) -> Result<(), Fault> {
-        self.filler.piece(piece, self.rows, &mut self.notes)
+        self.filler.piece(piece, &mut self.rows, &mut self.notes)
     }
 
     #[inline(always)]

@@ -74,8 +74,8 @@ pub struct Page {
 }
 
 impl Model for Page {
-    ghost use Rattle.page_engine.specs.Layers.{edge_of};
-    ghost use Rattle.page_engine.specs.States.{PageState, KeepsCounts};
+    ghost use Rattle.page_engine.specs.Layers.{edge_of, IsKept};
+    ghost use Rattle.page_engine.specs.States.{PageState};
 
     ghost Value = { PageState };
 
@@ -86,21 +86,21 @@ impl Model for Page {
       counts = p.counts;
     } };
 
-    ghost invariant = { λ p. KeepsCounts p.phase p.counts p.layers.lines };
+    ghost invariant = { λ p. IsKept p.phase p.counts p.layers };
 }
 
 impl Page {
     /// The start of a page. The settings are checked first, with [`Fault::Settings`]; then memory is reserved for
     /// all that the page will ever hold, with [`Fault::Memory`].
-    pub fn new(alloc: Global, settings: &Settings) -> Result<Page, Fault>
-        ensures starts { MatchResult result (λ p. IsGood settings.now × IsOpenAt p (start settings.now))
-            (λ fault. CannotStart settings.now fault) }
+    pub fn new(alloc: Global, settings: Settings) -> Result<Page, Fault>
+        ensures starts { MatchResult result (λ p. IsGood settings × IsOpenAt p (start settings))
+            (λ fault. CannotStart settings fault) }
         ensures within { IfOk result HoldsWithin }
     {
         if let Err(fault) = settings.check() {
             return Err(Fault::Settings(fault));
         }
-        let layers = Layers::new(alloc, settings)?;
+        let layers = Layers::new(alloc, &settings)?;
         let counts = layers.counts();
         layers.caps_law();
         Ok(Page {
@@ -125,7 +125,7 @@ impl Page {
         requires { IsLine text.now }
         ensures takes { (e : Edge) → IsOpenAt self.old e → line_fault self.old ≡ None →
             Takes result (sinks R.gave R.within R.failed N.gave N.within N.failed)
-            rows.old rows.new notes.old notes.new (settled e (text_line text.now number ∷ [])) self.new }
+            rows.old rows.new notes.old notes.new e (settled e (text_line text.now number ∷ [])) self.new }
         ensures within { OnOk result (HoldsWithin self.new) }
         ensures works { (e : Edge) → IsOpenAt self.old e → line_fault self.old ≡ None →
             AreWell (sinks R.gave R.within R.failed N.gave N.within N.failed) rows.old rows.new notes.old notes.new
@@ -138,7 +138,9 @@ impl Page {
         if let Some(fault) = self.phase.begin_line(self.counts.source) {
             return Err(fault);
         }
+        let worst = self.layers.worst;
         if let Err(fault) = self.layers.feed(text, number, rows, notes) {
+            self.layers.worst = worst;
             return Err(fault);
         }
         self.layers.caps_law();
@@ -160,7 +162,7 @@ impl Page {
         requires { cutter.old.ready ≡ true }
         ensures takes { (e : Edge) → IsOpenAt self.old e → line_fault self.old ≡ None →
             Takes result (sinks R.gave R.within R.failed N.gave N.within N.failed)
-            rows.old rows.new notes.old notes.new (settled e (line_of cutter.old.point ∷ [])) self.new }
+            rows.old rows.new notes.old notes.new e (settled e (line_of cutter.old.point ∷ [])) self.new }
         ensures refused { (fault : Fault) → line_fault self.old ≡ Some fault →
             IsRefused result fault self.old self.new rows.old rows.new notes.old notes.new }
         ensures within { OnOk result (HoldsWithin self.new) }
@@ -176,7 +178,9 @@ impl Page {
         if let Some(fault) = self.phase.begin_line(self.counts.source) {
             return Err(fault);
         }
+        let worst = self.layers.worst;
         if let Err(fault) = self.layers.take_line(cutter, rows, notes) {
+            self.layers.worst = worst;
             return Err(fault);
         }
         self.layers.caps_law();
@@ -193,7 +197,7 @@ impl Page {
     pub fn end<R: RowSink, N: NoteSink>(&mut self, rows: &mut R, notes: &mut N) -> Result<(), Fault>
         ensures ends { (e : Edge) → IsOpenAt self.old e →
             Ends result (sinks R.gave R.within R.failed N.gave N.within N.failed)
-            rows.old rows.new notes.old notes.new (page e []) self.new }
+            rows.old rows.new notes.old notes.new e (page e []) self.new }
         ensures works { (e : Edge) → IsOpenAt self.old e →
             AreWell (sinks R.gave R.within R.failed N.gave N.within N.failed) rows.old rows.new notes.old notes.new
             → OnErr result ⊥ }
@@ -206,7 +210,9 @@ impl Page {
             return Err(fault);
         }
         self.phase = Phase::Failed;
+        let worst = self.layers.worst;
         if let Err(fault) = self.layers.end(rows, notes) {
+            self.layers.worst = worst;
             return Err(fault);
         }
         self.phase = Phase::Ended;
@@ -220,14 +226,14 @@ impl Page {
         self.phase
     }
 
-    /// What was counted up to the last line.
+    /// What was counted up to the last line that came whole.
     pub fn counts(&self) -> Counts
         ensures { result ≡ self.now.counts }
     {
         self.counts
     }
 
-    /// The worst level of the messages that were given.
+    /// The worst level of the messages that were given; after a fault of a sink, of those before the line, or the end, at which it failed.
     pub fn worst(&self) -> Option<Level>
         ensures { result ≡ self.now.worst }
     {

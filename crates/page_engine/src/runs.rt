@@ -5,27 +5,19 @@ ghost use Rattle.std.specs.Io.KnownBytes.{Consumes};
 ghost use Rattle.page_core_base.specs.Checks.{IsGood};
 ghost use Rattle.page_engine.specs.Page.{Edge};
 ghost use Rattle.page_engine.specs.States.{IsOpenAt, CannotStart};
-ghost use Rattle.page_engine.specs.Shown.{is_silent};
 ghost use Rattle.page_engine.specs.Streams.{streams, sinks};
 ghost use Rattle.page_engine.specs.Written.{WritesRows, WritesRowsInto, WritesNotes, WritesNotesInto};
-ghost use Rattle.page_engine.specs.Runs.{Runs, RunsOver};
+ghost use Rattle.page_engine.specs.Runs.{Runs, RunsOver, RunsIn};
 ghost use Rattle.page_engine.specs.Steps.{CanTake, TakesPart, TakesChunk, TakesLast, Finishes, StartsAt, IsFresh, ReadsAll};
 
 use crate::pages::Page;
-use crate::shown::{Shown, is_silent};
-use crate::sources::{Counted, Reading, Source};
 use page_core_base::{Fault, Level, NoteSink, RowSink, Settings};
+use page_core_sources::{BYTES, Counted, READS, Reading, SliceSource, Source};
 use page_core_writers::{TextNotes, TextRows};
 use page_roff_lines::Cutter;
 use page_roff_source::Counts;
 use std::alloc::Global;
 use std::io::{Read, Write};
-
-/// The bytes of a page at most.
-pub const BYTES: u32 = 2_147_483_647;
-
-/// The read calls of a run at most.
-pub const READS: u32 = 4_294_967_295;
 
 /// The bytes of a chunk at most: those that are read at a time.
 const CHUNK: usize = 16_384;
@@ -50,7 +42,7 @@ impl Run {
         ensures ok { IfOk result (λ run. IsGood settings.now × StartsAt run settings.now) }
         ensures fault { IfErr result (λ fault. CannotStart settings.now fault) }
     {
-        let page = Page::new(alloc, settings)?;
+        let page = Page::new(alloc, *settings)?;
         let Ok(cutter) = Cutter::new(alloc, settings.encoding) else {
             return Err(Fault::Memory);
         };
@@ -220,17 +212,33 @@ pub fn run_page<I: Read, W: Write, V: Write>(
 ) -> Result<Outcome, Fault>
     ensures { (bytes : List ℕ) × Consumes (I.remaining reader.old) (I.remaining reader.new) bytes
         × Runs result (streams
-        (WritesRows W.contents (is_silent settings.now.output))
-        (WritesRowsInto W.contents (is_silent settings.now.output))
+        (WritesRows W.contents) (WritesRowsInto W.contents)
         (WritesNotes V.contents file.now) (WritesNotesInto V.contents file.now))
         out.old out.new notes.old notes.new settings.now bytes (I.remaining reader.new) }
 {
     let mut source = Counted::new(reader);
-    let mut text = TextRows::new(out);
-    let mut rows = Shown {
-        rows: &mut text,
-        is_silent: is_silent(settings.output),
-    };
+    let mut rows = TextRows::new(out);
+    let mut messages = TextNotes::new(notes, file);
+    run_sinks(alloc, &mut source, &mut rows, &mut messages, settings)
+}
+
+/// Formats a page that is in memory, as [`run_page`] does one that is read. Its faults are those of [`run_page`], but never [`Fault::Read`], and
+/// [`Fault::TooLong`] only for more than [`BYTES`] bytes.
+pub fn run_bytes<W: Write, V: Write>(
+    alloc: Global,
+    bytes: &[u8],
+    out: &mut W,
+    notes: &mut V,
+    file: &str,
+    settings: &Settings,
+) -> Result<Outcome, Fault>
+    ensures { RunsIn result (streams
+        (WritesRows W.contents) (WritesRowsInto W.contents)
+        (WritesNotes V.contents file.now) (WritesNotesInto V.contents file.now))
+        out.old out.new notes.old notes.new settings.now bytes.now }
+{
+    let mut source = SliceSource::new(bytes);
+    let mut rows = TextRows::new(out);
     let mut messages = TextNotes::new(notes, file);
     run_sinks(alloc, &mut source, &mut rows, &mut messages, settings)
 }

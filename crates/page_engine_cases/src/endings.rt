@@ -30,7 +30,7 @@ pub(crate) fn run_lines(
         return None;
     }
     let mut lines = Lines::new(alloc, settings.encoding)?;
-    let mut page = match Page::new(alloc, settings) {
+    let mut page = match Page::new(alloc, *settings) {
         Ok(page) => page,
         Err(fault) => return Some(Ending::without_page(fault)),
     };

@@ -4,8 +4,8 @@ use Rattle.page_fill.specs.Caps.{FillFits}
 use Rattle.page_engine.proofs.layers.Layers.caps_law.Goals as goal
 
 pub returns : goal.returns
-returns c = λ e h.
+returns c = λ e h r.
     let fill : FillFits e.fill = rw h.filled at c.caps_law.ensures in
     let roff : RoffFits e.lines.roff = rw h.lines at c.caps_law-2.ensures.roff in
     let body : BodyFits e.lines.body = rw h.lines at c.caps_law-2.ensures.body in
-    record { roff = roff; body = body; fill = fill }
+    record { idle = r.idle; roff = roff; body = body; fill = fill; row = r.row; word = r.word }

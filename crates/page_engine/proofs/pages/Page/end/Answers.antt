@@ -1,7 +1,7 @@
 use Rattle.std.proofs.Common.{refl, ap, ◌∙◌}
 use Rattle.page_engine.specs.ByLine.{ended}
 use Rattle.page_engine.specs.States.{PageState}
-use Rattle.page_engine.proofs.Phases.{open_layers, no_cause}
+use Rattle.page_engine.proofs.Phases.{open_layers, failed_at, no_cause}
 use Rattle.page_engine.proofs.WholeLines.{page_none}
 use Rattle.page_engine.proofs.pages.Page.end.Goals as goal
 
@@ -9,7 +9,7 @@ pub returns-in-Err-clause-ends : goal.returns-in-Err-clause-ends
 returns-in-Err-clause-ends g c = λ e h.
     let i = open_layers c.self.inside.layers e c.self.view_is h in
     rw (page_none e h.reached)
-    (record { gave = c.in-Err.ensures.gets e i; cause = c.in-Err.ensures.faults e i }, refl)
+    (record { gave = c.in-Err.ensures.gets e i; cause = c.in-Err.ensures.faults e i }, failed_at c.self.inside.layers e c.self.view_is h refl refl refl)
 
 pub returns-in-Err-clause-works : goal.returns-in-Err-clause-works
 returns-in-Err-clause-works g c = λ e h w.

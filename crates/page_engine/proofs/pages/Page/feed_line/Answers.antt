@@ -1,7 +1,8 @@
 use Rattle.std.proofs.Common.{refl, ap, ◌∙◌}
 use Rattle.page_roff_source.specs.Edges.{counts_of}
+use Rattle.page_engine.specs.ByLine.{settled_text}
 use Rattle.page_engine_lines.specs.Lines.{LinesEdge}
-use Rattle.page_engine.proofs.Phases.{at_edge, edge_at, open_layers, no_cause}
+use Rattle.page_engine.proofs.Phases.{at_edge, edge_at, open_layers, open_kept, edge_reached, failed_at, no_cause}
 use Rattle.page_engine.proofs.WholeLines.{text_reached, text_settled}
 use Rattle.page_engine.proofs.pages.Page.feed_line.Goals as goal
 
@@ -9,7 +10,7 @@ pub returns-in-Err-clause-takes : goal.returns-in-Err-clause-takes
 returns-in-Err-clause-takes g c = λ e h free.
     let i = open_layers c.self.inside.layers e c.self.view_is h in
     rw (text_settled e c.args.text.now c.args.number h.reached)
-    (record { gave = c.in-Err.ensures.gets e i; cause = c.in-Err.ensures.faults e i }, c.in_default.ensures.begins.2)
+    (record { gave = c.in-Err.ensures.gets e i; cause = c.in-Err.ensures.faults e i }, failed_at c.self.inside.layers e c.self.view_is h c.in_default.ensures.begins.2 refl refl)
 
 pub returns-in-Err-clause-works : goal.returns-in-Err-clause-works
 returns-in-Err-clause-works g c = λ e h free w.
@@ -35,4 +36,12 @@ returns-clause-takes g c = λ e h free.
     )
 
 pub returns-clause-within : goal.returns-clause-within
-returns-clause-within g c = λ e h. c.caps_law.ensures e (at_edge _ e h)
+returns-clause-within g c = λ e h.
+    let k = open_kept c.in_default.ensures.begins.0 c.self.invariant in
+    let at = c.in_default-feed.ensures.edge k.0 k.1 in
+    c.caps_law.ensures e (at_edge _ e h) (edge_reached _ (settled_text k.0 c.args.text.now c.args.number).edge e at (text_reached k.0 c.args.text.now c.args.number k.2) h)
+
+pub invariant_of-self-2 : goal.invariant_of-self-2
+invariant_of-self-2 g c =
+    let k = open_kept c.in_default.ensures.begins.0 c.self.invariant in
+    ((settled_text k.0 c.args.text.now c.args.number).edge, c.in_default-feed.ensures.edge k.0 k.1, text_reached k.0 c.args.text.now c.args.number k.2, c.counts-self-inside.ensures)

@@ -1,7 +1,7 @@
 use Rattle.std.proofs.Common.{◌≡◌, ◌<◌, ◌≤◌, ◌+◌, ◌-◌, ◌^◌, ◌++◌, [], refl, ◌∙◌, take, drop, length, length-append, append-nil, arith, inl, inr}
 use Rattle.std.proofs.lemmas.List.{length-take, take_all}
 use Rattle.page_engine.specs.Streams.{sinks}
-use Rattle.page_engine.proofs.BytesRead.{given_none, given_more, given_end}
+use Rattle.page_core_sources.proofs.GivenLemmas.{given_none, given_more, given_end, busy_none, busy_more, busy_end, busy_lean}
 use Rattle.page_engine.proofs.Through.{through_none, through_more, room_after, fresh_room, broken_chunk, cut_take, up_to}
 use Rattle.page_engine.proofs.WholeRuns.{ended_with, stopped_by}
 use Rattle.page_engine.proofs.runs.Run.read_all.Goals as goal
@@ -11,7 +11,7 @@ loop-calls-init g c =
     let r = g.R.RowSink in
     let n = g.N.NoteSink in
     let k = sinks r.gave r.within r.failed n.gave n.within n.failed in
-    ([], given_none _, refl, through_none k g.met.R.RowSink.laws g.met.N.NoteSink.laws _ _ _ c.requires.free, refl, omega arith, refl, refl, refl)
+    ([], given_none _, refl, through_none k g.met.R.RowSink.laws g.met.N.NoteSink.laws _ _ _ c.requires.free, refl, omega arith, refl, refl, refl, busy_none _)
 
 pub finish-requires : goal.finish-requires
 finish-requires g c =
@@ -43,6 +43,7 @@ returns-in-End-clause-reads g c = λ e h.
         asked = c.loop-calls.calls + 1;
         few = omega (arith, c.loop-calls-test.true);
         source = given_end c.loop-calls.calls 1 i.0 i.1 d.0;
+        lean = busy_end c.loop-calls.calls i.0 i.9 d.3;
         ends = ended_with k g.met.R.RowSink.laws g.met.N.NoteSink.laws _ _ _ c.finish.result _ _ _ i.0 c.requires.no_lines i.3
             c.finish.ensures.ends d.2 (d.1 ∙ i.2) e h;
       },
@@ -57,6 +58,7 @@ returns-in-Failure-clause-reads g c = λ e h.
         asked = c.loop-calls.calls + 1;
         few = omega (arith, c.loop-calls-test.true);
         source = given_end c.loop-calls.calls 1 i.0 i.1 d.0;
+        lean = busy_end c.loop-calls.calls i.0 i.9 d.2;
         ends = ((i.3.settled e h).came.gave, rw i.2 at d.1);
       },
     )
@@ -80,6 +82,8 @@ returns-in-Err-clause-reads g c = λ e h.
         asked = c.loop-calls.calls + 1;
         few = omega (arith, c.loop-calls-test.true);
         source = rw cut (given_more c.loop-calls.calls 1 i.0 (take count buffer) i.1 d.0);
+        lean = rw cut (busy_lean (c.loop-calls.calls + 1) (i.0 ++ take count buffer)
+            (busy_more c.loop-calls.calls count i.0 (take count buffer) i.9 (omega (arith, length-take count buffer, d.2)) d.3));
         ends = stopped_by k (g.S.Source.state c.args.source.now) (g.S.Source.state c.read.new.self) _ _ _ _ e c.args.self.now.cutter.point _ (i.0 ++ (ys ++ zs)) c.in-Err.fault
             (broken_chunk k g.met.R.RowSink.laws g.met.N.NoteSink.laws i.0 ys zs c.in-Err.fault i.3 c.in-Err.ensures.takes most e h);
       },
@@ -108,6 +112,8 @@ returns-then-count-from-clause-reads g c = λ e h.
         asked = c.loop-calls.calls + 1;
         few = omega (arith, c.loop-calls-test.true);
         source = rw cut (given_more c.loop-calls.calls 1 i.0 (take count buffer) i.1 d.0);
+        lean = rw cut (busy_lean (c.loop-calls.calls + 1) (i.0 ++ take count buffer)
+            (busy_more c.loop-calls.calls count i.0 (take count buffer) i.9 (omega (arith, length-take count buffer, d.2)) d.3));
         ends = (rw (up_to (2 ^ 31 - 1) i.0 ys zs whole) (t.settled e h).came.gave, inr long);
       },
     )
@@ -126,6 +132,8 @@ returns-in-Err-take_chunk-clause-reads g c = λ e h.
         asked = c.loop-calls.calls + 1;
         few = omega (arith, c.loop-calls-test.true);
         source = rw (append-nil ys) (given_more c.loop-calls.calls 1 i.0 ys i.1 d.0);
+        lean = rw (append-nil ys) (busy_lean (c.loop-calls.calls + 1) (i.0 ++ ys)
+            (busy_more c.loop-calls.calls c.in-Bytes.count i.0 ys i.9 (omega (arith, length-take c.in-Bytes.count c.read.new.buffer, d.2)) d.3));
         ends = stopped_by k (g.S.Source.state c.args.source.now) (g.S.Source.state c.read.new.self) _ _ _ _ e c.args.self.now.cutter.point _ (i.0 ++ (ys ++ [])) c.in-Err-take_chunk.fault
             (broken_chunk k g.met.R.RowSink.laws g.met.N.NoteSink.laws i.0 ys [] c.in-Err-take_chunk.fault i.3 c.in-Err-take_chunk.ensures.takes most e h);
       },
@@ -150,6 +158,7 @@ loop-calls-preserved g c =
       c.in-Bytes.ensures.same ∙ i.6,
       s.rows_same ∙ i.7,
       s.notes_same ∙ i.8,
+      busy_more c.loop-calls.calls c.in-Bytes.count i.0 ys i.9 (omega (arith, t, d.2)) d.3,
     )
 
 pub returns-clause-reads : goal.returns-clause-reads
@@ -161,6 +170,7 @@ returns-clause-reads g c = λ e h.
         asked = c.loop-calls.calls;
         few = omega (arith, c.loop-calls.auto.calls-end);
         source = i.1;
+        lean = busy_lean c.loop-calls.calls i.0 i.9;
         ends = (rw all (i.3.settled e h).came.gave, inl (omega (arith, c.loop-calls-test.false, c.loop-calls.auto.calls-end)));
       },
     )

@@ -1,5 +1,6 @@
 use Rattle.std.proofs.Common.{◌≡◌, ◌<◌, ◌^◌, ℕ, List, length}
-use Rattle.page_engine.specs.Sources.{HasGiven}
+use Rattle.page_core_sources.specs.Sources.{HasGiven}
+use Rattle.page_core_sources.proofs.GivenLemmas.{IsBusy}
 use Rattle.page_engine.specs.Streams.{sinks}
 use Rattle.page_engine.specs.Steps.{Through}
 use Rattle.page_engine.proofs.runs.Run.read_all.Given as goal
@@ -15,3 +16,4 @@ invariant-loop-calls g l =
     × (l.bytes ≡ length read) × (l.bytes < 2 ^ 31)
     × (s.loans l.source ≡ s.loans l.fn.source)
     × (r.loans l.rows ≡ r.loans l.fn.rows) × (n.loans l.notes ≡ n.loans l.fn.notes)
+    × IsBusy (s.state l.fn.source) (s.state l.source) l.calls read
