@@ -23,6 +23,7 @@ use Rattle.page_scopes_tree.specs.Acts.{Step}
 use Rattle.page_scopes_words.specs.Words.{at}
 use Rattle.page_sets.specs.Either.{either_events}
 use Rattle.page_sets.specs.declared.either.Either.{Either}
+use Rattle.page_sets_lines.specs.declared.events.Event.{Event}
 use Rattle.page_engine_lines.specs.Acts.{given_steps, before_language, from_language, first_language, front, rest, front_steps, reader, rest_steps, given_then, trailing_messages, raw_line, lines_items, lines_after, end_steps, page_items}
 use Rattle.page_engine_lines.specs.Given.{set_events, line_items, line_after, given_items, body_after}
 use Rattle.page_engine_lines.specs.Lines.{LinesEdge, source_line, trailing_notes, source_items, source_after, end_items}
@@ -110,18 +111,30 @@ line_decides b set line language more last u o =
     let steps = given_steps language all in
     let items = decided_items language c all refl refl in
     let after = decided_after language c all refl refl in
-    let append = tree_items-append c steps last in
-    rw (u, o, tree_items-none b, tree_after-none b) (
-      append ∙ ap (λ (t : List Item). t ++ tree_items (tree_after c steps) last) items
-          ∙ ap (λ (x : BodyEdge). given_items c all ++ tree_items x last) after,
-      after,
+    let same : decided b line ≡ c = rw (u, o) refl in
+    let begun : parted_items b set all last ≡ tree_items c (steps ++ last) =
+    rw o (ap (λ (t : List Item). t ++ tree_items (chosen (tree_after b []) language) (steps ++ last)) (tree_items-none b)
+    ∙ ap (λ (x : BodyEdge). tree_items (chosen x language) (steps ++ last)) (tree_after-none b)) in
+    let left : parted_after b set all ≡ tree_after c steps = rw o (ap (λ (x : BodyEdge). tree_after (chosen x language) steps) (tree_after-none b)) in
+    let own : given_items b all ≡ given_items c all =
+    ap (λ (x : BodyEdge). events_items x (set_events x line) ++ given_items (events_after x (set_events x line)) more) same in
+    let next : body_after b all ≡ body_after c all = ap (λ (x : BodyEdge). body_after (events_after x (set_events x line)) more) same in (
+      begun ∙ tree_items-append c steps last
+          ∙ ap (λ (t : List Item). t ++ tree_items (tree_after c steps) last) items
+          ∙ ap (λ (x : BodyEdge). given_items c all ++ tree_items x last) after
+          ∙ ap (λ (t : List Item). t ++ tree_items (body_after c all) last) (sym own)
+          ∙ ap (λ (x : BodyEdge). given_items b all ++ tree_items x last) (sym next),
+      left ∙ after ∙ sym next,
     )
 
 -- what is given before a language is decided, and from there on, is what its lines give one after another
 parted_is : (b : BodyEdge) (set : Either) (all : List Given) (last : List (With Aside Step)) → b.header.is_decided ≡ false → b.header.set ≡ set
     → (parted_items b set all last ≡ given_items b all ++ tree_items (body_after b all) last) × (parted_after b set all ≡ body_after b all)
 unfolding turned parted_items parted_after given_items body_after
-parted_is b set [] last u s = rw (tree_items-none b, tree_after-none b) (refl, tree_after-none b)
+parted_is b set [] last u s = (
+  ap (λ (t : List Item). t ++ tree_items (tree_after b []) last) (tree_items-none b) ∙ ap (λ (x : BodyEdge). tree_items x last) (tree_after-none b),
+  ap (λ (x : BodyEdge). tree_after x []) (tree_after-none b) ∙ tree_after-none b,
+)
 parted_is b set (says m ∷ more) last u s =
     let steps : List (With Aside Step) = aside (tells m) ∷ [] in
     let k = front_more b b set steps (noted m ∷ []) (says m ∷ more) more last (aside_items_is b (tells m)) (aside_after_is b (tells m)) refl refl refl in
@@ -137,31 +150,57 @@ parted_is b set (takes line ∷ more) last u s = elim (language_cases (language_
       let k = front_more b c set (events_steps events) (events_items b events) (takes line ∷ more) more last (events_tree_items b events)
       (events_tree_after b events) (rw o refl) (rw o refl) (rw o refl) in
       let h = parted_is c set more last (keeps.1 ∙ u) (keeps.0 ∙ s) in
-      rw (same, own) (
+      let all = takes line ∷ more in
+      let made : given_items b all ≡ events_items b events ++ given_items c more =
+      ap (λ (x : BodyEdge). events_items x (set_events x line) ++ given_items (events_after x (set_events x line)) more) same
+      ∙ ap (λ (made : List (Event (List ℕ))). events_items b made ++ given_items (events_after b made) more) own in
+      let next : body_after b all ≡ body_after c more =
+      ap (λ (x : BodyEdge). body_after (events_after x (set_events x line)) more) same
+      ∙ ap (λ (made : List (Event (List ℕ))). body_after (events_after b made) more) own in (
         k.0 ∙ ap (λ (t : List Item). events_items b events ++ t) h.0
-            ∙ sym (append_assoc (events_items b events) (given_items c more) (tree_items (body_after c more) last)),
-        k.1 ∙ h.1,
+            ∙ sym (append_assoc (events_items b events) (given_items c more) (tree_items (body_after c more) last))
+            ∙ ap (λ (t : List Item). t ++ tree_items (body_after c more) last) (sym made)
+            ∙ ap (λ (x : BodyEdge). given_items b all ++ tree_items x last) (sym next),
+        k.1 ∙ h.1 ∙ sym next,
       )
   | inr l ↦ line_decides b set line l.0 more last u l.1
 ]
+
+-- the body that reads the rest, what it gives and where it ends, with the test of whether the language is decided by itself
+abbrev reader_by : Bool → BodyEdge → List Given → BodyEdge
+reader_by t b all = if t then b else chosen_if (tree_after b (given_steps b.header.set (if t then [] else before_language all))) (first_language all)
+
+abbrev steps_by : Bool → BodyEdge → List Given → List (With Aside Step)
+steps_by t b all = given_steps (reader_by t b all).header.set (if t then all else from_language all)
+
+abbrev given_by : Bool → BodyEdge → List Given → List (With Aside Step) → List Item
+given_by t b all more =
+    tree_items b (given_steps b.header.set (if t then [] else before_language all)) ++ tree_items (reader_by t b all) (steps_by t b all ++ more)
+
+abbrev left_by : Bool → BodyEdge → List Given → BodyEdge
+left_by t b all = tree_after (reader_by t b all) (steps_by t b all)
 
 decided_then : (b : BodyEdge) (all : List Given) (last : List (With Aside Step)) → b.header.is_decided ≡ true
     → (given_then b all last ≡ given_items b all ++ tree_items (body_after b all) last)
     × (tree_after (reader b all) (rest_steps b all) ≡ body_after b all)
 decided_then b all last d =
     let steps = given_steps b.header.set all in
-    let after = decided_after b.header.set b all d refl in
-    rw (d, tree_items-none b) (
-      tree_items-append b steps last ∙ ap (λ (t : List Item). t ++ tree_items (tree_after b steps) last) (decided_items b.header.set b all d refl)
+    let after = decided_after b.header.set b all d refl in (
+      ap (λ (t : Bool). given_by t b all last) d
+          ∙ ap (λ (t : List Item). t ++ tree_items b (steps ++ last)) (tree_items-none b)
+          ∙ tree_items-append b steps last
+          ∙ ap (λ (t : List Item). t ++ tree_items (tree_after b steps) last) (decided_items b.header.set b all d refl)
           ∙ ap (λ (x : BodyEdge). given_items b all ++ tree_items x last) after,
-      after,
+      ap (λ (t : Bool). left_by t b all) d ∙ after,
     )
 
 undecided_then : (b : BodyEdge) (all : List Given) (last : List (With Aside Step)) → b.header.is_decided ≡ false
     → (given_then b all last ≡ given_items b all ++ tree_items (body_after b all) last)
     × (tree_after (reader b all) (rest_steps b all) ≡ body_after b all)
 unfolding turned parted_items parted_after
-undecided_then b all last u = rw u (parted_is b b.header.set all last u refl)
+undecided_then b all last u =
+    let k = parted_is b b.header.set all last u refl in
+    (ap (λ (t : Bool). given_by t b all last) u ∙ k.0, ap (λ (t : Bool). left_by t b all) u ∙ k.1)
 
 pub given_then_is : (b : BodyEdge) (all : List Given) (last : List (With Aside Step))
     → (given_then b all last ≡ given_items b all ++ tree_items (body_after b all) last)
