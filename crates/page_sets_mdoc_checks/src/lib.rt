@@ -3,3 +3,8 @@
 
 #[cfg(test)]
 mod row_tests;
+#[cfg(test)]
+mod word_tests;
+mod words_shown;
+
+pub use words_shown::{Shown, shown};
