@@ -98,7 +98,8 @@ fn give_spelled(text: &str, line: u32, scopes: &mut OpenScopes, out: &mut Shown)
     for part in text.split(' ') {
         let (name, text) = read_part(part, column);
         give_spelled_event(scopes, out, Place { line, column }, name, text);
-        column = column.saturating_add(1).saturating_add(part.len() as u32);
+        let len = u32::try_from(part.len()).unwrap_or(u32::MAX);
+        column = column.saturating_add(1).saturating_add(len);
     }
     give_spelled_event(scopes, out, Place { line, column: 1 }, "", None);
 }

@@ -1,7 +1,6 @@
 //! The events of lines in the set of mdoc(7), macro by macro.
 
-ghost use Rattle.std.specs.Prelude.{◌≤◌, length};
-
+use crate::events_of;
 use crate::spelling::{Spelling, spelled};
 use arrayvec::ArrayVec;
 use page_core_base::{Form, Taken};
@@ -9,6 +8,7 @@ use page_core_limits::LINE;
 use page_roff_forms::{LineForm, form_of};
 use page_sets::{MacroSet, Mdoc};
 use std::process::Abort;
+use std::test::Fail;
 
 // The bytes up to the end of the name of a raw control line.
 fn name_end(rt: &impl Abort, text: &[u8]) -> u32 {
@@ -241,20 +241,9 @@ fn references_and_blocks_of_words(rt: HostRuntime) {
     );
 }
 
-fn count_events(line: Taken<'_>) -> usize
-    requires { length line.text.now ≤ LINE }
-{
-    let mut place = Mdoc.start(line);
-    let mut count: usize = 0;
-    while let Some(_event) = Mdoc.next(line, &mut place) {
-        count = count.saturating_add(1);
-    }
-    count
-}
-
 // A line of the longest length: the same words over and over, after its first ones. Its time is in proportion to its length.
 #[test]
-fn longest_lines(rt: HostRuntime) {
+fn longest_lines(rt: HostRuntime) -> Result<(), Fail> {
     for (first, again, count) in [
         (".Op", " Op", 21_846),
         (".Fl", " Fl", 21_846),
@@ -273,8 +262,10 @@ fn longest_lines(rt: HostRuntime) {
             line: 7,
             name_end: 3,
         };
-        assert_eq!(rt; count_events(line), count, "of {again}");
+        let events = events_of(rt.alloc(), &Mdoc, line)?;
+        assert_eq!(rt; events.len(), count, "of {again}");
     }
+    Ok(())
 }
 
 #[test]
