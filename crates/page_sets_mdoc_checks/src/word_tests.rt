@@ -145,3 +145,132 @@ fn glue_and_enclosures(rt: HostRuntime) {
         check(&rt, text, want);
     }
 }
+
+#[test]
+fn each_macro_with_a_font(rt: HostRuntime) {
+    for (text, want) in [
+        (".Cm a", "5 word B a"),
+        (".Ic a", "5 word B a"),
+        (".Ms a", "5 word B a"),
+        (".Sy a", "5 word B a"),
+        (".Ad a", "5 word I a"),
+        (".Mt a", "5 word I a"),
+        (".Sx a", "5 word I a"),
+        (".Va a", "5 word I a"),
+        (".Vt a", "5 word I a"),
+        (".At a", "5 word R a"),
+        (".Dv a", "5 word R a"),
+        (".Er a", "5 word R a"),
+        (".Ev a", "5 word R a"),
+        (".No a", "5 word R a"),
+        (".St a", "5 word R a"),
+        (".Tn a", "5 word R a"),
+        (".Fd a", "5 word B a"),
+        (".Pa a", "5 word I a"),
+    ] {
+        check(&rt, text, want);
+    }
+}
+
+#[test]
+fn each_macro_without_words(rt: HostRuntime) {
+    for (text, want) in [
+        (".Cm", "2 empty Cm"),
+        (".Ic", "2 empty Ic"),
+        (".Ms", "2 empty Ms"),
+        (".Sy", "2 empty Sy"),
+        (".Ad", "2 empty Ad"),
+        (".Mt", "2 empty Mt"),
+        (".Sx", "2 empty Sx"),
+        (".Va", "2 empty Va"),
+        (".Vt", "2 empty Vt"),
+        (".At", "2 empty At"),
+        (".Dv", "2 empty Dv"),
+        (".Er", "2 empty Er"),
+        (".Ev", "2 empty Ev"),
+        (".No", "2 empty No"),
+        (".St", "2 empty St"),
+        (".Tn", "2 empty Tn"),
+        (".Cd", "2 empty Cd"),
+        (".Fd", "2 empty Fd"),
+        (".Ft", "2 empty Ft"),
+        (".Fa", "2 empty Fa"),
+        (".Li Em a", "2 empty Li"),
+    ] {
+        check(&rt, text, want);
+    }
+}
+
+#[test]
+fn each_delimiter_among_words(rt: HostRuntime) {
+    for (text, want) in [
+        (".Em a . b", "5 word I a; 7 +delimiter R .; 9 word I b"),
+        (".Em a : b", "5 word I a; 7 +delimiter R :; 9 word I b"),
+        (".Em a ; b", "5 word I a; 7 +delimiter R ;; 9 word I b"),
+        (".Em a ) b", "5 word I a; 7 +delimiter R ); 9 word I b"),
+        (".Em a ] b", "5 word I a; 7 +delimiter R ]; 9 word I b"),
+        (".Em a ? b", "5 word I a; 7 +delimiter R ?; 9 word I b"),
+        (".Em a ! b", "5 word I a; 7 +delimiter R !; 9 word I b"),
+        (".Em a ( b", "5 word I a; 7 delimiter+ R (; 9 word I b"),
+        (".Em a [ b", "5 word I a; 7 delimiter+ R [; 9 word I b"),
+        (".Em a | b", "5 word I a; 7 delimiter R |; 9 word I b"),
+        (".Em . a", "5 +delimiter R .; 7 word I a"),
+        (".Em [ a ]", "5 delimiter+ R [; 7 word I a"),
+        (".Em a ) . ,", "5 word I a"),
+        (".Em a |", "5 word I a; 7 delimiter R |"),
+        (".Em a \".\"", "5 word I a; 8 word I ."),
+        (".Em a \"Sy\" b", "5 word I a; 8 word I Sy; 12 word I b"),
+    ] {
+        check(&rt, text, want);
+    }
+}
+
+#[test]
+fn more_words_than_a_macro_takes(rt: HostRuntime) {
+    for (text, want) in [
+        (
+            ".Xr a 1 b c",
+            "5 word a; 7 +own+ (; 7 word 1; 7 +own ); 9 word b; 11 word c",
+        ),
+        (".Bx 4 x y", "5 word 4; 2 +own BSD; 7 word x; 9 word y"),
+        (".Ux a b", "2 own UNIX; 5 word a; 7 word b"),
+        (".Ap s t", "2 +own+ '; 5 word s; 7 word t"),
+        (".Ns a b", "2 glue; 5 word a; 7 word b"),
+        (".Pf a b c", "5 word+ a; 7 word b; 9 word c"),
+        (".Eo < a b", "2 open Eo <; 7 word a; 9 word b"),
+        (".Ec > a b", "2 close Ec >; 7 word a; 9 word b"),
+        (".Oc a b", "2 close Oc; 5 word a; 7 word b"),
+    ] {
+        check(&rt, text, want);
+    }
+}
+
+#[test]
+fn each_enclosure(rt: HostRuntime) {
+    for (text, want) in [
+        (".Aq a", "2 scope Aq; 5 word a"),
+        (".Bq a", "2 scope Bq; 5 word a"),
+        (".Brq a", "2 scope Brq; 6 word a"),
+        (".Pq a", "2 scope Pq; 5 word a"),
+        (".Dq a", "2 scope Dq; 5 word a"),
+        (".Sq a", "2 scope Sq; 5 word a"),
+        (".Ql a", "2 scope Sq; 5 word a"),
+        (".Ao a", "2 open Ao; 5 word a"),
+        (".Bo a", "2 open Bo; 5 word a"),
+        (".Bro a", "2 open Bro; 6 word a"),
+        (".Do a", "2 open Do; 5 word a"),
+        (".Po a", "2 open Po; 5 word a"),
+        (".Qo a", "2 open Qo; 5 word a"),
+        (".So a", "2 open So; 5 word a"),
+        (".Ac", "2 close Ac"),
+        (".Bc", "2 close Bc"),
+        (".Brc", "2 close Brc"),
+        (".Dc", "2 close Dc"),
+        (".Pc", "2 close Pc"),
+        (".Qc", "2 close Qc"),
+        (".Sc", "2 close Sc"),
+        (".Xc", "2 close Xc"),
+    ] {
+        check(&rt, text, want);
+    }
+}
