@@ -1,8 +1,9 @@
 #!/usr/bin/env python3
-"""Compares real pages with what the `mandoc` on the PATH prints of them (usage: bench/manuals.py FOLDER [LISTED]).
+"""Compares real pages with what the `mandoc` on the PATH prints of them (usage: bench/manuals.py FOLDER [LISTED [LANGUAGE]]).
 
-FOLDER holds pages as they are installed, packed or not, in any folders below it. Pages of mdoc(7), pages with tables, equations or pictures,
-and pages that only name another one are left aside. Headers and footers are left aside too, with the blank rows beside them. Printed are two
+FOLDER holds pages as they are installed, packed or not, in any folders below it; those of the language are taken, man(7) unless it is `mdoc`.
+Pages with tables, equations or pictures, pages that only name another one, and pages with macros of mdoc(7) that print a text which the
+profile has not (`At Lb St`) are left aside. Headers and footers are left aside too, with the blank rows beside them. Printed are two
 shares of the pages: those with the same words in the same order, and those with the same rows, margins and blank rows too. For the first
 LISTED pages (default 20) whose words differ, and for as many with the same words in other rows, it prints where they first differ: ours,
 then the other's. Blanks at a row's end do not count.
@@ -14,14 +15,24 @@ import re
 import subprocess
 import sys
 
-OTHER_LANGUAGE = re.compile(rb"^[.'][ \t]*Dd\b", re.M)
-LEFT_ASIDE = re.compile(rb"^[.'][ \t]*(TS|EQ|PS|so)\b", re.M)
+DATE = re.compile(rb"^[.'][ \t]*Dd\b", re.M)
 TITLE = re.compile(rb"^[.'][ \t]*TH\b", re.M)
+LEFT_ASIDE = {
+    "man": re.compile(rb"^[.'][ \t]*(TS|EQ|PS|so)\b", re.M),
+    "mdoc": re.compile(rb"^[.'][ \t]*(TS|EQ|PS|so)\b|^[.'].*\b(At|Lb|St)\b", re.M),
+}
 OPTIONS = ["-T", "ascii", "-O", "width=78"]
 
 
-def pages(folder):
-    """Yields the name and the bytes of each page of man(7), in the order of their names."""
+def language_of(page):
+    """Returns the language of a page, None where it has no title of either."""
+    if DATE.search(page):
+        return "mdoc"
+    return "man" if TITLE.search(page) else None
+
+
+def pages(folder, language):
+    """Yields the name and the bytes of each page of a language, in the order of their names."""
     for base, folders, names in os.walk(folder):
         folders.sort()
         for name in sorted(names):
@@ -31,7 +42,7 @@ def pages(folder):
             opening = gzip.open if name.endswith(".gz") else open
             with opening(path, "rb") as file:
                 page = file.read()
-            if TITLE.search(page) and not OTHER_LANGUAGE.search(page) and not LEFT_ASIDE.search(page):
+            if language_of(page) == language and not LEFT_ASIDE[language].search(page):
                 yield os.path.relpath(path, folder), page
 
 
@@ -83,8 +94,9 @@ def share(same, count, what):
 def main():
     folder = sys.argv[1]
     listed = int(sys.argv[2]) if len(sys.argv) > 2 else 20
+    language = sys.argv[3] if len(sys.argv) > 3 else "man"
     count, same_words, same_rows = 0, 0, 0
-    for name, page in pages(folder):
+    for name, page in pages(folder, language):
         count += 1
         ours, others = body("./mandoc", page), body("mandoc", page)
         found = difference(words(ours), words(others), 4, 6)
@@ -98,7 +110,7 @@ def main():
             same_rows += 1
         elif same_words - same_rows <= listed:
             show_rows(name, found)
-    print(f"{share(same_words, count, 'words')}\n{share(same_rows, count, 'rows')}" if count else "no page of man(7)")
+    print(f"{share(same_words, count, 'words')}\n{share(same_rows, count, 'rows')}" if count else f"no page of {language}(7)")
 
 
 if __name__ == "__main__":
