@@ -1,10 +1,13 @@
 //! The parts of a word: a row may end after a hyphen between two letters (roff(7), "Filling and adjusting").
 
-ghost use Rattle.std.specs.Prelude.{◌≡◌, ◌<◌, ◌≤◌, false, ◌==◌, ◌∷◌, length, take, drop};
+ghost use Rattle.std.specs.Prelude.{◌≡◌, ◌+◌, ◌<◌, ◌≤◌, false, true, ◌==◌, ◌∷◌, length, take, drop};
 ghost use Rattle.std.specs.List.{list_any};
 ghost use Rattle.page_core_base.specs.Words.{starts_with_letter, ends_part, hyphen, last_start, parts_of};
 
 const HYPHEN: u8 = b'-';
+
+// The bytes that are searched for a hyphen at a time.
+const GROUP: usize = 16;
 
 // Whether a letter stands at a text's front.
 #[inline(always)]
@@ -22,12 +25,46 @@ fn ends_part(before: u8, byte: u8, after: &[u8]) -> bool
     byte == HYPHEN && before.is_ascii_alphabetic() && starts_with_letter(after)
 }
 
-// Whether a hyphen stands in a text. Most words have none, and are one part.
+// Whether a hyphen stands in a text. All of its bytes are read, so that the compiler can test many at once.
 #[inline(always)]
-fn has_hyphen(text: &[u8]) -> bool
+fn holds_hyphen(text: &[u8]) -> bool
+    ensures { result ≡ list_any (λ byte. byte == hyphen) text.now }
+{
+    let mut found = false;
+    for byte in text {
+        found |= *byte == HYPHEN;
+    }
+    found
+}
+
+// Whether a hyphen stands among the first or among the last bytes of a word, as many as the compiler knows.
+#[inline(always)]
+fn ends_hold_hyphen<const GROUP: usize>(word: &[u8]) -> bool
+    requires long { GROUP ≤ length word.now }
+    requires short { length word.now ≤ GROUP + GROUP }
+    ensures { result ≡ false → list_any (λ byte. byte == hyphen) word.now ≡ false }
+{
+    holds_hyphen(&word[..GROUP]) || holds_hyphen(&word[word.len() - GROUP..])
+}
+
+// Whether a hyphen stands in a text, byte by byte.
+#[inline(always)]
+fn finds_hyphen(text: &[u8]) -> bool
     ensures { result ≡ list_any (λ byte. byte == hyphen) text.now }
 {
     text.iter().any(|byte| *byte == HYPHEN)
+}
+
+// Whether a hyphen stands in a word. Most words have none, and are one part.
+#[inline(always)]
+fn has_hyphen(word: &[u8]) -> bool
+    ensures { result ≡ false → list_any (λ byte. byte == hyphen) word.now ≡ false }
+{
+    match word.len() {
+        4..=8 => ends_hold_hyphen::<4>(word),
+        9..=16 => ends_hold_hyphen::<8>(word),
+        _ => finds_hyphen(word),
+    }
 }
 
 // How many bytes the first part of a word has, hyphen by hyphen. It is a call, so that what asks for the parts of words stays small.
@@ -85,12 +122,29 @@ fn hyphened_part_start(word: &[u8]) -> usize
     start
 }
 
-/// Where the last part of a word begins, in bytes.
+// Whether the last bytes of a text tell that no hyphen stands after a place.
 #[inline(always)]
-pub fn last_part_start(word: &[u8]) -> usize
-    ensures value { result ≡ last_start (parts_of word.now) }
-    ensures within { result ≤ length word.now }
+fn is_free_after(text: &[u8], start: usize) -> bool
+    ensures { result ≡ true → list_any (λ byte. byte == hyphen) (drop start text.now) ≡ false }
 {
+    if text.len() < GROUP || start < text.len() - GROUP {
+        return false;
+    }
+    !holds_hyphen(&text[text.len() - GROUP..])
+}
+
+/// Where the last part of a word begins, in bytes from the word's first. The word begins at a place of a text and goes on to its end; what stands
+/// before it is looked at with it, since a vector of bytes is read at once.
+#[inline(always)]
+pub fn last_part_start(text: &[u8], start: usize) -> usize
+    requires { start ≤ length text.now }
+    ensures value { result ≡ last_start (parts_of (drop start text.now)) }
+    ensures within { start + result ≤ length text.now }
+{
+    if is_free_after(text, start) {
+        return 0;
+    }
+    let word = &text[start..];
     if !has_hyphen(word) {
         return 0;
     }

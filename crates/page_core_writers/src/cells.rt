@@ -89,6 +89,31 @@ pub(crate) fn write_group(bytes: &mut [u8], start: usize, cells: &[Cell]) -> usi
     write_cells(bytes, start, cells)
 }
 
+// Writes the bytes of two halves of a group, each of which may be plain though the other is not: the letters of a word in a font stand together.
+#[inline(always)]
+fn write_halves(bytes: &mut [u8], start: usize, cells: &[Cell]) -> usize
+    requires { start + 16 * length cells.now ≤ length bytes.old }
+    ensures front { take result bytes.new ≡ take start bytes.old ++ flat_map cell_bytes_of cells.now }
+    ensures end { result ≤ start + 16 * length cells.now }
+{
+    let (front, back) = cells.split_at(cells.len() / 2);
+    let middle = write_group(bytes, start, front);
+    write_group(bytes, middle, back)
+}
+
+/// Writes the bytes of a group of cells, of which most are plain, from `start` on, and answers where they end.
+#[inline(always)]
+pub(crate) fn write_mixed(bytes: &mut [u8], start: usize, cells: &[Cell]) -> usize
+    requires { start + 16 * length cells.now ≤ length bytes.old }
+    ensures front { take result bytes.new ≡ take start bytes.old ++ flat_map cell_bytes_of cells.now }
+    ensures end { result ≤ start + 16 * length cells.now }
+{
+    if are_plain(cells) {
+        return write_plain(bytes, start, cells);
+    }
+    write_halves(bytes, start, cells)
+}
+
 /// Writes the bytes of cells from `start` on, and answers where they end.
 #[inline(always)]
 pub(crate) fn write_cells(bytes: &mut [u8], start: usize, cells: &[Cell]) -> usize

@@ -8,7 +8,7 @@ ghost use Rattle.page_core_writers.specs.Grows.{Adds, AddsInto, adds-sink, adds-
 ghost use Rattle.page_core_writers.specs.PlainCells.{is_plain};
 ghost use Rattle.page_core_writers.specs.RowBytes.{row_bytes, printed, cell_bytes_of};
 
-use crate::cells::{without_blanks_at_end, write_cells, write_group};
+use crate::cells::{without_blanks_at_end, write_group, write_mixed};
 use crate::writing::{BUFFER, put};
 use page_core_base::{Cell, Fault, RowSink};
 use std::io::Write;
@@ -78,7 +78,7 @@ fn put_end<W: Write>(out: &mut W, bytes: &mut [u8; BUFFER], start: usize, cells:
     ensures { Writes result (W.contents out.old) (W.contents out.new)
         (take start bytes.old ++ (flat_map cell_bytes_of cells.now ++ 10 ∷ [])) }
 {
-    let end = write_cells(bytes, start, cells);
+    let end = write_group(bytes, start, cells);
     bytes[end] = b'\n';
     put(out, &bytes[..end + 1])
 }
@@ -96,7 +96,7 @@ fn put_cells<W: Write>(out: &mut W, bytes: &mut [u8; BUFFER], start: usize, cell
             return false;
         };
         let (group, later) = rest.split_at(GROUP);
-        end = write_group(bytes, room, group);
+        end = write_mixed(bytes, room, group);
         rest = later;
     }
     put_end(out, bytes, end, rest)

@@ -265,7 +265,7 @@ impl Edge {
             return 0;
         }
         self.sheet.add_words(words, start);
-        self.sheet.part_word(last_part_start(&words[start..]));
+        self.sheet.part_word(last_part_start(words, start));
         self.word = OpenWord::begun(false);
         end
     }

@@ -17,7 +17,7 @@ loop-rest-preserved g c =
     let rest = flat_map cell_bytes_of l.rest.now ++ 10 ∷ [] in
     let f = GrowsUpTo-flow _ (take l.end l.bytes) (take room l.bytes) rest l.invariant.1 refl c.in-Some.ensures.1 in
     let e = cells_moved (take room l.bytes) l.rest.now 8 in
-    (search rules, rw (c.split_at.ensures.back, c.write_group-end.ensures.front, c.split_at.ensures.front) (rw e at f))
+    (search rules, rw (c.split_at.ensures.back, c.write_mixed-end.ensures.front, c.split_at.ensures.front) (rw e at f))
 
 pub returns : goal.returns
 returns g c =

@@ -1,5 +1,5 @@
 use Rattle.std.proofs.Common.{◌≡◌, ◌<◌, ◌≤◌, ap, arith, drop, length, take, ◌∙◌}
-use Rattle.std.proofs.lemmas.List.{length-take-le, take_rest}
+use Rattle.std.proofs.lemmas.List.{length-take-le}
 use Rattle.page_core_base.specs.declared.cells.Font.TheVariants.{R}
 use Rattle.page_core_base.specs.Words.{last_start, parts_of}
 use Rattle.page_fill_rows.specs.Plain.{free_cells, word_start}
@@ -26,7 +26,7 @@ returns-clause-takes c =
     let start : 0 < word_start (take end text) = omega (arith, c.word_start-start.ensures.value, c.if-start-eq0.false) in
     let printable = front-plain text room plain end c.printable_len.ensures.value c.whole_words-end.ensures.fits in
     let last : c.last_part_start.result ≡ last_start (parts_of (drop (word_start (take end text)) (take end text))) =
-    (rw (take_rest (take end text) c.word_start-start.result) at c.last_part_start.ensures.value)
+    c.last_part_start.ensures.value
     ∙ ap (λ n. last_start (parts_of (drop n (take end text)))) c.word_start-start.ensures.value in
     rw (c.part_word.ensures, c.add_words.ensures, c.begun-self.ensures, last)
     (takes-words c.args.self.now text plain end c.if-self.false c.whole_words-end.ensures.value fits start printable)
