@@ -1,13 +1,16 @@
 -- How a latch over a sink of pieces takes items.
-use Rattle.std.proofs.Common.{◌≡◌, List, [], ◌++◌, Option, None, Some, is_some, false, refl, Result, Ok, Err, MatchResult, ◌∙◌, append-nil, sym}
+use Rattle.std.proofs.Common.{◌≡◌, ℕ, List, [], ◌∷◌, ◌++◌, Option, None, Some, is_some, false, refl, Result, Ok, Err, MatchResult, ◌∙◌, append-nil, sym}
 use Rattle.std.specs.Result.{result_err}
 use Rattle.std.specs.Borrow.{GName}
 use Rattle.page_core_base.specs.PiecePlans.{Planned, Left}
 use Rattle.page_core_base.proofs.SinkLemmas.{UpTo-all, UpTo-more, UpTo-within}
-use Rattle.page_core_base.specs.Pieces.{Item}
-use Rattle.page_core_base.specs.Sinks.{IsSink}
+use Rattle.page_core_base.specs.Fails.{FailsAs, FailsByPieces, IsPieceFault, Rose}
+use Rattle.page_core_base.specs.Latches.{Emits}
+use Rattle.page_core_base.specs.Messages.{Message}
+use Rattle.page_core_base.specs.Pieces.{Item, all_noted, noted}
+use Rattle.page_core_base.specs.Sinks.{Gives, IsSink}
 use Rattle.page_core_base.specs.declared.faults.Fault.{Fault}
-use Rattle.page_core_base.specs.declared.faults.Fault.TheVariants.{Failed}
+use Rattle.page_core_base.specs.declared.faults.Fault.TheVariants.{Failed, WriteNotes}
 
 -- with no fault yet, a call of the sink gave items
 pub left_given : {S L : Type 0} {gave : S → List Item → S → Type 0} {broke : S → Fault → List Item → S → Type 0} {loans : S → L}
@@ -47,3 +50,21 @@ latched k {name} {s = s} items r start came done =
     let h = came (record { name = name; start = s; loans = _; all = items }) []
     (rw start (record { same_loan = refl; same_loans = refl; came = record { done = []; parts = sym (append-nil items); given = (k Failed).none s } })) in
     (h.same_loan, h.same_loans, left_done r done h)
+
+-- what a sink says of a message, it says of the item
+pub heard : {S : Type 0} {gave within : S → List Message → S → Type 0} {failed : S → ℕ}
+    (took : S → List Item → S → Type 0) (broke : S → Fault → List Item → S → Type 0) → ((s t : S) (xs : List Message) → gave s xs t → took s (all_noted xs) t)
+    → ((s t : S) (xs : List Message) → within s xs t → Rose (failed s) (failed t) → broke s WriteNotes (all_noted xs) t)
+    → (s t : S) (r : Result (Unit {0}) Fault) (message : Message) → Gives r gave within s (message ∷ []) t
+    → FailsAs WriteNotes r (failed s) (failed t) → Emits r took broke s (noted message ∷ []) t
+heard took broke messages fault s t (Ok x) message gives fails = messages s t (message ∷ []) gives
+heard took broke messages fault s t (Err f) message gives fails = rw fails.0 (fault s t (message ∷ []) gives fails.1)
+
+-- each fault of a whole call has its cause
+pub emits_faults : {S : Type 0} {took : S → List Item → S → Type 0} {broke : S → Fault → List Item → S → Type 0} {rows notes : S → ℕ}
+    → ((s t : S) (xs : List Item) → took s xs t → (rows t ≡ rows s) × (notes t ≡ notes s))
+    → ((s t : S) (f : Fault) (xs : List Item) → broke s f xs t → IsPieceFault f (rows s) (rows t) (notes s) (notes t))
+    → (s t : S) (items : List Item) (r : Result (Unit {0}) Fault) → Emits r took broke s items t
+    → FailsByPieces r (rows s) (rows t) (notes s) (notes t)
+emits_faults quiet causes s t items (Ok x) emits = quiet s t items emits
+emits_faults quiet causes s t items (Err f) emits = causes s t f items emits

@@ -25,3 +25,18 @@ IsSinkFault (BadIndex n) rows rows' notes notes' = ⊥
 
 abbrev pub FailsBySink : Result (Unit {0}) Fault → ℕ → ℕ → ℕ → ℕ → Type 0
 FailsBySink r rows rows' notes notes' = MatchResult r (λ _. (rows' ≡ rows) × (notes' ≡ notes)) (λ e. IsSinkFault e rows rows' notes notes')
+
+-- the same of a call over a sink of pieces, which counts the rows that failed beside its messages; where it is over, nothing failed
+abbrev pub IsPieceFault : Fault → ℕ → ℕ → ℕ → ℕ → Type 0
+IsPieceFault WriteText rows rows' notes notes' = Rose rows rows'
+IsPieceFault WriteNotes rows rows' notes notes' = Rose notes notes'
+IsPieceFault Failed rows rows' notes notes' = (rows' ≡ rows) × (notes' ≡ notes)
+IsPieceFault Memory rows rows' notes notes' = ⊥
+IsPieceFault Read rows rows' notes notes' = ⊥
+IsPieceFault TooLong rows rows' notes notes' = ⊥
+IsPieceFault (Settings s) rows rows' notes notes' = ⊥
+IsPieceFault Ended rows rows' notes notes' = ⊥
+IsPieceFault (BadIndex n) rows rows' notes notes' = ⊥
+
+abbrev pub FailsByPieces : Result (Unit {0}) Fault → ℕ → ℕ → ℕ → ℕ → Type 0
+FailsByPieces r rows rows' notes notes' = MatchResult r (λ _. (rows' ≡ rows) × (notes' ≡ notes)) (λ e. IsPieceFault e rows rows' notes notes')

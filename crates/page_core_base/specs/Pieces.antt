@@ -1,5 +1,5 @@
 -- Pieces and the messages between them.
-use Rattle.std.specs.Prelude.{ℕ, List}
+use Rattle.std.specs.Prelude.{ℕ, List, map}
 use Rattle.std.specs.Borrow.{Bor}
 use Rattle.page_core_base.specs.Messages.{Message}
 use Rattle.page_core_base.specs.declared.pieces.Piece.{Piece}
@@ -9,6 +9,10 @@ use Rattle.page_core_base.specs.declared.pieces.Piece.TheVariants.{Text, Glyph, 
 pub data Item : Type 0 where
   shown : Piece (List ℕ) → Item
   noted : Message → Item
+
+-- messages alone, as items
+abbrev pub all_noted : List Message → List Item
+all_noted messages = map noted messages
 
 -- a piece of the program, with what its text holds
 abbrev pub piece_of : Piece (Bor (List ℕ)) → Piece (List ℕ)

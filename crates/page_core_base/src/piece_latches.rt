@@ -69,7 +69,7 @@ impl<'a, O: PieceSink> PieceLatch<'a, O> {
 impl<O: PieceSink> PieceOut for PieceLatch<'_, O> {
     ghost Plan = { Planned O O.Loans };
 
-    ghost left = { λ plan s rest. Left O.gave O.broke O.loans plan s.out.ghost_name s.out.now s.fault rest };
+    ghost left = { λ plan s rest. Left O.took O.broke O.loans plan s.out.ghost_name s.out.now s.fault rest };
 
     #[inline(always)]
     fn give(&mut self, piece: Piece<&[u8]>) {

@@ -1,13 +1,15 @@
 //! Pieces: what a page's scopes give to be filled, in the order of the page.
 
-ghost use Rattle.std.specs.Prelude.{◌≡◌, ◌≤◌, List, [], ◌∷◌, length, MatchResult};
+ghost use Rattle.std.specs.Prelude.{◌≡◌, ◌≤◌, ℕ, List, [], ◌∷◌, length};
 ghost use Rattle.page_core_base.specs.Sinks.{IsSink};
-ghost use Rattle.page_core_base.specs.Messages.{message_of};
+ghost use Rattle.page_core_base.specs.Fails.{Rose, IsPieceFault, FailsByPieces};
+ghost use Rattle.page_core_base.specs.Latches.{Emits};
+ghost use Rattle.page_core_base.specs.Messages.{Message};
 ghost use Rattle.page_core_base.specs.declared.faults.Fault.{Fault};
-ghost use Rattle.page_core_base.specs.Pieces.{Item, shown, noted, piece_of};
+ghost use Rattle.page_core_base.specs.Pieces.{Item, shown, all_noted, piece_of};
 ghost use Rattle.page_core_base.specs.Words.{TakesWords};
 
-use crate::{Fault, Font, Note, Place};
+use crate::{Fault, Font, NoteSink, Place};
 use std::alloc::AllocError;
 
 /// What follows a tag that is too long for its hang.
@@ -71,36 +73,47 @@ impl<W: Copy> Clone for Piece<W> {
     }
 }
 
-/// Takes pieces, and the messages between them.
-pub trait PieceSink {
+/// Takes pieces, and the messages between them. Rows are made of pieces, so it fails as a sink of rows and one of messages do.
+pub trait PieceSink: NoteSink {
     // These pieces and messages came, and no other; a front of them came, and then this fault.
-    ghost gave: { Self → List Item → Self → Type 0 };
+    ghost took: { Self → List Item → Self → Type 0 };
 
     ghost broke: { Self → Fault → List Item → Self → Type 0 };
 
-    // The loans that the sink holds, which stay.
-    ghost Loans: { Type 0 };
+    // How often rows have failed, up to the greatest number.
+    ghost row_failed: { Self → ℕ };
 
-    ghost loans: { Self → Loans };
-
-    /// Takes a piece. Its faults are [`Fault::WriteText`] and [`Fault::WriteNotes`].
+    /// Takes a piece. Its faults are [`Fault::WriteText`] where rows failed, [`Fault::WriteNotes`] where messages did, and
+    /// [`Fault::Failed`] where the sink takes no more.
     fn piece(&mut self, piece: Piece<&[u8]>) -> Result<(), Fault>
-        ensures gives { MatchResult result (λ _. gave self.old (shown (piece_of piece.entry) ∷ []) self.new)
-            (λ fault. broke self.old fault (shown (piece_of piece.entry) ∷ []) self.new) }
-        ensures same { loans self.new ≡ loans self.old };
+        ensures gives { Emits result took broke self.old (shown (piece_of piece.entry) ∷ []) self.new }
+        ensures faults { FailsByPieces result (row_failed self.old) (row_failed self.new)
+            (Self.failed self.old) (Self.failed self.new) }
+        ensures same { Self.loans self.new ≡ Self.loans self.old };
 
     /// Takes as many of the first words of a text, in which one blank stands before each, as it can take at once; answers how many bytes
     /// these are, which may be none. The blank before the first word stands at a place. Of any other text nothing is promised.
     fn take_words(&mut self, text: &[u8], font: Font, place: Place) -> usize
-        ensures takes { TakesWords text.now font place result gave self.old self.new }
+        ensures takes { TakesWords text.now font place result took self.old self.new }
         ensures within { result ≤ length text.now }
-        ensures same { loans self.new ≡ loans self.old };
+        ensures same { Self.loans self.new ≡ Self.loans self.old };
 
-    /// Takes a message. Its fault is [`Fault::WriteNotes`].
-    fn note(&mut self, note: &Note) -> Result<(), Fault>
-        ensures gives { MatchResult result (λ _. gave self.old (noted (message_of note.now) ∷ []) self.new)
-            (λ fault. broke self.old fault (noted (message_of note.now) ∷ []) self.new) }
-        ensures same { loans self.new ≡ loans self.old };
+    /// How often rows failed, up to 2^64 - 1.
+    fn row_failures(&self) -> u64
+        ensures { result ≡ row_failed self.now };
 
-    ghost laws: { (f : Fault) → IsSink gave (λ s xs t. broke s f xs t) };
+    ghost items: { (f : Fault) → IsSink took (λ s xs t. broke s f xs t) };
+
+    // What comes by `note` are items too.
+    ghost messages: { (s t : Self) (xs : List Message) → Self.gave s xs t → took s (all_noted xs) t };
+
+    ghost message_fault: { (s t : Self) (xs : List Message) → Self.within s xs t
+        → Rose (Self.failed s) (Self.failed t) → broke s Fault.WriteNotes (all_noted xs) t };
+
+    // Nothing failed where all items came, and a fault has its cause.
+    ghost quiet: { (s t : Self) (xs : List Item) → took s xs t
+        → (row_failed t ≡ row_failed s) × (Self.failed t ≡ Self.failed s) };
+
+    ghost causes: { (s t : Self) (f : Fault) (xs : List Item) → broke s f xs t
+        → IsPieceFault f (row_failed s) (row_failed t) (Self.failed s) (Self.failed t) };
 }

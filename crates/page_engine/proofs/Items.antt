@@ -1,22 +1,34 @@
 -- One item through a filler.
-use Rattle.std.proofs.Common.{◌≡◌, ℕ, List, [], ◌∷◌, Option, Some, Result, Ok, Err, MatchResult, OnOk, refl, append-nil, ◌∙◌}
+use Rattle.std.proofs.Common.{◌≡◌, ℕ, List, [], ◌∷◌, Option, None, Some, Result, Ok, Err, MatchResult, OnOk, refl, append-nil, ◌∙◌}
 use Rattle.page_core_base.specs.Sinks.{IsSink}
 use Rattle.page_core_base.specs.Messages.{Message}
 use Rattle.page_core_base.specs.Rows.{LaidRow}
 use Rattle.page_core_base.specs.declared.faults.Fault.{Fault}
-use Rattle.page_core_base.specs.declared.faults.Fault.TheVariants.{WriteNotes}
+use Rattle.page_core_base.specs.declared.faults.Fault.TheVariants.{Memory, Read, WriteText, WriteNotes, TooLong, Settings, Failed, Ended, BadIndex}
 use Rattle.page_core_base.specs.declared.pieces.Piece.{Piece}
-use Rattle.page_core_base.specs.Laid.{Laid, Gets, join}
-use Rattle.page_core_base.specs.Fails.{FailsAs, FailsBySink}
+use Rattle.page_core_base.specs.Laid.{Laid, Gave, Gets, join}
+use Rattle.page_core_base.specs.Fails.{FailsAs, FailsBySink, IsPieceFault, IsSinkFault}
 use Rattle.page_fill.specs.declared.words.Edge.{Edge as FillEdge}
 use Rattle.page_fill.specs.Fill as fill
 use Rattle.page_core_base.specs.Pieces.{Item, shown, noted}
 use Rattle.page_fill.specs.Items.{laid_item, laid_items}
-use Rattle.page_engine.specs.PageSinks.{Passed, Broken, Ends, cause_later}
+use Rattle.page_engine.specs.PageSinks.{Passed, Broken, Ends, Quiet, cause_later}
 
 pub laid_items_one : (row : FillEdge) (x : Item) → laid_items row (x ∷ []) ≡ laid_item row x
 unfolding laid_items
 laid_items_one row x = rw (append-nil, append-nil) refl
+
+-- a sink's fault is one of a sink of pieces
+sink_cause : (fault : Fault) (r r' n n' : ℕ) → IsSinkFault fault r r' n n' → IsPieceFault fault r r' n n'
+sink_cause Memory r r' n n' cause = absurd cause
+sink_cause Read r r' n n' cause = absurd cause
+sink_cause WriteText r r' n n' cause = cause
+sink_cause WriteNotes r r' n n' cause = cause
+sink_cause TooLong r r' n n' cause = absurd cause
+sink_cause (Settings s) r r' n n' cause = absurd cause
+sink_cause Failed r r' n n' cause = absurd cause
+sink_cause Ended r r' n n' cause = absurd cause
+sink_cause (BadIndex m) r r' n n' cause = absurd cause
 
 -- what a filler says of a piece is what is asked of a sink
 pub piece_passes : {R N : Type 0} (rg rw_ : R → List LaidRow → R → Type 0) (rf : R → ℕ) (ng nw : N → List Message → N → Type 0) (nf : N → ℕ)
@@ -24,25 +36,45 @@ pub piece_passes : {R N : Type 0} (rg rw_ : R → List LaidRow → R → Type 0)
     → ((e : FillEdge) → f ≡ Some e → Gets res rg rw_ ng nw r r' n n' (fill.laid_piece e piece))
     → ((e : FillEdge) → f ≡ Some e → OnOk res (f' ≡ Some (fill.laid_piece e piece).edge))
     → ((e : FillEdge) → f ≡ Some e → FailsBySink res (rf r) (rf r') (nf n) (nf n'))
-    → MatchResult res (λ _. (row : FillEdge) → f ≡ Some row → Passed rg rf ng nf f f' r r' n n' (laid_items row (shown piece ∷ [])))
-    (λ fault. (row : FillEdge) → f ≡ Some row → Broken rw_ rf nw nf r r' n n' fault (laid_items row (shown piece ∷ [])))
-piece_passes rg rw_ rf ng nw nf (Ok x) f f' r r' n n' piece gets edge faults = λ row e.
-    rw laid_items_one record { filler = edge row e; rows = (gets row e).rows; notes = (gets row e).notes; rows_failed = (faults row e).0; notes_failed = (faults row e).1 }
-piece_passes rg rw_ rf ng nw nf (Err x) f f' r r' n n' piece gets edge faults = λ row e.
-    rw laid_items_one record { rows = (gets row e).rows; notes = (gets row e).notes; cause = faults row e }
+    → (f ≡ None → (res ≡ Err Failed) × (r' ≡ r) × (n' ≡ n))
+    → MatchResult res
+    (λ _. ((row : FillEdge) → f ≡ Some row → Passed rg rf ng nf f f' r r' n n' (laid_items row (shown piece ∷ []))) × Quiet rf nf r r' n n')
+    (λ fault. IsPieceFault fault (rf r) (rf r') (nf n) (nf n')
+    × ((row : FillEdge) → f ≡ Some row → Broken rw_ rf nw nf r r' n n' fault (laid_items row (shown piece ∷ []))))
+piece_passes rg rw_ rf ng nw nf (Ok x) None f' r r' n n' piece gets edge faults closed =
+    let c = (closed refl).0 in let never : ⊥ = cc in absurd never
+piece_passes rg rw_ rf ng nw nf (Ok x) (Some e) f' r r' n n' piece gets edge faults closed = (
+  λ row is. rw laid_items_one record {
+    filler = edge row is;
+    rows = (gets row is).rows;
+    notes = (gets row is).notes;
+    rows_failed = (faults row is).0;
+    notes_failed = (faults row is).1;
+  },
+  record { rows = (faults e refl).0; notes = (faults e refl).1 },
+)
+piece_passes rg rw_ rf ng nw nf (Err x) None f' r r' n n' piece gets edge faults closed =
+    let c = closed refl in
+    let over : x ≡ Failed = let same = c.0 in cc in
+    (rw (over, c.1, c.2) (refl, refl), λ row is. let never : ⊥ = cc in absurd never)
+piece_passes rg rw_ rf ng nw nf (Err x) (Some e) f' r r' n n' piece gets edge faults closed = (
+  sink_cause x (rf r) (rf r') (nf n) (nf n') (faults e refl),
+  λ row is. rw laid_items_one record { rows = (gets row is).rows; notes = (gets row is).notes; cause = faults row is },
+)
 
 -- a message passes the filler by, and goes to its sink
 pub note_passes : {R N : Type 0} (rg rw_ : R → List LaidRow → R → Type 0) (rf : R → ℕ) (ng nw : N → List Message → N → Type 0) (nf : N → ℕ)
     → IsSink rg rw_ → ((r r' : R) (xs : List LaidRow) → rg r xs r' → rw_ r xs r')
     → (res : Result (Unit {0}) Fault) (f : Option FillEdge) (r : R) (n n' : N) (m : Message)
     → MatchResult res (λ _. ng n (m ∷ []) n') (λ _. nw n (m ∷ []) n') → FailsAs WriteNotes res (nf n) (nf n')
-    → MatchResult res (λ _. (row : FillEdge) → f ≡ Some row → Passed rg rf ng nf f f r r n n' (laid_items row (noted m ∷ [])))
-    (λ fault. (row : FillEdge) → f ≡ Some row → Broken rw_ rf nw nf r r n n' fault (laid_items row (noted m ∷ [])))
+    → MatchResult res
+    (λ _. ((row : FillEdge) → f ≡ Some row → Passed rg rf ng nf f f r r n n' (laid_items row (noted m ∷ []))) × Quiet rf nf r r n n')
+    (λ _. (row : FillEdge) → f ≡ Some row → Gave rw_ nw r r n n' (laid_items row (noted m ∷ [])))
 unfolding laid_items
-note_passes rg rw_ rf ng nw nf k whole (Ok x) f r n n' m g h = λ row e.
-    record { filler = e; rows = k.none r; notes = g; rows_failed = refl; notes_failed = h }
+note_passes rg rw_ rf ng nw nf k whole (Ok x) f r n n' m g h =
+    (λ row e. record { filler = e; rows = k.none r; notes = g; rows_failed = refl; notes_failed = h }, record { rows = refl; notes = h })
 note_passes rg rw_ rf ng nw nf k whole (Err x) f r n n' m g h = λ row e.
-    record { rows = whole r r [] (k.none r); notes = g; cause = rw h.0 h.1 }
+    record { rows = whole r r [] (k.none r); notes = g }
 
 -- items, and then the end of the row
 pub ends_after : {R N : Type 0} {rg rw_ : R → List LaidRow → R → Type 0} {rf : R → ℕ} {ng nw : N → List Message → N → Type 0} {nf : N → ℕ}

@@ -13,7 +13,7 @@ use Rattle.page_core_base.specs.declared.places.Place.{Place}
 use Rattle.page_fill.specs.Fill.{laid, laid_piece}
 use Rattle.page_fill.specs.TakenWords.{TakesFirstWords}
 use Rattle.page_fill.specs.declared.words.Edge.{Edge as FillEdge}
-use Rattle.page_engine.specs.PageSinks.{Passed}
+use Rattle.page_engine.specs.PageSinks.{Passed, Quiet}
 use Rattle.page_fill.specs.Items.{laid_items}
 
 -- pieces with no messages between them
@@ -42,17 +42,21 @@ pub words_pass : {R N : Type 0} {rg rw_ : R → List LaidRow → R → Type 0} {
     → ((e : FillEdge) → old ≡ Some e → TakesFirstWords text font taken e now) → (old ≡ None → (taken ≡ 0) × (now ≡ None))
     → (words : List (List ℕ)) → list_all is_word words ≡ true → text ≡ blank_words words
     → (count : ℕ) × (taken ≡ length (blank_words (take count words)))
-    × ((row : FillEdge) → old ≡ Some row → Passed rg rf ng nf old now r r n n (laid_items row (word_items font place (take count words))))
+    × (((row : FillEdge) → old ≡ Some row → Passed rg rf ng nf old now r r n n (laid_items row (word_items font place (take count words))))
+    × Quiet rf nf r r n n)
 unfolding blank_words
 words_pass k l None now r n text font place taken took closed words are bytes =
-    (0, (closed refl).0, λ row is. let never : ⊥ = cc in absurd never)
+    (0, (closed refl).0, (λ row is. let never : ⊥ = cc in absurd never, record { rows = refl; notes = refl }))
 words_pass k l (Some e) now r n text font place taken took closed words are bytes =
     let t = took e refl place words are bytes in (
       t.0,
       t.2,
-      λ row is.
-          let items = word_items font place (take t.0 words) in
-          let here : laid_items row items ≡ nothing t.1 =
-          ap (λ (f : FillEdge). laid_items f items) (sym (same_edge e row is)) ∙ words_laid e font place (take t.0 words) ∙ t.4 in
-          passes_nothing k l (Some e) now r n row t.1 items t.3 here,
+      (
+        λ row is.
+            let items = word_items font place (take t.0 words) in
+            let here : laid_items row items ≡ nothing t.1 =
+            ap (λ (f : FillEdge). laid_items f items) (sym (same_edge e row is)) ∙ words_laid e font place (take t.0 words) ∙ t.4 in
+            passes_nothing k l (Some e) now r n row t.1 items t.3 here,
+        record { rows = refl; notes = refl },
+      ),
     )

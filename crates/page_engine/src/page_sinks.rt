@@ -2,9 +2,10 @@
 
 ghost use Rattle.std.specs.Prelude.{◌≡◌, ℕ, List, Option, Some};
 ghost use Rattle.std.specs.Borrow.{GName};
-ghost use Rattle.page_engine.specs.Levels.{filter-sink};
-ghost use Rattle.page_engine.specs.Shown.{shown-sink};
-ghost use Rattle.page_engine.specs.PageSinks.{PageSinkGave, PageSinkBroke, page-sink};
+ghost use Rattle.page_engine.specs.Levels.{filter-sink, filter-whole};
+ghost use Rattle.page_engine.specs.Shown.{shown-sink, shown-whole};
+ghost use Rattle.page_engine.specs.PageSinks.{PageSinkGave, PageSinkWithin, message-sink, message-whole, message-fault};
+ghost use Rattle.page_engine.specs.PageSinks.{PageSinkTook, PageSinkBroke, page-sink};
 
 use crate::level_filters::LevelFilter;
 use crate::shown::Shown;
@@ -19,14 +20,15 @@ pub struct PageSink<'f, 'r, 'n, R, N> {
     pub(crate) notes: LevelFilter<'n, N>,
 }
 
-impl<R: RowSink, N: NoteSink> PieceSink for PageSink<'_, '_, '_, R, N> {
+impl<R: RowSink, N: NoteSink> NoteSink for PageSink<'_, '_, '_, R, N> {
     ghost gave = { PageSinkGave ⟦<Shown<'static, R> as RowSink>⟧.gave ⟦<Shown<'static, R> as RowSink>⟧.failed
         ⟦<LevelFilter<'static, N> as NoteSink>⟧.gave ⟦<LevelFilter<'static, N> as NoteSink>⟧.failed
         (λ s. s.filler.now) (λ s. s.rows) (λ s. s.notes) };
 
-    ghost broke = { PageSinkBroke ⟦<Shown<'static, R> as RowSink>⟧.within ⟦<Shown<'static, R> as RowSink>⟧.failed
-        ⟦<LevelFilter<'static, N> as NoteSink>⟧.within ⟦<LevelFilter<'static, N> as NoteSink>⟧.failed
+    ghost within = { PageSinkWithin ⟦<Shown<'static, R> as RowSink>⟧.within ⟦<LevelFilter<'static, N> as NoteSink>⟧.within
         (λ s. s.filler.now) (λ s. s.rows) (λ s. s.notes) };
+
+    ghost failed = { λ s. N.failed s.notes.notes.now };
 
     ghost Loans = { GName × GName × GName × R.Loans × N.Loans };
 
@@ -38,12 +40,57 @@ impl<R: RowSink, N: NoteSink> PieceSink for PageSink<'_, '_, '_, R, N> {
       N.loans s.notes.notes.now,
     ) };
 
-    ghost laws = { page-sink ⟦<Shown<'static, R> as RowSink>⟧.gave ⟦<Shown<'static, R> as RowSink>⟧.within
+    ghost laws = { message-sink ⟦<Shown<'static, R> as RowSink>⟧.gave ⟦<Shown<'static, R> as RowSink>⟧.within
         ⟦<Shown<'static, R> as RowSink>⟧.failed ⟦<LevelFilter<'static, N> as NoteSink>⟧.gave
         ⟦<LevelFilter<'static, N> as NoteSink>⟧.within ⟦<LevelFilter<'static, N> as NoteSink>⟧.failed
         (shown-sink R.gave R.within R.laws (λ s. s.rows.now) (λ s. s.is_silent))
         (filter-sink N.gave N.within N.laws (λ s. s.notes.now) (λ s. s.least) (λ s. s.worst))
         (λ s. s.filler.now) (λ s. s.rows) (λ s. s.notes) };
+
+    ghost whole = { message-whole ⟦<Shown<'static, R> as RowSink>⟧.gave ⟦<Shown<'static, R> as RowSink>⟧.within
+        ⟦<Shown<'static, R> as RowSink>⟧.failed ⟦<LevelFilter<'static, N> as NoteSink>⟧.gave
+        ⟦<LevelFilter<'static, N> as NoteSink>⟧.within ⟦<LevelFilter<'static, N> as NoteSink>⟧.failed
+        (shown-whole R.gave R.within R.whole (λ s. s.rows.now) (λ s. s.is_silent))
+        (filter-whole N.gave N.within N.whole (λ s. s.notes.now) (λ s. s.least) (λ s. s.worst))
+        (λ s. s.filler.now) (λ s. s.rows) (λ s. s.notes) };
+
+    #[tactic(auto, unfolding(page_fill::specs::Items::laid_items))]
+    fn note(&mut self, note: &Note) -> Result<(), Fault> {
+        self.notes.note(note)
+    }
+
+    fn failures(&self) -> u64 {
+        self.notes.failures()
+    }
+}
+
+impl<R: RowSink, N: NoteSink> PieceSink for PageSink<'_, '_, '_, R, N> {
+    ghost took = { PageSinkTook ⟦<Shown<'static, R> as RowSink>⟧.gave ⟦<Shown<'static, R> as RowSink>⟧.failed
+        ⟦<LevelFilter<'static, N> as NoteSink>⟧.gave ⟦<LevelFilter<'static, N> as NoteSink>⟧.failed
+        (λ s. s.filler.now) (λ s. s.rows) (λ s. s.notes) };
+
+    ghost broke = { PageSinkBroke ⟦<Shown<'static, R> as RowSink>⟧.within ⟦<Shown<'static, R> as RowSink>⟧.failed
+        ⟦<LevelFilter<'static, N> as NoteSink>⟧.within ⟦<LevelFilter<'static, N> as NoteSink>⟧.failed
+        (λ s. s.filler.now) (λ s. s.rows) (λ s. s.notes) };
+
+    ghost row_failed = { λ s. R.failed s.rows.rows.now };
+
+    ghost items = { page-sink ⟦<Shown<'static, R> as RowSink>⟧.gave ⟦<Shown<'static, R> as RowSink>⟧.within
+        ⟦<Shown<'static, R> as RowSink>⟧.failed ⟦<LevelFilter<'static, N> as NoteSink>⟧.gave
+        ⟦<LevelFilter<'static, N> as NoteSink>⟧.within ⟦<LevelFilter<'static, N> as NoteSink>⟧.failed
+        (shown-sink R.gave R.within R.laws (λ s. s.rows.now) (λ s. s.is_silent))
+        (filter-sink N.gave N.within N.laws (λ s. s.notes.now) (λ s. s.least) (λ s. s.worst))
+        (λ s. s.filler.now) (λ s. s.rows) (λ s. s.notes) };
+
+    ghost messages = { λ s t xs gave. gave };
+
+    ghost message_fault = { message-fault ⟦<Shown<'static, R> as RowSink>⟧.within ⟦<Shown<'static, R> as RowSink>⟧.failed
+        ⟦<LevelFilter<'static, N> as NoteSink>⟧.within ⟦<LevelFilter<'static, N> as NoteSink>⟧.failed
+        (λ s. s.filler.now) (λ s. s.rows) (λ s. s.notes) };
+
+    ghost quiet = { λ s t xs took. (took.1.rows, took.1.notes) };
+
+    ghost causes = { λ s t fault xs broke. broke.0 };
 
     // The filler's own `piece` is put in its place, so that a piece of a known kind costs no copy and no match.
     #[inline(always)]
@@ -57,8 +104,7 @@ impl<R: RowSink, N: NoteSink> PieceSink for PageSink<'_, '_, '_, R, N> {
         self.filler.take_words(text, font)
     }
 
-    #[tactic(auto, unfolding(page_fill::specs::Items::laid_items))]
-    fn note(&mut self, note: &Note) -> Result<(), Fault> {
-        self.notes.note(note)
+    fn row_failures(&self) -> u64 {
+        self.rows.failures()
     }
 }

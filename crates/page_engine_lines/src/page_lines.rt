@@ -85,7 +85,7 @@ impl PageLines {
     pub fn line<O: PieceSink>(&mut self, out: &mut O, number: u32, text: &[u8]) -> Result<(), Fault>
         requires line { IsLine text.now }
         requires count { self.old.roff.source < 2 ^ 31 }
-        ensures gives { Emits result O.gave O.broke out.old
+        ensures gives { Emits result O.took O.broke out.old
             (lines.source_items self.old number text.now) out.new }
         ensures after { self.new ≡ lines.source_after self.old number text.now }
         ensures same { O.loans out.new ≡ O.loans out.old }
@@ -100,7 +100,7 @@ impl PageLines {
     /// Ends the source and the body after a line: what roff left open, the header and a message where no body
     /// began, and the end of the row. After that it is not to be used again.
     pub fn end<O: PieceSink>(&mut self, out: &mut O, number: u32) -> Result<(), Fault>
-        ensures gives { Emits result O.gave O.broke out.old (lines.end_items self.old number) out.new }
+        ensures gives { Emits result O.took O.broke out.old (lines.end_items self.old number) out.new }
         ensures header { self.new.body.header ≡ self.old.body.header }
         ensures same { O.loans out.new ≡ O.loans out.old }
     {
@@ -118,7 +118,7 @@ impl PageLines {
         number: u32,
         blank_rows: u32,
     ) -> Result<(), Fault>
-        ensures gives { Emits result O.gave O.broke out.old
+        ensures gives { Emits result O.took O.broke out.old
             (lines.footer_items self.now number blank_rows) out.new }
         ensures same { O.loans out.new ≡ O.loans out.old }
     {

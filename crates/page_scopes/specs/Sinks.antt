@@ -33,8 +33,8 @@ after_event event sink = record sink { page = event_after sink.page event; line 
 -- at Ok these items came, and no other; else a front of them, and then the fault; where the page is over none
 abbrev pub Settles : {S : Type 0} → Result (Unit {0}) Fault → (S → List Item → S → Type 0) → (S → Fault → List Item → S → Type 0)
     → Option SinkEdge → (SinkEdge → List Item) → S → S → Type 0
-Settles r gave broke None items s t = (r ≡ Err Failed) × (t ≡ s)
-Settles r gave broke (Some sink) items s t = Emits r gave broke s (items sink) t
+Settles r took broke None items s t = (r ≡ Err Failed) × (t ≡ s)
+Settles r took broke (Some sink) items s t = Emits r took broke s (items sink) t
 
 -- a call that succeeds leads to the next edge; after one that fails the page is over
 abbrev pub GoesOn : Result (Unit {0}) Fault → Option SinkEdge → (SinkEdge → SinkEdge) → Option SinkEdge → Type 0

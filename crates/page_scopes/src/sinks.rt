@@ -1,6 +1,7 @@
 //! The scopes of a page over a sink of pieces (man(7), mdoc(7)).
 
 ghost use Rattle.std.specs.Prelude.{◌≡◌, ◌≤◌, None, Some, IfSome, MatchResult, length, option_map};
+ghost use Rattle.page_core_base.specs.Fails.{FailsByPieces};
 ghost use Rattle.page_scopes.specs.Edges.{end_items, event_items, start_edge};
 ghost use Rattle.page_scopes.specs.Sinks.{GoesOn, Settles, after_event, chosen, layout_of, start_of};
 ghost use Rattle.page_scopes_leaves.specs.Fits.{DeedFits};
@@ -85,11 +86,14 @@ impl Scopes {
         self.scopes.depth()
     }
 
-    /// Takes an event of a line, and gives what it settles.
+    /// Takes an event of a line, and gives what it settles. Its faults are those of the sink: [`Fault::WriteText`] where rows
+    /// failed, [`Fault::WriteNotes`] where messages did.
     pub fn apply<O: PieceSink>(&mut self, event: Event<&[u8]>, out: &mut O) -> Result<(), Fault>
         requires { DeedFits (deed_seen event.deed) }
-        ensures gives { Settles result O.gave O.broke self.old
+        ensures gives { Settles result O.took O.broke self.old
             (λ sink. event_items sink.page (event_seen event.entry)) out.old out.new }
+        ensures faults { FailsByPieces result (O.row_failed out.old) (O.row_failed out.new)
+            (O.failed out.old) (O.failed out.new) }
         ensures edge { GoesOn result self.old (after_event (event_seen event.entry)) self.new }
         ensures same { O.loans out.new ≡ O.loans out.old }
     {
@@ -104,10 +108,12 @@ impl Scopes {
         done
     }
 
-    /// Ends the page on the line of its last event: all scopes end, and the row.
+    /// Ends the page on the line of its last event: all scopes end, and the row. Its faults are those of the sink.
     pub fn finish<O: PieceSink>(&mut self, out: &mut O) -> Result<(), Fault>
-        ensures gives { Settles result O.gave O.broke self.old
+        ensures gives { Settles result O.took O.broke self.old
             (λ sink. end_items sink.page sink.line) out.old out.new }
+        ensures faults { FailsByPieces result (O.row_failed out.old) (O.row_failed out.new)
+            (O.failed out.old) (O.failed out.new) }
         ensures over { self.new ≡ None }
         ensures same { O.loans out.new ≡ O.loans out.old }
     {

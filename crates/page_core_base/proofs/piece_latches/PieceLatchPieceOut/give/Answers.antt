@@ -5,9 +5,9 @@ use Rattle.page_core_base.proofs.piece_latches.PieceLatchPieceOut.give.Goals as 
 pub returns-in-Err : goal.returns-in-Err
 returns-in-Err g c = λ plan rest h.
     let none = sym c.is_some.ensures ∙ c.if-is_some.false in
-    rw c.in-Err.is at (left_given g.met.O.PieceSink.laws _ c.piece.result _ rest none h c.piece.ensures.gives c.piece.ensures.same)
+    rw c.in-Err.is at (left_given g.met.O.PieceSink.items _ c.piece.result _ rest none h c.piece.ensures.gives c.piece.ensures.same)
 
 pub returns-in_default : goal.returns-in_default
 returns-in_default g c = λ plan rest h.
     let none = sym c.is_some.ensures ∙ c.if-is_some.false in
-    left_taken g.met.O.PieceSink.laws _ c.piece.result _ rest none (search rules) h c.piece.ensures.gives c.piece.ensures.same
+    left_taken g.met.O.PieceSink.items _ c.piece.result _ rest none (search rules) h c.piece.ensures.gives c.piece.ensures.same

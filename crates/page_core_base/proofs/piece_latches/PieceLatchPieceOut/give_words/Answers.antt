@@ -15,5 +15,5 @@ returns-clause-takes g c = λ words are bytes.
       took.0,
       took.1,
       λ plan rest h.
-          left_taken g.met.O.PieceSink.laws _ (Ok tt) (word_items c.args.font c.args.place (take took.0 words)) rest none refl h took.2 c.take_words.ensures.same,
+          left_taken g.met.O.PieceSink.items _ (Ok tt) (word_items c.args.font c.args.place (take took.0 words)) rest none refl h took.2 c.take_words.ensures.same,
     )

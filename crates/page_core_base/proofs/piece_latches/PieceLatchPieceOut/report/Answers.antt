@@ -1,7 +1,11 @@
-use Rattle.page_core_base.proofs.PieceLatchLemmas.{left_given}
+use Rattle.page_core_base.specs.Messages.{message_of}
+use Rattle.page_core_base.proofs.PieceLatchLemmas.{heard, left_given}
 use Rattle.page_core_base.proofs.piece_latches.PieceLatchPieceOut.report.Goals as goal
 
 pub returns-then-is_none : goal.returns-then-is_none
 returns-then-is_none g c = λ plan rest h.
     let none = rw c.if-is_none.true at c.is_none.ensures in
-    rw c.err-self.ensures.value (left_given g.met.O.PieceSink.laws _ c.note.result _ rest none h c.note.ensures.gives c.note.ensures.same)
+    let laws = g.met.O.PieceSink in
+    let sink = g.O.PieceSink in
+    let given = heard sink.took sink.broke laws.messages laws.message_fault _ _ c.note.result (message_of c.args.note.now) c.note.ensures.gives c.note.ensures.fault in
+    rw c.err-self.ensures.value (left_given laws.items _ c.note.result _ rest none h given c.note.ensures.same)

@@ -6,5 +6,5 @@ use Rattle.page_engine_lines.proofs.page_lines.PageLines.footer.Goals as goal
 pub returns : goal.returns
 returns g c =
     let items = footer_items c.args.self.now c.args.number c.args.blank_rows in
-    let k = latched g.met.O.PieceSink.laws items c.done.result c.new.ensures.fault c.give_footer.ensures c.done.ensures in
+    let k = latched g.met.O.PieceSink.items items c.done.result c.new.ensures.fault c.give_footer.ensures c.done.ensures in
     record { gives = search (rules, k.0, k.2); same = search (rules, k.0, k.1) }

@@ -2,7 +2,7 @@ use Rattle.page_core_base.specs.Messages.{message_of}
 use Rattle.page_engine.specs.Shown.{ShownGave, ShownWithin, shown-sink, shown-whole}
 use Rattle.page_engine.specs.Levels.{FilterGave, FilterWithin}
 use Rattle.page_engine.proofs.Items.{note_passes}
-use Rattle.page_engine.proofs.page_sinks.PageSinkPieceSink.note.Goals as goal
+use Rattle.page_engine.proofs.page_sinks.PageSinkNoteSink.note.Goals as goal
 
 pub returns-clause-gives : goal.returns-clause-gives
 returns-clause-gives g c =
