@@ -1,6 +1,6 @@
 //! Escapes: what each means, and how many bytes it takes.
 
-use page_core_escapes::{Escape, FontName, escape};
+use page_core_escapes::{Escape, FontName, Token, escape, read_token};
 use page_core_limits::LINE;
 
 /// Shows the escape at a text's front: the number of its bytes, what it means, and its argument or character.
@@ -10,6 +10,20 @@ pub(crate) fn show_escape(rt: &HostRuntime, text: &str) {
         return;
     }
     let (found, len) = escape(bytes);
+    show_found(rt, found, len);
+}
+
+/// The same of the escape at the front of a text in a quoted argument of a macro.
+pub(crate) fn show_quoted(rt: &HostRuntime, text: &str) {
+    if text.len() > LINE {
+        return;
+    }
+    if let Token::Escaped { bytes, meaning } = read_token(true, text.as_bytes()) {
+        show_found(rt, meaning, bytes.len());
+    }
+}
+
+fn show_found(rt: &HostRuntime, found: Escape<'_>, len: usize) {
     let _ = print!(rt; " -> {len} {}", word(found));
     let argument = std::str::from_utf8(argument(found)).unwrap_or("cut inside a character");
     if let Some(c) = char_of(found) {

@@ -6,7 +6,7 @@ mod escapes;
 mod glyphs;
 mod numbers;
 
-use escapes::show_escape;
+use escapes::{show_escape, show_quoted};
 use glyphs::{show_char, show_glyph};
 use numbers::{show_columns, show_number};
 use std::io;
@@ -22,6 +22,7 @@ fn show(rt: &HostRuntime, line: &str) {
     let _ = print!(rt; "{line}");
     match line.split_once(' ') {
         Some(("escape", text)) => show_escape(rt, text),
+        Some(("quoted", text)) => show_quoted(rt, text),
         Some(("glyph", name)) => show_glyph(rt, name),
         Some(("character", text)) => show_char(rt, text),
         Some(("columns", text)) => show_columns(rt, text),

@@ -31,11 +31,11 @@ bare_name-other : (b : ℕ) (bs : List ℕ) → eqb b 0x28 ≡ false → eqb b 0
 bare_name-other b bs paren bracket = cond-false _ _ _ paren ∙ cond-false _ _ _ bracket
 
 -- a name takes bytes
-pub name_len-some : (t : List ℕ) (n : ℕ) → name_len t ≡ Some n → 0 < n
+pub name_len-some : (t : List ℕ) (n : ℕ) → name_len false t ≡ Some n → 0 < n
 name_len-some [] n e = cc
 name_len-some (b ∷ bs) n e =
     elim (cases_Bool (eqb b 0x28)) [
-      | inl paren ↦ more (two_characters_len bs) (sym (cond-true _ _ _ paren) ∙ e)
+      | inl paren ↦ more (two_characters_len false bs) (sym (cond-true _ _ _ paren) ∙ e)
       | inr no_paren ↦
           elim (cases_Bool (eqb b 0x5B)) [
             | inl bracket ↦ more (bracketed_len bs) (sym (cond-false _ _ _ no_paren ∙ cond-true _ _ _ bracket) ∙ e)
@@ -63,14 +63,14 @@ bracketed_text t n utf8 e = go (position (λ b. eqb b 0x5D) t) (λ k is. positio
         let shorter : without_last (take n t) ≡ take k t = ap (λ m. take m (take n t)) less ∙ take-take k n t (omega arith) in
         subst (λ u. IsUtf8 u) (sym shorter) (IsUtf8-take t k utf8 (IsCharBoundary-before_ascii t k lt (omega arith)))
 
-pub bare_name_text : (t : List ℕ) (n : ℕ) → IsUtf8 t → name_len t ≡ Some n → IsUtf8 (bare_name (take n t))
+pub bare_name_text : (t : List ℕ) (n : ℕ) → IsUtf8 t → name_len false t ≡ Some n → IsUtf8 (bare_name (take n t))
 bare_name_text [] n utf8 e = cc
 bare_name_text (b ∷ bs) n utf8 e =
     elim (cases_Bool (eqb b 0x28)) [
       | inl paren ↦
           let is = eqb-true b 0x28 paren in
           let rest = CutsAt-ascii b bs utf8 (omega arith) in
-          go_paren is rest (two_characters_len bs) (two_characters_cut bs rest) (sym (cond-true _ _ _ paren) ∙ e)
+          go_paren is rest (two_characters_len false bs) (two_characters_cut bs rest) (sym (cond-true _ _ _ paren) ∙ e)
       | inr no_paren ↦
           elim (cases_Bool (eqb b 0x5B)) [
             | inl bracket ↦
@@ -115,11 +115,11 @@ character_len-take t m n taken le =
         let split : n ≡ length xs + (n - m) = omega arith in
         ap (λ n. take n (xs ++ ys)) split ∙ take-append-add xs ys (n - m)
 
-pub bare_quoted_text : (t : List ℕ) (n : ℕ) → IsUtf8 t → quoted_len content_len t ≡ Some n → IsUtf8 (bare_quoted (take n t))
+pub bare_quoted_text : (t : List ℕ) (n : ℕ) → IsUtf8 t → quoted_len false (content_len false) t ≡ Some n → IsUtf8 (bare_quoted false (take n t))
 unfolding quoted_len
 bare_quoted_text t n utf8 = go (character_len t) (λ m is. character_len-taken t m utf8 is)
   where
-    inner : (m : ℕ) → Taken t m → (o : Option ℕ) → ((k : ℕ) → o ≡ Some k → CutsAt (drop m t) k × CutsAt (drop m t) (k + m)) → option_map (λ k. m + (k + m)) o ≡ Some n → IsUtf8 (bare_quoted (take n t))
+    inner : (m : ℕ) → Taken t m → (o : Option ℕ) → ((k : ℕ) → o ≡ Some k → CutsAt (drop m t) k × CutsAt (drop m t) (k + m)) → option_map (λ k. m + (k + m)) o ≡ Some n → IsUtf8 (bare_quoted false (take n t))
     inner m taken None ends e = cc
     inner m taken (Some k) ends e =
         let same : m + (k + m) ≡ n = cc in
@@ -129,10 +129,10 @@ bare_quoted_text t n utf8 = go (character_len t) (λ m is. character_len-taken t
         let size : length (take n t) ≡ n = length-take-le n t (omega (arith, length-drop m t)) in
         let count : length (take n t) - m - m ≡ k = omega arith in
         let rest : drop m (take n t) ≡ take (k + m) (drop m t) = ap (λ n. drop m (take n t)) (sym same) ∙ drop-take m (k + m) t in
-        let whole : bare_quoted (take n t) ≡ take k (drop m t) =
+        let whole : bare_quoted false (take n t) ≡ take k (drop m t) =
         ap (λ m. take (length (take n t) - m - m) (drop m (take n t))) mark ∙ ap₂ take count rest ∙ take-take k (k + m) (drop m t) (omega arith) in
         subst (λ u. IsUtf8 u) (sym whole) (IsUtf8-take (drop m t) k taken.cut.utf8 (CutsAt-boundary cut))
 
-    go : (o : Option ℕ) → ((m : ℕ) → o ≡ Some m → Taken t m) → option_and_then (λ m. option_map (λ k. m + (k + m)) (content_len (take m t) (drop m t))) o ≡ Some n → IsUtf8 (bare_quoted (take n t))
+    go : (o : Option ℕ) → ((m : ℕ) → o ≡ Some m → Taken t m) → option_and_then (λ m. option_map (λ k. m + (k + m)) (content_len false (take m t) (drop m t))) o ≡ Some n → IsUtf8 (bare_quoted false (take n t))
     go None taken = λ e. cc
-    go (Some m) taken = inner m (taken m refl) (content_len (take m t) (drop m t)) (λ k is. content_cut t m k (taken m refl) is)
+    go (Some m) taken = inner m (taken m refl) (content_len false (take m t) (drop m t)) (λ k is. content_cut t m k (taken m refl) is)

@@ -52,7 +52,7 @@ CutsAtSome t o = (n : ℕ) → o ≡ Some n → CutsAt t n
 pub character_cut : (t : List ℕ) → IsUtf8 t → CutsAtSome t (character_len t)
 character_cut t utf8 n e = (character_len-taken t n utf8 e).cut
 
-pub two_characters_cut : (t : List ℕ) → IsUtf8 t → CutsAtSome t (two_characters_len t)
+pub two_characters_cut : (t : List ℕ) → IsUtf8 t → CutsAtSome t (two_characters_len false t)
 two_characters_cut t utf8 n e = go (character_len t) (character_cut t utf8) e
   where
     go : (o : Option ℕ) → CutsAtSome t o → option_and_then (λ first. option_map (λ second. first + second) (character_len (drop first t))) o ≡ Some n → CutsAt t n
@@ -90,11 +90,11 @@ by_cases : (t : List ℕ) (c : Bool) (x y : Option ℕ) → (c ≡ true → Cuts
 by_cases t true x y here there = here refl
 by_cases t false x y here there = there refl
 
-name_cut : (t : List ℕ) → IsUtf8 t → CutsAtSome t (name_len t)
+name_cut : (t : List ℕ) → IsUtf8 t → CutsAtSome t (name_len false t)
 name_cut [] utf8 = none_cut []
 name_cut (b ∷ bs) utf8 =
     by_cases (b ∷ bs) (eqb b 0x28) _ _
-    (λ is. let paren = eqb-true b 0x28 is in one_more b bs (two_characters_len bs) utf8 (omega arith) (two_characters_cut bs))
+    (λ is. let paren = eqb-true b 0x28 is in one_more b bs (two_characters_len false bs) utf8 (omega arith) (two_characters_cut bs))
     (λ _.
     by_cases (b ∷ bs) (eqb b 0x5B) _ _
     (λ is. let bracket = eqb-true b 0x5B is in one_more b bs (bracketed_len bs) utf8 (omega arith) (bracketed_cut bs))
@@ -111,7 +111,7 @@ two_digits_cut (b ∷ d ∷ ds) utf8 e =
     let low = leb-true b 0x33 first.1 in
     past_ascii b (d ∷ ds) 1 utf8 (omega arith) (λ rest. past_ascii d ds 0 rest (digit_ascii d tens.1) (start_cut ds))
 
-number_cut : (b : ℕ) (bs : List ℕ) → IsUtf8 (b ∷ bs) → b < 128 → CutsAtSome (b ∷ bs) (number_len (b ∷ bs))
+number_cut : (b : ℕ) (bs : List ℕ) → IsUtf8 (b ∷ bs) → b < 128 → CutsAtSome (b ∷ bs) (number_len false (b ∷ bs))
 number_cut b bs utf8 ascii =
     by_cases (b ∷ bs) (is_among b (codes "([")) _ _ (λ _. name_cut (b ∷ bs) utf8)
     (λ _.
@@ -160,13 +160,13 @@ whole_cuts t g None cut f e = cc
 whole_cuts t g (Some k) cut f e = let same : Whole (g k) ≡ f = cc in subst (λ f. CutsAt t (extent_place f)) same (cut k refl)
 
 -- an escape with a size that begins after a cut
-number_extent_cuts : (t : List ℕ) (before : ℕ) (u : List ℕ) → CutsAt t before → drop before t ≡ u → ((b : ℕ) (bs : List ℕ) → u ≡ b ∷ bs → b < 128) → ExtentCuts t (number_extent before u)
+number_extent_cuts : (t : List ℕ) (before : ℕ) (u : List ℕ) → CutsAt t before → drop before t ≡ u → ((b : ℕ) (bs : List ℕ) → u ≡ b ∷ bs → b < 128) → ExtentCuts t (number_extent false before u)
 number_extent_cuts t before [] cut is ascii = λ f e. cc
 number_extent_cuts t before (b ∷ bs) cut is ascii =
-    cond_both (eqb b 0x27) (Some (QuotedFrom before)) (option_map (λ k. Whole (before + k)) (number_len (b ∷ bs))) (ExtentCuts t)
+    cond_both (eqb b 0x27) (Some (QuotedFrom before)) (option_map (λ k. Whole (before + k)) (number_len false (b ∷ bs))) (ExtentCuts t)
     (λ _ f e. let same : QuotedFrom before ≡ f = cc in subst (λ f. CutsAt t (extent_place f)) same cut)
     (λ _.
-    whole_cuts t (λ k. before + k) (number_len (b ∷ bs)) (λ k found.
+    whole_cuts t (λ k. before + k) (number_len false (b ∷ bs)) (λ k found.
     CutsAt-add cut (subst (λ v. CutsAt v k) (sym is) (number_cut b bs (subst (λ v. IsUtf8 v) is cut.utf8) (ascii b bs refl) k found))))
 
 module _ (b key : ℕ) (rest : List ℕ) (utf8 : IsUtf8 (b ∷ key ∷ rest)) (ascii : b < 128) where
@@ -182,7 +182,7 @@ module _ (b key : ℕ) (rest : List ℕ) (utf8 : IsUtf8 (b ∷ key ∷ rest)) (a
       let same : 1 + (1 + k) ≡ k + 2 = omega arith in
       subst (CutsAt (b ∷ key ∷ rest)) same (past_ascii b (key ∷ rest) (1 + k) utf8 ascii (λ u. past_ascii key rest k u low then))
 
-  size_cuts : key < 128 → begins_size (after_sign rest) ≡ true → ExtentCuts (b ∷ key ∷ rest) (number_extent (2 + sign_len rest) (after_sign rest))
+  size_cuts : key < 128 → begins_size (after_sign rest) ≡ true → ExtentCuts (b ∷ key ∷ rest) (number_extent false (2 + sign_len rest) (after_sign rest))
   size_cuts low size =
       let t = b ∷ key ∷ rest in
       let n = sign_len rest in
@@ -191,16 +191,16 @@ module _ (b key : ℕ) (rest : List ℕ) (utf8 : IsUtf8 (b ∷ key ∷ rest)) (a
       number_extent_cuts t (2 + n) (after_sign rest) (subst (CutsAt t) same (after_two low n (sign_cut rest))) place
       (λ d ds is. size_ascii d ds (ap begins_size (sym is) ∙ size))
 
-  extent_cuts : ExtentCuts (b ∷ key ∷ rest) (extent_of (b ∷ key ∷ rest))
+  extent_cuts : ExtentCuts (b ∷ key ∷ rest) (extent_of false (b ∷ key ∷ rest))
   extent_cuts = go (shape_of key rest) refl
     where
       t : List ℕ
       t = b ∷ key ∷ rest
 
-      go : (s : Shape) → shape_of key rest ≡ s → ExtentCuts t (extent_by s key rest)
+      go : (s : Shape) → shape_of key rest ≡ s → ExtentCuts t (extent_by false s key rest)
       go Alone shape = whole_cuts t (λ k. k + 1) (character_len (key ∷ rest)) (λ k found. after_one k (λ u. character_cut (key ∷ rest) u k found))
-      go Glyph shape = whole_cuts t (λ k. k + 1) (name_len (key ∷ rest)) (λ k found. after_one k (λ u. name_cut (key ∷ rest) u k found))
-      go Name shape = whole_cuts t (λ k. k + 2) (name_len rest) (λ k found. after_two (shape_ascii key rest Name shape refl) k (λ u. name_cut rest u k found))
+      go Glyph shape = whole_cuts t (λ k. k + 1) (name_len false (key ∷ rest)) (λ k found. after_one k (λ u. name_cut (key ∷ rest) u k found))
+      go Name shape = whole_cuts t (λ k. k + 2) (name_len false rest) (λ k found. after_two (shape_ascii key rest Name shape refl) k (λ u. name_cut rest u k found))
       go Size shape = size_cuts (shape_ascii key rest Size shape refl) ((follows (letter_of key).shape rest).size shape)
       go Quoted shape = λ f e.
           let same : QuotedFrom 2 ≡ f = cc in subst (λ f. CutsAt t (extent_place f)) same (after_two (shape_ascii key rest Quoted shape refl) 0 (start_cut rest))
@@ -221,7 +221,7 @@ ends_after : (d t : List ℕ) (f : ℕ → Option ℕ) (o : Option ℕ) → ((n 
 ends_after d t f None ends = λ k e. cc
 ends_after d t f (Some n) ends = ends_later d t n (f n) (ends n)
 
-content_len_within-ends : (steps : ℕ) (d t : List ℕ) → EndsAtDelimiter d t (content_len_within steps d t)
+content_len_within-ends : (steps : ℕ) (d t : List ℕ) → EndsAtDelimiter d t (content_len_within false steps d t)
 unfolding content_len_within
 content_len_within-ends zero d t = λ k e. cc
 content_len_within-ends (suc n) d [] = λ k e. cc
@@ -230,11 +230,11 @@ content_len_within-ends (suc n) d (b ∷ bs) =
     cond_both (starts_with nat_eq t d) (Some 0) _ (EndsAtDelimiter d t)
     (λ is k e. let same : 0 ≡ k = cc in ap (λ k. starts_with nat_eq (drop k t) d) (sym same) ∙ is)
     (λ _.
-    cond_both (eqb b 0x5C) (option_and_then (λ n'. option_map (λ k. n' + k) (content_len_within n d (drop n' t))) (escape_len_by (content_len_within n) t)) (option_map (λ k. 1 + k) (content_len_within n d bs)) (EndsAtDelimiter d t)
-    (λ _. ends_after d t (λ m. content_len_within n d (drop m t)) (escape_len_by (content_len_within n) t) (λ m. content_len_within-ends n d (drop m t)))
-    (λ _. ends_later d t 1 (content_len_within n d bs) (content_len_within-ends n d bs)))
+    cond_both (eqb b 0x5C) (option_and_then (λ n'. option_map (λ k. n' + k) (content_len_within false n d (drop n' t))) (escape_len_by false (content_len_within false n) t)) (option_map (λ k. 1 + k) (content_len_within false n d bs)) (EndsAtDelimiter d t)
+    (λ _. ends_after d t (λ m. content_len_within false n d (drop m t)) (escape_len_by false (content_len_within false n) t) (λ m. content_len_within-ends n d (drop m t)))
+    (λ _. ends_later d t 1 (content_len_within false n d bs) (content_len_within-ends n d bs)))
 
-content_len-ends : (d t : List ℕ) → EndsAtDelimiter d t (content_len d t)
+content_len-ends : (d t : List ℕ) → EndsAtDelimiter d t (content_len false d t)
 unfolding content_len
 content_len-ends d t = content_len_within-ends (suc (length t)) d t
 
@@ -267,7 +267,7 @@ character_ends t k c utf8 e =
     CutsAt-add here after
 
 -- the content of a quoted argument, and the delimiter after it
-pub content_cut : (t : List ℕ) (m k : ℕ) → Taken t m → content_len (take m t) (drop m t) ≡ Some k → CutsAt (drop m t) k × CutsAt (drop m t) (k + m)
+pub content_cut : (t : List ℕ) (m k : ℕ) → Taken t m → content_len false (take m t) (drop m t) ≡ Some k → CutsAt (drop m t) k × CutsAt (drop m t) (k + m)
 content_cut t m k taken is =
     let c = taken.first.code in
     let found = ap (λ d. starts_with nat_eq (drop k (drop m t)) d) (sym taken.bytes) ∙ content_len-ends (take m t) (drop m t) k is in (
@@ -275,7 +275,7 @@ content_cut t m k taken is =
       subst (λ l. CutsAt (drop m t) (k + l)) taken.len (character_ends (drop m t) k c taken.cut.utf8 found),
     )
 
-quoted_cut : (t : List ℕ) → IsUtf8 t → CutsAtSome t (quoted_len content_len t)
+quoted_cut : (t : List ℕ) → IsUtf8 t → CutsAtSome t (quoted_len false (content_len false) t)
 unfolding quoted_len
 quoted_cut t utf8 = go (character_len t) (λ m is. character_len-taken t m utf8 is)
   where
@@ -283,27 +283,27 @@ quoted_cut t utf8 = go (character_len t) (λ m is. character_len-taken t m utf8 
     inner m taken None ends n e = cc
     inner m taken (Some k) ends n e = let same : m + (k + m) ≡ n = cc in subst (CutsAt t) same (CutsAt-add taken.cut (ends k refl))
 
-    go : (o : Option ℕ) → ((m : ℕ) → o ≡ Some m → Taken t m) → CutsAtSome t (option_and_then (λ m. option_map (λ k. m + (k + m)) (content_len (take m t) (drop m t))) o)
+    go : (o : Option ℕ) → ((m : ℕ) → o ≡ Some m → Taken t m) → CutsAtSome t (option_and_then (λ m. option_map (λ k. m + (k + m)) (content_len false (take m t) (drop m t))) o)
     go None taken = λ n e. cc
-    go (Some m) taken = inner m (taken m refl) (content_len (take m t) (drop m t)) (λ k is. (content_cut t m k (taken m refl) is).1)
+    go (Some m) taken = inner m (taken m refl) (content_len false (take m t) (drop m t)) (λ k is. (content_cut t m k (taken m refl) is).1)
 
 -- ---- escapes
 
-extent_of_cuts : (t : List ℕ) → IsUtf8 t → get_or t 0 0 < 128 → ExtentCuts t (extent_of t)
+extent_of_cuts : (t : List ℕ) → IsUtf8 t → get_or t 0 0 < 128 → ExtentCuts t (extent_of false t)
 extent_of_cuts [] utf8 ascii = λ f e. cc
 extent_of_cuts (b ∷ []) utf8 ascii = λ f e. let same : Whole 1 ≡ f = cc in subst (λ f. CutsAt (b ∷ []) (extent_place f)) same (past_ascii b [] 0 utf8 ascii (start_cut []))
 extent_of_cuts (b ∷ key ∷ rest) utf8 ascii = extent_cuts b key rest utf8 ascii
 
 -- the escape at the front of a text in UTF-8 ends where a character ends
-pub escape_len_cuts : (t : List ℕ) (n : ℕ) → IsUtf8 t → get_or t 0 0 < 128 → escape_len t ≡ Some n → CutsAt t n
+pub escape_len_cuts : (t : List ℕ) (n : ℕ) → IsUtf8 t → get_or t 0 0 < 128 → escape_len false t ≡ Some n → CutsAt t n
 unfolding escape_len escape_len_by extent_len
-escape_len_cuts t n utf8 ascii = go (extent_of t) (extent_of_cuts t utf8 ascii) n
+escape_len_cuts t n utf8 ascii = go (extent_of false t) (extent_of_cuts t utf8 ascii) n
   where
     inner : (m : ℕ) → CutsAt t m → (o : Option ℕ) → CutsAtSome (drop m t) o → CutsAtSome t (option_map (λ k. m + k) o)
     inner m cut None next k e = cc
     inner m cut (Some j) next k e = let same : m + j ≡ k = cc in subst (CutsAt t) same (CutsAt-add cut (next j refl))
 
-    go : (o : Option Extent) → ExtentCuts t o → CutsAtSome t (option_and_then (extent_len content_len t) o)
+    go : (o : Option Extent) → ExtentCuts t o → CutsAtSome t (option_and_then (extent_len false (content_len false) t) o)
     go None cuts = λ k e. cc
     go (Some (Whole m)) cuts = λ k e. let same : m ≡ k = cc in subst (CutsAt t) same (cuts (Whole m) refl)
-    go (Some (QuotedFrom m)) cuts = inner m (cuts (QuotedFrom m) refl) (quoted_len content_len (drop m t)) (quoted_cut (drop m t) (cuts (QuotedFrom m) refl).utf8)
+    go (Some (QuotedFrom m)) cuts = inner m (cuts (QuotedFrom m) refl) (quoted_len false (content_len false) (drop m t)) (quoted_cut (drop m t) (cuts (QuotedFrom m) refl).utf8)

@@ -1,20 +1,29 @@
 -- Escapes that few bytes tell, and fonts that one letter names.
-use Rattle.std.proofs.Common.{◌≡◌, ℕ, ◌≤◌, List, [], ◌∷◌, length, drop, get_or, refl, ap, ◌∙◌, ◌+◌, arith}
-use Rattle.std.specs.Str.{continuation_len}
-use Rattle.std.specs.Prelude.{Some, option_map, option_and_then}
+use Rattle.std.proofs.Common.{◌≡◌, ℕ, ◌≤◌, ◌==◌, Bool, true, false, List, [], ◌∷◌, length, drop, get_or, refl, ap, ◌∙◌, ◌+◌, arith, inl, inr}
+use Rattle.std.specs.Str.{continuation_len, bytes_eq}
+use Rattle.std.specs.Prelude.{Some, option_map, option_and_then, codes, if◌then◌else◌}
 use Rattle.std.proofs.Math.Dec.{leb-zero}
-use Rattle.std.proofs.lemmas.Bool.{cond-true}
+use Rattle.std.proofs.lemmas.Bool.{cases_Bool, cond-true}
 use Rattle.page_core_escapes.specs.Escapes.{escape_of}
-use Rattle.page_core_escapes.specs.Extents.{character_len, name_len}
+use Rattle.page_core_escapes.specs.Extents.{character_len, written_len, name_len}
 use Rattle.page_core_escapes.specs.Lengths.{extent_len, escape_len_by, escape_len}
 use Rattle.page_core_escapes.specs.Letters.{letter_of}
-use Rattle.page_core_escapes.specs.Meanings.{Face, Meaning, character, nothing, face, face_of, meaning_of, roman, italic, bold, bold_italic, former}
+use Rattle.page_core_escapes.specs.Meanings.{Face, Meaning, character, nothing, face, face_of, is_one_of, meaning_of, roman, italic, bold, bold_italic, former, unknown}
 use Rattle.page_core_escapes.specs.ShortEscapes.{ShortEscape, ShortFont}
 use Rattle.page_core_escapes.specs.Steps.{FontLetter}
 
-short_escape : (letter : ℕ) (rest : List ℕ) (font : Face) → FontLetter letter font → escape_of (92 ∷ 102 ∷ letter ∷ rest) ≡ (face font, 3)
+-- a character of one byte
+alone_len : (letter : ℕ) (rest : List ℕ) → continuation_len letter ≡ 0 → character_len (letter ∷ rest) ≡ Some 1
+alone_len letter rest e = rw e (cond-true _ _ _ (leb-zero (length rest)))
+
+-- that is no quote
+written_alone : (pairs : Bool) (letter : ℕ) (rest : List ℕ) → continuation_len letter ≡ 0 → (34 == letter) ≡ false → written_len pairs (letter ∷ rest) ≡ Some 1
+written_alone true letter rest e other = rw other (alone_len letter rest e)
+written_alone false letter rest e other = alone_len letter rest e
+
+short_escape : (pairs : Bool) (letter : ℕ) (rest : List ℕ) (font : Face) → FontLetter letter font → escape_of pairs (92 ∷ 102 ∷ letter ∷ rest) ≡ (face font, 3)
 unfolding escape_of escape_len escape_len_by extent_len letter_of meaning_of
-short_escape letter rest font f = rw (f.alone rest, f.bare, f.named) refl
+short_escape pairs letter rest font f = rw (f.alone pairs rest, f.bare, f.named) refl
 
 pub short_font : (text : List ℕ) (font : Face) → 3 ≤ length text → get_or text 0 0 ≡ 92 → get_or text 1 0 ≡ 102 → FontLetter (get_or text 2 0) font
     → ShortFont text font 3
@@ -24,20 +33,16 @@ short_font (x ∷ y ∷ []) font h a b f = absurd (omega (arith, h))
 short_font (x ∷ y ∷ z ∷ rest) font h a b f =
     let first : x ≡ 92 = a in
     let second : y ≡ 102 = b in
-    record { backslash = a; escape = record { not_empty = omega arith; within = h; escape = rw (first, second) (short_escape z rest font f) } }
+    record { backslash = a; escape = record { not_empty = omega arith; within = h; escape = λ pairs. rw (first, second) (short_escape pairs z rest font f) } }
 
--- a character of one byte
-alone_len : (letter : ℕ) (rest : List ℕ) → continuation_len letter ≡ 0 → character_len (letter ∷ rest) ≡ Some 1
-alone_len letter rest e = rw e (cond-true _ _ _ (leb-zero (length rest)))
+code_name : (pairs : Bool) (rest : List ℕ) → name_len pairs (40 ∷ 67 ∷ 87 ∷ rest) ≡ Some 3
+code_name pairs rest =
+    ap (λ o. option_map (λ k. k + 1) (option_and_then (λ first. option_map (λ second. first + second) (written_len pairs (drop first (67 ∷ 87 ∷ rest)))) o)) (written_alone pairs 67 (87 ∷ rest) refl refl)
+    ∙ ap (λ o. option_map (λ k. k + 1) (option_map (λ second. 1 + second) o)) (written_alone pairs 87 rest refl refl)
 
-code_name : (rest : List ℕ) → name_len (40 ∷ 67 ∷ 87 ∷ rest) ≡ Some 3
-code_name rest =
-    ap (λ o. option_map (λ k. k + 1) (option_and_then (λ first. option_map (λ second. first + second) (character_len (drop first (67 ∷ 87 ∷ rest)))) o)) (alone_len 67 (87 ∷ rest) refl)
-    ∙ ap (λ o. option_map (λ k. k + 1) (option_map (λ second. 1 + second) o)) (alone_len 87 rest refl)
-
-code_escape : (rest : List ℕ) → escape_of (92 ∷ 102 ∷ 40 ∷ 67 ∷ 87 ∷ rest) ≡ (face roman, 5)
+code_escape : (pairs : Bool) (rest : List ℕ) → escape_of pairs (92 ∷ 102 ∷ 40 ∷ 67 ∷ 87 ∷ rest) ≡ (face roman, 5)
 unfolding escape_of escape_len escape_len_by extent_len letter_of meaning_of face_of
-code_escape rest = rw (code_name rest) refl
+code_escape pairs rest = rw (code_name pairs rest) refl
 
 pub code_font : (text : List ℕ) → 5 ≤ length text → get_or text 0 0 ≡ 92 → get_or text 1 0 ≡ 102 → get_or text 2 0 ≡ 40 → get_or text 3 0 ≡ 67
     → get_or text 4 0 ≡ 87 → ShortFont text roman 5
@@ -52,29 +57,29 @@ code_font (x ∷ y ∷ z ∷ u ∷ v ∷ rest) h a b c d e =
     let third : z ≡ 40 = c in
     let fourth : u ≡ 67 = d in
     let fifth : v ≡ 87 = e in
-    record { backslash = a; escape = record { not_empty = omega arith; within = h; escape = rw (first, second, third, fourth, fifth) (code_escape rest) } }
+    record { backslash = a; escape = record { not_empty = omega arith; within = h; escape = λ pairs. rw (first, second, third, fourth, fifth) (code_escape pairs rest) } }
 
 -- escapes of a letter alone
-nothing_escape : (rest : List ℕ) → escape_of (92 ∷ 38 ∷ rest) ≡ (nothing, 2)
+nothing_escape : (pairs : Bool) (rest : List ℕ) → escape_of pairs (92 ∷ 38 ∷ rest) ≡ (nothing, 2)
 unfolding escape_of escape_len escape_len_by extent_len letter_of meaning_of
-nothing_escape rest = rw (alone_len 38 rest refl) refl
+nothing_escape pairs rest = rw (written_alone pairs 38 rest refl refl) refl
 
-minus_escape : (rest : List ℕ) → escape_of (92 ∷ 45 ∷ rest) ≡ (character 45, 2)
+minus_escape : (pairs : Bool) (rest : List ℕ) → escape_of pairs (92 ∷ 45 ∷ rest) ≡ (character 45, 2)
 unfolding escape_of escape_len escape_len_by extent_len letter_of meaning_of
-minus_escape rest = rw (alone_len 45 rest refl) refl
+minus_escape pairs rest = rw (written_alone pairs 45 rest refl refl) refl
 
-backslash_escape : (rest : List ℕ) → escape_of (92 ∷ 101 ∷ rest) ≡ (character 92, 2)
+backslash_escape : (pairs : Bool) (rest : List ℕ) → escape_of pairs (92 ∷ 101 ∷ rest) ≡ (character 92, 2)
 unfolding escape_of escape_len escape_len_by extent_len letter_of meaning_of
-backslash_escape rest = rw (alone_len 101 rest refl) refl
+backslash_escape pairs rest = rw (written_alone pairs 101 rest refl refl) refl
 
-short : (letter : ℕ) (meaning : Meaning) → ((rest : List ℕ) → escape_of (92 ∷ letter ∷ rest) ≡ (meaning, 2)) → (text : List ℕ) → 2 ≤ length text → get_or text 0 0 ≡ 92
+short : (letter : ℕ) (meaning : Meaning) → ((pairs : Bool) (rest : List ℕ) → escape_of pairs (92 ∷ letter ∷ rest) ≡ (meaning, 2)) → (text : List ℕ) → 2 ≤ length text → get_or text 0 0 ≡ 92
     → get_or text 1 0 ≡ letter → ShortEscape text meaning 2
 short letter meaning is [] h a b = absurd (omega (arith, h))
 short letter meaning is (x ∷ []) h a b = absurd (omega (arith, h))
 short letter meaning is (x ∷ y ∷ rest) h a b =
     let first : x ≡ 92 = a in
     let second : y ≡ letter = b in
-    record { not_empty = omega arith; within = h; escape = rw (first, second) (is rest) }
+    record { not_empty = omega arith; within = h; escape = λ pairs. rw (first, second) (is pairs rest) }
 
 pub short_nothing : (text : List ℕ) → 2 ≤ length text → get_or text 0 0 ≡ 92 → get_or text 1 0 ≡ 38 → ShortEscape text nothing 2
 short_nothing text h a b = short 38 nothing nothing_escape text h a b
@@ -88,32 +93,65 @@ short_backslash text h a b = short 101 (character 92) backslash_escape text h a 
 -- the letters
 pub roman_letter : FontLetter 82 roman
 unfolding face_of
-roman_letter = record { named = refl; bare = refl; alone = λ rest. cond-true _ _ _ (leb-zero (length rest)) }
+roman_letter = record { named = refl; bare = refl; alone = λ pairs rest. written_alone pairs 82 rest refl refl }
 
 pub first_digit : FontLetter 49 roman
 unfolding face_of
-first_digit = record { named = refl; bare = refl; alone = λ rest. cond-true _ _ _ (leb-zero (length rest)) }
+first_digit = record { named = refl; bare = refl; alone = λ pairs rest. written_alone pairs 49 rest refl refl }
 
 pub italic_letter : FontLetter 73 italic
 unfolding face_of
-italic_letter = record { named = refl; bare = refl; alone = λ rest. cond-true _ _ _ (leb-zero (length rest)) }
+italic_letter = record { named = refl; bare = refl; alone = λ pairs rest. written_alone pairs 73 rest refl refl }
 
 pub second_digit : FontLetter 50 italic
 unfolding face_of
-second_digit = record { named = refl; bare = refl; alone = λ rest. cond-true _ _ _ (leb-zero (length rest)) }
+second_digit = record { named = refl; bare = refl; alone = λ pairs rest. written_alone pairs 50 rest refl refl }
 
 pub bold_letter : FontLetter 66 bold
 unfolding face_of
-bold_letter = record { named = refl; bare = refl; alone = λ rest. cond-true _ _ _ (leb-zero (length rest)) }
+bold_letter = record { named = refl; bare = refl; alone = λ pairs rest. written_alone pairs 66 rest refl refl }
 
 pub third_digit : FontLetter 51 bold
 unfolding face_of
-third_digit = record { named = refl; bare = refl; alone = λ rest. cond-true _ _ _ (leb-zero (length rest)) }
+third_digit = record { named = refl; bare = refl; alone = λ pairs rest. written_alone pairs 51 rest refl refl }
 
 pub fourth_digit : FontLetter 52 bold_italic
 unfolding face_of
-fourth_digit = record { named = refl; bare = refl; alone = λ rest. cond-true _ _ _ (leb-zero (length rest)) }
+fourth_digit = record { named = refl; bare = refl; alone = λ pairs rest. written_alone pairs 52 rest refl refl }
 
 pub former_letter : FontLetter 80 former
 unfolding face_of
-former_letter = record { named = refl; bare = refl; alone = λ rest. cond-true _ _ _ (leb-zero (length rest)) }
+former_letter = record { named = refl; bare = refl; alone = λ pairs rest. written_alone pairs 80 rest refl refl }
+
+-- ---- names of several letters
+
+one_longer : (b c : ℕ) (bs : List ℕ) (x : ℕ) → bytes_eq (b ∷ c ∷ bs) (x ∷ []) ≡ false
+one_longer b c bs x = elim (cases_Bool (b == x)) [ inl e ↦ rw e refl | inr e ↦ rw e refl ]
+
+-- the fonts that they name
+abbrev pub several : List ℕ → Face
+several name =
+    if is_one_of name (codes "CW" ∷ codes "CR" ∷ []) then roman else (
+    if is_one_of name (codes "CI" ∷ []) then italic else (
+    if is_one_of name (codes "CB" ∷ []) then bold else (
+    if is_one_of name (codes "BI" ∷ []) then bold_italic else unknown name)))
+
+pub face_of-several : (name : List ℕ) → 2 ≤ length name → several name ≡ face_of name
+unfolding face_of
+face_of-several [] h = absurd (omega (arith, h))
+face_of-several (b ∷ []) h = absurd (omega (arith, h))
+face_of-several (b ∷ c ∷ bs) h =
+    rw (one_longer b c bs 82, one_longer b c bs 49, one_longer b c bs 73, one_longer b c bs 50, one_longer b c bs 66, one_longer b c bs 51, one_longer b c bs 52, one_longer b c bs 80)
+    refl
+
+-- ---- other names
+
+pub face_of-empty : (name : List ℕ) → length name ≡ 0 → former ≡ face_of name
+unfolding face_of
+face_of-empty [] h = refl
+face_of-empty (b ∷ bs) h = absurd (omega arith)
+
+pub one_letter : (name : List ℕ) → length name ≡ 1 → get_or name 0 0 ∷ [] ≡ name
+one_letter [] h = absurd (omega arith)
+one_letter (b ∷ []) h = refl
+one_letter (b ∷ c ∷ bs) h = absurd (omega arith)

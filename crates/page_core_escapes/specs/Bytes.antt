@@ -15,6 +15,10 @@ backslash = 0x5C
 abbrev pub quote : ℕ
 quote = 0x27
 
+-- "
+abbrev pub double_quote : ℕ
+double_quote = 0x22
+
 abbrev pub plus : ℕ
 plus = 0x2B
 

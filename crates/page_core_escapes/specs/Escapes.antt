@@ -1,5 +1,5 @@
 -- The escape at a text's front: roff(7), "Escape sequences", and mandoc_char(7).
-use Rattle.std.specs.Prelude.{ℕ, List, length, take, Option, Some, None, ⊤}
+use Rattle.std.specs.Prelude.{ℕ, Bool, List, length, take, Option, Some, None, ⊤}
 use Rattle.std.specs.Str.{IsUtf8}
 use Rattle.page_core_escapes.specs.declared.meaning.FontName.{FontName}
 use Rattle.page_core_escapes.specs.declared.meaning.FontName.TheVariants as F
@@ -31,13 +31,14 @@ meaning_seen E.Unsupported = unsupported
 meaning_seen E.Bad = bad
 
 -- what an escape means, and its bytes; one without its end takes the text's rest
-abbrev pub read_escape : List ℕ → Option ℕ → Meaning × ℕ
-read_escape text None = (bad, length text)
-read_escape text (Some len) = (meaning_of (take len text), len)
+abbrev pub read_escape : (pairs : Bool) → List ℕ → Option ℕ → Meaning × ℕ
+read_escape pairs text None = (bad, length text)
+read_escape pairs text (Some len) = (meaning_of pairs (take len text), len)
 
--- the meaning of the escape at a text's front, and how many bytes it takes
-unfoldable pub escape_of : List ℕ → Meaning × ℕ
-escape_of text = read_escape text (escape_len text)
+-- the meaning of the escape at a text's front, and how many bytes it takes; in a quoted argument of a macro a pair of quotes is one
+-- character of it
+unfoldable pub escape_of : (pairs : Bool) → List ℕ → Meaning × ℕ
+escape_of pairs text = read_escape pairs text (escape_len pairs text)
 
 -- the texts in a meaning are in UTF-8
 abbrev pub HasTexts : Meaning → Type 0

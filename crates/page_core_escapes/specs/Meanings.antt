@@ -9,7 +9,7 @@ use Rattle.page_core_escapes.specs.declared.letters.Kind.TheVariants as means
 use Rattle.page_core_escapes.specs.declared.letters.Letter.{Letter}
 use Rattle.page_core_escapes.specs.Bytes.{is_digit, parenthesis, bracket}
 use Rattle.page_core_escapes.specs.Letters.{letter_of}
-use Rattle.page_core_escapes.specs.Extents.{character_len}
+use Rattle.page_core_escapes.specs.Extents.{written_len}
 
 -- the font that an escape asks for: one of the four, the former one, or a name that no font has
 pub data Face : Type 0 where
@@ -51,9 +51,9 @@ abbrev pub bare_name : List ℕ → List ℕ
 bare_name [] = []
 bare_name (b ∷ bs) = if b == parenthesis then bs else (if b == bracket then without_last bs else b ∷ bs)
 
--- an argument that was written between two delimiters
-abbrev pub bare_quoted : List ℕ → List ℕ
-bare_quoted bs = let mark = unwrap_or (character_len bs) 0 in take (length bs - mark - mark) (drop mark bs)
+-- an argument that was written between two delimiters; a pair of quotes may be one
+abbrev pub bare_quoted : (pairs : Bool) → List ℕ → List ℕ
+bare_quoted pairs bs = let mark = unwrap_or (written_len pairs bs) 0 in take (length bs - mark - mark) (drop mark bs)
 
 -- ---- code points: `[uXXXX]` with four to six hexadecimal digits in upper case
 
@@ -105,12 +105,12 @@ unfoldable pub first_char : List ℕ → ℕ
 first_char text = if is_utf8 text then slice_index (chars text) 0 else 0xFFFD
 
 -- the argument of an escape, without what stands round it, by its shape and its text from its letter on
-abbrev pub argument_of : Shape → List ℕ → List ℕ
-argument_of Alone text = []
-argument_of Glyph text = bare_name text
-argument_of Name text = bare_name (drop 1 text)
-argument_of Size text = drop 1 text
-argument_of Quoted text = bare_quoted (drop 1 text)
+abbrev pub argument_of : (pairs : Bool) → Shape → List ℕ → List ℕ
+argument_of pairs Alone text = []
+argument_of pairs Glyph text = bare_name text
+argument_of pairs Name text = bare_name (drop 1 text)
+argument_of pairs Size text = drop 1 text
+argument_of pairs Quoted text = bare_quoted pairs (drop 1 text)
 
 -- another character: there is no such escape
 abbrev pub another_character : List ℕ → Meaning
@@ -133,11 +133,11 @@ meaning_by means.Undefined argument text = another_character text
 meaning_by means.Unsupported argument text = unsupported
 
 -- what an escape with a letter means, by its text from the letter on
-abbrev pub letter_meaning : Letter → List ℕ → Meaning
-letter_meaning letter text = meaning_by letter.kind (argument_of letter.shape text) text
+abbrev pub letter_meaning : (pairs : Bool) → Letter → List ℕ → Meaning
+letter_meaning pairs letter text = meaning_by letter.kind (argument_of pairs letter.shape text) text
 
 -- the meaning of a text that is one escape; a backslash alone prints nothing
-unfoldable pub meaning_of : List ℕ → Meaning
-meaning_of [] = nothing
-meaning_of (b ∷ []) = nothing
-meaning_of (b ∷ key ∷ written) = letter_meaning (letter_of key) (key ∷ written)
+unfoldable pub meaning_of : (pairs : Bool) → List ℕ → Meaning
+meaning_of pairs [] = nothing
+meaning_of pairs (b ∷ []) = nothing
+meaning_of pairs (b ∷ key ∷ written) = letter_meaning pairs (letter_of key) (key ∷ written)

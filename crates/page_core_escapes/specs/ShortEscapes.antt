@@ -1,14 +1,14 @@
 -- Escapes that few bytes tell, as `\fB`. Source: roff(7), "Escape sequences".
-use Rattle.std.specs.Prelude.{ℕ, ◌≡◌, ◌<◌, ◌≤◌, slice_index, List, length}
+use Rattle.std.specs.Prelude.{ℕ, ◌≡◌, ◌<◌, ◌≤◌, Bool, slice_index, List, length}
 use Rattle.page_core_escapes.specs.Bytes.{backslash}
 use Rattle.page_core_escapes.specs.Escapes.{escape_of}
 use Rattle.page_core_escapes.specs.Meanings.{Face, Meaning, face}
 
--- a few bytes at a text's front are an escape
+-- a few bytes at a text's front are an escape, whether a pair of quotes is one character or not
 pub record ShortEscape (text : List ℕ) (meaning : Meaning) (len : ℕ) : Type 0 where
   pub not_empty : 0 < len
   pub within : len ≤ length text
-  pub escape : escape_of text ≡ (meaning, len)
+  pub escape : (pairs : Bool) → escape_of pairs text ≡ (meaning, len)
 
 -- they are one that asks for a font
 pub record ShortFont (text : List ℕ) (font : Face) (len : ℕ) : Type 0 where

@@ -1,32 +1,33 @@
 -- Of the code's own steps, which no public clause cites: what is read next in a quoted argument, a byte, an escape, an argument inside it
 -- or the delimiter at its end; and fonts that one letter names.
-use Rattle.std.specs.Prelude.{ℕ, ◌≡◌, ◌+◌, ◌<◌, ◌≤◌, ◌==◌, nat_eq, List, [], ◌∷◌, length, take, drop, if◌then◌else◌, Option, Some, None, option_map, option_and_then, unwrap_or}
+use Rattle.std.specs.Prelude.{ℕ, ◌≡◌, ◌+◌, ◌<◌, ◌≤◌, ◌==◌, nat_eq, Bool, List, [], ◌∷◌, length, take, drop, if◌then◌else◌, Option, Some, None, option_map, option_and_then, unwrap_or}
 use Rattle.std.specs.List.{starts_with}
 use Rattle.page_core_escapes.specs.declared.extents.Extent.{Extent}
 use Rattle.page_core_escapes.specs.declared.extents.Extent.TheVariants.{Whole, QuotedFrom}
 use Rattle.page_core_escapes.specs.declared.quoted.Step.{Step}
 use Rattle.page_core_escapes.specs.declared.quoted.Step.TheVariants.{Passes, Opens, Closes}
 use Rattle.page_core_escapes.specs.Bytes.{backslash}
-use Rattle.page_core_escapes.specs.Extents.{character_len, extent_of, name_len}
+use Rattle.page_core_escapes.specs.Extents.{written_len, extent_of, name_len}
 use Rattle.page_core_escapes.specs.Meanings.{Face, bare_name, face_of}
 
--- the first character of a text, as it is written
-abbrev pub first_character : List ℕ → List ℕ
-first_character text = take (unwrap_or (character_len text) 0) text
+module _ (pairs : Bool) where
+  -- the first character of a text, as it is written
+  abbrev pub first_character : List ℕ → List ℕ
+  first_character text = take (unwrap_or (written_len pairs text) 0) text
 
-abbrev pub opening_of : List ℕ → ℕ → Option Step
-opening_of text from = option_map (λ mark. Opens from mark) (character_len (drop from text))
+  abbrev pub opening_of : List ℕ → ℕ → Option Step
+  opening_of text from = option_map (λ mark. Opens from mark) (written_len pairs (drop from text))
 
-abbrev pub step_over : List ℕ → Extent → Option Step
-step_over text (Whole n) = Some (Passes n)
-step_over text (QuotedFrom n) = opening_of text n
+  abbrev pub step_over : List ℕ → Extent → Option Step
+  step_over text (Whole n) = Some (Passes n)
+  step_over text (QuotedFrom n) = opening_of text n
 
-abbrev pub step_of : (delimiter : List ℕ) → List ℕ → Option Step
-step_of delimiter [] = None
-step_of delimiter (b ∷ bs) =
-    if starts_with nat_eq (b ∷ bs) delimiter then Some (Closes (length delimiter))
-    else (if b == backslash then option_and_then (step_over (b ∷ bs)) (extent_of (b ∷ bs))
-    else Some (Passes 1))
+  abbrev pub step_of : (delimiter : List ℕ) → List ℕ → Option Step
+  step_of delimiter [] = None
+  step_of delimiter (b ∷ bs) =
+      if starts_with nat_eq (b ∷ bs) delimiter then Some (Closes (length delimiter))
+      else (if b == backslash then option_and_then (step_over (b ∷ bs)) (extent_of pairs (b ∷ bs))
+      else Some (Passes 1))
 
 -- the step stays in a text of this many bytes
 abbrev pub StepFits : ℕ → Step → Type 0
@@ -38,4 +39,4 @@ StepFits n (Closes k) = k ≤ n
 pub record FontLetter (letter : ℕ) (font : Face) : Type 0 where
   pub named : face_of (letter ∷ []) ≡ font
   pub bare : bare_name (letter ∷ []) ≡ letter ∷ []
-  pub alone : (rest : List ℕ) → name_len (letter ∷ rest) ≡ Some 1
+  pub alone : (pairs : Bool) (rest : List ℕ) → name_len pairs (letter ∷ rest) ≡ Some 1

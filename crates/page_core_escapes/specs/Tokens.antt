@@ -61,11 +61,17 @@ abbrev pub begins_quote : List ℕ → Bool
 begins_quote [] = false
 begins_quote (byte ∷ bytes) = byte == 34
 
+-- a part of a quoted argument, in which a pair of quotes is one quote
+abbrev pub unpaired : List ℕ → List ℕ
+unpaired [] = []
+unpaired (byte ∷ []) = byte ∷ []
+unpaired (byte ∷ next ∷ bytes) = if byte == 34 && next == 34 then 34 ∷ unpaired bytes else byte ∷ unpaired (next ∷ bytes)
+
 -- the token at a text's front
 unfoldable pub token_at : Bool → List ℕ → TextToken
 token_at quoted text =
     if begins_white text then white (take (prefix_len is_white text) text)
-    else if begins_escape text then escaped (take (escape_of text).1 text) (escape_of text).0
+    else if begins_escape text then escaped (take (escape_of quoted text).1 text) (escape_of quoted text).0
     else if quoted && begins_quote text then quotes (take 2 text)
     else plain (take (prefix_len (prints_itself quoted) text) text)
 

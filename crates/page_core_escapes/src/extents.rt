@@ -1,6 +1,6 @@
 //! What is read before an escape's quoted argument, or the whole escape where it has none.
 ghost use Rattle.std.specs.Prelude.{◌≡◌, ◌<◌, ◌≤◌, ◌+◌, ◌==◌, length, position, IfSome};
-ghost use Rattle.page_core_escapes.specs.Extents.{after_sign, begins_size, shape_of, sign_len, character_len, two_characters_len, bracketed_len, name_len, number_len, number_extent, extent_of, ExtentFits};
+ghost use Rattle.page_core_escapes.specs.Extents.{after_sign, begins_size, shape_of, sign_len, character_len, written_len, two_characters_len, bracketed_len, name_len, number_len, number_extent, extent_of, ExtentFits};
 
 use crate::letters::{Shape, letter_of};
 
@@ -14,7 +14,7 @@ pub(crate) enum Extent {
 }
 
 // The bytes of a text's first character.
-pub(crate) fn character_len(text: &[u8]) -> Option<usize>
+fn character_len(text: &[u8]) -> Option<usize>
     ensures value { result ≡ character_len text.now }
     ensures bound { IfSome result (λ len. (0 < len) × (len ≤ length text.now)) }
 {
@@ -27,13 +27,24 @@ pub(crate) fn character_len(text: &[u8]) -> Option<usize>
     if len <= text.len() { Some(len) } else { None }
 }
 
+/// The bytes of a text's first character, as it is written. With `pairs`, as in a quoted argument of a macro, two quotes are one.
+pub(crate) fn written_len(pairs: bool, text: &[u8]) -> Option<usize>
+    ensures value { result ≡ written_len pairs text.now }
+    ensures bound { IfSome result (λ len. (0 < len) × (len ≤ length text.now)) }
+{
+    if pairs && text.starts_with(b"\"\"") {
+        return Some(2);
+    }
+    character_len(text)
+}
+
 // The bytes of a text's first two characters.
-fn two_characters_len(text: &[u8]) -> Option<usize>
-    ensures value { result ≡ two_characters_len text.now }
+fn two_characters_len(pairs: bool, text: &[u8]) -> Option<usize>
+    ensures value { result ≡ two_characters_len pairs text.now }
     ensures bound { IfSome result (λ len. len ≤ length text.now) }
 {
-    let first = character_len(text)?;
-    let second = character_len(&text[first..])?;
+    let first = written_len(pairs, text)?;
+    let second = written_len(pairs, &text[first..])?;
     Some(first + second)
 }
 
@@ -54,26 +65,26 @@ fn bracket_place(text: &[u8]) -> Option<usize>
 }
 
 // A name as it is written: `x`, `(xx` or `[name]`.
-fn name_len(text: &[u8]) -> Option<usize>
-    ensures value { result ≡ name_len text.now }
+fn name_len(pairs: bool, text: &[u8]) -> Option<usize>
+    ensures value { result ≡ name_len pairs text.now }
     ensures bound { IfSome result (λ len. (0 < len) × (len ≤ length text.now)) }
 {
     let rest = match *text.first()? {
-        b'(' => two_characters_len(&text[1..])?,
+        b'(' => two_characters_len(pairs, &text[1..])?,
         b'[' => bracketed_len(&text[1..])?,
-        _ => return character_len(text),
+        _ => return written_len(pairs, text),
     };
     Some(rest + 1)
 }
 
 // A size that isn't quoted.
-fn number_len(text: &[u8]) -> Option<usize>
-    ensures value { result ≡ number_len text.now }
+fn number_len(pairs: bool, text: &[u8]) -> Option<usize>
+    ensures value { result ≡ number_len pairs text.now }
     ensures bound { IfSome result (λ len. len ≤ length text.now) }
 {
     match *text {
         [] => None,
-        [b'(' | b'[', ..] => name_len(text),
+        [b'(' | b'[', ..] => name_len(pairs, text),
         [b'1'..=b'3', b'0'..=b'9', ..] => Some(2),
         _ => Some(1),
     }
@@ -110,8 +121,8 @@ fn shape_of(key: u8, rest: &[u8]) -> Shape
 }
 
 // An escape with a size, where what follows the escape's letter is `rest`.
-fn size_extent(rest: &[u8]) -> Option<Extent>
-    ensures value { result ≡ number_extent (2 + sign_len rest.now) (after_sign rest.now) }
+fn size_extent(pairs: bool, rest: &[u8]) -> Option<Extent>
+    ensures value { result ≡ number_extent pairs (2 + sign_len rest.now) (after_sign rest.now) }
     ensures bound { IfSome result (ExtentFits (2 + length rest.now)) }
 {
     let number = without_sign(rest);
@@ -119,13 +130,13 @@ fn size_extent(rest: &[u8]) -> Option<Extent>
     if number.first() == Some(&b'\'') {
         return Some(Extent::QuotedFrom(before));
     }
-    Some(Extent::Whole(before + number_len(number)?))
+    Some(Extent::Whole(before + number_len(pairs, number)?))
 }
 
 /// Reads an escape as far as its quoted argument; none where the text ends before.
-pub(crate) fn read_extent(text: &[u8]) -> Option<Extent>
+pub(crate) fn read_extent(pairs: bool, text: &[u8]) -> Option<Extent>
     requires { 0 < length text.now }
-    ensures value { result ≡ extent_of text.now }
+    ensures value { result ≡ extent_of pairs text.now }
     ensures bound { IfSome result (ExtentFits (length text.now)) }
 {
     if text.len() == 1 {
@@ -133,10 +144,10 @@ pub(crate) fn read_extent(text: &[u8]) -> Option<Extent>
     }
     let rest = &text[2..];
     let len = match shape_of(text[1], rest) {
-        Shape::Alone => character_len(&text[1..])? + 1,
-        Shape::Glyph => name_len(&text[1..])? + 1,
-        Shape::Name => name_len(rest)? + 2,
-        Shape::Size => return size_extent(rest),
+        Shape::Alone => written_len(pairs, &text[1..])? + 1,
+        Shape::Glyph => name_len(pairs, &text[1..])? + 1,
+        Shape::Name => name_len(pairs, rest)? + 2,
+        Shape::Size => return size_extent(pairs, rest),
         Shape::Quoted => return Some(Extent::QuotedFrom(2)),
     };
     Some(Extent::Whole(len))

@@ -5,7 +5,7 @@
 //! Read first: `escape` below, with the table of letters in `specs/Letters.antt`; then `read_token` in `tokens.rt`.
 #![tactic(auto)]
 
-ghost use Rattle.std.specs.Prelude.{◌≡◌, ◌+◌, ◌<◌, ◌≤◌, length, slice_index, IfSome};
+ghost use Rattle.std.specs.Prelude.{◌≡◌, ◌+◌, ◌<◌, ◌≤◌, false, length, slice_index, IfSome};
 ghost use Rattle.std.specs.Str.{IsUtf8, IsCharBoundary};
 ghost use Rattle.page_core_escapes.specs.Lengths.{escape_len};
 ghost use Rattle.page_core_escapes.specs.Escapes.{escape_of, meaning_seen, HasTexts};
@@ -31,28 +31,41 @@ pub fn escape(text: &[u8]) -> (Escape<'_>, usize)
     requires backslash { slice_index text.now 0 ≡ 0x5C }
     requires line { length text.now ≤ LINE }
 
-    ensures meaning { meaning_seen result.0 ≡ (escape_of text.now).0 }
-    ensures len { result.1 ≡ (escape_of text.now).1 }
+    ensures meaning { meaning_seen result.0 ≡ (escape_of false text.now).0 }
+    ensures len { result.1 ≡ (escape_of false text.now).1 }
     ensures some { 0 < result.1 }
     ensures within { result.1 ≤ length text.now }
     ensures whole_characters { IsUtf8 text.now → IsCharBoundary text.now result.1 }
     ensures texts { IsUtf8 text.now → HasTexts (meaning_seen result.0) }
 {
-    match escape_len(text) {
-        Some(len) => (read_meaning(&text[..len]), len),
+    read_escape(false, text)
+}
+
+// The same where a pair of quotes may be one character: `pairs` says so, as of a quoted argument of a macro.
+fn read_escape(pairs: bool, text: &[u8]) -> (Escape<'_>, usize)
+    requires backslash { slice_index text.now 0 ≡ 0x5C }
+    requires line { length text.now ≤ LINE }
+
+    ensures meaning { meaning_seen result.0 ≡ (escape_of pairs text.now).0 }
+    ensures len { result.1 ≡ (escape_of pairs text.now).1 }
+    ensures some { 0 < result.1 }
+    ensures within { result.1 ≤ length text.now }
+{
+    match escape_len(pairs, text) {
+        Some(len) => (read_meaning(pairs, &text[..len]), len),
         None => (Escape::Bad, text.len()),
     }
 }
 
 // The bytes of the escape at a text's front, none where the text ends before it does.
-fn escape_len(text: &[u8]) -> Option<usize>
+fn escape_len(pairs: bool, text: &[u8]) -> Option<usize>
     requires some { 0 < length text.now }
     requires line { length text.now ≤ LINE }
-    ensures value { result ≡ escape_len text.now }
+    ensures value { result ≡ escape_len pairs text.now }
     ensures bound { IfSome result (λ len. len ≤ length text.now) }
 {
-    match read_extent(text)? {
+    match read_extent(pairs, text)? {
         Extent::Whole(len) => Some(len),
-        Extent::QuotedFrom(from) => Some(from + quoted_len(&text[from..])?),
+        Extent::QuotedFrom(from) => Some(from + quoted_len(pairs, &text[from..])?),
     }
 }

@@ -1,12 +1,12 @@
 //! What an escape means.
-ghost use Rattle.std.specs.Prelude.{◌≡◌, ◌<◌, ◌≤◌, length, drop, if◌then◌else◌, IfSome};
+ghost use Rattle.std.specs.Prelude.{◌≡◌, ◌<◌, ◌≤◌, length, drop, if◌then◌else◌, MatchOption, [], ◌∷◌};
 ghost use Rattle.std.specs.List.{list_all, list_any};
 ghost use Rattle.std.specs.Str.{bytes_eq};
-ghost use Rattle.page_core_escapes.specs.Meanings.{meaning_of, argument_of, meaning_by, bare_name, bare_quoted, without_last, bracketed, names_code_point, is_hex_digit, hex_number, hex_value, face_of, is_known, first_char};
+ghost use Rattle.page_core_escapes.specs.Meanings.{meaning_of, argument_of, meaning_by, bare_name, bare_quoted, without_last, bracketed, names_code_point, is_hex_digit, hex_number, hex_value, face_of, is_known, unknown, first_char};
 ghost use Rattle.page_core_escapes.specs.Escapes.{meaning_seen, face_seen};
 ghost use Rattle.page_core_escapes.specs.Steps.{FontLetter};
 
-use crate::extents::character_len;
+use crate::extents::written_len;
 use crate::letters::{Kind, Shape, letter_of};
 use std::str;
 
@@ -58,28 +58,28 @@ pub enum Escape<'a> {
 }
 
 // The meaning of a text that is one escape.
-pub(crate) fn read_meaning(escape: &[u8]) -> Escape<'_>
-    ensures { meaning_seen result ≡ meaning_of escape.now }
+pub(crate) fn read_meaning(pairs: bool, escape: &[u8]) -> Escape<'_>
+    ensures { meaning_seen result ≡ meaning_of pairs escape.now }
 {
     if escape.len() < 2 {
         return Escape::Nothing;
     }
     let letter = letter_of(escape[1]);
     let text = &escape[1..];
-    meaning_by(letter.kind, argument(letter.shape, text), text)
+    meaning_by(letter.kind, argument(pairs, letter.shape, text), text)
 }
 
 // The argument of an escape by its text from its letter on.
-fn argument(shape: Shape, text: &[u8]) -> &[u8]
+fn argument(pairs: bool, shape: Shape, text: &[u8]) -> &[u8]
     requires { 0 < length text.now }
-    ensures { result.now ≡ argument_of shape text.now }
+    ensures { result.now ≡ argument_of pairs shape text.now }
 {
     match shape {
         Shape::Alone => b"",
         Shape::Glyph => bare_name(text),
         Shape::Name => bare_name(&text[1..]),
         Shape::Size => &text[1..],
-        Shape::Quoted => bare_quoted(&text[1..]),
+        Shape::Quoted => bare_quoted(pairs, &text[1..]),
     }
 }
 
@@ -166,7 +166,8 @@ fn hex_value(digit: u8) -> u32
 /// The font that one letter names.
 #[inline(always)]
 pub(crate) fn font_by_letter<'a>(letter: u8) -> Option<FontName<'a>>
-    ensures { IfSome result (λ name. FontLetter letter (face_seen name)) }
+    ensures { MatchOption result (face_of (letter ∷ []) ≡ unknown (letter ∷ []))
+        (λ name. FontLetter letter (face_seen name)) }
 {
     match letter {
         b'R' | b'1' => Some(FontName::R),
@@ -182,16 +183,29 @@ pub(crate) fn font_by_letter<'a>(letter: u8) -> Option<FontName<'a>>
 pub fn read_font(name: &[u8]) -> FontName<'_>
     ensures { face_seen result ≡ face_of name.now }
 {
-    if is_one_of(name, &["R", "1", "CW", "CR"]) {
+    match *name {
+        [] => FontName::Former,
+        [letter] => match font_by_letter(letter) {
+            Some(font) => font,
+            None => FontName::Unknown(name),
+        },
+        _ => font_by_letters(name),
+    }
+}
+
+// The font that several letters name.
+fn font_by_letters(name: &[u8]) -> FontName<'_>
+    requires { 2 ≤ length name.now }
+    ensures { face_seen result ≡ face_of name.now }
+{
+    if is_one_of(name, &["CW", "CR"]) {
         FontName::R
-    } else if is_one_of(name, &["I", "2", "CI"]) {
+    } else if is_one_of(name, &["CI"]) {
         FontName::I
-    } else if is_one_of(name, &["B", "3", "CB"]) {
+    } else if is_one_of(name, &["CB"]) {
         FontName::B
-    } else if is_one_of(name, &["BI", "4"]) {
+    } else if is_one_of(name, &["BI"]) {
         FontName::BI
-    } else if is_one_of(name, &["P", ""]) {
-        FontName::Former
     } else {
         FontName::Unknown(name)
     }
@@ -215,10 +229,10 @@ fn bare_name(written: &[u8]) -> &[u8]
 }
 
 // An argument that was written between two delimiters.
-fn bare_quoted(written: &[u8]) -> &[u8]
-    ensures { result.now ≡ bare_quoted written.now }
+fn bare_quoted(pairs: bool, written: &[u8]) -> &[u8]
+    ensures { result.now ≡ bare_quoted pairs written.now }
 {
-    let mark = character_len(written).unwrap_or(0);
+    let mark = written_len(pairs, written).unwrap_or(0);
     let rest = &written[mark..];
     &rest[..rest.len().saturating_sub(mark)]
 }

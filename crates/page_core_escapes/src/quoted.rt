@@ -1,10 +1,10 @@
 //! How many bytes a quoted argument takes.
 ghost use Rattle.std.specs.Prelude.{◌≡◌, ◌+◌, ◌<◌, ◌≤◌, length, IfSome};
-ghost use Rattle.page_core_escapes.specs.Extents.{character_len};
+ghost use Rattle.page_core_escapes.specs.Extents.{written_len};
 ghost use Rattle.page_core_escapes.specs.Lengths.{quoted_len, content_len};
 ghost use Rattle.page_core_escapes.specs.Steps.{first_character, opening_of, step_of, StepFits};
 
-use crate::extents::{Extent, character_len, read_extent};
+use crate::extents::{Extent, read_extent, written_len};
 use arrayvec::ArrayVec;
 use page_core_limits::LINE;
 
@@ -23,15 +23,15 @@ pub(crate) enum Step {
 }
 
 // The first character of a text, as it is written.
-fn first_character(text: &[u8]) -> &[u8]
-    ensures { result.now ≡ first_character text.now }
+fn first_character(pairs: bool, text: &[u8]) -> &[u8]
+    ensures { result.now ≡ first_character pairs text.now }
 {
-    &text[..character_len(text).unwrap_or(0)]
+    &text[..written_len(pairs, text).unwrap_or(0)]
 }
 
 // What is read next in an argument with this delimiter, none where an escape there has no end.
-fn next_step(delimiter: &[u8], text: &[u8]) -> Option<Step>
-    ensures value { result ≡ step_of delimiter.now text.now }
+fn next_step(pairs: bool, delimiter: &[u8], text: &[u8]) -> Option<Step>
+    ensures value { result ≡ step_of pairs delimiter.now text.now }
     ensures bound { IfSome result (StepFits (length text.now)) }
 {
     let first = *text.first()?;
@@ -41,36 +41,36 @@ fn next_step(delimiter: &[u8], text: &[u8]) -> Option<Step>
     if first != b'\\' {
         return Some(Step::Passes(1));
     }
-    match read_extent(text)? {
+    match read_extent(pairs, text)? {
         Extent::Whole(len) => Some(Step::Passes(len)),
-        Extent::QuotedFrom(from) => opening(text, from),
+        Extent::QuotedFrom(from) => opening(pairs, text, from),
     }
 }
 
 // The step into an argument that begins after `from` bytes.
-fn opening(text: &[u8], from: usize) -> Option<Step>
+fn opening(pairs: bool, text: &[u8], from: usize) -> Option<Step>
     requires after_letter { 2 ≤ from }
     requires inside { from ≤ length text.now }
-    ensures value { result ≡ opening_of text.now from }
+    ensures value { result ≡ opening_of pairs text.now from }
     ensures bound { IfSome result (StepFits (length text.now)) }
 {
-    let mark = character_len(&text[from..])?;
+    let mark = written_len(pairs, &text[from..])?;
     Some(Step::Opens(from, mark))
 }
 
 /// The bytes of a quoted argument with its delimiters: it begins with any character and ends at its next occurrence outside
 /// escapes. None where it has no end.
-pub(crate) fn quoted_len(text: &[u8]) -> Option<usize>
+pub(crate) fn quoted_len(pairs: bool, text: &[u8]) -> Option<usize>
     requires { length text.now ≤ LINE }
-    ensures value { result ≡ quoted_len content_len text.now }
+    ensures value { result ≡ quoted_len pairs (content_len pairs) text.now }
     ensures bound { IfSome result (λ len. len ≤ length text.now) }
 {
-    let mut at = character_len(text)?;
+    let mut at = written_len(pairs, text)?;
     let delimiter = &text[..at];
     loop {
-        match next_step(delimiter, &text[at..])? {
+        match next_step(pairs, delimiter, &text[at..])? {
             Step::Passes(len) => at += len,
-            Step::Opens(_, _) => return nested_len(text),
+            Step::Opens(_, _) => return nested_len(pairs, text),
             Step::Closes(len) => return Some(at + len),
         }
     }
@@ -79,17 +79,17 @@ pub(crate) fn quoted_len(text: &[u8]) -> Option<usize>
 // The same where arguments stand inside the argument: the places of the open ones' delimiters are kept, from the outside in.
 // No call but one that needs these places pays for them.
 #[inline(never)]
-fn nested_len(text: &[u8]) -> Option<usize>
+fn nested_len(pairs: bool, text: &[u8]) -> Option<usize>
     requires { length text.now ≤ LINE }
-    ensures value { result ≡ quoted_len content_len text.now }
+    ensures value { result ≡ quoted_len pairs (content_len pairs) text.now }
     ensures bound { IfSome result (λ len. len ≤ length text.now) }
 {
-    let mut at = character_len(text)?;
+    let mut at = written_len(pairs, text)?;
     let mut open = ArrayVec::<u16, NESTING>::new();
     open.push(0);
     while let Some(place) = open.last() {
-        let delimiter = first_character(&text[*place as usize..]);
-        match next_step(delimiter, &text[at..])? {
+        let delimiter = first_character(pairs, &text[*place as usize..]);
+        match next_step(pairs, delimiter, &text[at..])? {
             Step::Passes(len) => at += len,
             Step::Opens(from, mark) => {
                 open.push((at + from) as u16);

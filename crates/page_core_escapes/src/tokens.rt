@@ -8,7 +8,7 @@ ghost use Rattle.page_core_escapes.specs.ShortEscapes.{ShortEscape, ShortFont};
 ghost use Rattle.page_core_escapes.specs.Tokens.{is_white, begins_white, begins_word, begins_escape, begins_quote, prints_itself, token_at, token_bytes, token_seen};
 
 use crate::meaning::font_by_letter;
-use crate::{Escape, FontName, escape};
+use crate::{Escape, FontName, read_escape};
 use page_core_limits::LINE;
 use std::simd::prelude::*;
 
@@ -216,7 +216,7 @@ pub fn read_token(quoted: bool, text: &[u8]) -> Token<'_>
                 meaning,
             };
         }
-        let (meaning, len) = escape(text);
+        let (meaning, len) = read_escape(quoted, text);
         return Token::Escaped {
             bytes: &text[..len],
             meaning,

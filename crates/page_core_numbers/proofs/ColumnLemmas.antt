@@ -27,7 +27,7 @@ blanks-columns n = sym (sum_by-replicate char_columns n 32 ∙ rw blank-char_col
 -- ---- the front of a text
 
 pub front-escape : (output : Output) (text rest : List ℕ) (c : ℕ) → IsUtf8 text → text ≡ encode_utf8 c ++ rest → c ≡ 92
-    → (printed_front output text (chars text) ≡ printed_escape output (escape_of text).0) × (front_len text (chars text) ≡ (escape_of text).1)
+    → (printed_front output text (chars text) ≡ printed_escape output (escape_of false text).0) × (front_len text (chars text) ≡ (escape_of false text).1)
 front-escape output text rest c utf8 is e =
     let cs : chars text ≡ 92 ∷ chars rest = chars_past_char text rest c utf8 is ∙ ap (λ d. d ∷ chars rest) e in
     (rw cs refl, rw cs refl)

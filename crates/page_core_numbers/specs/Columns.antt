@@ -1,5 +1,5 @@
 -- What a finished text prints, and the columns of that: mandoc_char(7); roff(7), "Escape sequences"; mandoc(1), -T ascii and -T utf8.
-use Rattle.std.specs.Prelude.{◌≡◌, ℕ, zero, suc, ◌/◌, ◌==◌, min, List, [], ◌∷◌, ◌++◌, length, drop, replicate, sum_by, codes, encode_utf8, if◌then◌else◌, ℤ, pos, negsuc}
+use Rattle.std.specs.Prelude.{◌≡◌, ℕ, zero, suc, ◌/◌, ◌==◌, false, min, List, [], ◌∷◌, ◌++◌, length, drop, replicate, sum_by, codes, encode_utf8, if◌then◌else◌, ℤ, pos, negsuc}
 use Rattle.std.specs.Str.{chars}
 use Rattle.page_core_base.specs.declared.page_settings.Output.{Output}
 use Rattle.page_core_escapes.specs.Meanings as escapes
@@ -43,12 +43,12 @@ printed_escape output escapes.bad = []
 -- what stands at a text's front, where the text's characters are known: an escape, or a character
 abbrev pub printed_front : Output → List ℕ → List ℕ → List ℕ
 printed_front output text [] = []
-printed_front output text (c ∷ cs) = if c == backslash then printed_escape output (escape_of text).0 else (char_printed output c).characters
+printed_front output text (c ∷ cs) = if c == backslash then printed_escape output (escape_of false text).0 else (char_printed output c).characters
 
 -- how many bytes that takes
 abbrev pub front_len : List ℕ → List ℕ → ℕ
 front_len text [] = 0
-front_len text (c ∷ cs) = if c == backslash then (escape_of text).1 else length (encode_utf8 c)
+front_len text (c ∷ cs) = if c == backslash then (escape_of false text).1 else length (encode_utf8 c)
 
 -- a text's escapes and characters from left to right; `steps` is above the number of bytes
 unfoldable pub printed_within : (steps : ℕ) → Output → List ℕ → List ℕ

@@ -5,6 +5,7 @@ use Rattle.page_core_base.specs.Messages.{text_front}
 use Rattle.page_core_base.specs.Pieces.{Item}
 use Rattle.page_core_base.specs.declared.note_kinds.NoteKind.TheVariants.{Limit}
 use Rattle.page_core_base.specs.declared.places.Place.{Place}
+use Rattle.page_core_escapes.specs.Tokens.{unpaired}
 use Rattle.page_core_limits.specs.declared.TheConstants.{FIELD}
 use Rattle.page_roff_forms.specs.declared.quotes.Argument.{Argument}
 use Rattle.page_roff_forms.specs.Arguments.{is_quoted}
@@ -19,18 +20,12 @@ quote_len [] = 1
 quote_len (byte ∷ []) = 1
 quote_len (byte ∷ next ∷ bytes) = if byte == 34 && next == 34 then 2 else 1
 
-abbrev pub single_quotes : List ℕ → List ℕ
-single_quotes [] = []
-single_quotes (byte ∷ []) = byte ∷ []
-single_quotes (byte ∷ next ∷ bytes) =
-    if byte == 34 && next == 34 then 34 ∷ single_quotes bytes else byte ∷ single_quotes (next ∷ bytes)
-
 -- ---- one field
 
 -- the front of an argument that there is room for as it is written, up to a character's end
 abbrev pub written : ℕ → Argument (List ℕ) → List ℕ
 written room argument =
-    if is_quoted argument.quoting then single_quotes (text_front room argument.text) else text_front room argument.text
+    if is_quoted argument.quoting then unpaired (text_front room argument.text) else text_front room argument.text
 
 -- an argument as a field: at most FIELD bytes as it is written
 abbrev pub field : Argument (List ℕ) → List ℕ

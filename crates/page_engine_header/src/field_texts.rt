@@ -1,10 +1,11 @@
 //! A field of a header or a footer as text (man(7), `TH`; mdoc(7), `Dd`, `Dt`, `Os`).
 
 ghost use Rattle.std.specs.Prelude.{◌≡◌, ◌≤◌, ◌<◌, ◌+◌, ◌-◌, [], ◌∷◌, ◌++◌, ◌==◌, length, drop, take, if◌then◌else◌};
+ghost use Rattle.page_core_escapes.specs.Tokens.{unpaired};
 ghost use Rattle.page_core_limits.specs.declared.TheConstants.{FIELD};
 ghost use Rattle.page_roff_forms.specs.Arguments.{argument_seen};
 ghost use Rattle.page_engine_header.specs.Fields as fields;
-ghost use Rattle.page_engine_header.specs.Fields.{first_field, or_else, quote_len, single_quotes, written};
+ghost use Rattle.page_engine_header.specs.Fields.{first_field, or_else, quote_len, written};
 
 use arrayvec::ArrayVec;
 use page_core_base::text_front;
@@ -46,7 +47,7 @@ fn quote_len(text: &[u8]) -> usize
 // Adds a text of at most as many bytes as there is room for, in which a pair of quotes is one quote.
 fn add_quoted(kept: &mut ArrayVec<u8, 256>, text: &[u8])
     requires { length kept.old.items + length text.now ≤ 256 }
-    ensures items { kept.new.items ≡ kept.old.items ++ single_quotes text.now }
+    ensures items { kept.new.items ≡ kept.old.items ++ unpaired text.now }
     ensures fits { length kept.new.items ≤ length kept.old.items + length text.now }
 {
     let mut rest = text;
@@ -74,7 +75,7 @@ fn add_byte(kept: &mut ArrayVec<u8, 256>, room: usize, byte: u8) -> usize
 fn add_front(kept: &mut ArrayVec<u8, 256>, text: &[u8], is_quoted: bool)
     requires { length kept.old.items + length text.now ≤ 256 }
     ensures items { kept.new.items
-        ≡ kept.old.items ++ (if is_quoted then single_quotes text.now else text.now) }
+        ≡ kept.old.items ++ (if is_quoted then unpaired text.now else text.now) }
     ensures fits { length kept.new.items ≤ length kept.old.items + length text.now }
 {
     if is_quoted {

@@ -65,7 +65,7 @@ given_face None = meanings.former
 given_face (Some name) = face_of name
 
 abbrev pub font_notes : Place → Option (List ℕ) → List Item
-font_notes place name = face_notes place (given_face name)
+font_notes place name = face_notes false place (given_face name)
 
 abbrev pub with_font_named : Option (List ℕ) → Context → Context
 with_font_named name c = record c { fonts = fonts_named (given_face name) c.fonts }

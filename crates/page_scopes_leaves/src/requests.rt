@@ -125,7 +125,7 @@ fn give_font<O: PieceOut>(out: &mut O, place: Place, name: Option<&[u8]>, contex
         None => FontName::Former,
         Some(name) => read_font(name),
     };
-    report_font(out, place, font);
+    report_font(out, false, place, font);
     context.fonts = fonts_named(font, context.fonts);
 }
 

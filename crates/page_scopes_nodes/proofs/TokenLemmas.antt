@@ -16,8 +16,8 @@ pub columns_none : (output : Output) (quoted : Bool) (text : List ℕ) → lengt
 columns_none output quoted text h = ap (tokens_columns output) (tokens_none quoted text h)
 
 pub notes_more : (quoted : Bool) (place : Place) (text : List ℕ) (n : ℕ) → 0 < n → n ≡ token_len quoted text
-    → notes_of place (tokens_of quoted text) ≡ token_notes place (token_at quoted text) ++ notes_of place (tokens_of quoted (drop n text))
-notes_more quoted place text n k e = ap (notes_of place) (tokens_more quoted text n k e)
+    → notes_of quoted place (tokens_of quoted text) ≡ token_notes quoted place (token_at quoted text) ++ notes_of quoted place (tokens_of quoted (drop n text))
+notes_more quoted place text n k e = ap (notes_of quoted place) (tokens_more quoted text n k e)
 
-pub notes_none : (quoted : Bool) (place : Place) (text : List ℕ) → length text ≤ 0 → notes_of place (tokens_of quoted text) ≡ []
-notes_none quoted place text h = ap (notes_of place) (tokens_none quoted text h)
+pub notes_none : (quoted : Bool) (place : Place) (text : List ℕ) → length text ≤ 0 → notes_of quoted place (tokens_of quoted text) ≡ []
+notes_none quoted place text h = ap (notes_of quoted place) (tokens_none quoted text h)

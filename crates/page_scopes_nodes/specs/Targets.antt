@@ -1,5 +1,5 @@
 -- The target of a link: its messages where the link begins, and the target in angles where it ends. Source: man(7), `UR`, `MT`.
-use Rattle.std.specs.Prelude.{ℕ, true, List, [], ◌∷◌, ◌++◌, codes}
+use Rattle.std.specs.Prelude.{ℕ, Bool, true, List, [], ◌∷◌, ◌++◌, codes}
 use Rattle.page_core_base.specs.Pieces.{Item, shown}
 use Rattle.page_core_base.specs.declared.cells.Font.{Font}
 use Rattle.page_core_base.specs.declared.pieces.Piece.TheVariants.{Text}
@@ -20,14 +20,15 @@ use Rattle.page_scopes_words.specs.declared.fonts.Fonts.{Fonts}
 
 -- ---- where the link begins
 
-abbrev pub notes_of : Place → List TextToken → List Item
-notes_of place [] = []
-notes_of place (token ∷ tokens) = token_notes place token ++ notes_of place tokens
+abbrev pub notes_of : (quoted : Bool) → Place → List TextToken → List Item
+notes_of quoted place [] = []
+notes_of quoted place (token ∷ tokens) = token_notes quoted place token ++ notes_of quoted place tokens
 
 -- its escapes are reported at its column, and that it is cut at the macro
 abbrev pub target_notes : Place → Argument (List ℕ) → List Item
 target_notes place argument =
-    notes_of (at place.line argument.column) (tokens_of (is_quoted argument.quoting) argument.text) ++ cut_notes place argument.text
+    notes_of (is_quoted argument.quoting) (at place.line argument.column) (tokens_of (is_quoted argument.quoting) argument.text)
+    ++ cut_notes place argument.text
 
 -- ---- where it ends
 

@@ -18,12 +18,12 @@ use page_scopes_text::report_token;
 // Gives the messages of a text's escapes, all at one place.
 fn report_escapes<O: PieceOut>(out: &mut O, quoted: bool, place: Place, text: &[u8])
     requires { length text.now ≤ LINE }
-    ensures { Came O.left out.old (targets.notes_of place (tokens_of quoted text.now)) out.new }
+    ensures { Came O.left out.old (targets.notes_of quoted place (tokens_of quoted text.now)) out.new }
 {
     let mut rest = text;
     while !rest.is_empty() {
         let token = read_token(quoted, rest);
-        report_token(out, place, &token);
+        report_token(out, quoted, place, &token);
         rest = &rest[token.len()..];
     }
 }

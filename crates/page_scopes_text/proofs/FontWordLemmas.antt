@@ -42,13 +42,13 @@ reads_part quoted text (suc n) e h = some_part quoted text (suc n) e h (omega ar
 
 -- ---- an escape that asks for a font
 
-known_notes : (place : Place) (font : Face) → is_known font ≡ true → face_notes place font ≡ []
-known_notes place meanings.roman h = refl
-known_notes place meanings.italic h = refl
-known_notes place meanings.bold h = refl
-known_notes place meanings.bold_italic h = refl
-known_notes place meanings.former h = refl
-known_notes place (meanings.unknown name) h = absurd (never h)
+known_notes : (quoted : Bool) (place : Place) (font : Face) → is_known font ≡ true → face_notes quoted place font ≡ []
+known_notes quoted place meanings.roman h = refl
+known_notes quoted place meanings.italic h = refl
+known_notes quoted place meanings.bold h = refl
+known_notes quoted place meanings.bold_italic h = refl
+known_notes quoted place meanings.former h = refl
+known_notes quoted place (meanings.unknown name) h = absurd (never h)
   where
     never : false ≡ true → ⊥
     never e = grind (arith, e)
@@ -58,7 +58,7 @@ unfolding token_at
 font_token [] font n s quoted = absurd (omega (arith, s.escape.not_empty, s.escape.within))
 font_token (b ∷ bs) font n s quoted =
     let first : b ≡ 92 = s.backslash in
-    let is = rw first at s.escape.escape in
+    let is = rw first at (s.escape.escape quoted) in
     rw (first, is) refl
 
 font_begins : (text : List ℕ) (font : Face) (n : ℕ) → ShortFont text font n → begins_word text ≡ true
@@ -74,7 +74,7 @@ reads_font text font n s known =
           let token = font_token text font n s quoted in
           let is : n ≡ token_len quoted text = rw token (sym len) in
           words_more quoted text n (font_begins text font n s) s.escape.not_empty is ∙ rw token refl;
-      silent = record { notes = λ place. known_notes place font known; items = λ splits f place. refl };
+      silent = record { notes = λ quoted place. known_notes quoted place font known; items = λ splits f place. refl };
     }
 
 -- ---- the whole word

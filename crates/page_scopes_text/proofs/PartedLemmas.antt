@@ -87,19 +87,19 @@ take_some : (n b : ℕ) (bs : List ℕ) → 0 < n → 0 < length (take n (b ∷ 
 take_some zero b bs h = absurd (omega arith)
 take_some (suc n) b bs h = omega arith
 
-read_some : (text : List ℕ) (len : Option ℕ) → 0 < length text → ((n : ℕ) → len ≡ Some n → 0 < n) → 0 < (read_escape text len).1
-read_some text None h k = h
-read_some text (Some n) h k = k n refl
+read_some : (quoted : Bool) (text : List ℕ) (len : Option ℕ) → 0 < length text → ((n : ℕ) → len ≡ Some n → 0 < n) → 0 < (read_escape quoted text len).1
+read_some quoted text None h k = h
+read_some quoted text (Some n) h k = k n refl
 
-escape_some : (b : ℕ) (bs : List ℕ) → 0 < (escape_of (b ∷ bs)).1
+escape_some : (quoted : Bool) (b : ℕ) (bs : List ℕ) → 0 < (escape_of quoted (b ∷ bs)).1
 unfolding escape_of
-escape_some b bs = read_some (b ∷ bs) (escape_len (b ∷ bs)) (omega arith) (λ n h. escape_len-some (b ∷ bs) n h)
+escape_some quoted b bs = read_some quoted (b ∷ bs) (escape_len quoted (b ∷ bs)) (omega arith) (λ n h. escape_len-some quoted (b ∷ bs) n h)
 
 token_some : (quoted : Bool) (b : ℕ) (bs : List ℕ) → is_white b ≡ false → 0 < token_len quoted (b ∷ bs)
 unfolding token_at
 token_some quoted b bs t =
     elim (cases_Bool (b == 92)) [
-      | inl e ↦ rw (t, e) (take_some (escape_of (b ∷ bs)).1 b bs (escape_some b bs))
+      | inl e ↦ rw (t, e) (take_some (escape_of quoted (b ∷ bs)).1 b bs (escape_some quoted b bs))
       | inr e ↦ elim (cases_Bool (quoted && b == 34)) [
         | inl q ↦ rw (t, e, q) (take_some 2 b bs (omega arith))
         | inr q ↦ rw (t, e, q) (take_some (1 + prefix_len (prints_itself quoted) bs) b bs (omega arith))

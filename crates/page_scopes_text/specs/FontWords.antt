@@ -10,7 +10,7 @@ use Rattle.page_scopes_text.specs.declared.font_words.FontWord.{FontWord}
 
 -- a token without messages that prints nothing
 pub record Silent (token : TextToken) : Type 0 where
-  pub notes : (place : Place) → token_notes place token ≡ []
+  pub notes : (quoted : Bool) (place : Place) → token_notes quoted place token ≡ []
   pub items : (splits : Bool) (font : Font) (place : Place) → printed_items splits font place token ≡ []
 
 -- a font is asked for at a text's front

@@ -63,10 +63,10 @@ is_indented style = style.is_line && not style.is_literal
 abbrev pub indented_pen : Pen → List ℕ → Pen
 indented_pen pen white = record pen { column = pen.column + length white; has_cell = true }
 
-abbrev pub indented_items : ℕ → Pen → Spaced → List Item
-indented_items line pen part =
+abbrev pub indented_items : (quoted : Bool) → ℕ → Pen → Spaced → List Item
+indented_items quoted line pen part =
     shown Break
-    ∷ (word_notes (place_after line pen part.white) part.word
+    ∷ (word_notes quoted (place_after line pen part.white) part.word
     ++ (white_cells (place_after line pen part.white) part.white
     ++ body_items (place_after line pen part.white) (indented_pen pen part.white) part.word))
 
@@ -76,7 +76,7 @@ front_items style place pen = if has_gap_cells style pen then blank_cells 1 R pl
 
 abbrev pub leading_items : TextStyle → ℕ → Pen → Spaced → List Item
 leading_items style line pen part =
-    if is_indented style then indented_items line pen part
+    if is_indented style then indented_items style.is_quoted line pen part
     else front_items style (at line pen.column) pen ++ spaced_items style line pen part
 
 abbrev pub leading_after : TextStyle → Pen → Spaced → Pen

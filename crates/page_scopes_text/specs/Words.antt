@@ -23,17 +23,17 @@ use Rattle.page_scopes_text.specs.declared.pens.TextStyle.{TextStyle}
 -- ---- messages
 
 -- the number in `\h` is in `m` where it has no unit
-abbrev pub escape_notes : Place → List ℕ → Meaning → List Item
-escape_notes place bytes (meanings.blanks expression) = number_notes Em place expression
-escape_notes place bytes meaning = meaning_notes place bytes meaning
+abbrev pub escape_notes : (quoted : Bool) → Place → List ℕ → Meaning → List Item
+escape_notes quoted place bytes (meanings.blanks expression) = number_notes Em place expression
+escape_notes quoted place bytes meaning = meaning_notes quoted place bytes meaning
 
-abbrev pub token_notes : Place → TextToken → List Item
-token_notes place (escaped bytes meaning) = escape_notes place bytes meaning
-token_notes place _ = []
+abbrev pub token_notes : (quoted : Bool) → Place → TextToken → List Item
+token_notes quoted place (escaped bytes meaning) = escape_notes quoted place bytes meaning
+token_notes quoted place _ = []
 
-abbrev pub word_notes : Place → List TextToken → List Item
-word_notes place [] = []
-word_notes place (token ∷ tokens) = token_notes place token ++ word_notes place tokens
+abbrev pub word_notes : (quoted : Bool) → Place → List TextToken → List Item
+word_notes quoted place [] = []
+word_notes quoted place (token ∷ tokens) = token_notes quoted place token ++ word_notes quoted place tokens
 
 -- ---- what a token prints
 
@@ -146,7 +146,7 @@ gap_after style pen = record pen { has_cell = pen.has_cell || has_gap_cells styl
 -- a word's messages come first; then the blanks before it, and what it prints
 abbrev pub word_items : TextStyle → ℕ → Bool → Pen → List TextToken → List Item
 word_items style line has_tab pen word =
-    word_notes (at line pen.column) word
+    word_notes style.is_quoted (at line pen.column) word
     ++ (gap_items style has_tab (at line pen.column) pen ++ body_items (at line pen.column) (gap_after style pen) word)
 
 abbrev pub word_after : TextStyle → Pen → List TextToken → Pen

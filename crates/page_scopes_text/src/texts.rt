@@ -137,7 +137,7 @@ fn give_indented<'a, O: PieceOut>(
     requires fits { Fits pen.old text.now }
     requires white { begins_white text.now ≡ true }
     ensures came { Came O.left out.old
-        (texts.indented_items line pen.old (spaced_front quoted text.now)) out.new }
+        (texts.indented_items quoted line pen.old (spaced_front quoted text.now)) out.new }
     ensures pen { pen.new
         ≡ body_after (texts.indented_pen pen.old (spaced_front quoted text.now).white)
         (spaced_front quoted text.now).word }

@@ -15,10 +15,10 @@ use page_core_numbers::{Scale, escape_columns};
 use page_scopes_layout::Setting;
 use page_scopes_words::{Fonts, report_escape, token_piece};
 
-/// Gives the messages of a token.
+/// Gives the messages of a token; `quoted` says whether it is that of a quoted argument.
 #[inline(always)]
-pub fn report_token<O: PieceOut>(out: &mut O, place: Place, token: &Token<'_>)
-    ensures { Came O.left out.old (words.token_notes place (token_seen token.now)) out.new }
+pub fn report_token<O: PieceOut>(out: &mut O, quoted: bool, place: Place, token: &Token<'_>)
+    ensures { Came O.left out.old (words.token_notes quoted place (token_seen token.now)) out.new }
 {
     if let Token::Escaped {
         meaning: Escape::Blanks(expression),
@@ -27,7 +27,7 @@ pub fn report_token<O: PieceOut>(out: &mut O, place: Place, token: &Token<'_>)
     {
         let _ = give_number(out, Scale::Em, place, expression);
     } else if let Token::Escaped { bytes, meaning } = *token {
-        report_escape(out, place, bytes, meaning);
+        report_escape(out, quoted, place, bytes, meaning);
     }
 }
 

@@ -19,12 +19,12 @@ use page_core_limits::LINE;
 /// Gives the messages of the word at a text's front.
 pub(crate) fn report_word<O: PieceOut>(out: &mut O, quoted: bool, place: Place, text: &[u8])
     requires { length text.now ≤ LINE }
-    ensures { Came O.left out.old (words.word_notes place (words_of quoted text.now).word) out.new }
+    ensures { Came O.left out.old (words.word_notes quoted place (words_of quoted text.now).word) out.new }
 {
     let mut rest = text;
     while begins_word(rest) {
         let token = read_token(quoted, rest);
-        report_token(out, place, &token);
+        report_token(out, quoted, place, &token);
         rest = &rest[token.len()..];
     }
 }

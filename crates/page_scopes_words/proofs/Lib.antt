@@ -1,1 +1,2 @@
 pub mod WhiteLemmas
+pub mod UnpairedLemmas

@@ -12,7 +12,7 @@ use Rattle.page_core_base.specs.declared.pieces.Piece.{Piece}
 use Rattle.page_core_base.specs.declared.pieces.Piece.TheVariants.{Text, Glyph, Char, Tab}
 use Rattle.page_core_escapes.specs.Meanings as meanings
 use Rattle.page_core_escapes.specs.Meanings.{Face, Meaning}
-use Rattle.page_core_escapes.specs.Tokens.{TextToken, white, plain, quotes, escaped}
+use Rattle.page_core_escapes.specs.Tokens.{TextToken, white, plain, quotes, escaped, unpaired}
 
 abbrev pub at : ℕ → ℕ → Place
 at line column = record { line = line; column = column }
@@ -23,17 +23,21 @@ says kind place detail = noted (message_about kind place detail)
 
 -- ---- messages of an escape
 
-abbrev pub face_notes : Place → Face → List Item
-face_notes place (meanings.unknown name) = says UnknownFont place name ∷ []
-face_notes place _ = []
+-- a part of a text as messages show it: in a quoted argument a pair of quotes is one quote
+abbrev pub shown_part : (quoted : Bool) → List ℕ → List ℕ
+shown_part quoted bytes = if quoted then unpaired bytes else bytes
+
+abbrev pub face_notes : (quoted : Bool) → Place → Face → List Item
+face_notes quoted place (meanings.unknown name) = says UnknownFont place (shown_part quoted name) ∷ []
+face_notes quoted place _ = []
 
 -- those of the number in `\h` stand in `page_scopes_text`, with its value
-abbrev pub meaning_notes : Place → List ℕ → Meaning → List Item
-meaning_notes place bytes (meanings.undefined c) = says UndefEscape place bytes ∷ []
-meaning_notes place bytes meanings.bad = says BadEscape place bytes ∷ []
-meaning_notes place bytes meanings.unsupported = says UnsuppEscape place (take 2 bytes) ∷ []
-meaning_notes place bytes (meanings.face face) = face_notes place face
-meaning_notes place bytes _ = []
+abbrev pub meaning_notes : (quoted : Bool) → Place → List ℕ → Meaning → List Item
+meaning_notes quoted place bytes (meanings.undefined c) = says UndefEscape place (shown_part quoted bytes) ∷ []
+meaning_notes quoted place bytes meanings.bad = says BadEscape place (shown_part quoted bytes) ∷ []
+meaning_notes quoted place bytes meanings.unsupported = says UnsuppEscape place (take 2 bytes) ∷ []
+meaning_notes quoted place bytes (meanings.face face) = face_notes quoted place face
+meaning_notes quoted place bytes _ = []
 
 -- ---- what a token of a word prints
 

@@ -1,14 +1,15 @@
 //! Tokens of words: their messages, and what they print (roff(7), "ESCAPE SEQUENCES").
 
-ghost use Rattle.std.specs.Prelude.{◌≡◌, ◌∷◌, [], option_map};
+ghost use Rattle.std.specs.Prelude.{◌≡◌, ◌∷◌, [], ◌≤◌, length, take, option_map};
 ghost use Rattle.page_core_base.specs.Latches.{Came};
 ghost use Rattle.page_core_base.specs.Pieces.{piece_of};
 ghost use Rattle.page_core_escapes.specs.Escapes.{face_seen, meaning_seen};
-ghost use Rattle.page_core_escapes.specs.Tokens.{token_seen};
+ghost use Rattle.page_core_escapes.specs.Tokens.{token_seen, unpaired};
 ghost use Rattle.page_scopes_words.specs.Words as words;
 ghost use Rattle.page_scopes_words.specs.Words.{says};
 
-use page_core_base::{Font, Note, NoteKind, Piece, PieceOut, Place};
+use arrayvec::ArrayVec;
+use page_core_base::{DETAIL, Font, Note, NoteKind, Piece, PieceOut, Place};
 use page_core_escapes::{Escape, FontName, Token};
 
 /// Gives a message about a place, with a detail that is cut to 64 bytes.
@@ -19,25 +20,71 @@ pub fn report<O: PieceOut>(out: &mut O, kind: NoteKind, place: Place, detail: &[
     out.report(&Note::about(kind, place, detail));
 }
 
-/// Reports a name that no font has.
-#[inline(always)]
-pub fn report_font<O: PieceOut>(out: &mut O, place: Place, name: FontName<'_>)
-    ensures { Came O.left out.old (words.face_notes place (face_seen name.entry)) out.new }
+// What follows a byte in a quoted argument: of a pair of quotes the second is passed over.
+fn after_byte(byte: u8, after: &[u8]) -> &[u8]
+    ensures value { unpaired (byte ∷ after.now) ≡ byte ∷ unpaired result.now }
+    ensures within { length result.now ≤ length after.now }
 {
-    match name {
-        FontName::R | FontName::I | FontName::B | FontName::BI | FontName::Former => {}
-        FontName::Unknown(name) => report(out, NoteKind::UnknownFont, place, name),
+    match after {
+        [next, rest @ ..] if byte == b'"' && *next == b'"' => rest,
+        _ => after,
     }
 }
 
-/// Gives the message of an escape; `\h` has none here, since its number is read where its value is.
+// As much of a part of a quoted argument as a message shows: a pair of quotes is one quote.
+#[inline(never)]
+fn unpaired_front(part: &[u8]) -> ArrayVec<u8, DETAIL>
+    ensures { result.items ≡ take 64 (unpaired part.now) }
+{
+    let mut front = ArrayVec::new();
+    let mut rest = part;
+    while !rest.is_empty() && !front.is_full() {
+        let byte = rest[0];
+        front.push(byte);
+        rest = after_byte(byte, &rest[1..]);
+    }
+    front
+}
+
+// Gives a message about a part of a text, which is that of a quoted argument or not.
+#[inline(never)]
+fn report_part<O: PieceOut>(out: &mut O, quoted: bool, kind: NoteKind, place: Place, part: &[u8])
+    ensures { Came O.left out.old (says kind place (words.shown_part quoted part.now) ∷ []) out.new }
+{
+    if quoted {
+        report(out, kind, place, unpaired_front(part).as_slice());
+    } else {
+        report(out, kind, place, part);
+    }
+}
+
+/// Reports a name that no font has; `quoted` says whether it stands in a quoted argument.
 #[inline(always)]
-pub fn report_escape<O: PieceOut>(out: &mut O, place: Place, bytes: &[u8], meaning: Escape<'_>)
-    ensures { Came O.left out.old (words.meaning_notes place bytes.now (meaning_seen meaning.entry)) out.new }
+pub fn report_font<O: PieceOut>(out: &mut O, quoted: bool, place: Place, name: FontName<'_>)
+    ensures { Came O.left out.old (words.face_notes quoted place (face_seen name.entry)) out.new }
+{
+    match name {
+        FontName::R | FontName::I | FontName::B | FontName::BI | FontName::Former => {}
+        FontName::Unknown(name) => report_part(out, quoted, NoteKind::UnknownFont, place, name),
+    }
+}
+
+/// Gives the message of an escape; `\h` has none here, since its number is read where its value is. In a quoted argument a pair
+/// of quotes is shown as one.
+#[inline(always)]
+pub fn report_escape<O: PieceOut>(
+    out: &mut O,
+    quoted: bool,
+    place: Place,
+    bytes: &[u8],
+    meaning: Escape<'_>,
+)
+    ensures { Came O.left out.old
+        (words.meaning_notes quoted place bytes.now (meaning_seen meaning.entry)) out.new }
 {
     match meaning {
-        Escape::Undefined(_) => report(out, NoteKind::UndefEscape, place, bytes),
-        Escape::Bad => report(out, NoteKind::BadEscape, place, bytes),
+        Escape::Undefined(_) => report_part(out, quoted, NoteKind::UndefEscape, place, bytes),
+        Escape::Bad => report_part(out, quoted, NoteKind::BadEscape, place, bytes),
         Escape::Unsupported => {
             report(
                 out,
@@ -46,7 +93,7 @@ pub fn report_escape<O: PieceOut>(out: &mut O, place: Place, bytes: &[u8], meani
                 &bytes[..bytes.len().min(2)],
             )
         }
-        Escape::Font(name) => report_font(out, place, name),
+        Escape::Font(name) => report_font(out, quoted, place, name),
         _ => {}
     }
 }

@@ -1,4 +1,5 @@
-use Rattle.std.proofs.Common.{inl, inr}
+use Rattle.std.proofs.Common.{inl, inr, rules, tests}
+use Rattle.page_core_escapes.specs.Meanings.{face_of}
 use Rattle.page_core_escapes.proofs.FontLemmas.{roman_letter, first_digit, italic_letter, second_digit, bold_letter, third_digit, fourth_digit, former_letter}
 use Rattle.page_core_escapes.proofs.meaning.font_by_letter.Goals as goal
 
@@ -16,3 +17,7 @@ returns-in-52 c = rw c.in-52.is fourth_digit
 
 pub returns-in-80 : goal.returns-in-80
 returns-in-80 c = rw c.in-80.is former_letter
+
+pub returns-in_default : goal.returns-in_default
+unfolding face_of
+returns-in_default c = search (tests, rules)

@@ -5,11 +5,11 @@ use Rattle.page_core_escapes.proofs.MeaningLemmas.{meaning_of-short, meaning_of-
 use Rattle.page_core_escapes.proofs.meaning.read_meaning.Goals as goal
 
 pub returns-then-escape-lt2 : goal.returns-then-escape-lt2
-returns-then-escape-lt2 c = meaning_of-short c.args.escape.now c.if-escape-lt2.true
+returns-then-escape-lt2 c = meaning_of-short c.args.pairs c.args.escape.now c.if-escape-lt2.true
 
 pub returns : goal.returns
 returns c =
     let t = c.args.escape.now in
     c.meaning_by.ensures ∙ ap (λ a. meaning_by c.letter_of-letter.result.kind a (take (length t - 1) (drop 1 t))) c.argument.ensures
-    ∙ ap₂ letter_meaning c.letter_of-letter.ensures (slice_from t 1)
-    ∙ meaning_of-parts t c.if-escape-lt2.false
+    ∙ ap₂ (letter_meaning c.args.pairs) c.letter_of-letter.ensures (slice_from t 1)
+    ∙ meaning_of-parts c.args.pairs t c.if-escape-lt2.false

@@ -2,49 +2,49 @@ use Rattle.std.proofs.Common.{◌≡◌, ◌+◌, ◌-◌, ◌≤◌, Some, [], 
 use Rattle.std.proofs.lemmas.List.{length-take}
 use Rattle.std.proofs.lemmas.List.Elements.{All-push, All-nil, All-take}
 use Rattle.page_core_escapes.specs.Steps.{first_character}
-use Rattle.page_core_escapes.proofs.Contents.{character_len-fits}
+use Rattle.page_core_escapes.proofs.Contents.{written_len-fits}
 use Rattle.page_core_escapes.proofs.Unwinding.{total_len, quoted_len-none, quoted_len-some, total_len-passes, total_len-opens, total_len-closes, total_len-stops, total_len-end, delimiters, delimiters-push, delimiters-open, delimiters-first, delimiters-none, step_of-slice_from, passes_within, opens_within, closes_within}
 use Rattle.page_core_escapes.proofs.quoted.nested_len.Goals as goal
 
 pub returns-in_err-at-clause-value : goal.returns-in_err-at-clause-value
 returns-in_err-at-clause-value c =
-    c.from_residual.ensures ∙ sym (quoted_len-none c.args.text.now (sym c.character_len.ensures.value ∙ c.in_err-at.was))
+    c.from_residual.ensures ∙ sym (quoted_len-none c.args.pairs c.args.text.now (sym c.written_len.ensures.value ∙ c.in_err-at.was))
 
 pub loop-place-init : goal.loop-place-init
 loop-place-init c =
     let t = c.args.text.now in
-    let is = sym c.character_len.ensures.value ∙ c.in_ok-at.was in
-    let fits = character_len-fits t _ is in
+    let is = sym c.written_len.ensures.value ∙ c.in_ok-at.was in
+    let fits = written_len-fits c.args.pairs t _ is in
     let items : c.push.new.self.items ≡ 0 ∷ [] = c.push.ensures.items ∙ ap (λ l. l ++ 0 ∷ []) c.new-open.ensures in
     record {
       inside = fits.1;
       few = let one = ap length items in omega arith;
       places = subst (λ l. All (λ p. p ≤ length t) l) (sym items) (All-push (λ p. p ≤ length t) [] 0 (All-nil (λ p. p ≤ length t)) (omega arith));
-      same = quoted_len-some t _ is ∙ ap (λ ds. total_len ds t c.in_ok-at.at) (sym (ap (delimiters t) items ∙ delimiters-first t _ is));
+      same = quoted_len-some c.args.pairs t _ is ∙ ap (λ ds. total_len c.args.pairs ds t c.in_ok-at.at) (sym (ap (delimiters c.args.pairs t) items ∙ delimiters-first c.args.pairs t _ is));
     }
 
 pub returns-in_err-len-clause-value : goal.returns-in_err-len-clause-value
 returns-in_err-len-clause-value c =
     let t = c.args.text.now in
-    let open_is = delimiters-open t c.loop-place.open.items _ _ c.in-Some.place.now c.deref.ensures.0 c.in-Some.ensures.value c.first_character-delimiter.ensures in
+    let open_is = delimiters-open c.args.pairs t c.loop-place.open.items _ _ c.in-Some.place.now c.deref.ensures.0 c.in-Some.ensures.value c.first_character-delimiter.ensures in
     c.from_residual-in_err-len.ensures
     ∙ sym (c.loop-place.invariant.same
-    ∙ ap (λ ds. total_len ds t c.loop-place.at) open_is
-    ∙ total_len-stops _ _ _ _ (step_of-slice_from _ t c.loop-place.at _ (sym c.in_err-len.was ∙ c.next_step.ensures.value)))
+    ∙ ap (λ ds. total_len c.args.pairs ds t c.loop-place.at) open_is
+    ∙ total_len-stops c.args.pairs _ _ _ _ (step_of-slice_from c.args.pairs _ t c.loop-place.at _ (sym c.in_err-len.was ∙ c.next_step.ensures.value)))
 
 pub loop-place-preserved-in-Passes : goal.loop-place-preserved-in-Passes
 loop-place-preserved-in-Passes c =
     let t = c.args.text.now in
-    let open_is = delimiters-open t c.loop-place.open.items _ _ c.in-Some.place.now c.deref.ensures.0 c.in-Some.ensures.value c.first_character-delimiter.ensures in
+    let open_is = delimiters-open c.args.pairs t c.loop-place.open.items _ _ c.in-Some.place.now c.deref.ensures.0 c.in-Some.ensures.value c.first_character-delimiter.ensures in
     record {
       inside = (passes_within t c.loop-place.at _ _ c.loop-place.invariant.inside c.in_ok-len.ensures.bound c.in-Passes.is).1;
       few = omega arith;
       places = c.loop-place.invariant.places;
       same =
           c.loop-place.invariant.same
-          ∙ ap (λ ds. total_len ds t c.loop-place.at) open_is
-          ∙ total_len-passes _ _ _ _ _ (step_of-slice_from _ t c.loop-place.at _ (sym (c.in_ok-len.was ∙ ap Some c.in-Passes.is) ∙ c.next_step.ensures.value))
-          ∙ ap (λ ds. total_len ds t (c.loop-place.at + c.in-Passes.len)) (sym open_is);
+          ∙ ap (λ ds. total_len c.args.pairs ds t c.loop-place.at) open_is
+          ∙ total_len-passes c.args.pairs _ _ _ _ _ (step_of-slice_from c.args.pairs _ t c.loop-place.at _ (sym (c.in_ok-len.was ∙ ap Some c.in-Passes.is) ∙ c.next_step.ensures.value))
+          ∙ ap (λ ds. total_len c.args.pairs ds t (c.loop-place.at + c.in-Passes.len)) (sym open_is);
     }
 
 pub loop-place-preserved-in-Opens : goal.loop-place-preserved-in-Opens
@@ -52,7 +52,7 @@ loop-place-preserved-in-Opens c =
     let t = c.args.text.now in
     let at = c.loop-place.at in
     let from = c.in-Opens.from in
-    let open_is = delimiters-open t c.loop-place.open.items _ _ c.in-Some.place.now c.deref.ensures.0 c.in-Some.ensures.value c.first_character-delimiter.ensures in
+    let open_is = delimiters-open c.args.pairs t c.loop-place.open.items _ _ c.in-Some.place.now c.deref.ensures.0 c.in-Some.ensures.value c.first_character-delimiter.ensures in
     let within = opens_within t at _ _ _ c.loop-place.invariant.inside c.in_ok-len.ensures.bound c.in-Opens.is in
     record {
       inside = within.2;
@@ -60,29 +60,29 @@ loop-place-preserved-in-Opens c =
       places = subst (λ l. All (λ p. p ≤ length t) l) (sym c.push-in-Opens.ensures.items) (All-push (λ p. p ≤ length t) c.loop-place.open.items (at + from) c.loop-place.invariant.places (omega (arith, within.2)));
       same =
           c.loop-place.invariant.same
-          ∙ ap (λ ds. total_len ds t at) open_is
-          ∙ total_len-opens _ _ _ _ _ _ (step_of-slice_from _ t at _ (sym (c.in_ok-len.was ∙ ap Some c.in-Opens.is) ∙ c.next_step.ensures.value))
-          ∙ ap (λ ds. total_len (first_character (drop (at + from) t) ∷ ds) t (at + (from + c.in-Opens.mark))) (sym open_is)
-          ∙ ap (λ ds. total_len ds t (at + (from + c.in-Opens.mark))) (sym (ap (delimiters t) c.push-in-Opens.ensures.items ∙ delimiters-push t c.loop-place.open.items (at + from)));
+          ∙ ap (λ ds. total_len c.args.pairs ds t at) open_is
+          ∙ total_len-opens c.args.pairs _ _ _ _ _ _ (step_of-slice_from c.args.pairs _ t at _ (sym (c.in_ok-len.was ∙ ap Some c.in-Opens.is) ∙ c.next_step.ensures.value))
+          ∙ ap (λ ds. total_len c.args.pairs (first_character c.args.pairs (drop (at + from) t) ∷ ds) t (at + (from + c.in-Opens.mark))) (sym open_is)
+          ∙ ap (λ ds. total_len c.args.pairs ds t (at + (from + c.in-Opens.mark))) (sym (ap (delimiters c.args.pairs t) c.push-in-Opens.ensures.items ∙ delimiters-push c.args.pairs t c.loop-place.open.items (at + from)));
     }
 
 pub loop-place-preserved : goal.loop-place-preserved
 loop-place-preserved c =
     let t = c.args.text.now in
-    let open_is = delimiters-open t c.loop-place.open.items _ _ c.in-Some.place.now c.deref.ensures.0 c.in-Some.ensures.value c.first_character-delimiter.ensures in
+    let open_is = delimiters-open c.args.pairs t c.loop-place.open.items _ _ c.in-Some.place.now c.deref.ensures.0 c.in-Some.ensures.value c.first_character-delimiter.ensures in
     record {
       inside = closes_within t c.loop-place.at _ _ c.loop-place.invariant.inside c.in_ok-len.ensures.bound c.in-Closes.is;
       few = let fewer = ap length c.pop.ensures.rest in omega (arith, length-take (length c.loop-place.open.items - 1) c.loop-place.open.items);
       places = subst (λ l. All (λ p. p ≤ length t) l) (sym c.pop.ensures.rest) (All-take (λ p. p ≤ length t) (length c.loop-place.open.items - 1) c.loop-place.open.items c.loop-place.invariant.places);
       same =
           c.loop-place.invariant.same
-          ∙ ap (λ ds. total_len ds t c.loop-place.at) open_is
-          ∙ total_len-closes _ _ _ _ _ (step_of-slice_from _ t c.loop-place.at _ (sym (c.in_ok-len.was ∙ ap Some c.in-Closes.is) ∙ c.next_step.ensures.value))
-          ∙ ap (λ l. total_len (delimiters t l) t (c.loop-place.at + c.in-Closes.len)) (sym c.pop.ensures.rest);
+          ∙ ap (λ ds. total_len c.args.pairs ds t c.loop-place.at) open_is
+          ∙ total_len-closes c.args.pairs _ _ _ _ _ (step_of-slice_from c.args.pairs _ t c.loop-place.at _ (sym (c.in_ok-len.was ∙ ap Some c.in-Closes.is) ∙ c.next_step.ensures.value))
+          ∙ ap (λ l. total_len c.args.pairs (delimiters c.args.pairs t l) t (c.loop-place.at + c.in-Closes.len)) (sym c.pop.ensures.rest);
     }
 
 pub returns-clause-value : goal.returns-clause-value
 returns-clause-value c =
     let t = c.args.text.now in
-    let none = delimiters-none t c.loop-place.open.items _ c.deref.ensures.0 c.in_default.ensures.value in
-    sym (c.loop-place.invariant.same ∙ ap (λ ds. total_len ds t c.loop-place.at) none ∙ total_len-end t c.loop-place.at)
+    let none = delimiters-none c.args.pairs t c.loop-place.open.items _ c.deref.ensures.0 c.in_default.ensures.value in
+    sym (c.loop-place.invariant.same ∙ ap (λ ds. total_len c.args.pairs ds t c.loop-place.at) none ∙ total_len-end c.args.pairs t c.loop-place.at)

@@ -8,7 +8,7 @@ invariant-loop-place l = record {
   inside : l.at ≤ length l.text;
   few : 3 * length l.open.items ≤ l.at + 2;
   places : All (λ p. p ≤ length l.text) l.open.items;
-  same : quoted_len content_len l.text ≡ total_len (delimiters l.text l.open.items) l.text l.at;
+  same : quoted_len l.pairs (content_len l.pairs) l.text ≡ total_len l.pairs (delimiters l.pairs l.text l.open.items) l.text l.at;
 }
 
 abbrev pub decreases-loop-place : goal.decreases-loop-place

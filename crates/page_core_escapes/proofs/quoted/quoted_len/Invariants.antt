@@ -6,7 +6,7 @@ use Rattle.page_core_escapes.proofs.quoted.quoted_len.Given as goal
 abbrev pub invariant-loop-len : goal.invariant-loop-len
 invariant-loop-len l = record {
   inside : l.at ≤ length l.text;
-  same : quoted_len content_len l.text ≡ total_len (l.delimiter ∷ []) l.text l.at;
+  same : quoted_len l.pairs (content_len l.pairs) l.text ≡ total_len l.pairs (l.delimiter ∷ []) l.text l.at;
 }
 
 abbrev pub decreases-loop-len : goal.decreases-loop-len

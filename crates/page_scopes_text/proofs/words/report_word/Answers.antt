@@ -9,11 +9,11 @@ use Rattle.page_scopes_text.specs.Words.{token_notes, word_notes}
 use Rattle.page_scopes_text.proofs.words.report_word.Goals as goal
 
 notes_more : (quoted : Bool) (place : Place) (text : List ℕ) (n : ℕ) → begins_word text ≡ true → 0 < n → n ≡ token_len quoted text
-    → word_notes place (words_of quoted text).word ≡ token_notes place (token_at quoted text) ++ word_notes place (words_of quoted (drop n text)).word
-notes_more quoted place text n h k e = ap (λ (t : Parted). word_notes place t.word) (words_more quoted text n h k e)
+    → word_notes quoted place (words_of quoted text).word ≡ token_notes quoted place (token_at quoted text) ++ word_notes quoted place (words_of quoted (drop n text)).word
+notes_more quoted place text n h k e = ap (λ (t : Parted). word_notes quoted place t.word) (words_more quoted text n h k e)
 
-notes_none : (quoted : Bool) (place : Place) (text : List ℕ) → begins_word text ≡ false → word_notes place (words_of quoted text).word ≡ []
-notes_none quoted place text h = ap (word_notes place) (no_word quoted text h)
+notes_none : (quoted : Bool) (place : Place) (text : List ℕ) → begins_word text ≡ false → word_notes quoted place (words_of quoted text).word ≡ []
+notes_none quoted place text h = ap (word_notes quoted place) (no_word quoted text h)
 
 pub loop-rest-smaller : goal.loop-rest-smaller
 loop-rest-smaller g c =

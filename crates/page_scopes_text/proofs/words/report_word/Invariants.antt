@@ -7,7 +7,7 @@ use Rattle.page_scopes_text.proofs.words.report_word.Given as goal
 
 abbrev pub invariant-loop-rest : goal.invariant-loop-rest
 invariant-loop-rest g l =
-    CameUpTo g.O.PieceOut.left l.fn.out (word_notes l.place (words_of l.quoted l.text).word) (word_notes l.place (words_of l.quoted l.rest).word) l.out
+    CameUpTo g.O.PieceOut.left l.fn.out (word_notes l.quoted l.place (words_of l.quoted l.text).word) (word_notes l.quoted l.place (words_of l.quoted l.rest).word) l.out
     × (length l.rest ≤ LINE)
 
 abbrev pub decreases-loop-rest : goal.decreases-loop-rest
