@@ -150,11 +150,7 @@ impl Edge {
     }
 
     /// Ends the open row. Its faults are those of the sinks.
-    pub fn end<R: RowSink, N: NoteSink>(
-        &mut self,
-        rows: &mut R,
-        notes: &mut N,
-    ) -> Result<(), Fault>
+    pub fn end<R: RowSink, N: NoteSink>(&mut self, rows: &mut R, notes: &mut N) -> Result<(), Fault>
         ensures gets { Gets result R.gave R.within N.gave N.within rows.old rows.new notes.old notes.new
             (fill.ended self.old) }
         ensures faults { FailsBySink result (R.failed rows.old) (R.failed rows.new) (N.failed notes.old)
