@@ -8,10 +8,10 @@ use Rattle.page_core_base.specs.declared.faults.Fault.TheVariants.{Memory, Read,
 use Rattle.page_core_base.specs.declared.pieces.Piece.{Piece}
 use Rattle.page_core_base.specs.Laid.{Laid, Gave, Gets, join}
 use Rattle.page_core_base.specs.Fails.{FailsAs, FailsBySink, IsPieceFault, IsSinkFault}
-use Rattle.page_fill.specs.declared.words.Edge.{Edge as FillEdge}
-use Rattle.page_fill.specs.Fill as fill
+use Rattle.page_fill_steps.specs.declared.edges.Edge.{Edge as FillEdge}
 use Rattle.page_core_base.specs.Pieces.{Item, shown, noted}
-use Rattle.page_fill.specs.Items.{laid_item, laid_items}
+use Rattle.page_fill.specs.ByPiece.{laid_item, laid_items}
+use Rattle.page_fill.specs.Filling.{filled}
 use Rattle.page_engine.specs.PageSinks.{Passed, Broken, Ends, Quiet, cause_later}
 
 pub laid_items_one : (row : FillEdge) (x : Item) → laid_items row (x ∷ []) ≡ laid_item row x
@@ -33,8 +33,8 @@ sink_cause (BadIndex m) r r' n n' cause = absurd cause
 -- what a filler says of a piece is what is asked of a sink
 pub piece_passes : {R N : Type 0} (rg rw_ : R → List LaidRow → R → Type 0) (rf : R → ℕ) (ng nw : N → List Message → N → Type 0) (nf : N → ℕ)
     (res : Result (Unit {0}) Fault) (f f' : Option FillEdge) (r r' : R) (n n' : N) (piece : Piece (List ℕ))
-    → ((e : FillEdge) → f ≡ Some e → Gets res rg rw_ ng nw r r' n n' (fill.laid_piece e piece))
-    → ((e : FillEdge) → f ≡ Some e → OnOk res (f' ≡ Some (fill.laid_piece e piece).edge))
+    → ((e : FillEdge) → f ≡ Some e → Gets res rg rw_ ng nw r r' n n' (filled e (shown piece ∷ [])))
+    → ((e : FillEdge) → f ≡ Some e → OnOk res (f' ≡ Some (filled e (shown piece ∷ [])).edge))
     → ((e : FillEdge) → f ≡ Some e → FailsBySink res (rf r) (rf r') (nf n) (nf n'))
     → (f ≡ None → (res ≡ Err Failed) × (r' ≡ r) × (n' ≡ n))
     → MatchResult res

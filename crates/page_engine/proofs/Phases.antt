@@ -4,7 +4,7 @@ use Rattle.std.proofs.Math.Path.{subst}
 use Rattle.page_core_base.specs.Fails.{IsSinkFault}
 use Rattle.page_core_base.specs.declared.faults.Fault.{Fault}
 use Rattle.page_core_base.specs.declared.faults.Fault.TheVariants as faults
-use Rattle.page_fill.specs.declared.words.Edge.{Edge as FillEdge}
+use Rattle.page_fill_steps.specs.declared.edges.Edge.{Edge as FillEdge}
 use Rattle.page_engine.specs.declared.pages.Phase.{Phase}
 use Rattle.page_engine.specs.declared.pages.Phase.TheVariants.{Open, Failed}
 use Rattle.page_core_base.specs.declared.note_kinds.Level.{Level}

@@ -6,12 +6,13 @@ use Rattle.page_core_base.specs.Laid.{Laid, nothing, join, seq, join_assoc}
 use Rattle.page_core_base.specs.Messages.{Message}
 use Rattle.page_core_base.specs.Pieces.{Item, noted}
 use Rattle.page_core_base.specs.declared.page_settings.Settings.{Settings}
-use Rattle.page_fill.specs.Fill as fill
-use Rattle.page_fill.specs.Items.{laid_items, laid_items-append}
-use Rattle.page_fill.specs.declared.words.Edge.{Edge as FillEdge}
-use Rattle.page_fill_laws.specs.Filling.{filled, row_end}
-use Rattle.page_fill_laws.proofs.FillingLaw.{items-law, cut-law, held-law, end-law}
-use Rattle.page_fill_laws.proofs.HeldSheets.{fresh-held}
+use Rattle.page_fill_steps.specs.Edges as fill
+use Rattle.page_fill.specs.ByPiece.{laid_items, laid_items-append}
+use Rattle.page_fill_steps.specs.declared.edges.Edge.{Edge as FillEdge}
+use Rattle.page_fill.specs.Filling.{filled, row_end}
+use Rattle.page_fill.proofs.FillerLaw.{items-law}
+use Rattle.page_fill.proofs.FillingLaw.{cut-law, held-law}
+use Rattle.page_fill.proofs.HeldSheets.{fresh-held}
 use Rattle.page_roff_lines.specs.Decoding.{Line}
 use Rattle.page_roff_source.specs.Edges.{SourceLine}
 use Rattle.page_engine_lines.specs.Acts.{lines_items, lines_after}
@@ -177,11 +178,8 @@ end_by_line e r =
     let a = filled e.fill end in
     let held = held-law e.fill end r.row r.word in
     let footer = footer_items e.lines e.last (fill.blank_rows_at_end a.edge) in
-    let b = filled a.edge footer in
-    let kept = held-law a.edge footer held.0 held.1 in
     let rows : footer_laid e a.edge ≡ by_line.footer_laid e a.edge =
-    ap (λ (l : Laid FillEdge). join b l) (sym (end-law b.edge kept.0 kept.1).0)
-    ∙ ap (λ (l : Laid FillEdge). join l (fill.ended l.edge)) (sym (items-law a.edge footer held.0 held.1)) in
+    ap (λ (l : Laid FillEdge). seq l row_end) (sym (items-law a.edge footer held.0 held.1)) in
     ap (λ (l : Laid FillEdge). of_page e e (join a l)) rows
     ∙ ap (λ (l : Laid FillEdge). of_page e e (join l (by_line.footer_laid e l.edge))) (sym (items-law e.fill end r.row r.word))
 

@@ -4,9 +4,10 @@ use Rattle.std.specs.Prelude.{ℕ, List, [], ◌∷◌}
 use Rattle.page_core_base.specs.Messages.{Message}
 use Rattle.page_core_base.specs.Laid.{Laid, nothing, seq}
 use Rattle.page_engine_lines.specs.Lines.{source_items, source_after, end_items, footer_items}
-use Rattle.page_fill.specs.Fill as fill
-use Rattle.page_fill.specs.Items.{laid_items}
-use Rattle.page_fill.specs.declared.words.Edge.{Edge as FillEdge}
+use Rattle.page_fill.specs.ByPiece.{laid_items}
+use Rattle.page_fill.specs.Filling.{row_end}
+use Rattle.page_fill_steps.specs.Edges as fill
+use Rattle.page_fill_steps.specs.declared.edges.Edge.{Edge as FillEdge}
 use Rattle.page_roff_lines.specs.Decoding.{Line}
 use Rattle.page_engine.specs.Page.{Edge, of_page}
 
@@ -36,7 +37,7 @@ settled e (line ∷ lines) = seq (settled_line e line) (λ f. settled f lines)
 -- what roff left open, the body's end, the footer, and the end of filling
 abbrev pub footer_laid : Edge → FillEdge → Laid FillEdge
 footer_laid e f =
-    seq (laid_items f (footer_items e.lines e.last (fill.blank_rows_at_end f))) (λ h. fill.ended h)
+    seq (laid_items f (footer_items e.lines e.last (fill.blank_rows_at_end f))) row_end
 
 abbrev pub end_laid : Edge → Laid FillEdge
 end_laid e = seq (laid_items e.fill (end_items e.lines e.last)) (λ f. footer_laid e f)

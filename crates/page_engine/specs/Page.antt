@@ -10,11 +10,11 @@ use Rattle.page_core_base.specs.Laid.{Laid, seq}
 use Rattle.page_core_base.specs.Pieces.{Item}
 use Rattle.page_engine_lines.specs.Acts as acts
 use Rattle.page_engine_lines.specs.Acts.{raw_line, lines_items, lines_after}
-use Rattle.page_fill.specs.declared.words.Edge.{Edge as FillEdge}
-use Rattle.page_fill.specs.Edges as fill
+use Rattle.page_fill_steps.specs.declared.edges.Edge.{Edge as FillEdge}
+use Rattle.page_fill_steps.specs.Edges as fill
 use Rattle.page_engine_lines.specs.Lines.{LinesEdge, footer_items, start_of}
-use Rattle.page_fill.specs.Caps.{IsHeld, is_sound}
-use Rattle.page_fill_laws.specs.Filling.{filled, row_end}
+use Rattle.page_fill_steps.specs.Caps.{IsHeld, is_sound}
+use Rattle.page_fill.specs.Filling.{filled, row_end}
 use Rattle.page_roff_lines.specs.Decoding.{Line}
 use Rattle.page_roff_source.specs.Edges.{SourceLine, counts_of}
 use Rattle.page_roff_source.specs.declared.counts.Counts.{Counts}

@@ -1,6 +1,6 @@
-pub mod Edges
-pub mod Fill
-pub mod PlainWords
+pub mod Filled
+pub mod PieceWords
+pub mod Filling
 pub mod TakenWords
-pub mod Caps
-pub mod Items
+pub mod ByPiece
+pub mod Words

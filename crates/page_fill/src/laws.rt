@@ -1,16 +1,104 @@
-//! Laws of filling.
+//! Laws of filling (roff(7), "Filling and adjusting").
 
-ghost use Rattle.std.specs.Prelude.{◌≡◌, ℕ, List, ◌++◌};
-ghost use Rattle.page_core_base.specs.Laid.{join};
-ghost use Rattle.page_core_base.specs.declared.pieces.Piece.{Piece};
-ghost use Rattle.page_fill.specs.Fill as fill;
+ghost use Rattle.std.specs.Prelude.{◌≡◌, ℕ, ◌+◌, ◌<◌, ◌≤◌, Bool, true, false, List, [], ◌∷◌, ◌++◌, length, IsUtf8};
+ghost use Rattle.page_core_base.specs.Laid.{nothing, join};
+ghost use Rattle.page_core_base.specs.Pieces.{Item, shown};
+ghost use Rattle.page_core_base.specs.declared.cells.Cell.{Cell};
+ghost use Rattle.page_core_base.specs.declared.cells.Font.{Font};
+ghost use Rattle.page_core_base.specs.declared.pieces.Piece.TheVariants.{Text, Blank, Glue, Split};
+ghost use Rattle.page_core_base.specs.declared.places.Place.{Place};
+ghost use Rattle.page_core_limits.specs.declared.TheConstants.{CELLS};
+ghost use Rattle.page_fill_steps.specs.Caps.{IsHeld, is_sound};
+ghost use Rattle.page_fill_steps.specs.Edges as edges;
+ghost use Rattle.page_fill_steps.specs.declared.edges.Edge.{Edge};
+ghost use Rattle.page_fill_rows.specs.Characters.{cells_of};
+ghost use Rattle.page_fill_rows.specs.OpenRows as open_rows;
+ghost use Rattle.page_fill_rows.specs.Plain.{is_printable_ascii};
+ghost use Rattle.page_fill.specs.ByPiece.{laid_items};
+ghost use Rattle.page_fill.specs.Filled.{Frame, Row, one_word};
+ghost use Rattle.page_fill.specs.Filling as filling;
+ghost use Rattle.page_fill.specs.PieceWords as pieces;
+ghost use Rattle.page_fill.specs.Words as row;
 
-/// A law of the steps alone, of which `words_law` of page_fill_laws speaks in words: pieces may be cut anywhere. What is settled is that of the
-/// front, and that of the rest from what is held after the front.
-pub fn cut_law()
-    ensures laid { (e : fill.Edge) (front rest : List (Piece (List ℕ)))
-        → fill.laid e (front ++ rest) ≡ join (fill.laid e front) (fill.laid (fill.laid e front).edge rest) }
-    ensures filled { (e : fill.Edge) (front rest : List (Piece (List ℕ)))
-        → fill.filled e (front ++ rest) ≡ join (fill.laid e front) (fill.filled
-        (fill.laid e front).edge rest) }
+/// What a filler lays piece by piece is what the definition says of the whole list: pieces and the messages among them are groups of
+/// words, which fill rows, and what stands between such groups; and a list may be cut anywhere. So it is at each edge that a page comes
+/// to: the premises on the sheet and the open word hold from the start of a page on.
+pub fn words_law()
+    ensures items { (e : Edge) (items : List Item) → IsHeld e.sheet → is_sound e.word ≡ true
+        → laid_items e items ≡ filling.filled e items }
+    ensures cut { (e : Edge) (above below : List Item) → IsHeld e.sheet → is_sound e.word ≡ true
+        → filling.filled e (above ++ below) ≡ join (filling.filled e above) (filling.filled (filling.filled e above).edge below) }
+    ensures held { (e : Edge) (items : List Item) → IsHeld e.sheet → is_sound e.word ≡ true
+        → IsHeld (filling.filled e items).edge.sheet × (is_sound (filling.filled e items).edge.word ≡ true) }
+    ensures end { (e : Edge) → IsHeld e.sheet → is_sound e.word ≡ true
+        → IsHeld (filling.row_end e).edge.sheet × (is_sound (filling.row_end e).edge.word ≡ true) }
+    ensures start { (width : ℕ) → IsHeld (open_rows.fresh width) × (is_sound edges.no_word ≡ true) }
+{}
+
+/// Texts that are glued are one word, whatever blanks stand between them.
+pub fn glue_law()
+    ensures { (e : Edge) (a b : List ℕ) (font : Font) (place : Place) (n : ℕ) (has_tab : Bool)
+        → e.word.is_joined ≡ false → IsUtf8 a → IsUtf8 b → 0 < length a
+        → filling.filled e (shown (Text a font place) ∷ shown (Blank n has_tab) ∷ shown Glue ∷ shown (Text b font place) ∷ [])
+        ≡ filling.filled e (shown (Text (a ++ b) font place) ∷ []) }
+{}
+
+/// A row takes the next word with its blanks where margin and columns stay within the width; else the row ends before the word, which
+/// begins the next row. A row's first word is taken whatever its columns are, up to `CELLS` cells: so the columns of a filled row pass
+/// the width only where its first word alone does.
+pub fn word_law()
+    ensures fits { (frame : Frame) (r : Row) (n : ℕ) (cells : List Cell) (place : Place)
+        → 0 < length r.cells → length r.cells + n + length cells ≤ CELLS
+        → r.margin + open_rows.columns r.cells + n + open_rows.columns cells ≤ frame.width
+        → one_word frame r (row.word_of_cells n cells place) ≡ nothing (row.with_word r n cells) }
+    ensures passes { (frame : Frame) (r : Row) (n : ℕ) (cells : List Cell) (place : Place)
+        → frame.fills ≡ true → 0 < length r.cells → length r.cells + n + length cells ≤ CELLS
+        → r.margin + open_rows.columns r.cells + n ≤ frame.width
+        → frame.width < r.margin + open_rows.columns r.cells + n + open_rows.columns cells
+        → one_word frame r (row.word_of_cells n cells place) ≡ row.word_wrapped frame r n cells }
+    ensures blanks_pass { (frame : Frame) (r : Row) (n : ℕ) (cell : Cell) (cells : List Cell) (place : Place)
+        → frame.fills ≡ true → 0 < length r.cells → length r.cells + n ≤ CELLS
+        → frame.width < r.margin + open_rows.columns r.cells + n → 0 < n → length (cell ∷ cells) ≤ CELLS
+        → one_word frame r (row.word_of_cells n (cell ∷ cells) place)
+        ≡ row.word_wrapped frame r (row.fitting frame r) (cell ∷ cells) }
+    ensures first { (frame : Frame) (r : Row) (n : ℕ) (cell : Cell) (cells : List Cell) (place : Place)
+        → length r.cells ≡ 0 → length (cell ∷ cells) ≤ CELLS
+        → one_word frame r (row.word_of_cells n (cell ∷ cells) place)
+        ≡ nothing (row.word_first frame r (cell ∷ cells)) }
+{}
+
+/// A row takes the next part of its last word where margin and columns stay within the width; else the row ends before that part, which
+/// begins the next row. So a word of two parts is in the row whole, with its last part at the second one, or the row ends between them.
+pub fn part_law()
+    ensures fits { (e : Edge) (part : List ℕ) (font : Font) (place : Place)
+        → e.word.is_joined ≡ true → e.sheet.literal ≡ false → 0 < length e.sheet.cells
+        → is_printable_ascii part ≡ true → 0 < length part → length e.sheet.cells + length part ≤ CELLS
+        → e.sheet.margin + open_rows.columns e.sheet.cells + length part ≤ e.sheet.width
+        → filling.filled e (shown Split ∷ shown (Text part font place) ∷ [])
+        ≡ pieces.next_edge e e.word (nothing (row.with_word (pieces.open_row_of e.sheet) 0 (cells_of font part))) }
+    ensures passes { (e : Edge) (part : List ℕ) (font : Font) (place : Place)
+        → e.word.is_joined ≡ true → e.sheet.literal ≡ false → 0 < length e.sheet.cells
+        → is_printable_ascii part ≡ true → 0 < length part → length e.sheet.cells + length part ≤ CELLS
+        → e.sheet.margin + open_rows.columns e.sheet.cells ≤ e.sheet.width
+        → e.sheet.width < e.sheet.margin + open_rows.columns e.sheet.cells + length part
+        → filling.filled e (shown Split ∷ shown (Text part font place) ∷ [])
+        ≡ pieces.next_edge e e.word
+        (row.word_wrapped (pieces.frame_of e.sheet) (pieces.open_row_of e.sheet) 0 (cells_of font part)) }
+    ensures whole { (e : Edge) (a b : List ℕ) (font : Font) (place : Place)
+        → e.word.is_joined ≡ false → e.word.has_tab ≡ false → e.sheet.literal ≡ false → 0 < length e.sheet.cells
+        → is_printable_ascii a ≡ true → 0 < length a → is_printable_ascii b ≡ true → 0 < length b
+        → length e.sheet.cells + e.word.blanks + length a + length b ≤ CELLS
+        → e.sheet.margin + open_rows.columns e.sheet.cells + e.word.blanks + length a + length b ≤ e.sheet.width
+        → filling.filled e (shown (Text a font place) ∷ shown Split ∷ shown (Text b font place) ∷ [])
+        ≡ pieces.next_edge e (edges.begun_word false) (nothing (row.with_word
+        (row.with_word (pieces.open_row_of e.sheet) e.word.blanks (cells_of font a)) 0 (cells_of font b))) }
+    ensures cut { (e : Edge) (a b : List ℕ) (font : Font) (place : Place)
+        → e.word.is_joined ≡ false → e.word.has_tab ≡ false → e.sheet.literal ≡ false → 0 < length e.sheet.cells
+        → is_printable_ascii a ≡ true → 0 < length a → is_printable_ascii b ≡ true → 0 < length b
+        → length e.sheet.cells + e.word.blanks + length a + length b ≤ CELLS
+        → e.sheet.margin + open_rows.columns e.sheet.cells + e.word.blanks + length a ≤ e.sheet.width
+        → e.sheet.width < e.sheet.margin + open_rows.columns e.sheet.cells + e.word.blanks + length a + length b
+        → filling.filled e (shown (Text a font place) ∷ shown Split ∷ shown (Text b font place) ∷ [])
+        ≡ pieces.next_edge e (edges.begun_word false) (row.word_wrapped (pieces.frame_of e.sheet)
+        (row.with_word (pieces.open_row_of e.sheet) e.word.blanks (cells_of font a)) 0 (cells_of font b)) }
 {}

@@ -1,18 +1,14 @@
 //! Filling: pieces become rows (roff(7), "Filling and adjusting").
 //!
-//! A [`Filler`] holds one row, the open one, and gives each row to a sink as soon as no later piece can change it.
+//! In the pipeline (bytes, lines, roff, macro set, scopes, filling, rows) it takes the pieces that the scopes give, and gives rows to a
+//! sink. Between two breaks stands a list of words, each with the blanks before it; a row takes them up to the first one that passes its
+//! width. So says the definition in words that all contracts here cite: read `filled` in `specs/Filling.antt` first, and then [`Filler`].
 #![tactic(auto)]
 
 mod fillers;
 mod laws;
-mod taken_words;
-mod words;
-
-/// The greatest hang of a tag, in columns.
-pub const HANG_MAX: u32 = 1000;
-
-/// The columns from one tab stop to the next.
-pub const TAB_STOP: u32 = 8;
 
 pub use fillers::Filler;
-pub use laws::cut_law;
+pub use laws::{glue_law, part_law, word_law, words_law};
+pub use page_core_base::{Piece, PieceSink, TagForm};
+pub use page_fill_steps::{HANG_MAX, TAB_STOP};

@@ -4,11 +4,9 @@ ghost use Rattle.std.specs.Prelude.{◌≡◌, ◌<◌, length};
 ghost use Rattle.std.specs.Bool.{MatchBool};
 ghost use Rattle.page_core_base.specs.Fails.{Rose};
 
-use page_core_base::{
-    Cell, Fault, Font, Note, NoteSink, Output, Piece, Place, RowSink, Settings, TagForm,
-};
+use page_core_base::{Cell, Fault, Font, Note, NoteSink, Output, Place, RowSink, Settings};
 use page_core_writers::{TextNotes, TextRows};
-use page_fill::Filler;
+use page_fill::{Filler, Piece, TagForm};
 use std::alloc::Global;
 use std::process::Abort;
 use std::test::Fail;

@@ -1,5 +1,5 @@
 -- The open row, and what is known of the rows above it. Source: roff(7), "Filling and adjusting"; mandoc(1), "ASCII Output".
-use Rattle.std.specs.Prelude.{ℕ, ◌+◌, Bool, true, false, min, List, [], sum_by}
+use Rattle.std.specs.Prelude.{ℕ, ◌+◌, ◌≤◌, Bool, true, false, min, List, [], length, sum_by}
 use Rattle.page_core_base.specs.declared.cells.Cell.{Cell}
 use Rattle.page_core_base.specs.declared.cells.Font.TheVariants.{R}
 use Rattle.page_core_base.specs.declared.note_kinds.NoteKind.TheVariants.{Limit}
@@ -8,6 +8,7 @@ use Rattle.page_core_base.specs.Messages.{Message, message_about}
 use Rattle.page_core_base.specs.Laid.{Laid}
 use Rattle.page_core_tables.specs.Printed.{char_columns}
 use Rattle.page_core_limits.specs.Limits.{name_of}
+use Rattle.page_core_limits.specs.declared.TheConstants.{CELLS}
 use Rattle.page_core_limits.specs.declared.Limit.TheVariants.{Cells}
 use Rattle.page_fill_rows.specs.declared.TheConstants.{BLANK_ROWS}
 
@@ -41,6 +42,12 @@ pub record Sheet : Type 0 where
   -- the columns of the open tag's cells, up to TAG_COLUMNS, and whether it has a cell
   pub tag_columns : ℕ
   pub tag_begun : Bool
+
+-- the places of the open row's last word lie within the row, which has at most CELLS cells: so it is at each edge that a page comes to
+pub record IsHeld (s : Sheet) : Type 0 where
+  pub gap_within : s.gap ≤ s.word
+  pub word_within : s.word ≤ length s.cells
+  pub bounded : length s.cells ≤ CELLS
 
 -- what is laid, under another edge
 abbrev pub over : {E F : Type 0} → Laid E → (E → F) → Laid F

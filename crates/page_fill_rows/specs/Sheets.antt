@@ -1,12 +1,8 @@
--- The steps of filling: the open row, cell by cell, and what stands at the end of the rows that were given. Trust needs no reading of them, since
--- `words_law` of page_fill_laws says that they lay what the definition in words does.
--- Source: roff(7), "Filling and adjusting"; mandoc(1), "ASCII Output".
-use Rattle.std.specs.Prelude.{ℕ, zero, suc, ◌+◌, Bool, true, false, not, ◌&&◌, ◌==◌, nat_lt, min, List, [], ◌∷◌, ◌++◌, length, take, drop, replicate, sum_by, if◌then◌else◌}
+-- The steps of filling: the open row, cell by cell, and what stands at the end of the rows that were given. Trust needs no reading of
+-- them: page_fill says in words what they lay. Source: roff(7), "Filling and adjusting"; mandoc(1), "ASCII Output".
+use Rattle.std.specs.Prelude.{ℕ, zero, suc, ◌+◌, Bool, true, false, not, ◌&&◌, ◌==◌, nat_lt, min, List, [], ◌∷◌, ◌++◌, length, take, drop, replicate, if◌then◌else◌}
 use Rattle.page_core_base.specs.declared.cells.Cell.{Cell}
-use Rattle.page_core_base.specs.declared.cells.Font.TheVariants.{R}
-use Rattle.page_core_base.specs.declared.note_kinds.NoteKind.TheVariants.{Limit}
 use Rattle.page_core_base.specs.declared.places.Place.{Place}
-use Rattle.page_core_base.specs.Messages.{Message, message_about}
 use Rattle.page_core_base.specs.Rows.{row_of, is_blank_row}
 use Rattle.page_core_base.specs.Laid.{Laid, nothing, seq}
 use Rattle.page_core_limits.specs.declared.TheConstants.{CELLS}

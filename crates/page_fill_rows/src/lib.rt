@@ -1,6 +1,8 @@
 //! The open row, cell by cell, and what characters print in it (roff(7), "Filling and adjusting").
 //!
-//! An [`OpenRow`] takes cells and blanks, and gives each row to a sink as soon as no later cell can change it.
+//! In the pipeline (bytes, lines, roff, macro set, scopes, filling, rows) it is the last step: an [`OpenRow`] takes cells and blanks, and
+//! gives each row to a sink as soon as no later cell can change it. It knows words only by their places in the row; what a word is stands
+//! in `page_fill_steps`. Read `Sheet` in `specs/OpenRows.antt` first, which is all that a row holds, and then `specs/Characters.antt`.
 #![tactic(auto)]
 
 mod cell_widths;

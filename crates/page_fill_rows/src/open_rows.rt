@@ -5,6 +5,7 @@ ghost use Rattle.page_core_base.specs.Latches.{CameRows, LaysOut};
 ghost use Rattle.page_core_base.specs.Messages.{message_of};
 ghost use Rattle.page_core_base.specs.Rows.{row_of};
 ghost use Rattle.page_fill_rows.specs.Characters as shown;
+ghost use Rattle.page_fill_rows.specs.OpenRows.{IsHeld};
 ghost use Rattle.page_fill_rows.specs.Plain as plain;
 ghost use Rattle.page_fill_rows.specs.Sheets as sheet;
 
@@ -94,6 +95,14 @@ impl OpenRow {
         ensures bound { length result.now ≤ CELLS }
     {
         self.row.as_slice()
+    }
+
+    /// The places of the last word lie within the row. Nothing is done: the row keeps to it.
+    #[inline(always)]
+    pub fn held_law(&self)
+        ensures { IsHeld self.now }
+    {
+        let _gap = self.gap;
     }
 
     /// Whether rows are kept as they are.

@@ -2,7 +2,7 @@ use Rattle.std.proofs.Common.{rules, refl, ap, ◌∙◌}
 use Rattle.page_core_base.specs.Laid.{Gets}
 use Rattle.page_core_base.specs.Fails.{FailsBySink}
 use Rattle.page_engine_lines.specs.Lines.{source_items}
-use Rattle.page_fill.specs.Items.{laid_items}
+use Rattle.page_fill.specs.ByPiece.{laid_items}
 use Rattle.page_engine.specs.ByLine.{settled_text, passed}
 use Rattle.page_engine.specs.Shown.{is_silent}
 use Rattle.page_engine.proofs.Feeds.{passes_gets, passes_edge, passes_faults}

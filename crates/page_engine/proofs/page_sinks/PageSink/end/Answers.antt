@@ -1,7 +1,8 @@
 use Rattle.page_engine.proofs.Feeds.{same_header}
 use Rattle.page_engine_lines.specs.Lines.{end_items, footer_items}
-use Rattle.page_fill.specs.Fill as fill
-use Rattle.page_fill.specs.Items.{laid_items}
+use Rattle.page_fill.specs.ByPiece.{laid_items}
+use Rattle.page_fill.specs.Filling.{row_end}
+use Rattle.page_fill_steps.specs.Edges as fill
 use Rattle.page_engine.specs.Levels.{filter-sink}
 use Rattle.page_engine.specs.Shown.{shown-sink}
 use Rattle.page_engine.specs.ByLine.{footer_laid}
@@ -25,7 +26,7 @@ returns-in-Err-footer-clause-ends g c = λ f e d p q r.
     let s = same_header c.end.new.self c.args.lines.now e.lines c.in_default.ensures.header q in
     let y = laid_items x.edge (footer_items e.lines e.last (fill.blank_rows_at_end x.edge)) in
     broken_after j k _ _ x (footer_laid e x.edge) a
-    (broken_join j k y (fill.ended y.edge) (rw (s, r, b) at (c.in-Err-footer.ensures.gives.1 x.edge a.filler)))
+    (broken_join j k y (row_end y.edge) (rw (s, r, b) at (c.in-Err-footer.ensures.gives.1 x.edge a.filler)))
 
 pub returns-clause-ends : goal.returns-clause-ends
 returns-clause-ends g c = λ f e d p q r.
@@ -38,4 +39,4 @@ returns-clause-ends g c = λ f e d p q r.
     let y = laid_items x.edge (footer_items e.lines e.last (fill.blank_rows_at_end x.edge)) in
     let z = rw (s, r, b) at (c.in_default-footer.ensures.gives.0 x.edge a.filler) in
     ends_join j k _ _ c.finish.result x (footer_laid e x.edge) a
-    (ends_after j k _ _ c.finish.result y (fill.ended y.edge) z (c.finish.ensures.gets y.edge z.filler) (c.finish.ensures.faults y.edge z.filler))
+    (ends_after j k _ _ c.finish.result y (row_end y.edge) z (c.finish.ensures.gets y.edge z.filler) (c.finish.ensures.faults y.edge z.filler))

@@ -1,11 +1,8 @@
-use Rattle.std.proofs.Common.{◌∙◌, refl, arith}
-use Rattle.page_fill.proofs.TakenWordLemmas.{filler-takes, takes-none}
+use Rattle.std.proofs.Common.{◌∙◌}
+use Rattle.page_fill.proofs.FillerLaw.{words-at}
 use Rattle.page_fill.proofs.fillers.Filler.take_words.Goals as goal
 
-pub returns-in-R-clause-words : goal.returns-in-R-clause-words
-returns-in-R-clause-words c = λ e is.
-    let held = c.self.inside in
-    filler-takes c.args.text.now c.args.font c.take_words.result held.is_going e held.edge c.take_words.new.self c.in-R.is c.if-self.true (c.self.view_is ∙ is) c.take_words.ensures.takes
-
-pub returns-in_default-2 : goal.returns-in_default-2
-returns-in_default-2 c = record { words = λ e is. rw is (takes-none c.args.text.now c.args.font e); within = omega arith; closed = λ none. (refl, none) }
+pub returns-clause-words : goal.returns-clause-words
+returns-clause-words c = λ e is.
+    words-at c.args.text.now c.args.font c.take_words-taken.result c.self.inside.is_going c.self.inside.edge c.take_words-taken.new.self e
+    c.if-not-self.false c.self.invariant (c.self.view_is ∙ is) c.take_words-taken.ensures.takes

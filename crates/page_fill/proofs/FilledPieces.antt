@@ -1,0 +1,224 @@
+-- The words of pieces are their marks, and so pieces fill rows as their words do.
+use Rattle.std.proofs.Common.{◌≡◌, ℕ, ◌==◌, Bool, true, false, not, ◌&&◌, ◌||◌, List, [], ◌∷◌, ◌++◌, length, map, replicate, inl, inr, refl, sym, subst, ap, ◌∙◌, append_assoc}
+use Rattle.std.specs.Prelude.{if◌then◌else◌}
+use Rattle.std.proofs.lemmas.Bool.{cases_Bool, and_parts}
+use Rattle.std.proofs.lemmas.List.{map-append}
+use Rattle.page_core_base.specs.declared.cells.Cell.{Cell}
+use Rattle.page_core_base.specs.declared.cells.Font.{Font}
+use Rattle.page_core_base.specs.declared.page_settings.Output.{Output}
+use Rattle.page_core_base.specs.declared.pieces.Piece.{Piece}
+use Rattle.page_core_base.specs.declared.pieces.Piece.TheVariants.{Text, Glyph, Char, Tab, Blank, Glue, Split, Break, RowEnd, Para, Space, Indent, Literal, Tag, TagEnd, Heading, Column}
+use Rattle.page_core_base.specs.declared.places.Place.{Place}
+use Rattle.page_core_base.specs.Messages.{Message}
+use Rattle.page_core_base.specs.Rows.{LaidRow, is_blank_row}
+use Rattle.page_core_base.specs.Laid.{Laid, join, seq}
+use Rattle.page_core_base.specs.Pieces.{Item}
+use Rattle.page_core_base.specs.Pieces as items
+use Rattle.page_core_limits.specs.declared.TheConstants.{CELLS}
+use Rattle.page_core_tables.specs.Printed.{Printing, char_printed, glyph_printed}
+use Rattle.page_fill_steps.specs.declared.edges.OpenWord.{OpenWord}
+use Rattle.page_fill_steps.specs.declared.edges.Edge.{Edge}
+use Rattle.page_fill_rows.specs.Sheets.{Sheet, over, blank, passes, letter, space, more_blank_rows}
+use Rattle.page_fill_rows.specs.Characters.{cell_of, cells_of, characters_of, unknown_notes, with_notes}
+use Rattle.page_fill_steps.specs.Fill.{laid_piece, tab_notes}
+use Rattle.page_fill_steps.specs.Items.{laid_items}
+use Rattle.page_fill.proofs.Marks.{Mark, told, opened, spaced, lettered, letters_of, printed_marks, character_marks, text_marks, tab_marks, blank_marks, opening_marks, is_of_words, piece_marks}
+use Rattle.page_fill.specs.Filled.{CellOrNote, shown, noted, Row, filling}
+use Rattle.page_fill_steps.specs.Caps.{IsHeld, is_sound}
+use Rattle.page_fill.specs.PieceWords.{cell_content, printed_content, text_content, tab_content, Words, and_then, words_from, words_of, word_after_items, frame_of, open_row_of, blank_rows_after, heading_after, with_row, next_edge, going_on, words_laid, after_cell, word_after}
+use Rattle.page_fill.proofs.MarkRuns.{step, run, run-append}
+use Rattle.page_fill.proofs.MarkedPieces.{AreStanding, with_word, piece-run, stands-after, sound-after, run-literal}
+use Rattle.page_fill.proofs.FilledWords.{mark_of, marks_of, word_marks, words_marks, run-held, run-frame, filling-run, rest-run}
+
+-- ---- marks of cells and messages
+
+pub cell-marks : (place : Place) (cells : List Cell) → letters_of place cells ≡ marks_of (cell_content place cells)
+cell-marks place [] = refl
+cell-marks place (cell ∷ cells) = ap (λ ms. lettered cell place ∷ ms) (cell-marks place cells)
+
+noted-marks : (notes : List Message) → map told notes ≡ marks_of (map noted notes)
+noted-marks [] = refl
+noted-marks (m ∷ notes) = ap (λ ms. told m ∷ ms) (noted-marks notes)
+
+printed-marks : (p : Printing) (font : Font) (place : Place) → printed_marks p font place ≡ marks_of (printed_content p font place)
+printed-marks p font place =
+    ap (λ ms. ms ++ letters_of place (cells_of font p.characters)) (noted-marks (unknown_notes p.unknown place))
+    ∙ (ap (λ ms. marks_of (map noted (unknown_notes p.unknown place)) ++ ms) (cell-marks place (cells_of font p.characters))
+    ∙ sym (map-append mark_of (map noted (unknown_notes p.unknown place)) (cell_content place (cells_of font p.characters))))
+
+text-marks : (output : Output) (cs : List ℕ) (font : Font) (place : Place) → text_marks output cs font place ≡ marks_of (text_content output cs font place)
+unfolding text_marks text_content character_marks
+text-marks output [] font place = refl
+text-marks output (c ∷ cs) font place =
+    ap (λ ms. ms ++ text_marks output cs font place) (printed-marks (char_printed output c) font place)
+    ∙ (ap (λ ms. marks_of (printed_content (char_printed output c) font place) ++ ms) (text-marks output cs font place)
+    ∙ sym (map-append mark_of (printed_content (char_printed output c) font place) (text_content output cs font place)))
+
+tab-part-marks : (is_told : Bool) (font : Font) (place : Place) → tab_marks (not is_told) place ++ lettered (cell_of font 32) place ∷ [] ≡ marks_of (tab_content is_told font place)
+tab-part-marks is_told font place =
+    ap (λ ms. ms ++ lettered (cell_of font 32) place ∷ []) (noted-marks (tab_notes (not is_told) place))
+    ∙ sym (map-append mark_of (map noted (tab_notes (not is_told) place)) (shown (cell_of font 32) place ∷ []))
+
+-- ---- marks of words
+
+abbrev pub all_marks : Words → List Mark
+all_marks words = marks_of words.first ++ words_marks words.later
+
+blanks-marks : (n : ℕ) (place : Place) (content : List CellOrNote) → letters_of place (replicate n blank) ++ marks_of content ≡ marks_of (cell_content place (replicate n blank) ++ content)
+blanks-marks n place content =
+    ap (λ ms. ms ++ marks_of content) (cell-marks place (replicate n blank)) ∙ sym (map-append mark_of (cell_content place (replicate n blank)) content)
+
+word-of-marks : (stands : Bool) (notes : List Message) (n : ℕ) (place : Place) (content : List CellOrNote)
+    → map told notes ++ (opened ∷ (blank_marks stands n place ++ marks_of content))
+    ≡ word_marks (if stands then record { notes = notes; blanks = 0; place = place; content = cell_content place (replicate n blank) ++ content } else record { notes = notes; blanks = n; place = place; content = content })
+word-of-marks true notes n place content = ap (λ ms. map told notes ++ (opened ∷ ms)) (blanks-marks n place content)
+word-of-marks false notes n place content = refl
+
+pub and-then-marks : (literal empty : Bool) (w : OpenWord) (place : Place) (ms : List Mark) (content : List CellOrNote) (rest : Words) → ms ≡ marks_of content
+    → (opening_marks literal empty w place ++ ms) ++ all_marks rest ≡ all_marks (and_then literal empty w place content rest)
+and-then-marks literal empty w place ms content rest is = elim (cases_Bool w.is_joined) [
+  | inl j ↦
+      rw (j, is, map-append mark_of content rest.first) (sym (append_assoc (marks_of content) (marks_of rest.first) (words_marks rest.later)))
+  | inr j ↦
+      let stands = literal || (w.is_placed && empty) in
+      let notes = tab_notes (w.has_tab && not literal) place in
+      let whole = marks_of content ++ marks_of rest.first in
+      rw (j, is)
+      (append_assoc (map told notes ++ (opened ∷ blank_marks stands w.blanks place)) (marks_of content) (all_marks rest)
+      ∙ (append_assoc (map told notes) (opened ∷ blank_marks stands w.blanks place) (marks_of content ++ all_marks rest)
+      ∙ (ap (λ l. map told notes ++ (opened ∷ (blank_marks stands w.blanks place ++ l))) (sym (append_assoc (marks_of content) (marks_of rest.first) (words_marks rest.later)))
+      ∙ (ap (λ l. map told notes ++ (opened ∷ l)) (sym (append_assoc (blank_marks stands w.blanks place) whole (words_marks rest.later)))
+      ∙ (sym (append_assoc (map told notes) (opened ∷ (blank_marks stands w.blanks place ++ whole)) (words_marks rest.later))
+      ∙ (ap (λ l. (map told notes ++ (opened ∷ (blank_marks stands w.blanks place ++ l))) ++ words_marks rest.later) (sym (map-append mark_of content rest.first))
+      ∙ ap (λ l. l ++ words_marks rest.later) (word-of-marks stands notes w.blanks place (content ++ rest.first))))))))
+]
+
+char-marks : (output : Output) (c : ℕ) (font : Font) (place : Place) → character_marks output c font place ≡ marks_of (printed_content (char_printed output c) font place)
+unfolding character_marks
+char-marks output c font place = printed-marks (char_printed output c) font place
+
+piece-words : (output : Output) (literal empty : Bool) (w : OpenWord) (p : Piece (List ℕ)) (rest : Words)
+    → piece_marks output literal empty w p ++ all_marks rest ≡ all_marks (words_from output literal empty w p rest)
+piece-words output literal empty w (Text bytes font place) rest = elim (cases_Bool (length (characters_of bytes) == 0)) [
+  | inl z ↦ rw z refl
+  | inr z ↦ rw z (and-then-marks literal empty w place (text_marks output (characters_of bytes) font place) (text_content output (characters_of bytes) font place) rest (text-marks output (characters_of bytes) font place))
+]
+piece-words output literal empty w (Glyph name font place) rest =
+    and-then-marks literal empty w place (printed_marks (glyph_printed output name) font place) (printed_content (glyph_printed output name) font place) rest (printed-marks (glyph_printed output name) font place)
+piece-words output literal empty w (Char c font place) rest =
+    and-then-marks literal empty w place (character_marks output c font place) (printed_content (char_printed output c) font place) rest (char-marks output c font place)
+piece-words output literal empty w (Tab font place) rest =
+    let is_told = (after_cell literal w).is_told in
+    and-then-marks literal empty w place (tab_marks (not is_told) place ++ lettered (cell_of font 32) place ∷ []) (tab_content is_told font place) rest (tab-part-marks is_told font place)
+piece-words output literal empty w (Blank count has_tab) rest = refl
+piece-words output literal empty w Glue rest = refl
+piece-words output literal empty w Split rest = elim (cases_Bool (w.is_joined && not literal)) [ inl b ↦ rw b refl | inr b ↦ rw b refl ]
+piece-words output literal empty w Break rest = refl
+piece-words output literal empty w RowEnd rest = refl
+piece-words output literal empty w (Para n) rest = refl
+piece-words output literal empty w (Space n) rest = refl
+piece-words output literal empty w (Indent first others) rest = refl
+piece-words output literal empty w (Literal b) rest = refl
+piece-words output literal empty w (Tag hang form) rest = refl
+piece-words output literal empty w TagEnd rest = refl
+piece-words output literal empty w Heading rest = refl
+piece-words output literal empty w (Column n) rest = refl
+
+-- ---- rows at the end
+
+blank_rows-append : (n : ℕ) (xs ys : List LaidRow) → blank_rows_after (blank_rows_after n xs) ys ≡ blank_rows_after n (xs ++ ys)
+blank_rows-append n [] ys = refl
+blank_rows-append n (x ∷ xs) ys = blank_rows-append (if is_blank_row x then more_blank_rows n 1 else 0) xs ys
+
+heading-append : (b : Bool) (xs ys : List LaidRow) → heading_after (heading_after b xs) ys ≡ heading_after b (xs ++ ys)
+heading-append b [] ys = refl
+heading-append b (x ∷ xs) ys = heading-append false xs ys
+
+-- ---- the whole sheet, by its open row and the rows that were given
+
+with_row-twice : (s : Sheet) (a b : Row) (xs ys : List LaidRow) → with_row (with_row s a xs) b ys ≡ with_row s b (xs ++ ys)
+with_row-twice s a b xs ys = rw (blank_rows-append s.blank_rows xs ys, heading-append s.heading xs ys) refl
+
+step-row : (s : Sheet) (m : Mark) → (step s m).edge ≡ with_row s (open_row_of (step s m).edge) (step s m).rows
+unfolding letter space
+step-row s (told m) = refl
+step-row s opened = refl
+step-row s (spaced place) = elim (cases_Bool (length s.cells == 0)) [
+  | inl z ↦ rw z refl
+  | inr z ↦ elim (cases_Bool (passes s blank)) [
+    | inl p ↦ rw (z, p) refl
+    | inr p ↦ elim (cases_Bool (length s.cells == CELLS)) [ inl q ↦ rw (z, p, q) refl | inr q ↦ rw (z, p, q) refl ]
+  ]
+]
+step-row s (lettered cell place) = elim (cases_Bool (passes s cell)) [
+  | inl p ↦ rw p refl
+  | inr p ↦ elim (cases_Bool (length s.cells == CELLS)) [
+    | inl q ↦ rw (p, q) refl
+    | inr q ↦ elim (cases_Bool (length s.cells == 0)) [ inl z ↦ rw (p, q, z) refl | inr z ↦ rw (p, q, z) refl ]
+  ]
+]
+
+run-row : (s : Sheet) (ms : List Mark) → (run s ms).edge ≡ with_row s (open_row_of (run s ms).edge) (run s ms).rows
+unfolding run
+run-row s [] = refl
+run-row s (m ∷ ms) =
+    let x = step s m in
+    let y = run x.edge ms in
+    run-row x.edge ms
+    ∙ (ap (λ (t : Sheet). with_row t (open_row_of y.edge) y.rows) (step-row s m)
+    ∙ with_row-twice s (open_row_of x.edge) (open_row_of y.edge) x.rows y.rows)
+
+-- ---- words from an edge
+
+words-run : (s : Sheet) (words : Words) → IsHeld s → over (run s (all_marks words)) open_row_of ≡ going_on s words
+words-run s words h =
+    let x = run s (marks_of words.first) in
+    ap (λ l. over l open_row_of) (run-append s (marks_of words.first) (words_marks words.later))
+    ∙ (ap (λ l. join (over x open_row_of) l) (filling-run x.edge words.later (run-held s (marks_of words.first) h))
+    ∙ (ap (λ f. join (over x open_row_of) (filling f (open_row_of x.edge) words.later)) (run-frame s (marks_of words.first))
+    ∙ ap (λ l. seq l (λ r. filling (frame_of s) r words.later)) (rest-run s words.first h)))
+
+-- what marks do is what the words do on the whole edge
+pub edge-run : (e : Edge) (w : OpenWord) (words : Words) → IsHeld e.sheet
+    → over (run e.sheet (all_marks words)) (with_word e w) ≡ next_edge e w (going_on e.sheet words)
+edge-run e w words h =
+    let x = run e.sheet (all_marks words) in
+    ap (λ (t : Sheet). over (record { rows = x.rows; notes = x.notes; edge = t }) (with_word e w)) (run-row e.sheet (all_marks words))
+    ∙ ap (next_edge e w) (words-run e.sheet words h)
+
+-- ---- items
+
+-- all of them are of words
+abbrev pub are_items_of_words : Bool → List Item → Bool
+are_items_of_words literal [] = true
+are_items_of_words literal (items.noted m ∷ more) = are_items_of_words literal more
+are_items_of_words literal (items.shown p ∷ more) = is_of_words literal p && are_items_of_words literal more
+
+pub items-run : (e : Edge) (literal empty : Bool) (list : List Item) → e.sheet.literal ≡ literal → is_sound e.word ≡ true → AreStanding e empty → are_items_of_words literal list ≡ true
+    → laid_items e list ≡ over (run e.sheet (all_marks (words_of e.output literal empty e.word list))) (with_word e (word_after_items literal e.word list))
+unfolding laid_items words_of word_after_items run
+items-run e literal empty [] same h stand k = refl
+items-run e literal empty (items.noted m ∷ more) same h stand k = ap (λ (l : Laid Edge). with_notes (m ∷ []) l) (items-run e literal empty more same h stand k)
+items-run e literal empty (items.shown p ∷ more) same h stand k =
+    let content = and_parts (is_of_words literal p) (are_items_of_words literal more) k in
+    let ms = piece_marks e.output literal empty e.word p in
+    let x = run e.sheet (piece_marks e.output literal empty e.word p) in
+    let w = word_after literal e.word p in
+    let rest = words_of e.output literal empty (word_after literal e.word p) more in
+    let Runs : Bool → Type 0 = λ b. laid_piece e p ≡ over (run e.sheet (piece_marks e.output b empty e.word p)) (with_word e (word_after b e.word p)) in
+    let Fits : Bool → Type 0 = λ b. is_of_words b p ≡ true in
+    let Stands : Bool → Type 0 = λ b. AreStanding (with_word e (word_after b e.word p) (run e.sheet (piece_marks e.output b empty e.word p)).edge) empty in
+    let first = subst Runs same (piece-run e empty p stand (subst Fits (sym same) content.0)) in
+    let still = subst Stands same (stands-after e empty p h stand) in
+    let later = items-run (with_word e w x.edge) literal empty more (run-literal e.sheet ms ∙ same) (sound-after literal e.word p h) still content.1 in
+    ap (λ (l : Laid Edge). seq l (λ f. laid_items f more)) first
+    ∙ (ap (λ (l : Laid Edge). join (over x (with_word e w)) l) later
+    ∙ (ap (λ l. over l (with_word e (word_after_items literal w more))) (sym (run-append e.sheet ms (all_marks rest)))
+    ∙ ap (λ l. over (run e.sheet l) (with_word e (word_after_items literal w more))) (piece-words e.output literal empty e.word p rest)))
+
+pub words-law : (e : Edge) (list : List Item) → IsHeld e.sheet → is_sound e.word ≡ true → are_items_of_words e.sheet.literal list ≡ true → laid_items e list ≡ words_laid e list
+unfolding words_laid
+words-law e list h sound k =
+    let literal = e.sheet.literal in
+    let empty = length e.sheet.cells == 0 in
+    items-run e literal empty list refl sound refl k ∙ edge-run e (word_after_items literal e.word list) (words_of e.output literal empty e.word list) h

@@ -1,0 +1,100 @@
+-- What the steps lay of one piece is filling in words; and so is what a filler lays piece by piece.
+use Rattle.std.proofs.Common.{◌≡◌, ℕ, Bool, true, List, [], ◌∷◌, map, take, Option, None, Some, Result, Ok, Err, OnOk, refl, sym, ap, ◌∙◌}
+use Rattle.std.specs.Prelude.{if◌then◌else◌}
+use Rattle.page_core_base.specs.declared.faults.Fault.{Fault}
+use Rattle.page_core_base.specs.Laid.{Laid, join, seq}
+use Rattle.page_core_base.specs.Pieces.{Item, shown, noted}
+use Rattle.page_core_base.specs.Words.{word_items, word_pieces}
+use Rattle.page_core_base.specs.declared.cells.Font.{Font}
+use Rattle.page_core_base.specs.declared.pieces.Piece.{Piece}
+use Rattle.page_core_base.specs.declared.places.Place.{Place}
+use Rattle.page_fill_steps.specs.Caps.{IsHeld, is_sound}
+use Rattle.page_fill_steps.specs.declared.edges.Edge.{Edge}
+use Rattle.page_fill_steps.specs.Fill.{laid_piece, laid, ended}
+use Rattle.page_fill_steps.specs.Items as steps
+use Rattle.page_fill_steps.specs.TakenWords as taken_steps
+use Rattle.page_fill.specs.ByPiece.{laid_items}
+use Rattle.page_fill.specs.Filling.{filled, row_end}
+use Rattle.page_fill.specs.TakenWords.{TakesFirstWords}
+use Rattle.page_fill.proofs.FillingLaw.{steps-law, end-law}
+use Rattle.page_fill.proofs.GlueLaw.{seq-nothing}
+use Rattle.page_fill.proofs.HeldSheets.{piece-held}
+use Rattle.page_fill.proofs.SoundWords.{piece-sound}
+
+-- ---- one piece
+
+one-item : (e : Edge) (p : Piece (List ℕ)) → steps.laid_items e (shown p ∷ []) ≡ laid_piece e p
+unfolding steps.laid_items
+one-item e p = seq-nothing (laid_piece e p)
+
+pub piece-law : (e : Edge) (p : Piece (List ℕ)) → IsHeld e.sheet → is_sound e.word ≡ true → laid_piece e p ≡ filled e (shown p ∷ [])
+piece-law e p h s = sym (one-item e p) ∙ steps-law e (shown p ∷ []) h s
+
+pub piece-kept : (e : Edge) (p : Piece (List ℕ)) → IsHeld e.sheet × (is_sound e.word ≡ true) → IsHeld (laid_piece e p).edge.sheet × (is_sound (laid_piece e p).edge.word ≡ true)
+piece-kept e p k = (piece-held e p k.0, piece-sound e p k.1)
+
+-- ---- the edge of a filler that goes on
+
+abbrev edge_or : Edge → Option Edge → Edge
+edge_or e None = e
+edge_or e (Some f) = f
+
+pub same-edge : (is_going : Bool) (held e : Edge) → is_going ≡ true → (if is_going then Some held else None) ≡ Some e → held ≡ e
+same-edge is_going held e goes is = ap (edge_or held) (rw goes at is)
+
+pub piece-at : (is_going : Bool) (held e : Edge) (p : Piece (List ℕ)) → is_going ≡ true → (is_going ≡ true → IsHeld held.sheet × (is_sound held.word ≡ true))
+    → (if is_going then Some held else None) ≡ Some e → laid_piece held p ≡ filled e (shown p ∷ [])
+piece-at is_going held e p goes kept is =
+    let k = kept goes in
+    piece-law held p k.0 k.1 ∙ ap (λ (f : Edge). filled f (shown p ∷ [])) (same-edge is_going held e goes is)
+
+pub edge-at : (res : Result (Unit {0}) Fault) (is_going : Bool) (new held e : Edge) (p : Piece (List ℕ)) → is_going ≡ true
+    → (is_going ≡ true → IsHeld held.sheet × (is_sound held.word ≡ true)) → (if is_going then Some held else None) ≡ Some e
+    → new ≡ (laid_piece held p).edge → OnOk res ((if is_going then Some new else None) ≡ Some (filled e (shown p ∷ [])).edge)
+edge-at (Ok x) is_going new held e p goes kept is next = rw (goes, next, piece-at is_going held e p goes kept is) refl
+edge-at (Err x) is_going new held e p goes kept is next = tt
+
+pub end-at : (is_going : Bool) (held e : Edge) → is_going ≡ true → (is_going ≡ true → IsHeld held.sheet × (is_sound held.word ≡ true))
+    → (if is_going then Some held else None) ≡ Some e → ended held ≡ row_end e
+end-at is_going held e goes kept is =
+    let k = kept goes in
+    (end-law held k.0 k.1).0 ∙ ap row_end (same-edge is_going held e goes is)
+
+-- ---- piece by piece
+
+by-piece : (e : Edge) (items : List Item) → IsHeld e.sheet → is_sound e.word ≡ true → laid_items e items ≡ steps.laid_items e items
+unfolding laid_items steps.laid_items
+by-piece e [] h s = refl
+by-piece e (noted m ∷ items) h s = ap (λ (l : Laid Edge). record { rows = l.rows; notes = m ∷ l.notes; edge = l.edge }) (by-piece e items h s)
+by-piece e (shown p ∷ items) h s =
+    let l = laid_piece e p in
+    ap (λ (l : Laid Edge). seq l (λ f. laid_items f items)) (sym (piece-law e p h s))
+    ∙ ap (λ (m : Laid Edge). join l m) (by-piece l.edge items (piece-held e p h) (piece-sound e p s))
+
+pub items-law : (e : Edge) (items : List Item) → IsHeld e.sheet → is_sound e.word ≡ true → laid_items e items ≡ filled e items
+items-law e items h s = by-piece e items h s ∙ steps-law e items h s
+
+-- ---- words that are taken at once
+
+laid-pieces : (e : Edge) (pieces : List (Piece (List ℕ))) → steps.laid_items e (map shown pieces) ≡ laid e pieces
+unfolding laid steps.laid_items
+laid-pieces e [] = refl
+laid-pieces e (p ∷ pieces) = ap (λ (l : Laid Edge). seq (laid_piece e p) (λ _. l)) (laid-pieces (laid_piece e p).edge pieces)
+
+word-items : (e : Edge) (font : Font) (place : Place) (words : List (List ℕ)) → steps.laid_items e (word_items font place words) ≡ laid e (word_pieces font place words)
+unfolding word_items
+word-items e font place words = laid-pieces e (word_pieces font place words)
+
+pub words-taken : (bytes : List ℕ) (font : Font) (taken : ℕ) (e new : Edge) → IsHeld e.sheet → is_sound e.word ≡ true
+    → taken_steps.TakesFirstWords bytes font taken e new → TakesFirstWords bytes font taken e (Some new)
+words-taken bytes font taken e new h s took = λ place words all is.
+    let t = took place words all is in
+    let items = word_items font place (take t.0 words) in
+    (t.0, new, t.1, refl, sym (steps-law e items h s) ∙ (word-items e font place (take t.0 words) ∙ t.2))
+
+pub words-at : (bytes : List ℕ) (font : Font) (taken : ℕ) (is_going : Bool) (held new e : Edge) → is_going ≡ true
+    → (is_going ≡ true → IsHeld held.sheet × (is_sound held.word ≡ true)) → (if is_going then Some held else None) ≡ Some e
+    → taken_steps.TakesFirstWords bytes font taken held new → TakesFirstWords bytes font taken e (if is_going then Some new else None)
+words-at bytes font taken is_going held new e goes kept is took =
+    let k = kept goes in
+    rw (goes, ← same-edge is_going held e goes is) (words-taken bytes font taken held new k.0 k.1 took)

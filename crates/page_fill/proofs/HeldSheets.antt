@@ -1,0 +1,175 @@
+-- The places of the open row's last word lie within the row, at each edge that a page comes to.
+use Rattle.std.proofs.Common.{◌≡◌, ℕ, zero, suc, ◌+◌, ◌-◌, ◌<◌, ◌==◌, nat_lt, Bool, true, false, not, ◌&&◌, List, [], ◌∷◌, ◌++◌, length, drop, replicate, Option, None, Some, inl, inr, refl, arith, length-append, length-drop, lit≤}
+use Rattle.std.specs.Prelude.{if◌then◌else◌}
+use Rattle.std.proofs.lemmas.Bool.{cases_Bool}
+use Rattle.std.proofs.lemmas.Bool.Decides.{nat_tests}
+use Rattle.page_core_base.specs.declared.cells.Cell.{Cell}
+use Rattle.page_core_base.specs.declared.cells.Font.{Font}
+use Rattle.page_core_base.specs.declared.page_settings.Output.{Output}
+use Rattle.page_core_base.specs.declared.pieces.Piece.{Piece}
+use Rattle.page_core_base.specs.declared.pieces.Piece.TheVariants.{Text, Glyph, Char, Tab, Blank, Glue, Split, Break, RowEnd, Para, Space, Indent, Literal, Tag, TagEnd, Heading, Column}
+use Rattle.page_core_base.specs.declared.pieces.TagForm.{TagForm}
+use Rattle.page_core_base.specs.declared.pieces.TagForm.TheVariants as forms
+use Rattle.page_core_base.specs.declared.places.Place.{Place}
+use Rattle.page_core_base.specs.Laid.{nothing}
+use Rattle.page_core_limits.specs.declared.TheConstants.{CELLS}
+use Rattle.page_core_tables.specs.Printed.{char_printed, glyph_printed}
+use Rattle.page_fill_steps.specs.declared.edges.OpenTag.{OpenTag}
+use Rattle.page_fill_steps.specs.declared.edges.Edge.{Edge}
+use Rattle.page_fill_rows.specs.Sheets.{Sheet, blank, passes, letter, letters, space, spaces, new_word, opens, broken, empty_rows, fresh}
+use Rattle.page_fill_rows.specs.Characters.{cells_of, cell_of, characters_of, character, characters, glyph}
+use Rattle.page_fill_steps.specs.Fill.{laid_piece, text, one_character, one_glyph, tab, opening, ended, paragraph, spaced, row_ended, heading, tag_ended, after_tag, fits_hang, without_tag, stands, to_stop, missing_rows}
+use Rattle.page_fill_steps.specs.Caps.{IsHeld}
+
+pub letter-held : (s : Sheet) (cell : Cell) (place : Place) → IsHeld s → IsHeld (letter s cell place).edge
+unfolding letter
+letter-held s cell place h = elim (cases_Bool (passes s cell)) [
+  | inl p ↦
+      let gap : nat_lt 0 s.gap ≡ true = grind (arith, nat_tests, p) in
+      let later : 0 < s.gap = grind (arith, nat_tests, gap) in
+      let len : length (drop s.word s.cells ++ cell ∷ []) ≡ length s.cells - s.word + 1 = rw (length-append (drop s.word s.cells) (cell ∷ []), length-drop s.word s.cells) refl in
+      rw p (record { gap_within = omega arith; word_within = omega arith; bounded = rw len (omega (arith, later, h.gap_within, h.word_within, h.bounded)) })
+  | inr p ↦ elim (cases_Bool (length s.cells == CELLS)) [
+    | inl q ↦ rw (p, q) (record { gap_within = omega arith; word_within = omega arith; bounded = lit≤ tt })
+    | inr q ↦ elim (cases_Bool (length s.cells == 0)) [
+      | inl z ↦ rw (p, q, z) (record { gap_within = omega arith; word_within = omega arith; bounded = lit≤ tt })
+      | inr z ↦
+          let len : length (s.cells ++ cell ∷ []) ≡ length s.cells + 1 = length-append s.cells (cell ∷ []) in
+          let more : length s.cells < CELLS = grind (arith, nat_tests, h.bounded, q) in
+          rw (p, q, z) (record { gap_within = h.gap_within; word_within = rw len (omega (arith, h.word_within)); bounded = rw len (omega (arith, more)) })
+    ]
+  ]
+]
+
+pub space-held : (s : Sheet) (place : Place) → IsHeld s → IsHeld (space s place).edge
+unfolding space
+space-held s place h = elim (cases_Bool (length s.cells == 0)) [
+  | inl z ↦ rw z h
+  | inr z ↦ elim (cases_Bool (passes s blank)) [
+    | inl p ↦ rw (z, p) (record { gap_within = omega arith; word_within = omega arith; bounded = lit≤ tt })
+    | inr p ↦ elim (cases_Bool (length s.cells == CELLS)) [
+      | inl q ↦ rw (z, p, q) (record { gap_within = omega arith; word_within = omega arith; bounded = lit≤ tt })
+      | inr q ↦
+          let len : length (s.cells ++ blank ∷ []) ≡ length s.cells + 1 = length-append s.cells (blank ∷ []) in
+          let more : length s.cells < CELLS = grind (arith, nat_tests, h.bounded, q) in
+          rw (z, p, q) (record { gap_within = omega (arith, h.gap_within, h.word_within); word_within = omega (arith, len); bounded = rw len (omega (arith, more)) })
+    ]
+  ]
+]
+
+pub letters-held : (s : Sheet) (cells : List Cell) (place : Place) → IsHeld s → IsHeld (letters s cells place).edge
+unfolding letters
+letters-held s [] place h = h
+letters-held s (cell ∷ cells) place h = letters-held (letter s cell place).edge cells place (letter-held s cell place h)
+
+spaces-held : (s : Sheet) (n : ℕ) (place : Place) → IsHeld s → IsHeld (spaces s n place).edge
+unfolding spaces
+spaces-held s zero place h = h
+spaces-held s (suc n) place h = spaces-held (space s place).edge n place (space-held s place h)
+
+pub opens-held : (s : Sheet) → IsHeld s → IsHeld (opens s)
+opens-held s h = record { gap_within = omega arith; word_within = omega arith; bounded = h.bounded }
+
+new-word-held : (s : Sheet) (n : ℕ) (stands : Bool) (place : Place) → IsHeld s → IsHeld (new_word s n stands place).edge
+new-word-held s n true place h = letters-held (opens s) (replicate n blank) place (opens-held s h)
+new-word-held s n false place h = spaces-held (opens s) n place (opens-held s h)
+
+pub opening-held : (e : Edge) (place : Place) → IsHeld e.sheet → IsHeld (opening e place).edge.sheet
+unfolding opening
+opening-held e place h = elim (cases_Bool e.word.is_joined) [
+  | inl j ↦ rw j h
+  | inr j ↦ rw j (new-word-held e.sheet e.word.blanks (stands e) place h)
+]
+
+character-held : (output : Output) (s : Sheet) (c : ℕ) (font : Font) (place : Place) → IsHeld s → IsHeld (character output s c font place).edge
+unfolding character
+character-held output s c font place h = letters-held s (cells_of font (char_printed output c).characters) place h
+
+characters-held : (output : Output) (s : Sheet) (cs : List ℕ) (font : Font) (place : Place) → IsHeld s → IsHeld (characters output s cs font place).edge
+unfolding characters
+characters-held output s [] font place h = h
+characters-held output s (c ∷ cs) font place h = characters-held output (character output s c font place).edge cs font place (character-held output s c font place h)
+
+glyph-held : (output : Output) (s : Sheet) (name : List ℕ) (font : Font) (place : Place) → IsHeld s → IsHeld (glyph output s name font place).edge
+unfolding glyph
+glyph-held output s name font place h = letters-held s (cells_of font (glyph_printed output name).characters) place h
+
+text-held : (e : Edge) (cs : List ℕ) (font : Font) (place : Place) → IsHeld e.sheet → IsHeld (text e cs font place).edge.sheet
+unfolding text
+text-held e cs font place h = elim (cases_Bool (length cs == 0)) [
+  | inl z ↦ rw z h
+  | inr z ↦ rw z (characters-held (opening e place).edge.output (opening e place).edge.sheet cs font place (opening-held e place h))
+]
+
+tab-held : (e : Edge) (font : Font) (place : Place) → IsHeld e.sheet → IsHeld (tab e font place).edge.sheet
+unfolding tab
+tab-held e font place h =
+    let f = (opening e place).edge in
+    elim (cases_Bool f.sheet.literal) [
+      | inl l ↦ rw l (letters-held f.sheet (replicate (to_stop f.sheet.cells) blank) place (opening-held e place h))
+      | inr l ↦ rw l (letter-held f.sheet (cell_of font 32) place (opening-held e place h))
+    ]
+
+broken-held : (s : Sheet) → IsHeld s → IsHeld (broken s).edge
+unfolding broken
+broken-held s h = elim (cases_Bool (length s.cells == 0)) [
+  | inl z ↦ rw z h
+  | inr z ↦ rw z (record { gap_within = omega arith; word_within = omega arith; bounded = lit≤ tt })
+]
+
+ended-held : (e : Edge) → IsHeld e.sheet → IsHeld (ended e).edge.sheet
+unfolding ended
+ended-held e h = broken-held e.sheet h
+
+heading-held : (e : Edge) → IsHeld e.sheet → IsHeld (heading e).edge.sheet
+unfolding heading
+heading-held e h =
+    let k = ended-held e h in
+    elim (cases_Bool (length e.sheet.cells == 0)) [
+      | inl z ↦ rw z k
+      | inr z ↦ rw z (record { gap_within = k.gap_within; word_within = k.word_within; bounded = k.bounded })
+    ]
+
+after_tag-held : (e : Edge) (hang : ℕ) (form : TagForm) → IsHeld e.sheet → IsHeld (after_tag e hang form).edge.sheet
+after_tag-held e hang forms.Row h = elim (cases_Bool (fits_hang e.sheet hang)) [ inl f ↦ rw f h | inr f ↦ rw f (ended-held e h) ]
+after_tag-held e hang forms.Hang h = elim (cases_Bool (fits_hang e.sheet hang)) [ inl f ↦ rw f h | inr f ↦ rw f h ]
+after_tag-held e hang (forms.Inset n) h = h
+
+tag-held : (e : Edge) (tag : Option OpenTag) → IsHeld e.sheet → IsHeld (tag_ended e tag).edge.sheet
+tag-held e None h = h
+tag-held e (Some t) h =
+    elim e.sheet.tag_begun as (λ b. IsHeld (if b then after_tag e t.hang t.form else nothing e).edge.sheet) [ true ↦ after_tag-held e t.hang t.form h | false ↦ h ]
+
+empty-held : (s : Sheet) (n : ℕ) → IsHeld s → IsHeld (empty_rows s n).edge
+unfolding empty_rows
+empty-held s n h = record { gap_within = h.gap_within; word_within = h.word_within; bounded = h.bounded }
+
+row_ended-held : (e : Edge) → IsHeld e.sheet → IsHeld (row_ended e).edge.sheet
+unfolding row_ended spaced
+row_ended-held e h = elim (cases_Bool (length e.sheet.cells == 0)) [
+  | inl z ↦ rw z (empty-held (ended e).edge.sheet 1 (ended-held e h))
+  | inr z ↦ rw z (ended-held e h)
+]
+
+pub piece-held : (e : Edge) (p : Piece (List ℕ)) → IsHeld e.sheet → IsHeld (laid_piece e p).edge.sheet
+unfolding laid_piece one_character one_glyph paragraph spaced
+piece-held e (Text bytes font place) h = text-held e (characters_of bytes) font place h
+piece-held e (Glyph name font place) h = glyph-held (opening e place).edge.output (opening e place).edge.sheet name font place (opening-held e place h)
+piece-held e (Char c font place) h = character-held (opening e place).edge.output (opening e place).edge.sheet c font place (opening-held e place h)
+piece-held e (Tab font place) h = tab-held e font place h
+piece-held e (Blank count has_tab) h = h
+piece-held e Glue h = h
+piece-held e Split h = elim (cases_Bool (e.word.is_joined && not e.sheet.literal)) [ inl b ↦ rw b (opens-held e.sheet h) | inr b ↦ rw b h ]
+piece-held e Break h = ended-held e h
+piece-held e RowEnd h = row_ended-held e h
+piece-held e (Para n) h = empty-held (ended e).edge.sheet (missing_rows (ended e).edge.sheet n) (ended-held e h)
+piece-held e (Space n) h = empty-held (ended e).edge.sheet n (ended-held e h)
+piece-held e (Indent first rest) h = record { gap_within = h.gap_within; word_within = h.word_within; bounded = h.bounded }
+piece-held e (Literal b) h = record { gap_within = h.gap_within; word_within = h.word_within; bounded = h.bounded }
+piece-held e (Tag hang form) h = record { gap_within = h.gap_within; word_within = h.word_within; bounded = h.bounded }
+piece-held e TagEnd h = tag-held (without_tag e) e.tag h
+piece-held e Heading h = heading-held e h
+piece-held e (Column n) h = h
+
+pub fresh-held : (width : ℕ) → IsHeld (fresh width)
+fresh-held width = record { gap_within = omega arith; word_within = omega arith; bounded = lit≤ tt }

@@ -1,0 +1,127 @@
+-- What filling is: pieces and the messages among them are groups of words, which fill rows, and what stands between such groups.
+-- Source: roff(7), "Filling and adjusting"; mandoc(1).
+use Rattle.std.specs.Prelude.{ℕ, ◌+◌, ◌-◌, ◌%◌, Bool, true, false, ◌&&◌, ◌==◌, nat_lt, nat_le, min, List, [], ◌∷◌, length, replicate, Option, None, Some, if◌then◌else◌}
+use Rattle.page_core_base.specs.declared.cells.Cell.{Cell}
+use Rattle.page_core_base.specs.declared.pieces.Piece.{Piece}
+use Rattle.page_core_base.specs.declared.pieces.Piece.TheVariants.{Text, Glyph, Char, Tab, Blank, Glue, Split, Break, RowEnd, Para, Space, Indent, Literal, Tag, TagEnd, Heading, Column}
+use Rattle.page_core_base.specs.declared.places.Place.{Place}
+use Rattle.page_core_base.specs.declared.pieces.TagForm.TheVariants as forms
+use Rattle.page_core_base.specs.Rows.{row_of}
+use Rattle.page_core_base.specs.Laid.{Laid, nothing, seq}
+use Rattle.page_core_base.specs.Pieces.{Item, shown, noted}
+use Rattle.page_fill_steps.specs.declared.edges.OpenTag.{OpenTag}
+use Rattle.page_fill_steps.specs.declared.edges.Edge.{Edge}
+use Rattle.page_fill_steps.specs.declared.TheConstants.{HANG_MAX, TAB_STOP}
+use Rattle.page_fill_steps.specs.Edges.{no_word, placed_word}
+use Rattle.page_fill_rows.specs.OpenRows.{over, blank, columns, more_blank_rows}
+use Rattle.page_fill.specs.Filled.{CellOrNote, at_break}
+use Rattle.page_fill.specs.PieceWords.{cell_content, open_row_of, next_edge, words_laid, content_laid}
+
+-- ---- groups
+
+-- words, with the messages among them; or another piece
+pub data Group : Type 0 where
+  words : List Item → Group
+  other : Piece (List ℕ) → Group
+
+-- a piece of words
+abbrev pub is_of_words : Piece (List ℕ) → Bool
+is_of_words (Text bytes font place) = true
+is_of_words (Glyph name font place) = true
+is_of_words (Char c font place) = true
+is_of_words (Blank count has_tab) = true
+is_of_words Glue = true
+is_of_words Split = true
+is_of_words _ = false
+
+-- an item of words goes into the first group
+abbrev pub in_front : Item → List Group → List Group
+in_front item (words items ∷ groups) = words (item ∷ items) ∷ groups
+in_front item (other p ∷ groups) = words (item ∷ []) ∷ other p ∷ groups
+in_front item [] = words (item ∷ []) ∷ []
+
+unfoldable pub groups : List Item → List Group
+groups [] = []
+groups (noted m ∷ items) = in_front (noted m) (groups items)
+groups (shown p ∷ items) = if is_of_words p then in_front (shown p) (groups items) else other p ∷ groups items
+
+-- ---- other pieces
+
+-- the open row ends, if there is one, and nothing waits
+abbrev pub row_end : Edge → Laid Edge
+row_end e = next_edge e no_word (at_break (open_row_of e.sheet))
+
+-- a count of blank rows
+abbrev pub blank_rows : Edge → ℕ → Laid Edge
+blank_rows e n = record {
+  rows = replicate n (row_of 0 []);
+  notes = [];
+  edge = record e { sheet = record e.sheet { blank_rows = more_blank_rows e.sheet.blank_rows n; heading = e.sheet.heading && n == 0 } };
+}
+
+-- so many that this number of them stands there, but none after a heading's row
+abbrev pub blank_rows_up_to : Edge → ℕ → Laid Edge
+blank_rows_up_to e n = blank_rows e (if e.sheet.heading then 0 else n - e.sheet.blank_rows)
+
+-- a new word is placed after a count of blanks
+abbrev pub placed : Edge → ℕ → Laid Edge
+placed e n = nothing (record e { word = placed_word n })
+
+-- after a tag with this hang: where a blank fits before the hang, the next word stands there; else by the tag's form
+abbrev pub after_tag : Edge → OpenTag → Laid Edge
+after_tag e tag =
+    let hang = min tag.hang HANG_MAX in
+    let fits = nat_le (e.sheet.tag_columns + 1) hang in
+    elim tag.form [
+      | forms.Row ↦ if fits then placed e (hang - e.sheet.tag_columns) else row_end e
+      | forms.Hang ↦ placed e (if fits then hang - e.sheet.tag_columns else 1)
+      | forms.Inset n ↦ placed e n
+    ]
+
+-- a tag without a cell is none
+abbrev pub tag_ended : Edge → Option OpenTag → Laid Edge
+tag_ended e None = nothing e
+tag_ended e (Some tag) = if e.sheet.tag_begun then after_tag e tag else nothing e
+
+-- the blanks from the end of cells up to a column, one at least after a cell; and up to the next tab stop
+abbrev pub to_column : List Cell → ℕ → ℕ
+to_column cells n = if length cells == 0 then n else if nat_lt (columns cells) n then n - columns cells else 1
+
+abbrev pub stop_content : List Cell → Place → List CellOrNote
+stop_content cells place = cell_content place (replicate (TAB_STOP - columns cells % TAB_STOP) blank)
+
+unfoldable pub other_laid : Edge → Piece (List ℕ) → Laid Edge
+-- the row ends; that of a line that is kept as it is ends with a blank row where it has no cell
+other_laid e Break = row_end e
+other_laid e RowEnd = if length e.sheet.cells == 0 then seq (row_end e) (λ f. blank_rows f 1) else row_end e
+-- the row ends, and blank rows follow
+other_laid e (Para n) = seq (row_end e) (λ f. blank_rows_up_to f n)
+other_laid e (Space n) = seq (row_end e) (λ f. blank_rows f n)
+-- the row ends as a heading's, if there is one
+other_laid e Heading = over (row_end e) (λ f. if length e.sheet.cells == 0 then f else record f { sheet = record f.sheet { heading = true } })
+-- from here on: the margins of the next row and of those after it, also while a row or a word is open; how rows are filled; the open tag
+other_laid e (Indent first rest) = nothing (record e { sheet = record e.sheet { first = first; rest = rest } })
+other_laid e (Literal literal) = nothing (record e { sheet = record e.sheet { literal = literal } })
+other_laid e (Tag hang form) = nothing (record e { sheet = record e.sheet { tag_columns = 0; tag_begun = false }; tag = Some (record { hang = hang; form = form }) })
+-- by the columns of the tag's cells the next word is placed, or the row ends
+other_laid e TagEnd = tag_ended (record e { tag = None }) e.tag
+-- the next word is placed at a column
+other_laid e (Column n) = placed e (to_column e.sheet.cells n)
+-- the word goes on: in a row that is kept as it is by blanks up to the next stop, else as words_of has it
+other_laid e (Tab font place) = if e.sheet.literal then seq (content_laid e place []) (λ f. content_laid f place (stop_content f.sheet.cells place)) else words_laid e (shown (Tab font place) ∷ [])
+-- the others are of words
+other_laid e p = words_laid e (shown p ∷ [])
+
+-- ---- all
+
+abbrev pub group_laid : Edge → Group → Laid Edge
+group_laid e (words items) = words_laid e items
+group_laid e (other p) = other_laid e p
+
+unfoldable pub groups_laid : Edge → List Group → Laid Edge
+groups_laid e [] = nothing e
+groups_laid e (group ∷ more) = seq (group_laid e group) (λ f. groups_laid f more)
+
+-- what items lay from an edge
+abbrev pub filled : Edge → List Item → Laid Edge
+filled e items = groups_laid e (groups items)

@@ -1,0 +1,165 @@
+-- The words of pieces between two breaks, and the messages among them: each word with the blanks before it, and what it holds, cells and
+-- messages. Texts that are glued are one word. From an edge they lead to the next one.
+-- Source: roff(7), "Filling and adjusting".
+use Rattle.std.specs.Prelude.{ℕ, Bool, true, false, not, ◌&&◌, ◌||◌, ◌==◌, List, [], ◌∷◌, ◌++◌, length, map, replicate, if◌then◌else◌}
+use Rattle.page_core_base.specs.declared.cells.Cell.{Cell}
+use Rattle.page_core_base.specs.declared.cells.Font.{Font}
+use Rattle.page_core_base.specs.declared.page_settings.Output.{Output}
+use Rattle.page_core_base.specs.declared.pieces.Piece.{Piece}
+use Rattle.page_core_base.specs.declared.pieces.Piece.TheVariants.{Text, Glyph, Char, Tab, Blank, Glue, Split}
+use Rattle.page_core_base.specs.declared.places.Place.{Place}
+use Rattle.page_core_base.specs.Messages.{Message}
+use Rattle.page_core_tables.specs.Printed.{Printing, char_printed, glyph_printed}
+use Rattle.page_fill_steps.specs.declared.edges.OpenWord.{OpenWord}
+use Rattle.page_fill_steps.specs.declared.edges.Edge.{Edge}
+use Rattle.page_fill_rows.specs.OpenRows.{Sheet, over, blank, more_blank_rows}
+use Rattle.page_fill_rows.specs.Characters.{cell_of, cells_of, characters_of, unknown_notes}
+use Rattle.page_fill_steps.specs.Edges.{tab_notes, begun_word, blanks_wait, opened_word, glued_word}
+use Rattle.page_fill.specs.Filled.{CellOrNote, shown, noted, Word, Frame, Row, rest_of_word, filling}
+use Rattle.page_core_base.specs.Pieces.{Item}
+use Rattle.page_core_base.specs.Pieces as items
+use Rattle.page_core_base.specs.Rows.{LaidRow, is_blank_row}
+use Rattle.page_core_base.specs.Laid.{Laid, seq}
+
+-- ---- cells and messages
+
+abbrev pub cell_content : Place → List Cell → List CellOrNote
+cell_content place cells = map (λ cell. shown cell place) cells
+
+-- what is printed, after a message about what can't be
+abbrev pub printed_content : Printing → Font → Place → List CellOrNote
+printed_content printing font place = map noted (unknown_notes printing.unknown place) ++ cell_content place (cells_of font printing.characters)
+
+unfoldable pub text_content : Output → List ℕ → Font → Place → List CellOrNote
+text_content output [] font place = []
+text_content output (c ∷ cs) font place = printed_content (char_printed output c) font place ++ text_content output cs font place
+
+-- a tab is a blank of its word, which is reported once a word
+abbrev pub tab_content : (is_told : Bool) → Font → Place → List CellOrNote
+tab_content is_told font place = map noted (tab_notes (not is_told) place) ++ shown (cell_of font 32) place ∷ []
+
+-- ---- what waits
+
+-- after a cell: its word goes on
+abbrev pub after_cell : Bool → OpenWord → OpenWord
+after_cell literal w = if w.is_joined then w else begun_word (w.has_tab && not literal)
+
+-- what waits after a piece
+abbrev pub word_after : Bool → OpenWord → Piece (List ℕ) → OpenWord
+word_after literal w (Text bytes font place) = if length (characters_of bytes) == 0 then opened_word w else after_cell literal w
+word_after literal w (Glyph name font place) = after_cell literal w
+word_after literal w (Char c font place) = after_cell literal w
+word_after literal w (Tab font place) = record (after_cell literal w) { is_told = true }
+word_after literal w (Blank count has_tab) = blanks_wait w count has_tab
+word_after literal w Glue = glued_word w
+word_after literal w _ = w
+
+-- ---- words
+
+-- what goes on with the open word, and the words after it
+pub record Words : Type 0 where
+  pub first : List CellOrNote
+  pub later : List Word
+
+abbrev pub no_more : Words
+no_more = record { first = []; later = [] }
+
+-- a word with the blanks that wait before it. They are cells of it where rows are kept as they are, and where they place it in an empty row.
+abbrev pub word_of : (literal empty : Bool) → OpenWord → Place → List CellOrNote → Word
+word_of literal empty w place content =
+    let notes = tab_notes (w.has_tab && not literal) place in
+    if literal || (w.is_placed && empty) then record { notes = notes; blanks = 0; place = place; content = cell_content place (replicate w.blanks blank) ++ content }
+    else record { notes = notes; blanks = w.blanks; place = place; content = content }
+
+-- content goes on with the open word, or begins one, which what follows may go on with
+abbrev pub and_then : (literal empty : Bool) → OpenWord → Place → List CellOrNote → Words → Words
+and_then literal empty w place content rest =
+    if w.is_joined then record { first = content ++ rest.first; later = rest.later }
+    else record { first = []; later = word_of literal empty w place (content ++ rest.first) ∷ rest.later }
+
+-- the open word is parted: what follows is a word without a blank
+abbrev pub parted : Words → Words
+parted rest = record { first = []; later = record { notes = []; blanks = 0; place = record { line = 0; column = 0 }; content = rest.first } ∷ rest.later }
+
+abbrev pub words_from : Output → (literal empty : Bool) → OpenWord → Piece (List ℕ) → Words → Words
+words_from output literal empty w (Text bytes font place) rest =
+    if length (characters_of bytes) == 0 then rest else and_then literal empty w place (text_content output (characters_of bytes) font place) rest
+words_from output literal empty w (Glyph name font place) rest = and_then literal empty w place (printed_content (glyph_printed output name) font place) rest
+words_from output literal empty w (Char c font place) rest = and_then literal empty w place (printed_content (char_printed output c) font place) rest
+words_from output literal empty w (Tab font place) rest = and_then literal empty w place (tab_content (after_cell literal w).is_told font place) rest
+words_from output literal empty w Split rest = if w.is_joined && not literal then parted rest else rest
+words_from output literal empty w _ rest = rest
+
+-- a message stands after what came
+abbrev pub after_message : Message → Words → Words
+after_message m rest = record { first = noted m ∷ rest.first; later = rest.later }
+
+unfoldable pub words_of : Output → (literal empty : Bool) → OpenWord → List Item → Words
+words_of output literal empty w [] = no_more
+words_of output literal empty w (items.noted m ∷ more) = after_message m (words_of output literal empty w more)
+words_of output literal empty w (items.shown p ∷ more) = words_from output literal empty w p (words_of output literal empty (word_after literal w p) more)
+
+-- what waits after them
+unfoldable pub word_after_items : Bool → OpenWord → List Item → OpenWord
+word_after_items literal w [] = w
+word_after_items literal w (items.noted m ∷ more) = word_after_items literal w more
+word_after_items literal w (items.shown p ∷ more) = word_after_items literal (word_after literal w p) more
+
+-- ---- from an edge
+
+-- how its rows are filled, and its open row
+abbrev pub frame_of : Sheet → Frame
+frame_of s = record { width = s.width; fills = not s.literal; rest = s.rest }
+
+abbrev pub open_row_of : Sheet → Row
+open_row_of s = record {
+  margin = s.margin;
+  cells = s.cells;
+  gap = s.gap;
+  word = s.word;
+  next = s.first;
+  tag_columns = s.tag_columns;
+  tag_begun = s.tag_begun;
+}
+
+-- the blank rows at the end of rows, up to BLANK_ROWS, where so many stood there before them; and whether the last one is a heading's
+abbrev pub blank_rows_after : ℕ → List LaidRow → ℕ
+blank_rows_after n [] = n
+blank_rows_after n (row ∷ rows) = blank_rows_after (if is_blank_row row then more_blank_rows n 1 else 0) rows
+
+abbrev pub heading_after : Bool → List LaidRow → Bool
+heading_after heading [] = heading
+heading_after heading (row ∷ rows) = heading_after false rows
+
+-- the edge with another open row, after these rows, and with what waits
+abbrev pub with_row : Sheet → Row → List LaidRow → Sheet
+with_row s row rows = record s {
+  first = row.next;
+  margin = row.margin;
+  cells = row.cells;
+  gap = row.gap;
+  word = row.word;
+  blank_rows = blank_rows_after s.blank_rows rows;
+  heading = heading_after s.heading rows;
+  tag_columns = row.tag_columns;
+  tag_begun = row.tag_begun;
+}
+
+abbrev pub next_edge : Edge → OpenWord → Laid Row → Laid Edge
+next_edge e w l = over l (λ row. record e { sheet = with_row e.sheet row l.rows; word = w })
+
+-- words go on from an edge: the first may go on with the open row's last word, and the others follow
+abbrev pub going_on : Sheet → Words → Laid Row
+going_on s words = seq (rest_of_word (frame_of s) (open_row_of s) words.first) (λ r. filling (frame_of s) r words.later)
+
+-- a group of words, with the messages among them
+unfoldable pub words_laid : Edge → List Item → Laid Edge
+words_laid e items =
+    let literal = e.sheet.literal in
+    next_edge e (word_after_items literal e.word items) (going_on e.sheet (words_of e.output literal (length e.sheet.cells == 0) e.word items))
+
+-- the open word goes on with this content; or one begins with the blanks that wait, and this is its first
+unfoldable pub content_laid : Edge → Place → List CellOrNote → Laid Edge
+content_laid e place content =
+    let literal = e.sheet.literal in
+    next_edge e (after_cell literal e.word) (going_on e.sheet (and_then literal (length e.sheet.cells == 0) e.word place content no_more))

@@ -1,4 +1,0 @@
-pub mod Filled
-pub mod PieceWords
-pub mod Filling
-pub mod Words

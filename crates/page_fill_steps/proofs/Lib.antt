@@ -1,0 +1,4 @@
+pub mod WordLemmas
+pub mod PlainWordLemmas
+pub mod WordRunLemmas
+pub mod TakenWordLemmas
