@@ -3,7 +3,8 @@ use Rattle.std.proofs.Common.{◌≡◌, ◌+◌, ◌*◌, ◌≤◌, List, leng
 use Rattle.std.proofs.lemmas.List.{length-map}
 use Rattle.page_roff_lines.specs.Decoding.{Line}
 use Rattle.page_core_limits.specs.declared.TheConstants.{EXPAND, REREAD}
-use Rattle.page_roff_source.proofs.CountLemmas.{lines_bound, lines_expansions}
+use Rattle.page_roff_source.specs.Moments.{Moment, IsMomentOf, IsNoLater, taken_at, expansions_at}
+use Rattle.page_roff_source.proofs.CountLemmas.{lines_bound, lines_expansions, each_bound}
 use Rattle.page_engine.specs.Page.{Edge, counts_at, edge, raw, raw_lines, settled}
 
 pub source_more : (e : Edge) (lines : List Line) → (counts_at (edge e lines)).source ≡ (counts_at e).source + length lines
@@ -19,3 +20,7 @@ pub expansions_more : (e : Edge) (lines : List Line)
     ≤ EXPAND * (counts_at (edge e lines)).taken + (counts_at e).expansions
 unfolding settled
 expansions_more e lines = lines_expansions e.lines.roff (raw_lines lines)
+
+pub each_line : (e : Edge) (line : Line) (m n : Moment) → IsMomentOf e.lines.roff (raw line) m → IsNoLater e.lines.roff m n → taken_at n ≡ taken_at m
+    → expansions_at n ≤ expansions_at m + EXPAND
+each_line e line m n h k t = each_bound e.lines.roff (raw line) m n h k t

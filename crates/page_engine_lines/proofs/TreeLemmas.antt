@@ -9,7 +9,8 @@ use Rattle.page_core_base.specs.declared.note_kinds.NoteKind.TheVariants.{Traili
 use Rattle.page_roff_effects.specs.States.{Given, says, takes}
 use Rattle.page_roff_forms.specs.Ends.{kept_len}
 use Rattle.page_roff_forms.specs.LineForms.{is_white}
-use Rattle.page_roff_source.specs.Edges.{Edge, SourceLine, before_line, run_line, line_given, line_done, end_notes}
+use Rattle.page_roff_source.specs.Edges.{Edge, SourceLine, end_notes}
+use Rattle.page_roff_source.specs.Taking.{before_line, run_line, line_given, line_done}
 use Rattle.page_roff_source.specs.Given.{given, done}
 use Rattle.page_roff_source.specs.LineByLine.{lines_given, lines_done}
 use Rattle.page_roff_source.proofs.CutLemmas.{given-append, done-append}

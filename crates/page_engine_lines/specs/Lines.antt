@@ -6,6 +6,7 @@ use Rattle.page_core_base.specs.declared.page_settings.Settings.{Settings}
 use Rattle.page_roff_forms.specs.Ends.{kept_len}
 use Rattle.page_roff_forms.specs.LineForms.{is_white}
 use Rattle.page_roff_source.specs.Edges as roff
+use Rattle.page_roff_source.specs.Taking as taking
 use Rattle.page_roff_source.specs.Edges.{Edge, SourceLine}
 use Rattle.page_engine_body.specs.Bodies as bodies
 use Rattle.page_engine_body.specs.Bodies.{BodyEdge}
@@ -27,12 +28,12 @@ trailing_notes number text =
 
 -- a source line: what roff gives of it goes through the macros, one after another
 unfoldable pub source_items : LinesEdge → ℕ → List ℕ → List Item
-source_items e number text = trailing_notes number text ++ given_items e.body (roff.line_given e.roff (source_line text number))
+source_items e number text = trailing_notes number text ++ given_items e.body (taking.line_given e.roff (source_line text number))
 
 abbrev pub source_after : LinesEdge → ℕ → List ℕ → LinesEdge
 source_after e number text = record {
-  roff = roff.line_done e.roff (source_line text number);
-  body = body_after e.body (roff.line_given e.roff (source_line text number));
+  roff = taking.line_done e.roff (source_line text number);
+  body = body_after e.body (taking.line_given e.roff (source_line text number));
 }
 
 -- the end of a page, after the line of a number: what roff left open, and then the body's end

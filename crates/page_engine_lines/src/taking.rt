@@ -3,7 +3,7 @@
 ghost use Rattle.std.specs.Prelude.{◌≡◌, ◌≤◌, length, None};
 ghost use Rattle.page_core_base.specs.Latches.{Came};
 ghost use Rattle.page_core_base.specs.LinesTaken.{line_seen};
-ghost use Rattle.page_roff_source.specs.Edges.{given_of};
+ghost use Rattle.page_roff_source.specs.Taking.{given_of};
 ghost use Rattle.page_engine_lines.specs.Lines as lines;
 ghost use Rattle.page_engine_lines.specs.Given.{given_items, body_after, line_after, line_items};
 

@@ -9,7 +9,7 @@ use Rattle.page_roff_blocks.proofs.FoldLemmas.{run_is_steps}
 use Rattle.page_core_limits.specs.declared.TheConstants.{CALLS, REREAD}
 use Rattle.page_roff_language.specs.Languages.{Kind, page, body, Done, gives, calls, finish_at, call_with, gives_at, meaning_at, run_page}
 use Rattle.page_roff_language.specs.Budgets.{Budgeted, Effects, with_rest, charge_by, charge, begin_line, whether_run, meet, test, unopened_by, read_line, end_line, meaning, done_with, language}
-use Rattle.page_roff_language.proofs.KeepLemmas.{KeepsParts, KeepsLines, parts_keep, run_keeps}
+use Rattle.page_roff_language.proofs.KeepLemmas.{KeepsParts, KeepsLines, IsAny, any_leaves, any_lines, parts_keep, run_keeps}
 
 left_if : Bool → ℕ → ℕ
 left_if true left = 0
@@ -56,25 +56,25 @@ module _ {R : Type 0} (e : Effects R) where
   done_within n s call keep (calls ls args r) h = keep ls args (with_rest e s r) h
 
   parts_within : (n d : ℕ) (kind : Kind) → ((text : List ℕ) (s : Budgeted R) → Within n s → Within n (gives_at (language e) d kind text s))
-      → KeepsParts (meaning_at (language e) d kind) (Within n)
+      → KeepsParts IsAny (meaning_at (language e) d kind) (Within n)
   unfolding meaning_at language meaning test with_rest Within bound
   parts_within n d kind gives_within =
       record {
         meets = meet_within n;
         tests = λ condition s h. h;
-        gives = gives_within;
+        gives = λ text s t h. gives_within text s h;
         refuses = λ head s h. h;
         unopened = λ s h. unopened_within n kind s.gave_up s h;
         opens_region = λ head is_run s h. h;
       }
 
-  lines_within : (n d : ℕ) (args : List (List ℕ)) → KeepsLines (meaning_at (language e) d (body args)) (Within n)
+  lines_within : (n d : ℕ) (args : List (List ℕ)) → KeepsLines IsAny (meaning_at (language e) d (body args)) (Within n)
   unfolding meaning_at language meaning begin_line read_line end_line with_rest Within bound
   lines_within n d args =
       record {
-        begins = λ line s h. charge_within n s h;
-        reads = λ o line s h. charge_within n s h;
-        ends_region = λ o line s h. charge_within n s h;
+        begins = λ line s t h. charge_within n s h;
+        reads = λ o line s t h. charge_within n s h;
+        ends_region = λ o line s t h. charge_within n s h;
       }
 
   gives_within : (d n : ℕ) (kind : Kind) (text : List ℕ) (s : Budgeted R) → Within n s → Within n (gives_at (language e) d kind text s)
@@ -82,7 +82,9 @@ module _ {R : Type 0} (e : Effects R) where
   gives_within zero n kind text s h = done_within n s (λ ls args s. s) (λ ls args s h. h) (e.leaf false kind text s.rest) h
   gives_within (suc d) n kind text s h =
       done_within n s (λ ls args s. finish_at (language e) (run_lines (meaning_at (language e) d (body args)) (λ t. t) ls (record { place = first_place; state = s })))
-      (λ ls args s h. run_keeps (meaning_at (language e) d (body args)) (Within n) (parts_within n d (body args) (gives_within d n (body args))) (lines_within n d args) ls (record { place = first_place; state = s }) h)
+      (λ ls args s h.
+      run_keeps IsAny (meaning_at (language e) d (body args)) (Within n) (parts_within n d (body args) (gives_within d n (body args)))
+      (λ line t. any_leaves (atoms line)) (lines_within n d args) ls (record { place = first_place; state = s }) (any_lines ls) h)
       (e.leaf true kind text s.rest) h
 
   begin_within : (s : Budgeted R) → Within (s.taken + 1 + REREAD) (begin_line e page s)
@@ -105,7 +107,8 @@ module _ {R : Type 0} (e : Effects R) where
   line_within None line l s =
       let n = s.taken + 1 + REREAD in
       let m = meaning_at (language e) CALLS page in
-      parts_keep m (Within n) (parts_within n CALLS page (gives_within CALLS n page)) (atoms line) (at_line l) (m.begins line s) (begins_page line s)
+      parts_keep IsAny m (Within n) (parts_within n CALLS page (gives_within CALLS n page)) (atoms line) (at_line l) (m.begins line s)
+      (any_leaves (atoms line)) (begins_page line s)
   line_within (Some o) line l s = inside_within (is_ending o.ending line) o line l s
 
   taken_bound : (n : ℕ) (s : Budgeted R) → Within n s → s.taken ≤ n

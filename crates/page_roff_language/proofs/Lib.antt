@@ -1,5 +1,6 @@
 pub mod BudgetLemmas
 pub mod FrontLemmas
+pub mod KeepEffects
 pub mod KeepLemmas
 pub mod MachineLemmas
 pub mod MeasureLemmas

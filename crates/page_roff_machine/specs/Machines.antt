@@ -121,3 +121,6 @@ pub record IsNew (output : Output) (m : Machine) : Type 0 where
 -- the page ends: a region that is open is dropped with a message
 abbrev pub end_notes : Machine → List Message
 end_notes m = (finish_outcome m.stack.top.region false m.actions.memory).notes
+
+abbrev pub end_memory : Machine → Memory
+end_memory m = (finish_outcome m.stack.top.region false m.actions.memory).memory

@@ -7,7 +7,7 @@ ghost use Rattle.page_core_limits.specs.declared.TheConstants.{ARGS, BODY, CALLS
 ghost use Rattle.page_roff_blocks.specs.Caps.{PlaceFits};
 ghost use Rattle.page_roff_values.specs.Latches.{Came};
 ghost use Rattle.page_roff_effects.specs.Caps.{MemoryFits};
-ghost use Rattle.page_roff_machine.specs.Machines.{Advances, Begins, IsNew, is_idle, end_notes, place_of};
+ghost use Rattle.page_roff_machine.specs.Machines.{Advances, Begins, IsNew, is_idle, end_memory, end_notes, place_of};
 
 use crate::budgeted_actions::BudgetedActions;
 use crate::runners::Runner;
@@ -97,6 +97,7 @@ impl Machine {
         ensures stack { self.new.stack ≡ self.old.stack }
         ensures budget { self.new.budget ≡ self.old.budget }
         ensures output { self.new.actions.setting ≡ self.old.actions.setting }
+        ensures memory { self.new.actions.memory ≡ end_memory self.old }
     {
         let region = self.runner.stack.region();
         self.runner.doing.actions.finish(region, false, out);

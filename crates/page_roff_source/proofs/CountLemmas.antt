@@ -17,7 +17,8 @@ use Rattle.page_roff_effects.specs.Leaves.{leaf_outcome}
 use Rattle.page_roff_effects.specs.RegionLines.{head_outcome, line_outcome, end_outcome, finish_outcome}
 use Rattle.page_roff_effects.specs.States.{Given, says, takes, State, Memory, Outcome, Product, no_product, line_product, call_product, lines_of, after}
 use Rattle.page_roff_effects.proofs.CountLemmas.{spends}
-use Rattle.page_roff_source.specs.Edges.{Edge, SourceLine, before_line, run_line, line_given, line_done, line_count}
+use Rattle.page_roff_source.specs.Edges.{Edge, SourceLine, line_count}
+use Rattle.page_roff_source.specs.Taking.{before_line, run_line, line_given, line_done}
 use Rattle.page_roff_source.specs.Given.{done}
 use Rattle.page_roff_source.specs.LineByLine.{lines_done}
 use Rattle.page_roff_source.specs.Moments.{Moment, IsMomentOf, IsNoLater, taken_at, expansions_at}

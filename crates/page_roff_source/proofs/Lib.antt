@@ -5,3 +5,4 @@ pub mod LineLemmas
 pub mod NoteLatchLemmas
 pub mod RoffLineLemmas
 pub mod RoomLemmas
+pub mod TextLemmas

@@ -17,7 +17,8 @@ use Rattle.page_roff_language.proofs.MachineLemmas.{page_law}
 use Rattle.page_roff_effects.specs.Effects.{effects, in_front}
 use Rattle.page_roff_effects.specs.States.{State, Given, says, Memory, numbered}
 use Rattle.page_roff_effects.proofs.GivenLemmas.{is_front}
-use Rattle.page_roff_source.specs.Edges.{Edge, SourceLine, before_line, run_line, line_given, line_done}
+use Rattle.page_roff_source.specs.Edges.{Edge, SourceLine}
+use Rattle.page_roff_source.specs.Taking.{before_line, run_line, line_given, line_done}
 use Rattle.page_roff_source.specs.Given.{head_of, before_lines, run_all, given, done}
 use Rattle.page_roff_source.specs.LineByLine.{lines_given, lines_done, StandsAt}
 

@@ -1,5 +1,6 @@
 -- The machine that runs a page's lines stands at the page's edge: helpers of proofs.
 use Rattle.std.proofs.Common.{◌≡◌, ℕ, ◌+◌, ◌≤◌, ◌<◌, ◌^◌, Bool, true, false, not, if◌then◌else◌, List, [], ◌∷◌, length, Option, Some, None, refl, sym, ap, subst, ◌∙◌, arith}
+use Rattle.page_core_base.specs.Texts.{IsLine}
 use Rattle.page_core_limits.specs.declared.TheConstants.{LINE, REREAD}
 use Rattle.page_core_base.specs.LinesTaken.{Line}
 use Rattle.page_core_base.specs.Messages.{Message}
@@ -20,12 +21,16 @@ use Rattle.page_roff_machine.specs.Giving.{next_line, after_line}
 use Rattle.page_roff_machine.specs.Machines.{Machine, output_of, language_of, running_of, outcome_of, to_come, end_of, place_of, stands, begun_at, Begins, Advances, taken_if, IsIdleUnless, IsNew}
 use Rattle.page_roff_machine.specs.Machines as machine
 use Rattle.page_roff_machine.proofs.MachineLemmas.{idle_stands, new_idle}
+use Rattle.page_roff_texts.specs.Texts.{HoldsTexts, AreGiven}
+use Rattle.page_roff_texts.proofs.EffectTexts.{first_holds, finish_holds}
 use Rattle.page_roff_source.specs.declared.counts.Counts.{Counts}
 use Rattle.page_roff_source.specs.Caps.{RoffFits}
-use Rattle.page_roff_source.specs.Edges.{Edge, LinesState, SourceLine, first_edge, before_line, run_line, line_begun, line_taken, left_if, counts_of, end_notes}
-use Rattle.page_roff_source.specs.RoffLines.{edge_of, state_of, IsCounted, IsAtEdge}
+use Rattle.page_roff_source.specs.Edges.{Edge, SourceLine, first_edge, counts_of, end_notes}
+use Rattle.page_roff_source.specs.Taking.{LinesState, before_line, run_line, line_begun, given_of, line_taken, left_if}
+use Rattle.page_roff_source.specs.RoffLines.{edge_of, state_of, IsCounted, IsAtEdge, RunsOn}
 use Rattle.page_roff_source.proofs.CountLemmas.{taken_bound}
 use Rattle.page_roff_source.proofs.RoomLemmas.{done_room}
+use Rattle.page_roff_source.proofs.TextLemmas.{line_texts, taken_is, taken_line}
 
 -- an edge by what leaves the page there
 abbrev edge_with : Output → At (Budgeted State) → ℕ → Option (List Given) → Edge
@@ -149,9 +154,12 @@ is_idle_of m source true e = refl
 is_idle_of m source false e = absurd (cc)
 
 pub new_invariant : (output : Output) (m : Machine) → IsNew output m → IsAtEdge m 0 true
+unfolding AreGiven
 new_invariant output m n = record {
   idle = λ _. new_idle output m n;
   counted = subst IsCounted (sym (new_at output m n)) (new_counted output);
+  texts = subst (λ (e : Edge). HoldsTexts e.memory) (sym (new_at output m n)) first_holds;
+  given = tt;
 }
 
 pub begin_room : (m : Machine) (source : ℕ) (is_idle : Bool) → IsAtEdge m source is_idle → (edge_of m source is_idle).to_come ≡ None
@@ -166,24 +174,49 @@ begin_edge old new source true line number p none b = begun old new source (reco
 begin_edge old new source false line number p none b = absurd (cc)
 
 pub begin_invariant : (old new : Machine) (source : ℕ) (is_idle : Bool) (line : List ℕ) (number : ℕ) → IsAtEdge old source is_idle
-    → (edge_of old source is_idle).to_come ≡ None → Begins line number old new → source < 2 ^ 31 → length line ≤ LINE
+    → (edge_of old source is_idle).to_come ≡ None → Begins line number old new → source < 2 ^ 31 → IsLine line
     → IsAtEdge new (source + 1) false
-begin_invariant old new source is_idle line number p none b few short =
+begin_invariant old new source is_idle line number p none b few t =
     let l : SourceLine = record { text = line; number = number; notes = [] } in
     let e = edge_of old source is_idle in
+    let same = sym (begin_edge old new source is_idle line number p none b) in
+    let h = line_texts e l p.texts t in
     record {
       idle = λ h. absurd (cc);
-      counted = subst IsCounted (sym (begin_edge old new source is_idle line number p none b)) (begun_counted e l p.counted few short);
+      counted = subst IsCounted same (begun_counted e l p.counted few t.bounded);
+      texts = subst (λ (x : Edge). HoldsTexts x.memory) same h.memory;
+      given = subst (λ (x : Edge). AreGiven (given_of x)) same h.out;
     }
 
 -- after the next line, or at the end
 pub advance_invariant : {P S : Type 0} (left : P → S → List Message → Type 0) (old new : Machine) (source : ℕ) (s t : S) (result : Bool)
     → IsAtEdge old source false → Advances left old s result new t → IsAtEdge new source (not result)
-advance_invariant left old new source s t result p a = record {
-  idle = idle_unless result new a.idle;
-  counted = subst IsCounted (sym (advanced left old new source s t result a))
-      (record { source = p.counted.source; taken = p.counted.taken; skipped = p.counted.skipped });
-}
+advance_invariant left old new source s t result p a =
+    let same = sym (advanced left old new source s t result a) in
+    record {
+      idle = idle_unless result new a.idle;
+      counted = subst IsCounted same (record { source = p.counted.source; taken = p.counted.taken; skipped = p.counted.skipped });
+      texts = subst (λ (x : Edge). HoldsTexts x.memory) same p.texts;
+      given = subst (λ (x : Edge). AreGiven (given_of x)) same (taken_is (edge_of old source false) p.given);
+    }
+
+-- it runs on where not all was given
+pub advance_at : {P S : Type 0} (left : P → S → List Message → Type 0) (old new : Machine) (source : ℕ) (is_idle : Bool) (s t : S) (result : Bool)
+    → IsAtEdge old source is_idle → is_idle ≡ false → Advances left old s result new t → IsAtEdge new source (not result)
+advance_at left old new source true s t result p e a = absurd (cc)
+advance_at left old new source false s t result p e a = advance_invariant left old new source s t result p a
+
+pub runs_on : {P S : Type 0} (left : P → S → List Message → Type 0) (old new : Machine) (source : ℕ) (is_idle : Bool) (r : LinesState) (s t : S) (result : Bool)
+    → IsAtEdge old source is_idle → is_idle ≡ false → state_of old source is_idle ≡ r → Advances left old s result new t
+    → RunsOn left r s result (state_of new source (not result)) t
+runs_on left old new source true r s t result p e v a = absurd (cc)
+runs_on left old new source false r s t result p e v a =
+    rw (← v) (record {
+      came = a.came;
+      line = a.line;
+      text = taken_line result new.actions.line (to_come old) p.given a.line;
+      edge = advanced left old new source s t result a;
+    })
 
 -- where all was given, the machine stands at the page's edge
 pub counts_at : (m : Machine) (source : ℕ) (is_idle : Bool) → IsAtEdge m source is_idle → (edge_of m source is_idle).to_come ≡ None
@@ -221,8 +254,16 @@ ended_counted old new source i j s b c =
     record { source = c.source; taken = omega (arith, t, c.taken); skipped = omega (arith, k, c.skipped) }
 
 pub end_invariant : (old new : Machine) (source : ℕ) (is_idle : Bool) → IsAtEdge old source is_idle → (edge_of old source is_idle).to_come ≡ None
-    → new.stack ≡ old.stack → new.budget ≡ old.budget → IsAtEdge new source is_idle
-end_invariant old new source true p none s b =
+    → new.stack ≡ old.stack → new.budget ≡ old.budget → new.actions.memory ≡ machine.end_memory old → IsAtEdge new source is_idle
+unfolding AreGiven
+end_invariant old new source true p none s b m =
     let i = ap (λ (x : stack.Stack). is_nothing (stack.next_of x)) s ∙ p.idle refl in
-    record { idle = λ _. i; counted = ended_counted old new source (p.idle refl) i s b p.counted }
-end_invariant old new source false p none s b = absurd (cc)
+    let held : HoldsTexts old.actions.memory = subst (λ (a : At (Budgeted State)). HoldsTexts a.state.rest.memory) (idle_stands old (p.idle refl)) p.texts in
+    let left = finish_holds old.stack.top.region false old.actions.memory held in
+    record {
+      idle = λ _. i;
+      counted = ended_counted old new source (p.idle refl) i s b p.counted;
+      texts = subst (λ (a : At (Budgeted State)). HoldsTexts a.state.rest.memory) (sym (idle_stands new i)) (subst HoldsTexts (sym m) left);
+      given = tt;
+    }
+end_invariant old new source false p none s b m = absurd (cc)

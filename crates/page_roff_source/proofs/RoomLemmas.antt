@@ -11,7 +11,8 @@ use Rattle.page_roff_language.specs.Languages.{page, meaning_at, run_page}
 use Rattle.page_core_limits.specs.declared.TheConstants.{CALLS}
 use Rattle.page_roff_language.specs.Budgets.{language}
 use Rattle.page_roff_effects.specs.Effects.{effects}
-use Rattle.page_roff_source.specs.Edges.{Edge, SourceLine, before_line, run_line, line_done}
+use Rattle.page_roff_source.specs.Edges.{Edge, SourceLine}
+use Rattle.page_roff_source.specs.Taking.{before_line, run_line, line_done}
 
 IsRoomy : {S : Type 0} → Levels → List ℕ → At S → Type 0
 IsRoomy l line a = a.place.levels.skipped ≤ l.skipped + (2 * length line + 2)

@@ -1,17 +1,10 @@
--- What roff gives of a page's lines, and what decides the rest of a page. Source: roff(7), "LANGUAGE SYNTAX"; mandoc(1), "DIAGNOSTICS".
-use Rattle.std.specs.Prelude.{ℕ, suc, ◌+◌, Bool, false, is_none, List, [], ◌∷◌, ◌++◌, Option, Some, None, unwrap_or}
-use Rattle.page_core_base.specs.LinesTaken.{Line}
+-- What decides the rest of a page between two of its lines. Source: roff(7), "LANGUAGE SYNTAX"; mandoc(1), "DIAGNOSTICS".
+use Rattle.std.specs.Prelude.{ℕ, suc, false, List, [], ◌∷◌, Option, None}
 use Rattle.page_core_base.specs.Messages.{Message}
 use Rattle.page_core_base.specs.declared.page_settings.Output.{Output}
 use Rattle.page_roff_blocks.specs.Levels.{Place, first_place}
-use Rattle.page_roff_blocks.specs.Run.{At}
-use Rattle.page_roff_language.specs.Budgets.{Budgeted, language}
-use Rattle.page_roff_language.specs.Languages.{run_page}
-use Rattle.page_core_limits.specs.declared.TheConstants.{REREAD}
-use Rattle.page_roff_effects.specs.Effects.{effects}
 use Rattle.page_roff_effects.specs.RegionLines.{finish_outcome}
-use Rattle.page_roff_effects.specs.States.{Memory, State, Given, says, takes, first_memory, numbered}
-use Rattle.page_roff_machine.specs.Giving.{next_line, after_line}
+use Rattle.page_roff_effects.specs.States.{Memory, Given, says, takes, first_memory}
 use Rattle.page_roff_source.specs.declared.counts.Counts.{Counts}
 
 -- a line of the page, with its number, and the messages in front of what it gives, as those of its cutting
@@ -30,13 +23,6 @@ pub record Edge : Type 0 where
   pub taken : ℕ
   pub to_come : Option (List Given)
 
--- The lines of a page as they run: what decides the rest; the finished line that was given last; and the body with the arguments of each
--- macro that runs, from the inside out, which say how much is held and decide nothing that comes.
-pub record LinesState : Type 0 where
-  pub edge : Edge
-  pub line : Line
-  pub running : List (List ℕ)
-
 -- before the first line of a page
 abbrev pub first_edge : Output → Edge
 first_edge output = record {
@@ -46,71 +32,6 @@ first_edge output = record {
   source = 0;
   taken = 0;
   to_come = None;
-}
-
--- ---- one line
-
--- the line begins where the page stands, with a budget of its own
-unfoldable pub before_line : Edge → SourceLine → At (Budgeted State)
-before_line e line = record {
-  place = e.place;
-  state = record {
-    left = REREAD;
-    gave_up = false;
-    taken = e.taken;
-    rest = record { memory = numbered line.number e.memory; out = [] };
-  };
-}
-
--- the line is run, with the macros that it calls
-unfoldable pub run_line : Edge → SourceLine → At (Budgeted State)
-run_line e line = run_page (language (effects e.output)) (line.text ∷ []) (before_line e line)
-
--- what it gives after the messages in front: messages, and lines for the set of macros
-abbrev pub line_given : Edge → SourceLine → List Given
-line_given e line = (run_line e line).state.rest.out
-
--- where it leaves the page, and what is still to be given
-abbrev pub left_at : Edge → At (Budgeted State) → Option (List Given) → Edge
-left_at e after to_come = record {
-  output = e.output;
-  place = after.place;
-  memory = after.state.rest.memory;
-  source = e.source + 1;
-  taken = after.state.taken;
-  to_come = to_come;
-}
-
--- a line begins: all that it gives is to come
-abbrev pub line_begun : Edge → SourceLine → Edge
-line_begun e line = left_at e (run_line e line) (Some (line_given e line))
-
--- all that it gives was given
-abbrev pub line_done : Edge → SourceLine → Edge
-line_done e line = left_at e (run_line e line) None
-
--- ---- what is given of it, line after line
-
-abbrev pub is_idle : Edge → Bool
-is_idle e = is_none e.to_come
-
--- what is still to be given of the present line
-abbrev pub given_of : Edge → List Given
-given_of e = unwrap_or e.to_come []
-
--- after the next line for the set of macros, or after the last message
-abbrev pub left_if : Option Line → List Given → Option (List Given)
-left_if None given = None
-left_if (Some line) given = Some given
-
-abbrev pub line_taken : Edge → Edge
-line_taken e = record {
-  output = e.output;
-  place = e.place;
-  memory = e.memory;
-  source = e.source;
-  taken = e.taken;
-  to_come = left_if (next_line (given_of e)) (after_line (given_of e));
 }
 
 -- ---- the end

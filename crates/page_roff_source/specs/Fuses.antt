@@ -7,7 +7,8 @@ use Rattle.page_core_base.specs.declared.faults.Fault.TheVariants.{WriteNotes}
 use Rattle.page_core_base.specs.declared.page_settings.Output.{Output}
 use Rattle.page_roff_effects.specs.States.{Given}
 use Rattle.page_roff_source.specs.declared.counts.Counts.{Counts}
-use Rattle.page_roff_source.specs.Edges.{Edge, first_edge, is_idle, counts_of}
+use Rattle.page_roff_source.specs.Edges.{Edge, first_edge, counts_of}
+use Rattle.page_roff_source.specs.Taking.{is_idle}
 
 -- What decides the rest, until a message is refused or the page ends; the body with the arguments of each macro that runs, from the inside
 -- out; and what was counted up to the last line that is done.

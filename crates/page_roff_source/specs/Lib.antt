@@ -5,3 +5,4 @@ pub mod Given
 pub mod LineByLine
 pub mod Moments
 pub mod RoffLines
+pub mod Taking

@@ -4,7 +4,8 @@ use Rattle.std.specs.Prelude.{◌≡◌, List, [], ◌∷◌, ◌++◌, map}
 use Rattle.page_roff_blocks.specs.Run.{At}
 use Rattle.page_roff_language.specs.Budgets.{Budgeted}
 use Rattle.page_roff_effects.specs.States.{State, Given, says}
-use Rattle.page_roff_source.specs.Edges.{Edge, SourceLine, line_given, line_done}
+use Rattle.page_roff_source.specs.Edges.{Edge, SourceLine}
+use Rattle.page_roff_source.specs.Taking.{line_given, line_done}
 
 -- what lines give, each after the messages in front of it
 unfoldable pub lines_given : Edge → List SourceLine → List Given

@@ -7,7 +7,8 @@ use Rattle.page_roff_language.specs.Machine.{Running, at_page}
 use Rattle.page_roff_language.specs.Spending.{Leads}
 use Rattle.page_roff_effects.specs.Effects.{effects}
 use Rattle.page_roff_effects.specs.States.{State}
-use Rattle.page_roff_source.specs.Edges.{Edge, SourceLine, before_line}
+use Rattle.page_roff_source.specs.Edges.{Edge, SourceLine}
+use Rattle.page_roff_source.specs.Taking.{before_line}
 
 -- the sources that run, with how many lines were taken and what is remembered
 abbrev pub Moment : Type 0

@@ -1,12 +1,15 @@
 -- The lines of a page in terms of the machine that runs them: what the code holds, which no public clause cites. Trust needs no reading of it.
 use Rattle.std.specs.Prelude.{◌≡◌, ℕ, ◌+◌, ◌*◌, ◌≤◌, ◌^◌, Bool, true, if◌then◌else◌, List, Some, None}
 use Rattle.page_core_base.specs.Messages.{Message}
+use Rattle.page_core_base.specs.Texts.{IsLine}
 use Rattle.page_core_limits.specs.declared.TheConstants.{LINE, REREAD}
 use Rattle.page_roff_values.specs.Latches.{Came}
 use Rattle.page_roff_machine.specs.Giving.{notes_before, next_line}
 use Rattle.page_roff_machine.specs.Machines.{Machine, output_of, outcome_of, to_come, taken_if}
 use Rattle.page_roff_machine.specs.Machines as machine
-use Rattle.page_roff_source.specs.Edges.{Edge, LinesState, given_of, line_taken}
+use Rattle.page_roff_texts.specs.Texts.{HoldsTexts, AreGiven}
+use Rattle.page_roff_source.specs.Edges.{Edge}
+use Rattle.page_roff_source.specs.Taking.{LinesState, given_of, line_taken}
 
 -- where the machine leaves the page, and what it still gives, unless that was all given
 abbrev pub edge_of : Machine → ℕ → Bool → Edge
@@ -37,10 +40,14 @@ state_of m source is_idle = record {
 pub record IsAtEdge (m : Machine) (source : ℕ) (is_idle : Bool) : Type 0 where
   pub idle : is_idle ≡ true → machine.is_idle m ≡ true
   pub counted : IsCounted (edge_of m source is_idle)
+  -- all that is remembered there is text, and each line that is still to be given is one
+  pub texts : HoldsTexts (edge_of m source is_idle).memory
+  pub given : AreGiven (given_of (edge_of m source is_idle))
 
 -- It ran on: the messages before the next line came, and that is the line from now on, if there is one.
 pub record RunsOn {P S : Type 0} (left : P → S → List Message → Type 0) (old : LinesState) (out : S)
     (result : Bool) (new : LinesState) (out_new : S) : Type 0 where
   pub came : Came left out (notes_before (given_of old.edge)) out_new
   pub line : next_line (given_of old.edge) ≡ taken_if result new.line
+  pub text : result ≡ true → IsLine new.line.text
   pub edge : new.edge ≡ line_taken old.edge

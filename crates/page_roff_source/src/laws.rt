@@ -2,7 +2,8 @@
 
 ghost use Rattle.std.specs.Prelude.{◌≡◌, ◌≤◌, ◌+◌, ◌*◌, List, ◌++◌, length, None};
 ghost use Rattle.page_core_limits.specs.declared.TheConstants.{EXPAND, REREAD};
-ghost use Rattle.page_roff_source.specs.Edges.{Edge, SourceLine, line_given, line_done, line_count};
+ghost use Rattle.page_roff_source.specs.Edges.{Edge, SourceLine, line_count};
+ghost use Rattle.page_roff_source.specs.Taking.{line_given, line_done};
 ghost use Rattle.page_roff_source.specs.Given.{given, done};
 ghost use Rattle.page_roff_source.specs.LineByLine.{lines_given, lines_done};
 ghost use Rattle.page_roff_source.specs.Moments.{Moment, IsMomentOf, IsNoLater, taken_at, expansions_at};

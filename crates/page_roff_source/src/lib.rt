@@ -1,8 +1,8 @@
 //! What roff gives of a page's lines, one finished line at a time (roff(7), "LANGUAGE SYNTAX").
 //!
 //! The top of roff: it takes the lines of `page_roff_lines`, runs them on `page_roff_machine`, and lends finished lines to the sets of macros:
-//! `RoffLines` to the page, `Roff` over a sink of messages. Read `specs/Given.antt` (all lines) and `Edges.antt` (one line) first, then
-//! `roff_lines.rt`.
+//! `RoffLines` to the page, `Roff` over a sink of messages. Read `specs/Edges.antt` (what decides the rest) and `Given.antt` (all
+//! lines) first, then `Taking.antt` (one line at a time) with `roff_lines.rt`.
 #![tactic(auto)]
 
 mod counts;

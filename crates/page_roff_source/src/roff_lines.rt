@@ -9,7 +9,8 @@ ghost use Rattle.page_core_limits.specs.declared.TheConstants.{LINE};
 ghost use Rattle.page_roff_values.specs.Latches.{Came};
 ghost use Rattle.page_roff_machine.specs.Giving.{notes_before, next_line};
 ghost use Rattle.page_roff_source.specs.Caps.{RoffFits, RunsWithin};
-ghost use Rattle.page_roff_source.specs.Edges.{first_edge, line_begun, given_of, line_taken, end_notes, is_idle, counts_of};
+ghost use Rattle.page_roff_source.specs.Edges.{first_edge, end_notes, counts_of};
+ghost use Rattle.page_roff_source.specs.Taking.{line_begun, given_of, line_taken, is_idle};
 ghost use Rattle.page_roff_source.specs.RoffLines.{RunsOn};
 
 use crate::counts::Counts;
@@ -30,7 +31,7 @@ pub struct RoffLines {
 }
 
 impl Model for RoffLines {
-    ghost use Rattle.page_roff_source.specs.Edges.{LinesState};
+    ghost use Rattle.page_roff_source.specs.Taking.{LinesState};
 
     ghost Value = { LinesState };
 
@@ -89,12 +90,12 @@ impl RoffLines {
         self.machine.line()
     }
 
-    /// The next finished line of the source line, of at most `LINE` bytes; none where the source line is done. The messages before it are
-    /// reported first.
+    /// The next finished line of the source line: UTF-8 of at most `LINE` bytes without a control character but the tab; none where the source
+    /// line is done. The messages before it are reported first.
     pub fn take_into<O: NoteOut>(&mut self, out: &mut O) -> Option<Taken<'_>>
         ensures came { Came O.left out.old (notes_before (given_of self.old.edge)) out.new }
         ensures line { option_map line_seen result ≡ next_line (given_of self.old.edge) }
-        ensures short { IfSome result (λ taken. length taken.text.now ≤ LINE) }
+        ensures text { IfSome result (λ taken. IsLine taken.text.now) }
         ensures* after { sem 𝓛 (follows_so the_row the_row self.entry.ghost_name none (λ _ _. ⊤)
             (λ v. v.edge ≡ line_taken self.old.edge)) }
     {

@@ -1,6 +1,6 @@
 //! Roff over a sink of messages.
 
-ghost use Rattle.std.specs.Prelude.{◌≡◌, ◌<◌, ◌≤◌, ◌^◌, ⊤, [], length, None, Some, Ok, Err, IfOk, IfErr, IfSome, OnOk, MatchResult, option_map};
+ghost use Rattle.std.specs.Prelude.{◌≡◌, true, ◌<◌, ◌≤◌, ◌^◌, ⊤, [], length, None, Some, Ok, Err, IfOk, IfErr, IfSome, OnOk, MatchResult, option_map};
 ghost use mathlib.Core.Option.{none};
 ghost use Rattle.std.specs.Borrow.{sem, follows_so};
 ghost use Rattle.page_core_base.specs.LinesTaken.{line_seen};
@@ -8,7 +8,8 @@ ghost use Rattle.page_core_base.specs.Texts.{IsLine};
 ghost use Rattle.page_core_limits.specs.declared.TheConstants.{LINE};
 ghost use Rattle.page_roff_machine.specs.Giving.{notes_before, next_line};
 ghost use Rattle.page_roff_source.specs.Caps.{RoffFits, RunsWithin};
-ghost use Rattle.page_roff_source.specs.Edges.{Edge, line_begun, given_of, line_taken, end_notes, counts_of};
+ghost use Rattle.page_roff_source.specs.Edges.{Edge, end_notes, counts_of};
+ghost use Rattle.page_roff_source.specs.Taking.{line_begun, given_of, line_taken};
 ghost use Rattle.page_roff_machine.specs.Machines.{taken_if};
 ghost use Rattle.page_roff_source.specs.Fuses.{first_state, is_idle_at, counts_from, Tells};
 
@@ -53,6 +54,7 @@ fn advance<N: NoteSink>(lines: &mut RoffLines, notes: &mut N) -> Result<bool, Fa
         (notes_before (given_of lines.old.edge)) notes.new }
     ensures line { IfOk result (λ is_taken. next_line (given_of lines.old.edge)
         ≡ taken_if is_taken lines.new.line) }
+    ensures text { IfOk result (λ is_taken. is_taken ≡ true → IsLine lines.new.line.text) }
     ensures edge { lines.new.edge ≡ line_taken lines.old.edge }
     ensures same { N.loans notes.new ≡ N.loans notes.old }
 {
@@ -112,8 +114,8 @@ impl Roff {
         }
     }
 
-    /// The next finished line of the source line, of at most `LINE` bytes; none where the source line is done. The messages before it are
-    /// given first.
+    /// The next finished line of the source line: UTF-8 of at most `LINE` bytes without a control character but the tab; none where the source
+    /// line is done. The messages before it are given first.
     ///
     /// Its fault is [`Fault::WriteNotes`]; after it, and after the end, it is [`Fault::Failed`].
     pub fn take<N: NoteSink>(&mut self, notes: &mut N) -> Result<Option<Taken<'_>>, Fault>
@@ -121,7 +123,7 @@ impl Roff {
             → Tells N.gave N.within N.failed result notes.old (notes_before (given_of e)) notes.new }
         ensures line { (e : Edge) → self.old.edge ≡ Some e
             → IfOk result (λ taken. option_map line_seen taken ≡ next_line (given_of e)) }
-        ensures short { IfOk result (λ taken. IfSome taken (λ t. length t.text.now ≤ LINE)) }
+        ensures text { IfOk result (λ taken. IfSome taken (λ t. IsLine t.text.now)) }
         ensures closed { self.old.edge ≡ None → (result ≡ Err Fault.Failed) × (notes.new ≡ notes.old) }
         ensures same { N.loans notes.new ≡ N.loans notes.old }
         ensures* after { sem 𝓛 (follows_so the_row the_row self.entry.ghost_name none (λ _ _. ⊤)

@@ -5,6 +5,7 @@ pub mod EndLemmas
 pub mod FollowLemmas
 pub mod FrontLemmas
 pub mod GoingLemmas
+pub mod GrowLemmas
 pub mod LatchLemmas
 pub mod LayLemmas
 pub mod LineLemmas

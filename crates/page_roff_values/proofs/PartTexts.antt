@@ -28,7 +28,7 @@ lens k n m e = go (nat_le k n) refl e
     go true t e = let same : k + 1 ≡ m = cc in let least : min (k + 1) (suc n) ≡ k + 1 = grind (arith, nat_tests) in least ∙ same
     go false t e = let no : ⊥ = cc in absurd no
 
-taken : (b : ℕ) (bs : List ℕ) → IsUtf8 (b ∷ bs) → Taken (b ∷ bs) (character_len (b ∷ bs))
+pub taken : (b : ℕ) (bs : List ℕ) → IsUtf8 (b ∷ bs) → Taken (b ∷ bs) (character_len (b ∷ bs))
 taken b bs u =
     let t = b ∷ bs in
     let f = first_of t u (omega arith) in
@@ -36,7 +36,7 @@ taken b bs u =
     let e : escapes.character_len t ≡ Some n = ap escapes.character_len f.is ∙ character_len-encode f.code f.rest in
     subst (Taken t) (sym (lens (continuation_len b) (length bs) n e)) (character_len-taken t n u e)
 
-character_cut : (t : List ℕ) → IsUtf8 t → CutsAt t (character_len t)
+pub character_cut : (t : List ℕ) → IsUtf8 t → CutsAt t (character_len t)
 character_cut [] u = record { within = omega arith; utf8 = u }
 character_cut (b ∷ bs) u = (taken b bs u).cut
 

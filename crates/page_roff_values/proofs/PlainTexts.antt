@@ -80,7 +80,7 @@ text_append xs ys h k = record {
   plain = plain_append 0 xs ys ∙ both_true (has_no_control 0 xs) (has_no_control (last_of 0 xs) ys) h.plain (other_before (last_of 0 xs) ys (last_fine xs h.utf8) ∙ k.plain);
 }
 
-text_split : (xs ys : List ℕ) → IsUtf8 xs → IsUtf8 ys → IsText (xs ++ ys) → IsText xs × IsText ys
+pub text_split : (xs ys : List ℕ) → IsUtf8 xs → IsUtf8 ys → IsText (xs ++ ys) → IsText xs × IsText ys
 text_split xs ys u v h =
     let both = split_true (has_no_control 0 xs) (has_no_control (last_of 0 xs) ys) (sym (plain_append 0 xs ys) ∙ h.plain) in
     (record { utf8 = u; plain = both.0 }, record { utf8 = v; plain = sym (other_before (last_of 0 xs) ys (last_fine xs u)) ∙ both.1 })

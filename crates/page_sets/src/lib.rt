@@ -1,10 +1,11 @@
 //! The door to the macro sets: what events a line of a page has. It gives out what `page_sets_lines`, `page_sets_man` and
-//! `page_sets_mdoc` hold; read those. Of its own it has the set of a page, which is one of the two.
+//! `page_sets_mdoc` hold, and the lines that they take (`page_core_base`); read those. Of its own it has the set of a page, which is one of the two.
 #![tactic(auto)]
 
 mod either;
 
 pub use either::{Either, EitherPlace};
+pub use page_core_base::{Form, Taken};
 pub use page_sets_lines::{
     Block, BlockCloser, BlockOpener, BodyParagraphName, Closer, Deed, Event, FontMacro,
     HeadingName, Join, Leaf, LineOpener, LineStep, Link, MacroSet, Marks, OneLineName, Opener, Own,

@@ -1,4 +1,4 @@
-use Rattle.page_roff_source.specs.Edges.{given_of}
+use Rattle.page_roff_source.specs.Taking.{given_of}
 use Rattle.page_core_base.specs.LinesTaken.{line_seen}
 use Rattle.page_engine_lines.specs.Given.{given_items, body_after}
 use Rattle.page_engine_lines.proofs.Parts.{taken_shorter, same_but_taken, body_taken, body_done, items_taken, items_done}
@@ -30,3 +30,6 @@ returns-clause-came g c =
 pub returns-clause-body : goal.returns-clause-body
 returns-clause-body g c =
     body_done c.loop-taken.body c.loop-taken.roff.edge (body_after c.args.body.now (given_of c.args.roff.now.edge)) c.in_default.ensures.line c.loop-taken.invariant.1
+
+pub give_finished-requires : goal.give_finished-requires
+give_finished-requires g c = c.in-Some.ensures.text.bounded

@@ -1,5 +1,5 @@
 use Rattle.std.proofs.Common.{sym, ap, ◌∙◌}
-use Rattle.page_roff_source.specs.Edges.{LinesState}
+use Rattle.page_roff_source.specs.Taking.{LinesState}
 use Rattle.page_roff_source.specs.Edges.{end_notes}
 use Rattle.page_roff_source.proofs.RoffLineLemmas.{none_in, end_notes_at, end_invariant}
 use Rattle.page_roff_source.proofs.roff_lines.RoffLines.end_into.Goals as goal
@@ -8,7 +8,7 @@ pub invariant_of-self : goal.invariant_of-self
 invariant_of-self g c =
     let a = c.self.inside in
     end_invariant a.machine c.end.new.self a.source a.is_idle c.self.invariant (none_in a.machine a.source a.is_idle _ c.self.view_is c.requires)
-    c.end.ensures.stack c.end.ensures.budget
+    c.end.ensures.stack c.end.ensures.budget c.end.ensures.memory
 
 pub returns-clause-came : goal.returns-clause-came
 returns-clause-came g c =

@@ -1,6 +1,6 @@
 use Rattle.std.proofs.Common.{[], ap, ◌∙◌}
-use Rattle.page_roff_source.specs.Edges.{LinesState}
-use Rattle.page_roff_source.specs.Edges.{line_begun}
+use Rattle.page_roff_source.specs.Taking.{LinesState}
+use Rattle.page_roff_source.specs.Taking.{line_begun}
 use Rattle.page_roff_source.proofs.RoffLineLemmas.{none_in, few_in, begin_room, begin_edge, begin_invariant}
 use Rattle.page_roff_source.proofs.roff_lines.RoffLines.source.Goals as goal
 
@@ -19,7 +19,7 @@ invariant_of-self c =
     let a = c.self.inside in
     begin_invariant a.machine c.begin.new.self a.source a.is_idle c.args.line.now c.args.number c.self.invariant
     (none_in a.machine a.source a.is_idle _ c.self.view_is c.requires.idle) c.begin.ensures
-    (few_in a.machine a.source a.is_idle _ c.self.view_is c.requires.count) c.requires.line.bounded
+    (few_in a.machine a.source a.is_idle _ c.self.view_is c.requires.count) c.requires.line
 
 pub returns : goal.returns
 returns c =
