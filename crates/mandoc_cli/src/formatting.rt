@@ -32,11 +32,11 @@ pub fn format_all<R: Files, I: Read, W: Write, V: Write>(
     err: &mut V,
 ) -> u8 {
     let settings = &format.settings;
-    if format.files.names().is_empty() {
+    if format.files.as_slice().is_empty() {
         return format_page(alloc, input, out, err, STANDARD_INPUT, settings).status;
     }
     let mut worst = 0;
-    for name in format.files.names() {
+    for name in format.files.as_slice() {
         let done = format_file(rt, alloc, out, err, name.as_str(), settings);
         worst = worst.max(done.status);
         if done.stops {

@@ -1,6 +1,8 @@
 -- The command line that `clap` is given, and what it says of the words.
-use Rattle.std.proofs.Common.{sym, ap, ◌∙◌, ◌≡◌, true, false, List, [], ◌∷◌, refl}
-use Rattle.std.specs.Prelude.{◌⊎◌, Option, codes, option_map, unwrap_or}
+use Rattle.std.proofs.Common.{ℕ, sym, ap, ap₂, ◌∙◌, ◌≡◌, true, false, map, List, [], ◌∷◌, refl}
+use Rattle.std.proofs.lemmas.List.{length-map}
+use Rattle.std.specs.List.{list_any}
+use Rattle.std.specs.Prelude.{Bool, not, ◌&&◌, ◌==◌, length, ◌⊎◌, Option, codes, option_map, unwrap_or}
 use Rattle.std.proofs.Common.{inl, inr}
 use Rattle.clap.specs.Built.{AddsArg, AddsInTurn}
 use Rattle.clap.specs.Words.{App, Row, Rule, with_rule, Kinds, IsAmong, app_of, fault_of, matched_of, raw_values, is_simple, is_simple_and_free, matches_of, rows_of}
@@ -9,10 +11,12 @@ use Rattle.clap.specs.declared.builder.arg.Arg.{Arg}
 use Rattle.clap.specs.declared.error.kind.ErrorKind.{ErrorKind}
 use Rattle.clap.specs.declared.error.kind.ErrorKind.TheVariants.{OutOfMemory}
 use Rattle.clap.specs.declared.parser.matches.Found.{Found}
-use Rattle.clap.proofs.WalkLemmas.{raw_values-rows}
+use Rattle.clap.proofs.WalkLemmas.{list_any-map, raw_values-rows}
 use Rattle.mandoc_command.specs.Names.{Text}
-use Rattle.mandoc_command.specs.Line.{HaveRules, line, is_line, files_in, found_in, has_none, refusal_by, with_rules}
+use Rattle.mandoc_command.specs.Line.{HaveRules, are_words, is_empty, line, is_line, names_in, found_in, has_none, refusal_by, with_rules}
 use Rattle.mandoc_command.specs.declared.commands.Refusal.TheVariants.{Words}
+use Rattle.mandoc_command.specs.declared.programs.Program.{Program}
+use Rattle.mandoc_command.specs.declared.programs.Program.TheVariants.{Format, Makewhatis, Whatis}
 
 -- arguments that are added in turn add their rules
 pub adds_rules : (old new : Command) (args : List Arg) (rules : List Rule) → AddsInTurn AddsArg old args new → HaveRules args rules
@@ -24,44 +28,52 @@ adds_rules old new (arg ∷ args) (rule ∷ rules) added have =
 adds_rules old new [] (rule ∷ rules) same have = absurd have
 adds_rules old new (arg ∷ args) [] added have = absurd have
 
--- the line is one of which `clap` gives the matches and the faults
-pub line_is_simple : is_simple line ≡ true
+-- each line is one of which `clap` gives the matches and the faults
+pub line_is_simple : (program : Program) → is_simple (line program) ≡ true
 unfolding line
-line_is_simple = refl
+line_is_simple Format = refl
+line_is_simple Makewhatis = refl
+line_is_simple Whatis = refl
 
-pub line_is_free : is_simple_and_free line ≡ true
+pub line_is_free : (program : Program) → is_simple_and_free (line program) ≡ true
 unfolding line
-line_is_free = refl
+line_is_free Format = refl
+line_is_free Makewhatis = refl
+line_is_free Whatis = refl
 
-pub is_line-ok : (a : App) (words : List Text) → a ≡ line → fault_of a words ≡ [] → is_line words ≡ true
+pub is_line-ok : (program : Program) (a : App) (words : List Text) → a ≡ line program → fault_of a words ≡ [] → is_line program words ≡ true
 unfolding is_line
-is_line-ok a words e none = ap (λ x. has_none (fault_of x words)) (sym e) ∙ ap has_none none
+is_line-ok program a words e none = ap (λ x. has_none (fault_of x words)) (sym e) ∙ ap has_none none
 
-pub found_in-ok : (a : App) (words : List Text) (rows : List Row) → a ≡ line → rows ≡ matches_of a words → rows ≡ found_in words
+pub found_in-ok : (program : Program) (a : App) (words : List Text) (rows : List Row) → a ≡ line program → rows ≡ matches_of a words → rows ≡ found_in program words
 unfolding found_in
-found_in-ok a words rows e found = found ∙ ap (λ x. matches_of x words) e
+found_in-ok program a words rows e found = found ∙ ap (λ x. matches_of x words) e
 
 among_some : (kind : ErrorKind) (kinds : Kinds) → IsAmong kind kinds → has_none kinds ≡ false
 among_some kind [] among = absurd among
 among_some kind (k ∷ kinds) among = refl
 
-is_line-among : (a : App) (words : List Text) (kind : ErrorKind) → a ≡ line → IsAmong kind (fault_of a words) → is_line words ≡ false
+is_line-among : (program : Program) (a : App) (words : List Text) (kind : ErrorKind) → a ≡ line program → IsAmong kind (fault_of a words) → is_line program words ≡ false
 unfolding is_line
-is_line-among a words kind e among = ap (λ x. has_none (fault_of x words)) (sym e) ∙ among_some kind (fault_of a words) among
+is_line-among program a words kind e among = ap (λ x. has_none (fault_of x words)) (sym e) ∙ among_some kind (fault_of a words) among
 
 not_memory : (kind : ErrorKind) → refusal_by kind ≡ Words → kind ≡ OutOfMemory → ⊥
 not_memory kind words memory = let bad : refusal_by OutOfMemory ≡ Words = sym (ap refusal_by memory) ∙ words in cc
 
 -- a fault that is no want of memory lies in the words
-pub is_line-err : (a : App) (words : List Text) (kind : ErrorKind) → a ≡ line → (kind ≡ OutOfMemory) ⊎ IsAmong kind (fault_of a words) → refusal_by kind ≡ Words
-    → is_line words ≡ false
-is_line-err a words kind e kinds refused = elim kinds [
+pub is_line-err : (program : Program) (a : App) (words : List Text) (kind : ErrorKind) → a ≡ line program → (kind ≡ OutOfMemory) ⊎ IsAmong kind (fault_of a words)
+    → refusal_by kind ≡ Words → is_line program words ≡ false
+is_line-err program a words kind e kinds refused = elim kinds [
   | inl memory ↦ absurd (not_memory kind refused memory)
-  | inr among ↦ is_line-among a words kind e among
+  | inr among ↦ is_line-among program a words kind e among
 ]
 
--- the files that `clap` found
-pub files_in-found : (found : Found) (names : Option (List Text)) → names ≡ option_map raw_values (matched_of found (codes "files"))
-    → unwrap_or names [] ≡ files_in (rows_of found)
-unfolding files_in
-files_in-found found names e = ap (λ o. unwrap_or o []) (e ∙ raw_values-rows found (codes "files"))
+-- whether words are there is told by them as well as by their texts
+pub are_words_map : {S : Type 0} (f : S → Text) (xs : List S) → are_words (map f xs) ≡ (not (length xs == 0) && not (list_any (λ x. is_empty (f x)) xs))
+are_words_map f xs = ap₂ (λ (n : ℕ) (b : Bool). not (n == 0) && not b) (length-map xs f) (sym (list_any-map is_empty f xs))
+
+-- the names that `clap` found
+pub names_in-found : (found : Found) (names : Option (List Text)) → names ≡ option_map raw_values (matched_of found (codes "names"))
+    → unwrap_or names [] ≡ names_in (rows_of found)
+unfolding names_in
+names_in-found found names e = ap (λ o. unwrap_or o []) (e ∙ raw_values-rows found (codes "names"))

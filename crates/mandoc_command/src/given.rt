@@ -2,14 +2,16 @@
 
 ghost use Rattle.std.specs.Prelude.{◌≡◌, true, false, IfOk, MatchResult};
 ghost use Rattle.clap.specs.Words.{app_of, found_of, rows_of, rule_of};
-ghost use Rattle.mandoc_command.specs.Line.{line, is_line, found_in, refusal_by, files_rule, option_rule, rules, HaveRules, texts};
+ghost use Rattle.mandoc_command.specs.Line.{line, is_line, found_in, refusal_by, names_rule, option_rule, flag_rule};
+ghost use Rattle.mandoc_command.specs.Line.{format_rules, makewhatis_rules, whatis_rules, rules, HaveRules, texts};
 
 use crate::Refusal;
+use crate::programs::Program;
 use clap::error::ErrorKind;
 use clap::{Arg, ArgAction, ArgMatches};
 use std::alloc::{AllocError, Global};
 
-/// The value of each option that is given.
+/// The value of each option of the formatter that is given.
 #[derive(Clone, Copy)]
 pub(crate) struct Given<'a> {
     /// `-T`
@@ -47,13 +49,18 @@ impl<'a> Given<'a> {
     }
 }
 
-/// What is found in the words of a command line.
-pub(crate) fn matches_in<'a>(alloc: Global, words: &'a [&'a str]) -> Result<ArgMatches<'a>, Refusal>
+/// What is found in the words of a program's command line.
+pub(crate) fn matches_in<'a>(
+    alloc: Global,
+    program: Program,
+    words: &'a [&'a str],
+) -> Result<ArgMatches<'a>, Refusal>
     ensures { MatchResult result
-        (λ matches. (is_line (texts words.now) ≡ true) × (rows_of (found_of matches) ≡ found_in (texts words.now)))
-        (λ refusal. refusal ≡ Refusal.Words → is_line (texts words.now) ≡ false) }
+        (λ matches. (is_line program (texts words.now) ≡ true)
+        × (rows_of (found_of matches) ≡ found_in program (texts words.now)))
+        (λ refusal. refusal ≡ Refusal.Words → is_line program (texts words.now) ≡ false) }
 {
-    let Ok(line) = line(alloc) else {
+    let Ok(line) = line(alloc, program) else {
         return Err(Refusal::Memory);
     };
     match line.try_get_matches_from(words) {
@@ -72,11 +79,11 @@ fn refusal_by(kind: ErrorKind) -> Refusal
     }
 }
 
-// The options and files of a command line, with no name of the program in front, no help and no version.
-fn line<'a>(alloc: Global) -> Result<clap::Command<'a>, AllocError>
-    ensures { IfOk result (λ command. app_of command ≡ line) }
+// The options and names of a program's command line, with no name of the program in front, no help and no version.
+fn line<'a>(alloc: Global, program: Program) -> Result<clap::Command<'a>, AllocError>
+    ensures { IfOk result (λ command. app_of command ≡ line program) }
 {
-    let args = options_and_files(alloc)?;
+    let args = args_of(alloc, program)?;
     clap::Command::new(alloc, "mandoc")
         .no_binary_name(true)
         .disable_help_flag(true)
@@ -84,9 +91,20 @@ fn line<'a>(alloc: Global) -> Result<clap::Command<'a>, AllocError>
         .args(args)
 }
 
-// The options, and then the files.
-fn options_and_files<'a>(alloc: Global) -> Result<Vec<Arg<'a>>, AllocError>
-    ensures { IfOk result (λ args. HaveRules args.items rules) }
+// The options and names of a program.
+fn args_of<'a>(alloc: Global, program: Program) -> Result<Vec<Arg<'a>>, AllocError>
+    ensures { IfOk result (λ args. HaveRules args.items (rules program)) }
+{
+    match program {
+        Program::Format => format_args(alloc),
+        Program::Makewhatis => makewhatis_args(alloc),
+        Program::Whatis => whatis_args(alloc),
+    }
+}
+
+// The options of the formatter, and then the files.
+fn format_args<'a>(alloc: Global) -> Result<Vec<Arg<'a>>, AllocError>
+    ensures { IfOk result (λ args. HaveRules args.items format_rules) }
 {
     let args = [
         option(alloc, "output", 'T'),
@@ -95,7 +113,28 @@ fn options_and_files<'a>(alloc: Global) -> Result<Vec<Arg<'a>>, AllocError>
         option(alloc, "encoding", 'K'),
         option(alloc, "system", 'I'),
         option(alloc, "language", 'm'),
-        files(alloc),
+        names(alloc),
+    ];
+    Ok(Vec::from_array(alloc, args)?)
+}
+
+// The flag of `makewhatis`, and then the directories.
+fn makewhatis_args<'a>(alloc: Global) -> Result<Vec<Arg<'a>>, AllocError>
+    ensures { IfOk result (λ args. HaveRules args.items makewhatis_rules) }
+{
+    let args = [flag(alloc, "prints", 'n'), names(alloc)];
+    Ok(Vec::from_array(alloc, args)?)
+}
+
+// The options of `whatis`, and then the words.
+fn whatis_args<'a>(alloc: Global) -> Result<Vec<Arg<'a>>, AllocError>
+    ensures { IfOk result (λ args. HaveRules args.items whatis_rules) }
+{
+    let args = [
+        option(alloc, "dir", 'M'),
+        option(alloc, "section", 's'),
+        flag(alloc, "files", 'w'),
+        names(alloc),
     ];
     Ok(Vec::from_array(alloc, args)?)
 }
@@ -109,10 +148,19 @@ fn option<'a>(alloc: Global, id: &'a str, letter: char) -> Arg<'a>
     Arg::new(alloc, id).short(letter).action(ArgAction::Set)
 }
 
-// The words that are no options.
-fn files<'a>(alloc: Global) -> Arg<'a>
-    ensures rule { rule_of result ≡ files_rule }
+// An option without a value.
+#[inline(never)]
+fn flag<'a>(alloc: Global, id: &'a str, letter: char) -> Arg<'a>
+    ensures rule { rule_of result ≡ flag_rule id.entry.now letter }
     ensures local { result.global ≡ false }
 {
-    Arg::new(alloc, "files").action(ArgAction::Append)
+    Arg::new(alloc, id).short(letter).action(ArgAction::SetTrue)
+}
+
+// The words that are no options.
+fn names<'a>(alloc: Global) -> Arg<'a>
+    ensures rule { rule_of result ≡ names_rule }
+    ensures local { result.global ≡ false }
+{
+    Arg::new(alloc, "names").action(ArgAction::Append)
 }

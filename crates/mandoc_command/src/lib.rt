@@ -1,4 +1,5 @@
-//! The command line of the formatter: what its words ask for, and the status that a run ends with (mandoc(1)).
+//! The command lines of the formatter and of the programs on indexes of pages: what their words ask for, and the status that a run ends with
+//! (mandoc(1), makewhatis(8), whatis(1)).
 //!
 //! It stands beside the layers of a page: the program (`mandoc_cli`) asks it what to do, and runs pages by its settings.
 //!
@@ -6,15 +7,16 @@
 #![tactic(auto)]
 
 mod commands;
-mod files;
 mod given;
 mod line;
 mod measures;
 mod names;
+mod programs;
 mod settings;
 mod status;
+mod texts;
 
-pub use commands::{Command, Format, Refusal};
-pub use files::Files;
+pub use commands::{Command, Format, Makewhatis, Refusal, Whatis};
 pub use line::command;
 pub use status::status_of;
+pub use texts::Texts;

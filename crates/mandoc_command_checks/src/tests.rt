@@ -1,6 +1,6 @@
 //! Command lines that the program takes, and others that it refuses (mandoc(1), OPTIONS).
 
-use mandoc_command::{Command, Format, Refusal, command, status_of};
+use mandoc_command::{Command, Format, Makewhatis, Refusal, Texts, Whatis, command, status_of};
 use page_core_base::{Encoding, Language, Level, Output};
 use std::alloc::{AllocError, Global};
 use std::process::Abort;
@@ -43,17 +43,54 @@ fn told_rest(text: &mut String, format: &Format) -> Result<(), AllocError> {
     if !format.settings.os.is_empty() {
         write!(text, "os {} ", format.settings.os.as_str())?;
     }
-    for name in format.files.names() {
+    add_names(text, &format.files)
+}
+
+fn add_names(text: &mut String, names: &Texts) -> Result<(), AllocError> {
+    for name in names.as_slice() {
         write!(text, "[{name}]")?;
     }
     Ok(())
 }
 
+// What an index is asked for.
+fn told_indexes(alloc: Global, asked: &Makewhatis) -> Result<String, AllocError> {
+    let mut text = String::new(alloc);
+    text.push_str(if asked.prints { "print " } else { "index " })?;
+    add_names(&mut text, &asked.dirs)?;
+    Ok(text)
+}
+
+fn told_searches(alloc: Global, asked: &Whatis) -> Result<String, AllocError> {
+    let mut text = String::new(alloc);
+    text.push_str(if asked.shows_files {
+        "files "
+    } else {
+        "entries "
+    })?;
+    if let Some(dir) = &asked.dir {
+        write!(text, "in {dir:?} ")?;
+    }
+    if let Some(section) = &asked.section {
+        write!(text, "section {section:?} ")?;
+    }
+    add_names(&mut text, &asked.words)?;
+    Ok(text)
+}
+
+fn told_command(alloc: Global, command: &Command) -> Result<String, AllocError> {
+    match command {
+        Command::Format(format) => told(alloc, format),
+        Command::Makewhatis(asked) => told_indexes(alloc, asked),
+        Command::Whatis(asked) => told_searches(alloc, asked),
+    }
+}
+
 // The words ask for this.
 fn takes(rt: &impl Abort, alloc: Global, words: &[&str], wanted: &str) {
     match command(alloc, words) {
-        Ok(Command::Format(format)) => {
-            let text = told(alloc, &format).expect(rt, "memory for a text");
+        Ok(asked) => {
+            let text = told_command(alloc, &asked).expect(rt, "memory for a text");
             assert!(rt;
                 text.as_str() == wanted,
                 "{text:?} in place of {wanted:?} at {words:?}"
@@ -69,7 +106,7 @@ fn refuses(rt: &impl Abort, alloc: Global, words: &[&str]) {
     assert!(rt; refused, "at {words:?}");
 }
 
-static TAKEN: [(&str, &str); 57] = [
+static TAKEN: [(&str, &str); 72] = [
     ("-T ascii", ""),
     ("-Tascii", ""),
     ("-T=ascii", ""),
@@ -127,6 +164,24 @@ static TAKEN: [(&str, &str); 57] = [
     ("a.1 -Tutf8 b.1 -Owidth=60", "Utf8 width 60 [a.1][b.1]"),
     ("-Tutf8 -O width=60 a.1 b.1", "Utf8 width 60 [a.1][b.1]"),
     ("-O width=60 a.1 -T utf8 -- b.1", "Utf8 width 60 [a.1][b.1]"),
+    ("makewhatis dir", "index [dir]"),
+    ("makewhatis b a b", "index [b][a][b]"),
+    ("makewhatis -n dir", "print [dir]"),
+    ("makewhatis dir -n", "print [dir]"),
+    ("makewhatis -- -n", "index [-n]"),
+    ("makewhatis whatis", "index [whatis]"),
+    ("whatis ls", "entries [ls]"),
+    ("whatis ls dir", "entries [ls][dir]"),
+    ("whatis -M d ls", "entries in \"d\" [ls]"),
+    (
+        "whatis -Md -s 3p -w ls",
+        "files in \"d\" section \"3p\" [ls]",
+    ),
+    ("whatis -ws3 ls", "files section \"3\" [ls]"),
+    ("whatis ls -w -M=d", "files in \"d\" [ls]"),
+    ("whatis -- -w", "entries [-w]"),
+    ("whatis whatis", "entries [whatis]"),
+    ("whatis makewhatis", "entries [makewhatis]"),
 ];
 
 #[test]
@@ -140,9 +195,12 @@ fn takes_good_words(rt: HostRuntime) {
     takes(&rt, rt.alloc(), &["\u{3b1} page.1"], "[\u{3b1} page.1]");
     let system = ["-I", "os=System 1.0\t\u{3b1}"];
     takes(&rt, rt.alloc(), &system, "os System 1.0\t\u{3b1} ");
+    let in_none = ["whatis", "-s", "", "ls"];
+    takes(&rt, rt.alloc(), &in_none, "entries section \"\" [ls]");
+    takes(&rt, rt.alloc(), &["makewhatis", ""], "index []");
 }
 
-static REFUSED: [&str; 70] = [
+static REFUSED: [&str; 83] = [
     "-T",
     "-T html",
     "-T ASCII",
@@ -210,9 +268,22 @@ static REFUSED: [&str; 70] = [
     "--version",
     "--output lint",
     "-5",
-    "makewhatis dir",
-    "whatis",
     "page.1 -T",
+    "makewhatis",
+    "makewhatis -n",
+    "makewhatis -n -n dir",
+    "makewhatis -T ascii dir",
+    "makewhatis -w dir",
+    "makewhatis --help",
+    "whatis",
+    "whatis -w",
+    "whatis -s 5",
+    "whatis -M d",
+    "whatis -M",
+    "whatis -s 1 -s 1 ls",
+    "whatis -n ls",
+    "whatis -T ascii ls",
+    "whatis ls -h",
 ];
 
 #[test]
@@ -222,6 +293,8 @@ fn refuses_bad_words(rt: HostRuntime) {
         refuses(&rt, rt.alloc(), words.as_slice());
     }
     refuses(&rt, rt.alloc(), &["-I", "os=a\u{1}b"]);
+    refuses(&rt, rt.alloc(), &["whatis", ""]);
+    refuses(&rt, rt.alloc(), &["whatis", "ls", ""]);
 }
 
 #[test]
@@ -243,11 +316,19 @@ fn answers_want_of_memory(rt: HostRuntime) {
     match command(rt.alloc(), &words) {
         Ok(Command::Format(format)) => {
             let is_lint = format.settings.output == Output::Lint;
-            assert!(rt; is_lint && format.settings.width == 60 && format.files.names().len() == 2);
+            assert!(rt;
+                is_lint && format.settings.width == 60 && format.files.as_slice().len() == 2
+            );
         }
+        Ok(_other) => assert!(rt; false, "no pages to format"),
         Err(refusal) => assert!(rt; refusal == Refusal::Memory),
     }
     assert!(rt; command(rt.alloc(), &["-Tlint", "-Wall", "-Wall"]).is_err());
+    for words in [["makewhatis", "-n", "d"], ["whatis", "-Md", "ls"]] {
+        if let Err(refusal) = command(rt.alloc(), &words) {
+            assert!(rt; refusal == Refusal::Memory);
+        }
+    }
 }
 
 #[test]

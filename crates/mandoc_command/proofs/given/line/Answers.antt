@@ -14,5 +14,5 @@ returns c =
     ∙ ap (on_top (λ s. record s { disable_version_flag = true })) (ap app_of_fields c.disable_help_flag.ensures
     ∙ ap (on_top (λ s. record s { disable_help_flag = true })) (ap app_of_fields c.no_binary_name.ensures
     ∙ ap (on_top (λ s. record s { no_binary_name = true })) c.new.ensures.app)) in
-    IfOk-weaker c.args-2.result _ _ (λ command added. adds_rules c.disable_version_flag.result command c.in_ok-args.args.items rules added c.in_ok-args.ensures
-    ∙ ap (λ a. with_rules a rules) is_bare) c.args-2.ensures
+    IfOk-weaker c.args-2.result _ _ (λ command added. adds_rules c.disable_version_flag.result command c.in_ok-args.args.items (rules c.args.program) added c.in_ok-args.ensures
+    ∙ ap (λ a. with_rules a (rules c.args.program)) is_bare) c.args-2.ensures

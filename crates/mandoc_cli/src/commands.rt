@@ -1,0 +1,34 @@
+//! What a command line asks for, done (mandoc(1), makewhatis(8), whatis(1)).
+
+use crate::formatting::format_all;
+use crate::searching::search;
+use crate::{BAD_COMMAND, SYSTEM_FAILURE};
+use mandoc_command::{Command, Refusal};
+use std::alloc::Global;
+use std::fs::Files;
+use std::io::{Read, Write};
+
+/// Does what a command asks for, and answers its status (mandoc(1), EXIT STATUS).
+pub fn run_command<R: Files, I: Read, W: Write, V: Write>(
+    rt: &R,
+    alloc: Global,
+    command: &Command,
+    input: &mut I,
+    out: &mut W,
+    err: &mut V,
+) -> u8 {
+    match command {
+        Command::Format(format) => format_all(rt, alloc, format, input, out, err),
+        Command::Makewhatis(_) => refuse(err, Refusal::Words),
+        Command::Whatis(asked) => search(rt, alloc, asked, out, err),
+    }
+}
+
+/// Says why a command line is refused, and answers the status.
+pub fn refuse<V: Write>(err: &mut V, refusal: Refusal) -> u8 {
+    let _ = writeln!(err, "mandoc: {refusal}");
+    match refusal {
+        Refusal::Words => BAD_COMMAND,
+        Refusal::Memory => SYSTEM_FAILURE,
+    }
+}

@@ -1,0 +1,96 @@
+//! Words looked for in the index of a directory (whatis(1)).
+
+use crate::SYSTEM_FAILURE;
+use mandoc_command::Whatis;
+use page_core_base::Fault;
+use page_engine_index::{Show, whatis};
+use std::alloc::Global;
+use std::fs::{self, Files};
+use std::io::{BufWriter, Read, Write};
+
+/// The status where a row was printed.
+const FOUND: u8 = 0;
+
+/// The status where none was.
+const NOT_FOUND: u8 = 1;
+
+/// Prints the rows of an index that words match, and answers the status (whatis(1), EXIT STATUS).
+pub fn search<R: Files, W: Write, V: Write>(
+    rt: &R,
+    alloc: Global,
+    asked: &Whatis,
+    out: &mut W,
+    err: &mut V,
+) -> u8 {
+    let dir = match &asked.dir {
+        Some(dir) => dir.as_str(),
+        None => ".",
+    };
+    let Ok(name) = format!(in alloc; "{dir}/whatis.idx") else {
+        return tell(err, dir, Fault::Memory);
+    };
+    match fs::open(rt, name.as_str()) {
+        Ok(mut index) => match search_buffered(alloc, &mut index, asked, out) {
+            Ok(0) => NOT_FOUND,
+            Ok(_) => FOUND,
+            Err(fault) => tell(err, dir, fault),
+        },
+        Err(_) => {
+            let _ = writeln!(err, "mandoc: {dir}/whatis.idx: cannot open");
+            SYSTEM_FAILURE
+        }
+    }
+}
+
+// Tells of a fault of the index in a directory.
+fn tell<V: Write>(err: &mut V, dir: &str, fault: Fault) -> u8 {
+    let _ = writeln!(err, "mandoc: {dir}/whatis.idx: {fault}");
+    SYSTEM_FAILURE
+}
+
+// Prints the rows with a buffer, which is put out before a fault is told, and answers their number.
+fn search_buffered<I: Read, W: Write>(
+    alloc: Global,
+    index: &mut I,
+    asked: &Whatis,
+    out: &mut W,
+) -> Result<u64, Fault> {
+    let Ok(mut rows) = BufWriter::new(alloc, out) else {
+        return Err(Fault::Memory);
+    };
+    let found = search_index(alloc, index, asked, &mut rows);
+    let flushed = rows.flush();
+    let count = found?;
+    match flushed {
+        Ok(()) => Ok(count),
+        Err(_) => Err(Fault::WriteText),
+    }
+}
+
+// Prints the rows, and answers their number.
+fn search_index<I: Read, W: Write>(
+    alloc: Global,
+    index: &mut I,
+    asked: &Whatis,
+    out: &mut W,
+) -> Result<u64, Fault> {
+    let Ok(words) = asked
+        .words
+        .as_slice()
+        .iter()
+        .map(|word| word.as_str())
+        .collect::<Vec<&str>>(alloc)
+    else {
+        return Err(Fault::Memory);
+    };
+    let section = match &asked.section {
+        Some(section) => Some(section.as_str()),
+        None => None,
+    };
+    let show = if asked.shows_files {
+        Show::File
+    } else {
+        Show::Entry
+    };
+    whatis(alloc, index, out, words.as_slice(), section, show)
+}
