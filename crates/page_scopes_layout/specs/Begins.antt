@@ -3,7 +3,7 @@ use Rattle.std.specs.Prelude.{ℕ, Bool, false, Option, None, Some, unwrap_or, �
 use Rattle.page_core_base.specs.declared.cells.Font.{Font}
 use Rattle.page_core_base.specs.declared.cells.Font.TheVariants.{R, B}
 use Rattle.page_scopes_words.specs.Fonts.{roman_fonts, with_font}
-use Rattle.page_scopes_layout.specs.Margins.{hold}
+use Rattle.page_scopes_layout.specs.Margins.{hold, further_in}
 use Rattle.page_scopes_layout.specs.Settings.{entered, set_to}
 use Rattle.page_scopes_layout.specs.declared.TheConstants.{PREVAILING}
 use Rattle.page_scopes_layout.specs.declared.contexts.Context.{Context}
@@ -85,7 +85,7 @@ syntax_begun at hang c = record (flat c) { margin = hold (pos at +ℤ pos hang) 
 -- a display (`Bd`) stands this many columns further in than the text; its rows are kept as they are, or filled
 abbrev pub display_begun : Bool → ℤ → Context → Context
 display_begun is_literal offset c = record (flat c) {
-  margin = hold (pos c.margin +ℤ (c.hang +ℤ offset));
+  margin = further_in c.margin c.hang offset;
   is_literal = record { value = is_literal; is_set = c.is_literal.is_set };
 }
 

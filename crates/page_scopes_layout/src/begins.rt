@@ -4,6 +4,7 @@ ghost use Rattle.std.specs.Prelude.{◌≡◌};
 ghost use Rattle.page_scopes_layout.specs.Begins as begins;
 
 use crate::{Context, FieldsSoFar, PREVAILING, PagePart, Setting, hold};
+use crate::margins::further_in;
 use page_core_base::Font;
 use page_scopes_words::{Fonts, ROMAN};
 
@@ -188,9 +189,8 @@ impl Context {
     pub fn display_begun(self, is_literal: bool, offset: i32) -> Context
         ensures { result ≡ begins.display_begun is_literal offset self }
     {
-        let further = i64::from(self.hang) + i64::from(offset);
         Context {
-            margin: hold(i64::from(self.margin) + further),
+            margin: further_in(self.margin, self.hang, offset),
             is_literal: Setting {
                 value: is_literal,
                 is_set: self.is_literal.is_set,
