@@ -48,19 +48,24 @@ fn give_display_begin<O: PieceOut>(out: &mut O, is_compact: bool, context: &Cont
     running.end_row();
 }
 
-// Begins a display: whether its rows are kept, whether no blank row stands before it, and its offset.
+// Begins a display whose rows are kept or not, after a blank row or without, with its offset.
 fn begin_display<O: PieceOut>(
     out: &mut O,
-    front: Context,
+    output: Output,
+    place: Place,
+    is_literal: bool,
     is_compact: bool,
+    offset: Option<Argument<&[u8]>>,
     context: &mut Context,
     running: &mut Running,
 )
+    requires { GivenFits (given_seen offset) }
     ensures { GivesOutcome O.left out.old
-        (blocks.display_begins is_compact front running.old)
+        (blocks.display output place is_literal is_compact (given_seen offset.entry) context.old running.old)
         out.new context.new running.new }
 {
-    *context = front;
+    let columns = give_offset(out, output, place, offset);
+    *context = context.display_begun(is_literal, columns);
     give_display_begin(out, is_compact, context, running);
 }
 
@@ -81,11 +86,13 @@ pub fn give_block<O: PieceOut>(
 {
     *context = context.entered();
     match *opener {
-        BlockOpener::Display { is_literal, is_compact, offset } => {
-            let columns = give_offset(out, output, place, offset);
-            let front = context.display_begun(is_literal, columns);
-            begin_display(out, front, is_compact, context, running);
-        }
+        BlockOpener::Display {
+            is_literal,
+            is_compact,
+            offset,
+        } => begin_display(
+            out, output, place, is_literal, is_compact, offset, context, running,
+        ),
         BlockOpener::Fonts(font) => *context = context.font_if_given(font),
         BlockOpener::Reference => *context = context.reference_begun(),
         _ => give_block_words(out, place, opener, context, running),
