@@ -34,11 +34,19 @@ block_opener_fits : (line : List ℕ) (opener : BlockOpener (List ℕ)) → leng
 block_opener_fits line (block_openers.Quotation quotation) short slices = tt
 block_opener_fits line (block_openers.Custom mark) short slices = given_fits line mark short slices
 block_opener_fits line block_openers.Extension short slices = tt
+block_opener_fits line (block_openers.Display is_literal is_compact offset) short slices = given_fits line offset short slices
+block_opener_fits line (block_openers.Fonts font) short slices = tt
+block_opener_fits line block_openers.Keep short slices = tt
+block_opener_fits line block_openers.Reference short slices = tt
 
 block_closer_fits : (line : List ℕ) (closer : BlockCloser (List ℕ)) → length line ≤ LINE → BlockClosesSlices line closer → BlockCloserFits closer
 block_closer_fits line (block_closers.Quotation quotation) short slices = tt
 block_closer_fits line (block_closers.Custom mark) short slices = given_fits line mark short slices
 block_closer_fits line block_closers.Extension short slices = tt
+block_closer_fits line block_closers.Display short slices = tt
+block_closer_fits line block_closers.Fonts short slices = tt
+block_closer_fits line block_closers.Keep short slices = tt
+block_closer_fits line block_closers.Reference short slices = tt
 
 opener_fits : (line : List ℕ) (opener : Opener (List ℕ)) → length line ≤ LINE → OpensSlices line opener → OpenerFits opener
 opener_fits line openers.Section short slices = tt
@@ -65,6 +73,7 @@ step_fits line steps.Glue short slices = tt
 step_fits line (steps.BodyParagraph name) short slices = tt
 step_fits line (steps.Uri uri) short slices = argument_fits line uri short slices
 step_fits line steps.ManualName short slices = tt
+step_fits line steps.NextField short slices = tt
 
 leaf_fits : (line : List ℕ) (leaf : Leaf (List ℕ)) → length line ≤ LINE → LeavesSlices line leaf → LeafFits leaf
 leaf_fits line leaves.BlankLine short slices = tt

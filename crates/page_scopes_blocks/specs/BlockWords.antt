@@ -4,6 +4,8 @@ use Rattle.page_core_base.specs.declared.places.Place.{Place}
 use Rattle.page_core_limits.specs.declared.TheConstants.{LINE}
 use Rattle.page_roff_forms.specs.declared.quotes.Argument.{Argument}
 use Rattle.page_scopes_layout.specs.declared.contexts.Context.{Context}
+use Rattle.page_scopes_layout.specs.declared.contexts.FieldsSoFar.{FieldsSoFar}
+use Rattle.page_scopes_layout.specs.declared.contexts.FieldsSoFar.TheVariants.{Begun}
 use Rattle.page_scopes_leaves.specs.LineWords.{argument_word, line_word, own_word}
 use Rattle.page_scopes_leaves.specs.Outcomes.{Outcome, nothing}
 use Rattle.page_scopes_leaves.specs.Phrases.{phrase_context, phrase_items, phrase_running}
@@ -20,6 +22,7 @@ use Rattle.page_sets_lines.specs.declared.blocks.BlockOpener.{BlockOpener}
 use Rattle.page_sets_lines.specs.declared.blocks.BlockOpener.TheVariants as openers
 use Rattle.page_sets_lines.specs.declared.events.Join.TheVariants.{Apart, Glued}
 use Rattle.page_sets_lines.specs.declared.events.Word.{Word}
+use Rattle.page_sets_lines.specs.declared.leaves.Own.TheVariants.{FullStop}
 use Rattle.page_sets_lines.specs.declared.leaves.OwnWord.{OwnWord}
 use Rattle.page_sets_lines.specs.declared.marks.Marks.{Marks}
 use Rattle.page_sets_lines.specs.declared.openers.LineOpener.{LineOpener}
@@ -65,19 +68,28 @@ abbrev pub given_mark : ℕ → Option (Argument (List ℕ)) → Context → Run
 given_mark line None c r = nothing c r
 given_mark line (Some mark) c r = line_word line (mark_word mark) c r
 
--- `Ao Bo Bro Do Oo Po Qo So`, and `Eo`; `Xo` has no mark
+-- `Ao Bo Bro Do Oo Po Qo So`, and `Eo`; no other block has a mark
 abbrev pub block_words : Place → BlockOpener (List ℕ) → Context → Running → Outcome
 block_words place (openers.Quotation quotation) c r = own_word place (opening_word (quotation_marks quotation)) c r
 block_words place (openers.Custom mark) c r = given_mark place.line mark c r
-block_words place openers.Extension c r = nothing c r
+block_words place _ c r = nothing c r
 
 -- ---- where it ends, by its closer, with its line, by force or with the page
 
 abbrev pub closing_word : Marks → OwnWord
 closing_word marks = record { own = closing marks; font = None; before = Glued; after = Apart }
 
+-- after the last field of a reference (`Rs`), where it has one
+abbrev pub full_stop : OwnWord
+full_stop = record { own = FullStop; font = None; before = Glued; after = Apart }
+
+abbrev pub reference_end : FieldsSoFar → Place → Context → Running → Outcome
+reference_end Begun place c r = own_word place full_stop c r
+reference_end _ place c r = nothing c r
+
 abbrev pub block_last_words : Place → Block → Context → Running → Outcome
 block_last_words place (blocks.Quotation quotation) c r = own_word place (closing_word (quotation_marks quotation)) c r
+block_last_words place blocks.Reference c r = reference_end c.fields place c r
 block_last_words place _ c r = nothing c r
 
 abbrev pub explicit_last_words : Place → Explicit → Context → Running → Outcome

@@ -1,1 +1,2 @@
 pub mod BlockWords
+pub mod Blocks

@@ -11,12 +11,12 @@ ghost use Rattle.page_sets_lines.specs.Events.{block_opener_seen, given_seen, wo
 use page_core_base::{PieceOut, Place};
 use page_core_limits::LINE;
 use page_roff_forms::Argument;
-use page_scopes_layout::Context;
+use page_scopes_layout::{Context, FieldsSoFar};
 use page_scopes_leaves::{
     Phrase, Running, argument_word, give_line_word, give_own_word, give_phrase,
 };
 use page_scopes_tree::{Explicit, Label};
-use page_sets_lines::{Block, BlockOpener, Join, LineOpener, Marks, OwnWord, Word};
+use page_sets_lines::{Block, BlockOpener, Join, LineOpener, Marks, Own, OwnWord, Word};
 
 // The mark before the words of an enclosure.
 fn opening_word(marks: Marks) -> OwnWord
@@ -118,7 +118,7 @@ fn give_mark<O: PieceOut>(
 }
 
 /// Gives the words that a block begins with, in the context of its front: the marks of `Ao Bo Bro Do Oo Po Qo So` and of `Eo`.
-pub fn give_block_words<O: PieceOut>(
+pub(crate) fn give_block_words<O: PieceOut>(
     out: &mut O,
     place: Place,
     opener: &BlockOpener<&[u8]>,
@@ -136,11 +136,61 @@ pub fn give_block_words<O: PieceOut>(
             give_own_word(out, place, word, context, running);
         }
         BlockOpener::Custom(mark) => give_mark(out, place.line, mark, context, running),
-        BlockOpener::Extension => {}
+        _ => {}
     }
 }
 
-/// Gives the words that a scope ends with, in its own context: the mark after an enclosure's words, of whatever ends it.
+// The full stop after the fields of a reference.
+fn full_stop() -> OwnWord
+    ensures { result ≡ words.full_stop }
+{
+    OwnWord {
+        own: Own::FullStop,
+        font: None,
+        before: Join::Glued,
+        after: Join::Apart,
+    }
+}
+
+// Gives the full stop after the fields of a reference, where it has one.
+fn give_reference_end<O: PieceOut>(
+    out: &mut O,
+    place: Place,
+    context: &mut Context,
+    running: &mut Running,
+)
+    ensures { GivesOutcome O.left out.old
+        (words.reference_end context.old.fields place context.old running.old)
+        out.new context.new running.new }
+{
+    if let FieldsSoFar::Begun = context.fields {
+        give_own_word(out, place, full_stop(), context, running);
+    }
+}
+
+// Gives the words that a block ends with.
+fn give_block_last_words<O: PieceOut>(
+    out: &mut O,
+    place: Place,
+    block: Block,
+    context: &mut Context,
+    running: &mut Running,
+)
+    ensures { GivesOutcome O.left out.old
+        (words.block_last_words place block context.old running.old)
+        out.new context.new running.new }
+{
+    match block {
+        Block::Quotation(quotation) => {
+            let word = closing_word(quotation.marks());
+            give_own_word(out, place, word, context, running);
+        }
+        Block::Reference => give_reference_end(out, place, context, running),
+        _ => {}
+    }
+}
+
+/// Gives the words that a scope ends with, in its own context: the mark after an enclosure's words, and the full stop of a reference (`Rs`), of whatever ends it.
 pub fn give_last_words<O: PieceOut>(
     out: &mut O,
     place: Place,
@@ -156,9 +206,8 @@ pub fn give_last_words<O: PieceOut>(
         Label::Line(LineOpener::Enclosure(marks)) => {
             give_own_word(out, place, closing_word(marks), context, running);
         }
-        Label::Explicit(Explicit::Block(Block::Quotation(quotation))) => {
-            let word = closing_word(quotation.marks());
-            give_own_word(out, place, word, context, running);
+        Label::Explicit(Explicit::Block(block)) => {
+            give_block_last_words(out, place, block, context, running);
         }
         _ => {}
     }

@@ -1,8 +1,11 @@
-//! The words that blocks and line scopes of mdoc(7) print themselves where they begin and where they end: marks, and the dash of a description.
+//! What blocks and line scopes of mdoc(7) begin with, and the words that they print themselves: marks, and the dash of a description.
 //!
-//! A scope's context and its other pieces are in `page_scopes_layout`; `page_scopes_nodes` puts both together. Read `specs/BlockWords.antt` first.
+//! A scope's context and its last pieces are in `page_scopes_layout`; `page_scopes_nodes` puts both together. Read `specs/BlockWords.antt` first,
+//! then `Blocks.antt`.
 #![tactic(auto)]
 
 mod block_words;
+mod blocks;
 
-pub use block_words::{give_block_words, give_last_words, give_line_words};
+pub use block_words::{give_last_words, give_line_words};
+pub use blocks::give_block;

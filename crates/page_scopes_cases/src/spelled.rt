@@ -1,6 +1,6 @@
 //! Events of mdoc(7) as they are spelled here: each between blanks, by the name of its macro, with a text after `=` where it has one. `head` and
 //! `subhead` are the headings of `Sh` and `Ss`, `in` and `out` delimiters before and after words, `w`, `b` and `i` words in no font of their own, in
-//! bold and in italic, and `tail` is what ends the enclosures before a line's last delimiters.
+//! bold and in italic, `field` is the next field of a reference, and `tail` is what ends the enclosures before a line's last delimiters.
 
 ghost use Rattle.std.specs.Prelude.{IfSome};
 ghost use Rattle.page_scopes_leaves.specs.Fits.{ArgumentFits, DeedFits, GivenFits};
@@ -74,7 +74,8 @@ fn bare_deed<'a>(name: &str) -> Option<Deed<&'a [u8]>>
         "D1" => Some(Deed::LineScope(LineOpener::OneLine(OneLineName::D1))),
         "Pp" => Some(Deed::Leaf(Leaf::Step(LineStep::BodyParagraph(BodyParagraphName::Pp)))),
         "tail" => Some(Deed::Close(Closer::Enclosures)),
-        _ => None,
+        "field" => Some(Deed::Leaf(Leaf::Step(LineStep::NextField))),
+        _ => block_deed(name),
     }
 }
 
@@ -99,8 +100,54 @@ fn marked_deed<'a>(name: &str, text: Option<Argument<&'a [u8]>>) -> Option<Deed<
         "Ec" => Some(Deed::Close(Closer::Block(BlockCloser::Custom(text)))),
         "Xo" => Some(Deed::Open(Opener::Block(BlockOpener::Extension))),
         "Xc" => Some(Deed::Close(Closer::Block(BlockCloser::Extension))),
-        _ => None,
+        _ => display_deed(name, text),
     }
+}
+
+// A display, with its offset as its text.
+fn display_deed<'a>(name: &str, offset: Option<Argument<&'a [u8]>>) -> Option<Deed<&'a [u8]>>
+    requires { GivenFits (given_seen offset) }
+    ensures { IfSome result (λ deed. DeedFits (deed_seen deed)) }
+{
+    let (is_literal, is_compact) = match name {
+        "Bd" => (false, false),
+        "Bd-compact" => (false, true),
+        "Bd-literal" => (true, false),
+        _ => return None,
+    };
+    Some(Deed::Open(Opener::Block(BlockOpener::Display {
+        is_literal,
+        is_compact,
+        offset,
+    })))
+}
+
+// A block of lines without a text.
+fn block_deed<'a>(name: &str) -> Option<Deed<&'a [u8]>>
+    ensures { IfSome result (λ deed. DeedFits (deed_seen deed)) }
+{
+    let opener = match name {
+        "Bf" => BlockOpener::Fonts(None),
+        "Bf-italic" => BlockOpener::Fonts(Some(Font::I)),
+        "Bk" => BlockOpener::Keep,
+        "Rs" => BlockOpener::Reference,
+        _ => return block_end_deed(name),
+    };
+    Some(Deed::Open(Opener::Block(opener)))
+}
+
+// The end of one.
+fn block_end_deed<'a>(name: &str) -> Option<Deed<&'a [u8]>>
+    ensures { IfSome result (λ deed. DeedFits (deed_seen deed)) }
+{
+    let closer = match name {
+        "Ed" => BlockCloser::Display,
+        "Ef" => BlockCloser::Fonts,
+        "Ek" => BlockCloser::Keep,
+        "Re" => BlockCloser::Reference,
+        _ => return None,
+    };
+    Some(Deed::Close(Closer::Block(closer)))
 }
 
 // A word as it is spelled: its role and font, and how it stands beside others.

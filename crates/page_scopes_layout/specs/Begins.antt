@@ -1,12 +1,13 @@
 -- The context in which a scope begins. Source: man(7), "MACRO OVERVIEW"; mdoc(7), "MACRO REFERENCE".
-use Rattle.std.specs.Prelude.{ℕ, false, Option, None, Some, unwrap_or, ℤ, pos, ◌+ℤ◌}
+use Rattle.std.specs.Prelude.{ℕ, Bool, false, Option, None, Some, unwrap_or, ℤ, pos, ◌+ℤ◌}
 use Rattle.page_core_base.specs.declared.cells.Font.{Font}
 use Rattle.page_core_base.specs.declared.cells.Font.TheVariants.{R, B}
 use Rattle.page_scopes_words.specs.Fonts.{roman_fonts, with_font}
-use Rattle.page_scopes_layout.specs.Margins.{hold}
+use Rattle.page_scopes_layout.specs.Margins.{hold, further_in}
 use Rattle.page_scopes_layout.specs.Settings.{entered, set_to}
 use Rattle.page_scopes_layout.specs.declared.TheConstants.{PREVAILING}
 use Rattle.page_scopes_layout.specs.declared.contexts.Context.{Context}
+use Rattle.page_scopes_layout.specs.declared.contexts.FieldsSoFar.TheVariants.{Empty}
 use Rattle.page_scopes_layout.specs.declared.contexts.PagePart.TheVariants as parts
 
 -- at the front of a scope nothing is set in it yet
@@ -80,6 +81,22 @@ text_margin c = hold (pos c.margin +ℤ c.hang)
 -- the words of a synopsis (`SY`) stand after the command's name, which is its tag
 abbrev pub syntax_begun : (at hang : ℕ) → Context → Context
 syntax_begun at hang c = record (flat c) { margin = hold (pos at +ℤ pos hang) }
+
+-- a display (`Bd`) stands this many columns further in than the text; its rows are kept as they are, or filled
+abbrev pub display_begun : Bool → ℤ → Context → Context
+display_begun is_literal offset c = record (flat c) {
+  margin = further_in c.margin c.hang offset;
+  is_literal = record { value = is_literal; is_set = c.is_literal.is_set };
+}
+
+-- a block's words (`Bf`) are in its font, where it names one
+abbrev pub font_if_given : Option Font → Context → Context
+font_if_given None c = c
+font_if_given (Some font) c = font_begun font c
+
+-- a reference (`Rs`) has no field yet
+abbrev pub reference_begun : Context → Context
+reference_begun c = record c { fields = Empty }
 
 -- a row that stands alone (`D1`, `Dl`) stands 6 columns further in than the text
 abbrev pub one_line_begun : Context → Context

@@ -1,10 +1,14 @@
--- The context of a text, and what stays of it after a scope. Source: man(7), "MACRO OVERVIEW".
-use Rattle.std.specs.Prelude.{ℕ, None, pos, true, false, ◌||◌, if◌then◌else◌}
+-- The context of a text, and what stays of it after a scope. Source: man(7), "MACRO OVERVIEW"; mdoc(7), `Rs`.
+use Rattle.std.specs.Prelude.{ℕ, None, pos, Bool, true, false, ◌||◌, if◌then◌else◌}
 use Rattle.page_scopes_tree.specs.Labels.{label_row}
 use Rattle.page_scopes_tree.specs.declared.labels.Label.{Label}
 use Rattle.page_scopes_layout.specs.Settings.{after_scope, at_first}
 use Rattle.page_scopes_layout.specs.declared.TheConstants.{PREVAILING}
 use Rattle.page_scopes_layout.specs.declared.contexts.Context.{Context}
+use Rattle.page_scopes_layout.specs.declared.contexts.FieldsSoFar.TheVariants.{Outside}
+use Rattle.page_scopes_tree.specs.declared.labels.Explicit.TheVariants.{Block}
+use Rattle.page_scopes_tree.specs.declared.labels.Label.TheVariants as labels
+use Rattle.page_sets_lines.specs.declared.blocks.Block.TheVariants as blocks
 use Rattle.page_scopes_layout.specs.declared.contexts.PagePart.TheVariants.{Text}
 use Rattle.page_scopes_words.specs.Fonts.{roman_fonts}
 
@@ -21,7 +25,13 @@ start page_indent = record {
   is_literal = at_first false;
   shift = at_first (pos 0);
   distance = at_first 1;
+  fields = Outside;
 }
+
+-- a reference (`Rs`) has fields of its own
+abbrev pub owns_fields : Label → Bool
+owns_fields (labels.Explicit (Block blocks.Reference)) = true
+owns_fields _ = false
 
 -- margins, hang and part are those before the scope, and so are the prevailing indent and the fonts where the label's row says it; a row that has begun has begun; what a request or an escape set stays
 abbrev pub restored : Label → Context → Context → Context
@@ -36,4 +46,5 @@ restored label before now = record {
   is_literal = after_scope before.is_literal now.is_literal;
   shift = after_scope before.shift now.shift;
   distance = after_scope before.distance now.distance;
+  fields = if owns_fields label then before.fields else now.fields;
 }

@@ -10,9 +10,13 @@ use Rattle.page_scopes_layout.specs.declared.margins.Margins.{Margins}
 abbrev pub hold : ℤ → ℕ
 hold columns = if int_lt columns (pos 0) then 0 else if int_lt (pos MARGIN) columns then MARGIN else nat_abs columns
 
+-- a margin that stands a hang, and some columns more, further in
+abbrev pub further_in : ℕ → ℤ → ℤ → ℕ
+further_in margin hang more = hold (pos margin +ℤ hang +ℤ more)
+
 -- the text of a paragraph stands its hang further in, and the shift of `in`
 abbrev pub rest_margin : Context → ℕ
-rest_margin c = hold (pos c.margin +ℤ c.hang +ℤ c.shift.value)
+rest_margin c = further_in c.margin c.hang c.shift.value
 
 abbrev pub first_margin : Context → ℕ → ℕ
 first_margin c first = hold (pos first +ℤ c.shift.value)

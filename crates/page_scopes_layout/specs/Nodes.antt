@@ -6,7 +6,10 @@ use Rattle.page_core_base.specs.declared.pieces.TagForm.TheVariants.{Row}
 use Rattle.page_sets_lines.specs.declared.openers.LineOpener.{LineOpener}
 use Rattle.page_sets_lines.specs.declared.openers.LineOpener.TheVariants as lines
 use Rattle.page_scopes_tree.specs.declared.labels.Explicit.{Explicit}
-use Rattle.page_scopes_tree.specs.declared.labels.Explicit.TheVariants.{RelativeMargin, Target, Syntax, Block}
+use Rattle.page_scopes_tree.specs.declared.labels.Explicit.TheVariants.{RelativeMargin, Target, Syntax}
+use Rattle.page_scopes_tree.specs.declared.labels.Explicit.TheVariants as explicits
+use Rattle.page_sets_lines.specs.declared.blocks.Block.{Block}
+use Rattle.page_sets_lines.specs.declared.blocks.Block.TheVariants as blocks
 use Rattle.page_scopes_tree.specs.declared.labels.Label.{Label}
 use Rattle.page_scopes_tree.specs.declared.labels.Label.TheVariants as labels
 use Rattle.page_scopes_layout.specs.Margins.{hold, margins}
@@ -29,7 +32,7 @@ abbrev pub explicit_begin_items : Explicit → Context → List Item
 explicit_begin_items RelativeMargin c = shown pieces.Break ∷ margin_items c
 explicit_begin_items (Target link) c = []
 explicit_begin_items Syntax c = shown pieces.Break ∷ []
-explicit_begin_items (Block block) c = []
+explicit_begin_items (explicits.Block block) c = []
 
 -- in the context of a scope's front: a section is a paragraph, and filled; a relative margin and a synopsis break the row
 abbrev pub begin_items : Label → Context → List Item
@@ -47,11 +50,16 @@ line_end_items (lines.Enclosure marks) c = margin_items c
 line_end_items lines.Description c = margin_items c
 line_end_items (lines.OneLine name) c = shown pieces.Break ∷ margin_items c
 
+-- after a display (`Bd`) rows are kept or filled as before it
+abbrev pub block_end_items : Block → Context → List Item
+block_end_items blocks.Display c = shown pieces.Break ∷ shown (pieces.Literal c.is_literal.value) ∷ margin_items c
+block_end_items _ c = margin_items c
+
 abbrev pub explicit_end_items : Explicit → Context → List Item
 explicit_end_items RelativeMargin c = shown pieces.Break ∷ margin_items c
 explicit_end_items (Target link) c = margin_items c
 explicit_end_items Syntax c = shown pieces.Break ∷ margin_items c
-explicit_end_items (Block block) c = margin_items c
+explicit_end_items (explicits.Block block) c = block_end_items block c
 
 -- in the context after a scope: its margins hold again
 abbrev pub end_items : Label → Context → List Item

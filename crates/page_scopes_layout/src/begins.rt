@@ -3,7 +3,8 @@
 ghost use Rattle.std.specs.Prelude.{◌≡◌};
 ghost use Rattle.page_scopes_layout.specs.Begins as begins;
 
-use crate::{Context, PREVAILING, PagePart, Setting, hold};
+use crate::{Context, FieldsSoFar, PREVAILING, PagePart, Setting, hold};
+use crate::margins::further_in;
 use page_core_base::Font;
 use page_scopes_words::{Fonts, ROMAN};
 
@@ -182,6 +183,40 @@ impl Context {
         ensures { result ≡ begins.text_margin self.now }
     {
         hold(i64::from(self.margin) + i64::from(self.hang))
+    }
+
+    /// A display (`Bd`) begins, this many columns further in than the text; its rows are kept as they are, or filled.
+    pub fn display_begun(self, is_literal: bool, offset: i32) -> Context
+        ensures { result ≡ begins.display_begun is_literal offset self }
+    {
+        Context {
+            margin: further_in(self.margin, self.hang, offset),
+            is_literal: Setting {
+                value: is_literal,
+                is_set: self.is_literal.is_set,
+            },
+            ..self.flat()
+        }
+    }
+
+    /// A block of words in a font (`Bf`) begins, where it names one.
+    pub fn font_if_given(self, font: Option<Font>) -> Context
+        ensures { result ≡ begins.font_if_given font self }
+    {
+        match font {
+            Some(font) => self.font_begun(font),
+            None => self,
+        }
+    }
+
+    /// A reference to a work (`Rs`) begins.
+    pub fn reference_begun(self) -> Context
+        ensures { result ≡ begins.reference_begun self }
+    {
+        Context {
+            fields: FieldsSoFar::Empty,
+            ..self
+        }
     }
 
     /// A row that stands alone (`D1`, `Dl`) begins, 6 columns further in.

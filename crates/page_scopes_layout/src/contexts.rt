@@ -1,11 +1,12 @@
-//! The context of a text (man(7)).
+//! The context of a text (man(7), mdoc(7)).
 
 ghost use Rattle.std.specs.Prelude.{◌≡◌};
 ghost use Rattle.page_scopes_layout.specs.Contexts as contexts;
 
 use crate::{PREVAILING, Setting};
-use page_scopes_tree::Label;
+use page_scopes_tree::{Explicit, Label};
 use page_scopes_words::{Fonts, ROMAN};
+use page_sets_lines::Block;
 
 /// What part of a page a text is.
 #[derive(Clone, Copy, PartialEq, Eq)]
@@ -16,6 +17,17 @@ pub enum PagePart {
     Tag,
     /// A heading, at a column.
     Heading(u32),
+}
+
+/// How far the fields of a reference to a work (`Rs`) have come.
+#[derive(Clone, Copy, PartialEq, Eq)]
+pub enum FieldsSoFar {
+    /// No reference is open.
+    Outside,
+    /// None has come.
+    Empty,
+    /// One has come, or more.
+    Begun,
 }
 
 /// What a text is laid out by. Columns are counted from the left edge of the page.
@@ -38,6 +50,8 @@ pub struct Context {
     pub shift: Setting<i32>,
     /// The blank rows before a paragraph.
     pub distance: Setting<u32>,
+    /// The fields of the innermost reference.
+    pub fields: FieldsSoFar,
 }
 
 impl Context {
@@ -56,8 +70,16 @@ impl Context {
             is_literal: Setting::at_first(false),
             shift: Setting::at_first(0),
             distance: Setting::at_first(1),
+            fields: FieldsSoFar::Outside,
         }
     }
+}
+
+// Whether a scope has fields of its own, as a reference does.
+fn owns_fields(label: Label) -> bool
+    ensures { result ≡ contexts.owns_fields label }
+{
+    matches!(label, Label::Explicit(Explicit::Block(Block::Reference)))
 }
 
 impl Context {
@@ -83,5 +105,8 @@ impl Context {
         self.is_literal.restore(&before.is_literal);
         self.shift.restore(&before.shift);
         self.distance.restore(&before.distance);
+        if owns_fields(label) {
+            self.fields = before.fields;
+        }
     }
 }

@@ -1,4 +1,4 @@
-//! Contexts: what the texts of a page are laid out by, what each scope begins with and gives but its words, and what stays after it (man(7)).
+//! Contexts: what the texts of a page are laid out by, what each scope begins with and gives but its words, and what stays after it (man(7), mdoc(7)).
 //!
 //! A scope that opens changes the context, and one that ends restores it; the layers above give words in it. Read `src/contexts.rt` first, then
 //! `specs/Begins.antt` (a context for each scope) and `Nodes.antt` (the pieces).
@@ -10,7 +10,7 @@ mod margins;
 mod nodes;
 mod settings;
 
-pub use contexts::{Context, PagePart};
+pub use contexts::{Context, FieldsSoFar, PagePart};
 pub use margins::{Margins, hold, margins_of};
 pub use nodes::{give_begin, give_end, give_margins};
 pub use settings::Setting;

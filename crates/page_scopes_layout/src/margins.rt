@@ -25,11 +25,18 @@ pub fn hold(columns: i64) -> u32
     }
 }
 
+/// A margin that stands a hang, and some columns more, further in.
+pub(crate) fn further_in(margin: u32, hang: i32, more: i32) -> u32
+    ensures { result ≡ margins.further_in margin hang more }
+{
+    hold(i64::from(margin) + i64::from(hang) + i64::from(more))
+}
+
 // The margin of the text of a paragraph.
 fn rest_margin(context: &Context) -> u32
     ensures { result ≡ margins.rest_margin context.now }
 {
-    hold(i64::from(context.margin) + i64::from(context.hang) + i64::from(context.shift.value))
+    further_in(context.margin, context.hang, context.shift.value)
 }
 
 // The margin of a first row that has one of its own.

@@ -7,7 +7,7 @@ ghost use Rattle.page_scopes_layout.specs.Nodes as nodes;
 use crate::{Context, hold, margins_of};
 use page_core_base::{Piece, PieceOut, TagForm};
 use page_scopes_tree::{Explicit, Label};
-use page_sets_lines::LineOpener;
+use page_sets_lines::{Block, LineOpener};
 
 /// Gives the margins of a context.
 pub fn give_margins<O: PieceOut>(out: &mut O, context: &Context)
@@ -89,7 +89,18 @@ fn give_line_end<O: PieceOut>(out: &mut O, opener: LineOpener, context: &Context
     }
 }
 
-/// Gives what ends a scope, and the margins of the context after it; `RE`, `YS` and the end of `D1` or `Dl` end the row first.
+// Gives what ends a block of mdoc(7), and the margins of the context after it.
+fn give_block_end<O: PieceOut>(out: &mut O, block: Block, context: &Context)
+    ensures { Came O.left out.old (nodes.block_end_items block context.now) out.new }
+{
+    if let Block::Display = block {
+        out.give(Piece::Break);
+        out.give(Piece::Literal(context.is_literal.value));
+    }
+    give_margins(out, context);
+}
+
+/// Gives what ends a scope, and the margins of the context after it; `RE`, `YS`, `Ed` and the end of `D1` or `Dl` end the row first.
 pub fn give_end<O: PieceOut>(out: &mut O, label: Label, context: &Context)
     ensures { Came O.left out.old (nodes.end_items label context.now) out.new }
 {
@@ -97,7 +108,8 @@ pub fn give_end<O: PieceOut>(out: &mut O, label: Label, context: &Context)
         Label::Section
         | Label::Subsection
         | Label::Paragraph
-        | Label::Explicit(Explicit::Target(_) | Explicit::Block(_)) => give_margins(out, context),
+        | Label::Explicit(Explicit::Target(_)) => give_margins(out, context),
+        Label::Explicit(Explicit::Block(block)) => give_block_end(out, block, context),
         Label::Explicit(Explicit::RelativeMargin | Explicit::Syntax) => {
             out.give(Piece::Break);
             give_margins(out, context);

@@ -142,7 +142,7 @@ fn check_given(rt: &impl Abort, alloc: Global, label: Label, wanted: &str) {
 }
 
 // What a scope begins with, and what it ends with.
-const GIVEN: [(Label, &str); 13] = [
+const GIVEN: [(Label, &str); 15] = [
     (Label::Section, "PL I07"),
     (Label::Subsection, "PL I07"),
     (Label::Paragraph, "PI07 I07"),
@@ -156,6 +156,8 @@ const GIVEN: [(Label, &str); 13] = [
     (Label::Line(LineOpener::Tag(TagName::TP)), "I07T tI07"),
     (Label::Line(LineOpener::FontWords(FontMacro::B)), " "),
     (Label::Explicit(Explicit::Block(Block::Extension)), " I07"),
+    (Label::Explicit(Explicit::Block(Block::Reference)), " I07"),
+    (Label::Explicit(Explicit::Block(Block::Display)), " BLI07"),
     (Label::Line(LineOpener::Enclosure(Marks::Angle)), " I07"),
     (Label::Line(LineOpener::Description), " I07"),
     (

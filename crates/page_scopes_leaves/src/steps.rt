@@ -9,11 +9,11 @@ ghost use Rattle.page_sets_lines.specs.Events.{step_seen};
 use crate::kept_texts::KeptText;
 use crate::manual_names::give_manual_name;
 use crate::phrases::{blanks_part, joined_gap};
-use crate::{Running, argument_word, give_line_word};
+use crate::{Running, argument_word, give_line_word, give_own_word};
 use page_core_base::{NoteKind, Piece, PieceOut, Place};
-use page_scopes_layout::{Context, give_margins};
+use page_scopes_layout::{Context, FieldsSoFar, give_margins};
 use page_scopes_words::report;
-use page_sets_lines::{BodyParagraphName, Join, LineStep};
+use page_sets_lines::{BodyParagraphName, Join, LineStep, Own, OwnWord};
 
 // The next word is glued to the one before: `Ns`.
 fn glue(context: &Context, running: &mut Running)
@@ -45,6 +45,36 @@ fn give_body_paragraph<O: PieceOut>(
     }
 }
 
+// The comma between two fields of a reference.
+fn comma() -> OwnWord
+    ensures { result ≡ steps.comma }
+{
+    OwnWord {
+        own: Own::Comma,
+        font: None,
+        before: Join::Glued,
+        after: Join::Apart,
+    }
+}
+
+// Begins a field of the open reference: `%A` and so on.
+fn give_next_field<O: PieceOut>(
+    out: &mut O,
+    place: Place,
+    context: &mut Context,
+    running: &mut Running,
+)
+    ensures { GivesOutcome O.left out.old
+        (steps.next_field context.old.fields place context.old running.old)
+        out.new context.new running.new }
+{
+    match context.fields {
+        FieldsSoFar::Outside => {}
+        FieldsSoFar::Empty => context.fields = FieldsSoFar::Begun,
+        FieldsSoFar::Begun => give_own_word(out, place, comma(), context, running),
+    }
+}
+
 /// Gives a step of a line, on a page of a manual with a name or without.
 pub(crate) fn give_step<O: PieceOut>(
     out: &mut O,
@@ -69,5 +99,6 @@ pub(crate) fn give_step<O: PieceOut>(
             give_line_word(out, place.line, &word, context, running);
         }
         LineStep::ManualName => give_manual_name(out, place, name, context, running),
+        LineStep::NextField => give_next_field(out, place, context, running),
     }
 }

@@ -1,19 +1,10 @@
--- Names and targets, token by token.
-use Rattle.std.proofs.Common.{◌≡◌, ℕ, ◌+◌, ◌<◌, ◌≤◌, Bool, List, [], ◌++◌, length, drop, ap}
-use Rattle.page_core_base.specs.declared.page_settings.Output.{Output}
+-- Targets, token by token.
+use Rattle.std.proofs.Common.{◌≡◌, ℕ, ◌<◌, ◌≤◌, Bool, List, [], ◌++◌, length, drop, ap}
 use Rattle.page_core_base.specs.declared.places.Place.{Place}
 use Rattle.page_core_escapes.specs.Tokens.{token_at, token_len, tokens_of}
 use Rattle.page_core_escapes.proofs.TokenLemmas.{tokens_more, tokens_none}
 use Rattle.page_scopes_text.specs.Words.{token_notes}
-use Rattle.page_scopes_nodes.specs.Names.{name_columns, token_columns, tokens_columns}
 use Rattle.page_scopes_nodes.specs.Targets.{notes_of}
-
-pub columns_more : (output : Output) (quoted : Bool) (text : List ℕ) (n : ℕ) → 0 < n → n ≡ token_len quoted text
-    → name_columns output quoted text ≡ token_columns output (token_at quoted text) + name_columns output quoted (drop n text)
-columns_more output quoted text n k e = ap (tokens_columns output) (tokens_more quoted text n k e)
-
-pub columns_none : (output : Output) (quoted : Bool) (text : List ℕ) → length text ≤ 0 → name_columns output quoted text ≡ 0
-columns_none output quoted text h = ap (tokens_columns output) (tokens_none quoted text h)
 
 pub notes_more : (quoted : Bool) (place : Place) (text : List ℕ) (n : ℕ) → 0 < n → n ≡ token_len quoted text
     → notes_of quoted place (tokens_of quoted text) ≡ token_notes quoted place (token_at quoted text) ++ notes_of quoted place (tokens_of quoted (drop n text))

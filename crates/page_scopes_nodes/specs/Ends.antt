@@ -12,6 +12,8 @@ use Rattle.page_scopes_tree.specs.declared.labels.Explicit.{Explicit}
 use Rattle.page_scopes_tree.specs.declared.labels.Explicit.TheVariants as explicits
 use Rattle.page_scopes_tree.specs.declared.labels.Label.{Label}
 use Rattle.page_scopes_tree.specs.declared.labels.Label.TheVariants as labels
+use Rattle.page_sets_lines.specs.declared.blocks.Block.{Block}
+use Rattle.page_sets_lines.specs.declared.blocks.Block.TheVariants as blocks
 use Rattle.page_sets_lines.specs.declared.openers.LineOpener.{LineOpener}
 use Rattle.page_sets_lines.specs.declared.openers.LineOpener.TheVariants as lines
 use Rattle.page_scopes_nodes.specs.Targets.{target_word}
@@ -22,7 +24,7 @@ abbrev pub last_word : Place → Label → Option KeptText → Context → Runni
 last_word place label None c r = last_words place label c r
 last_word place label (Some target) c r = target_word place target c r
 
--- after `RE`, `YS`, a row that stands alone and a heading the row has ended; after a heading nothing stands yet; the padding of a tag stands in place of a blank
+-- after `RE`, `YS`, `Ed`, a row that stands alone and a heading the row has ended; after a heading nothing stands yet; the padding of a tag stands in place of a blank
 abbrev pub line_running : LineOpener → Running → Running
 line_running (lines.Heading name) r = record (row_ended r) { has_content = false }
 line_running (lines.Tag name) r = record r { gap = 0 }
@@ -31,11 +33,15 @@ line_running (lines.Enclosure marks) r = r
 line_running lines.Description r = r
 line_running (lines.OneLine name) r = row_ended r
 
+abbrev pub block_running : Block → Running → Running
+block_running blocks.Display r = row_ended r
+block_running _ r = r
+
 abbrev pub explicit_running : Explicit → Running → Running
 explicit_running explicits.RelativeMargin r = row_ended r
 explicit_running (explicits.Target link) r = r
 explicit_running explicits.Syntax r = row_ended r
-explicit_running (explicits.Block block) r = r
+explicit_running (explicits.Block block) r = block_running block r
 
 abbrev pub label_running : Label → Running → Running
 label_running (labels.Explicit explicit) r = explicit_running explicit r

@@ -1,4 +1,3 @@
-pub mod Names
 pub mod Targets
 pub mod Openers
 pub mod Begins

@@ -11,7 +11,7 @@ use Rattle.page_scopes_layout.specs.Begins.{entered_context, hanging_begun, inde
 use Rattle.page_scopes_layout.specs.Margins.{hold}
 use Rattle.page_scopes_layout.specs.Nodes.{begin_items}
 use Rattle.page_scopes_layout.specs.declared.contexts.Context.{Context}
-use Rattle.page_scopes_blocks.specs.BlockWords.{block_words}
+use Rattle.page_scopes_blocks.specs.Blocks.{block_opened}
 use Rattle.page_scopes_leaves.specs.LineWords.{argument_word}
 use Rattle.page_scopes_leaves.specs.Outcomes.{Outcome, after_notes, followed_by, nothing}
 use Rattle.page_scopes_leaves.specs.Runnings.{row_ended}
@@ -24,12 +24,11 @@ use Rattle.page_scopes_tree.specs.declared.labels.Label.{Label}
 use Rattle.page_scopes_tree.specs.declared.labels.Label.TheVariants as labels
 use Rattle.page_scopes_words.specs.Words.{says}
 use Rattle.page_sets_lines.specs.MacroNames.{paragraph_name}
-use Rattle.page_sets_lines.specs.declared.blocks.BlockOpener.{BlockOpener}
 use Rattle.page_sets_lines.specs.declared.events.Join.TheVariants.{Apart}
 use Rattle.page_sets_lines.specs.declared.macro_names.ParagraphName.{ParagraphName}
 use Rattle.page_sets_lines.specs.declared.openers.Opener.{Opener}
 use Rattle.page_sets_lines.specs.declared.openers.Opener.TheVariants as openers
-use Rattle.page_scopes_nodes.specs.Names.{name_columns}
+use Rattle.page_scopes_widths.specs.Names.{name_columns}
 use Rattle.page_scopes_nodes.specs.Targets.{target_notes}
 use Rattle.page_scopes_nodes.specs.declared.page_layouts.PageLayout.{PageLayout}
 
@@ -96,10 +95,6 @@ name_place page at name = record { margin = at; hang = hold (pos (name_hang page
 abbrev pub synopsis : PageLayout → ℕ → Argument (List ℕ) → Context → Running → Outcome
 synopsis page line name c r = followed_by (synopsis_begun page name c r) (bold_tag line (name_place page (text_margin c) name) name)
 
--- a block of mdoc(7), as `Oo`: what it prints itself
-abbrev pub block : Place → BlockOpener (List ℕ) → Context → Running → Outcome
-block place opener c r = block_words place opener (entered_context c) r
-
 -- ---- all of them
 
 unfoldable pub opened : PageLayout → Place → Opener (List ℕ) → Context → Running → Outcome
@@ -112,4 +107,4 @@ opened page place (openers.Hanging hang) c r = hanging place hang c r
 opened page place (openers.RelativeMargin columns) c r = margin place columns c r
 opened page place (openers.Target kind target) c r = link place target c r
 opened page place (openers.Syntax name) c r = synopsis page place.line name c r
-opened page place (openers.Block opener) c r = block place opener c r
+opened page place (openers.Block opener) c r = block_opened page.output place opener c r

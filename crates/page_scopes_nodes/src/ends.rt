@@ -10,7 +10,7 @@ use page_scopes_blocks::give_last_words;
 use page_scopes_layout::{Context, give_end};
 use page_scopes_leaves::{KeptText, Running};
 use page_scopes_tree::{Explicit, Label};
-use page_sets_lines::LineOpener;
+use page_sets_lines::{Block, LineOpener};
 
 // Gives the last words of a scope: the target of `UR` up to `UE`, and of `MT` up to `ME`, and the marks of enclosures.
 fn give_last_word<O: PieceOut>(
@@ -31,13 +31,15 @@ fn give_last_word<O: PieceOut>(
     }
 }
 
-// What is known along the page after a scope: `RS` up to `RE`, `SY` up to `YS`, `D1` and `Dl` end the row, the headings of `SH`, `SS`, `Sh` and
+// What is known along the page after a scope: `RS` up to `RE`, `SY` up to `YS`, `Bd` up to `Ed`, `D1` and `Dl` end the row, the headings of `SH`, `SS`, `Sh` and
 // `Ss` too; after the tag of `TP` or `TQ` no blank stands.
 fn pass_end(label: Label, running: &mut Running)
     ensures { running.new ≡ ends.label_running label running.old }
 {
     match label {
-        Label::Explicit(Explicit::RelativeMargin | Explicit::Syntax)
+        Label::Explicit(
+            Explicit::RelativeMargin | Explicit::Syntax | Explicit::Block(Block::Display),
+        )
         | Label::Line(LineOpener::OneLine(_)) => running.end_row(),
         Label::Line(LineOpener::Heading(_)) => {
             running.end_row();

@@ -6,7 +6,6 @@
 
 mod begins;
 mod ends;
-mod names;
 mod openers;
 mod page_layouts;
 mod targets;

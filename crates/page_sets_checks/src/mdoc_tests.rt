@@ -76,7 +76,6 @@ fn blocks(rt: HostRuntime) {
             (".It \"x", "2 note unknown It; 1 filled"),
             (".Fo f", "2 note unknown Fo; 1 filled"),
             (".Ta", "2 note unknown Ta; 1 filled"),
-            (".%T x", "2 note unknown %T; 1 filled"),
         ],
     );
     assert!(rt; Mdoc.indent() == 5);
@@ -406,5 +405,84 @@ fn each_enclosure(rt: HostRuntime) {
                 "; 10 word b; 1 filled",
             ],
         );
+    }
+}
+
+#[test]
+fn displays(rt: HostRuntime) {
+    check_lines(
+        &rt,
+        &[
+            (".Bd", "2 open Bd; 1 filled"),
+            (".Bd -literal", "2 open literal Bd; 1 filled"),
+            (".Bd -unfilled", "2 open literal Bd; 1 filled"),
+            (".Bd -filled", "2 open Bd; 1 filled"),
+            (".Bd -ragged -literal", "2 open Bd; 1 filled"),
+            (".Bd -centered", "2 open Bd; 1 filled"),
+            (
+                ".Bd -literal -offset indent -compact",
+                "2 open literal compact Bd indent; 1 filled",
+            ),
+            (
+                ".Bd -offset 4n -offset \"a b\" x -literal",
+                "2 open literal Bd \"a b\"; 1 filled",
+            ),
+            (
+                ".Bd -offset -compact -literal",
+                "2 open literal Bd -compact; 1 filled",
+            ),
+            (".Bd -literal -offset", "2 open literal Bd; 1 filled"),
+            (
+                ".Bd \"-literal\" -compact \"a",
+                "25 note! quote; 2 open literal compact Bd; 1 filled",
+            ),
+            (".Ed x", "2 close Ed; 1 filled"),
+            (".Ed \"x", "5 note quote; 2 close Ed; 1 filled"),
+        ],
+    );
+}
+
+#[test]
+fn blocks_of_fonts_and_words_kept(rt: HostRuntime) {
+    check_lines(
+        &rt,
+        &[
+            (".Bf -emphasis", "2 open Bf I; 1 filled"),
+            (".Bf Em", "2 open Bf I; 1 filled"),
+            (".Bf -symbolic x", "2 open Bf B; 1 filled"),
+            (".Bf Sy", "2 open Bf B; 1 filled"),
+            (".Bf -literal", "2 open Bf R; 1 filled"),
+            (".Bf \"Li\"", "2 open Bf R; 1 filled"),
+            (".Bf Fl", "2 note! font Fl; 2 open Bf; 1 filled"),
+            (".Bf", "2 note! font; 2 open Bf; 1 filled"),
+            (
+                ".Bf \"a",
+                "5 note! quote; 2 note! font a; 2 open Bf; 1 filled",
+            ),
+            (".Ef", "2 close Ef; 1 filled"),
+            (".Bk -words", "2 open Bk; 1 filled"),
+            (".Bk \"", "5 note! quote; 2 open Bk; 1 filled"),
+            (".Ek", "2 close Ek; 1 filled"),
+        ],
+    );
+}
+
+#[test]
+fn references_to_works(rt: HostRuntime) {
+    check_lines(
+        &rt,
+        &[
+            (".Rs", "2 open Rs; 1 filled"),
+            (".Re", "2 close Re; 1 filled"),
+            (".%A A. B.", "2 field; 5 word A.; 8 word B.; 1 filled"),
+            (".%T Fl a .", "2 field; 5 word I Fl; 8 word I a; 10 +delimiter R .; 1 filled"),
+            (".%B ( a", "2 field; 5 delimiter+ R (; 7 word I a; 1 filled"),
+            (".%J a", "2 field; 5 word I a; 1 filled"),
+            (".%V", "2 note empty %V; 1 filled"),
+            (".%T .", "2 note empty %T; 5 +delimiter R .; 1 filled"),
+        ],
+    );
+    for name in ["%A", "%C", "%D", "%I", "%N", "%O", "%P", "%Q", "%R", "%U", "%V"] {
+        check_parts(&rt, &[".", name, " a"], &["2 field; 5 word a; 1 filled"]);
     }
 }

@@ -98,11 +98,29 @@ fn show_own<'a>(word: OwnWord) -> Shown<'a> {
     )
 }
 
+// How a display is opened: literal or not, and compact or not.
+fn display_kind(is_literal: bool, is_compact: bool) -> &'static str {
+    match (is_literal, is_compact) {
+        (false, false) => "open",
+        (false, true) => "open compact",
+        (true, false) => "open literal",
+        (true, true) => "open literal compact",
+    }
+}
+
 fn show_block_opener<'a>(opener: BlockOpener<&'a [u8]>) -> Shown<'a> {
     let name = opener.block().name();
     match opener {
         BlockOpener::Custom(mark) => with("open", name, mark),
-        BlockOpener::Quotation(_) | BlockOpener::Extension => alone("open", name),
+        BlockOpener::Display {
+            is_literal,
+            is_compact,
+            offset,
+        } => with(display_kind(is_literal, is_compact), name, offset),
+        BlockOpener::Fonts(Some(font)) => {
+            with("open", name, Some(bare(font_name(Some(font)).as_bytes())))
+        }
+        _ => alone("open", name),
     }
 }
 
@@ -110,7 +128,7 @@ fn show_block_closer<'a>(closer: BlockCloser<&'a [u8]>) -> Shown<'a> {
     let name = closer.block().closer_name();
     match closer {
         BlockCloser::Custom(mark) => with("close", name, mark),
-        BlockCloser::Quotation(_) | BlockCloser::Extension => alone("close", name),
+        _ => alone("close", name),
     }
 }
 
@@ -161,6 +179,7 @@ fn show_step<'a>(step: LineStep<&'a [u8]>) -> Shown<'a> {
         LineStep::BodyParagraph(name) => alone("paragraph", name.name()),
         LineStep::Uri(uri) => with("uri", "", Some(uri)),
         LineStep::ManualName => alone("manual", ""),
+        LineStep::NextField => alone("field", ""),
     }
 }
 
@@ -184,6 +203,7 @@ fn show_note<'a>(kind: NoteKind, detail: &'a [u8], begins_body: bool) -> Shown<'
         NoteKind::EmptyMacro => "empty",
         NoteKind::UnknownMacro => "unknown",
         NoteKind::Unterminated => "quote",
+        NoteKind::UnknownFont => "font",
         _ => "other",
     };
     let detail = if detail.is_empty() {

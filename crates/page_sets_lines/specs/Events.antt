@@ -36,11 +36,19 @@ abbrev pub block_opener_seen : BlockOpener (Bor (List ℕ)) → BlockOpener (Lis
 block_opener_seen (block_openers.Quotation quotation) = block_openers.Quotation quotation
 block_opener_seen (block_openers.Custom mark) = block_openers.Custom (given_seen mark)
 block_opener_seen block_openers.Extension = block_openers.Extension
+block_opener_seen (block_openers.Display is_literal is_compact offset) = block_openers.Display is_literal is_compact (given_seen offset)
+block_opener_seen (block_openers.Fonts font) = block_openers.Fonts font
+block_opener_seen block_openers.Keep = block_openers.Keep
+block_opener_seen block_openers.Reference = block_openers.Reference
 
 abbrev pub block_closer_seen : BlockCloser (Bor (List ℕ)) → BlockCloser (List ℕ)
 block_closer_seen (block_closers.Quotation quotation) = block_closers.Quotation quotation
 block_closer_seen (block_closers.Custom mark) = block_closers.Custom (given_seen mark)
 block_closer_seen block_closers.Extension = block_closers.Extension
+block_closer_seen block_closers.Display = block_closers.Display
+block_closer_seen block_closers.Fonts = block_closers.Fonts
+block_closer_seen block_closers.Keep = block_closers.Keep
+block_closer_seen block_closers.Reference = block_closers.Reference
 
 abbrev pub opener_seen : Opener (Bor (List ℕ)) → Opener (List ℕ)
 opener_seen openers.Section = openers.Section
@@ -74,6 +82,7 @@ step_seen steps.Glue = steps.Glue
 step_seen (steps.BodyParagraph name) = steps.BodyParagraph name
 step_seen (steps.Uri uri) = steps.Uri (argument_seen uri)
 step_seen steps.ManualName = steps.ManualName
+step_seen steps.NextField = steps.NextField
 
 abbrev pub leaf_seen : Leaf (Bor (List ℕ)) → Leaf (List ℕ)
 leaf_seen leaves.BlankLine = leaves.BlankLine

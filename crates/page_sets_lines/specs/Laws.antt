@@ -47,11 +47,19 @@ abbrev pub BlockOpensSlices : List ℕ → BlockOpener (List ℕ) → Type 0
 BlockOpensSlices line (block_openers.Quotation quotation) = Unit {0}
 BlockOpensSlices line (block_openers.Custom mark) = IsArgumentIfGiven line mark
 BlockOpensSlices line block_openers.Extension = Unit {0}
+BlockOpensSlices line (block_openers.Display is_literal is_compact offset) = IsArgumentIfGiven line offset
+BlockOpensSlices line (block_openers.Fonts font) = Unit {0}
+BlockOpensSlices line block_openers.Keep = Unit {0}
+BlockOpensSlices line block_openers.Reference = Unit {0}
 
 abbrev pub BlockClosesSlices : List ℕ → BlockCloser (List ℕ) → Type 0
 BlockClosesSlices line (block_closers.Quotation quotation) = Unit {0}
 BlockClosesSlices line (block_closers.Custom mark) = IsArgumentIfGiven line mark
 BlockClosesSlices line block_closers.Extension = Unit {0}
+BlockClosesSlices line block_closers.Display = Unit {0}
+BlockClosesSlices line block_closers.Fonts = Unit {0}
+BlockClosesSlices line block_closers.Keep = Unit {0}
+BlockClosesSlices line block_closers.Reference = Unit {0}
 
 abbrev pub OpensSlices : List ℕ → Opener (List ℕ) → Type 0
 OpensSlices line openers.Section = Unit {0}
@@ -85,6 +93,7 @@ StepsSlices line steps.Glue = Unit {0}
 StepsSlices line (steps.BodyParagraph name) = Unit {0}
 StepsSlices line (steps.Uri uri) = IsArgument line uri
 StepsSlices line steps.ManualName = Unit {0}
+StepsSlices line steps.NextField = Unit {0}
 
 abbrev pub LeavesSlices : List ℕ → Leaf (List ℕ) → Type 0
 LeavesSlices line leaves.BlankLine = Unit {0}

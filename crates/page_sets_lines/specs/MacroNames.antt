@@ -19,7 +19,7 @@ use Rattle.page_sets_lines.specs.declared.macro_names.Prologue.TheVariants as pr
 use Rattle.page_sets_lines.specs.declared.openers.LineOpener.{LineOpener}
 use Rattle.page_sets_lines.specs.declared.openers.LineOpener.TheVariants.{Heading, Tag, FontWords, Enclosure, Description, OneLine}
 use Rattle.page_sets_lines.specs.declared.leaves.Own.{Own}
-use Rattle.page_sets_lines.specs.declared.leaves.Own.TheVariants.{OpenParenthesis, CloseParenthesis, OpenBracket, CloseBracket, OpenAngle, CloseAngle, OpenBrace, CloseBrace, OpenDouble, CloseDouble, OpenSingle, CloseSingle, Straight, Comma, Colon, Apostrophe, Dash}
+use Rattle.page_sets_lines.specs.declared.leaves.Own.TheVariants.{OpenParenthesis, CloseParenthesis, OpenBracket, CloseBracket, OpenAngle, CloseAngle, OpenBrace, CloseBrace, OpenDouble, CloseDouble, OpenSingle, CloseSingle, Straight, Comma, FullStop, Colon, Apostrophe, Dash}
 use Rattle.page_sets_lines.specs.declared.leaves.Own.TheVariants.{Flag, Files, Home, Bsd, BsdOs, DragonFly, FreeBsd, NetBsd, OpenBsd, Unix}
 use Rattle.page_sets_lines.specs.Marks.{marks_name}
 
@@ -89,6 +89,7 @@ own_text OpenSingle = codes "\\(oq"
 own_text CloseSingle = codes "\\(cq"
 own_text Straight = codes "\""
 own_text Comma = codes ","
+own_text FullStop = codes "."
 own_text Colon = codes ":"
 own_text Apostrophe = codes "'"
 own_text Dash = codes "-"
@@ -119,6 +120,7 @@ own_is_word OpenSingle = false
 own_is_word CloseSingle = false
 own_is_word Straight = false
 own_is_word Comma = false
+own_is_word FullStop = false
 own_is_word Colon = false
 own_is_word Apostrophe = false
 own_is_word Dash = false

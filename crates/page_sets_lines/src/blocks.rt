@@ -5,6 +5,7 @@ ghost use Rattle.page_sets_lines.specs.Blocks.{block_name, block_closer_name, op
 ghost use Rattle.page_sets_lines.specs.Events.{block_opener_seen, block_closer_seen};
 
 use crate::marks::Quotation;
+use page_core_base::Font;
 use page_roff_forms::Argument;
 use std::alloc::AllocError;
 
@@ -18,6 +19,14 @@ pub enum Block {
     Custom,
     /// `Xo` and `Xc`: no marks.
     Extension,
+    /// `Bd` and `Ed`: rows that stand apart.
+    Display,
+    /// `Bf` and `Ef`: a font.
+    Fonts,
+    /// `Bk` and `Ek`: words that stay in one row.
+    Keep,
+    /// `Rs` and `Re`: a reference to a work.
+    Reference,
 }
 
 /// What opens a block; `W` is a text.
@@ -28,6 +37,18 @@ pub enum BlockOpener<W> {
     Custom(Option<Argument<W>>),
     /// `Xo`.
     Extension,
+    /// `Bd`: whether its rows are kept as they are, whether no blank row stands before them, and how far in they stand.
+    Display {
+        is_literal: bool,
+        is_compact: bool,
+        offset: Option<Argument<W>>,
+    },
+    /// `Bf`, with its font, where it names one.
+    Fonts(Option<Font>),
+    /// `Bk`.
+    Keep,
+    /// `Rs`.
+    Reference,
 }
 
 /// What closes a block; `W` is a text.
@@ -38,6 +59,14 @@ pub enum BlockCloser<W> {
     Custom(Option<Argument<W>>),
     /// `Xc`.
     Extension,
+    /// `Ed`.
+    Display,
+    /// `Ef`.
+    Fonts,
+    /// `Ek`.
+    Keep,
+    /// `Re`.
+    Reference,
 }
 
 impl Block {
@@ -49,6 +78,10 @@ impl Block {
             Block::Quotation(quotation) => quotation.name(),
             Block::Custom => "Eo",
             Block::Extension => "Xo",
+            Block::Display => "Bd",
+            Block::Fonts => "Bf",
+            Block::Keep => "Bk",
+            Block::Reference => "Rs",
         }
     }
 
@@ -60,6 +93,10 @@ impl Block {
             Block::Quotation(quotation) => quotation.closer_name(),
             Block::Custom => "Ec",
             Block::Extension => "Xc",
+            Block::Display => "Ed",
+            Block::Fonts => "Ef",
+            Block::Keep => "Ek",
+            Block::Reference => "Re",
         }
     }
 }
@@ -73,6 +110,10 @@ impl BlockOpener<&[u8]> {
             BlockOpener::Quotation(quotation) => Block::Quotation(quotation),
             BlockOpener::Custom(_) => Block::Custom,
             BlockOpener::Extension => Block::Extension,
+            BlockOpener::Display { .. } => Block::Display,
+            BlockOpener::Fonts(_) => Block::Fonts,
+            BlockOpener::Keep => Block::Keep,
+            BlockOpener::Reference => Block::Reference,
         }
     }
 }
@@ -86,6 +127,10 @@ impl BlockCloser<&[u8]> {
             BlockCloser::Quotation(quotation) => Block::Quotation(quotation),
             BlockCloser::Custom(_) => Block::Custom,
             BlockCloser::Extension => Block::Extension,
+            BlockCloser::Display => Block::Display,
+            BlockCloser::Fonts => Block::Fonts,
+            BlockCloser::Keep => Block::Keep,
+            BlockCloser::Reference => Block::Reference,
         }
     }
 }

@@ -55,6 +55,8 @@ pub enum Own {
     Straight,
     /// `,`
     Comma,
+    /// `.`
+    FullStop,
     /// `:`
     Colon,
     /// `'`
@@ -103,6 +105,7 @@ impl Own {
             Own::CloseSingle => "\\(cq",
             Own::Straight => "\"",
             Own::Comma => ",",
+            Own::FullStop => ".",
             Own::Colon => ":",
             Own::Apostrophe => "'",
             Own::Dash => "-",

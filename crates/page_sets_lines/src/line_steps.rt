@@ -16,6 +16,8 @@ pub enum LineStep<W> {
     Uri(Argument<W>),
     /// `Nm` without a name of its own: the name of the manual.
     ManualName,
+    /// The next field of the open reference (`Rs`) begins: `%A`, `%T` and so on.
+    NextField,
 }
 
 impl<W: Copy> Copy for LineStep<W> {}

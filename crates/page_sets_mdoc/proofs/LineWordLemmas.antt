@@ -3,6 +3,7 @@ use Rattle.std.proofs.Common.{◌≡◌, ℕ, suc, ◌+◌, ◌-◌, ◌≤◌, 
 use Rattle.std.specs.List.{list_all}
 use Rattle.std.proofs.lemmas.List.{drop_all, take_all}
 use Rattle.page_core_base.specs.LinesTaken.{Line}
+use Rattle.page_core_base.specs.declared.cells.Font.{Font}
 use Rattle.page_roff_forms.specs.declared.quotes.Argument.{Argument}
 use Rattle.page_sets_lines.specs.declared.events.Event.{Event}
 use Rattle.page_sets_lines.specs.declared.events.Deed.TheVariants as deeds
@@ -23,30 +24,39 @@ use Rattle.page_sets_mdoc_words.specs.Inlines.{inline_events}
 use Rattle.page_sets_mdoc_words.specs.Printed.{printed}
 use Rattle.page_sets_mdoc_words.specs.Steps.{macro_words_events, begun_events}
 use Rattle.page_sets_mdoc_words.specs.WordsLeft.{after_words}
-use Rattle.page_sets_mdoc.specs.Mdoc.{tail_events, rest_events, phrase_events, head_events, line_parts}
+use Rattle.page_sets_mdoc.specs.Mdoc.{field_font, tail_events, rest_events, phrase_events, head_events, line_parts}
+use Rattle.page_sets_mdoc_blocks.specs.Fronts.{has_real_word, line_arguments}
 use Rattle.page_sets_mdoc.specs.RestLaws.{rest_in_tail, rest_calls, line_name}
 use Rattle.page_sets_mdoc.specs.Plans.{parts_left, words_to_come, words_from}
 
 -- ---- the end of a line
 
-pub nothing_stands : (line : Line) (cursor : Cursor) (words : MacroWords) → words ≡ words_from cursor 0 → cursor.rest ≡ length line.text
+pub nothing_stands : (line : Line) (cursor : Cursor) (words : MacroWords) → words ≡ words_from None cursor 0 → cursor.rest ≡ length line.text
     → (parts_left line words).words ≡ []
 nothing_stands line cursor words w e = rw (w, e, at_end line.text) refl
 
-pub nothing_comes : (line : Line) (cursor : Cursor) (words : MacroWords) → words ≡ words_from cursor 0 → cursor.rest ≡ length line.text
+pub nothing_comes : (line : Line) (cursor : Cursor) (words : MacroWords) → words ≡ words_from None cursor 0 → cursor.rest ≡ length line.text
     → words_to_come line words ≡ []
 nothing_comes line cursor words w e = rw (w, e, at_end line.text) refl
 
--- all that is left, as it is
-pub all_stand : (line : Line) (cursor : Cursor) (words : MacroWords) (n : ℕ) → words ≡ words_from cursor n
+-- all that is left, in a font
+pub all_stand : (line : Line) (font : Option Font) (cursor : Cursor) (words : MacroWords) (n : ℕ) → words ≡ words_from font cursor n
     → length (arguments_after cursor.rest line.text) ≤ n → (parts_left line words).words ≡ []
-all_stand line cursor words n w few = rw (w, drop_all n (arguments_after cursor.rest line.text) few) refl
+all_stand line font cursor words n w few = rw (w, drop_all n (arguments_after cursor.rest line.text) few) refl
 
-pub all_come : (line : Line) (cursor : Cursor) (words : MacroWords) (n : ℕ) → words ≡ words_from cursor n
-    → length (arguments_after cursor.rest line.text) ≤ n → words_to_come line words ≡ printed line.number None (arguments_after cursor.rest line.text)
-all_come line cursor words n w few =
+pub all_come : (line : Line) (font : Option Font) (cursor : Cursor) (words : MacroWords) (n : ℕ) → words ≡ words_from font cursor n
+    → length (arguments_after cursor.rest line.text) ≤ n → words_to_come line words ≡ printed line.number font (arguments_after cursor.rest line.text)
+all_come line font cursor words n w few =
     let arguments = arguments_after cursor.rest line.text in
-    rw (w, take_all n arguments few, drop_all n arguments few) (append-nil (printed line.number None arguments))
+    rw (w, take_all n arguments few, drop_all n arguments few) (append-nil (printed line.number font arguments))
+
+-- the words of a field
+pub field_comes : (line : Line) (own : Font) (real : Bool) (font : Option Font) (cursor : Cursor) (words : MacroWords) (n : ℕ) → words ≡ words_from font cursor n
+    → length (arguments_after cursor.rest line.text) ≤ n → cursor.rest ≡ name_end line → real ≡ has_real_word line → font ≡ field_font real own
+    → words_to_come line words ≡ printed line.number (field_font (has_real_word line) own) (line_arguments line)
+field_comes line own real font cursor words n w few r h f =
+    let comes = all_come line font cursor words n w few in
+    comes ∙ rw (f, h, r) refl
 
 pub tail_comes : (number : ℕ) (word : Argument (List ℕ)) (after arguments : List (Argument (List ℕ))) (events : List (Event (List ℕ)))
     → arguments ≡ word ∷ after → events ≡ printed number None arguments
@@ -75,22 +85,22 @@ head_comes line words inline column len rest parsed c l r p h m =
 
 -- the words of a macro that prints them as they are
 phrase_stands : (line : Line) (cursor : Cursor) (parsed : Bool)
-    → (parts_left line (words_from cursor (length (parts None parsed (arguments_after cursor.rest line.text)).words))).words ≡ []
+    → (parts_left line (words_from None cursor (length (parts None parsed (arguments_after cursor.rest line.text)).words))).words ≡ []
 phrase_stands line cursor parsed = ap (λ (q : LineParts). q.words) (rest_goes_on parsed (arguments_after cursor.rest line.text))
 
 phrase_comes : (line : Line) (cursor : Cursor) (parsed : Bool)
-    → words_to_come line (words_from cursor (length (parts None parsed (arguments_after cursor.rest line.text)).words))
+    → words_to_come line (words_from None cursor (length (parts None parsed (arguments_after cursor.rest line.text)).words))
     ≡ phrase_events line.number (parts None parsed (arguments_after cursor.rest line.text))
 phrase_comes line cursor parsed =
     let arguments = arguments_after cursor.rest line.text in
-    begun_comes line (words_from cursor (length (parts None parsed arguments).words)) (parts None parsed arguments) _ (rest_goes_on parsed arguments)
+    begun_comes line (words_from None cursor (length (parts None parsed arguments).words)) (parts None parsed arguments) _ (rest_goes_on parsed arguments)
     (ap (λ l. printed line.number None l) (words_taken parsed arguments))
 
-pub words_stand : (line : Line) (cursor : Cursor) (parsed : Bool) (words : MacroWords) (count : ℕ) → words ≡ words_from cursor count
+pub words_stand : (line : Line) (cursor : Cursor) (parsed : Bool) (words : MacroWords) (count : ℕ) → words ≡ words_from None cursor count
     → count ≡ length (parts None parsed (arguments_after cursor.rest line.text)).words → (parts_left line words).words ≡ []
 words_stand line cursor parsed words count w n = rw (w, n) (phrase_stands line cursor parsed)
 
-pub words_come : (line : Line) (cursor : Cursor) (parsed : Bool) (words : MacroWords) (count : ℕ) → words ≡ words_from cursor count
+pub words_come : (line : Line) (cursor : Cursor) (parsed : Bool) (words : MacroWords) (count : ℕ) → words ≡ words_from None cursor count
     → count ≡ length (parts None parsed (arguments_after cursor.rest line.text)).words → cursor.rest ≡ name_end line → parsed ≡ is_parsed (name_of line)
     → words_to_come line words ≡ phrase_events line.number (line_parts None line)
 words_come line cursor parsed words count w n r p =

@@ -3,6 +3,8 @@ use Rattle.std.specs.Prelude.{ℕ, Bool, true, false, ◌&&◌, not, List, [], �
 use Rattle.page_core_base.specs.declared.note_kinds.NoteKind.{NoteKind}
 use Rattle.page_core_base.specs.declared.note_kinds.NoteKind.TheVariants.{UnknownMacro, EmptyMacro}
 use Rattle.page_core_base.specs.LinesTaken.{Line}
+use Rattle.page_core_base.specs.declared.cells.Font.{Font}
+use Rattle.page_core_base.specs.declared.cells.Font.TheVariants.{I}
 use Rattle.page_roff_forms.specs.declared.quotes.Argument.{Argument}
 use Rattle.page_roff_forms.specs.Arguments.{has_arguments}
 use Rattle.page_roff_requests.specs.declared.requests.LayoutRequest.{LayoutRequest}
@@ -20,7 +22,7 @@ use Rattle.page_sets_mdoc_lines.specs.Parts.{Call, LineParts, parts, has_calls}
 use Rattle.page_sets_mdoc_words.specs.Printed.{printed}
 use Rattle.page_sets_mdoc_words.specs.Inlines.{inline_events}
 use Rattle.page_sets_mdoc_blocks.specs.Macros.{has_phrase, is_to_come}
-use Rattle.page_sets_mdoc_blocks.specs.Fronts.{name_column, line_arguments, refusal, request_front, block_front}
+use Rattle.page_sets_mdoc_blocks.specs.Fronts.{name_column, line_arguments, refusal, request_front, has_real_word, block_front}
 
 -- ---- the words of a line, with the macros among them
 
@@ -54,11 +56,21 @@ phrase_events number parts = printed number None parts.words ++ rest_events numb
 abbrev pub line_parts : Option Inline → Line → LineParts
 line_parts begun line = parts begun (is_parsed (name_of line)) (line_arguments line)
 
+-- a field of a reference (`%A` and so on) is italic, or in the font around it; so is one without a word of its own
+abbrev pub own_font : Font → Option Font
+own_font I = Some I
+own_font _ = None
+
+abbrev pub field_font : Bool → Font → Option Font
+field_font true font = own_font font
+field_font false font = None
+
 abbrev pub words_events : LineMacro → Line → List (Event (List ℕ))
 words_events (lines.Inline inline) line = head_events line inline (line_parts (Some inline) line)
 words_events (lines.Heading name) line = phrase_events line.number (line_parts None line)
 words_events lines.Description line = phrase_events line.number (line_parts None line)
 words_events (lines.OneLine name) line = phrase_events line.number (line_parts None line)
+words_events (lines.Field font) line = printed line.number (field_font (has_real_word line) font) (line_arguments line)
 words_events _ line = []
 
 -- ---- a line

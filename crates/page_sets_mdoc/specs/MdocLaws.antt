@@ -18,16 +18,16 @@ use Rattle.page_sets_mdoc_rows.specs.declared.blocks.LineMacro.{LineMacro}
 use Rattle.page_sets_mdoc_rows.specs.declared.blocks.LineMacro.TheVariants as lines
 use Rattle.page_sets_mdoc_rows.specs.Rows.{line_macro, is_parsed}
 use Rattle.page_sets_mdoc_lines.proofs.FewLemmas.{few_arguments_after}
-use Rattle.page_sets_mdoc_words.proofs.PrintLemmas.{Prints, no_event}
+use Rattle.page_sets_mdoc_words.proofs.PrintLemmas.{Prints, no_event, more_events, printed_prints}
 use Rattle.page_sets_mdoc_words.proofs.StepPrintLemmas.{step_prints}
 use Rattle.page_sets_mdoc_blocks.specs.Macros.{is_to_come}
-use Rattle.page_sets_mdoc_blocks.specs.Fronts.{name_column, line_arguments, request_front, block_front}
-use Rattle.page_sets_mdoc_blocks.proofs.FrontLemmas.{request_front_slices, block_slices, front_slices, request_no_word, block_no_word, request_few, block_few}
+use Rattle.page_sets_mdoc_blocks.specs.Fronts.{name_column, line_arguments, request_front, has_real_word, block_front}
+use Rattle.page_sets_mdoc_blocks.proofs.FrontLemmas.{request_front_slices, block_slices, front_slices, request_no_word, block_no_word, request_few, words_more, block_few}
 use Rattle.page_sets_mdoc.specs.declared.plans.Plan.{Plan}
 use Rattle.page_sets_mdoc.specs.declared.plans.LinePlan.{LinePlan}
 use Rattle.page_sets_mdoc.specs.declared.plans.LinePlan.TheVariants as line_plans
 use Rattle.page_sets_mdoc_words.specs.declared.steps.MacroWords.{MacroWords}
-use Rattle.page_sets_mdoc.specs.Mdoc.{rest_events, head_events, phrase_events, line_parts, words_events, refused_events, lacks_words, macro_events, request_events, named_events, control_events, line_events, mdoc_events}
+use Rattle.page_sets_mdoc.specs.Mdoc.{field_font, rest_events, head_events, phrase_events, line_parts, words_events, refused_events, lacks_words, macro_events, request_events, named_events, control_events, line_events, mdoc_events}
 use Rattle.page_sets_mdoc.specs.Plans.{end_events, words_to_come, plan_events, line_plan_events, IsPlanOf}
 use Rattle.page_sets_mdoc.specs.RestLaws.{rest_prints, head_prints, phrase_prints}
 
@@ -56,17 +56,19 @@ line_plan_slices line (line_plans.Control plan) fits = plan_slices line plan
 
 -- ---- the words of a line
 
-words_print : (begins : LineMacro) (line : Line) → Prints line.text 3 (line_arguments line) (words_events begins line)
+words_print : (begins : LineMacro) (line : Line) → Prints line.text (words_more begins) (line_arguments line) (words_events begins line)
 words_print (lines.Inline inline) line = head_prints line inline (line_arguments line) (all_arguments line.text (name_end line))
 words_print (lines.Prologue name) line = no_event line.text 3 (line_arguments line)
 words_print (lines.Heading name) line = phrase_prints line (is_parsed (name_of line)) (line_arguments line) (all_arguments line.text (name_end line))
 words_print (lines.Paragraph name) line = no_event line.text 3 (line_arguments line)
 words_print lines.Description line = phrase_prints line (is_parsed (name_of line)) (line_arguments line) (all_arguments line.text (name_end line))
 words_print (lines.OneLine name) line = phrase_prints line (is_parsed (name_of line)) (line_arguments line) (all_arguments line.text (name_end line))
-words_print (lines.Begins block) line = no_event line.text 3 (line_arguments line)
-words_print (lines.Ends block) line = no_event line.text 3 (line_arguments line)
+words_print (lines.Begins block) line = no_event line.text 2 (line_arguments line)
+words_print (lines.Ends block) line = no_event line.text 2 (line_arguments line)
 words_print lines.Item line = no_event line.text 3 (line_arguments line)
-words_print (lines.Field font) line = no_event line.text 3 (line_arguments line)
+words_print (lines.Field font) line =
+    more_events line.text 0 3 (line_arguments line) _ (omega arith)
+    (printed_prints line.text line.number (field_font (has_real_word line) font) (line_arguments line) (all_arguments line.text (name_end line)))
 words_print (lines.Sentence sentence) line = no_event line.text 3 (line_arguments line)
 words_print lines.Include line = no_event line.text 3 (line_arguments line)
 words_print lines.Spacing line = no_event line.text 3 (line_arguments line)
@@ -81,9 +83,9 @@ record Keeps (line : Line) (events : List (Event (List ℕ))) : Type 0 where
   few : length events ≤ 2 * length (line_arguments line) + 6
 
 -- a front, then words, then the end of the line
-with_words : (line : Line) (front words : List (Event (List ℕ))) → AreSlices line.text front → HasNoWord front → length front ≤ 2
-    → Prints line.text 3 (line_arguments line) words → Keeps line (front ++ (words ++ (line_end line.number true ∷ [])))
-with_words line front words s n f p =
+with_words : (line : Line) (more : ℕ) (front words : List (Event (List ℕ))) → AreSlices line.text front → HasNoWord front → length front + more ≤ 5
+    → Prints line.text more (line_arguments line) words → Keeps line (front ++ (words ++ (line_end line.number true ∷ [])))
+with_words line more front words s n f p =
     let last : HasNoWord (line_end line.number true ∷ []) = (refl, tt) in
     let arguments = line_arguments line in
     let from : ArgumentsFrom line.text 0 arguments = earlier line.text 0 (name_end line + 1) arguments (omega arith) (all_after line.text (name_end line)) in
@@ -105,12 +107,13 @@ macro_keeps : (begins : LineMacro) (line : Line) → Keeps line (macro_events be
 macro_keeps begins line =
     either_keeps line (is_to_come begins) _ _ (refused_keeps line UnknownMacro)
     (either_keeps line (lacks_words begins line) _ _ (refused_keeps line EmptyMacro)
-    (with_words line (block_front begins line) (words_events begins line) (block_slices begins line) (block_no_word begins line) (block_few begins line) (words_print begins line)))
+    (with_words line (words_more begins) (block_front begins line) (words_events begins line) (block_slices begins line) (block_no_word begins line) (block_few begins line) (words_print begins line)))
 
 request_keeps : (request : Option LayoutRequest) (line : Line) → Keeps line (request_events request line)
 request_keeps None line = refused_keeps line UnknownMacro
 request_keeps (Some request) line =
-    with_words line (request_front request line) [] (request_front_slices request line) (request_no_word request line) (request_few request line)
+    let few = request_few request line in
+    with_words line 3 (request_front request line) [] (request_front_slices request line) (request_no_word request line) (omega (arith, few))
     (no_event line.text 3 (line_arguments line))
 
 named_keeps : (begins : Option LineMacro) (line : Line) → Keeps line (named_events begins line)

@@ -2,6 +2,7 @@
 use Rattle.std.specs.Prelude.{◌≡◌, ℕ, suc, Bool, true, false, List, [], ◌∷◌, ◌++◌, length, Option, None, MatchOption}
 use Rattle.std.specs.List.{list_all}
 use Rattle.page_core_base.specs.LinesTaken.{Line}
+use Rattle.page_core_base.specs.declared.cells.Font.{Font}
 use Rattle.page_roff_forms.specs.declared.quotes.Argument.{Argument}
 use Rattle.page_sets_lines.specs.declared.events.Event.{Event}
 use Rattle.page_sets_lines.specs.PlainLines.{plain_events, line_end}
@@ -31,9 +32,9 @@ words_to_come line words = macro_words_events line words ++ rest_events line.num
 abbrev pub StandsIn : Line → MacroWords → Type 0
 StandsIn line words = IsCursorOf line.text words.left.cursor × ((parts_left line words).words ≡ [])
 
--- this many words as they are, without a macro
-abbrev pub words_from : Cursor → ℕ → MacroWords
-words_from cursor count = record { column = 1; step = Printed None; left = record { count = count; cursor = cursor } }
+-- this many words in a font, without a macro
+abbrev pub words_from : Option Font → Cursor → ℕ → MacroWords
+words_from font cursor count = record { column = 1; step = Printed font; left = record { count = count; cursor = cursor } }
 
 -- the next call, if there is one; it is one of those that were left
 abbrev pub GoesOnWith : Line → List (Argument (List ℕ)) → Option MacroWords → Type 0

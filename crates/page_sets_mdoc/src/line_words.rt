@@ -8,24 +8,27 @@ ghost use Rattle.page_sets_mdoc_rows.specs.Rows as rows;
 ghost use Rattle.page_sets_mdoc_lines.specs.LineWords.{arguments_after};
 ghost use Rattle.page_sets_mdoc_lines.specs.Parts.{parts};
 ghost use Rattle.page_sets_mdoc_lines.specs.Cursors.{IsCursorOf};
+ghost use Rattle.page_sets_mdoc_words.specs.Printed.{printed};
+ghost use Rattle.page_sets_mdoc_blocks.specs.Fronts.{has_real_word, line_arguments};
 ghost use Rattle.page_sets_mdoc.specs.Mdoc as mdoc;
 ghost use Rattle.page_sets_mdoc.specs.Plans as plans;
 ghost use Rattle.page_sets_mdoc.specs.Plans.{words_to_come, StandsIn, GoesOnWith};
 
-use page_core_base::{Place, Taken};
+use page_core_base::{Font, Place, Taken};
 use page_core_limits::LINE;
 use page_sets_lines::{Closer, Deed, Event, find_name};
+use page_sets_mdoc_blocks::has_real_word;
 use page_sets_mdoc_lines::{Cursor, find_extent, word_call};
 use page_sets_mdoc_rows::{Inline, LineMacro, is_parsed};
 use page_sets_mdoc_words::{MacroWords, Step, WordsLeft};
 
-// This many words as they are, without a macro.
-fn words_from(cursor: Cursor, count: usize) -> MacroWords
-    ensures { result ≡ plans.words_from cursor count }
+// This many words in a font, without a macro.
+fn words_from(font: Option<Font>, cursor: Cursor, count: usize) -> MacroWords
+    ensures { result ≡ plans.words_from font cursor count }
 {
     MacroWords {
         column: 1,
-        step: Step::Printed(None),
+        step: Step::Printed(font),
         left: WordsLeft { count, cursor },
     }
 }
@@ -36,7 +39,7 @@ pub(crate) fn no_words(line: Taken<'_>) -> MacroWords
     ensures stands { StandsIn (line_seen line.entry) result }
     ensures events { words_to_come (line_seen line.entry) result ≡ [] }
 {
-    words_from(Cursor::at_end(line.text), 0)
+    words_from(None, Cursor::at_end(line.text), 0)
 }
 
 // Whether words of a line call macros.
@@ -77,7 +80,28 @@ fn phrase_words(line: Taken<'_>) -> MacroWords
 {
     let cursor = Cursor::new(line.text, find_name(line).end);
     let extent = find_extent(line.text, cursor, line_is_parsed(line));
-    words_from(cursor, extent.words as usize)
+    words_from(None, cursor, extent.words as usize)
+}
+
+// The font of the words of a field, where it is not that around them.
+fn field_font(has_real_word: bool, font: Font) -> Option<Font>
+    ensures { result ≡ mdoc.field_font has_real_word font }
+{
+    match font {
+        Font::I if has_real_word => Some(Font::I),
+        _ => None,
+    }
+}
+
+// The words of a field of a reference: all of its line.
+fn field_words(line: Taken<'_>, font: Font) -> MacroWords
+    requires { length line.text.now ≤ LINE }
+    ensures stands { StandsIn (line_seen line.entry) result }
+    ensures events { words_to_come (line_seen line.entry) result
+        ≡ printed line.entry.line (mdoc.field_font (has_real_word (line_seen line.entry)) font) (line_arguments (line_seen line.entry)) }
+{
+    let cursor = Cursor::new(line.text, find_name(line).end);
+    words_from(field_font(has_real_word(line), font), cursor, LINE)
 }
 
 /// The words of the macro that begins a line.
@@ -91,6 +115,7 @@ pub(crate) fn words_of(begins: LineMacro, line: Taken<'_>) -> MacroWords
         LineMacro::Heading(_) | LineMacro::Description | LineMacro::OneLine(_) => {
             phrase_words(line)
         }
+        LineMacro::Field(font) => field_words(line, font),
         _ => no_words(line),
     }
 }
@@ -130,7 +155,7 @@ fn begin_tail<'a>(
     ensures events { TakesNext (mdoc.tail_events line.entry.line (arguments_after cursor.rest line.entry.text.now)) result
         (words_to_come (line_seen line.entry) words.new) }
 {
-    *words = words_from(cursor, LINE);
+    *words = words_from(None, cursor, LINE);
     let mut ahead = cursor;
     let first = ahead.read(line.text)?;
     Some(Event {

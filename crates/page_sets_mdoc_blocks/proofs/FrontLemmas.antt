@@ -1,5 +1,6 @@
 -- What comes before a line's words: its texts are slices of the line, none of its events is a word, and they are few. Helpers of proofs.
-use Rattle.std.proofs.Common.{◌≡◌, ℕ, ◌+◌, ◌≤◌, false, List, [], ◌∷◌, ◌++◌, length, refl, arith, length-append, Option, None, Some}
+use Rattle.std.proofs.Common.{◌≡◌, ℕ, ◌+◌, ◌≤◌, Bool, true, false, List, [], ◌∷◌, ◌++◌, length, refl, ap, arith, length-append, append-nil, Option, None, Some, if◌then◌else◌, unwrap_or, option_map, codes}
+use Rattle.std.specs.Str.{bytes_eq}
 use Rattle.page_core_base.specs.LinesTaken.{Line}
 use Rattle.page_core_base.specs.declared.note_kinds.NoteKind.{NoteKind}
 use Rattle.page_roff_requests.specs.declared.requests.LayoutRequest.{LayoutRequest}
@@ -8,25 +9,34 @@ use Rattle.page_sets_lines.specs.declared.events.Event.{Event}
 use Rattle.page_sets_lines.specs.declared.macro_names.HeadingName.{HeadingName}
 use Rattle.page_sets_lines.specs.declared.macro_names.HeadingName.TheVariants as headings
 use Rattle.page_sets_lines.specs.declared.openers.LineOpener.{LineOpener}
-use Rattle.page_sets_lines.specs.Laws.{HasSlices, AreSlices, OpensSlices}
-use Rattle.page_sets_lines.specs.ControlLines.{name_end, open_quote}
+use Rattle.page_sets_lines.specs.Laws.{IsPart, IsPartIfGiven, IsArgument, IsArgumentIfGiven, HasSlices, AreSlices, OpensSlices}
+use Rattle.page_sets_lines.specs.declared.events.Deed.TheVariants as deeds
+use Rattle.page_sets_lines.specs.declared.leaves.Leaf.TheVariants as leaves
+use Rattle.page_sets_lines.specs.declared.line_steps.LineStep.TheVariants as steps
+use Rattle.page_sets_lines.specs.ControlLines.{name_end, rest_of, open_quote}
+use Rattle.page_sets_lines.proofs.OrderLemmas.{AreArguments, all_arguments}
 use Rattle.page_sets_lines.proofs.LawLemmas.{nothing_part, rest_part, end_within, name_part, first_text_after, request_slices, AreSlices-append, HasNoWord, is_word}
+use Rattle.page_roff_forms.specs.declared.quotes.Argument.{Argument}
+use Rattle.page_sets_mdoc_rows.specs.declared.blocks.Block.{Block}
+use Rattle.page_sets_mdoc_rows.specs.declared.blocks.Block.TheVariants as blocks
 use Rattle.page_sets_mdoc_rows.specs.declared.blocks.LineMacro.{LineMacro}
 use Rattle.page_sets_mdoc_rows.specs.declared.blocks.LineMacro.TheVariants as lines
 use Rattle.page_sets_mdoc_blocks.specs.declared.fronts.FrontDeed.{FrontDeed}
 use Rattle.page_sets_mdoc_blocks.specs.declared.fronts.FrontDeed.TheVariants as fronts
 use Rattle.page_sets_mdoc_blocks.specs.declared.fronts.Front.{Front}
-use Rattle.page_sets_mdoc_blocks.specs.Fronts.{at_name, line_arguments, quote_events, missing_quote, request_front, heading_opener, block_front}
-use Rattle.page_sets_mdoc_blocks.specs.FrontSteps.{front_deed, deed_events, scope_events, front_events}
+use Rattle.page_sets_mdoc_blocks.specs.Fronts.{at_name, line_arguments, quote_events, missing_quote, request_front, heading_opener, first_text, opener_of, closer_of, deed_at_name, note_events, block_note, begin_front, end_front, has_real_word, field_front, block_front}
+use Rattle.page_sets_mdoc_blocks.specs.declared.displays.DisplayOptions.{DisplayOptions}
+use Rattle.page_sets_mdoc_blocks.specs.Displays.{display_type, first_type, no_options, option_read, options_after}
+use Rattle.page_sets_mdoc_blocks.specs.FrontSteps.{front_deed, block_deed, field_deed, scope_events, front_events, of_deed, quoting, beginning}
 
 -- ---- slices
 
-quote_slices : (line : List ℕ) (number : ℕ) (column : Option ℕ) → AreSlices line (quote_events number column)
-quote_slices line number None = tt
-quote_slices line number (Some column) = (nothing_part line, tt)
+quote_slices : (line : List ℕ) (number : ℕ) (begins : Bool) (column : Option ℕ) → AreSlices line (quote_events number begins column)
+quote_slices line number begins None = tt
+quote_slices line number begins (Some column) = (nothing_part line, tt)
 
-missing_slices : (line : Line) → AreSlices line.text (missing_quote line)
-missing_slices line = quote_slices line.text line.number (open_quote 0 (line_arguments line))
+missing_slices : (begins : Bool) (line : Line) → AreSlices line.text (missing_quote begins line)
+missing_slices begins line = quote_slices line.text line.number begins (open_quote 0 (line_arguments line))
 
 heading_slices : (line : List ℕ) (name : HeadingName) → OpensSlices line (heading_opener name)
 heading_slices line headings.SH = tt
@@ -36,30 +46,94 @@ heading_slices line headings.Ss = tt
 
 pub request_front_slices : (name : LayoutRequest) (line : Line) → AreSlices line.text (request_front name line)
 request_front_slices name line =
-    AreSlices-append line.text _ _ (missing_slices line) (request_slices line.text name _ (first_text_after line.text (name_end line)), tt)
+    AreSlices-append line.text _ _ (missing_slices false line) (request_slices line.text name _ (first_text_after line.text (name_end line)), tt)
+
+-- of what may be there
+abbrev HasSlicesIfGiven : List ℕ → Option (Deed (List ℕ)) → Type 0
+HasSlicesIfGiven line None = Unit {0}
+HasSlicesIfGiven line (Some deed) = HasSlices line deed
+
+at_name_slices : (line : Line) (deed : Option (Deed (List ℕ))) → HasSlicesIfGiven line.text deed → AreSlices line.text (deed_at_name line deed)
+at_name_slices line None h = tt
+at_name_slices line (Some deed) h = (h, tt)
+
+given_part : (line : List ℕ) (text : Option (List ℕ)) → IsPartIfGiven line text → IsPart line (unwrap_or text [])
+given_part line None h = nothing_part line
+given_part line (Some text) h = h
+
+note_slices : (line : Line) (kind : Option NoteKind) → AreSlices line.text (note_events line kind)
+note_slices line None = tt
+note_slices line (Some kind) = (given_part line.text (first_text line) (first_text_after line.text (name_end line)), tt)
+
+-- the last `-offset` of a display stands in its line
+option_slices : (line : List ℕ) (takes is_offset is_compact : Bool) (so_far : DisplayOptions (List ℕ)) (word : Argument (List ℕ)) (kind : Option Bool)
+    → IsArgumentIfGiven line so_far.offset → IsArgument line word
+    → IsArgumentIfGiven line
+    (if takes then record so_far { offset = Some word; takes_offset = false }
+    else if is_offset then record so_far { takes_offset = true }
+    else if is_compact then record so_far { is_compact = true }
+    else record so_far { is_literal = kind }).offset
+option_slices line true is_offset is_compact so_far word kind h k = k
+option_slices line false true is_compact so_far word kind h k = h
+option_slices line false false true so_far word kind h k = h
+option_slices line false false false so_far word kind h k = h
+
+read_slices : (line : List ℕ) (so_far : DisplayOptions (List ℕ)) (word : Argument (List ℕ)) → IsArgumentIfGiven line so_far.offset → IsArgument line word
+    → IsArgumentIfGiven line (option_read so_far word).offset
+read_slices line so_far word h k =
+    option_slices line so_far.takes_offset (bytes_eq word.text (codes "-offset")) (bytes_eq word.text (codes "-compact")) so_far word
+    (first_type so_far.is_literal (display_type word.text)) h k
+
+options_slices : (line : List ℕ) (so_far : DisplayOptions (List ℕ)) (words : List (Argument (List ℕ))) → IsArgumentIfGiven line so_far.offset
+    → AreArguments line words → IsArgumentIfGiven line (options_after so_far words).offset
+options_slices line so_far [] h all = h
+options_slices line so_far (word ∷ words) h all = options_slices line (option_read so_far word) words (read_slices line so_far word h all.0) all.1
+
+opens_slices : (block : Block) (line : Line) → HasSlicesIfGiven line.text (option_map deeds.Open (opener_of block line))
+opens_slices blocks.Display line = options_slices line.text no_options (line_arguments line) tt (all_arguments line.text (name_end line))
+opens_slices blocks.Fonts line = tt
+opens_slices blocks.Keep line = tt
+opens_slices blocks.List line = tt
+opens_slices blocks.Reference line = tt
+
+closes_slices : (block : Block) (line : Line) → HasSlicesIfGiven line.text (option_map deeds.Close (closer_of block))
+closes_slices blocks.Display line = tt
+closes_slices blocks.Fonts line = tt
+closes_slices blocks.Keep line = tt
+closes_slices blocks.List line = tt
+closes_slices blocks.Reference line = tt
+
+field_slices : (real : Bool) (line : Line) → AreSlices line.text (field_front real line)
+field_slices true line = (tt, tt)
+field_slices false line = (name_part line, tt)
 
 pub block_slices : (begins : LineMacro) (line : Line) → AreSlices line.text (block_front begins line)
 block_slices (lines.Inline inline) line = tt
-block_slices (lines.Prologue name) line = AreSlices-append line.text _ _ (missing_slices line) (rest_part line.text (name_end line) (end_within line), tt)
+block_slices (lines.Prologue name) line = AreSlices-append line.text _ _ (missing_slices false line) (rest_part line.text (name_end line) (end_within line), tt)
 block_slices (lines.Heading name) line = (heading_slices line.text name, (tt, tt))
-block_slices (lines.Paragraph name) line = AreSlices-append line.text _ _ (missing_slices line) (tt, tt)
+block_slices (lines.Paragraph name) line = AreSlices-append line.text _ _ (missing_slices false line) (tt, tt)
 block_slices lines.Description line = (tt, tt)
 block_slices (lines.OneLine name) line = (tt, tt)
-block_slices (lines.Begins block) line = tt
-block_slices (lines.Ends block) line = tt
+block_slices (lines.Begins block) line =
+    AreSlices-append line.text _ _ (missing_slices true line)
+    (AreSlices-append line.text _ _ (note_slices line (block_note block line)) (at_name_slices line _ (opens_slices block line)))
+block_slices (lines.Ends block) line = AreSlices-append line.text _ _ (missing_slices false line) (at_name_slices line _ (closes_slices block line))
 block_slices lines.Item line = tt
-block_slices (lines.Field font) line = tt
+block_slices (lines.Field font) line = field_slices (has_real_word line) line
 block_slices (lines.Sentence sentence) line = tt
 block_slices lines.Include line = tt
 block_slices lines.Spacing line = tt
-block_slices lines.Target line = missing_slices line
+block_slices lines.Target line = missing_slices false line
 
-deed_slices : (deed : FrontDeed) (line : Line) → AreSlices line.text (deed_events line (front_deed deed line))
+deed_slices : (deed : FrontDeed) (line : Line) → AreSlices line.text (deed_at_name line (front_deed deed line))
 deed_slices fronts.Nothing line = tt
 deed_slices (fronts.Refused kind) line = (name_part line, tt)
 deed_slices (fronts.Request name) line = (request_slices line.text name _ (first_text_after line.text (name_end line)), tt)
 deed_slices (fronts.Prologue name) line = (rest_part line.text (name_end line) (end_within line), tt)
 deed_slices (fronts.Paragraph name) line = (tt, tt)
+deed_slices (fronts.Begins block) line = at_name_slices line _ (opens_slices block line)
+deed_slices (fronts.Ends block) line = at_name_slices line _ (closes_slices block line)
+deed_slices fronts.Field line = (tt, tt)
 deed_slices fronts.Section line = (tt, tt)
 deed_slices fronts.Subsection line = (tt, tt)
 
@@ -69,8 +143,9 @@ scope_slices line (Some opener) = (tt, tt)
 
 pub front_slices : (line : Line) (front : Front) → AreSlices line.text (front_events line front)
 front_slices line front =
-    AreSlices-append line.text _ _ (quote_slices line.text line.number front.quote)
-    (AreSlices-append line.text _ _ (deed_slices front.deed line) (scope_slices line front.scope))
+    AreSlices-append line.text _ _ (quote_slices line.text line.number front.begins_body front.quote)
+    (AreSlices-append line.text _ _ (note_slices line front.note)
+    (AreSlices-append line.text _ _ (deed_slices front.deed line) (scope_slices line front.scope)))
 
 -- ---- no words
 
@@ -78,59 +153,127 @@ HasNoWord-append : (front rest : List (Event (List ℕ))) → HasNoWord front �
 HasNoWord-append [] rest h k = k
 HasNoWord-append (event ∷ front) rest h k = (h.0, HasNoWord-append front rest h.1 k)
 
-quote_no_word : (number : ℕ) (column : Option ℕ) → HasNoWord (quote_events number column)
-quote_no_word number None = tt
-quote_no_word number (Some column) = (refl, tt)
+quote_no_word : (number : ℕ) (begins : Bool) (column : Option ℕ) → HasNoWord (quote_events number begins column)
+quote_no_word number begins None = tt
+quote_no_word number begins (Some column) = (refl, tt)
 
-missing_no_word : (line : Line) → HasNoWord (missing_quote line)
-missing_no_word line = quote_no_word line.number (open_quote 0 (line_arguments line))
+missing_no_word : (begins : Bool) (line : Line) → HasNoWord (missing_quote begins line)
+missing_no_word begins line = quote_no_word line.number begins (open_quote 0 (line_arguments line))
+
+note_no_word : (line : Line) (kind : Option NoteKind) → HasNoWord (note_events line kind)
+note_no_word line None = tt
+note_no_word line (Some kind) = (refl, tt)
+
+opens_no_word : (block : Block) (line : Line) → HasNoWord (deed_at_name line (option_map deeds.Open (opener_of block line)))
+opens_no_word blocks.Display line = (refl, tt)
+opens_no_word blocks.Fonts line = (refl, tt)
+opens_no_word blocks.Keep line = (refl, tt)
+opens_no_word blocks.List line = tt
+opens_no_word blocks.Reference line = (refl, tt)
+
+closes_no_word : (block : Block) (line : Line) → HasNoWord (deed_at_name line (option_map deeds.Close (closer_of block)))
+closes_no_word blocks.Display line = (refl, tt)
+closes_no_word blocks.Fonts line = (refl, tt)
+closes_no_word blocks.Keep line = (refl, tt)
+closes_no_word blocks.List line = tt
+closes_no_word blocks.Reference line = (refl, tt)
+
+field_no_word : (real : Bool) (line : Line) → HasNoWord (field_front real line)
+field_no_word true line = (refl, tt)
+field_no_word false line = (refl, tt)
 
 pub request_no_word : (name : LayoutRequest) (line : Line) → HasNoWord (request_front name line)
-request_no_word name line = HasNoWord-append (missing_quote line) _ (missing_no_word line) (refl, tt)
+request_no_word name line = HasNoWord-append (missing_quote false line) _ (missing_no_word false line) (refl, tt)
 
 pub block_no_word : (begins : LineMacro) (line : Line) → HasNoWord (block_front begins line)
 block_no_word (lines.Inline inline) line = tt
-block_no_word (lines.Prologue name) line = HasNoWord-append (missing_quote line) _ (missing_no_word line) (refl, tt)
+block_no_word (lines.Prologue name) line = HasNoWord-append (missing_quote false line) _ (missing_no_word false line) (refl, tt)
 block_no_word (lines.Heading name) line = (refl, (refl, tt))
-block_no_word (lines.Paragraph name) line = HasNoWord-append (missing_quote line) _ (missing_no_word line) (refl, tt)
+block_no_word (lines.Paragraph name) line = HasNoWord-append (missing_quote false line) _ (missing_no_word false line) (refl, tt)
 block_no_word lines.Description line = (refl, tt)
 block_no_word (lines.OneLine name) line = (refl, tt)
-block_no_word (lines.Begins block) line = tt
-block_no_word (lines.Ends block) line = tt
+block_no_word (lines.Begins block) line =
+    HasNoWord-append (missing_quote true line) _ (missing_no_word true line)
+    (HasNoWord-append (note_events line (block_note block line)) _ (note_no_word line (block_note block line)) (opens_no_word block line))
+block_no_word (lines.Ends block) line = HasNoWord-append (missing_quote false line) _ (missing_no_word false line) (closes_no_word block line)
 block_no_word lines.Item line = tt
-block_no_word (lines.Field font) line = tt
+block_no_word (lines.Field font) line = field_no_word (has_real_word line) line
 block_no_word (lines.Sentence sentence) line = tt
 block_no_word lines.Include line = tt
 block_no_word lines.Spacing line = tt
-block_no_word lines.Target line = missing_no_word line
+block_no_word lines.Target line = missing_no_word false line
 
 -- ---- few
 
-quote_few : (number : ℕ) (column : Option ℕ) → length (quote_events number column) ≤ 1
-quote_few number None = omega arith
-quote_few number (Some column) = omega arith
+quote_few : (number : ℕ) (begins : Bool) (column : Option ℕ) → length (quote_events number begins column) ≤ 1
+quote_few number begins None = omega arith
+quote_few number begins (Some column) = omega arith
 
-missing_few : (line : Line) → length (missing_quote line) ≤ 1
-missing_few line = quote_few line.number (open_quote 0 (line_arguments line))
+missing_few : (begins : Bool) (line : Line) → length (missing_quote begins line) ≤ 1
+missing_few begins line = quote_few line.number begins (open_quote 0 (line_arguments line))
 
-quoted_few : (line : Line) (event : Event (List ℕ)) → length (missing_quote line ++ (event ∷ [])) ≤ 2
-quoted_few line event = let f = missing_few line in simp length-append (omega (arith, f))
+note_few : (line : Line) (kind : Option NoteKind) → length (note_events line kind) ≤ 1
+note_few line None = omega arith
+note_few line (Some kind) = omega arith
+
+at_name_few : (line : Line) (deed : Option (Deed (List ℕ))) → length (deed_at_name line deed) ≤ 1
+at_name_few line None = omega arith
+at_name_few line (Some deed) = omega arith
+
+quoted_few : (line : Line) (event : Event (List ℕ)) → length (missing_quote false line ++ (event ∷ [])) ≤ 2
+quoted_few line event = let f = missing_few false line in simp length-append (omega (arith, f))
+
+begins_few : (block : Block) (line : Line) → length (begin_front block line) ≤ 3
+begins_few block line =
+    let f = missing_few true line in
+    let n = note_few line (block_note block line) in
+    let d = at_name_few line (option_map deeds.Open (opener_of block line)) in
+    simp length-append (omega (arith, f, n, d))
+
+ends_few : (block : Block) (line : Line) → length (end_front block line) ≤ 3
+ends_few block line =
+    let f = missing_few false line in
+    let d = at_name_few line (option_map deeds.Close (closer_of block)) in
+    simp length-append (omega (arith, f, d))
+
+field_few : (real : Bool) (line : Line) → length (field_front real line) ≤ 2
+field_few true line = omega arith
+field_few false line = omega arith
 
 pub request_few : (name : LayoutRequest) (line : Line) → length (request_front name line) ≤ 2
 request_few name line = quoted_few line _
 
-pub block_few : (begins : LineMacro) (line : Line) → length (block_front begins line) ≤ 2
+-- how many events the words of a macro may add; a block of lines has none
+abbrev pub words_more : LineMacro → ℕ
+words_more (lines.Begins block) = 2
+words_more (lines.Ends block) = 2
+words_more _ = 3
+
+pub block_few : (begins : LineMacro) (line : Line) → length (block_front begins line) + words_more begins ≤ 5
 block_few (lines.Inline inline) line = omega arith
-block_few (lines.Prologue name) line = quoted_few line _
+block_few (lines.Prologue name) line = let f = quoted_few line (at_name line (deeds.Leaf (leaves.Prologue name (rest_of line)))) in omega (arith, f)
 block_few (lines.Heading name) line = omega arith
-block_few (lines.Paragraph name) line = quoted_few line _
+block_few (lines.Paragraph name) line = let f = quoted_few line (at_name line (deeds.Leaf (leaves.Step (steps.BodyParagraph name)))) in omega (arith, f)
 block_few lines.Description line = omega arith
 block_few (lines.OneLine name) line = omega arith
-block_few (lines.Begins block) line = omega arith
-block_few (lines.Ends block) line = omega arith
+block_few (lines.Begins block) line = let f = begins_few block line in omega (arith, f)
+block_few (lines.Ends block) line = let f = ends_few block line in omega (arith, f)
 block_few lines.Item line = omega arith
-block_few (lines.Field font) line = omega arith
+block_few (lines.Field font) line = let f = field_few (has_real_word line) line in omega (arith, f)
 block_few (lines.Sentence sentence) line = omega arith
 block_few lines.Include line = omega arith
 block_few lines.Spacing line = omega arith
-block_few lines.Target line = let f = missing_few line in omega (arith, f)
+block_few lines.Target line = let f = missing_few false line in omega (arith, f)
+
+-- ---- what is put into a front
+
+pub begins_with : (block : Block) (line : Line) → front_events line (beginning block line) ≡ begin_front block line
+begins_with block line =
+    ap (λ l. missing_quote true line ++ (note_events line (block_note block line) ++ l)) (append-nil (deed_at_name line (block_deed true block line)))
+
+pub ends_with : (block : Block) (line : Line) → front_events line (quoting (fronts.Ends block) line) ≡ end_front block line
+ends_with block line = ap (λ l. missing_quote false line ++ l) (append-nil (deed_at_name line (block_deed false block line)))
+
+pub field_begins : (real : Bool) (line : Line) → front_events line (of_deed (field_deed real)) ≡ field_front real line
+field_begins true line = refl
+field_begins false line = refl

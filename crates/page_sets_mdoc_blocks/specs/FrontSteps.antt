@@ -1,6 +1,8 @@
 -- What is still to come before a line's words: the code's own steps.
-use Rattle.std.specs.Prelude.{ℕ, false, List, [], ◌∷◌, ◌++◌, Option, None, Some}
+use Rattle.std.specs.Prelude.{ℕ, Bool, true, false, List, [], ◌∷◌, ◌++◌, Option, None, Some, option_map}
 use Rattle.page_core_base.specs.LinesTaken.{Line}
+use Rattle.page_core_base.specs.declared.note_kinds.NoteKind.TheVariants.{EmptyMacro}
+use Rattle.page_sets_mdoc_rows.specs.declared.blocks.Block.{Block}
 use Rattle.page_sets_lines.specs.declared.events.Deed.{Deed}
 use Rattle.page_sets_lines.specs.declared.events.Deed.TheVariants as deeds
 use Rattle.page_sets_lines.specs.declared.events.Event.{Event}
@@ -15,7 +17,7 @@ use Rattle.page_sets_lines.specs.PlainLines.{request}
 use Rattle.page_sets_mdoc_blocks.specs.declared.fronts.FrontDeed.{FrontDeed}
 use Rattle.page_sets_mdoc_blocks.specs.declared.fronts.FrontDeed.TheVariants as fronts
 use Rattle.page_sets_mdoc_blocks.specs.declared.fronts.Front.{Front}
-use Rattle.page_sets_mdoc_blocks.specs.Fronts.{at_name, line_arguments, quote_events}
+use Rattle.page_sets_mdoc_blocks.specs.Fronts.{at_name, line_arguments, quote_events, opener_of, closer_of, deed_at_name, note_events, block_note}
 
 abbrev pub missing_column : Line → Option ℕ
 missing_column line = open_quote 0 (line_arguments line)
@@ -26,18 +28,25 @@ heading_deed headings.SS = fronts.Subsection
 heading_deed headings.Sh = fronts.Section
 heading_deed headings.Ss = fronts.Subsection
 
+abbrev pub block_deed : Bool → Block → Line → Option (Deed (List ℕ))
+block_deed true block line = option_map deeds.Open (opener_of block line)
+block_deed false block line = option_map deeds.Close (closer_of block)
+
 abbrev pub front_deed : FrontDeed → Line → Option (Deed (List ℕ))
 front_deed fronts.Nothing line = None
 front_deed (fronts.Refused kind) line = Some (deeds.Note kind (name_of line) false)
 front_deed (fronts.Request name) line = Some (deeds.Leaf (leaves.Request (request name (text_of (first_of (line_arguments line))))))
 front_deed (fronts.Prologue name) line = Some (deeds.Leaf (leaves.Prologue name (rest_of line)))
 front_deed (fronts.Paragraph name) line = Some (deeds.Leaf (leaves.Step (steps.BodyParagraph name)))
+front_deed (fronts.Begins block) line = block_deed true block line
+front_deed (fronts.Ends block) line = block_deed false block line
+front_deed fronts.Field line = Some (deeds.Leaf (leaves.Step steps.NextField))
 front_deed fronts.Section line = Some (deeds.Open openers.Section)
 front_deed fronts.Subsection line = Some (deeds.Open openers.Subsection)
 
-abbrev pub deed_events : Line → Option (Deed (List ℕ)) → List (Event (List ℕ))
-deed_events line None = []
-deed_events line (Some deed) = at_name line deed ∷ []
+abbrev pub field_deed : Bool → FrontDeed
+field_deed true = fronts.Field
+field_deed false = fronts.Refused EmptyMacro
 
 abbrev pub scope_events : Line → Option LineOpener → List (Event (List ℕ))
 scope_events line None = []
@@ -46,4 +55,19 @@ scope_events line (Some opener) = at_name line (deeds.LineScope opener) ∷ []
 -- all that comes before the words
 abbrev pub front_events : Line → Front → List (Event (List ℕ))
 front_events line front =
-    quote_events line.number front.quote ++ (deed_events line (front_deed front.deed line) ++ scope_events line front.scope)
+    quote_events line.number front.begins_body front.quote
+    ++ (note_events line front.note ++ (deed_at_name line (front_deed front.deed line) ++ scope_events line front.scope))
+
+-- ---- what is put into a front
+
+abbrev pub of_deed : FrontDeed → Front
+of_deed deed = record { quote = None; begins_body = false; note = None; deed = deed; scope = None }
+
+abbrev pub quoting : FrontDeed → Line → Front
+quoting deed line = record (of_deed deed) { quote = missing_column line }
+
+abbrev pub scoped : FrontDeed → LineOpener → Front
+scoped deed opener = record (of_deed deed) { scope = Some opener }
+
+abbrev pub beginning : Block → Line → Front
+beginning block line = record (quoting (fronts.Begins block) line) { begins_body = true; note = block_note block line }

@@ -1,9 +1,10 @@
 -- What a macro that begins a line does before its words, and the requests that change rows. Source: mdoc(7), "MACRO
 -- REFERENCE"; roff(7), "REQUEST REFERENCE".
-use Rattle.std.specs.Prelude.{ℕ, ◌+◌, false, List, [], ◌∷◌, ◌++◌, Option, None, Some}
+use Rattle.std.specs.Prelude.{ℕ, ◌+◌, Bool, true, false, List, [], ◌∷◌, ◌++◌, Option, None, Some, unwrap_or, option_map}
+use Rattle.std.specs.List.{list_any}
 use Rattle.page_core_base.specs.LinesTaken.{Line}
 use Rattle.page_core_base.specs.declared.note_kinds.NoteKind.{NoteKind}
-use Rattle.page_core_base.specs.declared.note_kinds.NoteKind.TheVariants.{Unterminated}
+use Rattle.page_core_base.specs.declared.note_kinds.NoteKind.TheVariants.{Unterminated, UnknownFont, EmptyMacro}
 use Rattle.page_roff_forms.specs.declared.quotes.Argument.{Argument}
 use Rattle.page_roff_requests.specs.declared.requests.LayoutRequest.{LayoutRequest}
 use Rattle.page_sets_lines.specs.declared.events.Deed.{Deed}
@@ -16,10 +17,19 @@ use Rattle.page_sets_lines.specs.declared.macro_names.HeadingName.TheVariants as
 use Rattle.page_sets_lines.specs.declared.openers.LineOpener.TheVariants as scopes
 use Rattle.page_sets_lines.specs.declared.openers.Opener.{Opener}
 use Rattle.page_sets_lines.specs.declared.openers.Opener.TheVariants as openers
+use Rattle.page_sets_lines.specs.declared.openers.Closer.TheVariants as closers
+use Rattle.page_sets_lines.specs.declared.openers.Closer.{Closer}
+use Rattle.page_sets_lines.specs.declared.blocks.BlockOpener.TheVariants as block_openers
+use Rattle.page_sets_lines.specs.declared.blocks.BlockCloser.TheVariants as block_closers
 use Rattle.page_sets_lines.specs.ControlLines.{before_name, name_end, name_of, rest_of, arguments_after, first_of, text_of, open_quote}
 use Rattle.page_sets_lines.specs.PlainLines.{event_at, request}
+use Rattle.page_core_base.specs.declared.cells.Font.{Font}
+use Rattle.page_sets_mdoc_rows.specs.declared.blocks.Block.{Block}
+use Rattle.page_sets_mdoc_rows.specs.declared.blocks.Block.TheVariants as blocks
 use Rattle.page_sets_mdoc_rows.specs.declared.blocks.LineMacro.{LineMacro}
 use Rattle.page_sets_mdoc_rows.specs.declared.blocks.LineMacro.TheVariants as lines
+use Rattle.page_sets_mdoc_lines.specs.LineWords.{is_real}
+use Rattle.page_sets_mdoc_blocks.specs.Displays.{display, given_font}
 
 -- the column of the macro that begins the line
 abbrev pub name_column : Line → ℕ
@@ -35,22 +45,22 @@ line_arguments line = arguments_after (name_end line) line.text
 abbrev pub refusal : NoteKind → Line → Event (List ℕ)
 refusal kind line = at_name line (deeds.Note kind (name_of line) false)
 
--- the quote of an argument that lacks its last one
-abbrev pub quote_event : ℕ → ℕ → Event (List ℕ)
-quote_event number column = event_at number column (deeds.Note Unterminated [] false)
+-- the quote of an argument that lacks its last one; its message may begin the body of the page
+abbrev pub quote_event : ℕ → Bool → ℕ → Event (List ℕ)
+quote_event number begins_body column = event_at number column (deeds.Note Unterminated [] begins_body)
 
-abbrev pub quote_events : ℕ → Option ℕ → List (Event (List ℕ))
-quote_events number None = []
-quote_events number (Some column) = quote_event number column ∷ []
+abbrev pub quote_events : ℕ → Bool → Option ℕ → List (Event (List ℕ))
+quote_events number begins_body None = []
+quote_events number begins_body (Some column) = quote_event number begins_body column ∷ []
 
 -- a macro that prints none of its arguments tells of a quote that lacks its last one
-abbrev pub missing_quote : Line → List (Event (List ℕ))
-missing_quote line = quote_events line.number (open_quote 0 (line_arguments line))
+abbrev pub missing_quote : Bool → Line → List (Event (List ℕ))
+missing_quote begins_body line = quote_events line.number begins_body (open_quote 0 (line_arguments line))
 
 -- `br sp ft in nf fi`
 abbrev pub request_front : LayoutRequest → Line → List (Event (List ℕ))
 request_front name line =
-    missing_quote line ++ (at_name line (deeds.Leaf (leaves.Request (request name (text_of (first_of (line_arguments line)))))) ∷ [])
+    missing_quote false line ++ (at_name line (deeds.Leaf (leaves.Request (request name (text_of (first_of (line_arguments line)))))) ∷ [])
 
 -- the scope that a heading begins
 abbrev pub heading_opener : HeadingName → Opener (List ℕ)
@@ -59,20 +69,78 @@ heading_opener headings.SS = openers.Subsection
 heading_opener headings.Sh = openers.Section
 heading_opener headings.Ss = openers.Subsection
 
+-- ---- blocks of lines (`Bd Bf Bk Rs` up to `Ed Ef Ek Re`)
+
+-- the text of the first argument, if there is one
+abbrev pub first_text : Line → Option (List ℕ)
+first_text line = text_of (first_of (line_arguments line))
+
+-- what it opens and closes; lists are still to come
+abbrev pub opener_of : Block → Line → Option (Opener (List ℕ))
+opener_of blocks.Display line = Some (openers.Block (display (line_arguments line)))
+opener_of blocks.Fonts line = Some (openers.Block (block_openers.Fonts (given_font (first_text line))))
+opener_of blocks.Keep line = Some (openers.Block block_openers.Keep)
+opener_of blocks.List line = None
+opener_of blocks.Reference line = Some (openers.Block block_openers.Reference)
+
+abbrev pub closer_of : Block → Option (Closer (List ℕ))
+closer_of blocks.Display = Some (closers.Block block_closers.Display)
+closer_of blocks.Fonts = Some (closers.Block block_closers.Fonts)
+closer_of blocks.Keep = Some (closers.Block block_closers.Keep)
+closer_of blocks.List = None
+closer_of blocks.Reference = Some (closers.Block block_closers.Reference)
+
+abbrev pub deed_at_name : Line → Option (Deed (List ℕ)) → List (Event (List ℕ))
+deed_at_name line None = []
+deed_at_name line (Some deed) = at_name line deed ∷ []
+
+-- a message about the first argument
+abbrev pub note_events : Line → Option NoteKind → List (Event (List ℕ))
+note_events line None = []
+note_events line (Some kind) = at_name line (deeds.Note kind (unwrap_or (first_text line) []) true) ∷ []
+
+-- a font that is not known is told of
+abbrev pub note_unless_known : Option Font → Option NoteKind
+note_unless_known None = Some UnknownFont
+note_unless_known (Some font) = None
+
+abbrev pub block_note : Block → Line → Option NoteKind
+block_note blocks.Fonts line = note_unless_known (given_font (first_text line))
+block_note _ line = None
+
+abbrev pub begin_front : Block → Line → List (Event (List ℕ))
+begin_front block line =
+    missing_quote true line ++ (note_events line (block_note block line) ++ deed_at_name line (option_map deeds.Open (opener_of block line)))
+
+abbrev pub end_front : Block → Line → List (Event (List ℕ))
+end_front block line = missing_quote false line ++ deed_at_name line (option_map deeds.Close (closer_of block))
+
+-- ---- fields of a reference (`%A` and so on)
+
+-- one of the arguments is no delimiter
+abbrev pub has_real_word : Line → Bool
+has_real_word line = list_any is_real (line_arguments line)
+
+abbrev pub field_front : Bool → Line → List (Event (List ℕ))
+field_front true line = at_name line (deeds.Leaf (leaves.Step steps.NextField)) ∷ []
+field_front false line = refusal EmptyMacro line ∷ []
+
+-- ---- all of them
+
 -- what a macro does before its words; macros that can stand among words have no front of their own
 abbrev pub block_front : LineMacro → Line → List (Event (List ℕ))
 block_front (lines.Inline inline) line = []
-block_front (lines.Prologue name) line = missing_quote line ++ (at_name line (deeds.Leaf (leaves.Prologue name (rest_of line))) ∷ [])
+block_front (lines.Prologue name) line = missing_quote false line ++ (at_name line (deeds.Leaf (leaves.Prologue name (rest_of line))) ∷ [])
 block_front (lines.Heading name) line =
     at_name line (deeds.Open (heading_opener name)) ∷ at_name line (deeds.LineScope (scopes.Heading name)) ∷ []
-block_front (lines.Paragraph name) line = missing_quote line ++ (at_name line (deeds.Leaf (leaves.Step (steps.BodyParagraph name))) ∷ [])
+block_front (lines.Paragraph name) line = missing_quote false line ++ (at_name line (deeds.Leaf (leaves.Step (steps.BodyParagraph name))) ∷ [])
 block_front lines.Description line = at_name line (deeds.LineScope scopes.Description) ∷ []
 block_front (lines.OneLine name) line = at_name line (deeds.LineScope (scopes.OneLine name)) ∷ []
-block_front (lines.Begins block) line = []
-block_front (lines.Ends block) line = []
+block_front (lines.Begins block) line = begin_front block line
+block_front (lines.Ends block) line = end_front block line
 block_front lines.Item line = []
-block_front (lines.Field font) line = []
+block_front (lines.Field font) line = field_front (has_real_word line) line
 block_front (lines.Sentence sentence) line = []
 block_front lines.Include line = []
 block_front lines.Spacing line = []
-block_front lines.Target line = missing_quote line
+block_front lines.Target line = missing_quote false line

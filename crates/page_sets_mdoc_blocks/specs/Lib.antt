@@ -1,3 +1,4 @@
 pub mod Macros
+pub mod Displays
 pub mod Fronts
 pub mod FrontSteps

@@ -1,20 +1,23 @@
 //! What a macro that begins a line does before its words, event by event (mdoc(7), "MACRO REFERENCE").
 
-ghost use Rattle.std.specs.Prelude.{◌≡◌, ◌≤◌, [], ◌∷◌, length, option_map};
+ghost use Rattle.std.specs.Prelude.{◌≡◌, ◌≤◌, [], ◌∷◌, length, true, option_map, unwrap_or};
 ghost use Rattle.page_core_base.specs.LinesTaken.{Line, line_seen};
-ghost use Rattle.page_sets_lines.specs.Events.{event_seen, deed_seen, text_seen, TakesNext};
-ghost use Rattle.page_sets_lines.specs.ControlLines.{first_of, text_of};
+ghost use Rattle.page_sets_lines.specs.Events.{event_seen, deed_seen, opener_seen, closer_seen, TakesNext};
+ghost use Rattle.page_sets_lines.specs.declared.events.Deed.TheVariants as deeds;
 ghost use Rattle.page_sets_mdoc_blocks.specs.Fronts as fronts;
-ghost use Rattle.page_sets_mdoc_blocks.specs.FrontSteps.{front_deed, front_events, heading_deed, missing_column};
+ghost use Rattle.page_sets_mdoc_blocks.specs.FrontSteps as steps;
+ghost use Rattle.page_sets_mdoc_blocks.specs.FrontSteps.{front_deed, front_events, heading_deed};
 
+use crate::displays::{display_of, first_font};
+use crate::line_arguments::{first_text, has_real_word, missing_quote};
 use page_core_base::{NoteKind, Place, Taken};
 use page_core_limits::LINE;
 use page_roff_requests::LayoutRequest;
 use page_sets_lines::{
-    BodyParagraphName, Deed, Event, HeadingName, Leaf, LineOpener, LineStep, Opener, Prologue,
-    find_name, first_of, open_quote, with_argument,
+    BlockCloser, BlockOpener, BodyParagraphName, Closer, Deed, Event, HeadingName, Leaf, LineOpener,
+    LineStep, Opener, Prologue, find_name, with_argument,
 };
-use page_sets_mdoc_rows::LineMacro;
+use page_sets_mdoc_rows::{Block, LineMacro};
 
 /// What a macro does first, but for the line scope that it opens.
 #[derive(Clone, Copy)]
@@ -32,6 +35,12 @@ pub(crate) enum FrontDeed {
     Section,
     /// The heading of a subsection.
     Subsection,
+    /// A block of lines begins.
+    Begins(Block),
+    /// A block of lines ends.
+    Ends(Block),
+    /// A field of a reference.
+    Field,
 }
 
 /// What is still to come before a line's words, in the order of the fields.
@@ -39,6 +48,10 @@ pub(crate) enum FrontDeed {
 pub struct Front {
     /// The column of a quote whose argument lacks its last one.
     pub(crate) quote: Option<u32>,
+    /// The message about it may begin the body of the page.
+    pub(crate) begins_body: bool,
+    /// A message about the first argument, which may begin it too.
+    pub(crate) note: Option<NoteKind>,
     pub(crate) deed: FrontDeed,
     pub(crate) scope: Option<LineOpener>,
 }
@@ -58,8 +71,8 @@ fn at_name<'a>(line: Taken<'_>, deed: Deed<&'a [u8]>) -> Event<&'a [u8]>
 }
 
 // The message about a quote.
-fn quote_event<'a>(number: u32, column: u32) -> Event<&'a [u8]>
-    ensures { event_seen result ≡ fronts.quote_event number column }
+fn quote_event<'a>(number: u32, begins_body: bool, column: u32) -> Event<&'a [u8]>
+    ensures { event_seen result ≡ fronts.quote_event number begins_body column }
 {
     let detail: &[u8] = &[];
     Event {
@@ -70,19 +83,59 @@ fn quote_event<'a>(number: u32, column: u32) -> Event<&'a [u8]>
         deed: Deed::Note {
             kind: NoteKind::Unterminated,
             detail,
-            begins_body: false,
+            begins_body,
         },
     }
 }
 
-// The text of the first argument of a line.
-fn first_text<'a>(line: Taken<'a>) -> Option<&'a [u8]>
+// A message about the first argument of a line, which may begin the body of the page.
+fn argument_note<'a>(kind: NoteKind, line: Taken<'a>) -> Deed<&'a [u8]>
     requires { length line.text.now ≤ LINE }
-    ensures { text_seen result ≡ text_of (first_of (fronts.line_arguments (line_seen line.entry))) }
+    ensures { deed_seen result ≡ deeds.Note kind (unwrap_or (fronts.first_text (line_seen line.entry)) []) true }
 {
-    match first_of(line.text, find_name(line).end) {
-        Some(argument) => Some(argument.text),
-        None => None,
+    Deed::Note {
+        kind,
+        detail: first_text(line).unwrap_or(&[]),
+        begins_body: true,
+    }
+}
+
+// What a block of lines opens with.
+fn opener_of<'a>(block: Block, line: Taken<'a>) -> Option<Opener<&'a [u8]>>
+    requires { length line.text.now ≤ LINE }
+    ensures { option_map opener_seen result ≡ fronts.opener_of block (line_seen line.entry) }
+{
+    match block {
+        Block::Display => Some(Opener::Block(display_of(line))),
+        Block::Fonts => Some(Opener::Block(BlockOpener::Fonts(first_font(line)))),
+        Block::Keep => Some(Opener::Block(BlockOpener::Keep)),
+        Block::List => None,
+        Block::Reference => Some(Opener::Block(BlockOpener::Reference)),
+    }
+}
+
+// What a block of lines closes with.
+fn closer_of<'a>(block: Block) -> Option<Closer<&'a [u8]>>
+    ensures { option_map closer_seen result ≡ fronts.closer_of block }
+{
+    match block {
+        Block::Display => Some(Closer::Block(BlockCloser::Display)),
+        Block::Fonts => Some(Closer::Block(BlockCloser::Fonts)),
+        Block::Keep => Some(Closer::Block(BlockCloser::Keep)),
+        Block::List => None,
+        Block::Reference => Some(Closer::Block(BlockCloser::Reference)),
+    }
+}
+
+// What a block of lines opens with, or closes with.
+fn block_deed<'a>(begins: bool, block: Block, line: Taken<'a>) -> Option<Deed<&'a [u8]>>
+    requires { length line.text.now ≤ LINE }
+    ensures { option_map deed_seen result ≡ steps.block_deed begins block (line_seen line.entry) }
+{
+    if begins {
+        Some(Deed::Open(opener_of(block, line)?))
+    } else {
+        Some(Deed::Close(closer_of(block)?))
     }
 }
 
@@ -111,15 +164,33 @@ fn front_deed<'a>(deed: FrontDeed, line: Taken<'a>) -> Option<Deed<&'a [u8]>>
         }
         FrontDeed::Section => Some(Deed::Open(Opener::Section)),
         FrontDeed::Subsection => Some(Deed::Open(Opener::Subsection)),
+        FrontDeed::Begins(block) => block_deed(true, block, line),
+        FrontDeed::Ends(block) => block_deed(false, block, line),
+        FrontDeed::Field => Some(Deed::Leaf(Leaf::Step(LineStep::NextField))),
     }
 }
 
-// The column of a quote in a line whose arguments are no words, if one of them lacks its last quote.
-fn missing_quote(line: Taken<'_>) -> Option<u32>
+// The message about the first argument of a block.
+fn block_note(block: Block, line: Taken<'_>) -> Option<NoteKind>
     requires { length line.text.now ≤ LINE }
-    ensures { result ≡ missing_column (line_seen line.entry) }
+    ensures { result ≡ fronts.block_note block (line_seen line.entry) }
 {
-    open_quote(line.text, find_name(line).end, 0)
+    match block {
+        Block::Fonts if first_font(line).is_none() => Some(NoteKind::UnknownFont),
+        _ => None,
+    }
+}
+
+// What a field of a reference does first: one without a word is refused.
+fn field_deed(line: Taken<'_>) -> FrontDeed
+    requires { length line.text.now ≤ LINE }
+    ensures { result ≡ steps.field_deed (fronts.has_real_word (line_seen line.entry)) }
+{
+    if has_real_word(line) {
+        FrontDeed::Field
+    } else {
+        FrontDeed::Refused(NoteKind::EmptyMacro)
+    }
 }
 
 // What a heading does first.
@@ -133,26 +204,64 @@ fn heading_deed(name: HeadingName) -> FrontDeed
 }
 
 impl Front {
+    // One deed, and no more.
+    fn of_deed(deed: FrontDeed) -> Front
+        ensures { result ≡ steps.of_deed deed }
+    {
+        Front {
+            quote: None,
+            begins_body: false,
+            note: None,
+            deed,
+            scope: None,
+        }
+    }
+
+    // A deed of a macro that prints none of its arguments.
+    fn quoting(deed: FrontDeed, line: Taken<'_>) -> Front
+        requires { length line.text.now ≤ LINE }
+        ensures { result ≡ steps.quoting deed (line_seen line.entry) }
+    {
+        Front {
+            quote: missing_quote(line),
+            ..Front::of_deed(deed)
+        }
+    }
+
+    // A deed, and a line scope.
+    fn scoped(deed: FrontDeed, opener: LineOpener) -> Front
+        ensures { result ≡ steps.scoped deed opener }
+    {
+        Front {
+            scope: Some(opener),
+            ..Front::of_deed(deed)
+        }
+    }
+
+    // A block of lines begins.
+    fn beginning(block: Block, line: Taken<'_>) -> Front
+        requires { length line.text.now ≤ LINE }
+        ensures { result ≡ steps.beginning block (line_seen line.entry) }
+    {
+        Front {
+            begins_body: true,
+            note: block_note(block, line),
+            ..Front::quoting(FrontDeed::Begins(block), line)
+        }
+    }
+
     /// Nothing comes before the words.
     pub fn nothing() -> Front
         ensures { (line : Line) → front_events line result ≡ [] }
     {
-        Front {
-            quote: None,
-            deed: FrontDeed::Nothing,
-            scope: None,
-        }
+        Front::of_deed(FrontDeed::Nothing)
     }
 
     /// A message that names the macro.
     pub fn refused(kind: NoteKind) -> Front
         ensures { (line : Line) → front_events line result ≡ fronts.refusal kind line ∷ [] }
     {
-        Front {
-            quote: None,
-            deed: FrontDeed::Refused(kind),
-            scope: None,
-        }
+        Front::of_deed(FrontDeed::Refused(kind))
     }
 
     /// What a request that changes rows does in a line.
@@ -160,49 +269,31 @@ impl Front {
         requires { length line.text.now ≤ LINE }
         ensures { front_events (line_seen line.entry) result ≡ fronts.request_front request (line_seen line.entry) }
     {
-        Front {
-            quote: missing_quote(line),
-            deed: FrontDeed::Request(request),
-            scope: None,
-        }
+        Front::quoting(FrontDeed::Request(request), line)
     }
 
     /// What a macro does in a line that it begins, before its words.
+    #[tactic(auto, using(crate::proofs::FrontLemmas::begins_with, crate::proofs::FrontLemmas::ends_with, crate::proofs::FrontLemmas::field_begins))]
     pub fn of_macro(begins: LineMacro, line: Taken<'_>) -> Front
         requires { length line.text.now ≤ LINE }
         ensures { front_events (line_seen line.entry) result ≡ fronts.block_front begins (line_seen line.entry) }
     {
         match begins {
-            LineMacro::Prologue(name) => Front {
-                quote: missing_quote(line),
-                deed: FrontDeed::Prologue(name),
-                scope: None,
-            },
-            LineMacro::Heading(name) => Front {
-                quote: None,
-                deed: heading_deed(name),
-                scope: Some(LineOpener::Heading(name)),
-            },
-            LineMacro::Paragraph(name) => Front {
-                quote: missing_quote(line),
-                deed: FrontDeed::Paragraph(name),
-                scope: None,
-            },
-            LineMacro::Description => Front {
-                quote: None,
-                deed: FrontDeed::Nothing,
-                scope: Some(LineOpener::Description),
-            },
-            LineMacro::OneLine(name) => Front {
-                quote: None,
-                deed: FrontDeed::Nothing,
-                scope: Some(LineOpener::OneLine(name)),
-            },
-            LineMacro::Target => Front {
-                quote: missing_quote(line),
-                deed: FrontDeed::Nothing,
-                scope: None,
-            },
+            LineMacro::Prologue(name) => Front::quoting(FrontDeed::Prologue(name), line),
+            LineMacro::Heading(name) => {
+                Front::scoped(heading_deed(name), LineOpener::Heading(name))
+            }
+            LineMacro::Paragraph(name) => Front::quoting(FrontDeed::Paragraph(name), line),
+            LineMacro::Description => {
+                Front::scoped(FrontDeed::Nothing, LineOpener::Description)
+            }
+            LineMacro::OneLine(name) => {
+                Front::scoped(FrontDeed::Nothing, LineOpener::OneLine(name))
+            }
+            LineMacro::Begins(block) => Front::beginning(block, line),
+            LineMacro::Ends(block) => Front::quoting(FrontDeed::Ends(block), line),
+            LineMacro::Field(_) => Front::of_deed(field_deed(line)),
+            LineMacro::Target => Front::quoting(FrontDeed::Nothing, line),
             _ => Front::nothing(),
         }
     }
@@ -214,7 +305,11 @@ impl Front {
     {
         if let Some(column) = self.quote {
             self.quote = None;
-            return Some(quote_event(line.line, column));
+            return Some(quote_event(line.line, self.begins_body, column));
+        }
+        if let Some(kind) = self.note {
+            self.note = None;
+            return Some(at_name(line, argument_note(kind, line)));
         }
         if let Some(deed) = front_deed(self.deed, line) {
             self.deed = FrontDeed::Nothing;

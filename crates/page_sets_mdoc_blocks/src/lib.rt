@@ -2,8 +2,11 @@
 //! is `specs/Fronts.antt`; read `fronts.rt`.
 #![tactic(auto)]
 
+mod displays;
 mod fronts;
+mod line_arguments;
 mod macros;
 
 pub use fronts::Front;
+pub use line_arguments::has_real_word;
 pub use macros::{has_phrase, is_to_come};

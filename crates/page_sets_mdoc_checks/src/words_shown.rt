@@ -75,6 +75,7 @@ fn put_step(out: &mut Shown, step: LineStep<&[u8]>) {
         LineStep::Glue => put(out, b" glue"),
         LineStep::ManualName => put(out, b" manual"),
         LineStep::BodyParagraph(_) => put(out, b" paragraph"),
+        LineStep::NextField => put(out, b" field"),
     }
 }
 

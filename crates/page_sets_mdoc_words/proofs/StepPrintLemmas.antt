@@ -4,8 +4,8 @@ use Rattle.std.proofs.lemmas.List.{take_min, drop_min}
 use Rattle.page_core_base.specs.declared.cells.Font.TheVariants.{R, B, I}
 use Rattle.page_core_base.specs.LinesTaken.{Line}
 use Rattle.page_roff_forms.specs.declared.quotes.Argument.{Argument}
-use Rattle.page_sets_lines.specs.declared.blocks.Block.{Block}
-use Rattle.page_sets_lines.specs.declared.blocks.Block.TheVariants as blocks
+use Rattle.page_sets_mdoc_words.specs.declared.fronts.WordBlock.{WordBlock}
+use Rattle.page_sets_mdoc_words.specs.declared.fronts.WordBlock.TheVariants as blocks
 use Rattle.page_sets_lines.specs.Laws.{IsPart, IsSlice, IsArgument, IsArgumentIfGiven, BlockOpensSlices, BlockClosesSlices, HasSlices}
 use Rattle.page_sets_lines.proofs.LawLemmas.{is_word, first_slice_after}
 use Rattle.page_sets_lines.proofs.OrderLemmas.{AreArguments, AreArguments-take, AreArguments-drop}
@@ -47,12 +47,12 @@ part_slice text start len =
     let e : drop k text ≡ drop start text = drop_min start text in
     (k, rw (← e) (cut_slice text k len (omega arith)))
 
-opens_slices : (line : List ℕ) (block : Block) → BlockOpensSlices line (block_opener block)
+opens_slices : (line : List ℕ) (block : WordBlock) → BlockOpensSlices line (block_opener block)
 opens_slices line (blocks.Quotation quotation) = tt
 opens_slices line blocks.Custom = tt
 opens_slices line blocks.Extension = tt
 
-closes_slices : (line : List ℕ) (block : Block) → BlockClosesSlices line (block_closer block)
+closes_slices : (line : List ℕ) (block : WordBlock) → BlockClosesSlices line (block_closer block)
 closes_slices line (blocks.Quotation quotation) = tt
 closes_slices line blocks.Custom = tt
 closes_slices line blocks.Extension = tt

@@ -5,8 +5,8 @@ use Rattle.page_core_base.specs.declared.cells.Font.{Font}
 use Rattle.page_core_base.specs.declared.cells.Font.TheVariants.{R, B, I}
 use Rattle.page_core_base.specs.LinesTaken.{Line, line_seen}
 use Rattle.page_roff_forms.specs.declared.quotes.Argument.{Argument}
-use Rattle.page_sets_lines.specs.declared.blocks.Block.{Block}
-use Rattle.page_sets_lines.specs.declared.blocks.Block.TheVariants as blocks
+use Rattle.page_sets_mdoc_words.specs.declared.fronts.WordBlock.{WordBlock}
+use Rattle.page_sets_mdoc_words.specs.declared.fronts.WordBlock.TheVariants as blocks
 use Rattle.page_sets_lines.specs.declared.blocks.BlockOpener.{BlockOpener}
 use Rattle.page_sets_lines.specs.declared.blocks.BlockOpener.TheVariants as block_openers
 use Rattle.page_sets_lines.specs.declared.blocks.BlockCloser.{BlockCloser}
@@ -64,12 +64,12 @@ abbrev pub refusal : Line → ℕ → ℕ → Event (List ℕ)
 refusal line column len = empty_macro line.number column (take len (drop (column - 1) line.text))
 
 -- a block without a mark
-abbrev pub block_opener : Block → BlockOpener (List ℕ)
+abbrev pub block_opener : WordBlock → BlockOpener (List ℕ)
 block_opener (blocks.Quotation quotation) = block_openers.Quotation quotation
 block_opener blocks.Custom = block_openers.Custom None
 block_opener blocks.Extension = block_openers.Extension
 
-abbrev pub block_closer : Block → BlockCloser (List ℕ)
+abbrev pub block_closer : WordBlock → BlockCloser (List ℕ)
 block_closer (blocks.Quotation quotation) = block_closers.Quotation quotation
 block_closer blocks.Custom = block_closers.Custom None
 block_closer blocks.Extension = block_closers.Extension

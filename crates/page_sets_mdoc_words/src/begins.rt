@@ -10,7 +10,7 @@ ghost use Rattle.page_sets_mdoc_words.specs.Steps.{macro_words_events, begun_eve
 ghost use Rattle.page_sets_mdoc_words.specs.WordsLeft.{after_words};
 
 use crate::flags::FlagStep;
-use crate::fronts::Front;
+use crate::fronts::{Front, WordBlock};
 use crate::functions::FunctionStep;
 use crate::links::LinkStep;
 use crate::names::Lone;
@@ -21,7 +21,6 @@ use crate::taken_words::Taker;
 use crate::words_left::WordsLeft;
 use page_core_base::{Font, Taken};
 use page_core_limits::LINE;
-use page_sets_lines::Block;
 use page_sets_mdoc_lines::{Cursor, Extent, find_extent, takes_next};
 use page_sets_mdoc_rows::{Inline, Pair};
 
@@ -48,10 +47,10 @@ fn opening(pair: Pair, taken: bool) -> Step
     ensures { result ≡ step_specs.opening pair taken }
 {
     match pair {
-        Pair::Quotation(quotation) => Step::Front(Front::Opens(Block::Quotation(quotation))),
+        Pair::Quotation(quotation) => Step::Front(Front::Opens(WordBlock::Quotation(quotation))),
         Pair::Custom if taken => Step::Taken(Taker::Opens),
-        Pair::Custom => Step::Front(Front::Opens(Block::Custom)),
-        Pair::Extension => Step::Front(Front::Opens(Block::Extension)),
+        Pair::Custom => Step::Front(Front::Opens(WordBlock::Custom)),
+        Pair::Extension => Step::Front(Front::Opens(WordBlock::Extension)),
         Pair::Function => Step::Printed(None),
     }
 }
@@ -61,10 +60,10 @@ fn closing(pair: Pair, taken: bool) -> Step
     ensures { result ≡ step_specs.closing pair taken }
 {
     match pair {
-        Pair::Quotation(quotation) => Step::Front(Front::Closes(Block::Quotation(quotation))),
+        Pair::Quotation(quotation) => Step::Front(Front::Closes(WordBlock::Quotation(quotation))),
         Pair::Custom if taken => Step::Taken(Taker::Closes),
-        Pair::Custom => Step::Front(Front::Closes(Block::Custom)),
-        Pair::Extension => Step::Front(Front::Closes(Block::Extension)),
+        Pair::Custom => Step::Front(Front::Closes(WordBlock::Custom)),
+        Pair::Extension => Step::Front(Front::Closes(WordBlock::Extension)),
         Pair::Function => Step::Printed(None),
     }
 }

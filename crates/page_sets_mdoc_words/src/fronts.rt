@@ -16,10 +16,21 @@ use crate::words_left::WordsLeft;
 use page_core_base::NoteKind;
 use page_core_limits::LINE;
 use page_sets_lines::{
-    Block, BlockCloser, BlockOpener, Closer, Deed, Event, Join, LineOpener, LineStep, Marks,
-    Opener, Own,
+    BlockCloser, BlockOpener, Closer, Deed, Event, Join, LineOpener, LineStep, Marks, Opener, Own,
+    Quotation,
 };
 use page_sets_mdoc_rows::System;
+
+/// A block that can stand among words.
+#[derive(Clone, Copy)]
+pub enum WordBlock {
+    /// `Ao Bo Bro Do Oo Po Qo So` and what closes them; the name is that of the opener.
+    Quotation(Quotation),
+    /// `Eo` and `Ec`.
+    Custom,
+    /// `Xo` and `Xc`.
+    Extension,
+}
 
 /// What a macro does before it prints its words.
 #[derive(Clone, Copy)]
@@ -35,9 +46,9 @@ pub enum Front {
     /// `Aq Bq Brq Dq Op Pq Ql Qq Sq`.
     Enclosure(Marks),
     /// `Ao Bo Bro Do Eo Oo Po Qo So Xo`, without a mark.
-    Opens(Block),
+    Opens(WordBlock),
     /// `Ac Bc Brc Dc Ec Oc Pc Qc Sc Xc`, without a mark.
-    Closes(Block),
+    Closes(WordBlock),
 }
 
 // A part of a text, as far as the text has it.
@@ -64,24 +75,24 @@ fn system_own(system: System) -> Own
 }
 
 // What opens a block, without a mark.
-fn block_opener<'a>(block: Block) -> BlockOpener<&'a [u8]>
+fn block_opener<'a>(block: WordBlock) -> BlockOpener<&'a [u8]>
     ensures { block_opener_seen result ≡ step_specs.block_opener block }
 {
     match block {
-        Block::Quotation(quotation) => BlockOpener::Quotation(quotation),
-        Block::Custom => BlockOpener::Custom(None),
-        Block::Extension => BlockOpener::Extension,
+        WordBlock::Quotation(quotation) => BlockOpener::Quotation(quotation),
+        WordBlock::Custom => BlockOpener::Custom(None),
+        WordBlock::Extension => BlockOpener::Extension,
     }
 }
 
 // What closes a block, without a mark.
-fn block_closer<'a>(block: Block) -> BlockCloser<&'a [u8]>
+fn block_closer<'a>(block: WordBlock) -> BlockCloser<&'a [u8]>
     ensures { block_closer_seen result ≡ step_specs.block_closer block }
 {
     match block {
-        Block::Quotation(quotation) => BlockCloser::Quotation(quotation),
-        Block::Custom => BlockCloser::Custom(None),
-        Block::Extension => BlockCloser::Extension,
+        WordBlock::Quotation(quotation) => BlockCloser::Quotation(quotation),
+        WordBlock::Custom => BlockCloser::Custom(None),
+        WordBlock::Extension => BlockCloser::Extension,
     }
 }
 

@@ -16,7 +16,7 @@ mod taken_words;
 mod words_left;
 
 pub use flags::FlagStep;
-pub use fronts::Front;
+pub use fronts::{Front, WordBlock};
 pub use functions::FunctionStep;
 pub use links::LinkStep;
 pub use names::Lone;

@@ -1,4 +1,4 @@
-use Rattle.std.proofs.Common.{sym, ap, subst, ◌∙◌, arith}
+use Rattle.std.proofs.Common.{None, sym, ap, subst, ◌∙◌, arith}
 use Rattle.page_core_base.specs.LinesTaken.{line_seen}
 use Rattle.page_roff_forms.specs.Arguments.{argument_seen}
 use Rattle.page_sets_mdoc_lines.specs.declared.extents.Extent.{Extent}
@@ -12,10 +12,10 @@ pub returns-clause-stands : goal.returns-clause-stands
 returns-clause-stands c =
     let w = c.words_from.ensures in (
       subst (λ (words : MacroWords). IsCursorOf c.args.line.text.now words.left.cursor) (sym w) c.requires.within,
-      all_stand (line_seen c.args.line) c.args.cursor c.words_from.result _ w (few_left c.args.line.text.now c.args.cursor.rest c.requires.short),
+      all_stand (line_seen c.args.line) None c.args.cursor c.words_from.result _ w (few_left c.args.line.text.now c.args.cursor.rest c.requires.short),
     )
 
 pub returns-clause-events : goal.returns-clause-events
 returns-clause-events c =
     tail_comes c.args.line.line (argument_seen c.in_ok-first.first) _ _ _ c.in_ok-first.ensures.next
-    (all_come (line_seen c.args.line) c.args.cursor c.words_from.result _ c.words_from.ensures (few_left c.args.line.text.now c.args.cursor.rest c.requires.short))
+    (all_come (line_seen c.args.line) None c.args.cursor c.words_from.result _ c.words_from.ensures (few_left c.args.line.text.now c.args.cursor.rest c.requires.short))

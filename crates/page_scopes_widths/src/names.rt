@@ -1,8 +1,8 @@
-//! The columns of a command's name (man(7), `SY`; mandoc_char(7)).
+//! The columns of what a text prints (man(7), `SY`; mdoc(7), `Bl`; mandoc_char(7)).
 
 ghost use Rattle.std.specs.Prelude.{◌≡◌, ◌≤◌, ◌*◌, ◌<◌, length};
 ghost use Rattle.page_core_escapes.specs.Tokens.{token_bytes, token_seen};
-ghost use Rattle.page_scopes_nodes.specs.Names as names;
+ghost use Rattle.page_scopes_widths.specs.Names as names;
 
 use page_core_base::Output;
 use page_core_escapes::{Token, read_token};
@@ -37,7 +37,7 @@ fn token_columns(output: Output, token: &Token<'_>) -> u32
 }
 
 /// The columns of what a name prints, which is quoted or not.
-pub(crate) fn name_columns(output: Output, quoted: bool, name: &[u8]) -> u32
+pub fn name_columns(output: Output, quoted: bool, name: &[u8]) -> u32
     requires { length name.now ≤ LINE }
     ensures value { result ≡ names.name_columns output quoted name.now }
     ensures bound { result ≤ 1000 * length name.now }

@@ -1,7 +1,7 @@
 use Rattle.std.proofs.Common.{◌≡◌, ◌≤◌, ◌+◌, ◌*◌, length}
 use Rattle.page_core_limits.specs.declared.TheConstants.{LINE}
-use Rattle.page_scopes_nodes.specs.Names as names
-use Rattle.page_scopes_nodes.proofs.names.name_columns.Given as goal
+use Rattle.page_scopes_widths.specs.Names as names
+use Rattle.page_scopes_widths.proofs.names.name_columns.Given as goal
 
 abbrev pub invariant-loop-rest : goal.invariant-loop-rest
 invariant-loop-rest l =

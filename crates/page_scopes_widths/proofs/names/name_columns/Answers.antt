@@ -2,8 +2,8 @@ use Rattle.std.proofs.Common.{◌<◌, ◌≤◌, length, ap, ◌∙◌, arith, 
 use Rattle.std.proofs.lemmas.Bool.Decides.{nat_tests}
 use Rattle.std.proofs.lemmas.List.{take_rest}
 use Rattle.page_core_escapes.specs.Tokens.{token_bytes}
-use Rattle.page_scopes_nodes.proofs.TokenLemmas.{columns_more, columns_none}
-use Rattle.page_scopes_nodes.proofs.names.name_columns.Goals as goal
+use Rattle.page_scopes_widths.proofs.TokenLemmas.{columns_more, columns_none}
+use Rattle.page_scopes_widths.proofs.names.name_columns.Goals as goal
 
 pub loop-rest-preserved : goal.loop-rest-preserved
 loop-rest-preserved c =

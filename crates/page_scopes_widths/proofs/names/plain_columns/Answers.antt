@@ -4,8 +4,8 @@ use Rattle.std.proofs.lemmas.Bool.{cases_Bool}
 use Rattle.std.proofs.lemmas.Str.{is_utf8-from_IsUtf8, IsUtf8-from_is_utf8}
 use Rattle.page_core_base.specs.declared.page_settings.Output.{Output}
 use Rattle.page_core_numbers.specs.Columns.{columns_of}
-use Rattle.page_scopes_nodes.specs.Names as names
-use Rattle.page_scopes_nodes.proofs.names.plain_columns.Goals as goal
+use Rattle.page_scopes_widths.specs.Names as names
+use Rattle.page_scopes_widths.proofs.names.plain_columns.Goals as goal
 
 columns_of_text : (output : Output) (text : List ℕ) → IsUtf8 text → names.plain_columns output text ≡ columns_of output text
 columns_of_text output text u = rw (is_utf8-from_IsUtf8 text u) refl

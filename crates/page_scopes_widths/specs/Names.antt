@@ -1,4 +1,4 @@
--- The columns of a command's name. Source: man(7), `SY`; mandoc_char(7).
+-- The columns of what a text prints. Source: man(7), `SY`; mdoc(7), `Bl`; mandoc_char(7).
 use Rattle.std.specs.Prelude.{ℕ, ◌+◌, Bool, List, [], ◌∷◌, length, if◌then◌else◌}
 use Rattle.std.specs.Str.{is_utf8}
 use Rattle.page_core_base.specs.declared.page_settings.Output.{Output}

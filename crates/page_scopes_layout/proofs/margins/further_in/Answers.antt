@@ -2,20 +2,19 @@ use Rattle.std.proofs.Common.{◌≡◌, ◌∙◌, ap, rules, w32, w64, FitsSig
 use Rattle.std.proofs.lemmas.Int.{to_z-of_z, ints}
 use Rattle.page_scopes_layout.specs.Margins.{hold}
 use Rattle.page_scopes_layout.proofs.MarginLemmas.{sum_of_three}
-use Rattle.page_scopes_layout.proofs.margins.rest_margin.Goals as goal
+use Rattle.page_scopes_layout.proofs.margins.further_in.Goals as goal
 
 pub returns : goal.returns
 returns c =
-    let context = c.args.context.now in
-    let hang : FitsSigned w32 context.hang = search rules in
-    let shift : FitsSigned w32 context.shift.value = search rules in
-    let a = c.from-2.ensures ∙ to_z-of_z w32 context.hang hang in
-    let b = c.from-3.ensures ∙ to_z-of_z w32 context.shift.value shift in
+    let hang : FitsSigned w32 c.args.hang = search rules in
+    let more : FitsSigned w32 c.args.more = search rules in
+    let a = c.from-2.ensures ∙ to_z-of_z w32 c.args.hang hang in
+    let b = c.from-3.ensures ∙ to_z-of_z w32 c.args.more more in
     let fm : FitsSigned w64 c.from.result = omega (arith, ints, c.from.ensures) in
     let fi : FitsSigned w64 c.from-2.result = omega (arith, ints, a, hang) in
-    let fs : FitsSigned w64 c.from-3.result = omega (arith, ints, b, shift) in
-    let far : FitsSigned w64 (c.from.result +ℤ c.from-2.result +ℤ c.from-3.result) = omega (arith, ints, c.from.ensures, a, b, hang, shift) in
+    let fs : FitsSigned w64 c.from-3.result = omega (arith, ints, b, more) in
+    let far : FitsSigned w64 (c.from.result +ℤ c.from-2.result +ℤ c.from-3.result) = omega (arith, ints, c.from.ensures, a, b, hang, more) in
     let near : FitsSigned w64 (c.from.result +ℤ c.from-2.result) = omega (arith, ints, c.from.ensures, a, hang) in
-    let sum : c.from.result +ℤ c.from-2.result +ℤ c.from-3.result ≡ pos context.margin +ℤ context.hang +ℤ context.shift.value =
+    let sum : c.from.result +ℤ c.from-2.result +ℤ c.from-3.result ≡ pos c.args.margin +ℤ c.args.hang +ℤ c.args.more =
     rw (c.from.ensures, a, b) refl in
     c.hold.ensures ∙ ap hold (sum_of_three c.from.result c.from-2.result c.from-3.result fm fi fs near far ∙ sum)

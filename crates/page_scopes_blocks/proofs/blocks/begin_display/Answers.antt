@@ -1,0 +1,26 @@
+use Rattle.std.proofs.Common.{◌≡◌, ap, subst, refl, ◌∙◌, rules, w32, FitsSigned}
+use Rattle.std.proofs.lemmas.Int.{to_z-of_z}
+use Rattle.page_scopes_blocks.specs.Blocks as blocks
+use Rattle.page_scopes_layout.specs.Begins.{display_begun}
+use Rattle.page_scopes_leaves.specs.Outcomes.{GivesOutcome, after_notes}
+use Rattle.page_sets_lines.specs.Events.{given_seen}
+use Rattle.page_scopes_blocks.proofs.BlockLemmas.{came_after}
+use Rattle.page_scopes_blocks.proofs.blocks.begin_display.Goals as goal
+
+pub returns : goal.returns
+returns g c =
+    let left = g.O.PieceOut.left in
+    let out = c.args.out.now in
+    let last = c.give_display_begin.new in
+    let running = c.args.running.now in
+    let front = c.display_begun.result in
+    let notes = blocks.offset_notes c.args.place (given_seen c.args.offset) in
+    let fits : FitsSigned w32 c.give_offset-columns.result = search rules in
+    let e : front ≡ display_begun c.args.is_literal (blocks.offset_columns c.args.output (given_seen c.args.offset)) c.args.context.now =
+    c.display_begun.ensures
+    ∙ ap (λ columns. display_begun c.args.is_literal columns c.args.context.now)
+    (to_z-of_z w32 c.give_offset-columns.result fits ∙ c.give_offset-columns.ensures.columns) in
+    let came = came_after left out c.give_offset-columns.new.out last.out notes (blocks.display_begins c.args.is_compact front running).items
+    c.give_offset-columns.ensures.came c.give_display_begin.ensures.came in
+    subst (λ f. GivesOutcome left out (after_notes notes (blocks.display_begins c.args.is_compact f running)) last.out front last.running) e
+    (record { came = came; context = refl; running = c.give_display_begin.ensures.running })

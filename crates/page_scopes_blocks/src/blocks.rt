@@ -1,0 +1,100 @@
+//! What the blocks of mdoc(7) begin with (mdoc(7), "MACRO REFERENCE").
+
+ghost use Rattle.std.specs.Prelude.{◌≡◌};
+ghost use Rattle.page_core_base.specs.Latches.{Came};
+ghost use Rattle.page_scopes_blocks.specs.Blocks as blocks;
+ghost use Rattle.page_scopes_leaves.specs.Fits.{BlockOpenerFits, GivenFits};
+ghost use Rattle.page_scopes_leaves.specs.Outcomes.{GivesOutcome};
+ghost use Rattle.page_sets_lines.specs.Events.{block_opener_seen, given_seen};
+
+use crate::block_words::give_block_words;
+use page_core_base::{Output, Piece, PieceOut, Place};
+use page_roff_forms::Argument;
+use page_scopes_layout::{Context, give_margins};
+use page_scopes_leaves::Running;
+use page_scopes_widths::give_width;
+use page_sets_lines::BlockOpener;
+
+// Gives the columns that a display stands further in, with their messages.
+fn give_offset<O: PieceOut>(
+    out: &mut O,
+    output: Output,
+    place: Place,
+    offset: Option<Argument<&[u8]>>,
+) -> i32
+    requires { GivenFits (given_seen offset) }
+    ensures columns { result ≡ blocks.offset_columns output (given_seen offset.entry) }
+    ensures came { Came O.left out.old (blocks.offset_notes place (given_seen offset.entry)) out.new }
+{
+    match offset {
+        Some(offset) => give_width(out, output, place, offset),
+        None => 0,
+    }
+}
+
+// Gives what a display begins with, in the context of its front.
+fn give_display_begin<O: PieceOut>(out: &mut O, is_compact: bool, context: &Context, running: &mut Running)
+    ensures { GivesOutcome O.left out.old
+        (blocks.display_begins is_compact context.now running.old)
+        out.new context.now running.new }
+{
+    if is_compact {
+        out.give(Piece::Break);
+    } else {
+        out.give(Piece::Para(context.distance.value));
+    }
+    out.give(Piece::Literal(context.is_literal.value));
+    give_margins(out, context);
+    running.end_row();
+}
+
+// Begins a display whose rows are kept or not, after a blank row or without, with its offset.
+fn begin_display<O: PieceOut>(
+    out: &mut O,
+    output: Output,
+    place: Place,
+    is_literal: bool,
+    is_compact: bool,
+    offset: Option<Argument<&[u8]>>,
+    context: &mut Context,
+    running: &mut Running,
+)
+    requires { GivenFits (given_seen offset) }
+    ensures { GivesOutcome O.left out.old
+        (blocks.display output place is_literal is_compact (given_seen offset.entry) context.old running.old)
+        out.new context.new running.new }
+{
+    let columns = give_offset(out, output, place, offset);
+    *context = context.display_begun(is_literal, columns);
+    give_display_begin(out, is_compact, context, running);
+}
+
+/// Gives what a block of mdoc(7) begins with: a display (`Bd`), words in a font (`Bf`), a reference (`Rs`), and the marks of the others.
+#[tactic(auto, unfolding(crate::specs::Blocks::block_opened))]
+pub fn give_block<O: PieceOut>(
+    out: &mut O,
+    output: Output,
+    place: Place,
+    opener: &BlockOpener<&[u8]>,
+    context: &mut Context,
+    running: &mut Running,
+)
+    requires { BlockOpenerFits (block_opener_seen opener.now) }
+    ensures { GivesOutcome O.left out.old
+        (blocks.block_opened output place (block_opener_seen opener.now) context.old running.old)
+        out.new context.new running.new }
+{
+    *context = context.entered();
+    match *opener {
+        BlockOpener::Display {
+            is_literal,
+            is_compact,
+            offset,
+        } => begin_display(
+            out, output, place, is_literal, is_compact, offset, context, running,
+        ),
+        BlockOpener::Fonts(font) => *context = context.font_if_given(font),
+        BlockOpener::Reference => *context = context.reference_begun(),
+        _ => give_block_words(out, place, opener, context, running),
+    }
+}
