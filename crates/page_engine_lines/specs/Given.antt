@@ -1,4 +1,5 @@
--- What roff gives of a source line, as pieces and messages. Source: mandoc(1), "DIAGNOSTICS".
+-- A machine: what roff gives of one source line, as pieces and messages, as the code takes it. That all lines together give their block tree is the
+-- law `tree_law`, and trust needs no reading of this. Source: mandoc(1), "DIAGNOSTICS".
 use Rattle.std.specs.Prelude.{ℕ, List, [], ◌∷◌, ◌++◌}
 use Rattle.page_core_base.specs.Pieces.{Item, noted}
 use Rattle.page_roff_effects.specs.States.{Given, says, takes}

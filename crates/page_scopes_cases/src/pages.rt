@@ -4,7 +4,7 @@ ghost use Rattle.std.specs.Prelude.{◌≡◌, ◌≤◌, length};
 ghost use Rattle.page_scopes_leaves.specs.Fits.{GivenFits};
 ghost use Rattle.page_sets_lines.specs.Events.{given_seen};
 
-use crate::shown::Shown;
+use crate::shown::{Shown, nothing};
 use crate::spelled::{deed_of, read_part};
 use page_core_base::{Form, Output, Place, Taken};
 use page_core_limits::LINE;
@@ -120,7 +120,7 @@ impl Page {
     /// A page after a heading and a word.
     pub(crate) fn begun(alloc: Global) -> Result<Page, AllocError> {
         let mut page = Page::new(alloc)?;
-        let mut out = Shown::new(alloc);
+        let mut out = nothing(alloc);
         page.take(&mut out, ".SH A");
         page.take(&mut out, "x");
         Ok(page)
@@ -155,9 +155,9 @@ impl Page {
 
     /// Shows what a line gives.
     pub(crate) fn show(&mut self, rt: &HostRuntime, text: &str) {
-        let mut out = Shown::new(rt.alloc());
+        let mut out = nothing(rt.alloc());
         self.take(&mut out, text);
-        let _ = println!(rt; "   {}", out.text());
+        let _ = println!(rt; "   {}", out.notation.text());
     }
 
     /// Takes a line a number of times, which stands before it, and shows the last.
@@ -165,7 +165,7 @@ impl Page {
         let (count, line) = text.split_once(' ').unwrap_or(("0", text));
         let count: u32 = count.parse().unwrap_or(0);
         for _i in 0..count.saturating_sub(1) {
-            let mut out = Shown::new(rt.alloc());
+            let mut out = nothing(rt.alloc());
             self.take(&mut out, line);
         }
         self.show(rt, line);

@@ -1,25 +1,31 @@
 //! Pieces and messages as text: those of a line, each after a blank. `<` is a word's text with a letter for its font, `_` blanks, and `!` a
 //! message with its column and detail.
 
-use page_core_base::{Font, Note, Piece, PieceOut, Place};
+use page_core_base::{Font, Note, Piece};
+use page_scopes_shown::{Notation, ShownBy};
 use std::alloc::Global;
 
-/// Keeps a text of what it is given.
+/// The notation of a line.
 #[derive(Drop)]
-pub(crate) struct Shown {
+pub(crate) struct LineText {
     text: String,
     alloc: Global,
 }
 
-impl Shown {
-    /// Nothing was given yet.
-    pub(crate) fn new(alloc: Global) -> Shown {
-        Shown {
+/// Shows what it is given in a line.
+pub(crate) type Shown = ShownBy<LineText>;
+
+/// Nothing was given yet.
+pub(crate) fn nothing(alloc: Global) -> Shown {
+    ShownBy {
+        notation: LineText {
             text: String::new(alloc),
             alloc,
-        }
+        },
     }
+}
 
+impl LineText {
     /// The text.
     pub(crate) fn text(&self) -> &str {
         self.text.as_str()
@@ -82,12 +88,8 @@ fn piece_name(piece: &Piece<&[u8]>) -> &'static str {
     }
 }
 
-impl PieceOut for Shown {
-    ghost Plan = { Unit {0} };
-
-    ghost left = { λ plan s rest. Unit {0} };
-
-    fn give(&mut self, piece: Piece<&[u8]>) {
+impl Notation for LineText {
+    fn show_piece(&mut self, piece: Piece<&[u8]>) {
         match piece {
             Piece::Text { text, font, .. } => self.add_part(text_of(text), font),
             Piece::Glyph { name, font, .. } => {
@@ -109,12 +111,7 @@ impl PieceOut for Shown {
         }
     }
 
-    // Words come one by one.
-    fn give_words(&mut self, _text: &[u8], _font: Font, _place: Place) -> usize {
-        0
-    }
-
-    fn report(&mut self, note: &Note) {
+    fn show_message(&mut self, note: &Note) {
         self.add(" !");
         self.add(note.kind.text());
         self.add_number(" at ", note.column);
@@ -122,9 +119,5 @@ impl PieceOut for Shown {
             self.add(": ");
             self.add(note.detail.as_str());
         }
-    }
-
-    fn has_failed(&self) -> bool {
-        false
     }
 }

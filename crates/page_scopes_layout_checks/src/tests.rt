@@ -1,7 +1,8 @@
 //! Margins of scopes that begin and end.
 
-use page_core_base::{Font, Note, Piece, PieceOut, Place};
+use page_core_base::{Font, Note, Piece};
 use page_scopes_layout::{Context, Setting, give_begin, give_end, margins_of};
+use page_scopes_shown::{Notation, ShownBy};
 use page_scopes_tree::{Explicit, Label};
 use page_sets_lines::{
     Block, FontMacro, HeadingName, LineOpener, Link, Marks, OneLineName, TagName,
@@ -104,41 +105,30 @@ fn piece_letter(piece: &Piece<&[u8]>) -> &'static str {
     }
 }
 
-impl PieceOut for Letters {
-    ghost Plan = { Unit {0} };
-
-    ghost left = { λ plan s rest. Unit {0} };
-
-    fn give(&mut self, piece: Piece<&[u8]>) {
+impl Notation for Letters {
+    fn show_piece(&mut self, piece: Piece<&[u8]>) {
         self.add(piece_letter(&piece).as_bytes());
         if let Piece::Indent { first, .. } = piece {
             self.add(&[b'0' + (first / 10 % 10) as u8, b'0' + (first % 10) as u8]);
         }
     }
 
-    // Words come one by one.
-    fn give_words(&mut self, _text: &[u8], _font: Font, _place: Place) -> usize {
-        0
-    }
-
-    fn report(&mut self, _note: &Note) {
+    fn show_message(&mut self, _note: &Note) {
         self.add(b"!");
-    }
-
-    fn has_failed(&self) -> bool {
-        false
     }
 }
 
 fn check_given(rt: &impl Abort, alloc: Global, label: Label, wanted: &str) {
     let context = Context::start(7);
-    let mut out = Letters {
-        text: Vec::new(alloc),
+    let mut out = ShownBy {
+        notation: Letters {
+            text: Vec::new(alloc),
+        },
     };
     give_begin(&mut out, label, &context);
-    out.add(b" ");
+    out.notation.add(b" ");
     give_end(&mut out, label, &context);
-    assert_eq!(rt; out.text.as_slice(), wanted.as_bytes());
+    assert_eq!(rt; out.notation.text.as_slice(), wanted.as_bytes());
 }
 
 // What a scope begins with, and what it ends with.

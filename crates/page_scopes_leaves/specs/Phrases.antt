@@ -7,6 +7,7 @@ use Rattle.page_scopes_layout.specs.declared.contexts.Context.{Context}
 use Rattle.page_scopes_layout.specs.declared.contexts.PagePart.{PagePart}
 use Rattle.page_scopes_layout.specs.declared.contexts.PagePart.TheVariants as parts
 use Rattle.page_scopes_layout.specs.declared.settings.Setting.{Setting}
+use Rattle.page_scopes_leaves.specs.Outcomes.{Outcome}
 use Rattle.page_scopes_leaves.specs.declared.phrases.Phrase.{Phrase}
 use Rattle.page_scopes_leaves.specs.declared.runnings.Running.{Running}
 use Rattle.page_scopes_text.specs.Parted.{words_of}
@@ -111,3 +112,7 @@ phrase_context p c r = context_after p (is_some r.line.fonts_before) (phrase_end
 
 abbrev pub phrase_running : Phrase (List ℕ) → Context → Running → Running
 phrase_running p c r = running_after p (phrase_end p c r) c r
+
+-- all three
+abbrev pub phrase_outcome : ℕ → Phrase (List ℕ) → Context → Running → Outcome
+phrase_outcome line p c r = record { items = phrase_items line p c r; context = phrase_context p c r; running = phrase_running p c r }

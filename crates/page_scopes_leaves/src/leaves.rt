@@ -18,8 +18,8 @@ use page_sets_lines::Leaf;
 
 // Gives a blank line.
 fn give_blank_line<O: PieceOut>(out: &mut O, place: Place, context: &Context, running: &mut Running)
-    ensures came { Came O.left out.old (leaves.blank_line place context.now running.old).items out.new }
-    ensures running { running.new ≡ (leaves.blank_line place context.now running.old).running }
+    ensures { GivesOutcome O.left out.old (leaves.blank_line place context.now running.old)
+        out.new context.now running.new }
 {
     if context.is_literal.value {
         out.give(Piece::RowEnd);

@@ -1,8 +1,8 @@
 //! The end of a line (roff(7), `nf`, `\c`).
 
 ghost use Rattle.std.specs.Prelude.{◌≡◌};
-ghost use Rattle.page_core_base.specs.Latches.{Came};
 ghost use Rattle.page_scopes_leaves.specs.LineEnds as ends;
+ghost use Rattle.page_scopes_leaves.specs.Outcomes.{GivesOutcome};
 
 use crate::Running;
 use page_core_base::{Piece, PieceOut};
@@ -18,8 +18,8 @@ fn ends_row(context: &Context, running: &Running) -> bool
 /// Ends a line: its row ends with it, where rows are kept.
 #[inline(always)]
 pub fn end_line<O: PieceOut>(out: &mut O, context: &Context, running: &mut Running)
-    ensures came { Came O.left out.old (ends.line_end context.now running.old).items out.new }
-    ensures running { running.new ≡ (ends.line_end context.now running.old).running }
+    ensures { GivesOutcome O.left out.old (ends.line_end context.now running.old)
+        out.new context.now running.new }
 {
     if ends_row(context, running) {
         out.give(Piece::RowEnd);

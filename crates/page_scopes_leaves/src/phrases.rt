@@ -1,8 +1,8 @@
 //! Texts that events print: their fonts, and how they stand beside the words around them (man(7), `B`, `BR`).
 
 ghost use Rattle.std.specs.Prelude.{◌≡◌};
-ghost use Rattle.page_core_base.specs.Latches.{Came};
 ghost use Rattle.page_scopes_leaves.specs.Fits.{FitsAt};
+ghost use Rattle.page_scopes_leaves.specs.Outcomes.{GivesOutcome};
 ghost use Rattle.page_scopes_leaves.specs.Phrases as phrases;
 ghost use Rattle.page_scopes_leaves.specs.Phrases.{phrase_seen};
 
@@ -193,10 +193,9 @@ pub fn give_phrase<O: PieceOut>(
     running: &mut Running,
 )
     requires { FitsAt phrase.now.column phrase.now.text.now }
-    ensures came { Came O.left out.old
-        (phrases.phrase_items line (phrase_seen phrase.now) context.old running.old) out.new }
-    ensures context { context.new ≡ phrases.phrase_context (phrase_seen phrase.now) context.old running.old }
-    ensures running { running.new ≡ phrases.phrase_running (phrase_seen phrase.now) context.old running.old }
+    ensures { GivesOutcome O.left out.old
+        (phrases.phrase_outcome line (phrase_seen phrase.now) context.old running.old)
+        out.new context.new running.new }
 {
     let is_guarded = running.line.fonts_before.is_some();
     let style = phrase_style(phrase, context);

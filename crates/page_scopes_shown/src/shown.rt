@@ -1,25 +1,26 @@
-//! A latch that keeps pieces and messages as a text.
+//! A short notation of pieces and messages.
 
 use crate::names::{font_mark, kind_name};
-use page_core_base::{Font, Note, Piece, PieceOut, Place};
+use crate::sinks::{Notation, ShownBy};
+use page_core_base::{Font, Note, Piece};
 use std::alloc::Global;
 
-/// Keeps a text of what it is given.
+/// The short notation of what scopes and their words give.
 ///
 /// A text stands in brackets, a tab is `T`, each with its font before it unless that is R, a glyph is its name and a
 /// character `c`. Blanks are their count, with `t` for a tab. A break is `/`, the end of a kept row `=`, `p1` a paragraph,
 /// `s1` blank rows, `{7 11}` margins, `L` and `F` the literal and the fill mode, `<4;` a tag, `>` its end, `H` a heading and
 /// `C8` a column. A message stands between `!` and `;`, with its place where places are asked for, and its detail.
 #[derive(Drop)]
-pub struct Shown {
+pub struct Brief {
     text: Vec<u8>,
     has_places: bool,
 }
 
-impl Shown {
+impl Brief {
     /// Nothing was given yet.
-    pub fn new(alloc: Global, has_places: bool) -> Shown {
-        Shown {
+    pub fn new(alloc: Global, has_places: bool) -> Brief {
+        Brief {
             text: Vec::new(alloc),
             has_places,
         }
@@ -93,12 +94,8 @@ impl Shown {
     }
 }
 
-impl PieceOut for Shown {
-    ghost Plan = { Unit {0} };
-
-    ghost left = { λ plan s rest. Unit {0} };
-
-    fn give(&mut self, piece: Piece<&[u8]>) {
+impl Notation for Brief {
+    fn show_piece(&mut self, piece: Piece<&[u8]>) {
         match piece {
             Piece::Text { text, font, .. } => self.add_text(text, font),
             Piece::Glyph { name, font, .. } => self.add_in(font, name),
@@ -112,12 +109,7 @@ impl PieceOut for Shown {
         }
     }
 
-    // Words come one by one.
-    fn give_words(&mut self, _text: &[u8], _font: Font, _place: Place) -> usize {
-        0
-    }
-
-    fn report(&mut self, note: &Note) {
+    fn show_message(&mut self, note: &Note) {
         self.add(b"!");
         self.add(kind_name(note.kind).as_bytes());
         if self.has_places {
@@ -130,8 +122,31 @@ impl PieceOut for Shown {
         }
         self.add(b";");
     }
+}
 
-    fn has_failed(&self) -> bool {
-        false
+/// Shows what it is given in the short notation.
+pub type Shown = ShownBy<Brief>;
+
+impl ShownBy<Brief> {
+    /// Nothing was given yet.
+    pub fn new(alloc: Global, has_places: bool) -> Shown {
+        ShownBy {
+            notation: Brief::new(alloc, has_places),
+        }
+    }
+
+    /// The text.
+    pub fn text(&self) -> &[u8] {
+        self.notation.text()
+    }
+
+    /// Adds to the text.
+    pub fn add(&mut self, bytes: &[u8]) {
+        self.notation.add(bytes);
+    }
+
+    /// Adds a number, of which the last four digits are shown.
+    pub fn add_number(&mut self, number: u32) {
+        self.notation.add_number(number);
     }
 }

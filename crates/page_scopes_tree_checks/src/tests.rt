@@ -1,10 +1,10 @@
 //! What events open and end, and what is reported.
 
 use crate::nested::Nested;
-use page_core_base::{Font, Note, Piece, PieceOut, Place};
+use page_core_base::{Font, Note, Piece, Place};
 use page_core_limits::SCOPES;
 use page_roff_forms::{Argument, Quoting};
-use page_scopes_shown::Shown;
+use page_scopes_shown::{Brief, Notation, ShownBy};
 use page_scopes_tree::ScopeStack;
 use page_sets_lines::{
     BlockCloser, BlockOpener, Closer, Deed, Event, FontMacro, HeadingName, Join, Leaf, LineOpener,
@@ -22,47 +22,37 @@ fn check_count(rt: &impl Abort, got: usize, wanted: usize) {
     assert_eq!(rt; got, wanted);
 }
 
-// Keeps a text of what it is given: a scope's name, ")" and the level where one ends, and messages.
+// A scope's name, ")" and the level where one ends, and messages.
 #[derive(Drop)]
 struct Levels {
-    shown: Shown,
+    brief: Brief,
 }
 
-impl Levels {
-    fn new(alloc: Global) -> Levels {
-        Levels {
-            shown: Shown::new(alloc, false),
-        }
-    }
-}
-
-impl PieceOut for Levels {
-    ghost Plan = { Unit {0} };
-
-    ghost left = { λ plan s rest. Unit {0} };
-
-    fn give(&mut self, piece: Piece<&[u8]>) {
+impl Notation for Levels {
+    fn show_piece(&mut self, piece: Piece<&[u8]>) {
         match piece {
-            Piece::Text { text, .. } => self.shown.add(text),
+            Piece::Text { text, .. } => self.brief.add(text),
             Piece::Indent { first, .. } => {
-                self.shown.add(b")");
-                self.shown.add_number(first / 4 % 10);
+                self.brief.add(b")");
+                self.brief.add_number(first / 4 % 10);
             }
-            _ => self.shown.add(b"."),
+            _ => self.brief.add(b"."),
         }
     }
 
-    // Words come one by one.
-    fn give_words(&mut self, _text: &[u8], _font: Font, _place: Place) -> usize {
-        0
+    fn show_message(&mut self, note: &Note) {
+        self.brief.show_message(note);
     }
+}
 
-    fn report(&mut self, note: &Note) {
-        self.shown.report(note);
-    }
+type Shown = ShownBy<Levels>;
 
-    fn has_failed(&self) -> bool {
-        false
+// Nothing is shown yet.
+fn nothing(alloc: Global) -> Shown {
+    ShownBy {
+        notation: Levels {
+            brief: Brief::new(alloc, false),
+        },
     }
 }
 
@@ -144,7 +134,7 @@ fn deed(letter: u8) -> Deed<&'static [u8]> {
     other(letter)
 }
 
-fn apply_letter(scopes: &mut ScopeStack<Nested>, out: &mut Levels, letter: u8) {
+fn apply_letter(scopes: &mut ScopeStack<Nested>, out: &mut Shown, letter: u8) {
     let event = Event {
         place: Place { line: 1, column: 2 },
         deed: deed(letter),
@@ -152,18 +142,18 @@ fn apply_letter(scopes: &mut ScopeStack<Nested>, out: &mut Levels, letter: u8) {
     scopes.apply(&event, out);
 }
 
-fn apply_letters(scopes: &mut ScopeStack<Nested>, out: &mut Levels, script: &str) {
+fn apply_letters(scopes: &mut ScopeStack<Nested>, out: &mut Shown, script: &str) {
     for letter in script.as_bytes() {
         apply_letter(scopes, out, *letter);
     }
 }
 
 // What the events of a script give, up to the page's end.
-fn given_by(alloc: Global, script: &str) -> Result<Levels, Fail> {
-    let mut out = Levels::new(alloc);
+fn given_by(alloc: Global, script: &str) -> Result<Shown, Fail> {
+    let mut out = nothing(alloc);
     let mut scopes = ScopeStack::new(alloc, Nested { margin: 0 })?;
     apply_letters(&mut scopes, &mut out, script);
-    out.shown.add(b" ");
+    out.notation.brief.add(b" ");
     scopes.finish(1, &mut out);
     Ok(out)
 }
@@ -210,7 +200,7 @@ fn scopes_of_events(rt: HostRuntime) -> Result<(), Fail> {
     for (script, wanted) in CASES {
         check_bytes(
             &rt,
-            given_by(rt.alloc(), script)?.shown.text(),
+            given_by(rt.alloc(), script)?.notation.brief.text(),
             wanted.as_bytes(),
         );
     }
@@ -221,20 +211,24 @@ fn scopes_of_events(rt: HostRuntime) -> Result<(), Fail> {
 // words of an enclosure stay.
 #[test]
 fn a_scope_too_many(rt: HostRuntime) -> Result<(), Fail> {
-    let mut out = Levels::new(rt.alloc());
+    let mut out = nothing(rt.alloc());
     let mut scopes = ScopeStack::new(rt.alloc(), Nested { margin: 0 })?;
     for _i in 0..SCOPES {
         apply_letter(&mut scopes, &mut out, b'R');
     }
     check_count(&rt, scopes.depth(), SCOPES);
-    let mut out = Levels::new(rt.alloc());
+    let mut out = nothing(rt.alloc());
     apply_letters(&mut scopes, &mut out, "RewETtwEwEr");
-    check_bytes(&rt, out.shown.text(), b"!Limit SCOPES;w!Limit SCOPES;w)3");
-    let mut out = Levels::new(rt.alloc());
+    check_bytes(
+        &rt,
+        out.notation.brief.text(),
+        b"!Limit SCOPES;w!Limit SCOPES;w)3",
+    );
+    let mut out = nothing(rt.alloc());
     apply_letters(&mut scopes, &mut out, "RnwElwEqwEr");
     check_bytes(
         &rt,
-        out.shown.text(),
+        out.notation.brief.text(),
         b"RS!Limit SCOPES;!Limit SCOPES;!Limit SCOPES;w)3",
     );
     check_count(&rt, scopes.depth(), SCOPES - 1);
