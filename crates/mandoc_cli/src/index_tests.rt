@@ -41,9 +41,8 @@ impl Write for Paper {
     }
 }
 
-fn check_text(rt: &impl Abort, text: &[u8], want: &str) -> Result<(), Fail> {
-    assert_eq!(rt; std::str::from_utf8(text)?, want);
-    Ok(())
+fn check_text(rt: &impl Abort, text: &[u8], want: &str) {
+    assert!(rt; text == want.as_bytes(), "{want:?}");
 }
 
 fn check_status(rt: &impl Abort, status: u8, want: u8) {
@@ -56,19 +55,18 @@ fn runs<R: Files + AllocGlobal + Abort>(
     words: &[&str],
     room: usize,
     want: (&str, &str, u8),
-) -> Result<(), Fail> {
+) {
     let mut out = Paper::new(rt.alloc(), room);
     let mut err = Paper::new(rt.alloc(), usize::MAX);
     if let Ok(asked) = command(rt.alloc(), words) {
         let mut input = io::empty();
         let status = run_command(rt, rt.alloc(), &asked, &mut input, &mut out, &mut err);
-        check_text(rt, out.text.as_slice(), want.0)?;
-        check_text(rt, err.text.as_slice(), want.1)?;
+        check_text(rt, out.text.as_slice(), want.0);
+        check_text(rt, err.text.as_slice(), want.1);
         check_status(rt, status, want.2);
     } else {
         check_status(rt, 5, want.2);
     }
-    Ok(())
 }
 
 // A folder of a test's own.
@@ -81,27 +79,36 @@ fn folder<R: Files + Env + AllocGlobal>(rt: &R, id: u32, name: &str) -> io::Resu
 
 const INDEX: &str = "whatis 2\nls, dir\t1\tlist files\tman1/ls.1\nlsof\t8\tlist open files\t\n";
 
+// An index that is missing, good and bad, in a directory; what is told of the first, of an output without room, and of the last.
+fn looks_up<R: Files + AllocGlobal + Abort>(
+    rt: &R,
+    dir: &str,
+    name: &str,
+    told: (&str, &str, &str),
+) -> io::Result<()> {
+    let words = ["whatis", "-M", dir, "ls"];
+    runs(rt, &words, 100, ("", told.0, 6));
+    fs::write(rt, name, INDEX)?;
+    runs(rt, &words, 100, ("ls, dir(1) - list files\n", "", 0));
+    runs(rt, &["whatis", "-M", dir, "lso"], 100, ("", "", 1));
+    runs(rt, &["whatis", "-M", dir, "-s8", "dir"], 100, ("", "", 1));
+    let files = ["whatis", "-wM", dir, "LSOF", "DIR"];
+    runs(rt, &files, 100, ("man1/ls.1\n", "", 0));
+    runs(rt, &words, 5, ("ls, d", told.1, 6));
+    fs::write(rt, name, "whatis 1\nls\t1\tx\na\t1\n")?;
+    runs(rt, &words, 100, ("ls(1) - x\n", told.2, 6));
+    Ok(())
+}
+
 #[test]
 fn looks_words_up(rt: HostRuntime) -> Result<(), Fail> {
     let folder = folder(&rt, process::id(rt.process()), "words")?;
-    let dir = folder.as_str();
-    let path = format!(in rt.alloc(); "{dir}/whatis.idx")?;
-    let name = path.as_str();
-    let missing = format!(in rt.alloc(); "mandoc: {name}: cannot open\n")?;
-    let words = ["whatis", "-M", dir, "ls"];
-    runs(&rt, &words, 100, ("", missing.as_str(), 6))?;
-    fs::write(&rt, name, INDEX)?;
-    let row = "ls, dir(1) - list files\n";
-    runs(&rt, &words, 100, (row, "", 0))?;
-    runs(&rt, &["whatis", "-M", dir, "lso"], 100, ("", "", 1))?;
-    runs(&rt, &["whatis", "-M", dir, "-s8", "dir"], 100, ("", "", 1))?;
-    let files = ["whatis", "-wM", dir, "LSOF", "DIR"];
-    runs(&rt, &files, 100, ("man1/ls.1\n", "", 0))?;
-    let lost = format!(in rt.alloc(); "mandoc: {name}: cannot write\n")?;
-    runs(&rt, &words, 5, ("ls, d", lost.as_str(), 6))?;
-    fs::write(&rt, name, "whatis 1\nls\t1\tx\na\t1\n")?;
-    let bad = format!(in rt.alloc(); "mandoc: {name}: line 3: bad index\n")?;
-    runs(&rt, &words, 100, ("ls(1) - x\n", bad.as_str(), 6))?;
-    fs::remove_dir_all(&rt, dir)?;
+    let name = format!(in rt.alloc(); "{}/whatis.idx", folder.as_str())?;
+    let missing = format!(in rt.alloc(); "mandoc: {}: cannot open\n", name.as_str())?;
+    let lost = format!(in rt.alloc(); "mandoc: {}: cannot write\n", name.as_str())?;
+    let bad = format!(in rt.alloc(); "mandoc: {}: line 3: bad index\n", name.as_str())?;
+    let told = (missing.as_str(), lost.as_str(), bad.as_str());
+    looks_up(&rt, folder.as_str(), name.as_str(), told)?;
+    fs::remove_dir_all(&rt, folder.as_str())?;
     Ok(())
 }
