@@ -33,7 +33,12 @@ fn give_offset<O: PieceOut>(
 }
 
 // Gives what a display begins with, in the context of its front.
-fn give_display_begin<O: PieceOut>(out: &mut O, is_compact: bool, context: &Context, running: &mut Running)
+fn give_display_begin<O: PieceOut>(
+    out: &mut O,
+    is_compact: bool,
+    context: &Context,
+    running: &mut Running,
+)
     ensures { GivesOutcome O.left out.old
         (blocks.display_begins is_compact context.now running.old)
         out.new context.now running.new }

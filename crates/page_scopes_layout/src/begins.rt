@@ -3,8 +3,8 @@
 ghost use Rattle.std.specs.Prelude.{◌≡◌};
 ghost use Rattle.page_scopes_layout.specs.Begins as begins;
 
-use crate::{Context, FieldsSoFar, PREVAILING, PagePart, Setting, hold};
 use crate::margins::further_in;
+use crate::{Context, FieldsSoFar, PREVAILING, PagePart, Setting, hold};
 use page_core_base::Font;
 use page_scopes_words::{Fonts, ROMAN};
 

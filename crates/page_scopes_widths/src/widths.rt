@@ -24,7 +24,10 @@ fn named_width(text: &[u8]) -> Option<i32>
         Some(6)
     } else if text == b"indent-two".as_slice() {
         Some(12)
-    } else if text == b"left".as_slice() || text == b"center".as_slice() || text == b"right".as_slice() {
+    } else if text == b"left".as_slice()
+        || text == b"center".as_slice()
+        || text == b"right".as_slice()
+    {
         Some(0)
     } else {
         None

@@ -475,14 +475,19 @@ fn references_to_works(rt: HostRuntime) {
             (".Rs", "2 open Rs; 1 filled"),
             (".Re", "2 close Re; 1 filled"),
             (".%A A. B.", "2 field; 5 word A.; 8 word B.; 1 filled"),
-            (".%T Fl a .", "2 field; 5 word I Fl; 8 word I a; 10 +delimiter R .; 1 filled"),
+            (
+                ".%T Fl a .",
+                "2 field; 5 word I Fl; 8 word I a; 10 +delimiter R .; 1 filled",
+            ),
             (".%B ( a", "2 field; 5 delimiter+ R (; 7 word I a; 1 filled"),
             (".%J a", "2 field; 5 word I a; 1 filled"),
             (".%V", "2 note empty %V; 1 filled"),
             (".%T .", "2 note empty %T; 5 +delimiter R .; 1 filled"),
         ],
     );
-    for name in ["%A", "%C", "%D", "%I", "%N", "%O", "%P", "%Q", "%R", "%U", "%V"] {
+    for name in [
+        "%A", "%C", "%D", "%I", "%N", "%O", "%P", "%Q", "%R", "%U", "%V",
+    ] {
         check_parts(&rt, &[".", name, " a"], &["2 field; 5 word a; 1 filled"]);
     }
 }

@@ -14,8 +14,8 @@ use page_core_base::{NoteKind, Place, Taken};
 use page_core_limits::LINE;
 use page_roff_requests::LayoutRequest;
 use page_sets_lines::{
-    BlockCloser, BlockOpener, BodyParagraphName, Closer, Deed, Event, HeadingName, Leaf, LineOpener,
-    LineStep, Opener, Prologue, find_name, with_argument,
+    BlockCloser, BlockOpener, BodyParagraphName, Closer, Deed, Event, HeadingName, Leaf,
+    LineOpener, LineStep, Opener, Prologue, find_name, with_argument,
 };
 use page_sets_mdoc_rows::{Block, LineMacro};
 
@@ -284,9 +284,7 @@ impl Front {
                 Front::scoped(heading_deed(name), LineOpener::Heading(name))
             }
             LineMacro::Paragraph(name) => Front::quoting(FrontDeed::Paragraph(name), line),
-            LineMacro::Description => {
-                Front::scoped(FrontDeed::Nothing, LineOpener::Description)
-            }
+            LineMacro::Description => { Front::scoped(FrontDeed::Nothing, LineOpener::Description) }
             LineMacro::OneLine(name) => {
                 Front::scoped(FrontDeed::Nothing, LineOpener::OneLine(name))
             }
