@@ -24,6 +24,8 @@ const GROUP: usize = 8;
 pub struct TextRows<'a, W> {
     out: &'a mut W,
     failures: u64,
+    // The bytes of a row that wait; what they are between two rows means nothing.
+    bytes: [u8; BUFFER],
 }
 
 impl<'a, W: Write> TextRows<'a, W> {
@@ -33,7 +35,11 @@ impl<'a, W: Write> TextRows<'a, W> {
         ensures out { result.out.now ≡ out.entry.now }
         ensures failures { result.failures ≡ 0 }
     {
-        TextRows { out, failures: 0 }
+        TextRows {
+            out,
+            failures: 0,
+            bytes: [b' '; BUFFER],
+        }
     }
 }
 
@@ -102,8 +108,8 @@ fn put_cells<W: Write>(out: &mut W, bytes: &mut [u8; BUFFER], start: usize, cell
     put_end(out, bytes, end, rest)
 }
 
-// Writes a margin, cells and a line feed, or the line feed alone where there is no cell.
-fn put_row<W: Write>(out: &mut W, margin: u32, cells: &[Cell]) -> bool
+// Writes a margin, cells and a line feed, or the line feed alone where there is no cell; the bytes have room for what waits.
+fn put_row<W: Write>(out: &mut W, bytes: &mut [u8; BUFFER], margin: u32, cells: &[Cell]) -> bool
     ensures { Writes result (W.contents out.old) (W.contents out.new) (printed margin cells.now) }
 {
     if cells.is_empty() {
@@ -112,8 +118,8 @@ fn put_row<W: Write>(out: &mut W, margin: u32, cells: &[Cell]) -> bool
     let Some(left) = put_margin(out, margin) else {
         return false;
     };
-    let mut bytes = [b' '; BUFFER];
-    put_cells(out, &mut bytes, left, cells)
+    bytes[..left].fill(b' ');
+    put_cells(out, bytes, left, cells)
 }
 
 impl<W: Write> RowSink for TextRows<'_, W> {
@@ -132,7 +138,12 @@ impl<W: Write> RowSink for TextRows<'_, W> {
     ghost whole = { adds-whole (λ s. W.contents s.out.now) row_bytes };
 
     fn row(&mut self, margin: u32, cells: &[Cell]) -> Result<(), Fault> {
-        if put_row(self.out, margin, without_blanks_at_end(cells)) {
+        if put_row(
+            self.out,
+            &mut self.bytes,
+            margin,
+            without_blanks_at_end(cells),
+        ) {
             return Ok(());
         }
         self.failures = self.failures.saturating_add(1);
