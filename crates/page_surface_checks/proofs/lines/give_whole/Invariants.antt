@@ -1,8 +1,0 @@
-use Rattle.std.proofs.Common.{◌≡◌, ◌+◌, ◌≤◌, false, length}
-use Rattle.page_surface_checks.proofs.lines.give_whole.Given as goal
-
--- no line waits, and the part before this place came
-abbrev pub invariant-parts : goal.invariant-parts
-invariant-parts g l =
-    (l.cutter.ready ≡ false) × (l.at ≤ length l.bytes)
-    × (l.cutter.point.line.consumed ≡ l.fn.cutter.point.line.consumed + l.at)
