@@ -1,7 +1,7 @@
 -- Blocks that one macro begins and another ends, and the names of these. Source: mdoc(7), "MACRO REFERENCE".
 use Rattle.std.specs.Prelude.{ℕ, List, codes}
 use Rattle.page_sets_lines.specs.declared.blocks.Block.{Block}
-use Rattle.page_sets_lines.specs.declared.blocks.Block.TheVariants.{Quotation, Custom, Extension, Display, Fonts, Keep, Reference}
+use Rattle.page_sets_lines.specs.declared.blocks.Block.TheVariants.{Quotation, Custom, Extension, Display, Fonts, Keep, Reference, Function}
 use Rattle.page_sets_lines.specs.declared.blocks.BlockOpener.{BlockOpener}
 use Rattle.page_sets_lines.specs.declared.blocks.BlockOpener.TheVariants as openers
 use Rattle.page_sets_lines.specs.declared.blocks.BlockCloser.{BlockCloser}
@@ -16,6 +16,7 @@ block_name Display = codes "Bd"
 block_name Fonts = codes "Bf"
 block_name Keep = codes "Bk"
 block_name Reference = codes "Rs"
+block_name Function = codes "Fo"
 
 abbrev pub block_closer_name : Block → List ℕ
 block_closer_name (Quotation quotation) = quotation_closer_name quotation
@@ -25,6 +26,7 @@ block_closer_name Display = codes "Ed"
 block_closer_name Fonts = codes "Ef"
 block_closer_name Keep = codes "Ek"
 block_closer_name Reference = codes "Re"
+block_closer_name Function = codes "Fc"
 
 -- the block that is opened
 abbrev pub opened_block : BlockOpener (List ℕ) → Block
@@ -35,6 +37,7 @@ opened_block (openers.Display is_literal is_compact offset) = Display
 opened_block (openers.Fonts font) = Fonts
 opened_block openers.Keep = Keep
 opened_block openers.Reference = Reference
+opened_block (openers.Function name) = Function
 
 -- the block that is closed
 abbrev pub closed_block : BlockCloser (List ℕ) → Block
@@ -45,3 +48,4 @@ closed_block closers.Display = Display
 closed_block closers.Fonts = Fonts
 closed_block closers.Keep = Keep
 closed_block closers.Reference = Reference
+closed_block closers.Function = Function

@@ -27,6 +27,8 @@ pub enum Block {
     Keep,
     /// `Rs` and `Re`: a reference to a work.
     Reference,
+    /// `Fo` and `Fc`: a function with its arguments.
+    Function,
 }
 
 /// What opens a block; `W` is a text.
@@ -49,6 +51,8 @@ pub enum BlockOpener<W> {
     Keep,
     /// `Rs`.
     Reference,
+    /// `Fo`, with the function's name.
+    Function(Argument<W>),
 }
 
 /// What closes a block; `W` is a text.
@@ -67,6 +71,8 @@ pub enum BlockCloser<W> {
     Keep,
     /// `Re`.
     Reference,
+    /// `Fc`.
+    Function,
 }
 
 impl Block {
@@ -82,6 +88,7 @@ impl Block {
             Block::Fonts => "Bf",
             Block::Keep => "Bk",
             Block::Reference => "Rs",
+            Block::Function => "Fo",
         }
     }
 
@@ -97,6 +104,7 @@ impl Block {
             Block::Fonts => "Ef",
             Block::Keep => "Ek",
             Block::Reference => "Re",
+            Block::Function => "Fc",
         }
     }
 }
@@ -114,6 +122,7 @@ impl BlockOpener<&[u8]> {
             BlockOpener::Fonts(_) => Block::Fonts,
             BlockOpener::Keep => Block::Keep,
             BlockOpener::Reference => Block::Reference,
+            BlockOpener::Function(_) => Block::Function,
         }
     }
 }
@@ -131,6 +140,7 @@ impl BlockCloser<&[u8]> {
             BlockCloser::Fonts => Block::Fonts,
             BlockCloser::Keep => Block::Keep,
             BlockCloser::Reference => Block::Reference,
+            BlockCloser::Function => Block::Function,
         }
     }
 }
