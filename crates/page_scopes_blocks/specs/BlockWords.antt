@@ -4,8 +4,8 @@ use Rattle.page_core_base.specs.declared.places.Place.{Place}
 use Rattle.page_core_limits.specs.declared.TheConstants.{LINE}
 use Rattle.page_roff_forms.specs.declared.quotes.Argument.{Argument}
 use Rattle.page_scopes_layout.specs.declared.contexts.Context.{Context}
-use Rattle.page_scopes_layout.specs.declared.contexts.FieldsSoFar.{FieldsSoFar}
-use Rattle.page_scopes_layout.specs.declared.contexts.FieldsSoFar.TheVariants.{Begun}
+use Rattle.page_scopes_layout.specs.declared.contexts.SeriesSoFar.{SeriesSoFar}
+use Rattle.page_scopes_layout.specs.declared.contexts.SeriesSoFar.TheVariants.{Begun}
 use Rattle.page_scopes_leaves.specs.LineWords.{argument_word, line_word, own_word}
 use Rattle.page_scopes_leaves.specs.Outcomes.{Outcome, nothing}
 use Rattle.page_scopes_leaves.specs.Phrases.{phrase_context, phrase_items, phrase_running}
@@ -83,7 +83,7 @@ closing_word marks = record { own = closing marks; font = None; before = Glued; 
 abbrev pub full_stop : OwnWord
 full_stop = record { own = FullStop; font = None; before = Glued; after = Apart }
 
-abbrev pub reference_end : FieldsSoFar → Place → Context → Running → Outcome
+abbrev pub reference_end : SeriesSoFar → Place → Context → Running → Outcome
 reference_end Begun place c r = own_word place full_stop c r
 reference_end _ place c r = nothing c r
 

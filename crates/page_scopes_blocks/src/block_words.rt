@@ -11,7 +11,7 @@ ghost use Rattle.page_sets_lines.specs.Events.{block_opener_seen, given_seen, wo
 use page_core_base::{PieceOut, Place};
 use page_core_limits::LINE;
 use page_roff_forms::Argument;
-use page_scopes_layout::{Context, FieldsSoFar};
+use page_scopes_layout::{Context, SeriesSoFar};
 use page_scopes_leaves::{
     Phrase, Running, argument_word, give_line_word, give_own_word, give_phrase,
 };
@@ -163,7 +163,7 @@ fn give_reference_end<O: PieceOut>(
         (words.reference_end context.old.fields place context.old running.old)
         out.new context.new running.new }
 {
-    if let FieldsSoFar::Begun = context.fields {
+    if let SeriesSoFar::Begun = context.fields {
         give_own_word(out, place, full_stop(), context, running);
     }
 }

@@ -10,7 +10,7 @@ mod margins;
 mod nodes;
 mod settings;
 
-pub use contexts::{Context, FieldsSoFar, PagePart};
+pub use contexts::{Context, PagePart, PageSection, SeriesSoFar};
 pub use margins::{Margins, hold, margins_of};
 pub use nodes::{give_begin, give_end, give_margins};
 pub use settings::Setting;

@@ -7,8 +7,8 @@ use Rattle.page_core_base.specs.declared.places.Place.{Place}
 use Rattle.page_scopes_layout.specs.Begins.{flat}
 use Rattle.page_scopes_layout.specs.Nodes.{margin_items}
 use Rattle.page_scopes_layout.specs.declared.contexts.Context.{Context}
-use Rattle.page_scopes_layout.specs.declared.contexts.FieldsSoFar.{FieldsSoFar}
-use Rattle.page_scopes_layout.specs.declared.contexts.FieldsSoFar.TheVariants as fields
+use Rattle.page_scopes_layout.specs.declared.contexts.SeriesSoFar.{SeriesSoFar}
+use Rattle.page_scopes_layout.specs.declared.contexts.SeriesSoFar.TheVariants as fields
 use Rattle.page_scopes_leaves.specs.LineWords.{argument_word, line_word, own_word}
 use Rattle.page_scopes_leaves.specs.ManualNames.{manual_name}
 use Rattle.page_scopes_leaves.specs.Outcomes.{Outcome, nothing}
@@ -43,7 +43,7 @@ body_paragraph place name c r =
 abbrev pub comma : OwnWord
 comma = record { own = Comma; font = None; before = Glued; after = Apart }
 
-abbrev pub next_field : FieldsSoFar → Place → Context → Running → Outcome
+abbrev pub next_field : SeriesSoFar → Place → Context → Running → Outcome
 next_field fields.Outside place c r = nothing c r
 next_field fields.Empty place c r = record { items = []; context = record c { fields = fields.Begun }; running = r }
 next_field fields.Begun place c r = own_word place comma c r

@@ -11,7 +11,7 @@ use crate::manual_names::give_manual_name;
 use crate::phrases::{blanks_part, joined_gap};
 use crate::{Running, argument_word, give_line_word, give_own_word};
 use page_core_base::{NoteKind, Piece, PieceOut, Place};
-use page_scopes_layout::{Context, FieldsSoFar, give_margins};
+use page_scopes_layout::{Context, SeriesSoFar, give_margins};
 use page_scopes_words::report;
 use page_sets_lines::{BodyParagraphName, Join, LineStep, Own, OwnWord};
 
@@ -69,9 +69,9 @@ fn give_next_field<O: PieceOut>(
         out.new context.new running.new }
 {
     match context.fields {
-        FieldsSoFar::Outside => {}
-        FieldsSoFar::Empty => context.fields = FieldsSoFar::Begun,
-        FieldsSoFar::Begun => give_own_word(out, place, comma(), context, running),
+        SeriesSoFar::Outside => {}
+        SeriesSoFar::Empty => context.fields = SeriesSoFar::Begun,
+        SeriesSoFar::Begun => give_own_word(out, place, comma(), context, running),
     }
 }
 
