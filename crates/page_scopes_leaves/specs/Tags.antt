@@ -1,5 +1,5 @@
 -- Tags: words in front of a text that hangs. Source: man(7), `IP`, `SY`.
-use Rattle.std.specs.Prelude.{ℕ, false, List, ◌∷◌, ◌++◌, None, Some}
+use Rattle.std.specs.Prelude.{ℕ, false, List, [], ◌∷◌, ◌++◌, None, Some}
 use Rattle.page_core_base.specs.Pieces.{shown}
 use Rattle.page_core_base.specs.declared.pieces.Piece.TheVariants as pieces
 use Rattle.page_core_base.specs.declared.pieces.TagForm.TheVariants.{Row}
@@ -7,7 +7,7 @@ use Rattle.page_scopes_layout.specs.Nodes.{margin_items}
 use Rattle.page_scopes_layout.specs.declared.contexts.Context.{Context}
 use Rattle.page_scopes_layout.specs.declared.contexts.PagePart.TheVariants as parts
 use Rattle.page_scopes_leaves.specs.LineWords.{line_word}
-use Rattle.page_scopes_leaves.specs.Outcomes.{Outcome}
+use Rattle.page_scopes_leaves.specs.Outcomes.{Outcome, followed_by}
 use Rattle.page_scopes_leaves.specs.declared.runnings.Running.{Running}
 use Rattle.page_scopes_leaves.specs.declared.tags.TagPlace.{TagPlace}
 use Rattle.page_sets_lines.specs.declared.events.Word.{Word}
@@ -24,14 +24,24 @@ after_tag before c = record c { first = None; part = before.part }
 abbrev pub padded : Running → Running
 padded r = record r { gap = 0 }
 
-abbrev pub tag_after : TagPlace → Context → Outcome → Outcome
-tag_after tag before words = record {
-  items = margin_items (tag_context tag before) ++ (shown (pieces.Tag tag.hang Row)
-      ∷ (words.items ++ shown pieces.TagEnd ∷ margin_items (after_tag before words.context)));
-  context = after_tag before words.context;
-  running = padded words.running;
+-- it stands in front of its text, which hangs
+abbrev pub tag_begun : TagPlace → Context → Running → Outcome
+tag_begun tag c r = record {
+  items = margin_items (tag_context tag c) ++ shown (pieces.Tag tag.hang Row) ∷ [];
+  context = tag_context tag c;
+  running = r;
 }
+
+abbrev pub tag_ended : Context → Context → Running → Outcome
+tag_ended before c r = record {
+  items = shown pieces.TagEnd ∷ margin_items (after_tag before c);
+  context = after_tag before c;
+  running = padded r;
+}
+
+abbrev pub tag_words : ℕ → Word (List ℕ) → Context → Context → Running → Outcome
+tag_words line word before c r = followed_by (line_word line word c r) (tag_ended before)
 
 -- a tag of the words of an argument
 unfoldable pub tag : TagPlace → ℕ → Word (List ℕ) → Context → Running → Outcome
-tag place line word c r = tag_after place c (line_word line word (tag_context place c) r)
+tag place line word c r = followed_by (tag_begun place c r) (tag_words line word c)

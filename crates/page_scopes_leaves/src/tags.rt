@@ -43,6 +43,57 @@ fn after_tag(before: Context, context: Context) -> Context
     }
 }
 
+// What pads a tag stands in place of a blank.
+fn pad(running: &mut Running)
+    ensures { running.new ≡ tags.padded running.old }
+{
+    running.gap = 0;
+}
+
+// Gives what a tag begins with.
+fn begin_tag<O: PieceOut>(out: &mut O, tag: TagPlace, context: &mut Context, running: &Running)
+    ensures { GivesOutcome O.left out.old
+        (tags.tag_begun tag context.old running.now)
+        out.new context.new running.now }
+{
+    *context = tag_context(tag, *context);
+    give_margins(out, context);
+    out.give(Piece::Tag {
+        hang: tag.hang,
+        form: TagForm::Row,
+    });
+}
+
+// Gives what a tag ends with; the context is that before it.
+fn end_tag<O: PieceOut>(out: &mut O, before: &Context, context: &mut Context, running: &mut Running)
+    ensures { GivesOutcome O.left out.old
+        (tags.tag_ended before.now context.old running.old)
+        out.new context.new running.new }
+{
+    out.give(Piece::TagEnd);
+    *context = after_tag(*before, *context);
+    give_margins(out, context);
+    pad(running);
+}
+
+// Gives the words of a tag, and what it ends with; the context is that before it.
+fn give_tag_words<O: PieceOut>(
+    out: &mut O,
+    line: u32,
+    word: &Word<&[u8]>,
+    before: &Context,
+    context: &mut Context,
+    running: &mut Running,
+)
+    requires { ArgumentFits (word_seen word.now).arg }
+    ensures { GivesOutcome O.left out.old
+        (tags.tag_words line (word_seen word.now) before.now context.old running.old)
+        out.new context.new running.new }
+{
+    give_line_word(out, line, word, context, running);
+    end_tag(out, before, context, running);
+}
+
 /// Gives a tag of the words of an argument.
 #[tactic(auto, unfolding(crate::specs::Tags::tag))]
 pub fn give_tag<O: PieceOut>(
@@ -59,15 +110,6 @@ pub fn give_tag<O: PieceOut>(
         out.new context.new running.new }
 {
     let before = *context;
-    *context = tag_context(tag, before);
-    give_margins(out, context);
-    out.give(Piece::Tag {
-        hang: tag.hang,
-        form: TagForm::Row,
-    });
-    give_line_word(out, line, word, context, running);
-    out.give(Piece::TagEnd);
-    *context = after_tag(before, *context);
-    give_margins(out, context);
-    running.gap = 0;
+    begin_tag(out, tag, context, running);
+    give_tag_words(out, line, word, &before, context, running);
 }

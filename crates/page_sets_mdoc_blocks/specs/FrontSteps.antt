@@ -40,6 +40,7 @@ front_deed (fronts.Prologue name) line = Some (deeds.Leaf (leaves.Prologue name 
 front_deed (fronts.Paragraph name) line = Some (deeds.Leaf (leaves.Step (steps.BodyParagraph name)))
 front_deed (fronts.Begins block) line = block_deed true block line
 front_deed (fronts.Ends block) line = block_deed false block line
+front_deed (fronts.Spacing on) line = Some (deeds.Leaf (leaves.Step (steps.Spacing on)))
 front_deed fronts.Field line = Some (deeds.Leaf (leaves.Step steps.NextField))
 front_deed fronts.Section line = Some (deeds.Open openers.Section)
 front_deed fronts.Subsection line = Some (deeds.Open openers.Subsection)
@@ -47,6 +48,14 @@ front_deed fronts.Subsection line = Some (deeds.Open openers.Subsection)
 abbrev pub field_deed : Bool → FrontDeed
 field_deed true = fronts.Field
 field_deed false = fronts.Refused EmptyMacro
+
+abbrev pub include_deed : Bool → FrontDeed
+include_deed true = fronts.Nothing
+include_deed false = fronts.Refused EmptyMacro
+
+abbrev pub spacing_front_deed : Option (Option Bool) → FrontDeed
+spacing_front_deed None = fronts.Nothing
+spacing_front_deed (Some on) = fronts.Spacing on
 
 abbrev pub scope_events : Line → Option LineOpener → List (Event (List ℕ))
 scope_events line None = []
@@ -71,3 +80,7 @@ scoped deed opener = record (of_deed deed) { scope = Some opener }
 
 abbrev pub beginning : Block → Line → Front
 beginning block line = record (quoting (fronts.Begins block) line) { begins_body = true; note = block_note block line }
+
+-- a quote that is lacking, of what may begin the body
+abbrev pub quoted : Option ℕ → Front
+quoted quote = record (of_deed fronts.Nothing) { quote = quote; begins_body = true }

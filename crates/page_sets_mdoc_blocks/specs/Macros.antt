@@ -17,13 +17,10 @@ abbrev pub is_list : Block → Bool
 is_list blocks.List = true
 is_list _ = false
 
--- macros whose events are still to come: lists, sentences, and what stands among words
+-- macros whose events are still to come: lists, and what stands among words
 abbrev pub is_to_come : LineMacro → Bool
 is_to_come (lines.Inline inline) = is_word_to_come inline
 is_to_come (lines.Begins block) = is_list block
 is_to_come (lines.Ends block) = is_list block
 is_to_come lines.Item = true
-is_to_come (lines.Sentence sentence) = true
-is_to_come lines.Include = true
-is_to_come lines.Spacing = true
 is_to_come _ = false

@@ -29,7 +29,7 @@ pub fn is_to_come(begins: LineMacro) -> bool
     match begins {
         LineMacro::Inline(inline) => is_word_to_come(inline),
         LineMacro::Begins(block) | LineMacro::Ends(block) => is_list(block),
-        LineMacro::Item | LineMacro::Sentence(_) | LineMacro::Include | LineMacro::Spacing => true,
+        LineMacro::Item => true,
         _ => false,
     }
 }
