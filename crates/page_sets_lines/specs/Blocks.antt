@@ -2,6 +2,8 @@
 use Rattle.std.specs.Prelude.{ℕ, List, codes}
 use Rattle.page_sets_lines.specs.declared.blocks.Block.{Block}
 use Rattle.page_sets_lines.specs.declared.blocks.Block.TheVariants.{Quotation, Custom, Extension, Display, Fonts, Keep, Reference}
+use Rattle.page_sets_lines.specs.declared.blocks.Block.TheVariants as blocks
+use Rattle.page_sets_lines.specs.declared.lists.ListKind.TheVariants as kinds
 use Rattle.page_sets_lines.specs.declared.blocks.BlockOpener.{BlockOpener}
 use Rattle.page_sets_lines.specs.declared.blocks.BlockOpener.TheVariants as openers
 use Rattle.page_sets_lines.specs.declared.blocks.BlockCloser.{BlockCloser}
@@ -9,6 +11,7 @@ use Rattle.page_sets_lines.specs.declared.blocks.BlockCloser.TheVariants as clos
 use Rattle.page_sets_lines.specs.Marks.{quotation_name, quotation_closer_name}
 
 abbrev pub block_name : Block → List ℕ
+block_name (blocks.List kind) = codes "Bl"
 block_name (Quotation quotation) = quotation_name quotation
 block_name Custom = codes "Eo"
 block_name Extension = codes "Xo"
@@ -18,6 +21,7 @@ block_name Keep = codes "Bk"
 block_name Reference = codes "Rs"
 
 abbrev pub block_closer_name : Block → List ℕ
+block_closer_name (blocks.List kind) = codes "El"
 block_closer_name (Quotation quotation) = quotation_closer_name quotation
 block_closer_name Custom = codes "Ec"
 block_closer_name Extension = codes "Xc"
@@ -28,6 +32,7 @@ block_closer_name Reference = codes "Re"
 
 -- the block that is opened
 abbrev pub opened_block : BlockOpener (List ℕ) → Block
+opened_block (openers.List kind is_compact options) = blocks.List kind
 opened_block (openers.Quotation quotation) = Quotation quotation
 opened_block (openers.Custom mark) = Custom
 opened_block openers.Extension = Extension
@@ -36,8 +41,9 @@ opened_block (openers.Fonts font) = Fonts
 opened_block openers.Keep = Keep
 opened_block openers.Reference = Reference
 
--- the block that is closed
+-- the block that is closed; lists of all types have one closer, and the plainest stands for them
 abbrev pub closed_block : BlockCloser (List ℕ) → Block
+closed_block closers.List = blocks.List kinds.Item
 closed_block (closers.Quotation quotation) = Quotation quotation
 closed_block (closers.Custom mark) = Custom
 closed_block closers.Extension = Extension
