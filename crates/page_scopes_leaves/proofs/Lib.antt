@@ -1,2 +1,3 @@
 pub mod RawCells
 pub mod KeptLemmas
+pub mod CellLemmas

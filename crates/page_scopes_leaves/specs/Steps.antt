@@ -9,6 +9,7 @@ use Rattle.page_scopes_layout.specs.Nodes.{margin_items}
 use Rattle.page_scopes_layout.specs.declared.contexts.Context.{Context}
 use Rattle.page_scopes_layout.specs.declared.contexts.FieldsSoFar.{FieldsSoFar}
 use Rattle.page_scopes_layout.specs.declared.contexts.FieldsSoFar.TheVariants as fields
+use Rattle.page_scopes_leaves.specs.Cells.{column_step}
 use Rattle.page_scopes_leaves.specs.LineWords.{argument_word, line_word, own_word}
 use Rattle.page_scopes_leaves.specs.ManualNames.{manual_name}
 use Rattle.page_scopes_leaves.specs.Outcomes.{Outcome, nothing}
@@ -50,6 +51,7 @@ next_field fields.Begun place c r = own_word place comma c r
 
 -- the address of `Lk` is a word
 abbrev pub step_outcome : Place → LineStep (List ℕ) → Option KeptText → Context → Running → Outcome
+step_outcome place steps.NextColumn name c r = column_step place c.list c r
 step_outcome place steps.Glue name c r = record { items = []; context = c; running = glued c r }
 step_outcome place (steps.BodyParagraph paragraph) name c r = body_paragraph place paragraph c r
 step_outcome place (steps.Uri uri) name c r = line_word place.line (argument_word None Apart uri) c r

@@ -1,13 +1,15 @@
 -- Tags: words in front of a text that hangs. Source: man(7), `IP`, `SY`.
-use Rattle.std.specs.Prelude.{ℕ, false, List, ◌∷◌, ◌++◌, None, Some}
-use Rattle.page_core_base.specs.Pieces.{shown}
+use Rattle.std.specs.Prelude.{ℕ, false, List, [], ◌∷◌, ◌++◌, None, Some}
+use Rattle.page_core_base.specs.Pieces.{Item, shown}
 use Rattle.page_core_base.specs.declared.pieces.Piece.TheVariants as pieces
 use Rattle.page_core_base.specs.declared.pieces.TagForm.TheVariants.{Row}
 use Rattle.page_scopes_layout.specs.Nodes.{margin_items}
 use Rattle.page_scopes_layout.specs.declared.contexts.Context.{Context}
 use Rattle.page_scopes_layout.specs.declared.contexts.PagePart.TheVariants as parts
 use Rattle.page_scopes_leaves.specs.LineWords.{line_word}
-use Rattle.page_scopes_leaves.specs.Outcomes.{Outcome}
+use Rattle.page_scopes_leaves.specs.Outcomes.{Outcome, after_notes, followed_by}
+use Rattle.page_scopes_leaves.specs.Phrases.{phrase_outcome}
+use Rattle.page_scopes_leaves.specs.declared.phrases.Phrase.{Phrase}
 use Rattle.page_scopes_leaves.specs.declared.runnings.Running.{Running}
 use Rattle.page_scopes_leaves.specs.declared.tags.TagPlace.{TagPlace}
 use Rattle.page_sets_lines.specs.declared.events.Word.{Word}
@@ -24,14 +26,24 @@ after_tag before c = record c { first = None; part = before.part }
 abbrev pub padded : Running → Running
 padded r = record r { gap = 0 }
 
-abbrev pub tag_after : TagPlace → Context → Outcome → Outcome
-tag_after tag before words = record {
-  items = margin_items (tag_context tag before) ++ (shown (pieces.Tag tag.hang Row)
-      ∷ (words.items ++ shown pieces.TagEnd ∷ margin_items (after_tag before words.context)));
-  context = after_tag before words.context;
-  running = padded words.running;
+abbrev pub tag_items : TagPlace → Context → List Item
+tag_items tag before = margin_items (tag_context tag before) ++ shown (pieces.Tag tag.hang Row) ∷ []
+
+abbrev pub tag_end : Context → Context → Running → Outcome
+tag_end before c r = record {
+  items = shown pieces.TagEnd ∷ margin_items (after_tag before c);
+  context = after_tag before c;
+  running = padded r;
 }
+
+-- a tag of some words, which begins in a context
+abbrev pub tag_of : TagPlace → Context → Outcome → Outcome
+tag_of tag before words = after_notes (tag_items tag before) (followed_by words (tag_end before))
 
 -- a tag of the words of an argument
 unfoldable pub tag : TagPlace → ℕ → Word (List ℕ) → Context → Running → Outcome
-tag place line word c r = tag_after place c (line_word line word (tag_context place c) r)
+tag place line word c r = tag_of place c (line_word line word (tag_context place c) r)
+
+-- a tag of the words of a phrase
+unfoldable pub phrase_tag : TagPlace → ℕ → Phrase (List ℕ) → Context → Running → Outcome
+phrase_tag place line phrase c r = tag_of place c (phrase_outcome line phrase (tag_context place c) r)

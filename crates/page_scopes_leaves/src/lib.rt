@@ -4,6 +4,7 @@
 //! known after it. Read `src/runnings.rt` first, then `specs/Outcomes.antt`, `Phrases.antt` (words) and `Leaves.antt` (a row for each leaf).
 #![tactic(auto)]
 
+mod cells;
 mod deeds;
 mod kept_texts;
 mod leaves;
@@ -26,4 +27,4 @@ pub use line_words::{argument_word, give_line_word, give_own_word};
 pub use phrases::{Phrase, give_phrase};
 pub use raw_lines::give_raw_line;
 pub use runnings::{LineSoFar, Running};
-pub use tags::{TagPlace, give_tag};
+pub use tags::{TagPlace, give_phrase_tag, give_tag};

@@ -1,12 +1,14 @@
 //! Tags: words in front of a text that hangs (man(7), `IP`, `SY`).
 
 ghost use Rattle.std.specs.Prelude.{◌≡◌};
-ghost use Rattle.page_scopes_leaves.specs.Fits.{ArgumentFits};
+ghost use Rattle.page_core_base.specs.Latches.{Came};
+ghost use Rattle.page_scopes_leaves.specs.Fits.{ArgumentFits, FitsAt};
 ghost use Rattle.page_scopes_leaves.specs.Outcomes.{GivesOutcome};
+ghost use Rattle.page_scopes_leaves.specs.Phrases.{phrase_seen};
 ghost use Rattle.page_scopes_leaves.specs.Tags as tags;
 ghost use Rattle.page_sets_lines.specs.Events.{word_seen};
 
-use crate::{Running, give_line_word};
+use crate::{Phrase, Running, give_line_word, give_phrase};
 use page_core_base::{Piece, PieceOut, TagForm};
 use page_scopes_layout::{Context, PagePart, give_margins};
 use page_sets_lines::Word;
@@ -43,6 +45,50 @@ fn after_tag(before: Context, context: Context) -> Context
     }
 }
 
+// Begins a tag.
+fn begin_tag<O: PieceOut>(out: &mut O, tag: TagPlace, context: &mut Context)
+    ensures came { Came O.left out.old (tags.tag_items tag context.old) out.new }
+    ensures context { context.new ≡ tags.tag_context tag context.old }
+{
+    *context = tag_context(tag, *context);
+    give_margins(out, context);
+    out.give(Piece::Tag {
+        hang: tag.hang,
+        form: TagForm::Row,
+    });
+}
+
+// Ends a tag, which began in a context.
+fn end_tag<O: PieceOut>(out: &mut O, before: Context, context: &mut Context, running: &mut Running)
+    ensures { GivesOutcome O.left out.old (tags.tag_end before context.old running.old) out.new context.new running.new }
+{
+    out.give(Piece::TagEnd);
+    *context = after_tag(before, *context);
+    give_margins(out, context);
+    running.gap = 0;
+}
+
+/// Gives a tag of the words of a phrase.
+#[tactic(auto, unfolding(crate::specs::Tags::phrase_tag))]
+pub fn give_phrase_tag<O: PieceOut>(
+    out: &mut O,
+    tag: TagPlace,
+    line: u32,
+    phrase: &Phrase<&[u8]>,
+    context: &mut Context,
+    running: &mut Running,
+)
+    requires { FitsAt phrase.now.column phrase.now.text.now }
+    ensures { GivesOutcome O.left out.old
+        (tags.phrase_tag tag line (phrase_seen phrase.now) context.old running.old)
+        out.new context.new running.new }
+{
+    let before = *context;
+    begin_tag(out, tag, context);
+    give_phrase(out, line, phrase, context, running);
+    end_tag(out, before, context, running);
+}
+
 /// Gives a tag of the words of an argument.
 #[tactic(auto, unfolding(crate::specs::Tags::tag))]
 pub fn give_tag<O: PieceOut>(
@@ -59,15 +105,7 @@ pub fn give_tag<O: PieceOut>(
         out.new context.new running.new }
 {
     let before = *context;
-    *context = tag_context(tag, before);
-    give_margins(out, context);
-    out.give(Piece::Tag {
-        hang: tag.hang,
-        form: TagForm::Row,
-    });
+    begin_tag(out, tag, context);
     give_line_word(out, line, word, context, running);
-    out.give(Piece::TagEnd);
-    *context = after_tag(before, *context);
-    give_margins(out, context);
-    running.gap = 0;
+    end_tag(out, before, context, running);
 }

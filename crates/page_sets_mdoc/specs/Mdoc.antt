@@ -67,6 +67,7 @@ field_font false font = None
 
 abbrev pub words_events : LineMacro → Line → List (Event (List ℕ))
 words_events (lines.Inline inline) line = head_events line inline (line_parts (Some inline) line)
+words_events lines.Item line = phrase_events line.number (line_parts None line)
 words_events (lines.Heading name) line = phrase_events line.number (line_parts None line)
 words_events lines.Description line = phrase_events line.number (line_parts None line)
 words_events (lines.OneLine name) line = phrase_events line.number (line_parts None line)

@@ -112,9 +112,8 @@ pub(crate) fn words_of(begins: LineMacro, line: Taken<'_>) -> MacroWords
 {
     match begins {
         LineMacro::Inline(inline) => head_words(line, inline),
-        LineMacro::Heading(_) | LineMacro::Description | LineMacro::OneLine(_) => {
-            phrase_words(line)
-        }
+        LineMacro::Item | LineMacro::Heading(_) | LineMacro::Description | LineMacro::OneLine(_) =>
+            phrase_words(line),
         LineMacro::Field(font) => field_words(line, font),
         _ => no_words(line),
     }

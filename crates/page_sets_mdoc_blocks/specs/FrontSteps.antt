@@ -1,5 +1,5 @@
 -- What is still to come before a line's words: the code's own steps.
-use Rattle.std.specs.Prelude.{ℕ, Bool, true, false, List, [], ◌∷◌, ◌++◌, Option, None, Some, option_map}
+use Rattle.std.specs.Prelude.{ℕ, Bool, true, false, List, [], ◌∷◌, ◌++◌, Option, None, Some}
 use Rattle.page_core_base.specs.LinesTaken.{Line}
 use Rattle.page_core_base.specs.declared.note_kinds.NoteKind.TheVariants.{EmptyMacro}
 use Rattle.page_sets_mdoc_rows.specs.declared.blocks.Block.{Block}
@@ -12,12 +12,13 @@ use Rattle.page_sets_lines.specs.declared.macro_names.HeadingName.{HeadingName}
 use Rattle.page_sets_lines.specs.declared.macro_names.HeadingName.TheVariants as headings
 use Rattle.page_sets_lines.specs.declared.openers.LineOpener.{LineOpener}
 use Rattle.page_sets_lines.specs.declared.openers.Opener.TheVariants as openers
+use Rattle.page_sets_lines.specs.declared.openers.Closer.TheVariants as closers
 use Rattle.page_sets_lines.specs.ControlLines.{name_of, rest_of, first_of, text_of, open_quote}
 use Rattle.page_sets_lines.specs.PlainLines.{request}
 use Rattle.page_sets_mdoc_blocks.specs.declared.fronts.FrontDeed.{FrontDeed}
 use Rattle.page_sets_mdoc_blocks.specs.declared.fronts.FrontDeed.TheVariants as fronts
 use Rattle.page_sets_mdoc_blocks.specs.declared.fronts.Front.{Front}
-use Rattle.page_sets_mdoc_blocks.specs.Fronts.{at_name, line_arguments, quote_events, opener_of, closer_of, deed_at_name, note_events, block_note}
+use Rattle.page_sets_mdoc_blocks.specs.Fronts.{at_name, line_arguments, quote_events, opener_of, closer_of, note_events, block_note}
 
 abbrev pub missing_column : Line → Option ℕ
 missing_column line = open_quote 0 (line_arguments line)
@@ -28,18 +29,19 @@ heading_deed headings.SS = fronts.Subsection
 heading_deed headings.Sh = fronts.Section
 heading_deed headings.Ss = fronts.Subsection
 
-abbrev pub block_deed : Bool → Block → Line → Option (Deed (List ℕ))
-block_deed true block line = option_map deeds.Open (opener_of block line)
-block_deed false block line = option_map deeds.Close (closer_of block)
+abbrev pub block_deed : Bool → Block → Line → Deed (List ℕ)
+block_deed true block line = deeds.Open (openers.Block (opener_of block line))
+block_deed false block line = deeds.Close (closers.Block (closer_of block))
 
 abbrev pub front_deed : FrontDeed → Line → Option (Deed (List ℕ))
+front_deed fronts.Item line = Some (deeds.Open openers.Item)
 front_deed fronts.Nothing line = None
 front_deed (fronts.Refused kind) line = Some (deeds.Note kind (name_of line) false)
 front_deed (fronts.Request name) line = Some (deeds.Leaf (leaves.Request (request name (text_of (first_of (line_arguments line))))))
 front_deed (fronts.Prologue name) line = Some (deeds.Leaf (leaves.Prologue name (rest_of line)))
 front_deed (fronts.Paragraph name) line = Some (deeds.Leaf (leaves.Step (steps.BodyParagraph name)))
-front_deed (fronts.Begins block) line = block_deed true block line
-front_deed (fronts.Ends block) line = block_deed false block line
+front_deed (fronts.Begins block) line = Some (block_deed true block line)
+front_deed (fronts.Ends block) line = Some (block_deed false block line)
 front_deed fronts.Field line = Some (deeds.Leaf (leaves.Step steps.NextField))
 front_deed fronts.Section line = Some (deeds.Open openers.Section)
 front_deed fronts.Subsection line = Some (deeds.Open openers.Subsection)
@@ -51,6 +53,10 @@ field_deed false = fronts.Refused EmptyMacro
 abbrev pub scope_events : Line → Option LineOpener → List (Event (List ℕ))
 scope_events line None = []
 scope_events line (Some opener) = at_name line (deeds.LineScope opener) ∷ []
+
+abbrev pub deed_at_name : Line → Option (Deed (List ℕ)) → List (Event (List ℕ))
+deed_at_name line None = []
+deed_at_name line (Some deed) = at_name line deed ∷ []
 
 -- all that comes before the words
 abbrev pub front_events : Line → Front → List (Event (List ℕ))

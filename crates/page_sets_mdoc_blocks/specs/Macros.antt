@@ -1,7 +1,5 @@
 -- Which macros begin a line that goes on in words. Source: mdoc(7), "MACRO REFERENCE".
 use Rattle.std.specs.Prelude.{Bool, true, false}
-use Rattle.page_sets_mdoc_rows.specs.declared.blocks.Block.{Block}
-use Rattle.page_sets_mdoc_rows.specs.declared.blocks.Block.TheVariants as blocks
 use Rattle.page_sets_mdoc_rows.specs.declared.blocks.LineMacro.{LineMacro}
 use Rattle.page_sets_mdoc_rows.specs.declared.blocks.LineMacro.TheVariants as lines
 use Rattle.page_sets_mdoc_rows.specs.Rows.{is_word_to_come}
@@ -13,16 +11,9 @@ has_phrase lines.Description = true
 has_phrase (lines.OneLine name) = true
 has_phrase _ = false
 
-abbrev pub is_list : Block → Bool
-is_list blocks.List = true
-is_list _ = false
-
--- macros whose events are still to come: lists, sentences, and what stands among words
+-- macros whose events are still to come: sentences, files of declarations, spacing, and what stands among words
 abbrev pub is_to_come : LineMacro → Bool
 is_to_come (lines.Inline inline) = is_word_to_come inline
-is_to_come (lines.Begins block) = is_list block
-is_to_come (lines.Ends block) = is_list block
-is_to_come lines.Item = true
 is_to_come (lines.Sentence sentence) = true
 is_to_come lines.Include = true
 is_to_come lines.Spacing = true

@@ -5,6 +5,7 @@
 mod displays;
 mod fronts;
 mod line_arguments;
+mod lists;
 mod macros;
 
 pub use fronts::Front;

@@ -269,14 +269,14 @@ pub fn line_macro(name: &[u8]) -> Option<LineMacro>
     Some(row.begins)
 }
 
-/// Whether the events of a macro that can stand among words are still to come: `Ta`, `Fo` and `Fc`. No word calls it
+/// Whether the events of a macro that can stand among words are still to come: `Fo` and `Fc`. No word calls it
 /// until then.
 pub fn is_word_to_come(inline: Inline) -> bool
     ensures { result ≡ rows.is_word_to_come inline }
 {
     matches!(
         inline,
-        Inline::NextColumn | Inline::Opens(Pair::Function) | Inline::Closes(Pair::Function)
+        Inline::Opens(Pair::Function) | Inline::Closes(Pair::Function)
     )
 }
 
