@@ -42,6 +42,7 @@ block_opener_fits line (block_openers.Display is_literal is_compact offset) shor
 block_opener_fits line (block_openers.Fonts font) short slices = tt
 block_opener_fits line block_openers.Keep short slices = tt
 block_opener_fits line block_openers.Reference short slices = tt
+block_opener_fits line (block_openers.Function name) short slices = argument_fits line name short slices
 
 block_closer_fits : (line : List ℕ) (closer : BlockCloser (List ℕ)) → length line ≤ LINE → BlockClosesSlices line closer → BlockCloserFits closer
 block_closer_fits line block_closers.List short slices = tt
@@ -52,6 +53,7 @@ block_closer_fits line block_closers.Display short slices = tt
 block_closer_fits line block_closers.Fonts short slices = tt
 block_closer_fits line block_closers.Keep short slices = tt
 block_closer_fits line block_closers.Reference short slices = tt
+block_closer_fits line block_closers.Function short slices = tt
 
 opener_fits : (line : List ℕ) (opener : Opener (List ℕ)) → length line ≤ LINE → OpensSlices line opener → OpenerFits opener
 opener_fits line openers.Item short slices = tt
@@ -81,6 +83,10 @@ step_fits line (steps.BodyParagraph name) short slices = tt
 step_fits line (steps.Uri uri) short slices = argument_fits line uri short slices
 step_fits line steps.ManualName short slices = tt
 step_fits line steps.NextField short slices = tt
+step_fits line steps.NextArgument short slices = tt
+step_fits line steps.FunctionEnd short slices = tt
+step_fits line (steps.Spacing on) short slices = tt
+step_fits line (steps.Synopsis step) short slices = tt
 
 leaf_fits : (line : List ℕ) (leaf : Leaf (List ℕ)) → length line ≤ LINE → LeavesSlices line leaf → LeafFits leaf
 leaf_fits line leaves.BlankLine short slices = tt

@@ -3,9 +3,11 @@ use Rattle.std.specs.Prelude.{ℕ, Bool, true, false, not, ◌&&◌, List, [], �
 use Rattle.page_core_base.specs.Pieces.{Item, shown}
 use Rattle.page_core_base.specs.declared.note_kinds.NoteKind.TheVariants.{BeforeSection}
 use Rattle.page_core_base.specs.declared.pieces.Piece.TheVariants as pieces
+use Rattle.page_core_base.specs.declared.page_settings.Output.{Output}
 use Rattle.page_core_base.specs.declared.places.Place.{Place}
 use Rattle.page_core_numbers.specs.declared.scales.Scale.TheVariants.{Basic}
 use Rattle.page_roff_forms.specs.declared.quotes.Argument.{Argument}
+use Rattle.page_scopes_blocks.specs.NameHangs.{deed_counted}
 use Rattle.page_scopes_layout.specs.Nodes.{margin_items}
 use Rattle.page_scopes_layout.specs.declared.contexts.Context.{Context}
 use Rattle.page_scopes_leaves.specs.Deeds.{deed_outcome, name_after}
@@ -40,6 +42,7 @@ use Rattle.page_sets_lines.specs.declared.openers.Opener.TheVariants as openers
 abbrev pub step_begins : LineStep (List ℕ) → Bool
 step_begins (steps.Uri uri) = true
 step_begins steps.ManualName = true
+step_begins steps.FunctionEnd = true
 step_begins _ = false
 
 abbrev pub leaf_begins : Leaf (List ℕ) → Bool
@@ -145,14 +148,18 @@ deed_stands place (deeds.Close closer) name c r = suffix place.line closer c r
 deed_stands place (deeds.Leaf leaf) name c r = leaf_stands place leaf name c r
 deed_stands place deed name c r = deed_outcome place deed name c r
 
+-- with the columns of a name that begins a row of the SYNOPSIS
+abbrev pub event_stands : Output → Event (List ℕ) → Option KeptText → Context → Running → Outcome
+event_stands output event name c r = deed_stands event.place event.deed name c (deed_counted output event.deed name r)
+
 -- at the page's end the row ends
 abbrev pub page_ends : Context → Running → Outcome
 page_ends c r = record { items = shown pieces.Break ∷ []; context = c; running = row_ended r }
 
 -- the name is that of the manual
-unfoldable pub stands : Act (Event (List ℕ)) → Option KeptText → Context → Running → Outcome
-stands (acts.Event event) name c r = deed_stands event.place event.deed name c r
-stands (acts.PageEnd line) name c r = page_ends c r
+unfoldable pub stands : Output → Act (Event (List ℕ)) → Option KeptText → Context → Running → Outcome
+stands output (acts.Event event) name c r = event_stands output event name c r
+stands output (acts.PageEnd line) name c r = page_ends c r
 
 abbrev pub act_name : Act (Event (List ℕ)) → Option KeptText → Option KeptText
 act_name (acts.Event event) name = name_after event.deed name

@@ -30,8 +30,8 @@ layout_tables = record {
   begin_state = λ label event s. leaves s (begun_by s.page event s.context s.running);
   coming_items = λ event s. (coming event.place event.deed s.context s.running).items;
   coming_state = λ event s. leaves s (coming event.place event.deed s.context s.running);
-  leaf_items = λ act s. (stands act s.name s.context s.running).items;
-  leaf_state = λ act s. record (leaves s (stands act s.name s.context s.running)) { name = act_name act s.name };
+  leaf_items = λ act s. (stands s.page.output act s.name s.context s.running).items;
+  leaf_state = λ act s. record (leaves s (stands s.page.output act s.name s.context s.running)) { name = act_name act s.name };
   end_items = λ label before place s. (ended label before.context before.target place s.context s.running).items;
   end_state = λ label before place s. leaves s (ended label before.context before.target place s.context s.running);
 }

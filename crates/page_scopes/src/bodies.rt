@@ -9,9 +9,10 @@ ghost use Rattle.page_scopes_leaves.specs.Outcomes.{GivesOutcome};
 ghost use Rattle.page_scopes_tree.specs.Acts.{TakesAct, act_seen};
 ghost use Rattle.page_sets_lines.specs.Events.{closer_seen, deed_seen, given_seen, leaf_seen, opener_seen, step_seen};
 
-use page_core_base::{NoteKind, Piece, PieceOut, Place};
+use page_core_base::{NoteKind, Output, Piece, PieceOut, Place};
 use page_core_numbers::Scale;
 use page_roff_forms::Argument;
+use page_scopes_blocks::count_name;
 use page_scopes_layout::{Context, give_margins};
 use page_scopes_leaves::{KeptText, Running, argument_word, give_deed, give_line_word};
 use page_scopes_text::give_number;
@@ -19,11 +20,14 @@ use page_scopes_tree::Act;
 use page_scopes_words::report;
 use page_sets_lines::{BlockCloser, Closer, Deed, Event, Join, Leaf, LineOpener, LineStep, Opener};
 
-// Whether a step of a line may begin the body: the address of `Lk`, and the name of the manual.
+// Whether a step of a line may begin the body: the address of `Lk`, the name of the manual, and the end of a function.
 fn step_begins(step: &LineStep<&[u8]>) -> bool
     ensures { result ≡ bodies.step_begins (step_seen step.now) }
 {
-    matches!(step, LineStep::Uri(_) | LineStep::ManualName)
+    matches!(
+        step,
+        LineStep::Uri(_) | LineStep::ManualName | LineStep::FunctionEnd
+    )
 }
 
 // Whether a leaf may begin the body.
@@ -197,6 +201,7 @@ fn give_deed_standing<O: PieceOut>(
 #[inline(always)]
 pub(crate) fn give_standing<O: PieceOut>(
     out: &mut O,
+    output: Output,
     act: &Act<&Event<&[u8]>>,
     name: &mut Option<KeptText>,
     context: &mut Context,
@@ -204,12 +209,13 @@ pub(crate) fn give_standing<O: PieceOut>(
 )
     requires { TakesAct (λ event. DeedFits event.deed) (act_seen act.now) }
     ensures gives { GivesOutcome O.left out.old
-        (bodies.stands (act_seen act.now) name.old context.old running.old)
+        (bodies.stands output (act_seen act.now) name.old context.old running.old)
         out.new context.new running.new }
     ensures name { name.new ≡ bodies.act_name (act_seen act.now) name.old }
 {
     match act {
         Act::Event(event) => {
+            count_name(output, &event.deed, name, running);
             give_deed_standing(out, event.place, &event.deed, name, context, running);
         }
         Act::PageEnd(_) => {

@@ -107,6 +107,7 @@ impl Laying for LayoutState {
     fn leaf<O: PieceOut>(&mut self, act: &Act<&Event<&[u8]>>, out: &mut O) {
         give_standing(
             out,
+            self.page.output,
             act,
             &mut self.name,
             &mut self.context,

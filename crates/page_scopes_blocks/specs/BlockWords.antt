@@ -1,13 +1,15 @@
 -- The words that blocks and line scopes of mdoc(7) print themselves, where they begin and where they end. Source: mdoc(7), "MACRO REFERENCE".
 use Rattle.std.specs.Prelude.{ℕ, min, false, List, Option, None, Some, codes}
+use Rattle.page_core_base.specs.declared.cells.Font.TheVariants.{B}
 use Rattle.page_core_base.specs.declared.places.Place.{Place}
 use Rattle.page_core_limits.specs.declared.TheConstants.{LINE}
 use Rattle.page_roff_forms.specs.declared.quotes.Argument.{Argument}
 use Rattle.page_scopes_layout.specs.declared.contexts.Context.{Context}
-use Rattle.page_scopes_layout.specs.declared.contexts.FieldsSoFar.{FieldsSoFar}
-use Rattle.page_scopes_layout.specs.declared.contexts.FieldsSoFar.TheVariants.{Begun}
+use Rattle.page_scopes_layout.specs.declared.contexts.SeriesSoFar.{SeriesSoFar}
+use Rattle.page_scopes_layout.specs.declared.contexts.SeriesSoFar.TheVariants.{Begun}
 use Rattle.page_scopes_leaves.specs.LineWords.{argument_word, line_word, own_word}
-use Rattle.page_scopes_leaves.specs.Outcomes.{Outcome, nothing}
+use Rattle.page_scopes_leaves.specs.Outcomes.{Outcome, followed_by, nothing}
+use Rattle.page_scopes_leaves.specs.Steps.{function_end}
 use Rattle.page_scopes_leaves.specs.Phrases.{phrase_context, phrase_items, phrase_running}
 use Rattle.page_scopes_leaves.specs.declared.phrases.Phrase.{Phrase}
 use Rattle.page_scopes_leaves.specs.declared.runnings.Running.{Running}
@@ -22,7 +24,7 @@ use Rattle.page_sets_lines.specs.declared.blocks.BlockOpener.{BlockOpener}
 use Rattle.page_sets_lines.specs.declared.blocks.BlockOpener.TheVariants as openers
 use Rattle.page_sets_lines.specs.declared.events.Join.TheVariants.{Apart, Glued}
 use Rattle.page_sets_lines.specs.declared.events.Word.{Word}
-use Rattle.page_sets_lines.specs.declared.leaves.Own.TheVariants.{FullStop}
+use Rattle.page_sets_lines.specs.declared.leaves.Own.TheVariants.{FullStop, OpenParenthesis}
 use Rattle.page_sets_lines.specs.declared.leaves.OwnWord.{OwnWord}
 use Rattle.page_sets_lines.specs.declared.marks.Marks.{Marks}
 use Rattle.page_sets_lines.specs.declared.openers.LineOpener.{LineOpener}
@@ -74,6 +76,14 @@ block_words place (openers.Quotation quotation) c r = own_word place (opening_wo
 block_words place (openers.Custom mark) c r = given_mark place.line mark c r
 block_words place _ c r = nothing c r
 
+-- a function (`Fo`) begins with its name in bold, and what opens its arguments
+abbrev pub arguments_mark : OwnWord
+arguments_mark = record { own = OpenParenthesis; font = None; before = Glued; after = Glued }
+
+abbrev pub function_name : Place → Argument (List ℕ) → Context → Running → Outcome
+function_name place name c r =
+    followed_by (line_word place.line (argument_word (Some B) Apart name) c r) (own_word place arguments_mark)
+
 -- ---- where it ends, by its closer, with its line, by force or with the page
 
 abbrev pub closing_word : Marks → OwnWord
@@ -83,13 +93,14 @@ closing_word marks = record { own = closing marks; font = None; before = Glued; 
 abbrev pub full_stop : OwnWord
 full_stop = record { own = FullStop; font = None; before = Glued; after = Apart }
 
-abbrev pub reference_end : FieldsSoFar → Place → Context → Running → Outcome
+abbrev pub reference_end : SeriesSoFar → Place → Context → Running → Outcome
 reference_end Begun place c r = own_word place full_stop c r
 reference_end _ place c r = nothing c r
 
 abbrev pub block_last_words : Place → Block → Context → Running → Outcome
 block_last_words place (blocks.Quotation quotation) c r = own_word place (closing_word (quotation_marks quotation)) c r
 block_last_words place blocks.Reference c r = reference_end c.fields place c r
+block_last_words place blocks.Function c r = function_end place c r
 block_last_words place _ c r = nothing c r
 
 abbrev pub explicit_last_words : Place → Explicit → Context → Running → Outcome

@@ -6,7 +6,7 @@ use Rattle.page_core_base.specs.declared.pieces.Piece.{Piece}
 use Rattle.page_core_base.specs.declared.pieces.Piece.TheVariants as pieces
 use Rattle.page_core_base.specs.declared.places.Place.{Place}
 use Rattle.page_roff_forms.specs.declared.quotes.Argument.{Argument}
-use Rattle.page_scopes_layout.specs.Begins.{display_begun, entered_context, font_if_given, reference_begun}
+use Rattle.page_scopes_layout.specs.Begins.{display_begun, entered_context, font_if_given, function_begun, reference_begun}
 use Rattle.page_scopes_layout.specs.Nodes.{margin_items}
 use Rattle.page_scopes_layout.specs.declared.contexts.Context.{Context}
 use Rattle.page_scopes_leaves.specs.Outcomes.{Outcome, after_notes}
@@ -15,7 +15,7 @@ use Rattle.page_scopes_leaves.specs.declared.runnings.Running.{Running}
 use Rattle.page_scopes_widths.specs.Widths.{width_columns, width_notes}
 use Rattle.page_sets_lines.specs.declared.blocks.BlockOpener.{BlockOpener}
 use Rattle.page_sets_lines.specs.declared.blocks.BlockOpener.TheVariants as openers
-use Rattle.page_scopes_blocks.specs.BlockWords.{block_words}
+use Rattle.page_scopes_blocks.specs.BlockWords.{block_words, function_name}
 
 -- ---- displays (`Bd`)
 
@@ -49,11 +49,12 @@ display output place is_literal is_compact offset c r =
 abbrev pub silent : Context → Running → Outcome
 silent c r = record { items = []; context = c; running = r }
 
--- `Bd`; `Bf`, whose words are in its font; `Rs`; the others print their marks
+-- `Bd`; `Bf`, whose words are in its font; `Rs`; `Fo`; the others print their marks
 abbrev pub block_front : Output → Place → BlockOpener (List ℕ) → Context → Running → Outcome
 block_front output place (openers.Display is_literal is_compact offset) c r = display output place is_literal is_compact offset c r
 block_front output place (openers.Fonts font) c r = silent (font_if_given font c) r
 block_front output place openers.Reference c r = silent (reference_begun c) r
+block_front output place (openers.Function name) c r = function_name place name (function_begun c) r
 block_front output place opener c r = block_words place opener c r
 
 -- nothing is set in it yet

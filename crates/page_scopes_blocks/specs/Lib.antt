@@ -1,2 +1,3 @@
 pub mod BlockWords
 pub mod Blocks
+pub mod NameHangs

@@ -3,17 +3,17 @@
 ghost use Rattle.std.specs.Prelude.{◌≡◌};
 ghost use Rattle.page_roff_forms.specs.Arguments.{argument_seen};
 ghost use Rattle.page_scopes_blocks.specs.BlockWords as words;
-ghost use Rattle.page_scopes_leaves.specs.Fits.{BlockOpenerFits, FitsAt, GivenFits};
+ghost use Rattle.page_scopes_leaves.specs.Fits.{ArgumentFits, BlockOpenerFits, FitsAt, GivenFits};
 ghost use Rattle.page_scopes_leaves.specs.Outcomes.{GivesOutcome};
 ghost use Rattle.page_scopes_leaves.specs.Phrases.{phrase_seen};
 ghost use Rattle.page_sets_lines.specs.Events.{block_opener_seen, given_seen, word_seen};
 
-use page_core_base::{PieceOut, Place};
+use page_core_base::{Font, PieceOut, Place};
 use page_core_limits::LINE;
 use page_roff_forms::Argument;
-use page_scopes_layout::{Context, FieldsSoFar};
+use page_scopes_layout::{Context, SeriesSoFar};
 use page_scopes_leaves::{
-    Phrase, Running, argument_word, give_line_word, give_own_word, give_phrase,
+    Phrase, Running, argument_word, give_function_end, give_line_word, give_own_word, give_phrase,
 };
 use page_scopes_tree::{Explicit, Label};
 use page_sets_lines::{Block, BlockOpener, Join, LineOpener, Marks, Own, OwnWord, Word};
@@ -140,6 +140,36 @@ pub(crate) fn give_block_words<O: PieceOut>(
     }
 }
 
+// What opens the arguments of a function.
+fn arguments_mark() -> OwnWord
+    ensures { result ≡ words.arguments_mark }
+{
+    OwnWord {
+        own: Own::OpenParenthesis,
+        font: None,
+        before: Join::Glued,
+        after: Join::Glued,
+    }
+}
+
+/// Gives the name of a function, and what opens its arguments.
+pub(crate) fn give_function_name<O: PieceOut>(
+    out: &mut O,
+    place: Place,
+    name: Argument<&[u8]>,
+    context: &mut Context,
+    running: &mut Running,
+)
+    requires { ArgumentFits (argument_seen name) }
+    ensures { GivesOutcome O.left out.old
+        (words.function_name place (argument_seen name.entry) context.old running.old)
+        out.new context.new running.new }
+{
+    let word = argument_word(Some(Font::B), Join::Apart, name);
+    give_line_word(out, place.line, &word, context, running);
+    give_own_word(out, place, arguments_mark(), context, running);
+}
+
 // The full stop after the fields of a reference.
 fn full_stop() -> OwnWord
     ensures { result ≡ words.full_stop }
@@ -163,7 +193,7 @@ fn give_reference_end<O: PieceOut>(
         (words.reference_end context.old.fields place context.old running.old)
         out.new context.new running.new }
 {
-    if let FieldsSoFar::Begun = context.fields {
+    if let SeriesSoFar::Begun = context.fields {
         give_own_word(out, place, full_stop(), context, running);
     }
 }
@@ -186,11 +216,13 @@ fn give_block_last_words<O: PieceOut>(
             give_own_word(out, place, word, context, running);
         }
         Block::Reference => give_reference_end(out, place, context, running),
+        Block::Function => give_function_end(out, place, context, running),
         _ => {}
     }
 }
 
-/// Gives the words that a scope ends with, in its own context: the mark after an enclosure's words, and the full stop of a reference (`Rs`), of whatever ends it.
+/// Gives the words that a scope ends with, in its own context: the mark after an enclosure's words, the full stop of a reference (`Rs`) and the end of a
+/// function (`Fo`), of whatever ends it.
 pub fn give_last_words<O: PieceOut>(
     out: &mut O,
     place: Place,

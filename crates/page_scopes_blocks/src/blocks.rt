@@ -2,12 +2,15 @@
 
 ghost use Rattle.std.specs.Prelude.{◌≡◌};
 ghost use Rattle.page_core_base.specs.Latches.{Came};
+ghost use Rattle.page_roff_forms.specs.Arguments.{argument_seen};
+ghost use Rattle.page_scopes_blocks.specs.BlockWords.{function_name};
 ghost use Rattle.page_scopes_blocks.specs.Blocks as blocks;
-ghost use Rattle.page_scopes_leaves.specs.Fits.{BlockOpenerFits, GivenFits};
+ghost use Rattle.page_scopes_layout.specs.Begins.{function_begun};
+ghost use Rattle.page_scopes_leaves.specs.Fits.{ArgumentFits, BlockOpenerFits, GivenFits};
 ghost use Rattle.page_scopes_leaves.specs.Outcomes.{GivesOutcome};
 ghost use Rattle.page_sets_lines.specs.Events.{block_opener_seen, given_seen};
 
-use crate::block_words::give_block_words;
+use crate::block_words::{give_block_words, give_function_name};
 use page_core_base::{Output, Piece, PieceOut, Place};
 use page_roff_forms::Argument;
 use page_scopes_layout::{Context, give_margins};
@@ -74,7 +77,25 @@ fn begin_display<O: PieceOut>(
     give_display_begin(out, is_compact, context, running);
 }
 
-/// Gives what a block of mdoc(7) begins with: a display (`Bd`), words in a font (`Bf`), a reference (`Rs`), and the marks of the others.
+// Begins a function, of which no argument has come.
+fn begin_function<O: PieceOut>(
+    out: &mut O,
+    place: Place,
+    name: Argument<&[u8]>,
+    context: &mut Context,
+    running: &mut Running,
+)
+    requires { ArgumentFits (argument_seen name) }
+    ensures { GivesOutcome O.left out.old
+        (function_name place (argument_seen name.entry) (function_begun context.old) running.old)
+        out.new context.new running.new }
+{
+    *context = context.function_begun();
+    give_function_name(out, place, name, context, running);
+}
+
+/// Gives what a block of mdoc(7) begins with: a display (`Bd`), words in a font (`Bf`), a reference (`Rs`), a function (`Fo`), and the marks of the
+/// others.
 #[tactic(auto, unfolding(crate::specs::Blocks::block_opened))]
 pub fn give_block<O: PieceOut>(
     out: &mut O,
@@ -100,6 +121,7 @@ pub fn give_block<O: PieceOut>(
         ),
         BlockOpener::Fonts(font) => *context = context.font_if_given(font),
         BlockOpener::Reference => *context = context.reference_begun(),
+        BlockOpener::Function(name) => begin_function(out, place, name, context, running),
         _ => give_block_words(out, place, opener, context, running),
     }
 }

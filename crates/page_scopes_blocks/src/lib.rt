@@ -6,6 +6,8 @@
 
 mod block_words;
 mod blocks;
+mod name_hangs;
 
 pub use block_words::{give_last_words, give_line_words};
 pub use blocks::give_block;
+pub use name_hangs::count_name;

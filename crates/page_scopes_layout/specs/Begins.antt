@@ -7,7 +7,8 @@ use Rattle.page_scopes_layout.specs.Margins.{hold, further_in}
 use Rattle.page_scopes_layout.specs.Settings.{entered, set_to}
 use Rattle.page_scopes_layout.specs.declared.TheConstants.{PREVAILING}
 use Rattle.page_scopes_layout.specs.declared.contexts.Context.{Context}
-use Rattle.page_scopes_layout.specs.declared.contexts.FieldsSoFar.TheVariants.{Empty}
+use Rattle.page_scopes_layout.specs.declared.contexts.SeriesSoFar.TheVariants.{Empty}
+use Rattle.page_scopes_layout.specs.declared.contexts.PageSection.TheVariants.{Other}
 use Rattle.page_scopes_layout.specs.declared.contexts.PagePart.TheVariants as parts
 
 -- at the front of a scope nothing is set in it yet
@@ -17,6 +18,7 @@ entered_context c = record c {
   is_literal = entered c.is_literal;
   shift = entered c.shift;
   distance = entered c.distance;
+  has_spacing = entered c.has_spacing;
 }
 
 -- paragraphs and headings begin in R, without a shift
@@ -28,13 +30,17 @@ abbrev pub flat : Context → Context
 flat c = record c { hang = pos 0; first = None }
 
 -- a section (`SH`, `SS`, `Sh`, `Ss`) stands at the page's indent, filled
-abbrev pub section_begun : ℕ → Context → Context
-section_begun page_indent c = record (flat (reset c)) {
+abbrev pub subsection_begun : ℕ → Context → Context
+subsection_begun page_indent c = record (flat (reset c)) {
   margin = page_indent;
   part = parts.Text;
   prevailing = PREVAILING;
   is_literal = set_to false;
 }
+
+-- which section begins is known once its heading ends; a subsection stays in its section
+abbrev pub section_begun : ℕ → Context → Context
+section_begun page_indent c = record (subsection_begun page_indent c) { section = Other }
 
 -- a heading (of `SH`, `SS`, `Sh`, `Ss`) stands at its column, bold
 abbrev pub heading_begun : ℕ → Context → Context
@@ -97,6 +103,18 @@ font_if_given (Some font) c = font_begun font c
 -- a reference (`Rs`) has no field yet
 abbrev pub reference_begun : Context → Context
 reference_begun c = record c { fields = Empty }
+
+-- a function (`Fo`) has no argument yet
+abbrev pub function_begun : Context → Context
+function_begun c = record c { arguments = Empty }
+
+-- the name of the manual (`Nm`) begins a row of the SYNOPSIS at the margin
+abbrev pub name_begun : Context → Context
+name_begun c = first_at_margin (flat c)
+
+-- its words have ended: later rows stand further in by their columns
+abbrev pub name_ended : ℕ → Context → Context
+name_ended columns c = record c { hang = pos columns }
 
 -- a row that stands alone (`D1`, `Dl`) stands 6 columns further in than the text
 abbrev pub one_line_begun : Context → Context

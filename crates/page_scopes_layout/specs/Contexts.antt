@@ -1,15 +1,16 @@
--- The context of a text, and what stays of it after a scope. Source: man(7), "MACRO OVERVIEW"; mdoc(7), `Rs`.
+-- The context of a text, and what stays of it after a scope. Source: man(7), "MACRO OVERVIEW"; mdoc(7), `Bl`, `Rs`, `Fo`, `Sm`.
 use Rattle.std.specs.Prelude.{ℕ, Option, Some, None, pos, Bool, true, false, ◌||◌, if◌then◌else◌}
 use Rattle.page_scopes_tree.specs.Labels.{label_row}
 use Rattle.page_scopes_tree.specs.declared.labels.Label.{Label}
 use Rattle.page_scopes_layout.specs.Settings.{after_scope, at_first}
 use Rattle.page_scopes_layout.specs.declared.TheConstants.{PREVAILING}
 use Rattle.page_scopes_layout.specs.declared.contexts.Context.{Context}
-use Rattle.page_scopes_layout.specs.declared.contexts.FieldsSoFar.TheVariants.{Outside}
 use Rattle.page_scopes_layout.specs.declared.lists.OpenList.{OpenList}
 use Rattle.page_sets_lines.specs.declared.lists.ListKind.{ListKind}
 use Rattle.page_sets_lines.specs.declared.lists.ListKind.TheVariants as kinds
 use Rattle.page_sets_lines.specs.declared.openers.LineOpener.TheVariants as lines
+use Rattle.page_scopes_layout.specs.declared.contexts.SeriesSoFar.TheVariants.{Outside}
+use Rattle.page_scopes_layout.specs.declared.contexts.PageSection.TheVariants.{Other}
 use Rattle.page_scopes_tree.specs.declared.labels.Explicit.TheVariants.{Block}
 use Rattle.page_scopes_tree.specs.declared.labels.Label.TheVariants as labels
 use Rattle.page_sets_lines.specs.declared.blocks.Block.TheVariants as blocks
@@ -31,6 +32,9 @@ start page_indent = record {
   shift = at_first (pos 0);
   distance = at_first 1;
   fields = Outside;
+  arguments = Outside;
+  has_spacing = at_first true;
+  section = Other;
 }
 
 abbrev pub is_list : Label → Bool
@@ -51,7 +55,12 @@ abbrev pub owns_fields : Label → Bool
 owns_fields (labels.Explicit (Block blocks.Reference)) = true
 owns_fields _ = false
 
--- margins, hang and part are those before the scope, and so are the prevailing indent and the fonts where the label's row says it; a row that has begun has begun; what a request or an escape set stays
+-- a function (`Fo`) has arguments of its own
+abbrev pub owns_arguments : Label → Bool
+owns_arguments (labels.Explicit (Block blocks.Function)) = true
+owns_arguments _ = false
+
+-- margins, hang, part and section are those before the scope, and so are the prevailing indent and the fonts where the label's row says it; a row that has begun has begun; what a request or an escape set stays
 abbrev pub restored : Label → Context → Context → Context
 restored label before now = record {
   list = if is_list label then before.list else now.list;
@@ -66,4 +75,7 @@ restored label before now = record {
   shift = after_scope before.shift now.shift;
   distance = after_scope before.distance now.distance;
   fields = if owns_fields label then before.fields else now.fields;
+  arguments = if owns_arguments label then before.arguments else now.arguments;
+  has_spacing = after_scope before.has_spacing now.has_spacing;
+  section = before.section;
 }

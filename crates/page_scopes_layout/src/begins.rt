@@ -4,7 +4,7 @@ ghost use Rattle.std.specs.Prelude.{◌≡◌};
 ghost use Rattle.page_scopes_layout.specs.Begins as begins;
 
 use crate::margins::further_in;
-use crate::{Context, FieldsSoFar, PREVAILING, PagePart, Setting, hold};
+use crate::{Context, PREVAILING, PagePart, PageSection, SeriesSoFar, Setting, hold};
 use page_core_base::Font;
 use page_scopes_words::{Fonts, ROMAN};
 
@@ -22,6 +22,7 @@ impl Context {
             is_literal: self.is_literal.entered(),
             shift: self.shift.entered(),
             distance: self.distance.entered(),
+            has_spacing: self.has_spacing.entered(),
             ..self
         }
     }
@@ -50,10 +51,21 @@ impl Context {
         }
     }
 
-    /// A section (`SH`, `Sh`) or subsection (`SS`, `Ss`) begins, at the page's indent in columns.
+    /// A section (`SH`, `Sh`) begins, at the page's indent in columns.
     #[inline(always)]
     pub fn section_begun(self, page_indent: u32) -> Context
         ensures { result ≡ begins.section_begun page_indent self }
+    {
+        Context {
+            section: PageSection::Other,
+            ..self.subsection_begun(page_indent)
+        }
+    }
+
+    /// A subsection (`SS`, `Ss`) begins, at the page's indent in columns.
+    #[inline(always)]
+    pub fn subsection_begun(self, page_indent: u32) -> Context
+        ensures { result ≡ begins.subsection_begun page_indent self }
     {
         Context {
             margin: page_indent,
@@ -214,7 +226,34 @@ impl Context {
         ensures { result ≡ begins.reference_begun self }
     {
         Context {
-            fields: FieldsSoFar::Empty,
+            fields: SeriesSoFar::Empty,
+            ..self
+        }
+    }
+
+    /// A function (`Fo`) begins.
+    pub fn function_begun(self) -> Context
+        ensures { result ≡ begins.function_begun self }
+    {
+        Context {
+            arguments: SeriesSoFar::Empty,
+            ..self
+        }
+    }
+
+    /// The name of the manual (`Nm`) begins a row of the SYNOPSIS, at the margin.
+    pub fn name_begun(self) -> Context
+        ensures { result ≡ begins.name_begun self }
+    {
+        self.flat().first_at_margin()
+    }
+
+    /// Its words have ended, and later rows stand this many columns further in.
+    pub fn name_ended(self, columns: u16) -> Context
+        ensures { result ≡ begins.name_ended columns self }
+    {
+        Context {
+            hang: i32::from(columns),
             ..self
         }
     }

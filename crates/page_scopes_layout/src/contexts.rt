@@ -21,15 +21,25 @@ pub enum PagePart {
     Heading(u32),
 }
 
-/// How far the fields of a reference to a work (`Rs`) have come.
+/// How far a series has come: the fields of a reference to a work (`Rs`), or the arguments of a function (`Fo`).
 #[derive(Clone, Copy, PartialEq, Eq)]
-pub enum FieldsSoFar {
-    /// No reference is open.
+pub enum SeriesSoFar {
+    /// Neither is open.
     Outside,
     /// None has come.
     Empty,
     /// One has come, or more.
     Begun,
+}
+
+/// The section that a text stands in, by its heading.
+#[derive(Clone, Copy, PartialEq, Eq)]
+pub enum PageSection {
+    Other,
+    /// `NAME`.
+    Name,
+    /// `SYNOPSIS`.
+    Synopsis,
 }
 
 /// What a text is laid out by. Columns are counted from the left edge of the page.
@@ -55,7 +65,12 @@ pub struct Context {
     /// The blank rows before a paragraph.
     pub distance: Setting<u32>,
     /// The fields of the innermost reference.
-    pub fields: FieldsSoFar,
+    pub fields: SeriesSoFar,
+    /// The arguments of the innermost function.
+    pub arguments: SeriesSoFar,
+    /// Blanks stand between words: `Sm`.
+    pub has_spacing: Setting<bool>,
+    pub section: PageSection,
 }
 
 impl Context {
@@ -75,7 +90,10 @@ impl Context {
             is_literal: Setting::at_first(false),
             shift: Setting::at_first(0),
             distance: Setting::at_first(1),
-            fields: FieldsSoFar::Outside,
+            fields: SeriesSoFar::Outside,
+            arguments: SeriesSoFar::Outside,
+            has_spacing: Setting::at_first(true),
+            section: PageSection::Other,
         }
     }
 }
@@ -102,6 +120,13 @@ fn owns_fields(label: Label) -> bool
     ensures { result ≡ contexts.owns_fields label }
 {
     matches!(label, Label::Explicit(Explicit::Block(Block::Reference)))
+}
+
+// Whether a scope has arguments of its own, as a function does.
+fn owns_arguments(label: Label) -> bool
+    ensures { result ≡ contexts.owns_arguments label }
+{
+    matches!(label, Label::Explicit(Explicit::Block(Block::Function)))
 }
 
 impl Context {
@@ -133,5 +158,10 @@ impl Context {
         if owns_fields(label) {
             self.fields = before.fields;
         }
+        if owns_arguments(label) {
+            self.arguments = before.arguments;
+        }
+        self.has_spacing.restore(&before.has_spacing);
+        self.section = before.section;
     }
 }

@@ -11,7 +11,7 @@ mod margins;
 mod nodes;
 mod settings;
 
-pub use contexts::{Context, FieldsSoFar, PagePart};
+pub use contexts::{Context, PagePart, PageSection, SeriesSoFar};
 pub use lists::{ColumnWidths, OpenList};
 pub use margins::{Margins, hold, margins_of};
 pub use nodes::{give_begin, give_end, give_margins};

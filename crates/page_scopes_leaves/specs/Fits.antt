@@ -33,6 +33,7 @@ abbrev pub BlockOpenerFits : BlockOpener (List ℕ) → Type 0
 BlockOpenerFits (block_openers.List kind is_compact options) = length options ≤ LINE
 BlockOpenerFits (block_openers.Custom mark) = GivenFits mark
 BlockOpenerFits (block_openers.Display is_literal is_compact offset) = GivenFits offset
+BlockOpenerFits (block_openers.Function name) = ArgumentFits name
 BlockOpenerFits _ = Unit {0}
 
 abbrev pub BlockCloserFits : BlockCloser (List ℕ) → Type 0

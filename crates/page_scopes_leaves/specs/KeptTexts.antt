@@ -59,10 +59,10 @@ fonts_through fonts [] = fonts
 fonts_through fonts (token ∷ tokens) = fonts_through (fonts_after token fonts) tokens
 
 -- it is a word
-abbrev pub after_kept : Bool → Running → Running
-after_kept in_text r = record r {
+abbrev pub after_kept : (in_text spacing : Bool) → Running → Running
+after_kept in_text spacing r = record r {
   has_content = true;
-  gap = 1;
+  gap = if spacing then 1 else 0;
   line = record r.line {
     has_words = true;
     has_row_words = r.line.has_row_words || in_text;

@@ -1,3 +1,4 @@
+pub mod Headings
 pub mod Runnings
 pub mod Fits
 pub mod Outcomes

@@ -15,5 +15,5 @@ abbrev pub line_end : Context → Running → Outcome
 line_end c r = record {
   items = if ends_row c r then shown pieces.RowEnd ∷ [] else [];
   context = c;
-  running = line_ended r;
+  running = line_ended c.has_spacing.value r;
 }

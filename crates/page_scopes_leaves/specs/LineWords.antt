@@ -1,5 +1,5 @@
 -- Words of a line, and words that a macro prints itself. Source: man(7), mdoc(7); roff(7), "Macro syntax".
-use Rattle.std.specs.Prelude.{ℕ, ◌-◌, min, Bool, true, false, not, ◌&&◌, List, [], ◌∷◌, ◌++◌, Option}
+use Rattle.std.specs.Prelude.{ℕ, ◌-◌, min, Bool, true, false, not, ◌&&◌, ◌||◌, List, [], ◌∷◌, ◌++◌, Option}
 use Rattle.page_core_base.specs.Pieces.{Item}
 use Rattle.page_core_base.specs.declared.cells.Font.{Font}
 use Rattle.page_core_base.specs.declared.note_kinds.NoteKind.TheVariants.{Unterminated}
@@ -17,7 +17,7 @@ use Rattle.page_scopes_leaves.specs.declared.phrases.Phrase.{Phrase}
 use Rattle.page_scopes_leaves.specs.declared.runnings.Running.{Running}
 use Rattle.page_scopes_words.specs.Sentences.{ends_sentence}
 use Rattle.page_scopes_words.specs.Words.{at, says}
-use Rattle.page_sets_lines.specs.MacroNames.{own_is_word, own_text}
+use Rattle.page_sets_lines.specs.MacroNames.{own_ends_sentence, own_is_word, own_text}
 use Rattle.page_sets_lines.specs.declared.events.Join.{Join}
 use Rattle.page_sets_lines.specs.declared.events.Join.TheVariants.{Apart}
 use Rattle.page_sets_lines.specs.declared.events.Role.{Role}
@@ -80,9 +80,11 @@ own_phrase place word = record {
   after = word.after;
 }
 
--- a mark of a macro ends no sentence, and leaves one that has ended; after a word none has ended
+-- a mark of a macro ends no sentence, and leaves one that has ended; after a word none has ended, but after those of `Ex` and `Rv` one has
 abbrev pub own_sentence : Own → Running → Running
-own_sentence own r = record r { line = record r.line { is_sentence = r.line.is_sentence && not (own_is_word own) } }
+own_sentence own r = record r {
+  line = record r.line { is_sentence = own_ends_sentence own || (r.line.is_sentence && not (own_is_word own)) };
+}
 
 unfoldable pub own_word : Place → OwnWord → Context → Running → Outcome
 own_word place word c r = record {

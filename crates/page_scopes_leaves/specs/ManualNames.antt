@@ -8,6 +8,7 @@ use Rattle.page_core_base.specs.declared.places.Place.{Place}
 use Rattle.page_core_limits.specs.declared.TheConstants.{LINE}
 use Rattle.page_roff_forms.specs.declared.quotes.Argument.{Argument}
 use Rattle.page_scopes_layout.specs.declared.contexts.Context.{Context}
+use Rattle.page_scopes_leaves.specs.Headings.{heading_further}
 use Rattle.page_scopes_leaves.specs.KeptTexts.{after_kept, cut_notes, gap_items, kept_of, kept_tokens, parts_items}
 use Rattle.page_scopes_leaves.specs.LineWords.{with_sentence}
 use Rattle.page_scopes_leaves.specs.Outcomes.{Outcome}
@@ -65,13 +66,17 @@ missing_name place c r = record {
 abbrev pub empty_items : Place → KeptText → List Item
 empty_items place name = if length name.text == 0 then shown (Text [] B place) ∷ [] else []
 
+-- it may be of a heading
+abbrev pub name_in_heading : KeptText → Context → Running → Running
+name_in_heading name c r = record r { heading = heading_further c.part name.is_quoted r.gap name.text r.heading }
+
 -- in bold, without the messages of its escapes; a sentence ends as it is written
 unfoldable pub name_word : Place → KeptText → Context → Running → Outcome
 name_word place name c r = record {
   items = gap_items c.is_literal.value r place
       ++ (empty_items place name ++ parts_items c.is_literal.value place (own_fonts (Some B) c.fonts) (kept_tokens name));
   context = record c { has_row = c.has_row || nat_lt 0 (length name.text) };
-  running = with_sentence name.text (after_kept (is_text c.part) r);
+  running = with_sentence name.text (after_kept (is_text c.part) c.has_spacing.value (name_in_heading name c r));
 }
 
 abbrev pub manual_name : Place → Option KeptText → Context → Running → Outcome

@@ -7,6 +7,7 @@ use Rattle.page_scopes_layout.specs.declared.contexts.Context.{Context}
 use Rattle.page_scopes_layout.specs.declared.contexts.PagePart.{PagePart}
 use Rattle.page_scopes_layout.specs.declared.contexts.PagePart.TheVariants as parts
 use Rattle.page_scopes_layout.specs.declared.settings.Setting.{Setting}
+use Rattle.page_scopes_leaves.specs.Headings.{heading_further}
 use Rattle.page_scopes_leaves.specs.Outcomes.{Outcome}
 use Rattle.page_scopes_leaves.specs.declared.phrases.Phrase.{Phrase}
 use Rattle.page_scopes_leaves.specs.declared.runnings.Running.{Running}
@@ -86,9 +87,9 @@ kept_fonts None is_guarded before now = record { value = now.value; is_set = if 
 abbrev pub context_after : Phrase (List ℕ) → Bool → Pen → Context → Context
 context_after p is_guarded pen c = record c { fonts = kept_fonts p.font is_guarded c.fonts pen.fonts; has_row = c.has_row || pen.has_cell }
 
--- blanks at its end are at least one
-abbrev pub end_gap : Pen → ℕ
-end_gap pen = if pen.ends_blank then max pen.gap 1 else pen.gap
+-- blanks at its end are at least one; after its last word none stands where none are to stand between words (`Sm off`)
+abbrev pub end_gap : (spacing : Bool) → Pen → ℕ
+end_gap spacing pen = if pen.ends_blank then max pen.gap 1 else if spacing then pen.gap else 0
 
 abbrev pub is_text : PagePart → Bool
 is_text parts.Text = true
@@ -97,7 +98,7 @@ is_text _ = false
 abbrev pub running_after : Phrase (List ℕ) → Pen → Context → Running → Running
 running_after p pen c r = record r {
   has_content = true;
-  gap = joined_gap p.after (blanks_part pen.ends_blank c) (end_gap pen);
+  gap = joined_gap p.after (blanks_part pen.ends_blank c) (end_gap c.has_spacing.value pen);
   line = record r.line {
     has_words = true;
     has_row_words = r.line.has_row_words || is_text c.part;
@@ -107,11 +108,15 @@ running_after p pen c r = record r {
   };
 }
 
+-- it may be of a heading
+abbrev pub in_heading : Phrase (List ℕ) → Context → Running → Running
+in_heading p c r = record r { heading = heading_further c.part p.is_quoted (phrase_pen p c r).gap p.text r.heading }
+
 abbrev pub phrase_context : Phrase (List ℕ) → Context → Running → Context
 phrase_context p c r = context_after p (is_some r.line.fonts_before) (phrase_end p c r) c
 
 abbrev pub phrase_running : Phrase (List ℕ) → Context → Running → Running
-phrase_running p c r = running_after p (phrase_end p c r) c r
+phrase_running p c r = running_after p (phrase_end p c r) c (in_heading p c r)
 
 -- all three
 abbrev pub phrase_outcome : ℕ → Phrase (List ℕ) → Context → Running → Outcome

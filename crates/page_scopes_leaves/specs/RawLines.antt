@@ -5,6 +5,7 @@ use Rattle.page_core_base.specs.declared.cells.Font.{Font}
 use Rattle.page_core_base.specs.declared.pieces.Piece.TheVariants as pieces
 use Rattle.page_core_base.specs.declared.places.Place.{Place}
 use Rattle.page_scopes_layout.specs.declared.contexts.Context.{Context}
+use Rattle.page_scopes_leaves.specs.Headings.{heading_broken}
 use Rattle.page_scopes_leaves.specs.Outcomes.{Outcome}
 use Rattle.page_scopes_leaves.specs.Runnings.{row_ended, with_content}
 use Rattle.page_scopes_leaves.specs.declared.runnings.Running.{Running}
@@ -31,5 +32,5 @@ raw_line place text c r = record {
   items = shown pieces.Break ∷ shown (pieces.Literal true)
       ∷ (cells place c.fonts.value.font text ++ shown pieces.RowEnd ∷ shown (pieces.Literal c.is_literal.value) ∷ []);
   context = record c { has_row = c.has_row || nat_lt 0 (length text) };
-  running = row_ended (with_content r);
+  running = row_ended (with_content (record r { heading = heading_broken c.part r.heading }));
 }

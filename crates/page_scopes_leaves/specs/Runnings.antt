@@ -1,5 +1,6 @@
 -- What no scope restores: what is known along a page, and of its line so far. Source: man(7); roff(7), "Sentences", `\c`.
-use Rattle.std.specs.Prelude.{ℕ, true, false, ◌==◌, ◌||◌, None, if◌then◌else◌}
+use Rattle.std.specs.Prelude.{ℕ, Bool, true, false, not, ◌==◌, ◌||◌, None, if◌then◌else◌}
+use Rattle.page_scopes_leaves.specs.Headings.{no_heading}
 use Rattle.page_scopes_leaves.specs.declared.runnings.LineSoFar.{LineSoFar}
 use Rattle.page_scopes_leaves.specs.declared.runnings.Running.{Running}
 
@@ -13,21 +14,22 @@ no_line = record {
   ends_blank = false;
   is_sentence = false;
   fonts_before = None;
+  name_columns = None;
 }
 
 -- before a page's first line
 abbrev pub start : Running
-start = record { has_begun = false; has_content = false; gap = 1; line = no_line }
+start = record { has_begun = false; has_content = false; gap = 1; line = no_line; heading = no_heading }
 
--- after a line with words one blank stands, two after a sentence, none where it ends in `\c`; what is glued stays glued
-abbrev pub words_gap : LineSoFar → ℕ → ℕ
-words_gap line gap = if line.is_cut || gap == 0 then 0 else if line.is_sentence then 2 else 1
+-- after a line with words one blank stands, two after a sentence, none where it ends in `\c` or where no blanks stand between words; what is glued stays glued
+abbrev pub words_gap : (spacing : Bool) → LineSoFar → ℕ → ℕ
+words_gap spacing line gap = if line.is_cut || (gap == 0 || not spacing) then 0 else if line.is_sentence then 2 else 1
 
-abbrev pub line_gap : LineSoFar → ℕ → ℕ
-line_gap line gap = if line.has_words then words_gap line gap else gap
+abbrev pub line_gap : (spacing : Bool) → LineSoFar → ℕ → ℕ
+line_gap spacing line gap = if line.has_words then words_gap spacing line gap else gap
 
-abbrev pub line_ended : Running → Running
-line_ended r = record r { gap = line_gap r.line r.gap; line = no_line }
+abbrev pub line_ended : (spacing : Bool) → Running → Running
+line_ended spacing r = record r { gap = line_gap spacing r.line r.gap; line = no_line }
 
 -- the row ends: no word stands in it yet
 abbrev pub row_ended : Running → Running

@@ -1,18 +1,22 @@
 -- What macros of mdoc(7) change in their line, or print there. Source: mdoc(7), "MACRO REFERENCE".
-use Rattle.std.specs.Prelude.{ℕ, List, [], ◌∷◌, Option, None, if◌then◌else◌}
+use Rattle.std.specs.Prelude.{ℕ, max, Bool, true, false, not, ◌&&◌, List, [], ◌∷◌, ◌++◌, Option, None, Some, if◌then◌else◌}
 use Rattle.page_core_base.specs.Pieces.{shown}
 use Rattle.page_core_base.specs.declared.note_kinds.NoteKind.TheVariants.{SkipPara}
 use Rattle.page_core_base.specs.declared.pieces.Piece.TheVariants as pieces
 use Rattle.page_core_base.specs.declared.places.Place.{Place}
-use Rattle.page_scopes_layout.specs.Begins.{flat}
+use Rattle.page_scopes_layout.specs.Begins.{flat, name_begun, name_ended}
+use Rattle.page_scopes_layout.specs.Settings.{set_to}
 use Rattle.page_scopes_layout.specs.Nodes.{margin_items}
 use Rattle.page_scopes_layout.specs.declared.contexts.Context.{Context}
-use Rattle.page_scopes_layout.specs.declared.contexts.FieldsSoFar.{FieldsSoFar}
-use Rattle.page_scopes_layout.specs.declared.contexts.FieldsSoFar.TheVariants as fields
 use Rattle.page_scopes_leaves.specs.Cells.{column_step}
+use Rattle.page_scopes_layout.specs.declared.contexts.SeriesSoFar.{SeriesSoFar}
+use Rattle.page_scopes_layout.specs.declared.contexts.SeriesSoFar.TheVariants as series
+use Rattle.page_scopes_layout.specs.declared.contexts.PageSection.{PageSection}
+use Rattle.page_scopes_layout.specs.declared.contexts.PageSection.TheVariants.{Synopsis}
 use Rattle.page_scopes_leaves.specs.LineWords.{argument_word, line_word, own_word}
 use Rattle.page_scopes_leaves.specs.ManualNames.{manual_name}
-use Rattle.page_scopes_leaves.specs.Outcomes.{Outcome, nothing}
+use Rattle.page_scopes_leaves.specs.Headings.{is_heading}
+use Rattle.page_scopes_leaves.specs.Outcomes.{Outcome, followed_by, nothing, row_margin_items}
 use Rattle.page_scopes_leaves.specs.Phrases.{blanks_part, joined_gap}
 use Rattle.page_scopes_leaves.specs.Runnings.{row_ended}
 use Rattle.page_scopes_leaves.specs.declared.kept_texts.KeptText.{KeptText}
@@ -20,10 +24,13 @@ use Rattle.page_scopes_leaves.specs.declared.runnings.Running.{Running}
 use Rattle.page_scopes_words.specs.Words.{says}
 use Rattle.page_sets_lines.specs.MacroNames.{body_paragraph_name}
 use Rattle.page_sets_lines.specs.declared.events.Join.TheVariants.{Apart, Glued}
-use Rattle.page_sets_lines.specs.declared.leaves.Own.TheVariants.{Comma}
+use Rattle.page_sets_lines.specs.declared.leaves.Own.TheVariants.{CloseParenthesis, Comma, Semicolon}
+use Rattle.page_sets_lines.specs.declared.leaves.Own.TheVariants as owns
 use Rattle.page_sets_lines.specs.declared.leaves.OwnWord.{OwnWord}
 use Rattle.page_sets_lines.specs.declared.line_steps.LineStep.{LineStep}
 use Rattle.page_sets_lines.specs.declared.line_steps.LineStep.TheVariants as steps
+use Rattle.page_sets_lines.specs.declared.line_steps.SynopsisStep.{SynopsisStep}
+use Rattle.page_sets_lines.specs.declared.line_steps.SynopsisStep.TheVariants.{Break, Include, NameBegins, NameEnds}
 use Rattle.page_sets_lines.specs.declared.macro_names.BodyParagraphName.{BodyParagraphName}
 
 -- `Ns`: the next word is glued to the one before, unless blanks part them
@@ -44,10 +51,87 @@ body_paragraph place name c r =
 abbrev pub comma : OwnWord
 comma = record { own = Comma; font = None; before = Glued; after = Apart }
 
-abbrev pub next_field : FieldsSoFar → Place → Context → Running → Outcome
-next_field fields.Outside place c r = nothing c r
-next_field fields.Empty place c r = record { items = []; context = record c { fields = fields.Begun }; running = r }
-next_field fields.Begun place c r = own_word place comma c r
+abbrev pub next_field : SeriesSoFar → Place → Context → Running → Outcome
+next_field series.Outside place c r = nothing c r
+next_field series.Empty place c r = record { items = []; context = record c { fields = series.Begun }; running = r }
+next_field series.Begun place c r = own_word place comma c r
+
+-- so are the arguments of a function parted (`Fo`, `Fa`)
+abbrev pub next_argument : SeriesSoFar → Place → Context → Running → Outcome
+next_argument series.Outside place c r = nothing c r
+next_argument series.Empty place c r = record { items = []; context = record c { arguments = series.Begun }; running = r }
+next_argument series.Begun place c r = own_word place comma c r
+
+-- ---- the section SYNOPSIS
+
+abbrev pub is_synopsis : PageSection → Bool
+is_synopsis Synopsis = true
+is_synopsis _ = false
+
+-- in its text
+abbrev pub in_synopsis : Context → Bool
+in_synopsis c = is_synopsis c.section && not (is_heading c.part)
+
+-- `In`: this stands before its file
+abbrev pub include_word : OwnWord
+include_word = record { own = owns.Include; font = None; before = Apart; after = Apart }
+
+-- `Nm`: the columns of its words are counted from here on, and later rows stand as many further in
+abbrev pub counting : Option ℕ → Running → Running
+counting columns r = record r { line = record r.line { name_columns = columns } }
+
+abbrev pub name_hung : Option ℕ → Context → Running → Outcome
+name_hung None c r = nothing c r
+name_hung (Some columns) c r = record {
+  items = margin_items (name_ended columns c);
+  context = name_ended columns c;
+  running = counting None r;
+}
+
+abbrev pub synopsis_step : Place → SynopsisStep → Context → Running → Outcome
+synopsis_step place Break c r = record { items = shown pieces.Break ∷ []; context = c; running = row_ended r }
+synopsis_step place Include c r = own_word place include_word c r
+synopsis_step place NameBegins c r = record {
+  items = row_margin_items (name_begun c);
+  context = name_begun c;
+  running = counting (Some 0) (row_ended r);
+}
+synopsis_step place NameEnds c r = name_hung r.line.name_columns c r
+
+abbrev pub if_synopsis : Place → SynopsisStep → Context → Running → Outcome
+if_synopsis place step c r = if in_synopsis c then synopsis_step place step c r else nothing c r
+
+-- the end of a function (`Fn`, `Fo`): in the SYNOPSIS a semicolon follows, and the row ends
+abbrev pub closing_mark : OwnWord
+closing_mark = record { own = CloseParenthesis; font = None; before = Glued; after = Apart }
+
+abbrev pub semicolon : OwnWord
+semicolon = record { own = Semicolon; font = None; before = Glued; after = Apart }
+
+abbrev pub row_break : Context → Running → Outcome
+row_break c r = record { items = shown pieces.Break ∷ []; context = c; running = row_ended r }
+
+abbrev pub declaration_end : Place → Context → Running → Outcome
+declaration_end place c r = if in_synopsis c then followed_by (own_word place semicolon c r) row_break else nothing c r
+
+unfoldable pub function_end : Place → Context → Running → Outcome
+function_end place c r = followed_by (own_word place closing_mark c r) (declaration_end place)
+
+-- ---- `Sm`
+
+abbrev pub spacing_after : Option Bool → Bool → Bool
+spacing_after None before = not before
+spacing_after (Some on) before = on
+
+-- where blanks stand between words again, one stands here
+abbrev pub spaced : Bool → Context → Running → Outcome
+spaced on c r = record {
+  items = [];
+  context = record c { has_spacing = set_to on };
+  running = record r { gap = if on then max r.gap 1 else r.gap };
+}
+
+-- ---- all of them
 
 -- the address of `Lk` is a word
 abbrev pub step_outcome : Place → LineStep (List ℕ) → Option KeptText → Context → Running → Outcome
@@ -57,3 +141,7 @@ step_outcome place (steps.BodyParagraph paragraph) name c r = body_paragraph pla
 step_outcome place (steps.Uri uri) name c r = line_word place.line (argument_word None Apart uri) c r
 step_outcome place steps.ManualName name c r = manual_name place name c r
 step_outcome place steps.NextField name c r = next_field c.fields place c r
+step_outcome place steps.NextArgument name c r = next_argument c.arguments place c r
+step_outcome place steps.FunctionEnd name c r = function_end place c r
+step_outcome place (steps.Spacing on) name c r = spaced (spacing_after on c.has_spacing.value) c r
+step_outcome place (steps.Synopsis step) name c r = if_synopsis place step c r

@@ -1,13 +1,13 @@
 -- Tags: words in front of a text that hangs. Source: man(7), `IP`, `SY`.
 use Rattle.std.specs.Prelude.{ℕ, false, List, [], ◌∷◌, ◌++◌, None, Some}
-use Rattle.page_core_base.specs.Pieces.{Item, shown}
+use Rattle.page_core_base.specs.Pieces.{shown}
 use Rattle.page_core_base.specs.declared.pieces.Piece.TheVariants as pieces
 use Rattle.page_core_base.specs.declared.pieces.TagForm.TheVariants.{Row}
 use Rattle.page_scopes_layout.specs.Nodes.{margin_items}
 use Rattle.page_scopes_layout.specs.declared.contexts.Context.{Context}
 use Rattle.page_scopes_layout.specs.declared.contexts.PagePart.TheVariants as parts
 use Rattle.page_scopes_leaves.specs.LineWords.{line_word}
-use Rattle.page_scopes_leaves.specs.Outcomes.{Outcome, after_notes, followed_by}
+use Rattle.page_scopes_leaves.specs.Outcomes.{Outcome, followed_by}
 use Rattle.page_scopes_leaves.specs.Phrases.{phrase_outcome}
 use Rattle.page_scopes_leaves.specs.declared.phrases.Phrase.{Phrase}
 use Rattle.page_scopes_leaves.specs.declared.runnings.Running.{Running}
@@ -26,24 +26,31 @@ after_tag before c = record c { first = None; part = before.part }
 abbrev pub padded : Running → Running
 padded r = record r { gap = 0 }
 
-abbrev pub tag_items : TagPlace → Context → List Item
-tag_items tag before = margin_items (tag_context tag before) ++ shown (pieces.Tag tag.hang Row) ∷ []
+-- it stands in front of its text, which hangs
+abbrev pub tag_begun : TagPlace → Context → Running → Outcome
+tag_begun tag c r = record {
+  items = margin_items (tag_context tag c) ++ shown (pieces.Tag tag.hang Row) ∷ [];
+  context = tag_context tag c;
+  running = r;
+}
 
-abbrev pub tag_end : Context → Context → Running → Outcome
-tag_end before c r = record {
+abbrev pub tag_ended : Context → Context → Running → Outcome
+tag_ended before c r = record {
   items = shown pieces.TagEnd ∷ margin_items (after_tag before c);
   context = after_tag before c;
   running = padded r;
 }
 
--- a tag of some words, which begins in a context
-abbrev pub tag_of : TagPlace → Context → Outcome → Outcome
-tag_of tag before words = after_notes (tag_items tag before) (followed_by words (tag_end before))
+abbrev pub tag_words : ℕ → Word (List ℕ) → Context → Context → Running → Outcome
+tag_words line word before c r = followed_by (line_word line word c r) (tag_ended before)
 
 -- a tag of the words of an argument
 unfoldable pub tag : TagPlace → ℕ → Word (List ℕ) → Context → Running → Outcome
-tag place line word c r = tag_of place c (line_word line word (tag_context place c) r)
+tag place line word c r = followed_by (tag_begun place c r) (tag_words line word c)
 
--- a tag of the words of a phrase
+-- the same of the words of a phrase
+abbrev pub tag_phrase : ℕ → Phrase (List ℕ) → Context → Context → Running → Outcome
+tag_phrase line phrase before c r = followed_by (phrase_outcome line phrase c r) (tag_ended before)
+
 unfoldable pub phrase_tag : TagPlace → ℕ → Phrase (List ℕ) → Context → Running → Outcome
-phrase_tag place line phrase c r = tag_of place c (phrase_outcome line phrase (tag_context place c) r)
+phrase_tag place line phrase c r = followed_by (tag_begun place c r) (tag_phrase line phrase c)

@@ -179,11 +179,11 @@ pub fn give_kept<O: PieceOut>(
 
 impl Running {
     /// What is known along the page goes on after a kept text, which is a word.
-    pub fn pass_kept(&mut self, in_text: bool)
-        ensures { self.new ≡ kept.after_kept in_text self.old }
+    pub fn pass_kept(&mut self, in_text: bool, has_spacing: bool)
+        ensures { self.new ≡ kept.after_kept in_text has_spacing self.old }
     {
         self.has_content = true;
-        self.gap = 1;
+        self.gap = if has_spacing { 1 } else { 0 };
         self.line.has_words = true;
         self.line.has_row_words = self.line.has_row_words || in_text;
         self.line.is_after_word = true;

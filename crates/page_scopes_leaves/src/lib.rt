@@ -6,6 +6,7 @@
 
 mod cells;
 mod deeds;
+mod headings;
 mod kept_texts;
 mod leaves;
 mod line_ends;
@@ -20,6 +21,7 @@ mod steps;
 mod tags;
 
 pub use deeds::give_deed;
+pub use headings::HeadingSoFar;
 pub use kept_texts::{FieldText, KeptText, give_kept, give_kept_gap, report_cut};
 pub use leaves::give_leaf;
 pub use line_ends::end_line;
@@ -27,4 +29,5 @@ pub use line_words::{argument_word, give_line_word, give_own_word};
 pub use phrases::{Phrase, give_phrase};
 pub use raw_lines::give_raw_line;
 pub use runnings::{LineSoFar, Running};
+pub use steps::give_function_end;
 pub use tags::{TagPlace, give_phrase_tag, give_tag};

@@ -24,5 +24,5 @@ pub fn end_line<O: PieceOut>(out: &mut O, context: &Context, running: &mut Runni
     if ends_row(context, running) {
         out.give(Piece::RowEnd);
     }
-    running.end_line();
+    running.end_line(context.has_spacing.value);
 }

@@ -146,5 +146,6 @@ pub fn give_own_word<O: PieceOut>(
         out.new context.new running.new }
 {
     give_phrase(out, place.line, &own_phrase(place, word), context, running);
-    running.line.is_sentence = running.line.is_sentence && !word.own.is_word();
+    running.line.is_sentence = word.own.ends_sentence()
+        || (running.line.is_sentence && !word.own.is_word());
 }

@@ -118,7 +118,8 @@ fn give_name_word<O: PieceOut>(
     let fonts = own_fonts(Some(Font::B), context.fonts);
     let _ = give_kept(out, is_literal, place, fonts, name);
     context.has_row = context.has_row || !name.text.text().is_empty();
-    running.pass_kept(is_text(context.part));
+    running.heading.pass_text(context.part, name.is_quoted, running.gap, name.text.text());
+    running.pass_kept(is_text(context.part), context.has_spacing.value);
     running.line.is_sentence = ends_sentence(false, name.text.text());
 }
 

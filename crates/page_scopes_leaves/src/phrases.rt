@@ -147,14 +147,16 @@ fn pass_context(context: &mut Context, phrase: &Phrase<&[u8]>, is_guarded: bool,
     context.has_row = context.has_row || pen.has_cell;
 }
 
-// The count of blanks after a phrase.
-fn end_gap(pen: &Pen) -> u32
-    ensures { result ≡ phrases.end_gap pen.now }
+// The count of blanks after a phrase; they stand between words, or do not.
+fn end_gap(has_spacing: bool, pen: &Pen) -> u32
+    ensures { result ≡ phrases.end_gap has_spacing pen.now }
 {
     if pen.ends_blank {
         pen.gap.max(1)
-    } else {
+    } else if has_spacing {
         pen.gap
+    } else {
+        0
     }
 }
 
@@ -174,7 +176,7 @@ fn pass_running(running: &mut Running, phrase: &Phrase<&[u8]>, context: &Context
     running.gap = joined_gap(
         phrase.after,
         blanks_part(pen.ends_blank, context),
-        end_gap(pen),
+        end_gap(context.has_spacing.value, pen),
     );
     running.line.has_words = true;
     running.line.has_row_words = running.line.has_row_words || is_text(context.part);
@@ -200,6 +202,9 @@ pub fn give_phrase<O: PieceOut>(
     let is_guarded = running.line.fonts_before.is_some();
     let style = phrase_style(phrase, context);
     let mut pen = phrase_pen(phrase, context, running);
+    running
+        .heading
+        .pass_text(context.part, phrase.is_quoted, pen.gap, phrase.text);
     give_text(out, style, line, &mut pen, phrase.text);
     pass_running(running, phrase, context, &pen);
     pass_context(context, phrase, is_guarded, &pen);

@@ -52,6 +52,7 @@ pub fn give_raw_line<O: PieceOut>(
     out.give(Piece::RowEnd);
     out.give(Piece::Literal(context.is_literal.value));
     context.has_row = context.has_row || !text.is_empty();
+    running.heading.pass_other(context.part);
     running.has_content = true;
     running.end_row();
 }

@@ -3,6 +3,7 @@
 ghost use Rattle.std.specs.Prelude.{◌≡◌};
 ghost use Rattle.page_scopes_leaves.specs.Runnings as runnings;
 
+use crate::HeadingSoFar;
 use page_scopes_layout::Setting;
 use page_scopes_words::Fonts;
 
@@ -23,6 +24,8 @@ pub struct LineSoFar {
     pub is_sentence: bool,
     /// The fonts before the words of a font macro, where it is in them.
     pub fonts_before: Option<Setting<Fonts>>,
+    /// The columns of the words of `Nm` so far, each with a blank after it, where it begins a row of the SYNOPSIS.
+    pub name_columns: Option<u16>,
 }
 
 /// What is known along a page whatever its scopes are.
@@ -35,6 +38,8 @@ pub struct Running {
     /// The count of blanks before the next word.
     pub gap: u32,
     pub line: LineSoFar,
+    /// How far the heading that is open is one of the words that are looked for.
+    pub heading: HeadingSoFar,
 }
 
 // The front of a line.
@@ -46,16 +51,17 @@ const NO_LINE: LineSoFar = LineSoFar {
     ends_blank: false,
     is_sentence: false,
     fonts_before: None,
+    name_columns: None,
 };
 
 impl LineSoFar {
-    // The count of blanks after the line, of its last word's.
-    fn gap(&self, gap: u32) -> u32
-        ensures { result ≡ runnings.line_gap self.now gap }
+    // The count of blanks after the line, of its last word's; blanks stand between words, or do not.
+    fn gap(&self, has_spacing: bool, gap: u32) -> u32
+        ensures { result ≡ runnings.line_gap has_spacing self.now gap }
     {
         if !self.has_words {
             gap
-        } else if self.is_cut || gap == 0 {
+        } else if self.is_cut || gap == 0 || !has_spacing {
             0
         } else if self.is_sentence {
             2
@@ -75,6 +81,7 @@ impl Running {
             has_content: false,
             gap: 1,
             line: NO_LINE,
+            heading: HeadingSoFar::start(),
         }
     }
 
@@ -86,11 +93,11 @@ impl Running {
         self.line.is_after_word = false;
     }
 
-    /// The line ends.
-    pub fn end_line(&mut self)
-        ensures { self.new ≡ runnings.line_ended self.old }
+    /// The line ends; blanks stand between words, or do not.
+    pub fn end_line(&mut self, has_spacing: bool)
+        ensures { self.new ≡ runnings.line_ended has_spacing self.old }
     {
-        self.gap = self.line.gap(self.gap);
+        self.gap = self.line.gap(has_spacing, self.gap);
         self.line = NO_LINE;
     }
 }

@@ -7,14 +7,16 @@ ghost use Rattle.page_scopes_leaves.specs.Steps as steps;
 ghost use Rattle.page_sets_lines.specs.Events.{step_seen};
 
 use crate::cells::give_column_step;
+use crate::headings::is_heading;
 use crate::kept_texts::KeptText;
 use crate::manual_names::give_manual_name;
+use crate::margins::give_row_margins;
 use crate::phrases::{blanks_part, joined_gap};
 use crate::{Running, argument_word, give_line_word, give_own_word};
 use page_core_base::{NoteKind, Piece, PieceOut, Place};
-use page_scopes_layout::{Context, FieldsSoFar, give_margins};
+use page_scopes_layout::{Context, PageSection, SeriesSoFar, Setting, give_margins};
 use page_scopes_words::report;
-use page_sets_lines::{BodyParagraphName, Join, LineStep, Own, OwnWord};
+use page_sets_lines::{BodyParagraphName, Join, LineStep, Own, OwnWord, SynopsisStep};
 
 // The next word is glued to the one before: `Ns`.
 fn glue(context: &Context, running: &mut Running)
@@ -70,9 +72,182 @@ fn give_next_field<O: PieceOut>(
         out.new context.new running.new }
 {
     match context.fields {
-        FieldsSoFar::Outside => {}
-        FieldsSoFar::Empty => context.fields = FieldsSoFar::Begun,
-        FieldsSoFar::Begun => give_own_word(out, place, comma(), context, running),
+        SeriesSoFar::Outside => {}
+        SeriesSoFar::Empty => context.fields = SeriesSoFar::Begun,
+        SeriesSoFar::Begun => give_own_word(out, place, comma(), context, running),
+    }
+}
+
+// Begins an argument of the open function: `Fa`.
+fn give_next_argument<O: PieceOut>(
+    out: &mut O,
+    place: Place,
+    context: &mut Context,
+    running: &mut Running,
+)
+    ensures { GivesOutcome O.left out.old
+        (steps.next_argument context.old.arguments place context.old running.old)
+        out.new context.new running.new }
+{
+    match context.arguments {
+        SeriesSoFar::Outside => {}
+        SeriesSoFar::Empty => context.arguments = SeriesSoFar::Begun,
+        SeriesSoFar::Begun => give_own_word(out, place, comma(), context, running),
+    }
+}
+
+// Whether a text stands in the SYNOPSIS, but not in a heading of it.
+fn in_synopsis(context: &Context) -> bool
+    ensures { result ≡ steps.in_synopsis context.now }
+{
+    matches!(context.section, PageSection::Synopsis) && !is_heading(context.part)
+}
+
+// What stands before the file of `In`.
+fn include_word() -> OwnWord
+    ensures { result ≡ steps.include_word }
+{
+    OwnWord {
+        own: Own::Include,
+        font: None,
+        before: Join::Apart,
+        after: Join::Apart,
+    }
+}
+
+// Later rows stand further in by the columns of a name that has begun a row.
+fn give_name_hang<O: PieceOut>(out: &mut O, context: &mut Context, running: &mut Running)
+    ensures { GivesOutcome O.left out.old
+        (steps.name_hung running.old.line.name_columns context.old running.old)
+        out.new context.new running.new }
+{
+    if let Some(columns) = running.line.name_columns {
+        *context = context.name_ended(columns);
+        give_margins(out, context);
+        running.line.name_columns = None;
+    }
+}
+
+// Gives what a macro does in the SYNOPSIS.
+fn give_synopsis_step<O: PieceOut>(
+    out: &mut O,
+    place: Place,
+    step: SynopsisStep,
+    context: &mut Context,
+    running: &mut Running,
+)
+    ensures { GivesOutcome O.left out.old
+        (steps.synopsis_step place step context.old running.old)
+        out.new context.new running.new }
+{
+    match step {
+        SynopsisStep::Break => {
+            out.give(Piece::Break);
+            running.end_row();
+        }
+        SynopsisStep::Include => give_own_word(out, place, include_word(), context, running),
+        SynopsisStep::NameBegins => {
+            *context = context.name_begun();
+            give_row_margins(out, context);
+            running.end_row();
+            running.line.name_columns = Some(0);
+        }
+        SynopsisStep::NameEnds => give_name_hang(out, context, running),
+    }
+}
+
+// Gives it where a text stands in the SYNOPSIS.
+fn give_if_synopsis<O: PieceOut>(
+    out: &mut O,
+    place: Place,
+    step: SynopsisStep,
+    context: &mut Context,
+    running: &mut Running,
+)
+    ensures { GivesOutcome O.left out.old
+        (steps.if_synopsis place step context.old running.old)
+        out.new context.new running.new }
+{
+    if in_synopsis(context) {
+        give_synopsis_step(out, place, step, context, running);
+    }
+}
+
+// What closes the arguments of a function.
+fn closing_mark() -> OwnWord
+    ensures { result ≡ steps.closing_mark }
+{
+    OwnWord {
+        own: Own::CloseParenthesis,
+        font: None,
+        before: Join::Glued,
+        after: Join::Apart,
+    }
+}
+
+// What ends a declaration of one.
+fn semicolon() -> OwnWord
+    ensures { result ≡ steps.semicolon }
+{
+    OwnWord {
+        own: Own::Semicolon,
+        font: None,
+        before: Join::Glued,
+        after: Join::Apart,
+    }
+}
+
+// Gives the end of a row.
+fn give_row_break<O: PieceOut>(out: &mut O, context: &Context, running: &mut Running)
+    ensures { GivesOutcome O.left out.old (steps.row_break context.now running.old)
+        out.new context.now running.new }
+{
+    out.give(Piece::Break);
+    running.end_row();
+}
+
+// Gives what ends a declaration of a function, which stands in the SYNOPSIS.
+fn give_declaration_end<O: PieceOut>(
+    out: &mut O,
+    place: Place,
+    context: &mut Context,
+    running: &mut Running,
+)
+    ensures { GivesOutcome O.left out.old
+        (steps.declaration_end place context.old running.old)
+        out.new context.new running.new }
+{
+    if in_synopsis(context) {
+        give_own_word(out, place, semicolon(), context, running);
+        give_row_break(out, context, running);
+    }
+}
+
+/// Gives the end of a function, of `Fn` or of `Fo`: what closes its arguments, and in the SYNOPSIS a semicolon and the end of the row.
+#[tactic(auto, unfolding(crate::specs::Steps::function_end))]
+pub fn give_function_end<O: PieceOut>(
+    out: &mut O,
+    place: Place,
+    context: &mut Context,
+    running: &mut Running,
+)
+    ensures { GivesOutcome O.left out.old
+        (steps.function_end place context.old running.old)
+        out.new context.new running.new }
+{
+    give_own_word(out, place, closing_mark(), context, running);
+    give_declaration_end(out, place, context, running);
+}
+
+// Whether blanks stand between words from here on: `Sm`.
+fn set_spacing(on: Option<bool>, context: &mut Context, running: &mut Running)
+    ensures context { context.new ≡ (steps.spaced (steps.spacing_after on context.old.has_spacing.value) context.old running.old).context }
+    ensures running { running.new ≡ (steps.spaced (steps.spacing_after on context.old.has_spacing.value) context.old running.old).running }
+{
+    let on = on.unwrap_or(!context.has_spacing.value);
+    context.has_spacing = Setting::set_to(on);
+    if on {
+        running.gap = running.gap.max(1);
     }
 }
 
@@ -102,5 +277,9 @@ pub(crate) fn give_step<O: PieceOut>(
         }
         LineStep::ManualName => give_manual_name(out, place, name, context, running),
         LineStep::NextField => give_next_field(out, place, context, running),
+        LineStep::NextArgument => give_next_argument(out, place, context, running),
+        LineStep::FunctionEnd => give_function_end(out, place, context, running),
+        LineStep::Spacing(on) => set_spacing(on, context, running),
+        LineStep::Synopsis(step) => give_if_synopsis(out, place, step, context, running),
     }
 }

@@ -45,10 +45,18 @@ fn after_tag(before: Context, context: Context) -> Context
     }
 }
 
-// Begins a tag.
-fn begin_tag<O: PieceOut>(out: &mut O, tag: TagPlace, context: &mut Context)
-    ensures came { Came O.left out.old (tags.tag_items tag context.old) out.new }
-    ensures context { context.new ≡ tags.tag_context tag context.old }
+// What pads a tag stands in place of a blank.
+fn pad(running: &mut Running)
+    ensures { running.new ≡ tags.padded running.old }
+{
+    running.gap = 0;
+}
+
+// Gives what a tag begins with.
+fn begin_tag<O: PieceOut>(out: &mut O, tag: TagPlace, context: &mut Context, running: &Running)
+    ensures { GivesOutcome O.left out.old
+        (tags.tag_begun tag context.old running.now)
+        out.new context.new running.now }
 {
     *context = tag_context(tag, *context);
     give_margins(out, context);
@@ -58,14 +66,34 @@ fn begin_tag<O: PieceOut>(out: &mut O, tag: TagPlace, context: &mut Context)
     });
 }
 
-// Ends a tag, which began in a context.
-fn end_tag<O: PieceOut>(out: &mut O, before: Context, context: &mut Context, running: &mut Running)
-    ensures { GivesOutcome O.left out.old (tags.tag_end before context.old running.old) out.new context.new running.new }
+// Gives what a tag ends with; the context is that before it.
+fn end_tag<O: PieceOut>(out: &mut O, before: &Context, context: &mut Context, running: &mut Running)
+    ensures { GivesOutcome O.left out.old
+        (tags.tag_ended before.now context.old running.old)
+        out.new context.new running.new }
 {
     out.give(Piece::TagEnd);
-    *context = after_tag(before, *context);
+    *context = after_tag(*before, *context);
     give_margins(out, context);
-    running.gap = 0;
+    pad(running);
+}
+
+// Gives the words of a phrase that is a tag, and what it ends with; the context is that before it.
+fn give_tag_phrase<O: PieceOut>(
+    out: &mut O,
+    line: u32,
+    phrase: &Phrase<&[u8]>,
+    before: &Context,
+    context: &mut Context,
+    running: &mut Running,
+)
+    requires { FitsAt phrase.now.column phrase.now.text.now }
+    ensures { GivesOutcome O.left out.old
+        (tags.tag_phrase line (phrase_seen phrase.now) before.now context.old running.old)
+        out.new context.new running.new }
+{
+    give_phrase(out, line, phrase, context, running);
+    end_tag(out, before, context, running);
 }
 
 /// Gives a tag of the words of a phrase.
@@ -84,8 +112,25 @@ pub fn give_phrase_tag<O: PieceOut>(
         out.new context.new running.new }
 {
     let before = *context;
-    begin_tag(out, tag, context);
-    give_phrase(out, line, phrase, context, running);
+    begin_tag(out, tag, context, running);
+    give_tag_phrase(out, line, phrase, &before, context, running);
+}
+
+// Gives the words of a tag, and what it ends with; the context is that before it.
+fn give_tag_words<O: PieceOut>(
+    out: &mut O,
+    line: u32,
+    word: &Word<&[u8]>,
+    before: &Context,
+    context: &mut Context,
+    running: &mut Running,
+)
+    requires { ArgumentFits (word_seen word.now).arg }
+    ensures { GivesOutcome O.left out.old
+        (tags.tag_words line (word_seen word.now) before.now context.old running.old)
+        out.new context.new running.new }
+{
+    give_line_word(out, line, word, context, running);
     end_tag(out, before, context, running);
 }
 
@@ -105,7 +150,6 @@ pub fn give_tag<O: PieceOut>(
         out.new context.new running.new }
 {
     let before = *context;
-    begin_tag(out, tag, context);
-    give_line_word(out, line, word, context, running);
-    end_tag(out, before, context, running);
+    begin_tag(out, tag, context, running);
+    give_tag_words(out, line, word, &before, context, running);
 }

@@ -8,6 +8,7 @@ use Rattle.page_scopes_layout.specs.Lists.{head_begun}
 use Rattle.page_scopes_layout.specs.Nodes.{line_begin_items}
 use Rattle.page_scopes_layout.specs.declared.contexts.Context.{Context}
 use Rattle.page_scopes_blocks.specs.BlockWords.{line_words}
+use Rattle.page_scopes_leaves.specs.Headings.{no_heading}
 use Rattle.page_scopes_leaves.specs.KeptTexts.{kept_of}
 use Rattle.page_scopes_leaves.specs.Outcomes.{Outcome, followed_by, nothing}
 use Rattle.page_scopes_leaves.specs.Runnings.{row_ended}
@@ -53,7 +54,7 @@ line_context (lines.OneLine name) c = one_line_begun c
 
 abbrev pub line_running : LineOpener → Running → Running
 line_running lines.Head r = r
-line_running (lines.Heading name) r = record r { gap = 1 }
+line_running (lines.Heading name) r = record r { gap = 1; heading = no_heading }
 line_running (lines.Tag name) r = r
 line_running (lines.FontWords font_macro) r = r
 line_running (lines.Enclosure marks) r = r

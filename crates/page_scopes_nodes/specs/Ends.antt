@@ -4,7 +4,10 @@ use Rattle.page_core_base.specs.declared.places.Place.{Place}
 use Rattle.page_scopes_layout.specs.Contexts.{restored}
 use Rattle.page_scopes_layout.specs.Nodes.{end_items, is_row}
 use Rattle.page_scopes_layout.specs.declared.contexts.Context.{Context}
+use Rattle.page_scopes_layout.specs.declared.contexts.PageSection.{PageSection}
 use Rattle.page_scopes_blocks.specs.BlockWords.{last_words}
+use Rattle.page_scopes_leaves.specs.Headings.{headed_section}
+use Rattle.page_scopes_leaves.specs.declared.headings.HeadingSoFar.{HeadingSoFar}
 use Rattle.page_scopes_leaves.specs.Outcomes.{Outcome, followed_by}
 use Rattle.page_scopes_leaves.specs.Runnings.{row_ended}
 use Rattle.page_scopes_leaves.specs.declared.runnings.Running.{Running}
@@ -14,6 +17,8 @@ use Rattle.page_scopes_tree.specs.declared.labels.Label.{Label}
 use Rattle.page_scopes_tree.specs.declared.labels.Label.TheVariants as labels
 use Rattle.page_sets_lines.specs.declared.blocks.Block.{Block}
 use Rattle.page_sets_lines.specs.declared.blocks.Block.TheVariants as blocks
+use Rattle.page_sets_lines.specs.declared.macro_names.HeadingName.{HeadingName}
+use Rattle.page_sets_lines.specs.declared.macro_names.HeadingName.TheVariants as headings
 use Rattle.page_sets_lines.specs.declared.openers.LineOpener.{LineOpener}
 use Rattle.page_sets_lines.specs.declared.openers.LineOpener.TheVariants as lines
 use Rattle.page_scopes_nodes.specs.Targets.{target_word}
@@ -55,12 +60,29 @@ label_running (labels.Explicit explicit) c r = explicit_running explicit r
 label_running (labels.Line opener) c r = line_running opener c r
 label_running _ c r = r
 
+-- after the heading of a section it is known which one begins
+abbrev pub heading_section : HeadingName → HeadingSoFar → PageSection → PageSection
+heading_section headings.SH heading section = headed_section heading
+heading_section headings.Sh heading section = headed_section heading
+heading_section _ heading section = section
+
+abbrev pub line_section : LineOpener → HeadingSoFar → PageSection → PageSection
+line_section (lines.Heading name) heading section = heading_section name heading section
+line_section _ heading section = section
+
+abbrev pub label_section : Label → HeadingSoFar → PageSection → PageSection
+label_section (labels.Line opener) heading section = line_section opener heading section
+label_section _ heading section = section
+
+abbrev pub context_after : Label → HeadingSoFar → Context → Context
+context_after label heading c = record c { section = label_section label heading c.section }
+
 -- in the context after the scope its margins hold again
 abbrev pub left : Label → Context → Context → Running → Outcome
 left label before c r = record {
   items = end_items label (restored label before c);
-  context = restored label before c;
-  running = label_running label (restored label before c) r;
+  context = context_after label r.heading (restored label before c);
+  running = label_running label (context_after label r.heading (restored label before c)) r;
 }
 
 unfoldable pub ended : Label → Context → Option KeptText → Place → Context → Running → Outcome

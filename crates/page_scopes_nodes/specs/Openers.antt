@@ -7,7 +7,7 @@ use Rattle.page_core_base.specs.declared.note_kinds.NoteKind.TheVariants.{SkipPa
 use Rattle.page_core_base.specs.declared.places.Place.{Place}
 use Rattle.page_roff_forms.specs.Arguments.{is_quoted}
 use Rattle.page_roff_forms.specs.declared.quotes.Argument.{Argument}
-use Rattle.page_scopes_layout.specs.Begins.{entered_context, hanging_begun, indented_begun, margin_begun, paragraph_begun, section_begun, syntax_begun, text_margin}
+use Rattle.page_scopes_layout.specs.Begins.{entered_context, hanging_begun, indented_begun, margin_begun, paragraph_begun, section_begun, subsection_begun, syntax_begun, text_margin}
 use Rattle.page_scopes_layout.specs.Margins.{hold}
 use Rattle.page_scopes_layout.specs.Nodes.{begin_items}
 use Rattle.page_scopes_layout.specs.declared.contexts.Context.{Context}
@@ -51,6 +51,9 @@ begun label front r = record { items = begin_items label front; context = front;
 -- `SH`, `SS`, `Sh`, `Ss`: at the page's indent
 abbrev pub section : PageLayout → Context → Running → Outcome
 section page c r = begun labels.Section (section_begun page.indent (entered_context c)) r
+
+abbrev pub subsection : PageLayout → Context → Running → Outcome
+subsection page c r = begun labels.Section (subsection_begun page.indent (entered_context c)) r
 
 -- `PP`, `LP`, `P`: skipped where nothing stands before them since the heading
 abbrev pub plain : Place → ParagraphName → Context → Running → Outcome
@@ -109,7 +112,7 @@ block page place opener c r = block_opened page.output place opener c r
 unfoldable pub opened : PageLayout → Place → Opener (List ℕ) → Context → Running → Outcome
 opened page place openers.Item c r = item_opened place c r
 opened page place openers.Section c r = section page c r
-opened page place openers.Subsection c r = section page c r
+opened page place openers.Subsection c r = subsection page c r
 opened page place (openers.Paragraph name) c r = plain place name c r
 opened page place (openers.Tagged hang) c r = indented place hang c r
 opened page place (openers.Indented argument hang) c r = followed_by (indented place hang c r) (given_tag place.line argument)

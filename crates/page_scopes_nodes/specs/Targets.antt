@@ -9,6 +9,7 @@ use Rattle.page_roff_forms.specs.Arguments.{is_quoted}
 use Rattle.page_roff_forms.specs.declared.quotes.Argument.{Argument}
 use Rattle.page_scopes_layout.specs.declared.contexts.Context.{Context}
 use Rattle.page_scopes_layout.specs.declared.settings.Setting.{Setting}
+use Rattle.page_scopes_leaves.specs.Headings.{heading_broken}
 use Rattle.page_scopes_leaves.specs.KeptTexts.{after_kept, cut_notes, fonts_through, gap_items, kept_tokens, parts_items}
 use Rattle.page_scopes_leaves.specs.Outcomes.{Outcome}
 use Rattle.page_scopes_leaves.specs.Phrases.{is_text}
@@ -46,5 +47,5 @@ target_word place target c r = record {
       ++ (parts_items c.is_literal.value place c.fonts (kept_tokens target)
       ++ mark_items (target_fonts target c).value.font place (codes ">")));
   context = record c { fonts = target_fonts target c; has_row = true };
-  running = after_kept (is_text c.part) r;
+  running = after_kept (is_text c.part) c.has_spacing.value (record r { heading = heading_broken c.part r.heading });
 }

@@ -12,7 +12,7 @@ use crate::openers::give_opened;
 use page_core_base::{Font, PieceOut, Place};
 use page_scopes_blocks::give_line_words;
 use page_scopes_layout::{Context, give_begin};
-use page_scopes_leaves::Running;
+use page_scopes_leaves::{HeadingSoFar, Running};
 use page_scopes_tree::Label;
 use page_sets_lines::{Deed, Event, FontMacro, HeadingName, LineOpener};
 
@@ -62,7 +62,10 @@ fn pass_begin(opener: LineOpener, running: &mut Running)
     ensures { running.new ≡ begins.line_running opener running.old }
 {
     match opener {
-        LineOpener::Heading(_) => running.gap = 1,
+        LineOpener::Heading(_) => {
+            running.gap = 1;
+            running.heading = HeadingSoFar::start();
+        }
         LineOpener::OneLine(_) => running.end_row(),
         _ => {}
     }

@@ -8,10 +8,10 @@ ghost use Rattle.page_scopes_nodes.specs.Ends as ends;
 use crate::targets::give_target;
 use page_core_base::{PieceOut, Place};
 use page_scopes_blocks::give_last_words;
-use page_scopes_layout::{Context, give_end};
-use page_scopes_leaves::{KeptText, Running};
+use page_scopes_layout::{Context, PageSection, give_end};
+use page_scopes_leaves::{HeadingSoFar, KeptText, Running};
 use page_scopes_tree::{Explicit, Label};
-use page_sets_lines::{Block, LineOpener};
+use page_sets_lines::{Block, HeadingName, LineOpener};
 
 // Gives the last words of a scope: the target of `UR` up to `UE`, and of `MT` up to `ME`, and the marks of enclosures.
 fn give_last_word<O: PieceOut>(
@@ -65,6 +65,16 @@ fn pass_end(label: Label, context: &Context, running: &mut Running)
     }
 }
 
+// The section of a text after a scope: that of the heading of `SH` or `Sh` begins.
+fn section_after(label: Label, heading: &HeadingSoFar, section: PageSection) -> PageSection
+    ensures { result ≡ ends.label_section label heading.now section }
+{
+    match label {
+        Label::Line(LineOpener::Heading(HeadingName::SH | HeadingName::Sh)) => heading.section(),
+        _ => section,
+    }
+}
+
 // Gives what is left of a scope after its last word, with the context before it.
 fn give_left<O: PieceOut>(
     out: &mut O,
@@ -79,6 +89,7 @@ fn give_left<O: PieceOut>(
 {
     context.restore(label, before);
     give_end(out, label, context);
+    context.section = section_after(label, &running.heading, context.section);
     pass_end(label, context, running);
 }
 

@@ -51,7 +51,7 @@ fn begin<O: PieceOut>(
     running.end_row();
 }
 
-// `SH`, `SS`, `Sh` and `Ss`.
+// `SH` and `Sh`.
 fn begin_section<O: PieceOut>(
     out: &mut O,
     page: &PageLayout,
@@ -63,6 +63,21 @@ fn begin_section<O: PieceOut>(
         out.new context.new running.new }
 {
     let front = context.entered().section_begun(page.indent);
+    begin(out, Label::Section, front, context, running);
+}
+
+// `SS` and `Ss`, which stay in their section.
+fn begin_subsection<O: PieceOut>(
+    out: &mut O,
+    page: &PageLayout,
+    context: &mut Context,
+    running: &mut Running,
+)
+    ensures { GivesOutcome O.left out.old
+        (openers.subsection page.now context.old running.old)
+        out.new context.new running.new }
+{
+    let front = context.entered().subsection_begun(page.indent);
     begin(out, Label::Section, front, context, running);
 }
 
@@ -275,7 +290,8 @@ pub(crate) fn give_opened<O: PieceOut>(
 {
     match *opener {
         Opener::Item => give_item(out, place, context, running),
-        Opener::Section | Opener::Subsection => begin_section(out, page, context, running),
+        Opener::Section => begin_section(out, page, context, running),
+        Opener::Subsection => begin_subsection(out, page, context, running),
         Opener::Paragraph(name) => begin_plain(out, place, name, context, running),
         Opener::Tagged(hang) => begin_indented(out, place, hang, context, running),
         Opener::Indented { tag, hang } => {

@@ -72,5 +72,9 @@ pub(crate) fn give_target<O: PieceOut>(
     give_mark(out, fonts.value.font, place, ">");
     context.fonts = fonts;
     context.has_row = true;
-    running.pass_kept(matches!(context.part, PagePart::Text));
+    running.heading.pass_other(context.part);
+    running.pass_kept(
+        matches!(context.part, PagePart::Text),
+        context.has_spacing.value,
+    );
 }

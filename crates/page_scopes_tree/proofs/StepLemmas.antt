@@ -44,20 +44,20 @@ step-taken {P} {O} {S} {B} left tables act skips next inner mid last s t u out e
     ∙ ap (λ nodes. standing_by act (act_fate act n nodes)) remaining in
     let of_ends = λ (m : ℕ). step_standing skips (does act) m (drop m (labels inner)) in
     let items : step_items scopes_nesting lays (record { mode = skips; scopes = inner; state = s }) (does act)
-        ≡ ended_items lays n (does act) inner s ++ placed_items lays stands (does act) t =
+    ≡ ended_items lays n (does act) inner s ++ placed_items lays stands (does act) t =
     ap (λ (m : ℕ). ended_items lays m (does act) inner s ++ placed_items lays (of_ends m) (does act) (ended_state lays m (does act) inner s)) ends
     ∙ ap (λ (st : Standing Label Fact). ended_items lays n (does act) inner s ++ placed_items lays st (does act) (ended_state lays n (does act) inner s)) standing
     ∙ ap (λ (x : S). ended_items lays n (does act) inner s ++ placed_items lays stands (does act) x) (sym state) in
     record {
       came = λ plan rest h. placed plan rest (came plan (placed_items lays stands (does act) t ++ rest)
-      (subst (λ all. left plan out all) (ap (λ all. all ++ rest) items ∙ append_assoc (ended_items lays n (does act) inner s) (placed_items lays stands (does act) t) rest) h));
+          (subst (λ all. left plan out all) (ap (λ all. all ++ rest) items ∙ append_assoc (ended_items lays n (does act) inner s) (placed_items lays stands (does act) t) rest) h));
       edge = sym (edge_of _ next _ last _ u
-      (ap (λ (m : ℕ). act_skips skips act (drop m (labels inner))) ends ∙ ap (act_skips skips act) remaining ∙ sym skip)
-      (ap (λ (m : ℕ). placed_scopes lays (of_ends m) (does act) (drop m inner) (ended_state lays m (does act) inner s)) ends
-      ∙ ap (λ (st : Standing Label Fact). placed_scopes lays st (does act) (drop n inner) (ended_state lays n (does act) inner s)) standing
-      ∙ ap (λ (x : S). placed_scopes lays stands (does act) (drop n inner) x) (sym state)
-      ∙ ap (λ (xs : List (Scope Label B)). placed_scopes lays stands (does act) xs t) (sym cut) ∙ sym kept)
-      (ap (λ (m : ℕ). placed_state lays (of_ends m) (does act) (ended_state lays m (does act) inner s)) ends
-      ∙ ap (λ (st : Standing Label Fact). placed_state lays st (does act) (ended_state lays n (does act) inner s)) standing
-      ∙ ap (λ (x : S). placed_state lays stands (does act) x) (sym state) ∙ sym put));
+          (ap (λ (m : ℕ). act_skips skips act (drop m (labels inner))) ends ∙ ap (act_skips skips act) remaining ∙ sym skip)
+          (ap (λ (m : ℕ). placed_scopes lays (of_ends m) (does act) (drop m inner) (ended_state lays m (does act) inner s)) ends
+          ∙ ap (λ (st : Standing Label Fact). placed_scopes lays st (does act) (drop n inner) (ended_state lays n (does act) inner s)) standing
+          ∙ ap (λ (x : S). placed_scopes lays stands (does act) (drop n inner) x) (sym state)
+          ∙ ap (λ (xs : List (Scope Label B)). placed_scopes lays stands (does act) xs t) (sym cut) ∙ sym kept)
+          (ap (λ (m : ℕ). placed_state lays (of_ends m) (does act) (ended_state lays m (does act) inner s)) ends
+          ∙ ap (λ (st : Standing Label Fact). placed_state lays st (does act) (ended_state lays n (does act) inner s)) standing
+          ∙ ap (λ (x : S). placed_state lays stands (does act) x) (sym state) ∙ sym put));
     }

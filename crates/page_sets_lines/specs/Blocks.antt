@@ -1,7 +1,7 @@
 -- Blocks that one macro begins and another ends, and the names of these. Source: mdoc(7), "MACRO REFERENCE".
 use Rattle.std.specs.Prelude.{ℕ, List, codes}
 use Rattle.page_sets_lines.specs.declared.blocks.Block.{Block}
-use Rattle.page_sets_lines.specs.declared.blocks.Block.TheVariants.{Quotation, Custom, Extension, Display, Fonts, Keep, Reference}
+use Rattle.page_sets_lines.specs.declared.blocks.Block.TheVariants.{Quotation, Custom, Extension, Display, Fonts, Keep, Reference, Function}
 use Rattle.page_sets_lines.specs.declared.blocks.Block.TheVariants as blocks
 use Rattle.page_sets_lines.specs.declared.lists.ListKind.TheVariants as kinds
 use Rattle.page_sets_lines.specs.declared.blocks.BlockOpener.{BlockOpener}
@@ -19,6 +19,7 @@ block_name Display = codes "Bd"
 block_name Fonts = codes "Bf"
 block_name Keep = codes "Bk"
 block_name Reference = codes "Rs"
+block_name Function = codes "Fo"
 
 abbrev pub block_closer_name : Block → List ℕ
 block_closer_name (blocks.List kind) = codes "El"
@@ -29,6 +30,7 @@ block_closer_name Display = codes "Ed"
 block_closer_name Fonts = codes "Ef"
 block_closer_name Keep = codes "Ek"
 block_closer_name Reference = codes "Re"
+block_closer_name Function = codes "Fc"
 
 -- the block that is opened
 abbrev pub opened_block : BlockOpener (List ℕ) → Block
@@ -40,6 +42,7 @@ opened_block (openers.Display is_literal is_compact offset) = Display
 opened_block (openers.Fonts font) = Fonts
 opened_block openers.Keep = Keep
 opened_block openers.Reference = Reference
+opened_block (openers.Function name) = Function
 
 -- the block that is closed; lists of all types have one closer, and the plainest stands for them
 abbrev pub closed_block : BlockCloser (List ℕ) → Block
@@ -51,3 +54,4 @@ closed_block closers.Display = Display
 closed_block closers.Fonts = Fonts
 closed_block closers.Keep = Keep
 closed_block closers.Reference = Reference
+closed_block closers.Function = Function

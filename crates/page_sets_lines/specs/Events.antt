@@ -41,6 +41,7 @@ block_opener_seen (block_openers.Display is_literal is_compact offset) = block_o
 block_opener_seen (block_openers.Fonts font) = block_openers.Fonts font
 block_opener_seen block_openers.Keep = block_openers.Keep
 block_opener_seen block_openers.Reference = block_openers.Reference
+block_opener_seen (block_openers.Function name) = block_openers.Function (argument_seen name)
 
 abbrev pub block_closer_seen : BlockCloser (Bor (List ℕ)) → BlockCloser (List ℕ)
 block_closer_seen block_closers.List = block_closers.List
@@ -51,6 +52,7 @@ block_closer_seen block_closers.Display = block_closers.Display
 block_closer_seen block_closers.Fonts = block_closers.Fonts
 block_closer_seen block_closers.Keep = block_closers.Keep
 block_closer_seen block_closers.Reference = block_closers.Reference
+block_closer_seen block_closers.Function = block_closers.Function
 
 abbrev pub opener_seen : Opener (Bor (List ℕ)) → Opener (List ℕ)
 opener_seen openers.Item = openers.Item
@@ -87,6 +89,10 @@ step_seen (steps.BodyParagraph name) = steps.BodyParagraph name
 step_seen (steps.Uri uri) = steps.Uri (argument_seen uri)
 step_seen steps.ManualName = steps.ManualName
 step_seen steps.NextField = steps.NextField
+step_seen steps.NextArgument = steps.NextArgument
+step_seen steps.FunctionEnd = steps.FunctionEnd
+step_seen (steps.Spacing on) = steps.Spacing on
+step_seen (steps.Synopsis step) = steps.Synopsis step
 
 abbrev pub leaf_seen : Leaf (Bor (List ℕ)) → Leaf (List ℕ)
 leaf_seen leaves.BlankLine = leaves.BlankLine

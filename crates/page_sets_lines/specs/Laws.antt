@@ -52,6 +52,7 @@ BlockOpensSlices line (block_openers.Display is_literal is_compact offset) = IsA
 BlockOpensSlices line (block_openers.Fonts font) = Unit {0}
 BlockOpensSlices line block_openers.Keep = Unit {0}
 BlockOpensSlices line block_openers.Reference = Unit {0}
+BlockOpensSlices line (block_openers.Function name) = IsArgument line name
 
 abbrev pub BlockClosesSlices : List ℕ → BlockCloser (List ℕ) → Type 0
 BlockClosesSlices line block_closers.List = Unit {0}
@@ -62,6 +63,7 @@ BlockClosesSlices line block_closers.Display = Unit {0}
 BlockClosesSlices line block_closers.Fonts = Unit {0}
 BlockClosesSlices line block_closers.Keep = Unit {0}
 BlockClosesSlices line block_closers.Reference = Unit {0}
+BlockClosesSlices line block_closers.Function = Unit {0}
 
 abbrev pub OpensSlices : List ℕ → Opener (List ℕ) → Type 0
 OpensSlices line openers.Item = Unit {0}
@@ -98,6 +100,10 @@ StepsSlices line (steps.BodyParagraph name) = Unit {0}
 StepsSlices line (steps.Uri uri) = IsArgument line uri
 StepsSlices line steps.ManualName = Unit {0}
 StepsSlices line steps.NextField = Unit {0}
+StepsSlices line steps.NextArgument = Unit {0}
+StepsSlices line steps.FunctionEnd = Unit {0}
+StepsSlices line (steps.Spacing on) = Unit {0}
+StepsSlices line (steps.Synopsis step) = Unit {0}
 
 abbrev pub LeavesSlices : List ℕ → Leaf (List ℕ) → Type 0
 LeavesSlices line leaves.BlankLine = Unit {0}

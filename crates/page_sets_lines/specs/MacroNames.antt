@@ -21,6 +21,7 @@ use Rattle.page_sets_lines.specs.declared.openers.LineOpener.TheVariants.{Head, 
 use Rattle.page_sets_lines.specs.declared.leaves.Own.{Own}
 use Rattle.page_sets_lines.specs.declared.leaves.Own.TheVariants.{OpenParenthesis, CloseParenthesis, OpenBracket, CloseBracket, OpenAngle, CloseAngle, OpenBrace, CloseBrace, OpenDouble, CloseDouble, OpenSingle, CloseSingle, Straight, Comma, FullStop, Colon, Apostrophe, Dash}
 use Rattle.page_sets_lines.specs.declared.leaves.Own.TheVariants.{Flag, Files, Home, Bsd, BsdOs, DragonFly, FreeBsd, NetBsd, OpenBsd, Unix}
+use Rattle.page_sets_lines.specs.declared.leaves.Own.TheVariants.{Call, CallComma, Semicolon, Include, The, And, UtilityExits, UtilitiesExit, FunctionReturns, FunctionsReturn}
 use Rattle.page_sets_lines.specs.Marks.{marks_name}
 
 abbrev pub paragraph_name : ParagraphName → List ℕ
@@ -104,6 +105,18 @@ own_text FreeBsd = codes "FreeBSD"
 own_text NetBsd = codes "NetBSD"
 own_text OpenBsd = codes "OpenBSD"
 own_text Unix = codes "UNIX"
+own_text Call = codes "()"
+own_text CallComma = codes "(),"
+own_text Semicolon = codes ";"
+own_text Include = codes "#include"
+own_text The = codes "The"
+own_text And = codes "and"
+own_text UtilityExits = codes "utility exits 0 on success, and >0 if an error occurs."
+own_text UtilitiesExit = codes "utilities exit 0 on success, and >0 if an error occurs."
+own_text FunctionReturns =
+    codes "function returns the value 0 if successful; otherwise the value -1 is returned and the global variable errno is set to indicate the error."
+own_text FunctionsReturn =
+    codes "functions return the value 0 if successful; otherwise the value -1 is returned and the global variable errno is set to indicate the error."
 
 -- a word, which can end a sentence or go on with one; the others are marks
 abbrev pub own_is_word : Own → Bool
@@ -135,3 +148,21 @@ own_is_word FreeBsd = true
 own_is_word NetBsd = true
 own_is_word OpenBsd = true
 own_is_word Unix = true
+own_is_word Call = false
+own_is_word CallComma = false
+own_is_word Semicolon = false
+own_is_word Include = true
+own_is_word The = true
+own_is_word And = true
+own_is_word UtilityExits = true
+own_is_word UtilitiesExit = true
+own_is_word FunctionReturns = true
+own_is_word FunctionsReturn = true
+
+-- of these only the sentences of `Ex` and `Rv` end one
+abbrev pub own_ends_sentence : Own → Bool
+own_ends_sentence UtilityExits = true
+own_ends_sentence UtilitiesExit = true
+own_ends_sentence FunctionReturns = true
+own_ends_sentence FunctionsReturn = true
+own_ends_sentence _ = false

@@ -30,6 +30,8 @@ pub enum Block {
     Keep,
     /// `Rs` and `Re`: a reference to a work.
     Reference,
+    /// `Fo` and `Fc`: a function with its arguments.
+    Function,
 }
 
 /// What opens a block; `W` is a text.
@@ -58,6 +60,8 @@ pub enum BlockOpener<W> {
     Keep,
     /// `Rs`.
     Reference,
+    /// `Fo`, with the function's name.
+    Function(Argument<W>),
 }
 
 /// What closes a block; `W` is a text.
@@ -78,6 +82,8 @@ pub enum BlockCloser<W> {
     Keep,
     /// `Re`.
     Reference,
+    /// `Fc`.
+    Function,
 }
 
 impl Block {
@@ -94,6 +100,7 @@ impl Block {
             Block::Fonts => "Bf",
             Block::Keep => "Bk",
             Block::Reference => "Rs",
+            Block::Function => "Fo",
         }
     }
 
@@ -110,6 +117,7 @@ impl Block {
             Block::Fonts => "Ef",
             Block::Keep => "Ek",
             Block::Reference => "Re",
+            Block::Function => "Fc",
         }
     }
 }
@@ -128,6 +136,7 @@ impl BlockOpener<&[u8]> {
             BlockOpener::Fonts(_) => Block::Fonts,
             BlockOpener::Keep => Block::Keep,
             BlockOpener::Reference => Block::Reference,
+            BlockOpener::Function(_) => Block::Function,
         }
     }
 }
@@ -146,6 +155,7 @@ impl BlockCloser<&[u8]> {
             BlockCloser::Fonts => Block::Fonts,
             BlockCloser::Keep => Block::Keep,
             BlockCloser::Reference => Block::Reference,
+            BlockCloser::Function => Block::Function,
         }
     }
 }

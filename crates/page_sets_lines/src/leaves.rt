@@ -83,6 +83,26 @@ pub enum Own {
     OpenBsd,
     /// `UNIX`
     Unix,
+    /// `()`
+    Call,
+    /// `(),`
+    CallComma,
+    /// `;`
+    Semicolon,
+    /// `#include`
+    Include,
+    /// `The`
+    The,
+    /// `and`
+    And,
+    /// The sentence of `Ex` about one program, from `utility` on.
+    UtilityExits,
+    /// The sentence of `Ex` about several, from `utilities` on.
+    UtilitiesExit,
+    /// The sentence of `Rv` about one function, from `function` on.
+    FunctionReturns,
+    /// The sentence of `Rv` about several, from `functions` on.
+    FunctionsReturn,
 }
 
 impl Own {
@@ -119,6 +139,20 @@ impl Own {
             Own::NetBsd => "NetBSD",
             Own::OpenBsd => "OpenBSD",
             Own::Unix => "UNIX",
+            Own::Call => "()",
+            Own::CallComma => "(),",
+            Own::Semicolon => ";",
+            Own::Include => "#include",
+            Own::The => "The",
+            Own::And => "and",
+            Own::UtilityExits => "utility exits 0 on success, and >0 if an error occurs.",
+            Own::UtilitiesExit => "utilities exit 0 on success, and >0 if an error occurs.",
+            Own::FunctionReturns => {
+                "function returns the value 0 if successful; otherwise the value -1 is returned and the global variable errno is set to indicate the error."
+            }
+            Own::FunctionsReturn => {
+                "functions return the value 0 if successful; otherwise the value -1 is returned and the global variable errno is set to indicate the error."
+            }
         }
     }
 
@@ -138,6 +172,23 @@ impl Own {
                 | Own::NetBsd
                 | Own::OpenBsd
                 | Own::Unix
+                | Own::Include
+                | Own::The
+                | Own::And
+                | Own::UtilityExits
+                | Own::UtilitiesExit
+                | Own::FunctionReturns
+                | Own::FunctionsReturn
+        )
+    }
+
+    /// Whether it is a word that ends a sentence.
+    pub fn ends_sentence(self) -> bool
+        ensures { result ≡ names.own_ends_sentence self }
+    {
+        matches!(
+            self,
+            Own::UtilityExits | Own::UtilitiesExit | Own::FunctionReturns | Own::FunctionsReturn
         )
     }
 }

@@ -22,7 +22,7 @@ pub use blocks::{Block, BlockCloser, BlockOpener};
 pub use control_lines::{NameSpan, find_name, first_of, open_quote, read_after};
 pub use events::{Deed, Event, Join, Role, Word};
 pub use leaves::{Leaf, Own, OwnWord, Request};
-pub use line_steps::LineStep;
+pub use line_steps::{LineStep, SynopsisStep};
 pub use lists::{Awaited, ListKind, ListOptions, ListWord, read_list_options};
 pub use macro_names::{
     BodyParagraphName, FontMacro, HeadingName, Link, OneLineName, ParagraphName, Prologue, TagName,

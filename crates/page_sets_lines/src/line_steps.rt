@@ -6,6 +6,19 @@ use crate::macro_names::BodyParagraphName;
 use page_roff_forms::Argument;
 use std::alloc::AllocError;
 
+/// What a macro does in the section SYNOPSIS alone.
+#[derive(Clone, Copy, PartialEq, Eq)]
+pub enum SynopsisStep {
+    /// The row ends: `Cd Fd Fn Fo Ft In Vt`.
+    Break,
+    /// `In`: `#include` is printed.
+    Include,
+    /// `Nm` begins a row.
+    NameBegins,
+    /// The words of `Nm` have ended: later rows stand further in by their columns.
+    NameEnds,
+}
+
 /// What a macro changes in its line, or prints there; `W` is a text.
 pub enum LineStep<W> {
     /// `Ta`: the next column of a list.
@@ -20,6 +33,14 @@ pub enum LineStep<W> {
     ManualName,
     /// The next field of the open reference (`Rs`) begins: `%A`, `%T` and so on.
     NextField,
+    /// The next argument of the open function (`Fo`) begins: `Fa`.
+    NextArgument,
+    /// The arguments of `Fn` have ended.
+    FunctionEnd,
+    /// `Sm`: blanks stand between words (true) or not, or the other of these.
+    Spacing(Option<bool>),
+    /// What is done in the section SYNOPSIS alone.
+    Synopsis(SynopsisStep),
 }
 
 impl<W: Copy> Copy for LineStep<W> {}

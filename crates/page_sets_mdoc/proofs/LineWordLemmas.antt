@@ -20,14 +20,22 @@ use Rattle.page_sets_mdoc_lines.specs.Parts.{LineParts, parts, rest_parts, has_c
 use Rattle.page_sets_mdoc_lines.proofs.CursorLemmas.{at_end, few_left}
 use Rattle.page_sets_mdoc_lines.proofs.PartLemmas.{words_taken, rest_goes_on}
 use Rattle.page_sets_mdoc_words.specs.declared.steps.MacroWords.{MacroWords}
-use Rattle.page_sets_mdoc_words.specs.Inlines.{inline_events}
+use Rattle.page_sets_mdoc_words.specs.Synopses.{framed, placed_events}
+use Rattle.page_sets_mdoc_words.specs.declared.steps.Step.{Step}
+use Rattle.page_sets_mdoc_words.specs.declared.steps.Step.TheVariants as steps
+use Rattle.page_sets_mdoc_words.specs.declared.includes.IncludeStep.TheVariants.{Name}
+use Rattle.page_sets_mdoc_words.specs.declared.sentences.SentenceStep.TheVariants.{The}
+use Rattle.page_sets_mdoc_words.specs.Sentences.{sentence_events}
+use Rattle.page_sets_mdoc_rows.specs.declared.blocks.Sentence.{Sentence}
+use Rattle.page_sets_lines.specs.declared.line_steps.SynopsisStep.{SynopsisStep}
+use Rattle.page_sets_lines.specs.declared.line_steps.SynopsisStep.TheVariants.{Break}
 use Rattle.page_sets_mdoc_words.specs.Printed.{printed}
-use Rattle.page_sets_mdoc_words.specs.Steps.{macro_words_events, begun_events}
+use Rattle.page_sets_mdoc_words.specs.Steps.{step_events, macro_words_events, placed_begun}
 use Rattle.page_sets_mdoc_words.specs.WordsLeft.{after_words}
-use Rattle.page_sets_mdoc.specs.Mdoc.{field_font, tail_events, rest_events, phrase_events, head_events, line_parts}
-use Rattle.page_sets_mdoc_blocks.specs.Fronts.{has_real_word, line_arguments}
+use Rattle.page_sets_mdoc.specs.Mdoc.{field_font, tail_events, rest_events, phrase_events, head_events, line_parts, include_words}
+use Rattle.page_sets_mdoc_blocks.specs.Fronts.{name_column, has_real_word, line_arguments, given_names}
 use Rattle.page_sets_mdoc.specs.RestLaws.{rest_in_tail, rest_calls, line_name}
-use Rattle.page_sets_mdoc.specs.Plans.{parts_left, words_to_come, words_from}
+use Rattle.page_sets_mdoc.specs.Plans.{parts_left, words_to_come, words_from, words_by}
 
 -- ---- the end of a line
 
@@ -58,6 +66,41 @@ field_comes line own real font cursor words n w few r h f =
     let comes = all_come line font cursor words n w few in
     comes ∙ rw (f, h, r) refl
 
+-- all that is left, from a step on
+pub by_stand : (line : Line) (column : ℕ) (around : Option SynopsisStep) (step : Step) (cursor : Cursor) (words : MacroWords) (n : ℕ)
+    → words ≡ words_by column around step cursor n → length (arguments_after cursor.rest line.text) ≤ n → (parts_left line words).words ≡ []
+by_stand line column around step cursor words n w few = rw (w, drop_all n (arguments_after cursor.rest line.text) few) refl
+
+by_come : (line : Line) (column : ℕ) (around : Option SynopsisStep) (step : Step) (cursor : Cursor) (words : MacroWords) (n : ℕ)
+    → words ≡ words_by column around step cursor n → length (arguments_after cursor.rest line.text) ≤ n
+    → words_to_come line words ≡ framed line.number column around around (step_events line column step (arguments_after cursor.rest line.text))
+by_come line column around step cursor words n w few =
+    let arguments = arguments_after cursor.rest line.text in
+    rw (w, take_all n arguments few, drop_all n arguments few)
+    (append-nil (framed line.number column around around (step_events line column step arguments)))
+
+-- the words of a sentence
+pub sentence_comes : (line : Line) (sentence : Sentence) (cursor : Cursor) (words : MacroWords) (n : ℕ)
+    → words ≡ words_by (name_column line) None (steps.Sentence sentence The) cursor n
+    → length (arguments_after cursor.rest line.text) ≤ n → arguments_after cursor.rest line.text ≡ given_names (line_arguments line)
+    → words_to_come line words ≡ sentence_events line.number (name_column line) sentence (given_names (line_arguments line))
+sentence_comes line sentence cursor words n w few e =
+    by_come line (name_column line) None (steps.Sentence sentence The) cursor words n w few
+    ∙ ap (λ l. sentence_events line.number (name_column line) sentence l) e
+
+-- those of a file of declarations, and of one that is refused
+pub file_comes : (line : Line) (cursor : Cursor) (words : MacroWords) (n : ℕ)
+    → words ≡ words_by (name_column line) (Some Break) (steps.Include Name) cursor n
+    → length (arguments_after cursor.rest line.text) ≤ n → cursor.rest ≡ name_end line
+    → words_to_come line words ≡ include_words true line
+file_comes line cursor words n w few r =
+    by_come line (name_column line) (Some Break) (steps.Include Name) cursor words n w few ∙ rw r refl
+
+pub refused_comes : (line : Line) (cursor : Cursor) (words : MacroWords) (n : ℕ) → words ≡ words_from None cursor n
+    → length (arguments_after cursor.rest line.text) ≤ n → cursor.rest ≡ name_end line
+    → words_to_come line words ≡ include_words false line
+refused_comes line cursor words n w few r = all_come line None cursor words n w few ∙ rw r refl
+
 pub tail_comes : (number : ℕ) (word : Argument (List ℕ)) (after arguments : List (Argument (List ℕ))) (events : List (Event (List ℕ)))
     → arguments ≡ word ∷ after → events ≡ printed number None arguments
     → tail_events number arguments ≡ event_at number word.column (deeds.Close closers.Enclosures) ∷ events
@@ -78,7 +121,7 @@ begun_comes line words p events r e = rw (e, r) refl
 pub head_comes : (line : Line) (words : MacroWords) (inline : Inline) (column len rest : ℕ) (parsed : Bool)
     → column ≡ before_name line.text + 1 → len ≡ name_end line - before_name line.text → rest ≡ name_end line → parsed ≡ is_parsed (name_of line)
     → parts_left line words ≡ rest_parts (parts (Some inline) parsed (arguments_after rest line.text))
-    → macro_words_events line words ≡ begun_events line column len inline (parts (Some inline) parsed (arguments_after rest line.text))
+    → macro_words_events line words ≡ placed_begun true line column len inline (parts (Some inline) parsed (arguments_after rest line.text))
     → words_to_come line words ≡ head_events line inline (line_parts (Some inline) line)
 head_comes line words inline column len rest parsed c l r p h m =
     begun_comes line words (parts (Some inline) parsed (arguments_after rest line.text)) _ h m ∙ rw (c, l, r, p, line_name line) refl
@@ -133,13 +176,13 @@ call_goes_on : (line : Line) (word : Argument (List ℕ)) (after : List (Argumen
     → take (length word.text) (drop (word.column - 1) line.text) ≡ word.text
     → list_all is_closing (word ∷ after) ≡ false → word_call word ≡ Some inline
     → parts_left line words ≡ rest_parts (parts (Some inline) true after)
-    → macro_words_events line words ≡ begun_events line word.column (length word.text) inline (parts (Some inline) true after)
+    → macro_words_events line words ≡ placed_begun false line word.column (length word.text) inline (parts (Some inline) true after)
     → GoesOnFrom line words (word ∷ after)
 call_goes_on line word after inline words n h c r m =
     let p = parts (Some inline) true after in
-    let name : begun_events line word.column (length word.text) inline p
-    ≡ inline_events line.number word.column word.text inline p.taken p.words (has_calls p.calls) =
-    ap (λ l. inline_events line.number word.column l inline p.taken p.words (has_calls p.calls)) n in
+    let name : placed_begun false line word.column (length word.text) inline p
+    ≡ placed_events false line.number word.column word.text inline p.taken p.words (has_calls p.calls) =
+    ap (λ l. placed_events false line.number word.column l inline p.taken p.words (has_calls p.calls)) n in
     let left : suc (length (parts_left line words).calls) ≡ suc (length p.calls) = ap (λ (q : LineParts). suc (length q.calls)) r in (
       begun_comes line words p _ r (m ∙ name) ∙ rest_calls line.number word after inline h c,
       left ∙ rw (h, c) refl,
@@ -148,7 +191,7 @@ call_goes_on line word after inline words n h c r m =
 pub call_comes : (line : Line) (rest : ℕ) (word : Argument (List ℕ)) (after : List (Argument (List ℕ))) (inline : Inline) (words : MacroWords)
     → arguments_after rest line.text ≡ word ∷ after → list_all is_closing (arguments_after rest line.text) ≡ false → word_call word ≡ Some inline
     → parts_left line words ≡ rest_parts (parts (Some inline) true after)
-    → macro_words_events line words ≡ begun_events line word.column (length word.text) inline (parts (Some inline) true after)
+    → macro_words_events line words ≡ placed_begun false line word.column (length word.text) inline (parts (Some inline) true after)
     → GoesOnFrom line words (arguments_after rest line.text)
 call_comes line rest word after inline words e h c r m =
     let t : list_all is_closing (word ∷ after) ≡ false = ap (λ l. list_all is_closing l) (sym e) ∙ h in

@@ -10,6 +10,7 @@ use Rattle.page_roff_forms.specs.Arguments.{has_arguments}
 use Rattle.page_roff_requests.specs.declared.requests.LayoutRequest.{LayoutRequest}
 use Rattle.page_sets_lines.specs.declared.events.Deed.TheVariants as deeds
 use Rattle.page_sets_lines.specs.declared.events.Event.{Event}
+use Rattle.page_sets_lines.specs.declared.line_steps.SynopsisStep.TheVariants.{Break}
 use Rattle.page_sets_lines.specs.declared.openers.Closer.TheVariants as closers
 use Rattle.page_sets_lines.specs.declared.plain_lines.PlainLine.{PlainLine}
 use Rattle.page_sets_lines.specs.ControlLines.{name_of, rest_of, is_nameless}
@@ -20,15 +21,16 @@ use Rattle.page_sets_mdoc_rows.specs.declared.blocks.LineMacro.TheVariants as li
 use Rattle.page_sets_mdoc_rows.specs.Rows.{line_macro, is_parsed}
 use Rattle.page_sets_mdoc_lines.specs.Parts.{Call, LineParts, parts, has_calls}
 use Rattle.page_sets_mdoc_words.specs.Printed.{printed}
-use Rattle.page_sets_mdoc_words.specs.Inlines.{inline_events}
-use Rattle.page_sets_mdoc_blocks.specs.Macros.{has_phrase, is_to_come}
-use Rattle.page_sets_mdoc_blocks.specs.Fronts.{name_column, line_arguments, refusal, request_front, has_real_word, block_front}
+use Rattle.page_sets_mdoc_words.specs.Synopses.{framed, placed_events}
+use Rattle.page_sets_mdoc_words.specs.Sentences.{include_events, sentence_events}
+use Rattle.page_sets_mdoc_blocks.specs.Macros.{has_phrase}
+use Rattle.page_sets_mdoc_blocks.specs.Fronts.{name_column, line_arguments, refusal, request_front, has_real_word, given_names, block_front}
 
 -- ---- the words of a line, with the macros among them
 
 -- a macro that a word calls stands at that word
 abbrev pub call_events : ℕ → Call → Bool → List (Event (List ℕ))
-call_events number call follows = inline_events number call.name.column call.name.text call.inline call.taken call.words follows
+call_events number call follows = placed_events false number call.name.column call.name.text call.inline call.taken call.words follows
 
 abbrev pub calls_events : ℕ → List Call → List (Event (List ℕ))
 calls_events number [] = []
@@ -46,7 +48,7 @@ rest_events number parts = calls_events number parts.calls ++ tail_events number
 -- a macro that can stand among words, and begins the line
 abbrev pub head_events : Line → Inline → LineParts → List (Event (List ℕ))
 head_events line inline parts =
-    inline_events line.number (name_column line) (name_of line) inline parts.taken parts.words (has_calls parts.calls)
+    placed_events true line.number (name_column line) (name_of line) inline parts.taken parts.words (has_calls parts.calls)
     ++ rest_events line.number parts
 
 -- the words of any other macro, in the font around them
@@ -65,6 +67,12 @@ abbrev pub field_font : Bool → Font → Option Font
 field_font true font = own_font font
 field_font false font = None
 
+-- the file of `In` stands on a row of its own in the SYNOPSIS; one without a word is refused, and its words stay
+abbrev pub include_words : Bool → Line → List (Event (List ℕ))
+include_words true line =
+    framed line.number (name_column line) (Some Break) (Some Break) (include_events line.number (name_column line) (line_arguments line))
+include_words false line = printed line.number None (line_arguments line)
+
 abbrev pub words_events : LineMacro → Line → List (Event (List ℕ))
 words_events (lines.Inline inline) line = head_events line inline (line_parts (Some inline) line)
 words_events lines.Item line = phrase_events line.number (line_parts None line)
@@ -72,6 +80,8 @@ words_events (lines.Heading name) line = phrase_events line.number (line_parts N
 words_events lines.Description line = phrase_events line.number (line_parts None line)
 words_events (lines.OneLine name) line = phrase_events line.number (line_parts None line)
 words_events (lines.Field font) line = printed line.number (field_font (has_real_word line) font) (line_arguments line)
+words_events (lines.Sentence sentence) line = sentence_events line.number (name_column line) sentence (given_names (line_arguments line))
+words_events lines.Include line = include_words (has_real_word line) line
 words_events _ line = []
 
 -- ---- a line
@@ -84,11 +94,10 @@ refused_events kind line = refusal kind line ∷ line_end line.number true ∷ [
 abbrev pub lacks_words : LineMacro → Line → Bool
 lacks_words begins line = has_phrase begins && not (has_arguments (rest_of line))
 
--- a macro that begins the line; one whose events are still to come is unknown
+-- a macro that begins the line
 abbrev pub macro_events : LineMacro → Line → List (Event (List ℕ))
 macro_events begins line =
-    if is_to_come begins then refused_events UnknownMacro line
-    else if lacks_words begins line then refused_events EmptyMacro line
+    if lacks_words begins line then refused_events EmptyMacro line
     else block_front begins line ++ (words_events begins line ++ (line_end line.number true ∷ []))
 
 abbrev pub request_events : Option LayoutRequest → Line → List (Event (List ℕ))

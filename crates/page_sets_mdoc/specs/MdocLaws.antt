@@ -18,16 +18,19 @@ use Rattle.page_sets_mdoc_rows.specs.declared.blocks.LineMacro.{LineMacro}
 use Rattle.page_sets_mdoc_rows.specs.declared.blocks.LineMacro.TheVariants as lines
 use Rattle.page_sets_mdoc_rows.specs.Rows.{line_macro, is_parsed}
 use Rattle.page_sets_mdoc_lines.proofs.FewLemmas.{few_arguments_after}
-use Rattle.page_sets_mdoc_words.proofs.PrintLemmas.{Prints, no_event, more_events, printed_prints}
-use Rattle.page_sets_mdoc_words.proofs.StepPrintLemmas.{step_prints}
-use Rattle.page_sets_mdoc_blocks.specs.Macros.{is_to_come}
-use Rattle.page_sets_mdoc_blocks.specs.Fronts.{name_column, line_arguments, request_front, has_real_word, block_front}
+use Rattle.page_sets_mdoc_words.proofs.PrintLemmas.{Prints, no_event, more_events, word_passed, printed_prints, include_prints, sentence_prints, framed_prints}
+use Rattle.page_sets_mdoc_words.proofs.StepPrintLemmas.{most_events, step_prints}
+use Rattle.page_sets_mdoc_blocks.specs.Fronts.{name_column, line_arguments, request_front, has_real_word, is_standard, given_names, block_front}
 use Rattle.page_sets_mdoc_blocks.proofs.FrontLemmas.{request_front_slices, block_slices, front_slices, request_no_word, block_no_word, request_few, words_more, block_few}
 use Rattle.page_sets_mdoc.specs.declared.plans.Plan.{Plan}
 use Rattle.page_sets_mdoc.specs.declared.plans.LinePlan.{LinePlan}
 use Rattle.page_sets_mdoc.specs.declared.plans.LinePlan.TheVariants as line_plans
 use Rattle.page_sets_mdoc_words.specs.declared.steps.MacroWords.{MacroWords}
-use Rattle.page_sets_mdoc.specs.Mdoc.{field_font, rest_events, head_events, phrase_events, line_parts, words_events, refused_events, lacks_words, macro_events, request_events, named_events, control_events, line_events, mdoc_events}
+use Rattle.page_sets_mdoc_words.specs.Sentences.{sentence_events}
+use Rattle.page_sets_mdoc_rows.specs.declared.blocks.Sentence.{Sentence}
+use Rattle.page_sets_lines.specs.declared.line_steps.SynopsisStep.TheVariants.{Break}
+use Rattle.page_sets_mdoc_lines.specs.LineWords.{arguments_after}
+use Rattle.page_sets_mdoc.specs.Mdoc.{field_font, rest_events, head_events, phrase_events, line_parts, include_words, words_events, refused_events, lacks_words, macro_events, request_events, named_events, control_events, line_events, mdoc_events}
 use Rattle.page_sets_mdoc.specs.Plans.{end_events, words_to_come, plan_events, line_plan_events, IsPlanOf}
 use Rattle.page_sets_mdoc.specs.RestLaws.{rest_prints, head_prints, phrase_prints}
 
@@ -40,7 +43,9 @@ end_slices line number false = tt
 words_slices : (line : Line) (words : MacroWords) → AreSlices line.text (words_to_come line words)
 words_slices line words =
     let all = all_arguments line.text words.left.cursor.rest in
-    AreSlices-append line.text _ _ (step_prints line words.column words.step _ (AreArguments-take line.text words.left.count _ all)).slices
+    let own = AreArguments-take line.text words.left.count (arguments_after words.left.cursor.rest line.text) all in
+    AreSlices-append line.text _ _
+    (framed_prints line.text (most_events words.step) line.number words.column words.before words.after _ _ (step_prints line words.column words.step _ own)).slices
     (rest_prints line _ (AreArguments-drop line.text words.left.count _ all)).slices
 
 plan_slices : (line : Line) (plan : Plan) → AreSlices line.text (plan_events line plan)
@@ -56,6 +61,26 @@ line_plan_slices line (line_plans.Control plan) fits = plan_slices line plan
 
 -- ---- the words of a line
 
+-- the names of a sentence, after its option
+names_print : (line : Line) (sentence : Sentence) (arguments : List (Argument (List ℕ))) → AreArguments line.text arguments
+    → Prints line.text 4 arguments (sentence_events line.number (name_column line) sentence (given_names arguments))
+names_print line sentence [] h = sentence_prints line.text line.number (name_column line) sentence [] h
+names_print line sentence (word ∷ words) h =
+    elim (cases_Bool (is_standard word)) [
+      | inl t ↦
+          rw t (word_passed line.text 4 word words _ (more_events line.text 4 6 words _ (omega arith)
+          (sentence_prints line.text line.number (name_column line) sentence words h.1)))
+      | inr t ↦ rw t (sentence_prints line.text line.number (name_column line) sentence (word ∷ words) h)
+    ]
+
+include_words_print : (line : Line) (real : Bool) → Prints line.text 4 (line_arguments line) (include_words real line)
+include_words_print line true =
+    framed_prints line.text 2 line.number (name_column line) (Some Break) (Some Break) (line_arguments line) _
+    (include_prints line.text line.number (name_column line) (line_arguments line) (all_arguments line.text (name_end line)))
+include_words_print line false =
+    more_events line.text 0 4 (line_arguments line) _ (omega arith)
+    (printed_prints line.text line.number None (line_arguments line) (all_arguments line.text (name_end line)))
+
 words_print : (begins : LineMacro) (line : Line) → Prints line.text (words_more begins) (line_arguments line) (words_events begins line)
 words_print (lines.Inline inline) line = head_prints line inline (line_arguments line) (all_arguments line.text (name_end line))
 words_print (lines.Prologue name) line = no_event line.text 3 (line_arguments line)
@@ -69,8 +94,9 @@ words_print lines.Item line = phrase_prints line (is_parsed (name_of line)) (lin
 words_print (lines.Field font) line =
     more_events line.text 0 3 (line_arguments line) _ (omega arith)
     (printed_prints line.text line.number (field_font (has_real_word line) font) (line_arguments line) (all_arguments line.text (name_end line)))
-words_print (lines.Sentence sentence) line = no_event line.text 3 (line_arguments line)
-words_print lines.Include line = no_event line.text 3 (line_arguments line)
+words_print (lines.Sentence sentence) line =
+    names_print line sentence (line_arguments line) (all_arguments line.text (name_end line))
+words_print lines.Include line = include_words_print line (has_real_word line)
 words_print lines.Spacing line = no_event line.text 3 (line_arguments line)
 words_print lines.Target line = no_event line.text 3 (line_arguments line)
 
@@ -105,9 +131,8 @@ either_keeps line false events others h k = k
 
 macro_keeps : (begins : LineMacro) (line : Line) → Keeps line (macro_events begins line)
 macro_keeps begins line =
-    either_keeps line (is_to_come begins) _ _ (refused_keeps line UnknownMacro)
-    (either_keeps line (lacks_words begins line) _ _ (refused_keeps line EmptyMacro)
-    (with_words line (words_more begins) (block_front begins line) (words_events begins line) (block_slices begins line) (block_no_word begins line) (block_few begins line) (words_print begins line)))
+    either_keeps line (lacks_words begins line) _ _ (refused_keeps line EmptyMacro)
+    (with_words line (words_more begins) (block_front begins line) (words_events begins line) (block_slices begins line) (block_no_word begins line) (block_few begins line) (words_print begins line))
 
 request_keeps : (request : Option LayoutRequest) (line : Line) → Keeps line (request_events request line)
 request_keeps None line = refused_keeps line UnknownMacro

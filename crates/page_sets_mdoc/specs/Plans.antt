@@ -10,6 +10,8 @@ use Rattle.page_sets_mdoc_lines.specs.declared.cursors.Cursor.{Cursor}
 use Rattle.page_sets_mdoc_lines.specs.LineWords.{arguments_after, is_closing}
 use Rattle.page_sets_mdoc_lines.specs.Parts.{Call, LineParts, parts}
 use Rattle.page_sets_mdoc_lines.specs.Cursors.{IsCursorOf}
+use Rattle.page_sets_lines.specs.declared.line_steps.SynopsisStep.{SynopsisStep}
+use Rattle.page_sets_mdoc_words.specs.declared.steps.Step.{Step}
 use Rattle.page_sets_mdoc_words.specs.declared.steps.Step.TheVariants.{Printed}
 use Rattle.page_sets_mdoc_words.specs.declared.steps.MacroWords.{MacroWords}
 use Rattle.page_sets_mdoc_words.specs.Steps.{macro_words_events}
@@ -34,7 +36,17 @@ StandsIn line words = IsCursorOf line.text words.left.cursor × ((parts_left lin
 
 -- this many words in a font, without a macro
 abbrev pub words_from : Option Font → Cursor → ℕ → MacroWords
-words_from font cursor count = record { column = 1; step = Printed font; left = record { count = count; cursor = cursor } }
+words_from font cursor count = record { column = 1; before = None; step = Printed font; left = record { count = count; cursor = cursor }; after = None }
+
+-- this many words of a macro that reads all of its line, from a step on; in the SYNOPSIS it may do something before them and after them
+abbrev pub words_by : ℕ → Option SynopsisStep → Step → Cursor → ℕ → MacroWords
+words_by column around step cursor count = record {
+  column = column;
+  before = around;
+  step = step;
+  left = record { count = count; cursor = cursor };
+  after = around;
+}
 
 -- the next call, if there is one; it is one of those that were left
 abbrev pub GoesOnWith : Line → List (Argument (List ℕ)) → Option MacroWords → Type 0

@@ -13,11 +13,10 @@ use Rattle.page_sets_mdoc_rows.specs.Rows.{is_parsed}
 use Rattle.page_sets_mdoc_lines.specs.LineWords.{word_call, is_closing}
 use Rattle.page_sets_mdoc_lines.specs.Parts.{LineParts, parts, rest_parts, has_calls}
 use Rattle.page_sets_mdoc_lines.proofs.PartLemmas.{words_taken, rest_goes_on}
-use Rattle.page_sets_mdoc_words.specs.Inlines.{inline_events}
+use Rattle.page_sets_mdoc_words.specs.Synopses.{placed_events}
 use Rattle.page_sets_mdoc_words.specs.Printed.{printed}
-use Rattle.page_sets_mdoc_words.specs.Steps.{begun_events}
 use Rattle.page_sets_mdoc_words.proofs.BeginLemmas.{begun_rest}
-use Rattle.page_sets_mdoc_words.proofs.BeginPrintLemmas.{own_count, begun_prints}
+use Rattle.page_sets_mdoc_words.proofs.BeginPrintLemmas.{own_count, placed_prints, called_prints}
 use Rattle.page_sets_mdoc_words.proofs.PrintLemmas.{Prints, no_event, more_events, own_first, word_passed, parted, printed_prints}
 use Rattle.page_sets_mdoc_blocks.specs.Fronts.{name_column}
 use Rattle.page_sets_mdoc.specs.Mdoc.{calls_events, tail_events, rest_events, head_events, phrase_events}
@@ -38,13 +37,13 @@ rest_passes number word words h c = rw (h, c) refl
 -- a word that calls
 pub rest_calls : (number : ℕ) (word : Argument (List ℕ)) (words : List (Argument (List ℕ))) (inline : Inline)
     → list_all is_closing (word ∷ words) ≡ false → word_call word ≡ Some inline
-    → inline_events number word.column word.text inline (parts (Some inline) true words).taken (parts (Some inline) true words).words
+    → placed_events false number word.column word.text inline (parts (Some inline) true words).taken (parts (Some inline) true words).words
     (has_calls (parts (Some inline) true words).calls)
     ++ rest_events number (parts (Some inline) true words)
     ≡ rest_events number (parts None true (word ∷ words))
 rest_calls number word words inline h c =
     let p = parts (Some inline) true words in
-    rw (h, c) (sym (append_assoc (inline_events number word.column word.text inline p.taken p.words (has_calls p.calls)) (calls_events number p.calls) (tail_events number p.tail)))
+    rw (h, c) (sym (append_assoc (placed_events false number word.column word.text inline p.taken p.words (has_calls p.calls)) (calls_events number p.calls) (tail_events number p.tail)))
 
 -- the name of the macro that begins a line
 pub line_name : (line : Line) → take (name_end line - before_name line.text) (drop (before_name line.text + 1 - 1) line.text) ≡ name_of line
@@ -62,18 +61,22 @@ tail_prints line word words h =
     own_first line.text 0 1 (word ∷ words) _ _ refl tt (omega arith) (printed_prints line.text line.number None (word ∷ words) h)
 
 -- a macro with its words, and then what follows these
-macro_prints : (line : Line) (column len : ℕ) (name : List ℕ) (inline : Inline) (parsed : Bool) (arguments : List (Argument (List ℕ)))
-    → AreArguments line.text arguments → take len (drop (column - 1) line.text) ≡ name
+macro_prints : (line : Line) (more : ℕ) (inline : Inline) (parsed : Bool) (arguments : List (Argument (List ℕ))) (events : List (Event (List ℕ)))
+    → Prints line.text more (take (own_count inline parsed arguments) arguments) events
     → RestPrints line (drop (own_count inline parsed arguments) arguments)
-    → Prints line.text 3 arguments
-    (inline_events line.number column name inline (parts (Some inline) parsed arguments).taken (parts (Some inline) parsed arguments).words
-    (has_calls (parts (Some inline) parsed arguments).calls)
-    ++ rest_events line.number (parts (Some inline) parsed arguments))
-macro_prints line column len name inline parsed arguments h n rest =
+    → Prints line.text (more + 1) arguments (events ++ rest_events line.number (parts (Some inline) parsed arguments))
+macro_prints line more inline parsed arguments events own rest =
     let k = own_count inline parsed arguments in
-    let own = rw n at (begun_prints line column len inline parsed arguments h) in
     let others = rw (begun_rest inline parsed arguments) at rest in
-    parted line.text 2 1 k arguments _ _ own others
+    parted line.text more 1 k arguments _ _ own others
+
+-- a macro that a word calls
+called_first : (line : Line) (column len : ℕ) (name : List ℕ) (inline : Inline) (arguments : List (Argument (List ℕ)))
+    → AreArguments line.text arguments → take len (drop (column - 1) line.text) ≡ name
+    → Prints line.text 2 (take (own_count inline true arguments) arguments)
+    (placed_events false line.number column name inline (parts (Some inline) true arguments).taken (parts (Some inline) true arguments).words
+    (has_calls (parts (Some inline) true arguments).calls))
+called_first line column len name inline arguments h n = rw n at (called_prints line column len inline true arguments h)
 
 call_prints : (n : ℕ) (line : Line) (word : Argument (List ℕ)) (words : List (Argument (List ℕ))) (call : Option Inline)
     → IsArgument line.text word → AreArguments line.text words → list_all is_closing (word ∷ words) ≡ false → word_call word ≡ call
@@ -86,7 +89,7 @@ call_prints n line word words None s h t c rest others =
 call_prints n line word words (Some inline) s h t c rest others =
     subst (λ events. Prints line.text 1 (word ∷ words) events) (rest_calls line.number word words inline t c)
     (word_passed line.text 1 word words _
-    (macro_prints line word.column (length word.text) word.text inline true words h s.slice.bytes (others inline)))
+    (macro_prints line 2 inline true words _ (called_first line word.column (length word.text) word.text inline words h s.slice.bytes) (others inline)))
 
 rest_by : (n : ℕ) (line : Line) (arguments : List (Argument (List ℕ))) → length arguments ≤ n → AreArguments line.text arguments → RestPrints line arguments
 rest_by n line [] l h = no_event line.text 1 []
@@ -107,12 +110,20 @@ pub rest_prints : (line : Line) (arguments : List (Argument (List ℕ))) → Are
 rest_prints line arguments h = rest_by (length arguments) line arguments (omega arith) h
 
 -- a macro that can stand among words, and begins the line
+head_first : (line : Line) (column len : ℕ) (name : List ℕ) (inline : Inline) (parsed : Bool) (arguments : List (Argument (List ℕ)))
+    → AreArguments line.text arguments → take len (drop (column - 1) line.text) ≡ name
+    → Prints line.text 4 (take (own_count inline parsed arguments) arguments)
+    (placed_events true line.number column name inline (parts (Some inline) parsed arguments).taken (parts (Some inline) parsed arguments).words
+    (has_calls (parts (Some inline) parsed arguments).calls))
+head_first line column len name inline parsed arguments h n = rw n at (placed_prints line column len inline parsed arguments h)
+
 pub head_prints : (line : Line) (inline : Inline) (arguments : List (Argument (List ℕ))) → AreArguments line.text arguments
-    → Prints line.text 3 arguments (head_events line inline (parts (Some inline) (is_parsed (name_of line)) arguments))
+    → Prints line.text 5 arguments (head_events line inline (parts (Some inline) (is_parsed (name_of line)) arguments))
 head_prints line inline arguments h =
     let parsed = is_parsed (name_of line) in
     let k = own_count inline parsed arguments in
-    macro_prints line (name_column line) (name_end line - before_name line.text) (name_of line) inline parsed arguments h (line_name line)
+    macro_prints line 4 inline parsed arguments _
+    (head_first line (name_column line) (name_end line - before_name line.text) (name_of line) inline parsed arguments h (line_name line))
     (rest_prints line (drop k arguments) (AreArguments-drop line.text k arguments h))
 
 -- words as they are

@@ -9,18 +9,19 @@ ghost use Rattle.page_sets_mdoc_lines.specs.LineWords.{arguments_after};
 ghost use Rattle.page_sets_mdoc_lines.specs.Parts.{parts};
 ghost use Rattle.page_sets_mdoc_lines.specs.Cursors.{IsCursorOf};
 ghost use Rattle.page_sets_mdoc_words.specs.Printed.{printed};
-ghost use Rattle.page_sets_mdoc_blocks.specs.Fronts.{has_real_word, line_arguments};
+ghost use Rattle.page_sets_mdoc_words.specs.Sentences.{sentence_events};
+ghost use Rattle.page_sets_mdoc_blocks.specs.Fronts.{name_column, has_real_word, given_names, line_arguments};
 ghost use Rattle.page_sets_mdoc.specs.Mdoc as mdoc;
 ghost use Rattle.page_sets_mdoc.specs.Plans as plans;
 ghost use Rattle.page_sets_mdoc.specs.Plans.{words_to_come, StandsIn, GoesOnWith};
 
 use page_core_base::{Font, Place, Taken};
 use page_core_limits::LINE;
-use page_sets_lines::{Closer, Deed, Event, find_name};
-use page_sets_mdoc_blocks::has_real_word;
+use page_sets_lines::{Closer, Deed, Event, SynopsisStep, find_name};
+use page_sets_mdoc_blocks::{has_real_word, is_standard};
 use page_sets_mdoc_lines::{Cursor, find_extent, word_call};
-use page_sets_mdoc_rows::{Inline, LineMacro, is_parsed};
-use page_sets_mdoc_words::{MacroWords, Step, WordsLeft};
+use page_sets_mdoc_rows::{Inline, LineMacro, Sentence, is_parsed};
+use page_sets_mdoc_words::{IncludeStep, MacroWords, SentenceStep, Step, WordsLeft};
 
 // This many words in a font, without a macro.
 fn words_from(font: Option<Font>, cursor: Cursor, count: usize) -> MacroWords
@@ -28,8 +29,28 @@ fn words_from(font: Option<Font>, cursor: Cursor, count: usize) -> MacroWords
 {
     MacroWords {
         column: 1,
+        before: None,
         step: Step::Printed(font),
         left: WordsLeft { count, cursor },
+        after: None,
+    }
+}
+
+// All words after a cursor, of a macro that reads all of its line, from a step on; in the SYNOPSIS it may do something before
+// them and after them.
+fn words_by(line: Taken<'_>, around: Option<SynopsisStep>, step: Step, cursor: Cursor) -> MacroWords
+    requires { length line.text.now ≤ LINE }
+    ensures { result ≡ plans.words_by (name_column (line_seen line.entry)) around step cursor LINE }
+{
+    MacroWords {
+        column: find_name(line).start as u32 + 1,
+        before: around,
+        step,
+        left: WordsLeft {
+            count: LINE,
+            cursor,
+        },
+        after: around,
     }
 }
 
@@ -61,6 +82,7 @@ fn head_words(line: Taken<'_>, inline: Inline) -> MacroWords
 {
     let name = find_name(line);
     MacroWords::begin(
+        true,
         line,
         inline,
         name.start as u32 + 1,
@@ -104,6 +126,71 @@ fn field_words(line: Taken<'_>, font: Font) -> MacroWords
     words_from(field_font(has_real_word(line), font), cursor, LINE)
 }
 
+// A cursor before the names of a sentence, after its option.
+fn names_cursor(line: Taken<'_>) -> Cursor
+    requires { length line.text.now ≤ LINE }
+    ensures stands { IsCursorOf line.entry.text.now result }
+    ensures names { arguments_after result.rest line.entry.text.now ≡ given_names (line_arguments (line_seen line.entry)) }
+{
+    let cursor = Cursor::new(line.text, find_name(line).end);
+    let mut ahead = cursor;
+    match ahead.read(line.text) {
+        Some(word) if is_standard(word) => ahead,
+        _ => cursor,
+    }
+}
+
+// The words of a sentence.
+fn sentence_words(line: Taken<'_>, sentence: Sentence) -> MacroWords
+    requires { length line.text.now ≤ LINE }
+    ensures stands { StandsIn (line_seen line.entry) result }
+    ensures events { words_to_come (line_seen line.entry) result
+        ≡ sentence_events line.entry.line (name_column (line_seen line.entry)) sentence (given_names (line_arguments (line_seen line.entry))) }
+{
+    let step = Step::Sentence {
+        sentence,
+        step: SentenceStep::The,
+    };
+    words_by(line, None, step, names_cursor(line))
+}
+
+// The words of a file of declarations.
+fn file_words(line: Taken<'_>) -> MacroWords
+    requires { length line.text.now ≤ LINE }
+    ensures stands { StandsIn (line_seen line.entry) result }
+    ensures events { words_to_come (line_seen line.entry) result ≡ mdoc.include_words true (line_seen line.entry) }
+{
+    words_by(
+        line,
+        Some(SynopsisStep::Break),
+        Step::Include(IncludeStep::Name),
+        Cursor::new(line.text, find_name(line).end),
+    )
+}
+
+// The words of one that is refused: all of its line.
+fn refused_words(line: Taken<'_>) -> MacroWords
+    requires { length line.text.now ≤ LINE }
+    ensures stands { StandsIn (line_seen line.entry) result }
+    ensures events { words_to_come (line_seen line.entry) result ≡ mdoc.include_words false (line_seen line.entry) }
+{
+    words_from(None, Cursor::new(line.text, find_name(line).end), LINE)
+}
+
+// The words of `In`.
+fn include_words(line: Taken<'_>) -> MacroWords
+    requires { length line.text.now ≤ LINE }
+    ensures stands { StandsIn (line_seen line.entry) result }
+    ensures events { words_to_come (line_seen line.entry) result
+        ≡ mdoc.include_words (has_real_word (line_seen line.entry)) (line_seen line.entry) }
+{
+    if has_real_word(line) {
+        file_words(line)
+    } else {
+        refused_words(line)
+    }
+}
+
 /// The words of the macro that begins a line.
 pub(crate) fn words_of(begins: LineMacro, line: Taken<'_>) -> MacroWords
     requires { length line.text.now ≤ LINE }
@@ -115,6 +202,8 @@ pub(crate) fn words_of(begins: LineMacro, line: Taken<'_>) -> MacroWords
         LineMacro::Item | LineMacro::Heading(_) | LineMacro::Description | LineMacro::OneLine(_) =>
             phrase_words(line),
         LineMacro::Field(font) => field_words(line, font),
+        LineMacro::Sentence(sentence) => sentence_words(line, sentence),
+        LineMacro::Include => include_words(line),
         _ => no_words(line),
     }
 }
@@ -133,6 +222,7 @@ fn next_call(line: Taken<'_>, cursor: Cursor) -> Option<MacroWords>
     let name = ahead.read(line.text)?;
     let inline = word_call(name)?;
     Some(MacroWords::begin(
+        false,
         line,
         inline,
         name.column,

@@ -10,7 +10,7 @@ use Rattle.page_sets_lines.specs.declared.events.Event.{Event}
 use Rattle.page_sets_lines.specs.declared.macro_names.HeadingName.{HeadingName}
 use Rattle.page_sets_lines.specs.declared.macro_names.HeadingName.TheVariants as headings
 use Rattle.page_sets_lines.specs.declared.openers.LineOpener.{LineOpener}
-use Rattle.page_sets_lines.specs.Laws.{IsPart, IsPartIfGiven, IsArgument, IsArgumentIfGiven, AreSlices, OpensSlices, BlockOpensSlices, BlockClosesSlices}
+use Rattle.page_sets_lines.specs.Laws.{IsPart, IsPartIfGiven, IsArgument, IsArgumentIfGiven, HasSlices, AreSlices, OpensSlices, BlockOpensSlices, BlockClosesSlices}
 use Rattle.page_sets_lines.specs.declared.events.Deed.TheVariants as deeds
 use Rattle.page_sets_lines.specs.declared.leaves.Leaf.TheVariants as leaves
 use Rattle.page_sets_lines.specs.declared.line_steps.LineStep.TheVariants as steps
@@ -25,10 +25,10 @@ use Rattle.page_sets_mdoc_rows.specs.declared.blocks.LineMacro.TheVariants as li
 use Rattle.page_sets_mdoc_blocks.specs.declared.fronts.FrontDeed.{FrontDeed}
 use Rattle.page_sets_mdoc_blocks.specs.declared.fronts.FrontDeed.TheVariants as fronts
 use Rattle.page_sets_mdoc_blocks.specs.declared.fronts.Front.{Front}
-use Rattle.page_sets_mdoc_blocks.specs.Fronts.{at_name, line_arguments, quote_events, missing_quote, request_front, heading_opener, first_text, opener_of, closer_of, note_detail, note_events, block_note, begin_front, end_front, has_real_word, field_front, block_front}
+use Rattle.page_sets_mdoc_blocks.specs.Fronts.{at_name, line_arguments, quote_events, missing_quote, request_front, heading_opener, first_text, opener_of, closer_of, deed_at_name, note_detail, note_events, block_note, begin_front, end_front, has_real_word, field_front, option_quote, include_front, spacing_of, spacing_deed, spacing_front, block_front}
 use Rattle.page_sets_mdoc_blocks.specs.declared.displays.DisplayOptions.{DisplayOptions}
 use Rattle.page_sets_mdoc_blocks.specs.Displays.{display_type, first_type, no_options, option_read, options_after}
-use Rattle.page_sets_mdoc_blocks.specs.FrontSteps.{front_deed, deed_at_name, field_deed, scope_events, front_events, of_deed, quoting, beginning}
+use Rattle.page_sets_mdoc_blocks.specs.FrontSteps.{front_deed, field_deed, include_deed, spacing_front_deed, scope_events, front_events, of_deed, quoted, quoting, beginning}
 
 -- ---- slices
 
@@ -99,6 +99,23 @@ closes_slices blocks.Fonts line = tt
 closes_slices blocks.Keep line = tt
 closes_slices blocks.Reference line = tt
 
+include_slices : (real : Bool) (line : Line) → AreSlices line.text (include_front real line)
+include_slices true line = tt
+include_slices false line = (name_part line, tt)
+
+-- of what may be there
+abbrev HasSlicesIfGiven : List ℕ → Option (Deed (List ℕ)) → Type 0
+HasSlicesIfGiven line None = Unit {0}
+HasSlicesIfGiven line (Some deed) = HasSlices line deed
+
+at_name_slices : (line : Line) (deed : Option (Deed (List ℕ))) → HasSlicesIfGiven line.text deed → AreSlices line.text (deed_at_name line deed)
+at_name_slices line None h = tt
+at_name_slices line (Some deed) h = (h, tt)
+
+spacing_slices : (line : Line) (on : Option (Option Bool)) → HasSlicesIfGiven line.text (spacing_deed on)
+spacing_slices line None = tt
+spacing_slices line (Some on) = tt
+
 field_slices : (real : Bool) (line : Line) → AreSlices line.text (field_front real line)
 field_slices true line = (tt, tt)
 field_slices false line = (name_part line, tt)
@@ -116,9 +133,10 @@ block_slices (lines.Begins block) line =
 block_slices (lines.Ends block) line = AreSlices-append line.text _ _ (missing_slices false line) (closes_slices block line, tt)
 block_slices lines.Item line = (tt, (tt, tt))
 block_slices (lines.Field font) line = field_slices (has_real_word line) line
-block_slices (lines.Sentence sentence) line = tt
-block_slices lines.Include line = tt
-block_slices lines.Spacing line = tt
+block_slices (lines.Sentence sentence) line = quote_slices line.text line.number true (option_quote (line_arguments line))
+block_slices lines.Include line = include_slices (has_real_word line) line
+block_slices lines.Spacing line =
+    AreSlices-append line.text _ _ (missing_slices false line) (at_name_slices line _ (spacing_slices line (spacing_of (first_text line))))
 block_slices lines.Target line = missing_slices false line
 
 deed_slices : (deed : FrontDeed) (line : Line) → AreSlices line.text (deed_at_name line (front_deed deed line))
@@ -131,6 +149,7 @@ deed_slices (fronts.Paragraph name) line = (tt, tt)
 deed_slices (fronts.Begins block) line = (opens_slices block line, tt)
 deed_slices (fronts.Ends block) line = (closes_slices block line, tt)
 deed_slices fronts.Field line = (tt, tt)
+deed_slices (fronts.Spacing on) line = (tt, tt)
 deed_slices fronts.Section line = (tt, tt)
 deed_slices fronts.Subsection line = (tt, tt)
 
@@ -161,6 +180,14 @@ note_no_word : (line : Line) (kind : Option NoteKind) → HasNoWord (note_events
 note_no_word line None = tt
 note_no_word line (Some kind) = (refl, tt)
 
+include_no_word : (real : Bool) (line : Line) → HasNoWord (include_front real line)
+include_no_word true line = tt
+include_no_word false line = (refl, tt)
+
+spacing_no_word : (line : Line) (on : Option (Option Bool)) → HasNoWord (deed_at_name line (spacing_deed on))
+spacing_no_word line None = tt
+spacing_no_word line (Some on) = (refl, tt)
+
 field_no_word : (real : Bool) (line : Line) → HasNoWord (field_front real line)
 field_no_word true line = (refl, tt)
 field_no_word false line = (refl, tt)
@@ -181,9 +208,10 @@ block_no_word (lines.Begins block) line =
 block_no_word (lines.Ends block) line = HasNoWord-append (missing_quote false line) _ (missing_no_word false line) (refl, tt)
 block_no_word lines.Item line = (refl, (refl, tt))
 block_no_word (lines.Field font) line = field_no_word (has_real_word line) line
-block_no_word (lines.Sentence sentence) line = tt
-block_no_word lines.Include line = tt
-block_no_word lines.Spacing line = tt
+block_no_word (lines.Sentence sentence) line = quote_no_word line.number true (option_quote (line_arguments line))
+block_no_word lines.Include line = include_no_word (has_real_word line) line
+block_no_word lines.Spacing line =
+    HasNoWord-append (missing_quote false line) _ (missing_no_word false line) (spacing_no_word line (spacing_of (first_text line)))
 block_no_word lines.Target line = missing_no_word false line
 
 -- ---- few
@@ -211,6 +239,20 @@ begins_few block line =
 ends_few : (block : Block) (line : Line) → length (end_front block line) ≤ 3
 ends_few block line = let f = missing_few false line in simp length-append (omega (arith, f))
 
+include_few : (real : Bool) (line : Line) → length (include_front real line) ≤ 1
+include_few true line = omega arith
+include_few false line = omega arith
+
+at_name_few : (line : Line) (deed : Option (Deed (List ℕ))) → length (deed_at_name line deed) ≤ 1
+at_name_few line None = omega arith
+at_name_few line (Some deed) = omega arith
+
+spacing_few : (line : Line) → length (spacing_front line) ≤ 2
+spacing_few line =
+    let f = missing_few false line in
+    let d = at_name_few line (spacing_deed (spacing_of (first_text line))) in
+    simp length-append (omega (arith, f, d))
+
 field_few : (real : Bool) (line : Line) → length (field_front real line) ≤ 2
 field_few true line = omega arith
 field_few false line = omega arith
@@ -218,8 +260,11 @@ field_few false line = omega arith
 pub request_few : (name : LayoutRequest) (line : Line) → length (request_front name line) ≤ 2
 request_few name line = quoted_few line _
 
--- how many events the words of a macro may add; a block of lines has none
+-- how many events the words of a macro may add; a block of lines has none, and macros that can stand among words have no front
 abbrev pub words_more : LineMacro → ℕ
+words_more (lines.Inline inline) = 5
+words_more (lines.Sentence sentence) = 4
+words_more lines.Include = 4
 words_more (lines.Begins block) = 2
 words_more (lines.Ends block) = 2
 words_more _ = 3
@@ -235,9 +280,9 @@ block_few (lines.Begins block) line = let f = begins_few block line in omega (ar
 block_few (lines.Ends block) line = let f = ends_few block line in omega (arith, f)
 block_few lines.Item line = omega arith
 block_few (lines.Field font) line = let f = field_few (has_real_word line) line in omega (arith, f)
-block_few (lines.Sentence sentence) line = omega arith
-block_few lines.Include line = omega arith
-block_few lines.Spacing line = omega arith
+block_few (lines.Sentence sentence) line = let f = quote_few line.number true (option_quote (line_arguments line)) in omega (arith, f)
+block_few lines.Include line = let f = include_few (has_real_word line) line in omega (arith, f)
+block_few lines.Spacing line = let f = spacing_few line in omega (arith, f)
 block_few lines.Target line = let f = missing_few false line in omega (arith, f)
 
 -- ---- what is put into a front
@@ -251,3 +296,19 @@ ends_with block line = refl
 pub field_begins : (real : Bool) (line : Line) → front_events line (of_deed (field_deed real)) ≡ field_front real line
 field_begins true line = refl
 field_begins false line = refl
+
+pub include_begins : (real : Bool) (line : Line) → front_events line (of_deed (include_deed real)) ≡ include_front real line
+include_begins true line = refl
+include_begins false line = refl
+
+pub sentence_begins : (quote : Option ℕ) (line : Line) → front_events line (quoted quote) ≡ quote_events line.number true quote
+sentence_begins None line = refl
+sentence_begins (Some column) line = refl
+
+spacing_given : (on : Option (Option Bool)) (line : Line)
+    → front_events line (quoting (spacing_front_deed on) line) ≡ missing_quote false line ++ deed_at_name line (spacing_deed on)
+spacing_given None line = refl
+spacing_given (Some on) line = refl
+
+pub spacing_begins : (line : Line) → front_events line (quoting (spacing_front_deed (spacing_of (first_text line))) line) ≡ spacing_front line
+spacing_begins line = spacing_given (spacing_of (first_text line)) line

@@ -18,7 +18,7 @@ use Rattle.page_sets_lines.specs.PlainLines.{request}
 use Rattle.page_sets_mdoc_blocks.specs.declared.fronts.FrontDeed.{FrontDeed}
 use Rattle.page_sets_mdoc_blocks.specs.declared.fronts.FrontDeed.TheVariants as fronts
 use Rattle.page_sets_mdoc_blocks.specs.declared.fronts.Front.{Front}
-use Rattle.page_sets_mdoc_blocks.specs.Fronts.{at_name, line_arguments, quote_events, opener_of, closer_of, note_events, block_note}
+use Rattle.page_sets_mdoc_blocks.specs.Fronts.{at_name, line_arguments, quote_events, opener_of, closer_of, deed_at_name, note_events, block_note}
 
 abbrev pub missing_column : Line → Option ℕ
 missing_column line = open_quote 0 (line_arguments line)
@@ -42,6 +42,7 @@ front_deed (fronts.Prologue name) line = Some (deeds.Leaf (leaves.Prologue name 
 front_deed (fronts.Paragraph name) line = Some (deeds.Leaf (leaves.Step (steps.BodyParagraph name)))
 front_deed (fronts.Begins block) line = Some (block_deed true block line)
 front_deed (fronts.Ends block) line = Some (block_deed false block line)
+front_deed (fronts.Spacing on) line = Some (deeds.Leaf (leaves.Step (steps.Spacing on)))
 front_deed fronts.Field line = Some (deeds.Leaf (leaves.Step steps.NextField))
 front_deed fronts.Section line = Some (deeds.Open openers.Section)
 front_deed fronts.Subsection line = Some (deeds.Open openers.Subsection)
@@ -50,13 +51,17 @@ abbrev pub field_deed : Bool → FrontDeed
 field_deed true = fronts.Field
 field_deed false = fronts.Refused EmptyMacro
 
+abbrev pub include_deed : Bool → FrontDeed
+include_deed true = fronts.Nothing
+include_deed false = fronts.Refused EmptyMacro
+
+abbrev pub spacing_front_deed : Option (Option Bool) → FrontDeed
+spacing_front_deed None = fronts.Nothing
+spacing_front_deed (Some on) = fronts.Spacing on
+
 abbrev pub scope_events : Line → Option LineOpener → List (Event (List ℕ))
 scope_events line None = []
 scope_events line (Some opener) = at_name line (deeds.LineScope opener) ∷ []
-
-abbrev pub deed_at_name : Line → Option (Deed (List ℕ)) → List (Event (List ℕ))
-deed_at_name line None = []
-deed_at_name line (Some deed) = at_name line deed ∷ []
 
 -- all that comes before the words
 abbrev pub front_events : Line → Front → List (Event (List ℕ))
@@ -77,3 +82,7 @@ scoped deed opener = record (of_deed deed) { scope = Some opener }
 
 abbrev pub beginning : Block → Line → Front
 beginning block line = record (quoting (fronts.Begins block) line) { begins_body = true; note = block_note block line }
+
+-- a quote that is lacking, of what may begin the body
+abbrev pub quoted : Option ℕ → Front
+quoted quote = record (of_deed fronts.Nothing) { quote = quote; begins_body = true }

@@ -1,6 +1,7 @@
 -- What a macro that begins a line does before its words, and the requests that change rows. Source: mdoc(7), "MACRO
 -- REFERENCE"; roff(7), "REQUEST REFERENCE".
-use Rattle.std.specs.Prelude.{ℕ, ◌+◌, Bool, true, false, List, [], ◌∷◌, ◌++◌, Option, None, Some, unwrap_or}
+use Rattle.std.specs.Prelude.{ℕ, ◌+◌, ◌-◌, Bool, true, false, ◌&&◌, List, [], ◌∷◌, ◌++◌, Option, None, Some, unwrap_or, codes, if◌then◌else◌}
+use Rattle.std.specs.Str.{bytes_eq}
 use Rattle.std.specs.List.{list_any}
 use Rattle.page_core_base.specs.LinesTaken.{Line}
 use Rattle.page_core_base.specs.declared.note_kinds.NoteKind.{NoteKind}
@@ -22,7 +23,7 @@ use Rattle.page_sets_lines.specs.declared.blocks.BlockOpener.{BlockOpener}
 use Rattle.page_sets_lines.specs.declared.blocks.BlockCloser.{BlockCloser}
 use Rattle.page_sets_lines.specs.declared.blocks.BlockOpener.TheVariants as block_openers
 use Rattle.page_sets_lines.specs.declared.blocks.BlockCloser.TheVariants as block_closers
-use Rattle.page_sets_lines.specs.ControlLines.{before_name, name_end, name_of, rest_of, arguments_after, first_of, text_of, open_quote}
+use Rattle.page_sets_lines.specs.ControlLines.{before_name, name_end, name_of, rest_of, arguments_after, first_of, text_of, is_unclosed, open_quote}
 use Rattle.page_sets_lines.specs.PlainLines.{event_at, request}
 use Rattle.page_core_base.specs.declared.cells.Font.{Font}
 use Rattle.page_sets_mdoc_rows.specs.declared.blocks.Block.{Block}
@@ -93,6 +94,10 @@ closer_of blocks.Fonts = block_closers.Fonts
 closer_of blocks.Keep = block_closers.Keep
 closer_of blocks.Reference = block_closers.Reference
 
+abbrev pub deed_at_name : Line → Option (Deed (List ℕ)) → List (Event (List ℕ))
+deed_at_name line None = []
+deed_at_name line (Some deed) = at_name line deed ∷ []
+
 -- a message about the arguments; one about a font names it
 abbrev pub note_detail : NoteKind → Line → List ℕ
 note_detail UnknownFont line = unwrap_or (first_text line) []
@@ -129,6 +134,46 @@ abbrev pub field_front : Bool → Line → List (Event (List ℕ))
 field_front true line = at_name line (deeds.Leaf (leaves.Step steps.NextField)) ∷ []
 field_front false line = refusal EmptyMacro line ∷ []
 
+-- ---- sentences (`Ex`, `Rv`)
+
+-- their option
+abbrev pub is_standard : Argument (List ℕ) → Bool
+is_standard word = bytes_eq word.text (codes "-std")
+
+-- the quote that it lacks at its end
+abbrev pub option_quote : List (Argument (List ℕ)) → Option ℕ
+option_quote [] = None
+option_quote (word ∷ words) = if is_standard word && is_unclosed word.quoting then Some (word.column - 1) else None
+
+-- the arguments after it
+abbrev pub given_names : List (Argument (List ℕ)) → List (Argument (List ℕ))
+given_names [] = []
+given_names (word ∷ words) = if is_standard word then words else word ∷ words
+
+-- ---- files of declarations (`In`)
+
+-- one without a word is refused
+abbrev pub include_front : Bool → Line → List (Event (List ℕ))
+include_front true line = []
+include_front false line = refusal EmptyMacro line ∷ []
+
+-- ---- blanks between words (`Sm`)
+
+-- what the first argument says: with none it changes, any other than these says nothing
+abbrev pub spacing_of : Option (List ℕ) → Option (Option Bool)
+spacing_of None = Some None
+spacing_of (Some text) =
+    if bytes_eq text (codes "on") then Some (Some true)
+    else if bytes_eq text (codes "off") then Some (Some false)
+    else None
+
+abbrev pub spacing_deed : Option (Option Bool) → Option (Deed (List ℕ))
+spacing_deed None = None
+spacing_deed (Some on) = Some (deeds.Leaf (leaves.Step (steps.Spacing on)))
+
+abbrev pub spacing_front : Line → List (Event (List ℕ))
+spacing_front line = missing_quote false line ++ deed_at_name line (spacing_deed (spacing_of (first_text line)))
+
 -- ---- all of them
 
 -- what a macro does before its words; macros that can stand among words have no front of their own
@@ -144,7 +189,7 @@ block_front (lines.Begins block) line = begin_front block line
 block_front (lines.Ends block) line = end_front block line
 block_front lines.Item line = at_name line (deeds.Open openers.Item) ∷ at_name line (deeds.LineScope scopes.Head) ∷ []
 block_front (lines.Field font) line = field_front (has_real_word line) line
-block_front (lines.Sentence sentence) line = []
-block_front lines.Include line = []
-block_front lines.Spacing line = []
+block_front (lines.Sentence sentence) line = quote_events line.number true (option_quote (line_arguments line))
+block_front lines.Include line = include_front (has_real_word line) line
+block_front lines.Spacing line = spacing_front line
 block_front lines.Target line = missing_quote false line

@@ -11,6 +11,7 @@ ghost use Rattle.page_sets_mdoc_blocks.specs.FrontSteps.{front_deed, front_event
 use crate::displays::{display_of, first_font};
 use crate::line_arguments::{first_text, has_real_word, missing_quote};
 use crate::lists::{list_note, list_of};
+use crate::sentences::{option_quote, spacing_of};
 use page_core_base::{NoteKind, Place, Taken};
 use page_core_limits::LINE;
 use page_roff_requests::LayoutRequest;
@@ -44,6 +45,8 @@ pub(crate) enum FrontDeed {
     Ends(Block),
     /// A field of a reference.
     Field,
+    /// Blanks stand between words, or do not.
+    Spacing(Option<bool>),
 }
 
 /// What is still to come before a line's words, in the order of the fields.
@@ -182,6 +185,7 @@ fn front_deed<'a>(deed: FrontDeed, line: Taken<'a>) -> Option<Deed<&'a [u8]>>
         FrontDeed::Begins(block) => Some(block_deed(true, block, line)),
         FrontDeed::Ends(block) => Some(block_deed(false, block, line)),
         FrontDeed::Field => Some(Deed::Leaf(Leaf::Step(LineStep::NextField))),
+        FrontDeed::Spacing(on) => Some(Deed::Leaf(Leaf::Step(LineStep::Spacing(on)))),
     }
 }
 
@@ -206,6 +210,29 @@ fn field_deed(line: Taken<'_>) -> FrontDeed
         FrontDeed::Field
     } else {
         FrontDeed::Refused(NoteKind::EmptyMacro)
+    }
+}
+
+// What a file of declarations does first: one without a word is refused.
+fn include_deed(line: Taken<'_>) -> FrontDeed
+    requires { length line.text.now ≤ LINE }
+    ensures { result ≡ steps.include_deed (fronts.has_real_word (line_seen line.entry)) }
+{
+    if has_real_word(line) {
+        FrontDeed::Nothing
+    } else {
+        FrontDeed::Refused(NoteKind::EmptyMacro)
+    }
+}
+
+// What the first argument of `Sm` says.
+fn spacing_deed(line: Taken<'_>) -> FrontDeed
+    requires { length line.text.now ≤ LINE }
+    ensures { result ≡ steps.spacing_front_deed (fronts.spacing_of (fronts.first_text (line_seen line.entry))) }
+{
+    match spacing_of(first_text(line)) {
+        Some(on) => FrontDeed::Spacing(on),
+        None => FrontDeed::Nothing,
     }
 }
 
@@ -254,6 +281,18 @@ impl Front {
         }
     }
 
+    // The option of a sentence may lack its last quote.
+    fn of_sentence(line: Taken<'_>) -> Front
+        requires { length line.text.now ≤ LINE }
+        ensures { result ≡ steps.quoted (fronts.option_quote (fronts.line_arguments (line_seen line.entry))) }
+    {
+        Front {
+            quote: option_quote(line),
+            begins_body: true,
+            ..Front::of_deed(FrontDeed::Nothing)
+        }
+    }
+
     // A block of lines begins.
     fn beginning(block: Block, line: Taken<'_>) -> Front
         requires { length line.text.now ≤ LINE }
@@ -289,7 +328,7 @@ impl Front {
     }
 
     /// What a macro does in a line that it begins, before its words.
-    #[tactic(auto, using(crate::proofs::FrontLemmas::begins_with, crate::proofs::FrontLemmas::ends_with, crate::proofs::FrontLemmas::field_begins))]
+    #[tactic(auto, using(crate::proofs::FrontLemmas::begins_with, crate::proofs::FrontLemmas::ends_with, crate::proofs::FrontLemmas::field_begins, crate::proofs::FrontLemmas::sentence_begins, crate::proofs::FrontLemmas::include_begins, crate::proofs::FrontLemmas::spacing_begins))]
     pub fn of_macro(begins: LineMacro, line: Taken<'_>) -> Front
         requires { length line.text.now ≤ LINE }
         ensures { front_events (line_seen line.entry) result ≡ fronts.block_front begins (line_seen line.entry) }
@@ -308,6 +347,9 @@ impl Front {
             LineMacro::Begins(block) => Front::beginning(block, line),
             LineMacro::Ends(block) => Front::quoting(FrontDeed::Ends(block), line),
             LineMacro::Field(_) => Front::of_deed(field_deed(line)),
+            LineMacro::Sentence(_) => Front::of_sentence(line),
+            LineMacro::Include => Front::of_deed(include_deed(line)),
+            LineMacro::Spacing => Front::quoting(spacing_deed(line), line),
             LineMacro::Target => Front::quoting(FrontDeed::Nothing, line),
             _ => Front::nothing(),
         }

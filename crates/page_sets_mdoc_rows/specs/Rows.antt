@@ -231,12 +231,6 @@ abbrev pub called_of : Option InlineRow → Option Inline
 called_of None = None
 called_of (Some row) = if_callable row.calls row.inline
 
--- macros whose events are still to come: a function with its arguments over lines
-abbrev pub is_word_to_come : Inline → Bool
-is_word_to_come (Opens pairs.Function) = true
-is_word_to_come (Closes pairs.Function) = true
-is_word_to_come _ = false
-
 -- what a word of a line calls that is this name
 abbrev pub called : List ℕ → Option Inline
 called name = called_of (inline_row name)

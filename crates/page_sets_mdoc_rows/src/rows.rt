@@ -269,17 +269,6 @@ pub fn line_macro(name: &[u8]) -> Option<LineMacro>
     Some(row.begins)
 }
 
-/// Whether the events of a macro that can stand among words are still to come: `Fo` and `Fc`. No word calls it
-/// until then.
-pub fn is_word_to_come(inline: Inline) -> bool
-    ensures { result ≡ rows.is_word_to_come inline }
-{
-    matches!(
-        inline,
-        Inline::Opens(Pair::Function) | Inline::Closes(Pair::Function)
-    )
-}
-
 /// What a word of a line calls, if it names a macro that words can call ("Callable").
 pub fn called(name: &[u8]) -> Option<Inline>
     ensures { result ≡ rows.called name.now }

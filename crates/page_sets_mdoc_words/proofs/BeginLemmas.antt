@@ -15,6 +15,7 @@ use Rattle.page_sets_mdoc_lines.specs.Parts.{LineParts, parts, rest_parts, part_
 use Rattle.page_sets_mdoc_lines.specs.declared.extents.Extent.{Extent}
 use Rattle.page_sets_mdoc_lines.proofs.PartLemmas.{words_taken, rest_goes_on}
 use Rattle.page_sets_mdoc_words.specs.declared.fronts.Front.TheVariants.{Refused}
+use Rattle.page_sets_mdoc_words.specs.declared.arguments.ArgumentStep.TheVariants.{Next}
 use Rattle.page_sets_mdoc_words.specs.declared.flags.FlagStep.TheVariants.{Dash}
 use Rattle.page_sets_mdoc_words.specs.declared.functions.FunctionStep.TheVariants as functions
 use Rattle.page_sets_mdoc_words.specs.declared.links.LinkStep.TheVariants.{Address}
@@ -23,7 +24,9 @@ use Rattle.page_sets_mdoc_words.specs.declared.references.ReferenceStep.TheVaria
 use Rattle.page_sets_mdoc_words.specs.declared.steps.Step.{Step}
 use Rattle.page_sets_mdoc_words.specs.declared.steps.Step.TheVariants as steps
 use Rattle.page_sets_mdoc_words.specs.Inlines.{inline_events}
-use Rattle.page_sets_mdoc_words.specs.Steps.{step_events, first_step, begun_events, count_of, takes_first, after_first}
+use Rattle.page_sets_lines.specs.declared.line_steps.SynopsisStep.{SynopsisStep}
+use Rattle.page_sets_mdoc_words.specs.Synopses.{before_words, after_words, framed}
+use Rattle.page_sets_mdoc_words.specs.Steps.{step_events, first_step, begun_events, placed_begun, count_of, takes_first, after_first}
 
 -- one of two steps
 if_step : (line : Line) (column : ℕ) (test : Bool) (step other : Step) (words : List (Argument (List ℕ)))
@@ -48,7 +51,7 @@ none_gives line column len (inlines.Words font) q = needs_step line column len (
 none_gives line column len inlines.Author q = needs_step line column len (steps.Printed (Some R)) q
 none_gives line column len inlines.Declaration q = needs_step line column len (steps.Printed (Some B)) q
 none_gives line column len inlines.TypeName q = needs_step line column len (steps.Printed (Some I)) q
-none_gives line column len inlines.Arguments q = needs_step line column len (steps.Printed (Some I)) q
+none_gives line column len inlines.Arguments q = needs_step line column len (steps.Arguments Next) q
 none_gives line column len inlines.Name q = if_step line column (list_any is_real q.words) steps.Named (steps.Lone lones.ManualName) q.words
 none_gives line column len (inlines.Defaulted default) q =
     if_step line column (list_any is_real q.words) (steps.Printed (Some I)) (steps.Lone (lones.Default default)) q.words
@@ -67,7 +70,7 @@ none_gives line column len (inlines.Enclosure marks) q = refl
 none_gives line column len (inlines.Opens (pairs.Quotation quotation)) q = refl
 none_gives line column len (inlines.Opens pairs.Custom) q = refl
 none_gives line column len (inlines.Opens pairs.Extension) q = refl
-none_gives line column len (inlines.Opens pairs.Function) q = refl
+none_gives line column len (inlines.Opens pairs.Function) q = needs_step line column len steps.FunctionName q
 none_gives line column len (inlines.Closes (pairs.Quotation quotation)) q = refl
 none_gives line column len (inlines.Closes pairs.Custom) q = refl
 none_gives line column len (inlines.Closes pairs.Extension) q = refl
@@ -166,6 +169,16 @@ begun_rest inline parsed (word ∷ words) =
       | inr t ↦ rw t (rest_goes_on parsed (word ∷ words))
     ]
 
+-- a macro takes no word, or its first, but for its real words
+pub real_words : (inline : Inline) (parsed : Bool) (arguments : List (Argument (List ℕ)))
+    → list_any is_real (parts (Some inline) parsed arguments).words ≡ (extent_of (parts None parsed (after_first inline arguments))).has_real
+real_words inline parsed [] = refl
+real_words inline parsed (word ∷ words) =
+    elim (cases_Bool (takes_next inline word)) [
+      | inl t ↦ rw t refl
+      | inr t ↦ rw t refl
+    ]
+
 -- ---- the same of what the code found
 
 pub begins_right : (line : Line) (column len count : ℕ) (inline : Inline) (parsed taken : Bool) (extent : Extent) (step : Step) (arguments others : List (Argument (List ℕ)))
@@ -181,3 +194,23 @@ pub goes_on_right : (count : ℕ) (inline : Inline) (parsed taken : Bool) (exten
     → parts None true (drop count arguments) ≡ rest_parts (parts (Some inline) parsed arguments)
 goes_on_right count inline parsed taken extent arguments others t o e n =
     rw (n, e, o, t) (begun_rest inline parsed arguments)
+
+-- with what it does in the SYNOPSIS
+pub placed_right : (first : Bool) (line : Line) (column len count : ℕ) (inline : Inline) (parsed taken : Bool) (extent : Extent) (step : Step)
+    (before after : Option SynopsisStep) (arguments others : List (Argument (List ℕ)))
+    → taken ≡ takes_first inline arguments → others ≡ after_first inline arguments → extent ≡ extent_of (parts None parsed others)
+    → step ≡ first_step inline taken extent len → count ≡ count_of extent.words taken
+    → before ≡ before_words first inline extent.has_real → after ≡ after_words first inline extent.has_real
+    → framed line.number column before after (step_events line column step (take count arguments))
+    ≡ placed_begun first line column len inline (parts (Some inline) parsed arguments)
+placed_right first line column len count inline parsed taken extent step before after arguments others t o e s n b a =
+    let real : extent.has_real ≡ list_any is_real (parts (Some inline) parsed arguments).words =
+    ap (λ (x : Extent). x.has_real) (e ∙ ap (λ l. extent_of (parts None parsed l)) o) ∙ sym (real_words inline parsed arguments) in
+    let begins : before ≡ before_words first inline (list_any is_real (parts (Some inline) parsed arguments).words) =
+    b ∙ ap (λ r. before_words first inline r) real in
+    let ends : after ≡ after_words first inline (list_any is_real (parts (Some inline) parsed arguments).words) =
+    a ∙ ap (λ r. after_words first inline r) real in
+    rw (begins, ends) (ap (λ events. framed line.number column
+    (before_words first inline (list_any is_real (parts (Some inline) parsed arguments).words))
+    (after_words first inline (list_any is_real (parts (Some inline) parsed arguments).words)) events)
+    (begins_right line column len count inline parsed taken extent step arguments others t o e s n))

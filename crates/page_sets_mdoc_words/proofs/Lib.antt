@@ -5,3 +5,4 @@ pub mod BeginLemmas
 pub mod PrintLemmas
 pub mod StepPrintLemmas
 pub mod BeginPrintLemmas
+pub mod SentenceLemmas

@@ -17,8 +17,15 @@ use Rattle.page_sets_lines.proofs.OrderLemmas.{IsTaken, Takes, TakesInOrder, tak
 use Rattle.page_sets_mdoc_rows.specs.declared.delimiters.Delimiter.{Delimiter}
 use Rattle.page_sets_mdoc_rows.specs.declared.delimiters.Delimiter.TheVariants.{Opening, Middle, Closing}
 use Rattle.page_sets_mdoc_lines.specs.LineWords.{word_delimiter, is_real}
-use Rattle.page_sets_mdoc_words.specs.Printed.{word_or_delimiter, printed_word, printed, is_opening}
-use Rattle.page_sets_mdoc_words.specs.Inlines.{lone, named, flags, section, reference, more_arguments, arguments, function_words, function_end, bsd, address, link_words, missing_quote}
+use Rattle.page_sets_mdoc_words.specs.Printed.{word_or_delimiter, real_word, printed_word, printed, is_opening}
+use Rattle.page_sets_mdoc_words.specs.Inlines.{lone, named, flags, section, reference, more_arguments, arguments, function_words, function_end, next_arguments, function_opened, bsd, address, link_words, missing_quote}
+use Rattle.page_sets_lines.specs.declared.line_steps.SynopsisStep.{SynopsisStep}
+use Rattle.page_sets_lines.specs.declared.leaves.Own.{Own}
+use Rattle.page_sets_mdoc_rows.specs.declared.blocks.Sentence.{Sentence}
+use Rattle.page_sets_mdoc_words.specs.declared.sentences.NameCount.{NameCount}
+use Rattle.page_sets_mdoc_words.specs.declared.sentences.NameCount.TheVariants as counts
+use Rattle.page_sets_mdoc_words.specs.Synopses.{preceded, followed, framed}
+use Rattle.page_sets_mdoc_words.specs.Sentences.{name_count, has_comma, name_mark, marked, joined, names_events, given_names, sentence_events, file_events, include_events}
 
 -- the texts of events are slices of the line, their words are some of these in their order, and there are few of them
 pub record Prints (line : List ℕ) (more : ℕ) (words : List (Argument (List ℕ))) (events : List (Event (List ℕ))) : Type 0 where
@@ -223,6 +230,26 @@ pub function_end_prints : (line : List ℕ) (number column : ℕ) (words : List 
 function_end_prints line number column words h =
     own_first line 0 1 words _ (printed number None words) refl tt (omega arith) (printed_prints line number None words h)
 
+pub next_arguments_print : (line : List ℕ) (number column : ℕ) (words : List (Argument (List ℕ))) → AreArguments line words
+    → Prints line 0 words (next_arguments number column words)
+next_arguments_print line number column [] h = no_event line 0 []
+next_arguments_print line number column (word ∷ words) h =
+    let more = next_arguments_print line number column words h.1 in
+    elim (cases_Bool (is_real word)) [
+      | inl t ↦ rw t (marked_first line 0 number (Some I) _ word words (next_arguments number column words) refl tt h.0 more)
+      | inr t ↦ rw t (printed_first line 0 number None word words (next_arguments number column words) h.0 more)
+    ]
+
+pub function_opened_prints : (line : List ℕ) (number column : ℕ) (words : List (Argument (List ℕ))) → AreArguments line words
+    → Prints line 0 words (function_opened number column words)
+function_opened_prints line number column [] h = no_event line 0 []
+function_opened_prints line number column (word ∷ words) h =
+    elim (cases_Bool (is_real word)) [
+      | inl t ↦
+          rw t (word_passed line 0 word words _ (own_first line 0 2 words _ (printed number None words) refl h.0 (omega arith) (printed_prints line number None words h.1)))
+      | inr t ↦ rw t (printed_first line 0 number None word words (function_opened number column words) h.0 (function_opened_prints line number column words h.1))
+    ]
+
 pub bsd_prints : (line : List ℕ) (number column : ℕ) (words : List (Argument (List ℕ))) → AreArguments line words
     → Prints line 1 words (bsd number column words)
 bsd_prints line number column [] h = own_first line 0 1 [] _ [] refl tt (omega arith) (no_event line 0 [])
@@ -268,3 +295,102 @@ missing_quote_prints line number option =
       | inl t ↦ rw t (word_passed line 0 option [] _ (own_first line 0 2 [] _ [] refl (nothing_part line) (omega arith) (no_event line 0 [])))
       | inr t ↦ rw t (no_event line 0 (option ∷ []))
     ]
+
+-- ---- `In`
+
+pub file_prints : (line : List ℕ) (number column : ℕ) (words : List (Argument (List ℕ))) → AreArguments line words
+    → Prints line 0 words (file_events number column words)
+file_prints line number column [] h = no_event line 0 []
+file_prints line number column (file ∷ words) h =
+    word_marked line 0 number None _ file words (printed number None words) refl tt h.0 (printed_prints line number None words h.1)
+
+pub include_prints : (line : List ℕ) (number column : ℕ) (words : List (Argument (List ℕ))) → AreArguments line words
+    → Prints line 2 words (include_events number column words)
+include_prints line number column [] h = no_event line 2 []
+include_prints line number column (word ∷ words) h =
+    elim (cases_Bool (is_real word)) [
+      | inl t ↦
+          rw t (own_first line 1 2 (word ∷ words) _ _ refl tt (omega arith)
+          (own_first line 0 1 (word ∷ words) _ _ refl tt (omega arith) (file_prints line number column (word ∷ words) h)))
+      | inr t ↦ rw t (printed_first line 2 number None word words (include_events number column words) h.0 (include_prints line number column words h.1))
+    ]
+
+-- ---- `Ex`, `Rv`
+
+-- what is glued to a name takes the room of an argument's second event
+name_first : (line : List ℕ) (more number column : ℕ) (mark : Option Own) (name : Argument (List ℕ)) (names : List (Argument (List ℕ))) (events : List (Event (List ℕ)))
+    → IsArgument line name → Prints line more names events
+    → Prints line more (name ∷ names) (real_word number (Some B) name ∷ marked number column mark events)
+name_first line more number column None name names events h p = word_first line more name names _ events h (first_taken name names) p
+name_first line more number column (Some own) name names events h p = record {
+  slices = (h, (tt, p.slices));
+  order = (names, first_taken name names, (names, refl, p.order));
+  few = let few = p.few in omega (arith, few);
+}
+
+-- the last name
+last_prints : (line : List ℕ) (number column : ℕ) (sentence : Sentence) (all : NameCount) (name : Argument (List ℕ)) → IsArgument line name
+    → Prints line 1 (name ∷ []) (names_events number column sentence all (name ∷ []))
+last_prints line number column sentence all name h =
+    name_first line 1 number column (name_mark sentence (has_comma all counts.Zero)) name [] _ h
+    (own_first line 0 1 [] _ [] refl tt (omega arith) (no_event line 0 []))
+
+pub names_print : (line : List ℕ) (number column : ℕ) (sentence : Sentence) (all : NameCount) (names : List (Argument (List ℕ))) → AreArguments line names
+    → Prints line 2 names (names_events number column sentence all names)
+names_print line number column sentence all [] h = own_first line 0 2 [] _ [] refl tt (omega arith) (no_event line 0 [])
+names_print line number column sentence all (name ∷ []) h =
+    more_events line 1 2 (name ∷ []) _ (omega arith) (last_prints line number column sentence all name h.0)
+names_print line number column sentence all (name ∷ last ∷ []) h =
+    name_first line 2 number column (name_mark sentence (has_comma all counts.One)) name (last ∷ []) _ h.0
+    (own_first line 1 2 (last ∷ []) _ _ refl tt (omega arith) (last_prints line number column sentence all last h.1.0))
+names_print line number column sentence all (name ∷ second ∷ third ∷ []) h =
+    name_first line 2 number column (name_mark sentence (has_comma all counts.Two)) name (second ∷ third ∷ []) _ h.0
+    (names_print line number column sentence all (second ∷ third ∷ []) h.1)
+names_print line number column sentence all (name ∷ second ∷ third ∷ fourth ∷ names) h =
+    name_first line 2 number column (name_mark sentence (has_comma all counts.More)) name (second ∷ third ∷ fourth ∷ names) _ h.0
+    (names_print line number column sentence all (second ∷ third ∷ fourth ∷ names) h.1)
+
+pub marked_prints : (line : List ℕ) (more number column : ℕ) (mark : Option Own) (words : List (Argument (List ℕ))) (events : List (Event (List ℕ)))
+    → Prints line more words events → Prints line (more + 1) words (marked number column mark events)
+marked_prints line more number column None words events p = more_events line more (more + 1) words events (omega arith) p
+marked_prints line more number column (Some own) words events p = own_first line more (more + 1) words _ events refl tt (omega arith) p
+
+pub joined_prints : (line : List ℕ) (more number column : ℕ) (left : NameCount) (words : List (Argument (List ℕ))) (events : List (Event (List ℕ)))
+    → Prints line more words events → Prints line (more + 1) words (joined number column left events)
+joined_prints line more number column counts.Zero words events p = more_events line more (more + 1) words events (omega arith) p
+joined_prints line more number column counts.One words events p = own_first line more (more + 1) words _ events refl tt (omega arith) p
+joined_prints line more number column counts.Two words events p = more_events line more (more + 1) words events (omega arith) p
+joined_prints line more number column counts.More words events p = more_events line more (more + 1) words events (omega arith) p
+
+given_print : (line : List ℕ) (number column : ℕ) (sentence : Sentence) (names : List (Argument (List ℕ))) → AreArguments line names
+    → Prints line 3 names (given_names number column sentence names)
+given_print line number column sentence [] h =
+    own_first line 2 3 [] _ _ refl tt (omega arith)
+    (marked_prints line 1 number column (name_mark sentence false) [] _ (own_first line 0 1 [] _ [] refl tt (omega arith) (no_event line 0 [])))
+given_print line number column sentence (name ∷ names) h =
+    more_events line 2 3 (name ∷ names) _ (omega arith) (names_print line number column sentence (name_count (name ∷ names)) (name ∷ names) h)
+
+pub sentence_prints : (line : List ℕ) (number column : ℕ) (sentence : Sentence) (names : List (Argument (List ℕ))) → AreArguments line names
+    → Prints line 4 names (sentence_events number column sentence names)
+sentence_prints line number column sentence names h =
+    own_first line 3 4 names _ _ refl tt (omega arith) (given_print line number column sentence names h)
+
+-- ---- with what a macro does in the SYNOPSIS
+
+preceded_prints : (line : List ℕ) (more number column : ℕ) (before : Option SynopsisStep) (words : List (Argument (List ℕ))) (events : List (Event (List ℕ)))
+    → Prints line more words events → Prints line (more + 1) words (preceded number column before events)
+preceded_prints line more number column None words events p = more_events line more (more + 1) words events (omega arith) p
+preceded_prints line more number column (Some step) words events p = own_first line more (more + 1) words _ events refl tt (omega arith) p
+
+followed_prints : (line : List ℕ) (more number column : ℕ) (after : Option SynopsisStep) (words : List (Argument (List ℕ))) (events : List (Event (List ℕ)))
+    → Prints line more words events → Prints line (more + 1) words (followed number column after events)
+followed_prints line more number column None words events p = more_events line more (more + 1) words events (omega arith) p
+followed_prints line more number column (Some step) words events p =
+    subst (λ l. Prints line (more + 1) l (followed number column (Some step) events)) (nothing_after words)
+    (both line more 1 words [] events _ p (own_first line 0 1 [] _ [] refl tt (omega arith) (no_event line 0 [])))
+
+pub framed_prints : (line : List ℕ) (more number column : ℕ) (before after : Option SynopsisStep) (words : List (Argument (List ℕ))) (events : List (Event (List ℕ)))
+    → Prints line more words events → Prints line (more + 2) words (framed number column before after events)
+framed_prints line more number column before after words events p =
+    more_events line (more + 1 + 1) (more + 2) words _ (omega arith)
+    (preceded_prints line (more + 1) number column before words _ (followed_prints line more number column after words events p))

@@ -17,6 +17,15 @@ use Rattle.page_sets_mdoc_words.specs.declared.functions.FunctionStep.{FunctionS
 use Rattle.page_sets_mdoc_words.specs.declared.functions.FunctionStep.TheVariants as function_steps
 use Rattle.page_sets_mdoc_words.specs.declared.links.LinkStep.{LinkStep}
 use Rattle.page_sets_mdoc_words.specs.declared.links.LinkStep.TheVariants as link_steps
+use Rattle.page_sets_mdoc_words.specs.declared.arguments.ArgumentStep.{ArgumentStep}
+use Rattle.page_sets_mdoc_words.specs.declared.arguments.ArgumentStep.TheVariants as argument_steps
+use Rattle.page_sets_mdoc_words.specs.declared.includes.IncludeStep.{IncludeStep}
+use Rattle.page_sets_mdoc_words.specs.declared.includes.IncludeStep.TheVariants as include_steps
+use Rattle.page_sets_mdoc_words.specs.declared.sentences.NameCount.TheVariants as counts
+use Rattle.page_sets_mdoc_words.specs.declared.sentences.SentenceStep.{SentenceStep}
+use Rattle.page_sets_mdoc_words.specs.declared.sentences.SentenceStep.TheVariants as sentence_steps
+use Rattle.page_sets_mdoc_rows.specs.declared.blocks.Sentence.{Sentence}
+use Rattle.page_sets_mdoc_words.specs.Sentences.{name_mark}
 use Rattle.page_sets_mdoc_words.specs.declared.names.Lone.{Lone}
 use Rattle.page_sets_mdoc_words.specs.declared.names.Lone.TheVariants as lones
 use Rattle.page_sets_mdoc_words.specs.declared.references.ReferenceStep.{ReferenceStep}
@@ -29,8 +38,8 @@ use Rattle.page_sets_mdoc_words.specs.declared.steps.Step.{Step}
 use Rattle.page_sets_mdoc_words.specs.declared.steps.Step.TheVariants as steps
 use Rattle.page_sets_mdoc_words.specs.Printed.{printed}
 use Rattle.page_sets_mdoc_words.specs.Inlines.{flags, missing_quote}
-use Rattle.page_sets_mdoc_words.specs.Steps.{front_event, block_opener, block_closer, taken_events, option_events, lone_event, version_events, flag_events, reference_events, inside_events, function_events, uri_at, uri_events, link_events, step_events}
-use Rattle.page_sets_mdoc_words.proofs.PrintLemmas.{Prints, no_event, more_events, own_first, word_first, word_passed, both, parted, first_taken, printed_first, word_marked, printed_prints, lone_prints, named_prints, flags_print, section_prints, reference_prints, more_arguments_print, arguments_print, function_words_print, function_end_prints, bsd_prints, link_words_print, missing_quote_prints}
+use Rattle.page_sets_mdoc_words.specs.Steps.{front_event, block_opener, block_closer, taken_events, option_events, lone_event, version_events, flag_events, reference_events, inside_events, function_events, uri_at, uri_events, link_events, argument_events, include_step_events, sentence_step_events, step_events}
+use Rattle.page_sets_mdoc_words.proofs.PrintLemmas.{Prints, no_event, more_events, own_first, word_first, word_passed, both, parted, first_taken, printed_first, word_marked, printed_prints, lone_prints, named_prints, flags_print, section_prints, reference_prints, more_arguments_print, arguments_print, function_words_print, function_end_prints, bsd_prints, link_words_print, missing_quote_prints, next_arguments_print, function_opened_prints, file_prints, include_prints, names_print, marked_prints, joined_prints, sentence_prints}
 
 -- ---- before the words
 
@@ -66,6 +75,7 @@ front_slices line column (fronts.System system) = (refl, tt)
 front_slices line column (fronts.Enclosure marks) = (refl, tt)
 front_slices line column (fronts.Opens block) = (refl, opens_slices line.text block)
 front_slices line column (fronts.Closes block) = (refl, closes_slices line.text block)
+front_slices line column fronts.ClosesFunction = (refl, tt)
 
 front_prints : (line : Line) (column : ℕ) (front : Front) (words : List (Argument (List ℕ))) → AreArguments line.text words
     → Prints line.text 2 words (step_events line column (steps.Front front) words)
@@ -172,11 +182,47 @@ link_prints line column (link_steps.Uri uri) words h =
     more_events line.text 1 2 words _ (omega arith)
     (uri_prints line.text line.number column (uri_at line uri) words (first_slice_after line.text (min uri (length line.text))) h)
 
+argument_prints : (line : List ℕ) (number column : ℕ) (step : ArgumentStep) (words : List (Argument (List ℕ))) → AreArguments line words
+    → Prints line 0 words (argument_events number column step words)
+argument_prints line number column argument_steps.Next words h = next_arguments_print line number column words h
+argument_prints line number column argument_steps.Word [] h = no_event line 0 []
+argument_prints line number column argument_steps.Word (word ∷ words) h =
+    printed_first line 0 number (Some I) word words _ h.0 (next_arguments_print line number column words h.1)
+
+include_step_prints : (line : List ℕ) (number column : ℕ) (step : IncludeStep) (words : List (Argument (List ℕ))) → AreArguments line words
+    → Prints line 2 words (include_step_events number column step words)
+include_step_prints line number column include_steps.Name words h = include_prints line number column words h
+include_step_prints line number column include_steps.Opening words h =
+    own_first line 0 2 words _ _ refl tt (omega arith) (file_prints line number column words h)
+include_step_prints line number column include_steps.File words h =
+    more_events line 0 2 words _ (omega arith) (file_prints line number column words h)
+include_step_prints line number column include_steps.Closing words h =
+    own_first line 0 2 words _ (printed number None words) refl tt (omega arith) (printed_prints line number None words h)
+
+sentence_step_prints : (line : List ℕ) (number column : ℕ) (sentence : Sentence) (step : SentenceStep) (words : List (Argument (List ℕ))) → AreArguments line words
+    → Prints line 4 words (sentence_step_events number column sentence step words)
+sentence_step_prints line number column sentence sentence_steps.The words h = sentence_prints line number column sentence words h
+sentence_step_prints line number column sentence sentence_steps.ManualName words h =
+    own_first line 3 4 words _ _ refl tt (omega arith)
+    (marked_prints line 2 number column (name_mark sentence false) words _ (names_print line number column sentence counts.Zero words h))
+sentence_step_prints line number column sentence (sentence_steps.Name all) words h =
+    more_events line 2 4 words _ (omega arith) (names_print line number column sentence all words h)
+sentence_step_prints line number column sentence (sentence_steps.Mark own all left) words h =
+    own_first line 3 4 words _ _ refl tt (omega arith)
+    (joined_prints line 2 number column left words _ (names_print line number column sentence all words h))
+sentence_step_prints line number column sentence (sentence_steps.And all) words h =
+    own_first line 2 4 words _ _ refl tt (omega arith) (names_print line number column sentence all words h)
+
 -- ---- all of them
 
--- a macro whose words are arguments of its line gives slices of it, words in its order, and at most two events a word and two more
+-- the events that are not of a word, at most
+abbrev pub most_events : Step → ℕ
+most_events (steps.Sentence sentence step) = 4
+most_events _ = 2
+
+-- a macro whose words are arguments of its line gives slices of it, words in its order, and at most two events a word and a few more
 pub step_prints : (line : Line) (column : ℕ) (step : Step) (words : List (Argument (List ℕ))) → AreArguments line.text words
-    → Prints line.text 2 words (step_events line column step words)
+    → Prints line.text (most_events step) words (step_events line column step words)
 step_prints line column (steps.Printed font) words h =
     more_events line.text 0 2 words _ (omega arith) (printed_prints line.text line.number font words h)
 step_prints line column (steps.Front front) words h = front_prints line column front words h
@@ -196,3 +242,9 @@ step_prints line column (steps.Reference step) words h =
     more_events line.text 1 2 words _ (omega arith) (reference_step_prints line.text line.number step words h)
 step_prints line column (steps.Function step inside) words h = function_prints line.text line.number column step inside words h
 step_prints line column (steps.Link step) words h = link_prints line column step words h
+step_prints line column (steps.Arguments step) words h =
+    more_events line.text 0 2 words _ (omega arith) (argument_prints line.text line.number column step words h)
+step_prints line column steps.FunctionName words h =
+    more_events line.text 0 2 words _ (omega arith) (function_opened_prints line.text line.number column words h)
+step_prints line column (steps.Include step) words h = include_step_prints line.text line.number column step words h
+step_prints line column (steps.Sentence sentence step) words h = sentence_step_prints line.text line.number column sentence step words h

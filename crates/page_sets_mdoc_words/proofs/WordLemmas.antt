@@ -1,5 +1,8 @@
 -- The words that are left: helpers of proofs.
-use Rattle.std.proofs.Common.{◌≡◌, ℕ, zero, suc, ◌-◌, ◌<◌, ◌≤◌, List, [], ◌∷◌, take, drop, refl, arith}
+use Rattle.std.proofs.Common.{◌≡◌, ℕ, zero, suc, ◌-◌, ◌<◌, ◌≤◌, List, [], ◌∷◌, take, drop, refl, arith, Option, None, Some}
+use Rattle.page_sets_lines.specs.declared.events.Event.{Event}
+use Rattle.page_sets_lines.specs.declared.line_steps.SynopsisStep.{SynopsisStep}
+use Rattle.page_sets_mdoc_words.specs.Synopses.{followed}
 
 pub take_first : {A : Type 0} → (n : ℕ) (words : List A) (word : A) (others : List A) → words ≡ word ∷ others → 1 ≤ n
     → take n words ≡ word ∷ take (n - 1) others
@@ -24,3 +27,9 @@ pub none_left : {A : Type 0} → (n : ℕ) (words : List A) → take n words ≡
 none_left zero words e = refl
 none_left (suc n) [] e = refl
 none_left (suc n) (word ∷ words) e = let no : ⊥ = cc in absurd no
+
+-- the first of events stands first, whatever follows them
+pub first_followed : (number column : ℕ) (after : Option SynopsisStep) (event : Event (List ℕ)) (events : List (Event (List ℕ)))
+    → followed number column after (event ∷ events) ≡ event ∷ followed number column after events
+first_followed number column None event events = refl
+first_followed number column (Some step) event events = refl

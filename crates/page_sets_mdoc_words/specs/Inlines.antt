@@ -124,12 +124,31 @@ function_words number column (word ∷ words) =
     printed_word number (Some B) word
     ∷ (if is_real word then arguments_begin number column ∷ arguments number column words else function_words number column words)
 
--- the closing delimiters at the end come after the parentheses
+-- the closing delimiters at the end come after the parentheses, and after what ends the function in the SYNOPSIS
 abbrev pub function_end : ℕ → ℕ → List (Argument (List ℕ)) → List (Event (List ℕ))
-function_end number column words = own_word number column owns.CloseParenthesis None Glued Apart ∷ printed number None words
+function_end number column words = step_event number column steps.FunctionEnd ∷ printed number None words
 
 abbrev pub function : ℕ → ℕ → List (Argument (List ℕ)) → List (Event (List ℕ))
 function number column words = function_words number column (inside words) ++ function_end number column (outside words)
+
+-- ---- `Fa`, `Fo`
+
+-- each is the next argument of the function that is open
+abbrev pub next_arguments : ℕ → ℕ → List (Argument (List ℕ)) → List (Event (List ℕ))
+next_arguments number column [] = []
+next_arguments number column (word ∷ words) =
+    if is_real word then step_event number column steps.NextArgument ∷ printed_word number (Some I) word ∷ next_arguments number column words
+    else printed_word number None word ∷ next_arguments number column words
+
+abbrev pub opens_function : ℕ → ℕ → Argument (List ℕ) → Event (List ℕ)
+opens_function number column name = event_at number column (deeds.Open (begins.Block (openers.Function name)))
+
+-- the first word that is no delimiter is the name of a function that goes on over lines
+abbrev pub function_opened : ℕ → ℕ → List (Argument (List ℕ)) → List (Event (List ℕ))
+function_opened number column [] = []
+function_opened number column (word ∷ words) =
+    if is_real word then opens_function number column word ∷ printed number None words
+    else printed_word number None word ∷ function_opened number column words
 
 -- ---- `Bsx Dx Fx Nx Ox Ux Bx`
 
@@ -202,13 +221,13 @@ opens_custom number column mark = event_at number column (deeds.Open (begins.Blo
 abbrev pub closes_custom : ℕ → ℕ → Option (Argument (List ℕ)) → Event (List ℕ)
 closes_custom number column mark = event_at number column (deeds.Close (ends.Block (closers.Custom mark)))
 
-abbrev pub opened : ℕ → ℕ → Pair → Option (Argument (List ℕ)) → List (Argument (List ℕ)) → List (Event (List ℕ))
-opened number column (pairs.Quotation quotation) taken words =
+abbrev pub opened : ℕ → ℕ → List ℕ → Pair → Option (Argument (List ℕ)) → List (Argument (List ℕ)) → List (Event (List ℕ))
+opened number column name (pairs.Quotation quotation) taken words =
     event_at number column (deeds.Open (begins.Block (openers.Quotation quotation))) ∷ printed number None words
-opened number column pairs.Custom taken words = opens_custom number column taken ∷ printed number None words
-opened number column pairs.Extension taken words =
+opened number column name pairs.Custom taken words = opens_custom number column taken ∷ printed number None words
+opened number column name pairs.Extension taken words =
     event_at number column (deeds.Open (begins.Block openers.Extension)) ∷ printed number None words
-opened number column pairs.Function taken words = printed number None words
+opened number column name pairs.Function taken words = with_words number column name words (function_opened number column words)
 
 abbrev pub closed : ℕ → ℕ → Pair → Option (Argument (List ℕ)) → List (Argument (List ℕ)) → List (Event (List ℕ))
 closed number column (pairs.Quotation quotation) taken words =
@@ -216,7 +235,8 @@ closed number column (pairs.Quotation quotation) taken words =
 closed number column pairs.Custom taken words = closes_custom number column taken ∷ printed number None words
 closed number column pairs.Extension taken words =
     event_at number column (deeds.Close (ends.Block closers.Extension)) ∷ printed number None words
-closed number column pairs.Function taken words = printed number None words
+closed number column pairs.Function taken words =
+    event_at number column (deeds.Close (ends.Block closers.Function)) ∷ printed number None words
 
 -- ---- all of them
 
@@ -226,7 +246,7 @@ inline_events number column name (inlines.Words font) taken words follows = with
 inline_events number column name inlines.Author taken words follows = author number column name taken words
 inline_events number column name inlines.Declaration taken words follows = with_words number column name words (printed number (Some B) words)
 inline_events number column name inlines.TypeName taken words follows = with_words number column name words (printed number (Some I) words)
-inline_events number column name inlines.Arguments taken words follows = with_words number column name words (printed number (Some I) words)
+inline_events number column name inlines.Arguments taken words follows = with_words number column name words (next_arguments number column words)
 inline_events number column name inlines.Name taken words follows =
     if list_any is_real words then named number column words else lone number (manual_name number column) words
 inline_events number column name (inlines.Defaulted default) taken words follows =
@@ -245,5 +265,5 @@ inline_events number column name inlines.NextColumn taken words follows = step_e
 inline_events number column name inlines.Prefix taken words follows = prefix number column name taken words
 inline_events number column name (inlines.Enclosure marks) taken words follows =
     event_at number column (deeds.LineScope (lines.Enclosure marks)) ∷ printed number None words
-inline_events number column name (inlines.Opens pair) taken words follows = opened number column pair taken words
+inline_events number column name (inlines.Opens pair) taken words follows = opened number column name pair taken words
 inline_events number column name (inlines.Closes pair) taken words follows = closed number column pair taken words

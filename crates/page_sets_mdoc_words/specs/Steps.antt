@@ -1,5 +1,6 @@
 -- The words of a macro, one after another: the code's own steps. The numbers in them say what is done with the words, whatever these are.
 use Rattle.std.specs.Prelude.{◌≡◌, ℕ, ◌+◌, ◌-◌, min, Bool, true, false, List, [], ◌∷◌, ◌++◌, length, take, drop, Option, None, Some, MatchOption, if◌then◌else◌}
+use Rattle.std.specs.List.{list_any}
 use Rattle.std.specs.Borrow.{Bor}
 use Rattle.page_core_base.specs.declared.cells.Font.{Font}
 use Rattle.page_core_base.specs.declared.cells.Font.TheVariants.{R, B, I}
@@ -14,6 +15,7 @@ use Rattle.page_sets_lines.specs.declared.blocks.BlockCloser.TheVariants as bloc
 use Rattle.page_sets_lines.specs.declared.events.Join.TheVariants.{Apart, Glued}
 use Rattle.page_sets_lines.specs.declared.events.Deed.TheVariants as deeds
 use Rattle.page_sets_lines.specs.declared.events.Event.{Event}
+use Rattle.page_sets_lines.specs.declared.leaves.Own.{Own}
 use Rattle.page_sets_lines.specs.declared.leaves.Own.TheVariants as owns
 use Rattle.page_sets_lines.specs.declared.line_steps.LineStep.TheVariants as line_steps
 use Rattle.page_sets_lines.specs.declared.openers.Closer.TheVariants as closers
@@ -29,14 +31,23 @@ use Rattle.page_sets_mdoc_rows.specs.declared.macros.Inline.TheVariants as inlin
 use Rattle.page_sets_mdoc_lines.specs.Cursors.{IsCursorOf}
 use Rattle.page_sets_mdoc_lines.specs.declared.cursors.Cursor.{Cursor}
 use Rattle.page_sets_mdoc_lines.specs.declared.extents.Extent.{Extent}
-use Rattle.page_sets_mdoc_lines.specs.LineWords.{arguments_after, takes_next}
+use Rattle.page_sets_mdoc_lines.specs.LineWords.{arguments_after, is_real, takes_next}
 use Rattle.page_sets_mdoc_lines.specs.Parts.{LineParts, has_calls}
+use Rattle.page_sets_mdoc_words.specs.declared.arguments.ArgumentStep.{ArgumentStep}
+use Rattle.page_sets_mdoc_words.specs.declared.arguments.ArgumentStep.TheVariants as argument_steps
 use Rattle.page_sets_mdoc_words.specs.declared.flags.FlagStep.{FlagStep}
 use Rattle.page_sets_mdoc_words.specs.declared.flags.FlagStep.TheVariants as flag_steps
 use Rattle.page_sets_mdoc_words.specs.declared.fronts.Front.{Front}
 use Rattle.page_sets_mdoc_words.specs.declared.fronts.Front.TheVariants as fronts
 use Rattle.page_sets_mdoc_words.specs.declared.functions.FunctionStep.{FunctionStep}
 use Rattle.page_sets_mdoc_words.specs.declared.functions.FunctionStep.TheVariants as function_steps
+use Rattle.page_sets_mdoc_words.specs.declared.includes.IncludeStep.{IncludeStep}
+use Rattle.page_sets_mdoc_words.specs.declared.includes.IncludeStep.TheVariants as include_steps
+use Rattle.page_sets_mdoc_words.specs.declared.sentences.NameCount.{NameCount}
+use Rattle.page_sets_mdoc_words.specs.declared.sentences.NameCount.TheVariants as counts
+use Rattle.page_sets_mdoc_words.specs.declared.sentences.SentenceStep.{SentenceStep}
+use Rattle.page_sets_mdoc_words.specs.declared.sentences.SentenceStep.TheVariants as sentence_steps
+use Rattle.page_sets_mdoc_rows.specs.declared.blocks.Sentence.{Sentence}
 use Rattle.page_sets_mdoc_words.specs.declared.links.LinkStep.{LinkStep}
 use Rattle.page_sets_mdoc_words.specs.declared.links.LinkStep.TheVariants as link_steps
 use Rattle.page_sets_mdoc_words.specs.declared.names.Lone.{Lone}
@@ -54,7 +65,9 @@ use Rattle.page_sets_mdoc_words.specs.declared.steps.Begun.{Begun}
 use Rattle.page_sets_mdoc_words.specs.declared.steps.Given.{Given}
 use Rattle.page_sets_mdoc_words.specs.declared.steps.MacroWords.{MacroWords}
 use Rattle.page_sets_mdoc_words.specs.Printed.{printed_word, printed, own_word, step_event}
-use Rattle.page_sets_mdoc_words.specs.Inlines.{empty_macro, lone, named, manual_name, default_word, flags, lone_dash, section, reference, more_arguments, arguments, arguments_begin, function_words, function_end, system_word, bsd, colon, uri_event, address, link_words, missing_quote, prefix_word, opens_custom, closes_custom, inline_events}
+use Rattle.page_sets_mdoc_words.specs.Inlines.{empty_macro, lone, named, manual_name, default_word, flags, lone_dash, section, reference, more_arguments, arguments, arguments_begin, next_arguments, opens_function, function_opened, function_words, function_end, system_word, bsd, colon, uri_event, address, link_words, missing_quote, prefix_word, opens_custom, closes_custom, inline_events}
+use Rattle.page_sets_mdoc_words.specs.Synopses.{before_words, after_words, followed, framed}
+use Rattle.page_sets_mdoc_words.specs.Sentences.{is_zero, name_mark, marked, joined, names_events, given_names, sentence_word, mark_word, sentence_events, file_events, include_events}
 use Rattle.page_sets_mdoc_words.specs.WordsLeft.{words_left}
 
 -- ---- before the words
@@ -83,6 +96,7 @@ front_event line column (fronts.System system) = system_word line.number column 
 front_event line column (fronts.Enclosure marks) = event_at line.number column (deeds.LineScope (Enclosure marks))
 front_event line column (fronts.Opens block) = event_at line.number column (deeds.Open (openers.Block (block_opener block)))
 front_event line column (fronts.Closes block) = event_at line.number column (deeds.Close (closers.Block (block_closer block)))
+front_event line column fronts.ClosesFunction = event_at line.number column (deeds.Close (closers.Block block_closers.Function))
 
 -- ---- words that are taken
 
@@ -173,6 +187,44 @@ link_events line column (link_steps.Texts uri inside) words =
     ++ (colon line.number column ∷ (uri_events line.number column (uri_at line uri) ++ printed line.number None (drop inside words)))
 link_events line column (link_steps.Uri uri) words = uri_events line.number column (uri_at line uri) ++ printed line.number None words
 
+abbrev pub argument_events : ℕ → ℕ → ArgumentStep → List (Argument (List ℕ)) → List (Event (List ℕ))
+argument_events number column argument_steps.Next words = next_arguments number column words
+argument_events number column argument_steps.Word [] = []
+argument_events number column argument_steps.Word (word ∷ words) = printed_word number (Some I) word ∷ next_arguments number column words
+
+-- ---- what reads all of its line
+
+abbrev pub include_step_events : ℕ → ℕ → IncludeStep → List (Argument (List ℕ)) → List (Event (List ℕ))
+include_step_events number column include_steps.Name words = include_events number column words
+include_step_events number column include_steps.Opening words = own_word number column owns.OpenAngle None Apart Glued ∷ file_events number column words
+include_step_events number column include_steps.File words = file_events number column words
+include_step_events number column include_steps.Closing words = own_word number column owns.CloseAngle None Glued Apart ∷ printed number None words
+
+-- the step after the first word, before this many names
+abbrev pub beginning : NameCount → SentenceStep
+beginning counts.Zero = sentence_steps.ManualName
+beginning all = sentence_steps.Name all
+
+-- the step after a name, and the one after what is glued to it, where this many names are left
+abbrev pub joining : NameCount → NameCount → SentenceStep
+joining all counts.One = sentence_steps.And all
+joining all _ = sentence_steps.Name all
+
+abbrev pub naming : Option Own → NameCount → NameCount → SentenceStep
+naming None all left = joining all left
+naming (Some own) all left = sentence_steps.Mark own all left
+
+abbrev pub sentence_step_events : ℕ → ℕ → Sentence → SentenceStep → List (Argument (List ℕ)) → List (Event (List ℕ))
+sentence_step_events number column sentence sentence_steps.The names = sentence_events number column sentence names
+sentence_step_events number column sentence sentence_steps.ManualName names =
+    step_event number column line_steps.ManualName
+    ∷ marked number column (name_mark sentence false) (names_events number column sentence counts.Zero names)
+sentence_step_events number column sentence (sentence_steps.Name all) names = names_events number column sentence all names
+sentence_step_events number column sentence (sentence_steps.Mark own all left) names =
+    mark_word number column own ∷ joined number column left (names_events number column sentence all names)
+sentence_step_events number column sentence (sentence_steps.And all) names =
+    sentence_word number column owns.And ∷ names_events number column sentence all names
+
 -- ---- all of them
 
 -- all events from a step on
@@ -188,6 +240,10 @@ step_events line column (steps.Flags step) words = flag_events line.number step 
 step_events line column (steps.Reference step) words = reference_events line.number step words
 step_events line column (steps.Function step inside) words = function_events line.number column step inside words
 step_events line column (steps.Link step) words = link_events line column step words
+step_events line column (steps.Arguments step) words = argument_events line.number column step words
+step_events line column steps.FunctionName words = function_opened line.number column words
+step_events line column (steps.Include step) words = include_step_events line.number column step words
+step_events line column (steps.Sentence sentence step) words = sentence_step_events line.number column sentence step words
 
 -- the first of the events is given, if there is one, and the others come of the step after it and of the words that are left
 abbrev pub Gives : Line → ℕ → List (Event (List ℕ)) → Option Given → List (Argument (List ℕ)) → Type 0
@@ -207,8 +263,16 @@ AddressOn begun uri inside old result new =
 
 -- ---- the words of a macro
 
+-- with what it does in the SYNOPSIS before them and after them
 abbrev pub macro_words_events : Line → MacroWords → List (Event (List ℕ))
-macro_words_events line words = step_events line words.column words.step (words_left line.text words.left)
+macro_words_events line words =
+    framed line.number words.column words.before words.after (step_events line words.column words.step (words_left line.text words.left))
+
+-- once the words are over, what the macro does after them is given, if it does anything
+abbrev pub TakesAfter : Line → MacroWords → Option (Event (Bor (List ℕ))) → MacroWords → Type 0
+TakesAfter line old result new =
+    (new ≡ record old { after = None })
+    × MatchOption result (old.after ≡ None) (λ event. followed line.number old.column old.after [] ≡ event_seen event ∷ [])
 
 -- all words were read once no event is left
 abbrev pub EndsWith : Option (Event (Bor (List ℕ))) → MacroWords → Type 0
@@ -219,17 +283,17 @@ EndsWith result new = MatchOption result (new.left.count ≡ 0) (λ event. Unit 
 abbrev pub needs : Extent → ℕ → Step → Step
 needs extent len step = if extent.has_real then step else steps.Front (fronts.Refused len)
 
-abbrev pub opening : Pair → Bool → Step
-opening (pairs.Quotation quotation) taken = steps.Front (fronts.Opens (blocks.Quotation quotation))
-opening pairs.Custom taken = if taken then steps.Taken takers.Opens else steps.Front (fronts.Opens blocks.Custom)
-opening pairs.Extension taken = steps.Front (fronts.Opens blocks.Extension)
-opening pairs.Function taken = steps.Printed None
+abbrev pub opening : Pair → Bool → Extent → ℕ → Step
+opening (pairs.Quotation quotation) taken extent len = steps.Front (fronts.Opens (blocks.Quotation quotation))
+opening pairs.Custom taken extent len = if taken then steps.Taken takers.Opens else steps.Front (fronts.Opens blocks.Custom)
+opening pairs.Extension taken extent len = steps.Front (fronts.Opens blocks.Extension)
+opening pairs.Function taken extent len = needs extent len steps.FunctionName
 
 abbrev pub closing : Pair → Bool → Step
 closing (pairs.Quotation quotation) taken = steps.Front (fronts.Closes (blocks.Quotation quotation))
 closing pairs.Custom taken = if taken then steps.Taken takers.Closes else steps.Front (fronts.Closes blocks.Custom)
 closing pairs.Extension taken = steps.Front (fronts.Closes blocks.Extension)
-closing pairs.Function taken = steps.Printed None
+closing pairs.Function taken = steps.Front fronts.ClosesFunction
 
 -- by the extent of its words, the length of its name, and whether it takes a word as it stands
 abbrev pub first_step : Inline → Bool → Extent → ℕ → Step
@@ -237,7 +301,7 @@ first_step (inlines.Words font) taken extent len = needs extent len (steps.Print
 first_step inlines.Author taken extent len = if taken then steps.AuthorOption else needs extent len (steps.Printed (Some R))
 first_step inlines.Declaration taken extent len = needs extent len (steps.Printed (Some B))
 first_step inlines.TypeName taken extent len = needs extent len (steps.Printed (Some I))
-first_step inlines.Arguments taken extent len = needs extent len (steps.Printed (Some I))
+first_step inlines.Arguments taken extent len = needs extent len (steps.Arguments argument_steps.Next)
 first_step inlines.Name taken extent len = if extent.has_real then steps.Named else steps.Lone lones.ManualName
 first_step (inlines.Defaulted default) taken extent len =
     if extent.has_real then steps.Printed (Some I) else steps.Lone (lones.Default default)
@@ -253,7 +317,7 @@ first_step inlines.Apostrophe taken extent len = steps.Front fronts.Apostrophe
 first_step inlines.NextColumn taken extent len = steps.Front fronts.NextColumn
 first_step inlines.Prefix taken extent len = if taken then steps.Taken takers.Prefix else steps.Front (fronts.Refused len)
 first_step (inlines.Enclosure marks) taken extent len = steps.Front (fronts.Enclosure marks)
-first_step (inlines.Opens pair) taken extent len = opening pair taken
+first_step (inlines.Opens pair) taken extent len = opening pair taken extent len
 first_step (inlines.Closes pair) taken extent len = closing pair taken
 
 abbrev pub count_of : ℕ → Bool → ℕ
@@ -278,3 +342,9 @@ TakesWord text inline cursor result =
 abbrev pub begun_events : Line → ℕ → ℕ → Inline → LineParts → List (Event (List ℕ))
 begun_events line column len inline parts =
     inline_events line.number column (take len (drop (column - 1) line.text)) inline parts.taken parts.words (has_calls parts.calls)
+
+-- the same with what it does in the SYNOPSIS
+abbrev pub placed_begun : Bool → Line → ℕ → ℕ → Inline → LineParts → List (Event (List ℕ))
+placed_begun first line column len inline parts =
+    framed line.number column (before_words first inline (list_any is_real parts.words)) (after_words first inline (list_any is_real parts.words))
+    (begun_events line column len inline parts)

@@ -6,9 +6,10 @@ ghost use Rattle.page_sets_mdoc_lines.specs.LineWords.{arguments_after};
 ghost use Rattle.page_sets_mdoc_lines.specs.Parts.{parts, rest_parts};
 ghost use Rattle.page_sets_mdoc_lines.specs.Cursors.{IsCursorOf};
 ghost use Rattle.page_sets_mdoc_words.specs.Steps as step_specs;
-ghost use Rattle.page_sets_mdoc_words.specs.Steps.{macro_words_events, begun_events, TakesWord};
+ghost use Rattle.page_sets_mdoc_words.specs.Steps.{macro_words_events, placed_begun, TakesWord};
 ghost use Rattle.page_sets_mdoc_words.specs.WordsLeft.{after_words};
 
+use crate::arguments::ArgumentStep;
 use crate::flags::FlagStep;
 use crate::fronts::{Front, WordBlock};
 use crate::functions::FunctionStep;
@@ -16,6 +17,7 @@ use crate::links::LinkStep;
 use crate::names::Lone;
 use crate::references::ReferenceStep;
 use crate::steps::{MacroWords, Step};
+use crate::synopses::{after_words, before_words};
 use crate::systems::VersionStep;
 use crate::taken_words::Taker;
 use crate::words_left::WordsLeft;
@@ -43,15 +45,15 @@ fn either(test: bool, step: Step, other: Step) -> Step
 }
 
 // The step of what opens a scope.
-fn opening(pair: Pair, taken: bool) -> Step
-    ensures { result ≡ step_specs.opening pair taken }
+fn opening(pair: Pair, taken: bool, extent: Extent, len: u32) -> Step
+    ensures { result ≡ step_specs.opening pair taken extent len }
 {
     match pair {
         Pair::Quotation(quotation) => Step::Front(Front::Opens(WordBlock::Quotation(quotation))),
         Pair::Custom if taken => Step::Taken(Taker::Opens),
         Pair::Custom => Step::Front(Front::Opens(WordBlock::Custom)),
         Pair::Extension => Step::Front(Front::Opens(WordBlock::Extension)),
-        Pair::Function => Step::Printed(None),
+        Pair::Function => needs(extent, len, Step::FunctionName),
     }
 }
 
@@ -64,7 +66,7 @@ fn closing(pair: Pair, taken: bool) -> Step
         Pair::Custom if taken => Step::Taken(Taker::Closes),
         Pair::Custom => Step::Front(Front::Closes(WordBlock::Custom)),
         Pair::Extension => Step::Front(Front::Closes(WordBlock::Extension)),
-        Pair::Function => Step::Printed(None),
+        Pair::Function => Step::Front(Front::ClosesFunction),
     }
 }
 
@@ -77,7 +79,8 @@ fn first_step(inline: Inline, taken: bool, extent: Extent, len: u32) -> Step
         Inline::Author if taken => Step::AuthorOption,
         Inline::Author => needs(extent, len, Step::Printed(Some(Font::R))),
         Inline::Declaration => needs(extent, len, Step::Printed(Some(Font::B))),
-        Inline::TypeName | Inline::Arguments => needs(extent, len, Step::Printed(Some(Font::I))),
+        Inline::TypeName => needs(extent, len, Step::Printed(Some(Font::I))),
+        Inline::Arguments => needs(extent, len, Step::Arguments(ArgumentStep::Next)),
         Inline::Name => either(extent.has_real, Step::Named, Step::Lone(Lone::ManualName)),
         Inline::Defaulted(default) => either(
             extent.has_real,
@@ -118,7 +121,7 @@ fn first_step(inline: Inline, taken: bool, extent: Extent, len: u32) -> Step
             Step::Front(Front::Refused { len }),
         ),
         Inline::Enclosure(marks) => Step::Front(Front::Enclosure(marks)),
-        Inline::Opens(pair) => opening(pair, taken),
+        Inline::Opens(pair) => opening(pair, taken, extent, len),
         Inline::Closes(pair) => closing(pair, taken),
     }
 }
@@ -149,9 +152,10 @@ fn take_word(text: &[u8], inline: Inline, cursor: Cursor) -> (bool, Cursor)
 
 impl MacroWords {
     /// The words of a macro, of which the name stands in a column and has this length, and the line was read up to its
-    /// end; in a line that is not parsed no word calls.
+    /// end. It is the first of its line, or not; in a line that is not parsed no word calls.
     #[tactic(auto, using(crate::proofs::BeginLemmas::goes_on_right))]
     pub fn begin(
+        first: bool,
         line: Taken<'_>,
         inline: Inline,
         column: u32,
@@ -165,18 +169,20 @@ impl MacroWords {
         ensures rest { parts None true (after_words line.entry.text.now result.left)
             ≡ rest_parts (parts (Some inline) parsed (arguments_after cursor.rest line.entry.text.now)) }
         ensures events { macro_words_events (line_seen line.entry) result
-            ≡ begun_events (line_seen line.entry) column len inline
+            ≡ placed_begun first (line_seen line.entry) column len inline
             (parts (Some inline) parsed (arguments_after cursor.rest line.entry.text.now)) }
     {
         let (taken, ahead) = take_word(line.text, inline, cursor);
         let extent = find_extent(line.text, ahead, parsed);
         MacroWords {
             column,
+            before: before_words(first, inline, extent.has_real),
             step: first_step(inline, taken, extent, len),
             left: WordsLeft {
                 count: count_of(extent.words, taken),
                 cursor,
             },
+            after: after_words(first, inline, extent.has_real),
         }
     }
 }

@@ -51,6 +51,8 @@ pub enum Front {
     Opens(WordBlock),
     /// `Ac Bc Brc Dc Ec Oc Pc Qc Sc Xc`, without a mark.
     Closes(WordBlock),
+    /// `Fc`.
+    ClosesFunction,
 }
 
 // A part of a text, as far as the text has it.
@@ -160,6 +162,11 @@ fn front_event<'a>(begun: Begun<'a>, front: Front) -> Event<&'a [u8]>
             number,
             column,
             Deed::Close(Closer::Block(block_closer(block))),
+        ),
+        Front::ClosesFunction => event_at(
+            number,
+            column,
+            Deed::Close(Closer::Block(BlockCloser::Function)),
         ),
     }
 }

@@ -1,9 +1,8 @@
-//! `Fn`: a function with its arguments (mdoc(7), "Fn").
+//! `Fn`: a function with its arguments, and the name of `Fo` (mdoc(7), "Fn" and "Fo").
 
 ghost use Rattle.std.specs.Prelude.{◌≡◌, ◌≤◌, None, false, length};
 ghost use Rattle.page_sets_lines.specs.declared.events.Join.TheVariants.{Apart, Glued};
 ghost use Rattle.page_sets_lines.specs.declared.leaves.Own.{Own};
-ghost use Rattle.page_sets_lines.specs.declared.leaves.Own.TheVariants.{CloseParenthesis};
 ghost use Rattle.page_sets_lines.specs.declared.events.Join.{Join};
 ghost use Rattle.page_sets_lines.specs.Events.{event_seen};
 ghost use Rattle.page_sets_mdoc_lines.specs.Cursors.{IsCursorOf};
@@ -13,12 +12,12 @@ ghost use Rattle.page_sets_mdoc_words.specs.Steps as step_specs;
 ghost use Rattle.page_sets_mdoc_words.specs.Steps.{StepsOn};
 ghost use Rattle.page_sets_mdoc_words.specs.WordsLeft.{GoesOn};
 
-use crate::printed::{own_word, printed_word};
+use crate::printed::{event_at, own_word, printed_word, step_event};
 use crate::steps::{Begun, Given, Step};
 use crate::words_left::{WordsLeft, read_inside};
 use page_core_base::Font;
 use page_core_limits::LINE;
-use page_sets_lines::{Join, Own};
+use page_sets_lines::{BlockOpener, Deed, Join, LineStep, Opener, Own};
 use page_sets_mdoc_lines::is_real;
 
 /// What comes next of a function.
@@ -92,12 +91,10 @@ fn next_inside<'a>(
     ensures gives { StepsOn begun.entry (steps.Function step inside) left.old result left.new }
 {
     let Some((word, ahead)) = read_inside(begun.line.text, *left, inside) else {
-        return Some(mark(
-            begun,
-            Own::CloseParenthesis,
-            Join::Apart,
-            Step::Printed(None),
-        ));
+        return Some(Given {
+            event: step_event(begun.line.line, begun.column, LineStep::FunctionEnd),
+            step: Step::Printed(None),
+        });
     };
     let real = is_real(word);
     if takes_comma(step, real) {
@@ -143,4 +140,28 @@ pub(crate) fn next_of_function<'a>(
         }
         _ => next_inside(begun, step, inside, left),
     }
+}
+
+/// The name of a function that goes on over lines, or a delimiter before it.
+pub(crate) fn next_function_name<'a>(begun: Begun<'a>, left: &mut WordsLeft) -> Option<Given<'a>>
+    requires short { length begun.line.text.now ≤ LINE }
+    requires within { IsCursorOf begun.line.text.now left.old.cursor }
+    ensures goes { GoesOn begun.entry.line.text.now left.old left.new }
+    ensures gives { StepsOn begun.entry steps.FunctionName left.old result left.new }
+{
+    let word = left.read(begun.line.text)?;
+    if is_real(word) {
+        return Some(Given {
+            event: event_at(
+                begun.line.line,
+                begun.column,
+                Deed::Open(Opener::Block(BlockOpener::Function(word))),
+            ),
+            step: Step::Printed(None),
+        });
+    }
+    Some(Given {
+        event: printed_word(begun.line.line, None, word),
+        step: Step::FunctionName,
+    })
 }

@@ -49,8 +49,8 @@ pub(crate) fn word_event(
     )
 }
 
-// A word that is no delimiter, between blanks.
-fn real_word(number: u32, font: Option<Font>, word: Argument<&[u8]>) -> Event<&[u8]>
+/// A word that is no delimiter, or stands for none, between blanks.
+pub(crate) fn real_word(number: u32, font: Option<Font>, word: Argument<&[u8]>) -> Event<&[u8]>
     ensures { event_seen result ≡ printed.real_word number font (argument_seen word.entry) }
 {
     word_event(number, Role::Argument, font, Join::Apart, Join::Apart, word)

@@ -5,22 +5,26 @@ ghost use Rattle.page_core_base.specs.LinesTaken.{line_seen};
 ghost use Rattle.page_sets_lines.specs.Events.{TakesNext};
 ghost use Rattle.page_sets_mdoc_lines.specs.Cursors.{IsCursorOf};
 ghost use Rattle.page_sets_mdoc_words.specs.declared.steps.Step.TheVariants as steps;
-ghost use Rattle.page_sets_mdoc_words.specs.Steps.{StepsOn, macro_words_events, EndsWith};
+ghost use Rattle.page_sets_mdoc_words.specs.Steps.{StepsOn, macro_words_events, EndsWith, TakesAfter};
 ghost use Rattle.page_sets_mdoc_words.specs.WordsLeft.{GoesOn};
 
+use crate::arguments::{ArgumentStep, next_of_arguments};
 use crate::flags::{FlagStep, next_flag};
 use crate::fronts::{Front, next_front};
-use crate::functions::{FunctionStep, next_of_function};
+use crate::functions::{FunctionStep, next_function_name, next_of_function};
+use crate::includes::{IncludeStep, next_of_include};
 use crate::links::{LinkStep, next_of_link};
 use crate::names::{Lone, next_lone, next_named};
-use crate::printed::printed_word;
+use crate::printed::{printed_word, step_event};
 use crate::references::{ReferenceStep, next_of_reference};
+use crate::sentences::{SentenceStep, next_of_sentence};
 use crate::systems::{VersionStep, next_of_version};
 use crate::taken_words::{Taker, next_option, next_taken};
 use crate::words_left::WordsLeft;
 use page_core_base::{Font, Taken};
 use page_core_limits::LINE;
-use page_sets_lines::Event;
+use page_sets_lines::{Event, LineStep, SynopsisStep};
+use page_sets_mdoc_rows::Sentence;
 
 /// What comes next of a macro's words.
 #[derive(Clone, Copy)]
@@ -44,9 +48,23 @@ pub enum Step {
     /// `Xr`.
     Reference(ReferenceStep),
     /// `Fn`, and how many of the words stand in front of the closing delimiters at the end.
-    Function { step: FunctionStep, inside: u32 },
+    Function {
+        step: FunctionStep,
+        inside: u32,
+    },
     /// `Lk`.
     Link(LinkStep),
+    /// `Fa`.
+    Arguments(ArgumentStep),
+    /// `Fo`: the name of its function.
+    FunctionName,
+    /// `In`: its file.
+    Include(IncludeStep),
+    /// `Ex` and `Rv`.
+    Sentence {
+        sentence: Sentence,
+        step: SentenceStep,
+    },
 }
 
 /// A macro in work: its line, and the column of its name.
@@ -63,12 +81,15 @@ pub(crate) struct Given<'a> {
     pub(crate) step: Step,
 }
 
-/// What is still to come of a macro's words: the column of its name, the next step, and the words that are left.
+/// What is still to come of a macro's words: the column of its name, the next step, and the words that are left; and what
+/// it does in the SYNOPSIS before them and after them.
 #[derive(Clone, Copy)]
 pub struct MacroWords {
     pub column: u32,
+    pub before: Option<SynopsisStep>,
     pub step: Step,
     pub left: WordsLeft,
+    pub after: Option<SynopsisStep>,
 }
 
 /// The next word, in a font.
@@ -108,12 +129,25 @@ fn next_step<'a>(begun: Begun<'a>, step: Step, left: &mut WordsLeft) -> Option<G
         Step::Reference(step) => next_of_reference(begun, step, left),
         Step::Function { step, inside } => next_of_function(begun, step, inside, left),
         Step::Link(step) => next_of_link(begun, step, left),
+        Step::Arguments(step) => next_of_arguments(begun, step, left),
+        Step::FunctionName => next_function_name(begun, left),
+        Step::Include(step) => next_of_include(begun, step, left),
+        Step::Sentence { sentence, step } => next_of_sentence(begun, sentence, step, left),
     }
 }
 
 impl MacroWords {
+    // What the macro does in the SYNOPSIS after its words.
+    fn take_after<'a>(&mut self, line: Taken<'a>) -> Option<Event<&'a [u8]>>
+        ensures { TakesAfter (line_seen line.entry) self.old result self.new }
+    {
+        let step = self.after?;
+        self.after = None;
+        Some(step_event(line.line, self.column, LineStep::Synopsis(step)))
+    }
+
     /// The next event of a macro's words in their line, if there is one more.
-    #[tactic(auto, using(crate::proofs::WordLemmas::none_left))]
+    #[tactic(auto, using(crate::proofs::WordLemmas::none_left, crate::proofs::WordLemmas::first_followed))]
     pub fn next<'a>(&mut self, line: Taken<'a>) -> Option<Event<&'a [u8]>>
         requires short { length line.text.now ≤ LINE }
         requires within { IsCursorOf line.text.now self.old.left.cursor }
@@ -122,6 +156,10 @@ impl MacroWords {
             (macro_words_events (line_seen line.entry) self.new) }
         ensures ends { EndsWith result self.new }
     {
+        if let Some(step) = self.before {
+            self.before = None;
+            return Some(step_event(line.line, self.column, LineStep::Synopsis(step)));
+        }
         let begun = Begun {
             line,
             column: self.column,
@@ -134,7 +172,7 @@ impl MacroWords {
             None => {
                 self.step = Step::Printed(None);
                 self.left.count = 0;
-                None
+                self.take_after(line)
             }
         }
     }

@@ -1,0 +1,84 @@
+//! The columns of the words of `Nm` that begin a row of the SYNOPSIS: later rows stand as many further in (mdoc(7), `Nm`).
+
+ghost use Rattle.std.specs.Prelude.{◌≡◌, ◌≤◌, ◌*◌};
+ghost use Rattle.page_core_limits.specs.declared.TheConstants.{LINE};
+ghost use Rattle.page_scopes_blocks.specs.NameHangs as hangs;
+ghost use Rattle.page_scopes_leaves.specs.Fits.{DeedFits, FitsAt};
+ghost use Rattle.page_sets_lines.specs.Events.{deed_seen, word_seen};
+
+use page_core_base::Output;
+use page_scopes_layout::MARGIN;
+use page_scopes_leaves::{KeptText, Running};
+use page_scopes_widths::name_columns;
+use page_sets_lines::{Deed, Leaf, LineStep, Role, Word};
+
+// The columns with those of a word more, and the blank after it.
+fn columns_after(so_far: u16, columns: u32) -> u16
+    requires { columns ≤ 1000 * LINE }
+    ensures { result ≡ hangs.columns_after so_far columns }
+{
+    (u32::from(so_far) + columns + 1).min(MARGIN) as u16
+}
+
+// Counts a word of this many columns.
+fn count(columns: u32, so_far: u16, running: &mut Running)
+    requires { columns ≤ 1000 * LINE }
+    ensures { running.new ≡ hangs.counted (Some so_far) columns running.old }
+{
+    running.line.name_columns = Some(columns_after(so_far, columns));
+}
+
+// Counts a word that is no delimiter.
+#[inline(never)]
+fn count_word(output: Output, word: &Word<&[u8]>, so_far: u16, running: &mut Running)
+    requires { FitsAt word.now.arg.column word.now.arg.text.now }
+    ensures { running.new ≡ hangs.counted (Some so_far) (hangs.word_columns output (word_seen word.now)) running.old }
+{
+    count(
+        name_columns(output, word.arg.is_quoted(), word.arg.text),
+        so_far,
+        running,
+    );
+}
+
+// Counts the name of the manual.
+#[inline(never)]
+fn count_manual_name(output: Output, name: &Option<KeptText>, so_far: u16, running: &mut Running)
+    ensures { running.new ≡ hangs.counted (Some so_far) (hangs.manual_columns output name.now) running.old }
+{
+    match name {
+        Some(name) => count(
+            name_columns(output, name.is_quoted, name.text.text()),
+            so_far,
+            running,
+        ),
+        None => count(0, so_far, running),
+    }
+}
+
+/// Counts the columns of what a deed prints, before it is laid out, where the words of a name that begins a row of the SYNOPSIS are counted; delimiters
+/// do not count. The name is that of the manual.
+#[tactic(auto, unfolding(crate::specs::NameHangs::deed_counted))]
+#[inline(always)]
+pub fn count_name(
+    output: Output,
+    deed: &Deed<&[u8]>,
+    name: &Option<KeptText>,
+    running: &mut Running,
+)
+    requires { DeedFits (deed_seen deed.now) }
+    ensures { running.new ≡ hangs.deed_counted output (deed_seen deed.now) name.now running.old }
+{
+    let Some(so_far) = running.line.name_columns else {
+        return;
+    };
+    match deed {
+        Deed::Word(word) if !matches!(word.role, Role::Delimiter) => {
+            count_word(output, word, so_far, running);
+        }
+        Deed::Leaf(Leaf::Step(LineStep::ManualName)) => {
+            count_manual_name(output, name, so_far, running);
+        }
+        _ => {}
+    }
+}
