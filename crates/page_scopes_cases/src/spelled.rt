@@ -1,6 +1,7 @@
 //! Events of mdoc(7) as they are spelled here: each between blanks, by the name of its macro, with a text after `=` where it has one. `head` and
 //! `subhead` are the headings of `Sh` and `Ss`, `in` and `out` delimiters before and after words, `w`, `b` and `i` words in no font of their own, in
-//! bold and in italic, `field` is the next field of a reference, and `tail` is what ends the enclosures before a line's last delimiters.
+//! bold and in italic, `field` and `argument` are the next field of a reference and the next argument of a function, `ends` is the end of `Fn`, `row`,
+//! `include`, `hang` and `hung` are what macros do in the SYNOPSIS, and `tail` is what ends the enclosures before a line's last delimiters.
 
 ghost use Rattle.std.specs.Prelude.{IfSome};
 ghost use Rattle.page_scopes_leaves.specs.Fits.{ArgumentFits, DeedFits, GivenFits};
@@ -11,7 +12,7 @@ use page_core_base::Font;
 use page_roff_forms::{Argument, Quoting};
 use page_sets_lines::{
     BlockCloser, BlockOpener, BodyParagraphName, Closer, Deed, HeadingName, Join, Leaf, LineOpener,
-    LineStep, Marks, OneLineName, Opener, Own, OwnWord, Quotation, Role, Word,
+    LineStep, Marks, OneLineName, Opener, Own, OwnWord, Quotation, Role, SynopsisStep, Word,
 };
 
 // The bytes at most of a text, and the columns of a line.
@@ -145,9 +146,29 @@ fn block_end_deed<'a>(name: &str) -> Option<Deed<&'a [u8]>>
         "Ef" => BlockCloser::Fonts,
         "Ek" => BlockCloser::Keep,
         "Re" => BlockCloser::Reference,
-        _ => return None,
+        "Fc" => BlockCloser::Function,
+        _ => return step_deed(name),
     };
     Some(Deed::Close(Closer::Block(closer)))
+}
+
+// What a macro changes in its line, or does in the SYNOPSIS.
+fn step_deed<'a>(name: &str) -> Option<Deed<&'a [u8]>>
+    ensures { IfSome result (λ deed. DeedFits (deed_seen deed)) }
+{
+    let step = match name {
+        "argument" => LineStep::NextArgument,
+        "ends" => LineStep::FunctionEnd,
+        "Sm" => LineStep::Spacing(None),
+        "Sm-on" => LineStep::Spacing(Some(true)),
+        "Sm-off" => LineStep::Spacing(Some(false)),
+        "row" => LineStep::Synopsis(SynopsisStep::Break),
+        "include" => LineStep::Synopsis(SynopsisStep::Include),
+        "hang" => LineStep::Synopsis(SynopsisStep::NameBegins),
+        "hung" => LineStep::Synopsis(SynopsisStep::NameEnds),
+        _ => return None,
+    };
+    Some(Deed::Leaf(Leaf::Step(step)))
 }
 
 // A word as it is spelled: its role and font, and how it stands beside others.
@@ -197,6 +218,7 @@ fn unworded_deed<'a>(name: &str) -> Deed<&'a [u8]>
         "Ns" => Deed::Leaf(Leaf::Step(LineStep::Glue)),
         "Fl" => own_deed(Own::Dash, Font::B, Join::Glued),
         "Ar" => own_deed(Own::Files, Font::I, Join::Apart),
+        "Ex" => own_deed(Own::UtilityExits, Font::R, Join::Apart),
         _ => Deed::End { fills: true },
     }
 }
@@ -221,6 +243,9 @@ pub(crate) fn deed_of<'a>(
         Some(argument) => {
             if name == "Lk" {
                 return Deed::Leaf(Leaf::Step(LineStep::Uri(argument)));
+            }
+            if name == "Fo" {
+                return Deed::Open(Opener::Block(BlockOpener::Function(argument)));
             }
             Deed::Word(word_of(name, column, argument))
         }

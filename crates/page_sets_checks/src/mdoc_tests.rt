@@ -72,7 +72,6 @@ fn blocks(rt: HostRuntime) {
             (".ZZ a", "2 note unknown ZZ; 1 filled"),
             (".SH X", "2 note unknown SH; 1 filled"),
             (".Bt", "2 note unknown Bt; 1 filled"),
-            (".Fo f", "2 note unknown Fo; 1 filled"),
         ],
     );
     assert!(rt; Mdoc.indent() == 5);
@@ -112,7 +111,7 @@ fn phrases(rt: HostRuntime) {
             (".Lb Fl x", "5 word R Fl; 8 word R x; 1 filled"),
             (
                 ".Fd Em .",
-                "5 word B Em; 8 close enclosures; 8 +delimiter R .; 1 filled",
+                "2 row; 5 word B Em; 2 row; 8 close enclosures; 8 +delimiter R .; 1 filled",
             ),
         ],
     );
@@ -143,10 +142,7 @@ fn words(rt: HostRuntime) {
                 ".Sy a Em b Ar",
                 "5 word B a; 10 word I b; 12 mark I file ...; 1 filled",
             ),
-            (
-                ".Em Ta Fo",
-                "2 note empty Em; 5 column; 8 word Fo; 1 filled",
-            ),
+            (".Em Ta", "2 note empty Em; 5 column; 1 filled"),
             (".Fl", "2 mark B -; 1 filled"),
             (
                 ".Fl a b",
@@ -181,14 +177,27 @@ fn words(rt: HostRuntime) {
             (".Ns", "2 glue; 1 filled"),
             (".Em a Ns Em b", "5 word I a; 7 glue; 13 word I b; 1 filled"),
             (".Ap s", "2 +mark+ '; 5 word s; 1 filled"),
-            (".Nm x y", "5 name B x; 7 word B y; 1 filled"),
-            (".Nm", "2 manual; 1 filled"),
+            (
+                ".Nm x y",
+                "2 hang; 5 name B x; 7 word B y; 2 hung; 1 filled",
+            ),
+            (".Nm", "2 hang; 2 manual; 2 hung; 1 filled"),
             (
                 ".Nm .",
-                "2 manual; 5 close enclosures; 5 +delimiter R .; 1 filled",
+                "2 hang; 2 manual; 2 hung; 5 close enclosures; 5 +delimiter R .; 1 filled",
             ),
-            (".Nm ( x", "5 delimiter+ R (; 7 name B x; 1 filled"),
-            (".Nm (", "5 delimiter+ R (; 2 manual; 1 filled"),
+            (
+                ".Nm ( x",
+                "2 hang; 5 delimiter+ R (; 7 name B x; 2 hung; 1 filled",
+            ),
+            (
+                ".Nm (",
+                "2 hang; 5 delimiter+ R (; 2 manual; 2 hung; 1 filled",
+            ),
+            (
+                ".Op Nm x Fl a",
+                "2 scope Bq; 8 name B x; 13 mark+ B -; 13 word B a; 1 filled",
+            ),
             (".An a", "5 word R a; 1 filled"),
             (".An -split", "1 filled"),
             (
@@ -210,13 +219,13 @@ fn references_and_blocks_of_words(rt: HostRuntime) {
             ),
             (
                 ".Fn f a b ,",
-                "5 word B f; 2 +mark+ (; 7 word I a; 2 +mark ,; 9 word I b; 2 +mark ); 11 close enclosures; 11 +delimiter R ,; 1 filled",
+                "2 row; 5 word B f; 2 +mark+ (; 7 word I a; 2 +mark ,; 9 word I b; 2 ends; 11 close enclosures; 11 +delimiter R ,; 1 filled",
             ),
             (
                 ".Fn f a , Xr b 1",
-                "5 word B f; 2 +mark+ (; 7 word I a; 2 +mark ); 9 +delimiter R ,; 14 word b; 16 +mark+ (; 16 word 1; 16 +mark ); 1 filled",
+                "2 row; 5 word B f; 2 +mark+ (; 7 word I a; 2 ends; 9 +delimiter R ,; 14 word b; 16 +mark+ (; 16 word 1; 16 +mark ); 1 filled",
             ),
-            (".Fn f", "5 word B f; 2 +mark+ (; 2 +mark ); 1 filled"),
+            (".Fn f", "2 row; 5 word B f; 2 +mark+ (; 2 ends; 1 filled"),
             (".Ox 7", "2 mark OpenBSD; 5 word 7; 1 filled"),
             (".Bx 4.3", "5 word 4.3; 2 +mark BSD; 1 filled"),
             (".Bx", "2 mark BSD; 1 filled"),
@@ -270,7 +279,6 @@ fn longest_lines(rt: HostRuntime) -> Result<(), Fail> {
 #[test]
 fn words_in_each_font(rt: HostRuntime) {
     for (font, name) in [
-        ("B", "Cd"),
         ("B", "Cm"),
         ("B", "Ic"),
         ("B", "Ms"),
@@ -278,13 +286,10 @@ fn words_in_each_font(rt: HostRuntime) {
         ("I", "Ad"),
         ("I", "Ar"),
         ("I", "Em"),
-        ("I", "Fa"),
-        ("I", "Ft"),
         ("I", "Mt"),
         ("I", "Pa"),
         ("I", "Sx"),
         ("I", "Va"),
-        ("I", "Vt"),
         ("R", "An"),
         ("R", "At"),
         ("R", "Dv"),
@@ -491,6 +496,113 @@ fn references_to_works(rt: HostRuntime) {
         check_parts(&rt, &[".", name, " a"], &["2 field; 5 word a; 1 filled"]);
     }
 }
+
+// Functions over lines, and what macros do in the SYNOPSIS.
+#[test]
+fn functions_and_declarations(rt: HostRuntime) {
+    check_lines(
+        &rt,
+        &[
+            (".Fo f", "2 row; 2 open Fo f; 1 filled"),
+            (
+                ".Fo ( \"f\" a",
+                "2 row; 5 delimiter+ R (; 2 open Fo \"f\"; 11 word a; 1 filled",
+            ),
+            (".Fo", "2 note empty Fo; 1 filled"),
+            (
+                ".Fo .",
+                "2 note empty Fo; 5 close enclosures; 5 +delimiter R .; 1 filled",
+            ),
+            (
+                ".Fa a , b",
+                "2 argument; 5 word I a; 7 +delimiter R ,; 2 argument; 9 word I b; 1 filled",
+            ),
+            (
+                ".Fc .",
+                "2 close Fc; 5 close enclosures; 5 +delimiter R .; 1 filled",
+            ),
+            (
+                ".Op Fo f Fc",
+                "2 scope Bq; 5 open Fo f; 10 close Fc; 1 filled",
+            ),
+            (".Ft int", "2 row; 5 word I int; 1 filled"),
+            (".Vt Em a", "2 note empty Vt; 8 word I a; 1 filled"),
+            (
+                ".Ft int Fn f",
+                "2 row; 5 word I int; 12 word B f; 9 +mark+ (; 9 ends; 1 filled",
+            ),
+            (
+                ".Cd a , b .",
+                "2 row; 5 word B a; 7 +delimiter R ,; 9 word B b; 2 row; 11 close enclosures; 11 +delimiter R .; 1 filled",
+            ),
+            (".Op Cd a", "2 scope Bq; 5 row; 8 word B a; 5 row; 1 filled"),
+            (".Cd", "2 note empty Cd; 1 filled"),
+            (
+                ".In f",
+                "2 row; 2 include; 2 mark+ <; 5 word f; 2 +mark >; 2 row; 1 filled",
+            ),
+            (
+                ".In ( a b .",
+                "2 row; 5 delimiter+ R (; 2 include; 2 mark+ <; 7 word a; 2 +mark >; 9 word b; 11 +delimiter R .; 2 row; 1 filled",
+            ),
+            (".In", "2 note empty In; 1 filled"),
+            (".In ,", "2 note empty In; 5 +delimiter R ,; 1 filled"),
+            (
+                ".In Em",
+                "2 row; 2 include; 2 mark+ <; 5 word Em; 2 +mark >; 2 row; 1 filled",
+            ),
+        ],
+    );
+}
+
+#[test]
+fn sentences_and_spacing(rt: HostRuntime) {
+    check_lines(
+        &rt,
+        &[
+            (
+                ".Ex -std",
+                "2 mark The; 2 manual; 2 mark utility exits 0 on success, and >0 if an error occurs.; 1 filled",
+            ),
+            (
+                ".Ex -std a",
+                "2 mark The; 10 word B a; 2 mark utility exits 0 on success, and >0 if an error occurs.; 1 filled",
+            ),
+            (
+                ".Ex a b",
+                "2 mark The; 5 word B a; 2 mark and; 7 word B b; 2 mark utilities exit 0 on success, and >0 if an error occurs.; 1 filled",
+            ),
+            (
+                ".Ex -std a b c",
+                "2 mark The; 10 word B a; 2 +mark ,; 12 word B b; 2 +mark ,; 2 mark and; 14 word B c; 2 mark utilities exit 0 on success, and >0 if an error occurs.; 1 filled",
+            ),
+            (
+                ".Ex \"-std",
+                "5 note! quote; 2 mark The; 2 manual; 2 mark utility exits 0 on success, and >0 if an error occurs.; 1 filled",
+            ),
+            (".Sm on", "2 spacing on; 1 filled"),
+            (".Sm off x", "2 spacing off; 1 filled"),
+            (".Sm", "2 spacing; 1 filled"),
+            (".Sm x", "1 filled"),
+            (".Sm \"on", "5 note quote; 2 spacing on; 1 filled"),
+        ],
+    );
+    check_parts(
+        &rt,
+        &[".Rv -std a b c"],
+        &[
+            "2 mark The; 10 word B a; 2 +mark (),; 12 word B b; 2 +mark (),; 2 mark and; 14 word B c; 2 +mark (); 2 mark ",
+            "functions return the value 0 if successful; otherwise the value -1 is returned ",
+            "and the global variable errno is set to indicate the error.; 1 filled",
+        ],
+    );
+    check_parts(
+        &rt,
+        &[".Rv"],
+        &[
+            "2 mark The; 2 manual; 2 +mark (); 2 mark ",
+            "function returns the value 0 if successful; otherwise the value -1 is returned ",
+            "and the global variable errno is set to indicate the error.; 1 filled",
 
 #[test]
 fn lists(rt: HostRuntime) {

@@ -9,7 +9,7 @@ use page_core_limits::LINE;
 use page_roff_forms::{Argument, Quoting};
 use page_sets::{
     BlockCloser, BlockOpener, Closer, Deed, Event, Join, Leaf, LineStep, MacroSet, Opener, OwnWord,
-    Request, Role, Word,
+    Request, Role, SynopsisStep, Word,
 };
 
 pub type Spelling = ArrayVec<u8, 500>;
@@ -122,6 +122,7 @@ fn show_block_opener<'a>(opener: BlockOpener<&'a [u8]>) -> Shown<'a> {
             is_compact,
             offset,
         } => with(display_kind(is_literal, is_compact), name, offset),
+        BlockOpener::Function(function) => with("open", name, Some(function)),
         BlockOpener::Fonts(Some(font)) => {
             with("open", name, Some(bare(font_name(Some(font)).as_bytes())))
         }
@@ -179,6 +180,25 @@ fn show_request<'a>(request: Request<&'a [u8]>) -> Shown<'a> {
     }
 }
 
+// Whether blanks stand between words.
+fn spacing_name(on: Option<bool>) -> &'static str {
+    match on {
+        None => "",
+        Some(true) => "on",
+        Some(false) => "off",
+    }
+}
+
+// What a macro does in the SYNOPSIS.
+fn synopsis_name(step: SynopsisStep) -> &'static str {
+    match step {
+        SynopsisStep::Break => "row",
+        SynopsisStep::Include => "include",
+        SynopsisStep::NameBegins => "hang",
+        SynopsisStep::NameEnds => "hung",
+    }
+}
+
 fn show_step<'a>(step: LineStep<&'a [u8]>) -> Shown<'a> {
     match step {
         LineStep::NextColumn => alone("column", ""),
@@ -187,6 +207,10 @@ fn show_step<'a>(step: LineStep<&'a [u8]>) -> Shown<'a> {
         LineStep::Uri(uri) => with("uri", "", Some(uri)),
         LineStep::ManualName => alone("manual", ""),
         LineStep::NextField => alone("field", ""),
+        LineStep::NextArgument => alone("argument", ""),
+        LineStep::FunctionEnd => alone("ends", ""),
+        LineStep::Spacing(on) => alone("spacing", spacing_name(on)),
+        LineStep::Synopsis(step) => alone(synopsis_name(step), ""),
     }
 }
 

@@ -5,8 +5,13 @@ use page_core_base::{Form, Taken};
 use page_roff_forms::{LineForm, form_of};
 use std::process::Abort;
 
-// Checks the events of a macro's words.
+// Checks the events of a macro's words, where a word calls it.
 fn check(rt: &impl Abort, text: &str, want: &str) {
+    check_placed(rt, false, text, want);
+}
+
+// The same, where it begins its line or not.
+fn check_placed(rt: &impl Abort, first: bool, text: &str, want: &str) {
     assert!(rt; text.len() < 100);
     let name_end = match form_of(text.as_bytes()) {
         LineForm::Control { rest_column, .. } => rest_column.saturating_sub(1),
@@ -18,7 +23,7 @@ fn check(rt: &impl Abort, text: &str, want: &str) {
         line: 7,
         name_end,
     };
-    assert_eq!(rt; shown(line).as_slice(), want.as_bytes(), "of {text}");
+    assert_eq!(rt; shown(first, line).as_slice(), want.as_bytes(), "of {text}");
 }
 
 #[test]
@@ -40,9 +45,12 @@ fn words_in_a_font(rt: HostRuntime) {
         (".An -split", ""),
         (".An -nosplit b", "14 word R b"),
         (".An \"-split", "5 quote"),
-        (".Cd a", "5 word B a"),
+        (".Cd a", "2 row; 5 word B a; 2 row"),
         (".Ft int", "5 word I int"),
-        (".Fa a , b", "5 word I a; 7 +delimiter R ,; 9 word I b"),
+        (
+            ".Fa a , b",
+            "2 argument; 5 word I a; 7 +delimiter R ,; 2 argument; 9 word I b",
+        ),
     ] {
         check(&rt, text, want);
     }
@@ -92,18 +100,18 @@ fn references_and_functions(rt: HostRuntime) {
             "5 delimiter+ R (; 7 word a; 9 delimiter R |; 11 +own+ (; 11 word 1; 11 +own )",
         ),
         (".Fn", "2 empty Fn"),
-        (".Fn f", "5 word B f; 2 +own+ (; 2 +own )"),
+        (".Fn f", "5 word B f; 2 +own+ (; 2 end"),
         (
             ".Fn f a b",
-            "5 word B f; 2 +own+ (; 7 word I a; 2 +own ,; 9 word I b; 2 +own )",
+            "5 word B f; 2 +own+ (; 7 word I a; 2 +own ,; 9 word I b; 2 end",
         ),
         (
             ".Fn f a , Xr b 1",
-            "5 word B f; 2 +own+ (; 7 word I a; 2 +own ); 9 +delimiter R ,",
+            "5 word B f; 2 +own+ (; 7 word I a; 2 end; 9 +delimiter R ,",
         ),
         (
             ".Fn ( f | a",
-            "5 delimiter+ R (; 7 word B f; 2 +own+ (; 9 delimiter R |; 11 word I a; 2 +own )",
+            "5 delimiter+ R (; 7 word B f; 2 +own+ (; 9 delimiter R |; 11 word I a; 2 end",
         ),
         (".Bx", "2 own BSD"),
         (".Bx 4 x", "5 word 4; 2 +own BSD; 7 word x"),
@@ -117,6 +125,47 @@ fn references_and_functions(rt: HostRuntime) {
             ".Lk ( u a , Em b",
             "5 delimiter+ R (; 9 word I a; 2 +own :; 2 uri u; 11 +delimiter R ,",
         ),
+    ] {
+        check(&rt, text, want);
+    }
+}
+
+// What a macro does in the SYNOPSIS, where it begins its line.
+#[test]
+fn rows_of_the_synopsis(rt: HostRuntime) {
+    for (text, want) in [
+        (".Nm", "2 hang; 2 manual; 2 hung"),
+        (".Nm ( a", "2 hang; 5 delimiter+ R (; 7 name B a; 2 hung"),
+        (".Nm a Op b", "2 hang; 5 name B a; 2 hung"),
+        (".Ft int", "2 row; 5 word I int"),
+        (".Ft", "2 empty Ft"),
+        (".Vt int Em a", "2 row; 5 word I int"),
+        (".Fn f", "2 row; 5 word B f; 2 +own+ (; 2 end"),
+        (".Fn (", "2 empty Fn; 5 delimiter+ R ("),
+        (".Cd a", "2 row; 5 word B a; 2 row"),
+        (".Fd Em", "2 row; 5 word B Em; 2 row"),
+        (".Fd", "2 empty Fd"),
+        (".Em a", "5 word I a"),
+        (".Fo f", "2 row; 2 open Fo f"),
+        (".Fo", "2 empty Fo"),
+        (".Fc", "2 close Fc"),
+    ] {
+        check_placed(&rt, true, text, want);
+    }
+}
+
+#[test]
+fn functions_over_lines(rt: HostRuntime) {
+    for (text, want) in [
+        (".Fo f", "2 open Fo f"),
+        (".Fo ( f a ,", "5 delimiter+ R (; 2 open Fo f; 9 word a"),
+        (".Fo .", "2 empty Fo"),
+        (".Fa a", "2 argument; 5 word I a"),
+        (
+            ".Fa \"char c\" |",
+            "2 argument; 6 word I char c; 14 delimiter R |",
+        ),
+        (".Fc a", "2 close Fc; 5 word a"),
     ] {
         check(&rt, text, want);
     }
@@ -165,7 +214,7 @@ fn each_macro_with_a_font(rt: HostRuntime) {
         (".No a", "5 word R a"),
         (".St a", "5 word R a"),
         (".Tn a", "5 word R a"),
-        (".Fd a", "5 word B a"),
+        (".Fd a", "2 row; 5 word B a; 2 row"),
         (".Pa a", "5 word I a"),
     ] {
         check(&rt, text, want);

@@ -10,7 +10,7 @@ use page_core_limits::LINE;
 use page_roff_forms::Argument;
 use page_sets_lines::{
     Block, BlockCloser, BlockOpener, Closer, Deed, Event, Join, Leaf, LineStep, Opener, OwnWord,
-    Role, Word, find_name,
+    Role, SynopsisStep, Word, find_name,
 };
 use page_sets_mdoc_lines::Cursor;
 use page_sets_mdoc_rows::{LineMacro, is_parsed, line_macro};
@@ -66,6 +66,16 @@ fn put_own(out: &mut Shown, word: OwnWord) {
     put_part(out, word.own.text().as_bytes());
 }
 
+// What a macro does in the SYNOPSIS.
+fn synopsis_name(step: SynopsisStep) -> &'static str {
+    match step {
+        SynopsisStep::Break => " row",
+        SynopsisStep::Include => " include",
+        SynopsisStep::NameBegins => " hang",
+        SynopsisStep::NameEnds => " hung",
+    }
+}
+
 fn put_step(out: &mut Shown, step: LineStep<&[u8]>) {
     match step {
         LineStep::Uri(uri) => {
@@ -77,6 +87,10 @@ fn put_step(out: &mut Shown, step: LineStep<&[u8]>) {
         LineStep::ManualName => put(out, b" manual"),
         LineStep::BodyParagraph(_) => put(out, b" paragraph"),
         LineStep::NextField => put(out, b" field"),
+        LineStep::NextArgument => put(out, b" argument"),
+        LineStep::FunctionEnd => put(out, b" end"),
+        LineStep::Spacing(_) => put(out, b" spacing"),
+        LineStep::Synopsis(step) => put(out, synopsis_name(step).as_bytes()),
     }
 }
 
@@ -91,6 +105,7 @@ fn put_scope(out: &mut Shown, kind: &str, name: &str, mark: Option<Argument<&[u8
 fn put_opener(out: &mut Shown, opener: BlockOpener<&[u8]>) {
     let mark = match opener {
         BlockOpener::Custom(mark) => mark,
+        BlockOpener::Function(name) => Some(name),
         _ => None,
     };
     let block: Block = opener.block();
@@ -146,8 +161,8 @@ fn put_event(out: &mut Shown, event: Event<&[u8]>) {
     put_deed(out, event.deed);
 }
 
-// The words of the macro that begins a line, if it is one that can stand among words.
-fn begun(line: Taken<'_>) -> Option<MacroWords>
+// The words of the macro that begins a line, if it is one that can stand among words; as they are there, or where a word calls it.
+fn begun(first: bool, line: Taken<'_>) -> Option<MacroWords>
     requires { length line.text.now ≤ LINE }
     ensures { IfSome result (λ words. IsCursorOf line.entry.text.now words.left.cursor) }
 {
@@ -158,6 +173,7 @@ fn begun(line: Taken<'_>) -> Option<MacroWords>
     };
     let cursor = Cursor::new(line.text, name.end);
     Some(MacroWords::begin(
+        first,
         line,
         inline,
         name.start as u32 + 1,
@@ -167,12 +183,12 @@ fn begun(line: Taken<'_>) -> Option<MacroWords>
     ))
 }
 
-/// The events of the words of the macro that begins a line, without those of the calls after it.
-pub fn shown(line: Taken<'_>) -> Shown
+/// The events of the words of the macro that begins a line, without those of the calls after it; as they are there, or where a word calls it.
+pub fn shown(first: bool, line: Taken<'_>) -> Shown
     requires { length line.text.now ≤ LINE }
 {
     let mut out = ArrayVec::new();
-    if let Some(words) = begun(line) {
+    if let Some(words) = begun(first, line) {
         let mut words = words;
         while let Some(event) = words.next(line) {
             put_event(&mut out, event);
