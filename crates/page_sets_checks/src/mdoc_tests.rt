@@ -603,6 +603,9 @@ fn sentences_and_spacing(rt: HostRuntime) {
             "2 mark The; 2 manual; 2 +mark (); 2 mark ",
             "function returns the value 0 if successful; otherwise the value -1 is returned ",
             "and the global variable errno is set to indicate the error.; 1 filled",
+        ],
+    );
+}
 
 #[test]
 fn lists(rt: HostRuntime) {
