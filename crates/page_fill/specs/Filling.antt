@@ -67,7 +67,7 @@ blank_rows_up_to e n = blank_rows e (if e.sheet.heading then 0 else n - e.sheet.
 abbrev pub placed : Edge → ℕ → Laid Edge
 placed e n = nothing (record e { word = placed_word n })
 
--- after a tag with this hang: where a blank fits before the hang, the next word stands there; else by the tag's form
+-- after a tag with this hang: where a blank fits before the hang, the next word stands there; else by the tag's form; a tag set in needs an open row
 abbrev pub after_tag : Edge → OpenTag → Laid Edge
 after_tag e tag =
     let hang = min tag.hang HANG_MAX in
@@ -75,7 +75,7 @@ after_tag e tag =
     elim tag.form [
       | forms.Row ↦ if fits then placed e (hang - e.sheet.tag_columns) else row_end e
       | forms.Hang ↦ placed e (if fits then hang - e.sheet.tag_columns else 1)
-      | forms.Inset n ↦ placed e n
+      | forms.Inset n ↦ placed e (if length e.sheet.cells == 0 then 0 else n)
     ]
 
 -- a tag without a cell is none

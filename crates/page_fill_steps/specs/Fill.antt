@@ -114,7 +114,7 @@ placed e count = nothing (record e { word = placed_word count })
 abbrev pub after_tag : Edge → ℕ → TagForm → Laid Edge
 after_tag e hang forms.Row = if fits_hang e.sheet hang then placed e (held_hang hang - e.sheet.tag_columns) else ended e
 after_tag e hang forms.Hang = if fits_hang e.sheet hang then placed e (held_hang hang - e.sheet.tag_columns) else placed e 1
-after_tag e hang (forms.Inset n) = placed e n
+after_tag e hang (forms.Inset n) = placed e (if length e.sheet.cells == 0 then 0 else n)
 
 abbrev pub tag_ended : Edge → Option OpenTag → Laid Edge
 tag_ended e None = nothing e

@@ -438,6 +438,7 @@ impl Edge {
         let taken = self.sheet.tag_columns();
         let fits = taken < hang;
         match tag.form {
+            TagForm::Inset(_) if self.sheet.cells().is_empty() => self.word = OpenWord::placed(0),
             TagForm::Inset(blanks) => self.word = OpenWord::placed(blanks),
             TagForm::Row | TagForm::Hang if fits => self.word = OpenWord::placed(hang - taken),
             TagForm::Row => return self.end_row(out),

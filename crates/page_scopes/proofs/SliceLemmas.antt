@@ -3,7 +3,7 @@ use Rattle.std.proofs.Common.{◌≡◌, ℕ, ◌≤◌, List, [], ◌∷◌, le
 use Rattle.page_core_limits.specs.declared.TheConstants.{LINE}
 use Rattle.page_roff_forms.specs.declared.quotes.Argument.{Argument}
 use Rattle.page_scopes_leaves.specs.Fits.{ArgumentFits, BlockCloserFits, BlockOpenerFits, CloserFits, DeedFits, GivenFits, LeafFits, OpenerFits, StepFits}
-use Rattle.page_sets_lines.specs.Laws.{AreSlices, BlockClosesSlices, BlockOpensSlices, ClosesSlices, HasSlices, IsArgument, IsArgumentIfGiven, LeavesSlices, OpensSlices, StepsSlices}
+use Rattle.page_sets_lines.specs.Laws.{AreSlices, BlockClosesSlices, BlockOpensSlices, ClosesSlices, HasSlices, IsArgument, IsArgumentIfGiven, IsPart, LeavesSlices, OpensSlices, StepsSlices}
 use Rattle.page_sets_lines.specs.declared.blocks.BlockCloser.{BlockCloser}
 use Rattle.page_sets_lines.specs.declared.blocks.BlockCloser.TheVariants as block_closers
 use Rattle.page_sets_lines.specs.declared.blocks.BlockOpener.{BlockOpener}
@@ -30,7 +30,11 @@ given_fits : (line : List ℕ) (argument : Option (Argument (List ℕ))) → len
 given_fits line None short slice = tt
 given_fits line (Some argument) short slice = argument_fits line argument short slice
 
+part_fits : (line text : List ℕ) → length line ≤ LINE → IsPart line text → length text ≤ LINE
+part_fits line text short part = let within = part.1.within in omega (arith, within, short)
+
 block_opener_fits : (line : List ℕ) (opener : BlockOpener (List ℕ)) → length line ≤ LINE → BlockOpensSlices line opener → BlockOpenerFits opener
+block_opener_fits line (block_openers.List kind is_compact options) short slices = part_fits line options short slices
 block_opener_fits line (block_openers.Quotation quotation) short slices = tt
 block_opener_fits line (block_openers.Custom mark) short slices = given_fits line mark short slices
 block_opener_fits line block_openers.Extension short slices = tt
@@ -41,6 +45,7 @@ block_opener_fits line block_openers.Reference short slices = tt
 block_opener_fits line (block_openers.Function name) short slices = argument_fits line name short slices
 
 block_closer_fits : (line : List ℕ) (closer : BlockCloser (List ℕ)) → length line ≤ LINE → BlockClosesSlices line closer → BlockCloserFits closer
+block_closer_fits line block_closers.List short slices = tt
 block_closer_fits line (block_closers.Quotation quotation) short slices = tt
 block_closer_fits line (block_closers.Custom mark) short slices = given_fits line mark short slices
 block_closer_fits line block_closers.Extension short slices = tt
@@ -51,6 +56,7 @@ block_closer_fits line block_closers.Reference short slices = tt
 block_closer_fits line block_closers.Function short slices = tt
 
 opener_fits : (line : List ℕ) (opener : Opener (List ℕ)) → length line ≤ LINE → OpensSlices line opener → OpenerFits opener
+opener_fits line openers.Item short slices = tt
 opener_fits line openers.Section short slices = tt
 opener_fits line openers.Subsection short slices = tt
 opener_fits line (openers.Paragraph name) short slices = tt
@@ -71,6 +77,7 @@ closer_fits line closers.Enclosures short slices = tt
 closer_fits line (closers.Block closer) short slices = block_closer_fits line closer short slices
 
 step_fits : (line : List ℕ) (step : LineStep (List ℕ)) → length line ≤ LINE → StepsSlices line step → StepFits step
+step_fits line steps.NextColumn short slices = tt
 step_fits line steps.Glue short slices = tt
 step_fits line (steps.BodyParagraph name) short slices = tt
 step_fits line (steps.Uri uri) short slices = argument_fits line uri short slices

@@ -36,6 +36,7 @@ front_is_short n text =
     omega (arith, a, b)
 
 opener_fits : (opener : Opener (List ℕ)) → TargetFits (opener_target opener)
+opener_fits openers.Item = tt
 opener_fits openers.Section = tt
 opener_fits openers.Subsection = tt
 opener_fits (openers.Paragraph name) = tt

@@ -32,6 +32,8 @@ use Rattle.page_sets_lines.specs.declared.line_steps.LineStep.{LineStep}
 use Rattle.page_sets_lines.specs.declared.line_steps.LineStep.TheVariants as steps
 use Rattle.page_sets_lines.specs.declared.openers.Closer.{Closer}
 use Rattle.page_sets_lines.specs.declared.openers.Closer.TheVariants as closers
+use Rattle.page_sets_lines.specs.declared.openers.LineOpener.{LineOpener}
+use Rattle.page_sets_lines.specs.declared.openers.LineOpener.TheVariants as lines
 use Rattle.page_sets_lines.specs.declared.openers.Opener.{Opener}
 use Rattle.page_sets_lines.specs.declared.openers.Opener.TheVariants as openers
 
@@ -49,11 +51,20 @@ leaf_begins leaves.FurtherTag = true
 leaf_begins (leaves.Step step) = step_begins step
 leaf_begins _ = false
 
+-- an item and its head need a list, which has begun it
+abbrev pub opener_begins : Opener (List ℕ) → Bool
+opener_begins openers.Item = false
+opener_begins _ = true
+
+abbrev pub line_begins : LineOpener → Bool
+line_begins lines.Head = false
+line_begins _ = true
+
 abbrev pub deed_begins : Deed (List ℕ) → Bool
 deed_begins (deeds.Word word) = true
-deed_begins (deeds.Open opener) = true
+deed_begins (deeds.Open opener) = opener_begins opener
 deed_begins (deeds.Close closer) = false
-deed_begins (deeds.LineScope opener) = true
+deed_begins (deeds.LineScope opener) = line_begins opener
 deed_begins (deeds.Leaf leaf) = leaf_begins leaf
 deed_begins (deeds.Raw text) = true
 deed_begins (deeds.End fills) = false

@@ -7,7 +7,7 @@ ghost use Rattle.page_scopes_leaves.specs.Deeds.{name_after};
 ghost use Rattle.page_scopes_leaves.specs.Fits.{CloserFits, DeedFits};
 ghost use Rattle.page_scopes_leaves.specs.Outcomes.{GivesOutcome};
 ghost use Rattle.page_scopes_tree.specs.Acts.{TakesAct, act_seen};
-ghost use Rattle.page_sets_lines.specs.Events.{closer_seen, deed_seen, given_seen, leaf_seen, step_seen};
+ghost use Rattle.page_sets_lines.specs.Events.{closer_seen, deed_seen, given_seen, leaf_seen, opener_seen, step_seen};
 
 use page_core_base::{NoteKind, Output, Piece, PieceOut, Place};
 use page_core_numbers::Scale;
@@ -18,7 +18,7 @@ use page_scopes_leaves::{KeptText, Running, argument_word, give_deed, give_line_
 use page_scopes_text::give_number;
 use page_scopes_tree::Act;
 use page_scopes_words::report;
-use page_sets_lines::{BlockCloser, Closer, Deed, Event, Join, Leaf, LineStep, Opener};
+use page_sets_lines::{BlockCloser, Closer, Deed, Event, Join, Leaf, LineOpener, LineStep, Opener};
 
 // Whether a step of a line may begin the body: the address of `Lk`, the name of the manual, and the end of a function.
 fn step_begins(step: &LineStep<&[u8]>) -> bool
@@ -41,12 +41,28 @@ fn leaf_begins(leaf: &Leaf<&[u8]>) -> bool
     }
 }
 
+// Whether an opener may begin the body: an item needs a list that has begun it.
+fn opener_begins(opener: &Opener<&[u8]>) -> bool
+    ensures { result ≡ bodies.opener_begins (opener_seen opener.now) }
+{
+    !matches!(opener, Opener::Item)
+}
+
+// Whether what opens a line scope may begin the body: the head of an item does not.
+fn line_begins(opener: LineOpener) -> bool
+    ensures { result ≡ bodies.line_begins opener }
+{
+    !matches!(opener, LineOpener::Head)
+}
+
 // Whether a deed may begin the body.
 fn deed_begins(deed: &Deed<&[u8]>) -> bool
     ensures { result ≡ bodies.deed_begins (deed_seen deed.now) }
 {
     match deed {
-        Deed::Word(_) | Deed::Open(_) | Deed::LineScope(_) | Deed::Raw(_) => true,
+        Deed::Word(_) | Deed::Raw(_) => true,
+        Deed::Open(opener) => opener_begins(opener),
+        Deed::LineScope(opener) => line_begins(*opener),
         Deed::Leaf(leaf) => leaf_begins(leaf),
         Deed::Note { begins_body, .. } => *begins_body,
         Deed::Close(_) | Deed::End { .. } => false,

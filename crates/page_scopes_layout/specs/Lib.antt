@@ -2,4 +2,5 @@ pub mod Settings
 pub mod Contexts
 pub mod Margins
 pub mod Begins
+pub mod Lists
 pub mod Nodes

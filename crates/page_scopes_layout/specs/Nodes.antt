@@ -1,8 +1,13 @@
 -- What a scope gives where it begins and where it ends, but its words. Source: man(7), "MACRO OVERVIEW"; mdoc(7), "MACRO REFERENCE".
-use Rattle.std.specs.Prelude.{List, [], ◌∷◌, false}
+use Rattle.std.specs.Prelude.{ℕ, List, [], ◌∷◌, Bool, true, false, if◌then◌else◌, Option, None, Some, pos}
 use Rattle.page_core_base.specs.Pieces.{Item, shown}
 use Rattle.page_core_base.specs.declared.pieces.Piece.TheVariants as pieces
-use Rattle.page_core_base.specs.declared.pieces.TagForm.TheVariants.{Row}
+use Rattle.page_core_base.specs.declared.pieces.TagForm.{TagForm}
+use Rattle.page_core_base.specs.declared.pieces.TagForm.TheVariants.{Row, Hang, Inset}
+use Rattle.page_sets_lines.specs.declared.lists.ListKind.{ListKind}
+use Rattle.page_sets_lines.specs.declared.lists.ListKind.TheVariants as kinds
+use Rattle.page_scopes_layout.specs.Lists.{is_close}
+use Rattle.page_scopes_layout.specs.declared.lists.OpenList.{OpenList}
 use Rattle.page_sets_lines.specs.declared.openers.LineOpener.{LineOpener}
 use Rattle.page_sets_lines.specs.declared.openers.LineOpener.TheVariants as lines
 use Rattle.page_scopes_tree.specs.declared.labels.Explicit.{Explicit}
@@ -18,8 +23,50 @@ use Rattle.page_scopes_layout.specs.declared.contexts.Context.{Context}
 abbrev pub margin_items : Context → List Item
 margin_items c = shown (pieces.Indent (margins c).first (margins c).rest) ∷ []
 
+-- ---- items of lists (`Bl`)
+
+-- a blank row before an item, or where the list is close only the end of the row
+abbrev pub item_begin_items : Option OpenList → Context → List Item
+item_begin_items (Some list) c = if is_close list then shown pieces.Break ∷ [] else shown (pieces.Para c.distance.value) ∷ []
+item_begin_items None c = []
+
+-- a head that is a tag stands at its margin, with the list's hang
+abbrev pub hanging_items : OpenList → TagForm → Context → List Item
+hanging_items list form c = shown (pieces.Indent (margins c).first (margins c).rest) ∷ shown (pieces.Tag (hold (pos list.hang)) form) ∷ []
+
+-- a head that is set in has blanks after it
+abbrev pub inset_items : ℕ → List Item
+inset_items blanks = shown (pieces.Tag 0 (Inset blanks)) ∷ []
+
+abbrev pub head_items : ListKind → OpenList → Context → List Item
+head_items kinds.Tag list c = hanging_items list Row c
+head_items kinds.Hang list c = hanging_items list Hang c
+head_items kinds.Inset list c = inset_items 1
+head_items kinds.Diag list c = inset_items 2
+head_items _ list c = []
+
+abbrev pub head_begin_items : Option OpenList → Context → List Item
+head_begin_items (Some list) c = head_items list.kind list c
+head_begin_items None c = []
+
+-- a head above its text (`-ohang`)
+abbrev pub is_ohang : ListKind → Bool
+is_ohang kinds.Ohang = true
+is_ohang _ = false
+
+abbrev pub is_row : Option OpenList → Bool
+is_row (Some list) = is_ohang list.kind
+is_row None = false
+
+abbrev pub head_end_items : Bool → Context → List Item
+head_end_items true c = shown pieces.Break ∷ margin_items c
+head_end_items false c = shown pieces.TagEnd ∷ margin_items c
+
+-- ---- where a scope begins
+
 -- a tag stands in front of its text, which hangs
 abbrev pub line_begin_items : LineOpener → Context → List Item
+line_begin_items lines.Head c = head_begin_items c.list c
 line_begin_items (lines.Heading name) c = margin_items c
 line_begin_items (lines.Tag name) c =
     shown (pieces.Indent (margins c).first (margins c).rest) ∷ shown (pieces.Tag (hold c.hang) Row) ∷ []
@@ -36,6 +83,7 @@ explicit_begin_items (explicits.Block block) c = []
 
 -- in the context of a scope's front: a section is a paragraph, and filled; a relative margin and a synopsis break the row
 abbrev pub begin_items : Label → Context → List Item
+begin_items labels.Item c = item_begin_items c.list c
 begin_items labels.Section c = shown (pieces.Para c.distance.value) ∷ shown (pieces.Literal false) ∷ []
 begin_items labels.Subsection c = shown (pieces.Para c.distance.value) ∷ shown (pieces.Literal false) ∷ []
 begin_items labels.Paragraph c = shown (pieces.Para c.distance.value) ∷ margin_items c
@@ -43,6 +91,7 @@ begin_items (labels.Explicit explicit) c = explicit_begin_items explicit c
 begin_items (labels.Line opener) c = line_begin_items opener c
 
 abbrev pub line_end_items : LineOpener → Context → List Item
+line_end_items lines.Head c = head_end_items (is_row c.list) c
 line_end_items (lines.Heading name) c = shown pieces.Heading ∷ margin_items c
 line_end_items (lines.Tag name) c = shown pieces.TagEnd ∷ margin_items c
 line_end_items (lines.FontWords name) c = []
@@ -50,8 +99,9 @@ line_end_items (lines.Enclosure marks) c = margin_items c
 line_end_items lines.Description c = margin_items c
 line_end_items (lines.OneLine name) c = shown pieces.Break ∷ margin_items c
 
--- after a display (`Bd`) rows are kept or filled as before it
+-- after a list (`Bl`) the row ends; after a display (`Bd`) rows are kept or filled as before it
 abbrev pub block_end_items : Block → Context → List Item
+block_end_items (blocks.List kind) c = shown pieces.Break ∷ margin_items c
 block_end_items blocks.Display c = shown pieces.Break ∷ shown (pieces.Literal c.is_literal.value) ∷ margin_items c
 block_end_items _ c = margin_items c
 
@@ -63,6 +113,7 @@ explicit_end_items (explicits.Block block) c = block_end_items block c
 
 -- in the context after a scope: its margins hold again
 abbrev pub end_items : Label → Context → List Item
+end_items labels.Item c = margin_items c
 end_items labels.Section c = margin_items c
 end_items labels.Subsection c = margin_items c
 end_items labels.Paragraph c = margin_items c

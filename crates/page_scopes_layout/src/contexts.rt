@@ -3,14 +3,16 @@
 ghost use Rattle.std.specs.Prelude.{◌≡◌};
 ghost use Rattle.page_scopes_layout.specs.Contexts as contexts;
 
-use crate::{PREVAILING, Setting};
+use crate::{OpenList, PREVAILING, Setting};
 use page_scopes_tree::{Explicit, Label};
 use page_scopes_words::{Fonts, ROMAN};
-use page_sets_lines::Block;
+use page_sets_lines::{Block, LineOpener, ListKind};
 
 /// What part of a page a text is.
 #[derive(Clone, Copy, PartialEq, Eq)]
 pub enum PagePart {
+    /// The head of an item that is no tag.
+    Head,
     /// The text of a section or a paragraph.
     Text,
     /// A tag.
@@ -43,7 +45,9 @@ pub enum PageSection {
 /// What a text is laid out by. Columns are counted from the left edge of the page.
 #[derive(Clone, Copy)]
 pub struct Context {
-    /// The margin of the section or the relative margin, up to [`MARGIN`](crate::MARGIN).
+    /// The innermost open list.
+    pub list: Option<OpenList>,
+    /// The margin of the section, relative margin, list, item or display, up to [`MARGIN`](crate::MARGIN).
     pub margin: u32,
     /// The columns that the open paragraph's text stands further in.
     pub hang: i32,
@@ -75,6 +79,7 @@ impl Context {
         ensures { result ≡ contexts.start page_indent }
     {
         Context {
+            list: None,
             margin: page_indent,
             hang: 0,
             first: None,
@@ -90,6 +95,23 @@ impl Context {
             has_spacing: Setting::at_first(true),
             section: PageSection::Other,
         }
+    }
+}
+
+// Whether a scope is a list.
+fn is_list(label: Label) -> bool
+    ensures { result ≡ contexts.is_list label }
+{
+    matches!(label, Label::Explicit(Explicit::Block(Block::List(_))))
+}
+
+// Whether a scope is the head of an item of a list of messages (`-diag`).
+fn is_message(label: Label, list: &Option<OpenList>) -> bool
+    ensures { result ≡ contexts.is_message label list.now }
+{
+    match (label, list) {
+        (Label::Line(LineOpener::Head), Some(list)) => matches!(list.kind, ListKind::Diag),
+        _ => false,
     }
 }
 
@@ -114,6 +136,9 @@ impl Context {
         ensures { self.new ≡ contexts.restored label before.now self.old }
     {
         let row = label.row();
+        if is_list(label) {
+            self.list = before.list;
+        }
         self.margin = before.margin;
         self.hang = before.hang;
         self.first = before.first;
@@ -122,7 +147,7 @@ impl Context {
         if row.owns_prevailing {
             self.prevailing = before.prevailing;
         }
-        if row.guards_fonts {
+        if row.guards_fonts || is_message(label, &before.list) {
             self.fonts = before.fonts;
         } else {
             self.fonts.restore(&before.fonts);

@@ -6,17 +6,25 @@
 
 mod begins;
 mod contexts;
+mod lists;
 mod margins;
 mod nodes;
 mod settings;
 
 pub use contexts::{Context, PagePart, PageSection, SeriesSoFar};
+pub use lists::{ColumnWidths, OpenList};
 pub use margins::{Margins, hold, margins_of};
 pub use nodes::{give_begin, give_end, give_margins};
 pub use settings::Setting;
 
 /// The columns at most of a margin.
 pub const MARGIN: u32 = 1_000;
+
+/// The columns between two columns of a list (`-column`).
+pub const COLUMN_GAP: u32 = 4;
+
+/// The width of a list's column that is given none.
+pub const COLUMN_WIDTH: u32 = 6;
 
 /// The prevailing indent, in columns, of a section, a relative margin and a plain paragraph.
 pub const PREVAILING: i32 = 7;

@@ -1,3 +1,4 @@
 pub mod RawCells
 pub mod KeptLemmas
+pub mod CellLemmas
 pub mod HeadingLemmas

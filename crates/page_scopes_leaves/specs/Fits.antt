@@ -30,6 +30,7 @@ GivenFits None = Unit {0}
 GivenFits (Some argument) = ArgumentFits argument
 
 abbrev pub BlockOpenerFits : BlockOpener (List ℕ) → Type 0
+BlockOpenerFits (block_openers.List kind is_compact options) = length options ≤ LINE
 BlockOpenerFits (block_openers.Custom mark) = GivenFits mark
 BlockOpenerFits (block_openers.Display is_literal is_compact offset) = GivenFits offset
 BlockOpenerFits (block_openers.Function name) = ArgumentFits name

@@ -3,6 +3,7 @@ pub mod Runnings
 pub mod Fits
 pub mod Outcomes
 pub mod Phrases
+pub mod Cells
 pub mod LineWords
 pub mod KeptTexts
 pub mod ManualNames

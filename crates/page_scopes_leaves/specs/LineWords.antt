@@ -10,6 +10,7 @@ use Rattle.page_roff_forms.specs.declared.quotes.Argument.{Argument}
 use Rattle.page_roff_forms.specs.declared.quotes.Quoting.{Quoting}
 use Rattle.page_roff_forms.specs.declared.quotes.Quoting.TheVariants.{Unclosed}
 use Rattle.page_scopes_layout.specs.declared.contexts.Context.{Context}
+use Rattle.page_scopes_leaves.specs.Cells.{text_outcome}
 use Rattle.page_scopes_leaves.specs.Outcomes.{Outcome}
 use Rattle.page_scopes_leaves.specs.Phrases.{phrase_context, phrase_items, phrase_running}
 use Rattle.page_scopes_leaves.specs.declared.phrases.Phrase.{Phrase}
@@ -55,9 +56,9 @@ with_sentence text r = record r { line = record r.line { is_sentence = ends_sent
 -- a word of a line
 unfoldable pub line_word : ℕ → Word (List ℕ) → Context → Running → Outcome
 line_word line word c r = record {
-  items = quote_items line word.arg.quoting word.arg.column ++ phrase_items line (word_phrase word) c r;
-  context = phrase_context (word_phrase word) c r;
-  running = with_sentence word.arg.text (phrase_running (word_phrase word) c r);
+  items = quote_items line word.arg.quoting word.arg.column ++ (text_outcome line (word_phrase word) c r).items;
+  context = (text_outcome line (word_phrase word) c r).context;
+  running = with_sentence word.arg.text (text_outcome line (word_phrase word) c r).running;
 }
 
 -- an argument as a word

@@ -8,6 +8,7 @@ use Rattle.page_scopes_layout.specs.Begins.{flat, name_begun, name_ended}
 use Rattle.page_scopes_layout.specs.Settings.{set_to}
 use Rattle.page_scopes_layout.specs.Nodes.{margin_items}
 use Rattle.page_scopes_layout.specs.declared.contexts.Context.{Context}
+use Rattle.page_scopes_leaves.specs.Cells.{column_step}
 use Rattle.page_scopes_layout.specs.declared.contexts.SeriesSoFar.{SeriesSoFar}
 use Rattle.page_scopes_layout.specs.declared.contexts.SeriesSoFar.TheVariants as series
 use Rattle.page_scopes_layout.specs.declared.contexts.PageSection.{PageSection}
@@ -134,6 +135,7 @@ spaced on c r = record {
 
 -- the address of `Lk` is a word
 abbrev pub step_outcome : Place → LineStep (List ℕ) → Option KeptText → Context → Running → Outcome
+step_outcome place steps.NextColumn name c r = column_step place c.list c r
 step_outcome place steps.Glue name c r = record { items = []; context = c; running = glued c r }
 step_outcome place (steps.BodyParagraph paragraph) name c r = body_paragraph place paragraph c r
 step_outcome place (steps.Uri uri) name c r = line_word place.line (argument_word None Apart uri) c r

@@ -8,6 +8,8 @@ use Rattle.page_scopes_layout.specs.declared.contexts.Context.{Context}
 use Rattle.page_scopes_layout.specs.declared.contexts.PagePart.TheVariants as parts
 use Rattle.page_scopes_leaves.specs.LineWords.{line_word}
 use Rattle.page_scopes_leaves.specs.Outcomes.{Outcome, followed_by}
+use Rattle.page_scopes_leaves.specs.Phrases.{phrase_outcome}
+use Rattle.page_scopes_leaves.specs.declared.phrases.Phrase.{Phrase}
 use Rattle.page_scopes_leaves.specs.declared.runnings.Running.{Running}
 use Rattle.page_scopes_leaves.specs.declared.tags.TagPlace.{TagPlace}
 use Rattle.page_sets_lines.specs.declared.events.Word.{Word}
@@ -45,3 +47,10 @@ tag_words line word before c r = followed_by (line_word line word c r) (tag_ende
 -- a tag of the words of an argument
 unfoldable pub tag : TagPlace → ℕ → Word (List ℕ) → Context → Running → Outcome
 tag place line word c r = followed_by (tag_begun place c r) (tag_words line word c)
+
+-- the same of the words of a phrase
+abbrev pub tag_phrase : ℕ → Phrase (List ℕ) → Context → Context → Running → Outcome
+tag_phrase line phrase before c r = followed_by (phrase_outcome line phrase c r) (tag_ended before)
+
+unfoldable pub phrase_tag : TagPlace → ℕ → Phrase (List ℕ) → Context → Running → Outcome
+phrase_tag place line phrase c r = followed_by (tag_begun place c r) (tag_phrase line phrase c)

@@ -4,6 +4,7 @@
 //! known after it. Read `src/runnings.rt` first, then `specs/Outcomes.antt`, `Phrases.antt` (words) and `Leaves.antt` (a row for each leaf).
 #![tactic(auto)]
 
+mod cells;
 mod deeds;
 mod headings;
 mod kept_texts;
@@ -29,4 +30,4 @@ pub use phrases::{Phrase, give_phrase};
 pub use raw_lines::give_raw_line;
 pub use runnings::{LineSoFar, Running};
 pub use steps::give_function_end;
-pub use tags::{TagPlace, give_tag};
+pub use tags::{TagPlace, give_phrase_tag, give_tag};

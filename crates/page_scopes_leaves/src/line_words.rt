@@ -4,11 +4,13 @@ ghost use Rattle.std.specs.Prelude.{◌≡◌};
 ghost use Rattle.page_core_base.specs.Latches.{Came};
 ghost use Rattle.page_roff_forms.specs.Arguments.{argument_seen};
 ghost use Rattle.page_scopes_leaves.specs.Fits.{FitsAt};
+ghost use Rattle.page_scopes_leaves.specs.Cells.{text_outcome};
 ghost use Rattle.page_scopes_leaves.specs.LineWords as lines;
 ghost use Rattle.page_scopes_leaves.specs.Outcomes.{GivesOutcome};
 ghost use Rattle.page_scopes_leaves.specs.Phrases.{phrase_seen};
 ghost use Rattle.page_sets_lines.specs.Events.{word_seen};
 
+use crate::cells::{give_cells, in_columns};
 use crate::{Phrase, Running, give_phrase};
 use page_core_base::{Font, NoteKind, PieceOut, Place};
 use page_core_limits::LINE;
@@ -73,6 +75,26 @@ fn word_phrase<'a>(word: &Word<&'a [u8]>) -> Phrase<&'a [u8]>
     }
 }
 
+// Gives the words of a phrase, in columns where these are open.
+#[inline(always)]
+fn give_parted<O: PieceOut>(
+    out: &mut O,
+    line: u32,
+    phrase: &Phrase<&[u8]>,
+    context: &mut Context,
+    running: &mut Running,
+)
+    requires { FitsAt phrase.now.column phrase.now.text.now }
+    ensures { GivesOutcome O.left out.old (text_outcome line (phrase_seen phrase.now) context.old running.old)
+        out.new context.new running.new }
+{
+    if in_columns(context) {
+        give_cells(out, line, phrase, context, running);
+    } else {
+        give_phrase(out, line, phrase, context, running);
+    }
+}
+
 /// Gives a word of a line.
 #[tactic(auto, unfolding(crate::specs::LineWords::line_word))]
 #[inline(always)]
@@ -89,7 +111,7 @@ pub fn give_line_word<O: PieceOut>(
         out.new context.new running.new }
 {
     report_quote(out, line, word.arg.quoting, word.arg.column);
-    give_phrase(out, line, &word_phrase(word), context, running);
+    give_parted(out, line, &word_phrase(word), context, running);
     running.line.is_sentence = ends_sentence(running.line.ends_blank, word.arg.text);
 }
 

@@ -6,6 +6,7 @@ ghost use Rattle.page_scopes_leaves.specs.Outcomes.{GivesOutcome};
 ghost use Rattle.page_scopes_leaves.specs.Steps as steps;
 ghost use Rattle.page_sets_lines.specs.Events.{step_seen};
 
+use crate::cells::give_column_step;
 use crate::headings::is_heading;
 use crate::kept_texts::KeptText;
 use crate::manual_names::give_manual_name;
@@ -265,6 +266,7 @@ pub(crate) fn give_step<O: PieceOut>(
         out.new context.new running.new }
 {
     match *step {
+        LineStep::NextColumn => give_column_step(out, place, context, running),
         LineStep::Glue => glue(context, running),
         LineStep::BodyParagraph(name) => {
             give_body_paragraph(out, place, name, context, running);

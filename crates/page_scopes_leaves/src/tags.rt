@@ -1,12 +1,14 @@
 //! Tags: words in front of a text that hangs (man(7), `IP`, `SY`).
 
 ghost use Rattle.std.specs.Prelude.{◌≡◌};
-ghost use Rattle.page_scopes_leaves.specs.Fits.{ArgumentFits};
+ghost use Rattle.page_core_base.specs.Latches.{Came};
+ghost use Rattle.page_scopes_leaves.specs.Fits.{ArgumentFits, FitsAt};
 ghost use Rattle.page_scopes_leaves.specs.Outcomes.{GivesOutcome};
+ghost use Rattle.page_scopes_leaves.specs.Phrases.{phrase_seen};
 ghost use Rattle.page_scopes_leaves.specs.Tags as tags;
 ghost use Rattle.page_sets_lines.specs.Events.{word_seen};
 
-use crate::{Running, give_line_word};
+use crate::{Phrase, Running, give_line_word, give_phrase};
 use page_core_base::{Piece, PieceOut, TagForm};
 use page_scopes_layout::{Context, PagePart, give_margins};
 use page_sets_lines::Word;
@@ -74,6 +76,44 @@ fn end_tag<O: PieceOut>(out: &mut O, before: &Context, context: &mut Context, ru
     *context = after_tag(*before, *context);
     give_margins(out, context);
     pad(running);
+}
+
+// Gives the words of a phrase that is a tag, and what it ends with; the context is that before it.
+fn give_tag_phrase<O: PieceOut>(
+    out: &mut O,
+    line: u32,
+    phrase: &Phrase<&[u8]>,
+    before: &Context,
+    context: &mut Context,
+    running: &mut Running,
+)
+    requires { FitsAt phrase.now.column phrase.now.text.now }
+    ensures { GivesOutcome O.left out.old
+        (tags.tag_phrase line (phrase_seen phrase.now) before.now context.old running.old)
+        out.new context.new running.new }
+{
+    give_phrase(out, line, phrase, context, running);
+    end_tag(out, before, context, running);
+}
+
+/// Gives a tag of the words of a phrase.
+#[tactic(auto, unfolding(crate::specs::Tags::phrase_tag))]
+pub fn give_phrase_tag<O: PieceOut>(
+    out: &mut O,
+    tag: TagPlace,
+    line: u32,
+    phrase: &Phrase<&[u8]>,
+    context: &mut Context,
+    running: &mut Running,
+)
+    requires { FitsAt phrase.now.column phrase.now.text.now }
+    ensures { GivesOutcome O.left out.old
+        (tags.phrase_tag tag line (phrase_seen phrase.now) context.old running.old)
+        out.new context.new running.new }
+{
+    let before = *context;
+    begin_tag(out, tag, context, running);
+    give_tag_phrase(out, line, phrase, &before, context, running);
 }
 
 // Gives the words of a tag, and what it ends with; the context is that before it.

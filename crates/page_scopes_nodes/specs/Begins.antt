@@ -4,6 +4,7 @@ use Rattle.page_core_base.specs.declared.cells.Font.{Font}
 use Rattle.page_core_base.specs.declared.cells.Font.TheVariants as faces
 use Rattle.page_core_base.specs.declared.places.Place.{Place}
 use Rattle.page_scopes_layout.specs.Begins.{entered_context, font_begun, heading_begun, one_line_begun, tag_begun}
+use Rattle.page_scopes_layout.specs.Lists.{head_begun}
 use Rattle.page_scopes_layout.specs.Nodes.{line_begin_items}
 use Rattle.page_scopes_layout.specs.declared.contexts.Context.{Context}
 use Rattle.page_scopes_blocks.specs.BlockWords.{line_words}
@@ -27,7 +28,7 @@ use Rattle.page_sets_lines.specs.declared.openers.Opener.TheVariants as openers
 use Rattle.page_scopes_nodes.specs.Openers.{opened}
 use Rattle.page_scopes_nodes.specs.declared.page_layouts.PageLayout.{PageLayout}
 
--- ---- scopes that end with a line: headings at the left edge (`SH`, `Sh`) or 3 columns in (`SS`, `Ss`), tags (`TP`, `TQ`), fonts (`B`, `I`, `SM`,
+-- ---- scopes that end with a line: heads of items (`It`), headings at the left edge (`SH`, `Sh`) or 3 columns in (`SS`, `Ss`), tags (`TP`, `TQ`), fonts (`B`, `I`, `SM`,
 -- `SB`), rows that stand alone (`D1`, `Dl`), enclosures and descriptions (`Nd`)
 
 abbrev pub heading_column : HeadingName → ℕ
@@ -43,6 +44,7 @@ font_of fonts.SM = faces.R
 font_of fonts.SB = faces.B
 
 abbrev pub line_context : LineOpener → Context → Context
+line_context lines.Head c = head_begun c.list c
 line_context (lines.Heading name) c = heading_begun (heading_column name) c
 line_context (lines.Tag name) c = tag_begun c
 line_context (lines.FontWords font_macro) c = font_begun (font_of font_macro) c
@@ -51,6 +53,7 @@ line_context lines.Description c = c
 line_context (lines.OneLine name) c = one_line_begun c
 
 abbrev pub line_running : LineOpener → Running → Running
+line_running lines.Head r = r
 line_running (lines.Heading name) r = record r { gap = 1; heading = no_heading }
 line_running (lines.Tag name) r = r
 line_running (lines.FontWords font_macro) r = r

@@ -1,8 +1,8 @@
 -- What a scope ends with: the target of a link or the mark of an enclosure, its own pieces, and what is known after it. Source: man(7), "MACRO OVERVIEW"; mdoc(7), "MACRO REFERENCE".
-use Rattle.std.specs.Prelude.{false, Option, None, Some}
+use Rattle.std.specs.Prelude.{Bool, true, false, Option, None, Some}
 use Rattle.page_core_base.specs.declared.places.Place.{Place}
 use Rattle.page_scopes_layout.specs.Contexts.{restored}
-use Rattle.page_scopes_layout.specs.Nodes.{end_items}
+use Rattle.page_scopes_layout.specs.Nodes.{end_items, is_row}
 use Rattle.page_scopes_layout.specs.declared.contexts.Context.{Context}
 use Rattle.page_scopes_layout.specs.declared.contexts.PageSection.{PageSection}
 use Rattle.page_scopes_blocks.specs.BlockWords.{last_words}
@@ -29,16 +29,23 @@ abbrev pub last_word : Place → Label → Option KeptText → Context → Runni
 last_word place label None c r = last_words place label c r
 last_word place label (Some target) c r = target_word place target c r
 
--- after `RE`, `YS`, `Ed`, a row that stands alone and a heading the row has ended; after a heading nothing stands yet; the padding of a tag stands in place of a blank
-abbrev pub line_running : LineOpener → Running → Running
-line_running (lines.Heading name) r = record (row_ended r) { has_content = false }
-line_running (lines.Tag name) r = record r { gap = 0 }
-line_running (lines.FontWords font_macro) r = r
-line_running (lines.Enclosure marks) r = r
-line_running lines.Description r = r
-line_running (lines.OneLine name) r = row_ended r
+-- a head of an item that is a row of its own has ended it; any other has blanks after it
+abbrev pub head_running : Bool → Running → Running
+head_running true r = row_ended r
+head_running false r = record r { gap = 0 }
+
+-- after `RE`, `YS`, `El`, `Ed`, a row that stands alone and a heading the row has ended; after a heading nothing stands yet; the padding of a tag stands in place of a blank
+abbrev pub line_running : LineOpener → Context → Running → Running
+line_running lines.Head c r = head_running (is_row c.list) r
+line_running (lines.Heading name) c r = record (row_ended r) { has_content = false }
+line_running (lines.Tag name) c r = record r { gap = 0 }
+line_running (lines.FontWords font_macro) c r = r
+line_running (lines.Enclosure marks) c r = r
+line_running lines.Description c r = r
+line_running (lines.OneLine name) c r = row_ended r
 
 abbrev pub block_running : Block → Running → Running
+block_running (blocks.List kind) r = row_ended r
 block_running blocks.Display r = row_ended r
 block_running _ r = r
 
@@ -48,10 +55,10 @@ explicit_running (explicits.Target link) r = r
 explicit_running explicits.Syntax r = row_ended r
 explicit_running (explicits.Block block) r = block_running block r
 
-abbrev pub label_running : Label → Running → Running
-label_running (labels.Explicit explicit) r = explicit_running explicit r
-label_running (labels.Line opener) r = line_running opener r
-label_running _ r = r
+abbrev pub label_running : Label → Context → Running → Running
+label_running (labels.Explicit explicit) c r = explicit_running explicit r
+label_running (labels.Line opener) c r = line_running opener c r
+label_running _ c r = r
 
 -- after the heading of a section it is known which one begins
 abbrev pub heading_section : HeadingName → HeadingSoFar → PageSection → PageSection
@@ -75,7 +82,7 @@ abbrev pub left : Label → Context → Context → Running → Outcome
 left label before c r = record {
   items = end_items label (restored label before c);
   context = context_after label r.heading (restored label before c);
-  running = label_running label r;
+  running = label_running label (context_after label r.heading (restored label before c)) r;
 }
 
 unfoldable pub ended : Label → Context → Option KeptText → Place → Context → Running → Outcome

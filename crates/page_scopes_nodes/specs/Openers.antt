@@ -12,6 +12,10 @@ use Rattle.page_scopes_layout.specs.Margins.{hold}
 use Rattle.page_scopes_layout.specs.Nodes.{begin_items}
 use Rattle.page_scopes_layout.specs.declared.contexts.Context.{Context}
 use Rattle.page_scopes_blocks.specs.Blocks.{block_opened}
+use Rattle.page_scopes_lists.specs.Items.{item_opened}
+use Rattle.page_scopes_lists.specs.OpenLists.{list_opened}
+use Rattle.page_sets_lines.specs.declared.blocks.BlockOpener.{BlockOpener}
+use Rattle.page_sets_lines.specs.declared.blocks.BlockOpener.TheVariants as block_openers
 use Rattle.page_scopes_leaves.specs.LineWords.{argument_word}
 use Rattle.page_scopes_leaves.specs.Outcomes.{Outcome, after_notes, followed_by, nothing}
 use Rattle.page_scopes_leaves.specs.Runnings.{row_ended}
@@ -98,9 +102,15 @@ name_place page at name = record { margin = at; hang = hold (pos (name_hang page
 abbrev pub synopsis : PageLayout → ℕ → Argument (List ℕ) → Context → Running → Outcome
 synopsis page line name c r = followed_by (synopsis_begun page name c r) (bold_tag line (name_place page (text_margin c) name) name)
 
+-- `Bl`, and the other blocks
+abbrev pub block : PageLayout → Place → BlockOpener (List ℕ) → Context → Running → Outcome
+block page place (block_openers.List kind is_compact options) c r = list_opened page.output place kind is_compact options c r
+block page place opener c r = block_opened page.output place opener c r
+
 -- ---- all of them
 
 unfoldable pub opened : PageLayout → Place → Opener (List ℕ) → Context → Running → Outcome
+opened page place openers.Item c r = item_opened place c r
 opened page place openers.Section c r = section page c r
 opened page place openers.Subsection c r = subsection page c r
 opened page place (openers.Paragraph name) c r = plain place name c r
@@ -110,4 +120,4 @@ opened page place (openers.Hanging hang) c r = hanging place hang c r
 opened page place (openers.RelativeMargin columns) c r = margin place columns c r
 opened page place (openers.Target kind target) c r = link place target c r
 opened page place (openers.Syntax name) c r = synopsis page place.line name c r
-opened page place (openers.Block opener) c r = block_opened page.output place opener c r
+opened page place (openers.Block opener) c r = block page place opener c r

@@ -37,13 +37,14 @@ fn font_of(font_macro: FontMacro) -> Font
     }
 }
 
-// A line scope begins in the context of its front: the heading of `SH`, `SS`, `Sh` and `Ss`, the tag of `TP` and `TQ`, the words of `B`, `I`,
-// `SM` and `SB`, the row of `D1` and `Dl`, the words of an enclosure and of `Nd`.
+// A line scope begins in the context of its front: the head of an item (`It`), the heading of `SH`, `SS`, `Sh` and `Ss`, the tag of `TP` and
+// `TQ`, the words of `B`, `I`, `SM` and `SB`, the row of `D1` and `Dl`, the words of an enclosure and of `Nd`.
 #[inline(always)]
 fn enter_line(opener: LineOpener, context: &mut Context)
     ensures { context.new ≡ begins.line_context opener (entered_context context.old) }
 {
     match opener {
+        LineOpener::Head => *context = context.entered().head_begun(),
         LineOpener::Heading(name) => {
             *context = context.entered().heading_begun(heading_column(name));
         }

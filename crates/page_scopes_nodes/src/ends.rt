@@ -1,6 +1,7 @@
 //! What a scope ends with (man(7), mdoc(7)).
 
 ghost use Rattle.std.specs.Prelude.{◌≡◌};
+ghost use Rattle.page_scopes_layout.specs.Nodes.{is_row};
 ghost use Rattle.page_scopes_leaves.specs.Outcomes.{GivesOutcome};
 ghost use Rattle.page_scopes_nodes.specs.Ends as ends;
 
@@ -31,14 +32,28 @@ fn give_last_word<O: PieceOut>(
     }
 }
 
-// What is known along the page after a scope: `RS` up to `RE`, `SY` up to `YS`, `Bd` up to `Ed`, `D1` and `Dl` end the row, the headings of `SH`, `SS`, `Sh` and
-// `Ss` too; after the tag of `TP` or `TQ` no blank stands.
-fn pass_end(label: Label, running: &mut Running)
-    ensures { running.new ≡ ends.label_running label running.old }
+// What is known along the page after the head of an item: a head that is a row of its own has ended it; after any other no blank stands.
+fn pass_head(context: &Context, running: &mut Running)
+    ensures { running.new ≡ ends.head_running (is_row context.now.list) running.old }
+{
+    if context.has_row_heads() {
+        running.end_row();
+    } else {
+        running.gap = 0;
+    }
+}
+
+// What is known along the page after a scope: `RS` up to `RE`, `SY` up to `YS`, `Bl` up to `El`, `Bd` up to `Ed`, `D1` and `Dl` end the row, the
+// headings of `SH`, `SS`, `Sh` and `Ss` too; after the tag of `TP` or `TQ` no blank stands.
+fn pass_end(label: Label, context: &Context, running: &mut Running)
+    ensures { running.new ≡ ends.label_running label context.now running.old }
 {
     match label {
+        Label::Line(LineOpener::Head) => pass_head(context, running),
         Label::Explicit(
-            Explicit::RelativeMargin | Explicit::Syntax | Explicit::Block(Block::Display),
+            Explicit::RelativeMargin
+            | Explicit::Syntax
+            | Explicit::Block(Block::List(_) | Block::Display),
         )
         | Label::Line(LineOpener::OneLine(_)) => running.end_row(),
         Label::Line(LineOpener::Heading(_)) => {
@@ -75,7 +90,7 @@ fn give_left<O: PieceOut>(
     context.restore(label, before);
     give_end(out, label, context);
     context.section = section_after(label, &running.heading, context.section);
-    pass_end(label, running);
+    pass_end(label, context, running);
 }
 
 /// Gives what ends a scope, as `RE`, `UE`, `ME` and `YS` do, at a place, with the context before it and the target that it kept.

@@ -3,10 +3,10 @@
 ghost use Rattle.std.specs.Prelude.{◌≡◌};
 ghost use Rattle.page_core_base.specs.Latches.{Came};
 ghost use Rattle.page_roff_forms.specs.Arguments.{argument_seen};
-ghost use Rattle.page_scopes_leaves.specs.Fits.{ArgumentFits, GivenFits, OpenerFits};
+ghost use Rattle.page_scopes_leaves.specs.Fits.{ArgumentFits, BlockOpenerFits, GivenFits, OpenerFits};
 ghost use Rattle.page_scopes_leaves.specs.Outcomes.{GivesOutcome};
 ghost use Rattle.page_scopes_nodes.specs.Openers as openers;
-ghost use Rattle.page_sets_lines.specs.Events.{given_seen, opener_seen, text_seen};
+ghost use Rattle.page_sets_lines.specs.Events.{block_opener_seen, given_seen, opener_seen, text_seen};
 
 use crate::PageLayout;
 use crate::targets::report_target;
@@ -15,11 +15,12 @@ use page_roff_forms::Argument;
 use page_scopes_blocks::give_block;
 use page_scopes_layout::{Context, give_begin, hold};
 use page_scopes_leaves::{Running, TagPlace, argument_word, give_tag};
+use page_scopes_lists::{give_item, give_list};
 use page_scopes_text::give_columns;
 use page_scopes_tree::{Explicit, Label};
 use page_scopes_widths::name_columns;
 use page_scopes_words::report;
-use page_sets_lines::{Join, Opener, ParagraphName};
+use page_sets_lines::{BlockOpener, Join, Opener, ParagraphName};
 
 // The columns of a number that may be given, with its messages.
 fn give_given<O: PieceOut>(out: &mut O, place: Place, number: Option<&[u8]>) -> Option<i32>
@@ -238,6 +239,40 @@ fn begin_synopsis<O: PieceOut>(
     give_name(out, line, tag, name, context, running);
 }
 
+// `Bl`, and the other blocks of mdoc(7).
+#[inline(never)]
+fn begin_block<O: PieceOut>(
+    out: &mut O,
+    page: &PageLayout,
+    place: Place,
+    opener: &BlockOpener<&[u8]>,
+    context: &mut Context,
+    running: &mut Running,
+)
+    requires { BlockOpenerFits (block_opener_seen opener.now) }
+    ensures { GivesOutcome O.left out.old
+        (openers.block page.now place (block_opener_seen opener.now) context.old running.old)
+        out.new context.new running.new }
+{
+    match *opener {
+        BlockOpener::List {
+            kind,
+            is_compact,
+            options,
+        } => give_list(
+            out,
+            page.output,
+            place,
+            kind,
+            is_compact,
+            options,
+            context,
+            running,
+        ),
+        _ => give_block(out, page.output, place, opener, context, running),
+    }
+}
+
 /// Gives what an opener at a place begins with.
 #[tactic(auto, unfolding(crate::specs::Openers::opened))]
 pub(crate) fn give_opened<O: PieceOut>(
@@ -254,6 +289,7 @@ pub(crate) fn give_opened<O: PieceOut>(
         out.new context.new running.new }
 {
     match *opener {
+        Opener::Item => give_item(out, place, context, running),
         Opener::Section => begin_section(out, page, context, running),
         Opener::Subsection => begin_subsection(out, page, context, running),
         Opener::Paragraph(name) => begin_plain(out, place, name, context, running),
@@ -269,6 +305,6 @@ pub(crate) fn give_opened<O: PieceOut>(
             *context = context.entered();
         }
         Opener::Syntax(name) => begin_synopsis(out, page, place.line, name, context, running),
-        Opener::Block(opener) => give_block(out, page.output, place, &opener, context, running),
+        Opener::Block(opener) => begin_block(out, page, place, &opener, context, running),
     }
 }

@@ -15,13 +15,15 @@ use Rattle.page_sets_lines.specs.declared.leaves.Leaf.TheVariants as leaves
 use Rattle.page_sets_lines.specs.declared.leaves.Request.{Request}
 use Rattle.page_sets_lines.specs.declared.openers.Opener.{Opener}
 use Rattle.page_sets_lines.specs.declared.openers.Opener.TheVariants as openers
+use Rattle.page_sets_lines.specs.declared.openers.LineOpener.{LineOpener}
+use Rattle.page_sets_lines.specs.declared.openers.LineOpener.TheVariants as lines
 use Rattle.page_sets_lines.specs.declared.openers.Closer.{Closer}
 use Rattle.page_sets_lines.specs.declared.openers.Closer.TheVariants as closers
 use Rattle.page_scopes_tree.specs.Acts.{Step, comes, does}
-use Rattle.page_scopes_tree.specs.Ends.{inside, up_to, line_scopes, up_to_explicit, up_to_paragraph, place_of_margin, but_outside, up_to_margin, opener_ends, closer_ends, leaf_ends, deed_ends, act_ends}
-use Rattle.page_scopes_tree.specs.Labels.{is_line, is_enclosure, is_section, is_paragraph, is_explicit, is_level}
+use Rattle.page_scopes_tree.specs.Ends.{inside, up_to, line_scopes, up_to_explicit, up_to_item, up_to_paragraph, place_of_margin, but_outside, up_to_margin, opener_ends, closer_ends, leaf_ends, deed_ends, act_ends}
+use Rattle.page_scopes_tree.specs.Labels.{is_line, is_enclosure, is_section, is_paragraph, is_item, is_list, is_explicit, is_level}
 use Rattle.page_scopes_tree.specs.Nests.{standing_by, step_ends, step_standing, scopes_nesting}
-use Rattle.page_scopes_tree.specs.Standings.{has_room, opened, closed, closer_fate, in_line_scope, is_dropped, request_fate, leaf_fate, deed_fate, act_fate, opener_label, is_passed_over}
+use Rattle.page_scopes_tree.specs.Standings.{has_room, in_list, in_headed_list, opened, item_fate, opener_fate, head_fate, line_fate, closed, closer_fate, in_line_scope, is_dropped, request_fate, leaf_fate, deed_fate, act_fate, opener_label, is_passed_over}
 use Rattle.page_core_limits.specs.declared.TheConstants.{SCOPES}
 use Rattle.page_scopes_tree.specs.declared.acts.Act.{Act}
 use Rattle.page_scopes_tree.specs.declared.acts.Act.TheVariants as acts
@@ -39,6 +41,9 @@ up_to-fits found end most h = grind (arith, nat_tests, h)
 
 explicit-fits : (explicit : Explicit) (nodes : List Label) → up_to_explicit explicit nodes ≤ length nodes
 explicit-fits explicit nodes = up_to-fits (inside (is_explicit explicit) nodes) (length nodes) (length nodes) (omega arith)
+
+item-fits : (nodes : List Label) → up_to_item nodes ≤ length nodes
+item-fits nodes = up_to-fits (inside is_item nodes) (inside is_list nodes) (length nodes) (prefix_len-le-length (λ label. not (is_list label)) nodes)
 
 paragraph-fits : (nodes : List Label) → up_to_paragraph nodes ≤ length nodes
 paragraph-fits nodes =
@@ -58,6 +63,7 @@ margin-fits number nodes =
     (but_outside-fits (place_of_margin (nat_abs number) (reverse nodes)) (length nodes))
 
 opener-fits : (opener : Opener (List ℕ)) (nodes : List Label) → opener_ends opener nodes ≤ length nodes
+opener-fits openers.Item nodes = item-fits nodes
 opener-fits openers.Section nodes = omega arith
 opener-fits openers.Subsection nodes = prefix_len-le-length (λ label. not (is_section label)) nodes
 opener-fits (openers.Paragraph name) nodes = paragraph-fits nodes
@@ -116,6 +122,40 @@ opened-by false remaining label e k = absurd k
 opened-room : (remaining : List Label) (label : Label) → Opens (opened remaining label) → length remaining < SCOPES
 opened-room remaining label h = opened-by (has_room remaining) remaining label refl h
 
+item-room : (test : Bool) (remaining : List Label) → Opens (item_fate test remaining) → length remaining < SCOPES
+unfolding Opens
+item-room true remaining h = opened-room remaining labels.Item h
+item-room false remaining h = absurd h
+
+opener-room : (opener : Opener (List ℕ)) (remaining : List Label) → Opens (opener_fate opener remaining) → length remaining < SCOPES
+unfolding opener_fate
+opener-room openers.Item remaining h = item-room (in_list remaining) remaining h
+opener-room openers.Section remaining h = opened-room remaining (opener_label openers.Section) h
+opener-room openers.Subsection remaining h = opened-room remaining (opener_label openers.Subsection) h
+opener-room (openers.Paragraph name) remaining h = opened-room remaining (opener_label (openers.Paragraph name)) h
+opener-room (openers.Tagged hang) remaining h = opened-room remaining (opener_label (openers.Tagged hang)) h
+opener-room (openers.Indented tag hang) remaining h = opened-room remaining (opener_label (openers.Indented tag hang)) h
+opener-room (openers.Hanging hang) remaining h = opened-room remaining (opener_label (openers.Hanging hang)) h
+opener-room (openers.RelativeMargin columns) remaining h = opened-room remaining (opener_label (openers.RelativeMargin columns)) h
+opener-room (openers.Target link target) remaining h = opened-room remaining (opener_label (openers.Target link target)) h
+opener-room (openers.Syntax name) remaining h = opened-room remaining (opener_label (openers.Syntax name)) h
+opener-room (openers.Block opener) remaining h = opened-room remaining (opener_label (openers.Block opener)) h
+
+head-room : (test : Bool) (remaining : List Label) → Opens (head_fate test remaining) → length remaining < SCOPES
+unfolding Opens
+head-room true remaining h = opened-room remaining (labels.Line lines.Head) h
+head-room false remaining h = absurd h
+
+line-room : (opener : LineOpener) (remaining : List Label) → Opens (line_fate opener remaining) → length remaining < SCOPES
+unfolding line_fate
+line-room lines.Head remaining h = head-room (in_headed_list remaining) remaining h
+line-room (lines.Heading name) remaining h = opened-room remaining (labels.Line (lines.Heading name)) h
+line-room (lines.Tag name) remaining h = opened-room remaining (labels.Line (lines.Tag name)) h
+line-room (lines.FontWords name) remaining h = opened-room remaining (labels.Line (lines.FontWords name)) h
+line-room (lines.Enclosure marks) remaining h = opened-room remaining (labels.Line (lines.Enclosure marks)) h
+line-room lines.Description remaining h = opened-room remaining (labels.Line lines.Description) h
+line-room (lines.OneLine name) remaining h = opened-room remaining (labels.Line (lines.OneLine name)) h
+
 closed-opens : (obstacle : Obstacle) (n : ℕ) → Opens (closed obstacle n) → ⊥
 unfolding Opens
 closed-opens obstacle zero h = h
@@ -156,9 +196,9 @@ leaf-opens (leaves.Step step) remaining h = h
 deed-room : (deed : Deed (List ℕ)) (n : ℕ) (remaining : List Label) → Opens (deed_fate deed n remaining) → length remaining < SCOPES
 unfolding Opens
 deed-room (deeds.Word word) n remaining h = absurd h
-deed-room (deeds.Open opener) n remaining h = opened-room remaining (opener_label opener) h
+deed-room (deeds.Open opener) n remaining h = opener-room opener remaining h
 deed-room (deeds.Close closer) n remaining h = absurd (closer-opens closer n h)
-deed-room (deeds.LineScope opener) n remaining h = opened-room remaining (labels.Line opener) h
+deed-room (deeds.LineScope opener) n remaining h = line-room opener remaining h
 deed-room (deeds.Leaf leaf) n remaining h = absurd (leaf-opens leaf remaining h)
 deed-room (deeds.Raw text) n remaining h = absurd h
 deed-room (deeds.End fills) n remaining h = absurd h

@@ -3,3 +3,4 @@ pub mod FitLemmas
 pub mod StackLemmas
 pub mod EventLemmas
 pub mod StandingLemmas
+pub mod StepLemmas

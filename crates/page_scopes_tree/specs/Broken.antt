@@ -25,7 +25,7 @@ use Rattle.page_scopes_tree.specs.declared.labels.Label.{Label}
 use Rattle.page_scopes_tree.specs.declared.labels.ScopeEnd.{ScopeEnd}
 use Rattle.page_scopes_tree.specs.declared.labels.ScopeEnd.TheVariants as ends
 use Rattle.page_scopes_tree.specs.declared.standings.Obstacle.{Obstacle}
-use Rattle.page_scopes_tree.specs.declared.standings.Obstacle.TheVariants.{Scopes, NotOpen, FewerMargins}
+use Rattle.page_scopes_tree.specs.declared.standings.Obstacle.TheVariants.{OutsideList, Scopes, NotOpen, FewerMargins}
 use Rattle.page_core_limits.specs.Limits.{name_of}
 use Rattle.page_core_limits.specs.declared.Limit.TheVariants as limits
 
@@ -109,6 +109,7 @@ act_closer_name (acts.Event event) = deed_closer_name event.deed
 act_closer_name (acts.PageEnd line) = []
 
 abbrev pub obstacle_notes : Obstacle → Act (Event (List ℕ)) → List Item
+obstacle_notes OutsideList act = says kinds.ItemOutside (act_place act) [] ∷ []
 obstacle_notes Scopes act = says kinds.Limit (act_place act) (name_of limits.Scopes) ∷ []
 obstacle_notes NotOpen act = says kinds.NotOpen (act_place act) (act_closer_name act) ∷ []
 obstacle_notes FewerMargins act = says kinds.FewerRs (act_place act) [] ∷ []

@@ -14,7 +14,7 @@ use Rattle.page_sets_lines.specs.declared.openers.Opener.{Opener}
 use Rattle.page_sets_lines.specs.declared.openers.Opener.TheVariants as openers
 use Rattle.page_sets_lines.specs.declared.openers.Closer.{Closer}
 use Rattle.page_sets_lines.specs.declared.openers.Closer.TheVariants as closers
-use Rattle.page_scopes_tree.specs.Labels.{is_line, is_enclosure, is_section, is_paragraph, is_explicit, is_margin, is_level}
+use Rattle.page_scopes_tree.specs.Labels.{is_line, is_enclosure, is_section, is_paragraph, is_item, is_list, is_explicit, is_margin, is_level}
 use Rattle.page_scopes_tree.specs.declared.acts.Act.{Act}
 use Rattle.page_scopes_tree.specs.declared.acts.Act.TheVariants as acts
 use Rattle.page_scopes_tree.specs.declared.labels.Explicit.{Explicit}
@@ -49,6 +49,10 @@ up_to_explicit explicit nodes = up_to (inside (is_explicit explicit) nodes) (len
 abbrev pub up_to_paragraph : List Label → ℕ
 up_to_paragraph nodes = up_to (inside is_paragraph nodes) (inside is_level nodes)
 
+-- up to the open item (`It`) of the innermost list
+abbrev pub up_to_item : List Label → ℕ
+up_to_item nodes = up_to (inside is_item nodes) (inside is_list nodes)
+
 -- where the relative margin of a number stands, counted from the outermost scope on
 abbrev pub place_of_margin : ℕ → List Label → Option ℕ
 place_of_margin k [] = None
@@ -71,6 +75,7 @@ margin_ends None nodes = up_to_explicit RelativeMargin nodes
 margin_ends (Some number) nodes = up_to_margin (expression_of Basic number).value nodes
 
 abbrev pub opener_ends : Opener (List ℕ) → List Label → ℕ
+opener_ends openers.Item nodes = up_to_item nodes
 opener_ends openers.Section nodes = length nodes
 opener_ends openers.Subsection nodes = inside_section nodes
 opener_ends (openers.Paragraph name) nodes = up_to_paragraph nodes

@@ -6,7 +6,10 @@ use Rattle.page_sets_lines.specs.Blocks.{block_closer_name, block_name}
 use Rattle.page_sets_lines.specs.MacroNames.{font_macro_name, heading_name, link_closer_name, link_name, one_line_name, tag_name}
 use Rattle.page_sets_lines.specs.Marks.{marks_name}
 use Rattle.page_sets_lines.specs.declared.openers.LineOpener.{LineOpener}
-use Rattle.page_sets_lines.specs.declared.openers.LineOpener.TheVariants.{Heading, Tag, FontWords, Enclosure, Description, OneLine}
+use Rattle.page_sets_lines.specs.declared.openers.LineOpener.TheVariants.{Head, Heading, Tag, FontWords, Enclosure, Description, OneLine}
+use Rattle.page_sets_lines.specs.declared.blocks.Block.TheVariants as blocks
+use Rattle.page_sets_lines.specs.declared.lists.ListKind.{ListKind}
+use Rattle.page_sets_lines.specs.declared.lists.ListKind.TheVariants as kinds
 use Rattle.page_scopes_tree.specs.declared.labels.Explicit.{Explicit}
 use Rattle.page_scopes_tree.specs.declared.labels.Explicit.TheVariants.{RelativeMargin, Target, Syntax, Block}
 use Rattle.page_scopes_tree.specs.declared.labels.Label.{Label}
@@ -45,6 +48,7 @@ guard_row name = record { name = name; end = Line; is_level = false; owns_prevai
 -- ---- the table
 
 abbrev pub line_row : LineOpener → LabelRow (List ℕ)
+line_row Head = plain_row (codes "It") Line
 line_row (Heading name) = guard_row (heading_name name)
 line_row (Tag name) = plain_row (tag_name name) Line
 line_row (FontWords name) = guard_row (font_macro_name name)
@@ -53,6 +57,7 @@ line_row Description = plain_row (codes "Nd") Line
 line_row (OneLine name) = plain_row (one_line_name name) Line
 
 abbrev pub label_row : Label → LabelRow (List ℕ)
+label_row labels.Item = plain_row (codes "It") Implied
 label_row labels.Section = level_row (codes "SH") Implied
 label_row labels.Subsection = level_row (codes "SS") Implied
 label_row labels.Paragraph = plain_row (codes "PP") Implied
@@ -106,3 +111,26 @@ is_enclosure _ = false
 abbrev pub is_paragraph : Label → Bool
 is_paragraph labels.Paragraph = true
 is_paragraph _ = false
+
+-- ---- lists (`Bl`) and their items (`It`)
+
+abbrev pub is_item : Label → Bool
+is_item labels.Item = true
+is_item _ = false
+
+abbrev pub is_list : Label → Bool
+is_list (labels.Explicit (Block (blocks.List kind))) = true
+is_list _ = false
+
+-- items have heads; the words of `It` in any other list are those of its text
+abbrev pub has_heads : ListKind → Bool
+has_heads kinds.Diag = true
+has_heads kinds.Hang = true
+has_heads kinds.Inset = true
+has_heads kinds.Ohang = true
+has_heads kinds.Tag = true
+has_heads _ = false
+
+abbrev pub is_headed_list : Label → Bool
+is_headed_list (labels.Explicit (Block (blocks.List kind))) = has_heads kind
+is_headed_list _ = false

@@ -1,5 +1,5 @@
 -- What becomes of an event itself, once it ended what it ends. Source: man(7), "MACRO OVERVIEW"; mdoc(7), "MACRO REFERENCE".
-use Rattle.std.specs.Prelude.{ℕ, zero, suc, Bool, true, false, ◌||◌, ◌&&◌, not, nat_lt, List, [], ◌∷◌, length, Option, None, Some, if◌then◌else◌}
+use Rattle.std.specs.Prelude.{ℕ, zero, suc, Bool, true, false, ◌||◌, ◌&&◌, not, nat_lt, nat_le, List, [], ◌∷◌, length, Option, None, Some, if◌then◌else◌}
 use Rattle.page_sets_lines.specs.Blocks.{opened_block}
 use Rattle.page_sets_lines.specs.declared.events.Event.{Event}
 use Rattle.page_sets_lines.specs.declared.events.Deed.{Deed}
@@ -13,8 +13,10 @@ use Rattle.page_sets_lines.specs.declared.openers.Opener.TheVariants as openers
 use Rattle.page_sets_lines.specs.declared.openers.Closer.{Closer}
 use Rattle.page_sets_lines.specs.declared.openers.Closer.TheVariants as closers
 use Rattle.page_sets_lines.specs.declared.openers.LineOpener.{LineOpener}
-use Rattle.page_sets_lines.specs.declared.openers.LineOpener.TheVariants.{Description, OneLine}
-use Rattle.page_scopes_tree.specs.Labels.{is_line, is_enclosure}
+use Rattle.page_sets_lines.specs.declared.openers.LineOpener.TheVariants.{Head, Description, OneLine}
+use Rattle.page_sets_lines.specs.declared.blocks.BlockOpener.TheVariants as block_openers
+use Rattle.page_scopes_tree.specs.Ends.{inside}
+use Rattle.page_scopes_tree.specs.Labels.{is_line, is_enclosure, is_list, is_headed_list}
 use Rattle.page_core_limits.specs.declared.TheConstants.{SCOPES}
 use Rattle.page_scopes_tree.specs.declared.acts.Act.{Act}
 use Rattle.page_scopes_tree.specs.declared.acts.Act.TheVariants as acts
@@ -24,10 +26,11 @@ use Rattle.page_scopes_tree.specs.declared.labels.Label.TheVariants as labels
 use Rattle.page_scopes_tree.specs.declared.standings.Fate.{Fate}
 use Rattle.page_scopes_tree.specs.declared.standings.Fate.TheVariants as fates
 use Rattle.page_scopes_tree.specs.declared.standings.Obstacle.{Obstacle}
-use Rattle.page_scopes_tree.specs.declared.standings.Obstacle.TheVariants.{Scopes, NotOpen, FewerMargins}
+use Rattle.page_scopes_tree.specs.declared.standings.Obstacle.TheVariants.{OutsideList, Scopes, NotOpen, FewerMargins}
 
 -- the scope that an opener opens
 abbrev pub opener_label : Opener (List ℕ) → Label
+opener_label openers.Item = labels.Item
 opener_label openers.Section = labels.Section
 opener_label openers.Subsection = labels.Subsection
 opener_label (openers.Paragraph name) = labels.Paragraph
@@ -45,6 +48,33 @@ has_room remaining = nat_lt (length remaining) SCOPES
 -- a scope opens where fewer than `SCOPES` are remaining
 abbrev pub opened : List Label → Label → Fate
 opened remaining label = if has_room remaining then fates.Node label else fates.Refused Scopes
+
+-- a list is open
+abbrev pub in_list : List Label → Bool
+in_list remaining = nat_lt (inside is_list remaining) (length remaining)
+
+-- the items of the innermost list have heads: such a list is open, and none is inside it
+abbrev pub in_headed_list : List Label → Bool
+in_headed_list remaining =
+    nat_lt (inside is_headed_list remaining) (length remaining) && nat_le (inside is_headed_list remaining) (inside is_list remaining)
+
+-- an item needs a list
+abbrev pub item_fate : Bool → List Label → Fate
+item_fate true remaining = opened remaining labels.Item
+item_fate false remaining = fates.Refused OutsideList
+
+unfoldable pub opener_fate : Opener (List ℕ) → List Label → Fate
+opener_fate openers.Item remaining = item_fate (in_list remaining) remaining
+opener_fate opener remaining = opened remaining (opener_label opener)
+
+-- the words of `It` are a head where items have heads, and else those of the item's text
+abbrev pub head_fate : Bool → List Label → Fate
+head_fate true remaining = opened remaining (labels.Line Head)
+head_fate false remaining = fates.Nothing
+
+unfoldable pub line_fate : LineOpener → List Label → Fate
+line_fate Head remaining = head_fate (in_headed_list remaining) remaining
+line_fate opener remaining = opened remaining (labels.Line opener)
 
 -- a closer that ended a scope is a leaf, as its suffix is; one that ended none is refused
 abbrev pub closed : Obstacle → ℕ → Fate
@@ -91,9 +121,9 @@ leaf_fate _ remaining = fates.Leaf
 -- of a deed that ended this many scopes, where these are remaining
 abbrev pub deed_fate : Deed (List ℕ) → ℕ → List Label → Fate
 deed_fate (deeds.Word word) n remaining = fates.Leaf
-deed_fate (deeds.Open opener) n remaining = opened remaining (opener_label opener)
+deed_fate (deeds.Open opener) n remaining = opener_fate opener remaining
 deed_fate (deeds.Close closer) n remaining = closer_fate closer n
-deed_fate (deeds.LineScope opener) n remaining = opened remaining (labels.Line opener)
+deed_fate (deeds.LineScope opener) n remaining = line_fate opener remaining
 deed_fate (deeds.Leaf leaf) n remaining = leaf_fate leaf remaining
 deed_fate (deeds.Raw text) n remaining = fates.Leaf
 deed_fate (deeds.End fills) n remaining = fates.Leaf
@@ -105,13 +135,26 @@ act_fate (acts.PageEnd line) n remaining = fates.Leaf
 
 -- ---- what is passed over
 
--- a paragraph whose opener is refused passes over the rest of its line
+-- a paragraph, list or item whose opener is refused passes over the rest of its line
 abbrev pub opens_paragraph : Opener (List ℕ) → Bool
+opens_paragraph openers.Item = true
+opens_paragraph (openers.Block (block_openers.List kind is_compact options)) = true
 opens_paragraph (openers.Paragraph name) = true
 opens_paragraph (openers.Tagged hang) = true
 opens_paragraph (openers.Indented tag hang) = true
 opens_paragraph (openers.Hanging hang) = true
 opens_paragraph _ = false
+
+abbrev pub refused_skips : Opener (List ℕ) → List Label → Bool
+refused_skips opener remaining = opens_paragraph opener && not (has_room remaining)
+
+abbrev pub item_skips : Bool → List Label → Bool
+item_skips true remaining = refused_skips openers.Item remaining
+item_skips false remaining = true
+
+unfoldable pub opener_skips : Opener (List ℕ) → List Label → Bool
+opener_skips openers.Item remaining = item_skips (in_list remaining) remaining
+opener_skips opener remaining = refused_skips opener remaining
 
 -- so does a description (`Nd`), or a row that stands alone (`D1`, `Dl`)
 abbrev pub opens_row : LineOpener → Bool
@@ -122,7 +165,7 @@ opens_row _ = false
 -- whether the rest of the line is passed over after a deed
 abbrev pub deed_skips : Bool → Deed (List ℕ) → List Label → Bool
 deed_skips skips (deeds.End fills) remaining = false
-deed_skips skips (deeds.Open opener) remaining = skips || (opens_paragraph opener && not (has_room remaining))
+deed_skips skips (deeds.Open opener) remaining = skips || opener_skips opener remaining
 deed_skips skips (deeds.LineScope opener) remaining = skips || (opens_row opener && not (has_room remaining))
 deed_skips skips _ remaining = skips
 

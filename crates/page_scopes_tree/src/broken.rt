@@ -140,6 +140,7 @@ pub(crate) fn report_obstacle<O: PieceOut>(
 {
     let place = act.place();
     match obstacle {
+        Obstacle::OutsideList => report(out, NoteKind::ItemOutside, place, b""),
         Obstacle::Scopes => report(out, NoteKind::Limit, place, Limit::Scopes.name().as_bytes()),
         Obstacle::NotOpen => report(
             out,

@@ -34,6 +34,17 @@ fn up_to_paragraph<B>(scopes: &[Scope<Label, B>]) -> usize
     )
 }
 
+// Up to the open item (`It`) of the innermost list.
+fn up_to_item<B>(scopes: &[Scope<Label, B>]) -> usize
+    requires { length scopes.now ≤ SCOPES }
+    ensures { result ≡ ends.up_to_item (labels (reverse scopes.now)) }
+{
+    up_to(
+        run_len(Run::InsideItem, scopes),
+        run_len(Run::InsideList, scopes),
+    )
+}
+
 // Up to the innermost scope of a closer.
 fn up_to_explicit<B>(explicit: Explicit, scopes: &[Scope<Label, B>]) -> usize
     requires { length scopes.now ≤ SCOPES }
@@ -85,13 +96,15 @@ fn margin_ends<B>(number: Option<&[u8]>, scopes: &[Scope<Label, B>]) -> usize
     }
 }
 
-// What an opener ends: `SH` and `Sh` all, `SS` and `Ss` all inside the section, a paragraph (`PP LP P TP IP HP`) the one before it, `SY` the synopsis before it.
+// What an opener ends: `SH` and `Sh` all, `SS` and `Ss` all inside the section, a paragraph (`PP LP P TP IP HP`), an item (`It`) and
+// a synopsis (`SY`) the one before it.
 #[inline(never)]
 fn opener_ends<B>(opener: &Opener<&[u8]>, scopes: &[Scope<Label, B>]) -> usize
     requires { length scopes.now ≤ SCOPES }
     ensures { result ≡ ends.opener_ends (opener_seen opener.now) (labels (reverse scopes.now)) }
 {
     match opener {
+        Opener::Item => up_to_item(scopes),
         Opener::Section => scopes.len(),
         Opener::Subsection => run_len(Run::InsideSection, scopes),
         Opener::Paragraph(_) | Opener::Tagged(_) | Opener::Indented { .. } | Opener::Hanging(_) => {

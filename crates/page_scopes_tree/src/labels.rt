@@ -3,7 +3,7 @@
 ghost use Rattle.std.specs.Prelude.{◌≡◌};
 ghost use Rattle.page_scopes_tree.specs.Labels as labels;
 
-use page_sets_lines::{Block, LineOpener, Link};
+use page_sets_lines::{Block, LineOpener, Link, ListKind};
 use std::alloc::AllocError;
 
 /// A scope with a closer of its own.
@@ -22,6 +22,8 @@ pub enum Explicit {
 /// What an open scope is.
 #[derive(Clone, Copy, PartialEq, Eq)]
 pub enum Label {
+    /// An item of a list: `It`.
+    Item,
     /// A section: `SH` and `Sh`.
     Section,
     /// A subsection: `SS` and `Ss`.
@@ -129,6 +131,7 @@ fn line_row(opener: LineOpener) -> LabelRow<&'static str>
     ensures { labels.row_seen result ≡ labels.line_row opener }
 {
     match opener {
+        LineOpener::Head => plain_row("It", ScopeEnd::Line),
         LineOpener::Heading(heading) => guard_row(heading.name()),
         LineOpener::Tag(tag) => plain_row(tag.name(), ScopeEnd::Line),
         LineOpener::FontWords(font_macro) => guard_row(font_macro.name()),
@@ -138,6 +141,16 @@ fn line_row(opener: LineOpener) -> LabelRow<&'static str>
     }
 }
 
+// Whether the items of a list have heads; the words of `It` in any other list are those of its text.
+fn has_heads(kind: ListKind) -> bool
+    ensures { result ≡ labels.has_heads kind }
+{
+    matches!(
+        kind,
+        ListKind::Diag | ListKind::Hang | ListKind::Inset | ListKind::Ohang | ListKind::Tag
+    )
+}
+
 impl Label {
     /// What is known of the scope by its label alone.
     #[inline(always)]
@@ -145,6 +158,7 @@ impl Label {
         ensures { labels.row_seen result ≡ labels.label_row self }
     {
         match self {
+            Label::Item => plain_row("It", ScopeEnd::Implied),
             Label::Section => level_row("SH", ScopeEnd::Implied),
             Label::Subsection => level_row("SS", ScopeEnd::Implied),
             Label::Paragraph => plain_row("PP", ScopeEnd::Implied),
@@ -201,6 +215,30 @@ impl Label {
         ensures { result ≡ labels.is_paragraph self }
     {
         matches!(self, Label::Paragraph)
+    }
+
+    /// Whether the scope is an item of a list.
+    pub(crate) fn is_item(self) -> bool
+        ensures { result ≡ labels.is_item self }
+    {
+        matches!(self, Label::Item)
+    }
+
+    /// Whether the scope is a list.
+    pub(crate) fn is_list(self) -> bool
+        ensures { result ≡ labels.is_list self }
+    {
+        matches!(self, Label::Explicit(Explicit::Block(Block::List(_))))
+    }
+
+    /// Whether the scope is a list whose items have heads.
+    pub(crate) fn is_headed_list(self) -> bool
+        ensures { result ≡ labels.is_headed_list self }
+    {
+        match self {
+            Label::Explicit(Explicit::Block(Block::List(kind))) => has_heads(kind),
+            _ => false,
+        }
     }
 
     /// Whether the scope is that with a closer of its own.

@@ -11,6 +11,12 @@ use page_scopes_laws::Scope;
 /// Which of the innermost scopes are counted.
 #[derive(Clone, Copy)]
 pub(crate) enum Run {
+    /// Those inside an item.
+    InsideItem,
+    /// Those inside a list.
+    InsideList,
+    /// Those inside a list whose items have heads.
+    InsideHeadedList,
     /// Those that end with a line.
     Lines,
     /// Enclosures that end with a line.
@@ -31,6 +37,9 @@ impl Run {
         ensures { result ≡ run_takes self label }
     {
         match self {
+            Run::InsideItem => !label.is_item(),
+            Run::InsideList => !label.is_list(),
+            Run::InsideHeadedList => !label.is_headed_list(),
             Run::Lines => label.is_line(),
             Run::Enclosures => label.is_enclosure(),
             Run::InsideSection => !label.is_section(),

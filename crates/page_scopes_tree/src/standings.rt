@@ -7,14 +7,17 @@ ghost use Rattle.page_scopes_tree.specs.Stacks as stacks;
 ghost use Rattle.page_scopes_tree.specs.Standings as standings;
 ghost use Rattle.page_sets_lines.specs.Events.{closer_seen, deed_seen, leaf_seen, opener_seen, request_seen, text_seen};
 
+use crate::runs::{Run, run_len};
 use crate::{Act, Explicit, Label};
 use page_core_limits::SCOPES;
 use page_scopes_laws::Scope;
-use page_sets_lines::{Closer, Deed, Event, Leaf, LineOpener, Opener, Request};
+use page_sets_lines::{BlockOpener, Closer, Deed, Event, Leaf, LineOpener, Opener, Request};
 
 /// Why an event is refused.
 #[derive(Clone, Copy, PartialEq, Eq)]
 pub(crate) enum Obstacle {
+    /// No list is open for an item.
+    OutsideList,
     /// [`SCOPES`] scopes are open.
     Scopes,
     /// No scope of the closer is open.
@@ -41,6 +44,7 @@ fn opener_label(opener: &Opener<&[u8]>) -> Label
     ensures { result ≡ standings.opener_label (opener_seen opener.now) }
 {
     match *opener {
+        Opener::Item => Label::Item,
         Opener::Section => Label::Section,
         Opener::Subsection => Label::Subsection,
         Opener::Paragraph(_) | Opener::Tagged(_) | Opener::Indented { .. } | Opener::Hanging(_) => {
@@ -71,6 +75,49 @@ fn opened<B>(remaining: &[Scope<Label, B>], label: Label) -> Fate
         Fate::Node(label)
     } else {
         Fate::Refused(Obstacle::Scopes)
+    }
+}
+
+// Whether a list is open.
+fn in_list<B>(remaining: &[Scope<Label, B>]) -> bool
+    requires { length remaining.now ≤ SCOPES }
+    ensures { result ≡ standings.in_list (labels (reverse remaining.now)) }
+{
+    run_len(Run::InsideList, remaining) < remaining.len()
+}
+
+// Whether a list is open, and the items of the innermost one have heads.
+fn in_headed_list<B>(remaining: &[Scope<Label, B>]) -> bool
+    requires { length remaining.now ≤ SCOPES }
+    ensures { result ≡ standings.in_headed_list (labels (reverse remaining.now)) }
+{
+    let inside = run_len(Run::InsideHeadedList, remaining);
+    inside < remaining.len() && inside <= run_len(Run::InsideList, remaining)
+}
+
+// What becomes of an opener: an item needs a list.
+#[tactic(auto, unfolding(crate::specs::Standings::opener_fate))]
+#[inline(always)]
+fn opener_fate<B>(opener: &Opener<&[u8]>, remaining: &[Scope<Label, B>]) -> Fate
+    requires { length remaining.now ≤ SCOPES }
+    ensures { result ≡ standings.opener_fate (opener_seen opener.now) (labels (reverse remaining.now)) }
+{
+    match opener {
+        Opener::Item if !in_list(remaining) => Fate::Refused(Obstacle::OutsideList),
+        _ => opened(remaining, opener_label(opener)),
+    }
+}
+
+// What becomes of what opens a line scope: a head (`It`) is one where the items of the list have heads.
+#[tactic(auto, unfolding(crate::specs::Standings::line_fate))]
+#[inline(always)]
+fn line_fate<B>(opener: LineOpener, remaining: &[Scope<Label, B>]) -> Fate
+    requires { length remaining.now ≤ SCOPES }
+    ensures { result ≡ standings.line_fate opener (labels (reverse remaining.now)) }
+{
+    match opener {
+        LineOpener::Head if !in_headed_list(remaining) => Fate::Nothing,
+        _ => opened(remaining, Label::Line(opener)),
     }
 }
 
@@ -163,9 +210,9 @@ fn deed_fate<B>(deed: &Deed<&[u8]>, count: usize, remaining: &[Scope<Label, B>])
     ensures { result ≡ standings.deed_fate (deed_seen deed.now) count (labels (reverse remaining.now)) }
 {
     match deed {
-        Deed::Open(opener) => opened(remaining, opener_label(opener)),
+        Deed::Open(opener) => opener_fate(opener, remaining),
         Deed::Close(closer) => closer_fate(closer, count),
-        Deed::LineScope(opener) => opened(remaining, Label::Line(*opener)),
+        Deed::LineScope(opener) => line_fate(*opener, remaining),
         Deed::Leaf(leaf) => leaf_fate(leaf, remaining),
         _ => Fate::Leaf,
     }
@@ -238,14 +285,31 @@ pub(crate) fn is_idle<B>(act: &Act<&Event<&[u8]>>, scopes: &[Scope<Label, B>]) -
     }
 }
 
-// Whether an opener is of a paragraph.
+// Whether an opener is of a paragraph, a list or an item.
 fn opens_paragraph(opener: &Opener<&[u8]>) -> bool
     ensures { result ≡ standings.opens_paragraph (opener_seen opener.now) }
 {
     matches!(
         opener,
-        Opener::Paragraph(_) | Opener::Tagged(_) | Opener::Indented { .. } | Opener::Hanging(_)
+        Opener::Item
+            | Opener::Block(BlockOpener::List { .. })
+            | Opener::Paragraph(_)
+            | Opener::Tagged(_)
+            | Opener::Indented { .. }
+            | Opener::Hanging(_)
     )
+}
+
+// Whether the rest of an opener's line is passed over.
+#[tactic(auto, unfolding(crate::specs::Standings::opener_skips))]
+fn opener_skips<B>(opener: &Opener<&[u8]>, remaining: &[Scope<Label, B>]) -> bool
+    requires { length remaining.now ≤ SCOPES }
+    ensures { result ≡ standings.opener_skips (opener_seen opener.now) (labels (reverse remaining.now)) }
+{
+    match opener {
+        Opener::Item if !in_list(remaining) => true,
+        _ => opens_paragraph(opener) && !has_room(remaining),
+    }
 }
 
 // Whether an opener is of a description or of a row that stands alone.
@@ -263,7 +327,7 @@ fn deed_skips<B>(skips: bool, deed: &Deed<&[u8]>, remaining: &[Scope<Label, B>])
 {
     match deed {
         Deed::End { .. } => false,
-        Deed::Open(opener) => skips || (opens_paragraph(opener) && !has_room(remaining)),
+        Deed::Open(opener) => skips || opener_skips(opener, remaining),
         Deed::LineScope(opener) => skips || (opens_row(*opener) && !has_room(remaining)),
         _ => skips,
     }

@@ -72,9 +72,6 @@ fn blocks(rt: HostRuntime) {
             (".ZZ a", "2 note unknown ZZ; 1 filled"),
             (".SH X", "2 note unknown SH; 1 filled"),
             (".Bt", "2 note unknown Bt; 1 filled"),
-            (".Bl -tag", "2 note unknown Bl; 1 filled"),
-            (".It \"x", "2 note unknown It; 1 filled"),
-            (".Ta", "2 note unknown Ta; 1 filled"),
         ],
     );
     assert!(rt; Mdoc.indent() == 5);
@@ -145,7 +142,7 @@ fn words(rt: HostRuntime) {
                 ".Sy a Em b Ar",
                 "5 word B a; 10 word I b; 12 mark I file ...; 1 filled",
             ),
-            (".Em Ta", "5 word I Ta; 1 filled"),
+            (".Em Ta", "2 note empty Em; 5 column; 1 filled"),
             (".Fl", "2 mark B -; 1 filled"),
             (
                 ".Fl a b",
@@ -606,6 +603,72 @@ fn sentences_and_spacing(rt: HostRuntime) {
             "2 mark The; 2 manual; 2 +mark (); 2 mark ",
             "function returns the value 0 if successful; otherwise the value -1 is returned ",
             "and the global variable errno is set to indicate the error.; 1 filled",
+        ],
+    );
+}
+
+#[test]
+fn lists(rt: HostRuntime) {
+    check_lines(
+        &rt,
+        &[
+            (".Bl -item", "2 open Bl  -item; 1 filled"),
+            (
+                ".Bl -tag -width Ds -compact",
+                "2 open compact Bl  -tag -width Ds -compact; 1 filled",
+            ),
+            (
+                ".Bl \"-compact\" -enum -tag",
+                "2 open compact Bl  \"-compact\" -enum -tag; 1 filled",
+            ),
+            (
+                ".Bl -width -compact -tag",
+                "2 open Bl  -width -compact -tag; 1 filled",
+            ),
+            (".Bl -tag", "2 note! width; 2 open Bl  -tag; 1 filled"),
+            (
+                ".Bl -tag -width",
+                "2 note! width; 2 open Bl  -tag -width; 1 filled",
+            ),
+            (".Bl -bullet -tag", "2 open Bl  -bullet -tag; 1 filled"),
+            (
+                ".Bl -compact",
+                "2 note! type; 2 open compact Bl  -compact; 1 filled",
+            ),
+            (".Bl", "2 note! type; 2 open Bl ; 1 filled"),
+            (
+                ".Bl -offset -tag \"x",
+                "18 note! quote; 2 note! type; 2 open Bl  -offset -tag \"x; 1 filled",
+            ),
+            (".El x", "2 close El; 1 filled"),
+            (".El \"x", "5 note quote; 2 close El; 1 filled"),
+        ],
+    );
+    for name in [
+        "bullet", "column", "dash", "diag", "enum", "hang", "hyphen", "inset", "item", "ohang",
+    ] {
+        check_parts(&rt, &[".Bl -", name], &["2 open Bl  -", name, "; 1 filled"]);
+    }
+}
+
+#[test]
+fn items_and_columns(rt: HostRuntime) {
+    check_lines(
+        &rt,
+        &[
+            (".It", "2 open It; 2 scope It; 1 filled"),
+            (
+                ".It Fl a .",
+                "2 open It; 2 scope It; 8 mark+ B -; 8 word B a; 10 close enclosures; 10 +delimiter R .; 1 filled",
+            ),
+            (
+                ".It x Ta \"Ta\" y Ta ,",
+                "2 open It; 2 scope It; 5 word x; 7 column; 11 word \"Ta\"; 15 word y; 17 column; 20 close enclosures; \
+                20 +delimiter R ,; 1 filled",
+            ),
+            (".It \"x", "2 open It; 2 scope It; 6 word \"x; 1 filled"),
+            (".Ta", "2 column; 1 filled"),
+            (".Ta Em a", "2 column; 8 word I a; 1 filled"),
         ],
     );
 }

@@ -111,6 +111,11 @@ fn display_kind(is_literal: bool, is_compact: bool) -> &'static str {
 fn show_block_opener<'a>(opener: BlockOpener<&'a [u8]>) -> Shown<'a> {
     let name = opener.block().name();
     match opener {
+        BlockOpener::List {
+            is_compact,
+            options,
+            ..
+        } => with(display_kind(false, is_compact), name, Some(bare(options))),
         BlockOpener::Custom(mark) => with("open", name, mark),
         BlockOpener::Display {
             is_literal,
@@ -135,6 +140,7 @@ fn show_block_closer<'a>(closer: BlockCloser<&'a [u8]>) -> Shown<'a> {
 
 fn show_opener<'a>(opener: Opener<&'a [u8]>) -> Shown<'a> {
     match opener {
+        Opener::Item => alone("open", "It"),
         Opener::Section => alone("open", "SH"),
         Opener::Subsection => alone("open", "SS"),
         Opener::Paragraph(name) => alone("open", name.name()),
@@ -195,6 +201,7 @@ fn synopsis_name(step: SynopsisStep) -> &'static str {
 
 fn show_step<'a>(step: LineStep<&'a [u8]>) -> Shown<'a> {
     match step {
+        LineStep::NextColumn => alone("column", ""),
         LineStep::Glue => alone("glue", ""),
         LineStep::BodyParagraph(name) => alone("paragraph", name.name()),
         LineStep::Uri(uri) => with("uri", "", Some(uri)),
@@ -227,6 +234,8 @@ fn show_note<'a>(kind: NoteKind, detail: &'a [u8], begins_body: bool) -> Shown<'
         NoteKind::EmptyMacro => "empty",
         NoteKind::UnknownMacro => "unknown",
         NoteKind::Unterminated => "quote",
+        NoteKind::NoListType => "type",
+        NoteKind::MissingWidth => "width",
         NoteKind::UnknownFont => "font",
         _ => "other",
     };

@@ -2,6 +2,8 @@
 use Rattle.std.specs.Prelude.{ℕ, List, codes}
 use Rattle.page_sets_lines.specs.declared.blocks.Block.{Block}
 use Rattle.page_sets_lines.specs.declared.blocks.Block.TheVariants.{Quotation, Custom, Extension, Display, Fonts, Keep, Reference, Function}
+use Rattle.page_sets_lines.specs.declared.blocks.Block.TheVariants as blocks
+use Rattle.page_sets_lines.specs.declared.lists.ListKind.TheVariants as kinds
 use Rattle.page_sets_lines.specs.declared.blocks.BlockOpener.{BlockOpener}
 use Rattle.page_sets_lines.specs.declared.blocks.BlockOpener.TheVariants as openers
 use Rattle.page_sets_lines.specs.declared.blocks.BlockCloser.{BlockCloser}
@@ -9,6 +11,7 @@ use Rattle.page_sets_lines.specs.declared.blocks.BlockCloser.TheVariants as clos
 use Rattle.page_sets_lines.specs.Marks.{quotation_name, quotation_closer_name}
 
 abbrev pub block_name : Block → List ℕ
+block_name (blocks.List kind) = codes "Bl"
 block_name (Quotation quotation) = quotation_name quotation
 block_name Custom = codes "Eo"
 block_name Extension = codes "Xo"
@@ -19,6 +22,7 @@ block_name Reference = codes "Rs"
 block_name Function = codes "Fo"
 
 abbrev pub block_closer_name : Block → List ℕ
+block_closer_name (blocks.List kind) = codes "El"
 block_closer_name (Quotation quotation) = quotation_closer_name quotation
 block_closer_name Custom = codes "Ec"
 block_closer_name Extension = codes "Xc"
@@ -30,6 +34,7 @@ block_closer_name Function = codes "Fc"
 
 -- the block that is opened
 abbrev pub opened_block : BlockOpener (List ℕ) → Block
+opened_block (openers.List kind is_compact options) = blocks.List kind
 opened_block (openers.Quotation quotation) = Quotation quotation
 opened_block (openers.Custom mark) = Custom
 opened_block openers.Extension = Extension
@@ -39,8 +44,9 @@ opened_block openers.Keep = Keep
 opened_block openers.Reference = Reference
 opened_block (openers.Function name) = Function
 
--- the block that is closed
+-- the block that is closed; lists of all types have one closer, and the plainest stands for them
 abbrev pub closed_block : BlockCloser (List ℕ) → Block
+closed_block closers.List = blocks.List kinds.Item
 closed_block (closers.Quotation quotation) = Quotation quotation
 closed_block (closers.Custom mark) = Custom
 closed_block closers.Extension = Extension

@@ -33,6 +33,7 @@ given_seen None = None
 given_seen (Some argument) = Some (argument_seen argument)
 
 abbrev pub block_opener_seen : BlockOpener (Bor (List ℕ)) → BlockOpener (List ℕ)
+block_opener_seen (block_openers.List kind is_compact options) = block_openers.List kind is_compact options.now
 block_opener_seen (block_openers.Quotation quotation) = block_openers.Quotation quotation
 block_opener_seen (block_openers.Custom mark) = block_openers.Custom (given_seen mark)
 block_opener_seen block_openers.Extension = block_openers.Extension
@@ -43,6 +44,7 @@ block_opener_seen block_openers.Reference = block_openers.Reference
 block_opener_seen (block_openers.Function name) = block_openers.Function (argument_seen name)
 
 abbrev pub block_closer_seen : BlockCloser (Bor (List ℕ)) → BlockCloser (List ℕ)
+block_closer_seen block_closers.List = block_closers.List
 block_closer_seen (block_closers.Quotation quotation) = block_closers.Quotation quotation
 block_closer_seen (block_closers.Custom mark) = block_closers.Custom (given_seen mark)
 block_closer_seen block_closers.Extension = block_closers.Extension
@@ -53,6 +55,7 @@ block_closer_seen block_closers.Reference = block_closers.Reference
 block_closer_seen block_closers.Function = block_closers.Function
 
 abbrev pub opener_seen : Opener (Bor (List ℕ)) → Opener (List ℕ)
+opener_seen openers.Item = openers.Item
 opener_seen openers.Section = openers.Section
 opener_seen openers.Subsection = openers.Subsection
 opener_seen (openers.Paragraph name) = openers.Paragraph name
@@ -80,6 +83,7 @@ request_seen (requests.Shift columns) = requests.Shift (text_seen columns)
 request_seen (requests.Literal on) = requests.Literal on
 
 abbrev pub step_seen : LineStep (Bor (List ℕ)) → LineStep (List ℕ)
+step_seen steps.NextColumn = steps.NextColumn
 step_seen steps.Glue = steps.Glue
 step_seen (steps.BodyParagraph name) = steps.BodyParagraph name
 step_seen (steps.Uri uri) = steps.Uri (argument_seen uri)

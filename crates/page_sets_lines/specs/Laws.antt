@@ -44,6 +44,7 @@ IsArgumentIfGiven line (Some argument) = IsArgument line argument
 
 -- each argument of an event is the slice of the line at its column, and each other text a slice of it
 abbrev pub BlockOpensSlices : List ℕ → BlockOpener (List ℕ) → Type 0
+BlockOpensSlices line (block_openers.List kind is_compact options) = IsPart line options
 BlockOpensSlices line (block_openers.Quotation quotation) = Unit {0}
 BlockOpensSlices line (block_openers.Custom mark) = IsArgumentIfGiven line mark
 BlockOpensSlices line block_openers.Extension = Unit {0}
@@ -54,6 +55,7 @@ BlockOpensSlices line block_openers.Reference = Unit {0}
 BlockOpensSlices line (block_openers.Function name) = IsArgument line name
 
 abbrev pub BlockClosesSlices : List ℕ → BlockCloser (List ℕ) → Type 0
+BlockClosesSlices line block_closers.List = Unit {0}
 BlockClosesSlices line (block_closers.Quotation quotation) = Unit {0}
 BlockClosesSlices line (block_closers.Custom mark) = IsArgumentIfGiven line mark
 BlockClosesSlices line block_closers.Extension = Unit {0}
@@ -64,6 +66,7 @@ BlockClosesSlices line block_closers.Reference = Unit {0}
 BlockClosesSlices line block_closers.Function = Unit {0}
 
 abbrev pub OpensSlices : List ℕ → Opener (List ℕ) → Type 0
+OpensSlices line openers.Item = Unit {0}
 OpensSlices line openers.Section = Unit {0}
 OpensSlices line openers.Subsection = Unit {0}
 OpensSlices line (openers.Paragraph name) = Unit {0}
@@ -91,6 +94,7 @@ RequestsSlices line (requests.Shift columns) = IsPartIfGiven line columns
 RequestsSlices line (requests.Literal on) = Unit {0}
 
 abbrev pub StepsSlices : List ℕ → LineStep (List ℕ) → Type 0
+StepsSlices line steps.NextColumn = Unit {0}
 StepsSlices line steps.Glue = Unit {0}
 StepsSlices line (steps.BodyParagraph name) = Unit {0}
 StepsSlices line (steps.Uri uri) = IsArgument line uri

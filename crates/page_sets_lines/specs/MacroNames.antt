@@ -17,7 +17,7 @@ use Rattle.page_sets_lines.specs.declared.macro_names.FontMacro.TheVariants as f
 use Rattle.page_sets_lines.specs.declared.macro_names.Prologue.{Prologue}
 use Rattle.page_sets_lines.specs.declared.macro_names.Prologue.TheVariants as prologues
 use Rattle.page_sets_lines.specs.declared.openers.LineOpener.{LineOpener}
-use Rattle.page_sets_lines.specs.declared.openers.LineOpener.TheVariants.{Heading, Tag, FontWords, Enclosure, Description, OneLine}
+use Rattle.page_sets_lines.specs.declared.openers.LineOpener.TheVariants.{Head, Heading, Tag, FontWords, Enclosure, Description, OneLine}
 use Rattle.page_sets_lines.specs.declared.leaves.Own.{Own}
 use Rattle.page_sets_lines.specs.declared.leaves.Own.TheVariants.{OpenParenthesis, CloseParenthesis, OpenBracket, CloseBracket, OpenAngle, CloseAngle, OpenBrace, CloseBrace, OpenDouble, CloseDouble, OpenSingle, CloseSingle, Straight, Comma, FullStop, Colon, Apostrophe, Dash}
 use Rattle.page_sets_lines.specs.declared.leaves.Own.TheVariants.{Flag, Files, Home, Bsd, BsdOs, DragonFly, FreeBsd, NetBsd, OpenBsd, Unix}
@@ -68,6 +68,7 @@ prologue_name prologues.Dt = codes "Dt"
 prologue_name prologues.Os = codes "Os"
 
 abbrev pub line_opener_name : LineOpener → List ℕ
+line_opener_name Head = codes "It"
 line_opener_name (Heading heading) = heading_name heading
 line_opener_name (Tag tag) = tag_name tag
 line_opener_name (FontWords font_macro) = font_macro_name font_macro

@@ -4,6 +4,7 @@ ghost use Rattle.std.specs.Prelude.{◌≡◌};
 ghost use Rattle.page_sets_lines.specs.Blocks.{block_name, block_closer_name, opened_block, closed_block};
 ghost use Rattle.page_sets_lines.specs.Events.{block_opener_seen, block_closer_seen};
 
+use crate::lists::ListKind;
 use crate::marks::Quotation;
 use page_core_base::Font;
 use page_roff_forms::Argument;
@@ -12,6 +13,8 @@ use std::alloc::AllocError;
 /// A block, without its texts.
 #[derive(Clone, Copy, PartialEq, Eq)]
 pub enum Block {
+    /// `Bl` and `El`: a list of a type.
+    List(ListKind),
     /// `Ao` and `Ac`, `Bo` and `Bc`, `Bro` and `Brc`, `Do` and `Dc`, `Oo` and `Oc`, `Po` and `Pc`, `Qo` and `Qc`,
     /// `So` and `Sc`.
     Quotation(Quotation),
@@ -33,6 +36,12 @@ pub enum Block {
 
 /// What opens a block; `W` is a text.
 pub enum BlockOpener<W> {
+    /// `Bl`: its type, whether no blank row stands before an item, and all its arguments as they stand.
+    List {
+        kind: ListKind,
+        is_compact: bool,
+        options: W,
+    },
     /// `Ao Bo Bro Do Oo Po Qo So`.
     Quotation(Quotation),
     /// `Eo`, with its mark.
@@ -57,6 +66,8 @@ pub enum BlockOpener<W> {
 
 /// What closes a block; `W` is a text.
 pub enum BlockCloser<W> {
+    /// `El`.
+    List,
     /// `Ac Bc Brc Dc Oc Pc Qc Sc`; the name is that of the opener.
     Quotation(Quotation),
     /// `Ec`, with its mark.
@@ -81,6 +92,7 @@ impl Block {
         ensures { result.now ≡ block_name self }
     {
         match self {
+            Block::List(_) => "Bl",
             Block::Quotation(quotation) => quotation.name(),
             Block::Custom => "Eo",
             Block::Extension => "Xo",
@@ -97,6 +109,7 @@ impl Block {
         ensures { result.now ≡ block_closer_name self }
     {
         match self {
+            Block::List(_) => "El",
             Block::Quotation(quotation) => quotation.closer_name(),
             Block::Custom => "Ec",
             Block::Extension => "Xc",
@@ -115,6 +128,7 @@ impl BlockOpener<&[u8]> {
         ensures { result ≡ opened_block (block_opener_seen self.now) }
     {
         match *self {
+            BlockOpener::List { kind, .. } => Block::List(kind),
             BlockOpener::Quotation(quotation) => Block::Quotation(quotation),
             BlockOpener::Custom(_) => Block::Custom,
             BlockOpener::Extension => Block::Extension,
@@ -128,11 +142,12 @@ impl BlockOpener<&[u8]> {
 }
 
 impl BlockCloser<&[u8]> {
-    /// The block that it closes.
+    /// The block that it closes; lists of all types have one closer, and the plainest stands for them.
     pub fn block(&self) -> Block
         ensures { result ≡ closed_block (block_closer_seen self.now) }
     {
         match *self {
+            BlockCloser::List => Block::List(ListKind::Item),
             BlockCloser::Quotation(quotation) => Block::Quotation(quotation),
             BlockCloser::Custom(_) => Block::Custom,
             BlockCloser::Extension => Block::Extension,

@@ -10,6 +10,7 @@ mod control_lines;
 mod events;
 mod leaves;
 mod line_steps;
+mod lists;
 mod macro_names;
 mod macro_sets;
 mod marks;
@@ -22,6 +23,7 @@ pub use control_lines::{NameSpan, find_name, first_of, open_quote, read_after};
 pub use events::{Deed, Event, Join, Role, Word};
 pub use leaves::{Leaf, Own, OwnWord, Request};
 pub use line_steps::{LineStep, SynopsisStep};
+pub use lists::{Awaited, ListKind, ListOptions, ListWord, read_list_options};
 pub use macro_names::{
     BodyParagraphName, FontMacro, HeadingName, Link, OneLineName, ParagraphName, Prologue, TagName,
 };

@@ -21,6 +21,8 @@ pub enum SynopsisStep {
 
 /// What a macro changes in its line, or prints there; `W` is a text.
 pub enum LineStep<W> {
+    /// `Ta`: the next column of a list.
+    NextColumn,
     /// `Ns`: no blank between the words before and after it.
     Glue,
     /// `Pp` and `Lp`: a paragraph begins.

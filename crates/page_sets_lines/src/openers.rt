@@ -11,6 +11,8 @@ use std::alloc::AllocError;
 
 /// What opens a scope that goes on after its line; `W` is a text, a number in it still an expression.
 pub enum Opener<W> {
+    /// `It`; its head is the line scope that follows.
+    Item,
     /// `SH` and `Sh`; its heading is the line scope that follows.
     Section,
     /// `SS` and `Ss`; its heading is the line scope that follows.
@@ -55,6 +57,8 @@ pub enum Closer<W> {
 /// What opens a scope that ends with a line: its own, or the next one that gives words.
 #[derive(Clone, Copy, PartialEq, Eq)]
 pub enum LineOpener {
+    /// The words of `It`.
+    Head,
     /// The words of `SH SS Sh Ss`.
     Heading(HeadingName),
     /// The tag of `TP`, and a further one of `TQ`.
@@ -75,6 +79,7 @@ impl LineOpener {
         ensures { result.now ≡ names.line_opener_name self }
     {
         match self {
+            LineOpener::Head => "It",
             LineOpener::Heading(heading) => heading.name(),
             LineOpener::Tag(tag) => tag.name(),
             LineOpener::FontWords(font_macro) => font_macro.name(),

@@ -23,7 +23,7 @@ use Rattle.page_sets_mdoc_lines.specs.Parts.{Call, LineParts, parts, has_calls}
 use Rattle.page_sets_mdoc_words.specs.Printed.{printed}
 use Rattle.page_sets_mdoc_words.specs.Synopses.{framed, placed_events}
 use Rattle.page_sets_mdoc_words.specs.Sentences.{include_events, sentence_events}
-use Rattle.page_sets_mdoc_blocks.specs.Macros.{has_phrase, is_to_come}
+use Rattle.page_sets_mdoc_blocks.specs.Macros.{has_phrase}
 use Rattle.page_sets_mdoc_blocks.specs.Fronts.{name_column, line_arguments, refusal, request_front, has_real_word, given_names, block_front}
 
 -- ---- the words of a line, with the macros among them
@@ -75,6 +75,7 @@ include_words false line = printed line.number None (line_arguments line)
 
 abbrev pub words_events : LineMacro → Line → List (Event (List ℕ))
 words_events (lines.Inline inline) line = head_events line inline (line_parts (Some inline) line)
+words_events lines.Item line = phrase_events line.number (line_parts None line)
 words_events (lines.Heading name) line = phrase_events line.number (line_parts None line)
 words_events lines.Description line = phrase_events line.number (line_parts None line)
 words_events (lines.OneLine name) line = phrase_events line.number (line_parts None line)
@@ -93,11 +94,10 @@ refused_events kind line = refusal kind line ∷ line_end line.number true ∷ [
 abbrev pub lacks_words : LineMacro → Line → Bool
 lacks_words begins line = has_phrase begins && not (has_arguments (rest_of line))
 
--- a macro that begins the line; one whose events are still to come is unknown
+-- a macro that begins the line
 abbrev pub macro_events : LineMacro → Line → List (Event (List ℕ))
 macro_events begins line =
-    if is_to_come begins then refused_events UnknownMacro line
-    else if lacks_words begins line then refused_events EmptyMacro line
+    if lacks_words begins line then refused_events EmptyMacro line
     else block_front begins line ++ (words_events begins line ++ (line_end line.number true ∷ []))
 
 abbrev pub request_events : Option LayoutRequest → Line → List (Event (List ℕ))

@@ -20,7 +20,6 @@ use Rattle.page_sets_mdoc_rows.specs.Rows.{line_macro, is_parsed}
 use Rattle.page_sets_mdoc_lines.proofs.FewLemmas.{few_arguments_after}
 use Rattle.page_sets_mdoc_words.proofs.PrintLemmas.{Prints, no_event, more_events, word_passed, printed_prints, include_prints, sentence_prints, framed_prints}
 use Rattle.page_sets_mdoc_words.proofs.StepPrintLemmas.{most_events, step_prints}
-use Rattle.page_sets_mdoc_blocks.specs.Macros.{is_to_come}
 use Rattle.page_sets_mdoc_blocks.specs.Fronts.{name_column, line_arguments, request_front, has_real_word, is_standard, given_names, block_front}
 use Rattle.page_sets_mdoc_blocks.proofs.FrontLemmas.{request_front_slices, block_slices, front_slices, request_no_word, block_no_word, request_few, words_more, block_few}
 use Rattle.page_sets_mdoc.specs.declared.plans.Plan.{Plan}
@@ -91,7 +90,7 @@ words_print lines.Description line = phrase_prints line (is_parsed (name_of line
 words_print (lines.OneLine name) line = phrase_prints line (is_parsed (name_of line)) (line_arguments line) (all_arguments line.text (name_end line))
 words_print (lines.Begins block) line = no_event line.text 2 (line_arguments line)
 words_print (lines.Ends block) line = no_event line.text 2 (line_arguments line)
-words_print lines.Item line = no_event line.text 3 (line_arguments line)
+words_print lines.Item line = phrase_prints line (is_parsed (name_of line)) (line_arguments line) (all_arguments line.text (name_end line))
 words_print (lines.Field font) line =
     more_events line.text 0 3 (line_arguments line) _ (omega arith)
     (printed_prints line.text line.number (field_font (has_real_word line) font) (line_arguments line) (all_arguments line.text (name_end line)))
@@ -132,9 +131,8 @@ either_keeps line false events others h k = k
 
 macro_keeps : (begins : LineMacro) (line : Line) → Keeps line (macro_events begins line)
 macro_keeps begins line =
-    either_keeps line (is_to_come begins) _ _ (refused_keeps line UnknownMacro)
-    (either_keeps line (lacks_words begins line) _ _ (refused_keeps line EmptyMacro)
-    (with_words line (words_more begins) (block_front begins line) (words_events begins line) (block_slices begins line) (block_no_word begins line) (block_few begins line) (words_print begins line)))
+    either_keeps line (lacks_words begins line) _ _ (refused_keeps line EmptyMacro)
+    (with_words line (words_more begins) (block_front begins line) (words_events begins line) (block_slices begins line) (block_no_word begins line) (block_few begins line) (words_print begins line))
 
 request_keeps : (request : Option LayoutRequest) (line : Line) → Keeps line (request_events request line)
 request_keeps None line = refused_keeps line UnknownMacro

@@ -14,7 +14,7 @@ use page_core_base::{NoteKind, Place, Taken};
 use page_core_limits::LINE;
 use page_roff_forms::has_arguments;
 use page_sets_lines::{Deed, Event, PlainLine, find_name, layout_request};
-use page_sets_mdoc_blocks::{Front, has_phrase, is_to_come};
+use page_sets_mdoc_blocks::{Front, has_phrase};
 use page_sets_mdoc_rows::{LineMacro, line_macro};
 use page_sets_mdoc_words::MacroWords;
 
@@ -80,9 +80,6 @@ fn macro_plan(begins: LineMacro, line: Taken<'_>) -> Plan
     ensures stands { StandsIn (line_seen line.entry) result.words }
     ensures events { plan_events (line_seen line.entry) result ≡ mdoc.macro_events begins (line_seen line.entry) }
 {
-    if is_to_come(begins) {
-        return wordless_plan(Front::refused(NoteKind::UnknownMacro), line);
-    }
     if lacks_words(begins, line) {
         return wordless_plan(Front::refused(NoteKind::EmptyMacro), line);
     }

@@ -1,15 +1,16 @@
 -- What comes before a line's words: its texts are slices of the line, none of its events is a word, and they are few. Helpers of proofs.
-use Rattle.std.proofs.Common.{◌≡◌, ℕ, ◌+◌, ◌≤◌, Bool, true, false, List, [], ◌∷◌, ◌++◌, length, refl, ap, arith, length-append, append-nil, Option, None, Some, if◌then◌else◌, unwrap_or, option_map, codes}
+use Rattle.std.proofs.Common.{◌≡◌, ℕ, ◌+◌, ◌≤◌, Bool, true, false, List, [], ◌∷◌, ◌++◌, length, refl, ap, arith, length-append, Option, None, Some, if◌then◌else◌, unwrap_or, codes}
 use Rattle.std.specs.Str.{bytes_eq}
 use Rattle.page_core_base.specs.LinesTaken.{Line}
 use Rattle.page_core_base.specs.declared.note_kinds.NoteKind.{NoteKind}
+use Rattle.page_core_base.specs.declared.note_kinds.NoteKind.TheVariants as kinds
 use Rattle.page_roff_requests.specs.declared.requests.LayoutRequest.{LayoutRequest}
 use Rattle.page_sets_lines.specs.declared.events.Deed.{Deed}
 use Rattle.page_sets_lines.specs.declared.events.Event.{Event}
 use Rattle.page_sets_lines.specs.declared.macro_names.HeadingName.{HeadingName}
 use Rattle.page_sets_lines.specs.declared.macro_names.HeadingName.TheVariants as headings
 use Rattle.page_sets_lines.specs.declared.openers.LineOpener.{LineOpener}
-use Rattle.page_sets_lines.specs.Laws.{IsPart, IsPartIfGiven, IsArgument, IsArgumentIfGiven, HasSlices, AreSlices, OpensSlices}
+use Rattle.page_sets_lines.specs.Laws.{IsPart, IsPartIfGiven, IsArgument, IsArgumentIfGiven, HasSlices, AreSlices, OpensSlices, BlockOpensSlices, BlockClosesSlices}
 use Rattle.page_sets_lines.specs.declared.events.Deed.TheVariants as deeds
 use Rattle.page_sets_lines.specs.declared.leaves.Leaf.TheVariants as leaves
 use Rattle.page_sets_lines.specs.declared.line_steps.LineStep.TheVariants as steps
@@ -24,10 +25,10 @@ use Rattle.page_sets_mdoc_rows.specs.declared.blocks.LineMacro.TheVariants as li
 use Rattle.page_sets_mdoc_blocks.specs.declared.fronts.FrontDeed.{FrontDeed}
 use Rattle.page_sets_mdoc_blocks.specs.declared.fronts.FrontDeed.TheVariants as fronts
 use Rattle.page_sets_mdoc_blocks.specs.declared.fronts.Front.{Front}
-use Rattle.page_sets_mdoc_blocks.specs.Fronts.{at_name, line_arguments, quote_events, missing_quote, request_front, heading_opener, first_text, opener_of, closer_of, deed_at_name, note_events, block_note, begin_front, end_front, has_real_word, field_front, option_quote, include_front, spacing_of, spacing_deed, spacing_front, block_front}
+use Rattle.page_sets_mdoc_blocks.specs.Fronts.{at_name, line_arguments, quote_events, missing_quote, request_front, heading_opener, first_text, opener_of, closer_of, deed_at_name, note_detail, note_events, block_note, begin_front, end_front, has_real_word, field_front, option_quote, include_front, spacing_of, spacing_deed, spacing_front, block_front}
 use Rattle.page_sets_mdoc_blocks.specs.declared.displays.DisplayOptions.{DisplayOptions}
 use Rattle.page_sets_mdoc_blocks.specs.Displays.{display_type, first_type, no_options, option_read, options_after}
-use Rattle.page_sets_mdoc_blocks.specs.FrontSteps.{front_deed, block_deed, field_deed, include_deed, spacing_front_deed, scope_events, front_events, of_deed, quoted, quoting, beginning}
+use Rattle.page_sets_mdoc_blocks.specs.FrontSteps.{front_deed, field_deed, include_deed, spacing_front_deed, scope_events, front_events, of_deed, quoted, quoting, beginning}
 
 -- ---- slices
 
@@ -48,22 +49,17 @@ pub request_front_slices : (name : LayoutRequest) (line : Line) → AreSlices li
 request_front_slices name line =
     AreSlices-append line.text _ _ (missing_slices false line) (request_slices line.text name _ (first_text_after line.text (name_end line)), tt)
 
--- of what may be there
-abbrev HasSlicesIfGiven : List ℕ → Option (Deed (List ℕ)) → Type 0
-HasSlicesIfGiven line None = Unit {0}
-HasSlicesIfGiven line (Some deed) = HasSlices line deed
-
-at_name_slices : (line : Line) (deed : Option (Deed (List ℕ))) → HasSlicesIfGiven line.text deed → AreSlices line.text (deed_at_name line deed)
-at_name_slices line None h = tt
-at_name_slices line (Some deed) h = (h, tt)
-
 given_part : (line : List ℕ) (text : Option (List ℕ)) → IsPartIfGiven line text → IsPart line (unwrap_or text [])
 given_part line None h = nothing_part line
 given_part line (Some text) h = h
 
+detail_part : (kind : NoteKind) (line : Line) → IsPart line.text (note_detail kind line)
+detail_part kinds.UnknownFont line = given_part line.text (first_text line) (first_text_after line.text (name_end line))
+detail_part _ line = nothing_part line.text
+
 note_slices : (line : Line) (kind : Option NoteKind) → AreSlices line.text (note_events line kind)
 note_slices line None = tt
-note_slices line (Some kind) = (given_part line.text (first_text line) (first_text_after line.text (name_end line)), tt)
+note_slices line (Some kind) = (detail_part kind line, tt)
 
 -- the last `-offset` of a display stands in its line
 option_slices : (line : List ℕ) (takes is_offset is_compact : Bool) (so_far : DisplayOptions (List ℕ)) (word : Argument (List ℕ)) (kind : Option Bool)
@@ -89,23 +85,32 @@ options_slices : (line : List ℕ) (so_far : DisplayOptions (List ℕ)) (words :
 options_slices line so_far [] h all = h
 options_slices line so_far (word ∷ words) h all = options_slices line (option_read so_far word) words (read_slices line so_far word h all.0) all.1
 
-opens_slices : (block : Block) (line : Line) → HasSlicesIfGiven line.text (option_map deeds.Open (opener_of block line))
+opens_slices : (block : Block) (line : Line) → BlockOpensSlices line.text (opener_of block line)
+opens_slices blocks.List line = rest_part line.text (name_end line) (end_within line)
 opens_slices blocks.Display line = options_slices line.text no_options (line_arguments line) tt (all_arguments line.text (name_end line))
 opens_slices blocks.Fonts line = tt
 opens_slices blocks.Keep line = tt
-opens_slices blocks.List line = tt
 opens_slices blocks.Reference line = tt
 
-closes_slices : (block : Block) (line : Line) → HasSlicesIfGiven line.text (option_map deeds.Close (closer_of block))
+closes_slices : (block : Block) (line : Line) → BlockClosesSlices line.text (closer_of block)
+closes_slices blocks.List line = tt
 closes_slices blocks.Display line = tt
 closes_slices blocks.Fonts line = tt
 closes_slices blocks.Keep line = tt
-closes_slices blocks.List line = tt
 closes_slices blocks.Reference line = tt
 
 include_slices : (real : Bool) (line : Line) → AreSlices line.text (include_front real line)
 include_slices true line = tt
 include_slices false line = (name_part line, tt)
+
+-- of what may be there
+abbrev HasSlicesIfGiven : List ℕ → Option (Deed (List ℕ)) → Type 0
+HasSlicesIfGiven line None = Unit {0}
+HasSlicesIfGiven line (Some deed) = HasSlices line deed
+
+at_name_slices : (line : Line) (deed : Option (Deed (List ℕ))) → HasSlicesIfGiven line.text deed → AreSlices line.text (deed_at_name line deed)
+at_name_slices line None h = tt
+at_name_slices line (Some deed) h = (h, tt)
 
 spacing_slices : (line : Line) (on : Option (Option Bool)) → HasSlicesIfGiven line.text (spacing_deed on)
 spacing_slices line None = tt
@@ -124,9 +129,9 @@ block_slices lines.Description line = (tt, tt)
 block_slices (lines.OneLine name) line = (tt, tt)
 block_slices (lines.Begins block) line =
     AreSlices-append line.text _ _ (missing_slices true line)
-    (AreSlices-append line.text _ _ (note_slices line (block_note block line)) (at_name_slices line _ (opens_slices block line)))
-block_slices (lines.Ends block) line = AreSlices-append line.text _ _ (missing_slices false line) (at_name_slices line _ (closes_slices block line))
-block_slices lines.Item line = tt
+    (AreSlices-append line.text _ _ (note_slices line (block_note block line)) (opens_slices block line, tt))
+block_slices (lines.Ends block) line = AreSlices-append line.text _ _ (missing_slices false line) (closes_slices block line, tt)
+block_slices lines.Item line = (tt, (tt, tt))
 block_slices (lines.Field font) line = field_slices (has_real_word line) line
 block_slices (lines.Sentence sentence) line = quote_slices line.text line.number true (option_quote (line_arguments line))
 block_slices lines.Include line = include_slices (has_real_word line) line
@@ -135,13 +140,14 @@ block_slices lines.Spacing line =
 block_slices lines.Target line = missing_slices false line
 
 deed_slices : (deed : FrontDeed) (line : Line) → AreSlices line.text (deed_at_name line (front_deed deed line))
+deed_slices fronts.Item line = (tt, tt)
 deed_slices fronts.Nothing line = tt
 deed_slices (fronts.Refused kind) line = (name_part line, tt)
 deed_slices (fronts.Request name) line = (request_slices line.text name _ (first_text_after line.text (name_end line)), tt)
 deed_slices (fronts.Prologue name) line = (rest_part line.text (name_end line) (end_within line), tt)
 deed_slices (fronts.Paragraph name) line = (tt, tt)
-deed_slices (fronts.Begins block) line = at_name_slices line _ (opens_slices block line)
-deed_slices (fronts.Ends block) line = at_name_slices line _ (closes_slices block line)
+deed_slices (fronts.Begins block) line = (opens_slices block line, tt)
+deed_slices (fronts.Ends block) line = (closes_slices block line, tt)
 deed_slices fronts.Field line = (tt, tt)
 deed_slices (fronts.Spacing on) line = (tt, tt)
 deed_slices fronts.Section line = (tt, tt)
@@ -174,20 +180,6 @@ note_no_word : (line : Line) (kind : Option NoteKind) → HasNoWord (note_events
 note_no_word line None = tt
 note_no_word line (Some kind) = (refl, tt)
 
-opens_no_word : (block : Block) (line : Line) → HasNoWord (deed_at_name line (option_map deeds.Open (opener_of block line)))
-opens_no_word blocks.Display line = (refl, tt)
-opens_no_word blocks.Fonts line = (refl, tt)
-opens_no_word blocks.Keep line = (refl, tt)
-opens_no_word blocks.List line = tt
-opens_no_word blocks.Reference line = (refl, tt)
-
-closes_no_word : (block : Block) (line : Line) → HasNoWord (deed_at_name line (option_map deeds.Close (closer_of block)))
-closes_no_word blocks.Display line = (refl, tt)
-closes_no_word blocks.Fonts line = (refl, tt)
-closes_no_word blocks.Keep line = (refl, tt)
-closes_no_word blocks.List line = tt
-closes_no_word blocks.Reference line = (refl, tt)
-
 include_no_word : (real : Bool) (line : Line) → HasNoWord (include_front real line)
 include_no_word true line = tt
 include_no_word false line = (refl, tt)
@@ -212,9 +204,9 @@ block_no_word lines.Description line = (refl, tt)
 block_no_word (lines.OneLine name) line = (refl, tt)
 block_no_word (lines.Begins block) line =
     HasNoWord-append (missing_quote true line) _ (missing_no_word true line)
-    (HasNoWord-append (note_events line (block_note block line)) _ (note_no_word line (block_note block line)) (opens_no_word block line))
-block_no_word (lines.Ends block) line = HasNoWord-append (missing_quote false line) _ (missing_no_word false line) (closes_no_word block line)
-block_no_word lines.Item line = tt
+    (HasNoWord-append (note_events line (block_note block line)) _ (note_no_word line (block_note block line)) (refl, tt))
+block_no_word (lines.Ends block) line = HasNoWord-append (missing_quote false line) _ (missing_no_word false line) (refl, tt)
+block_no_word lines.Item line = (refl, (refl, tt))
 block_no_word (lines.Field font) line = field_no_word (has_real_word line) line
 block_no_word (lines.Sentence sentence) line = quote_no_word line.number true (option_quote (line_arguments line))
 block_no_word lines.Include line = include_no_word (has_real_word line) line
@@ -235,10 +227,6 @@ note_few : (line : Line) (kind : Option NoteKind) → length (note_events line k
 note_few line None = omega arith
 note_few line (Some kind) = omega arith
 
-at_name_few : (line : Line) (deed : Option (Deed (List ℕ))) → length (deed_at_name line deed) ≤ 1
-at_name_few line None = omega arith
-at_name_few line (Some deed) = omega arith
-
 quoted_few : (line : Line) (event : Event (List ℕ)) → length (missing_quote false line ++ (event ∷ [])) ≤ 2
 quoted_few line event = let f = missing_few false line in simp length-append (omega (arith, f))
 
@@ -246,18 +234,18 @@ begins_few : (block : Block) (line : Line) → length (begin_front block line) �
 begins_few block line =
     let f = missing_few true line in
     let n = note_few line (block_note block line) in
-    let d = at_name_few line (option_map deeds.Open (opener_of block line)) in
-    simp length-append (omega (arith, f, n, d))
+    simp length-append (omega (arith, f, n))
 
 ends_few : (block : Block) (line : Line) → length (end_front block line) ≤ 3
-ends_few block line =
-    let f = missing_few false line in
-    let d = at_name_few line (option_map deeds.Close (closer_of block)) in
-    simp length-append (omega (arith, f, d))
+ends_few block line = let f = missing_few false line in simp length-append (omega (arith, f))
 
 include_few : (real : Bool) (line : Line) → length (include_front real line) ≤ 1
 include_few true line = omega arith
 include_few false line = omega arith
+
+at_name_few : (line : Line) (deed : Option (Deed (List ℕ))) → length (deed_at_name line deed) ≤ 1
+at_name_few line None = omega arith
+at_name_few line (Some deed) = omega arith
 
 spacing_few : (line : Line) → length (spacing_front line) ≤ 2
 spacing_few line =
@@ -300,11 +288,10 @@ block_few lines.Target line = let f = missing_few false line in omega (arith, f)
 -- ---- what is put into a front
 
 pub begins_with : (block : Block) (line : Line) → front_events line (beginning block line) ≡ begin_front block line
-begins_with block line =
-    ap (λ l. missing_quote true line ++ (note_events line (block_note block line) ++ l)) (append-nil (deed_at_name line (block_deed true block line)))
+begins_with block line = refl
 
 pub ends_with : (block : Block) (line : Line) → front_events line (quoting (fronts.Ends block) line) ≡ end_front block line
-ends_with block line = ap (λ l. missing_quote false line ++ l) (append-nil (deed_at_name line (block_deed false block line)))
+ends_with block line = refl
 
 pub field_begins : (real : Bool) (line : Line) → front_events line (of_deed (field_deed real)) ≡ field_front real line
 field_begins true line = refl

@@ -1,5 +1,5 @@
 -- What is still to come before a line's words: the code's own steps.
-use Rattle.std.specs.Prelude.{ℕ, Bool, true, false, List, [], ◌∷◌, ◌++◌, Option, None, Some, option_map}
+use Rattle.std.specs.Prelude.{ℕ, Bool, true, false, List, [], ◌∷◌, ◌++◌, Option, None, Some}
 use Rattle.page_core_base.specs.LinesTaken.{Line}
 use Rattle.page_core_base.specs.declared.note_kinds.NoteKind.TheVariants.{EmptyMacro}
 use Rattle.page_sets_mdoc_rows.specs.declared.blocks.Block.{Block}
@@ -12,6 +12,7 @@ use Rattle.page_sets_lines.specs.declared.macro_names.HeadingName.{HeadingName}
 use Rattle.page_sets_lines.specs.declared.macro_names.HeadingName.TheVariants as headings
 use Rattle.page_sets_lines.specs.declared.openers.LineOpener.{LineOpener}
 use Rattle.page_sets_lines.specs.declared.openers.Opener.TheVariants as openers
+use Rattle.page_sets_lines.specs.declared.openers.Closer.TheVariants as closers
 use Rattle.page_sets_lines.specs.ControlLines.{name_of, rest_of, first_of, text_of, open_quote}
 use Rattle.page_sets_lines.specs.PlainLines.{request}
 use Rattle.page_sets_mdoc_blocks.specs.declared.fronts.FrontDeed.{FrontDeed}
@@ -28,18 +29,19 @@ heading_deed headings.SS = fronts.Subsection
 heading_deed headings.Sh = fronts.Section
 heading_deed headings.Ss = fronts.Subsection
 
-abbrev pub block_deed : Bool → Block → Line → Option (Deed (List ℕ))
-block_deed true block line = option_map deeds.Open (opener_of block line)
-block_deed false block line = option_map deeds.Close (closer_of block)
+abbrev pub block_deed : Bool → Block → Line → Deed (List ℕ)
+block_deed true block line = deeds.Open (openers.Block (opener_of block line))
+block_deed false block line = deeds.Close (closers.Block (closer_of block))
 
 abbrev pub front_deed : FrontDeed → Line → Option (Deed (List ℕ))
+front_deed fronts.Item line = Some (deeds.Open openers.Item)
 front_deed fronts.Nothing line = None
 front_deed (fronts.Refused kind) line = Some (deeds.Note kind (name_of line) false)
 front_deed (fronts.Request name) line = Some (deeds.Leaf (leaves.Request (request name (text_of (first_of (line_arguments line))))))
 front_deed (fronts.Prologue name) line = Some (deeds.Leaf (leaves.Prologue name (rest_of line)))
 front_deed (fronts.Paragraph name) line = Some (deeds.Leaf (leaves.Step (steps.BodyParagraph name)))
-front_deed (fronts.Begins block) line = block_deed true block line
-front_deed (fronts.Ends block) line = block_deed false block line
+front_deed (fronts.Begins block) line = Some (block_deed true block line)
+front_deed (fronts.Ends block) line = Some (block_deed false block line)
 front_deed (fronts.Spacing on) line = Some (deeds.Leaf (leaves.Step (steps.Spacing on)))
 front_deed fronts.Field line = Some (deeds.Leaf (leaves.Step steps.NextField))
 front_deed fronts.Section line = Some (deeds.Open openers.Section)

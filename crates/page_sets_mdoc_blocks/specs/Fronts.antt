@@ -1,6 +1,6 @@
 -- What a macro that begins a line does before its words, and the requests that change rows. Source: mdoc(7), "MACRO
 -- REFERENCE"; roff(7), "REQUEST REFERENCE".
-use Rattle.std.specs.Prelude.{ℕ, ◌+◌, ◌-◌, Bool, true, false, ◌&&◌, List, [], ◌∷◌, ◌++◌, Option, None, Some, unwrap_or, option_map, codes, if◌then◌else◌}
+use Rattle.std.specs.Prelude.{ℕ, ◌+◌, ◌-◌, Bool, true, false, ◌&&◌, List, [], ◌∷◌, ◌++◌, Option, None, Some, unwrap_or, codes, if◌then◌else◌}
 use Rattle.std.specs.Str.{bytes_eq}
 use Rattle.std.specs.List.{list_any}
 use Rattle.page_core_base.specs.LinesTaken.{Line}
@@ -19,7 +19,8 @@ use Rattle.page_sets_lines.specs.declared.openers.LineOpener.TheVariants as scop
 use Rattle.page_sets_lines.specs.declared.openers.Opener.{Opener}
 use Rattle.page_sets_lines.specs.declared.openers.Opener.TheVariants as openers
 use Rattle.page_sets_lines.specs.declared.openers.Closer.TheVariants as closers
-use Rattle.page_sets_lines.specs.declared.openers.Closer.{Closer}
+use Rattle.page_sets_lines.specs.declared.blocks.BlockOpener.{BlockOpener}
+use Rattle.page_sets_lines.specs.declared.blocks.BlockCloser.{BlockCloser}
 use Rattle.page_sets_lines.specs.declared.blocks.BlockOpener.TheVariants as block_openers
 use Rattle.page_sets_lines.specs.declared.blocks.BlockCloser.TheVariants as block_closers
 use Rattle.page_sets_lines.specs.ControlLines.{before_name, name_end, name_of, rest_of, arguments_after, first_of, text_of, is_unclosed, open_quote}
@@ -30,7 +31,9 @@ use Rattle.page_sets_mdoc_rows.specs.declared.blocks.Block.TheVariants as blocks
 use Rattle.page_sets_mdoc_rows.specs.declared.blocks.LineMacro.{LineMacro}
 use Rattle.page_sets_mdoc_rows.specs.declared.blocks.LineMacro.TheVariants as lines
 use Rattle.page_sets_mdoc_lines.specs.LineWords.{is_real}
+use Rattle.page_sets_lines.specs.Lists.{list_options}
 use Rattle.page_sets_mdoc_blocks.specs.Displays.{display, given_font}
+use Rattle.page_sets_mdoc_blocks.specs.Lists.{list_note, list_opener}
 
 -- the column of the macro that begins the line
 abbrev pub name_column : Line → ℕ
@@ -70,35 +73,39 @@ heading_opener headings.SS = openers.Subsection
 heading_opener headings.Sh = openers.Section
 heading_opener headings.Ss = openers.Subsection
 
--- ---- blocks of lines (`Bd Bf Bk Rs` up to `Ed Ef Ek Re`)
+-- ---- blocks of lines (`Bd Bf Bk Bl Rs` up to `Ed Ef Ek El Re`)
 
 -- the text of the first argument, if there is one
 abbrev pub first_text : Line → Option (List ℕ)
 first_text line = text_of (first_of (line_arguments line))
 
--- what it opens and closes; lists are still to come
-abbrev pub opener_of : Block → Line → Option (Opener (List ℕ))
-opener_of blocks.Display line = Some (openers.Block (display (line_arguments line)))
-opener_of blocks.Fonts line = Some (openers.Block (block_openers.Fonts (given_font (first_text line))))
-opener_of blocks.Keep line = Some (openers.Block block_openers.Keep)
-opener_of blocks.List line = None
-opener_of blocks.Reference line = Some (openers.Block block_openers.Reference)
+-- what it opens and closes
+abbrev pub opener_of : Block → Line → BlockOpener (List ℕ)
+opener_of blocks.List line = list_opener (list_options (line_arguments line)) (rest_of line)
+opener_of blocks.Display line = display (line_arguments line)
+opener_of blocks.Fonts line = block_openers.Fonts (given_font (first_text line))
+opener_of blocks.Keep line = block_openers.Keep
+opener_of blocks.Reference line = block_openers.Reference
 
-abbrev pub closer_of : Block → Option (Closer (List ℕ))
-closer_of blocks.Display = Some (closers.Block block_closers.Display)
-closer_of blocks.Fonts = Some (closers.Block block_closers.Fonts)
-closer_of blocks.Keep = Some (closers.Block block_closers.Keep)
-closer_of blocks.List = None
-closer_of blocks.Reference = Some (closers.Block block_closers.Reference)
+abbrev pub closer_of : Block → BlockCloser (List ℕ)
+closer_of blocks.List = block_closers.List
+closer_of blocks.Display = block_closers.Display
+closer_of blocks.Fonts = block_closers.Fonts
+closer_of blocks.Keep = block_closers.Keep
+closer_of blocks.Reference = block_closers.Reference
 
 abbrev pub deed_at_name : Line → Option (Deed (List ℕ)) → List (Event (List ℕ))
 deed_at_name line None = []
 deed_at_name line (Some deed) = at_name line deed ∷ []
 
--- a message about the first argument
+-- a message about the arguments; one about a font names it
+abbrev pub note_detail : NoteKind → Line → List ℕ
+note_detail UnknownFont line = unwrap_or (first_text line) []
+note_detail _ line = []
+
 abbrev pub note_events : Line → Option NoteKind → List (Event (List ℕ))
 note_events line None = []
-note_events line (Some kind) = at_name line (deeds.Note kind (unwrap_or (first_text line) []) true) ∷ []
+note_events line (Some kind) = at_name line (deeds.Note kind (note_detail kind line) true) ∷ []
 
 -- a font that is not known is told of
 abbrev pub note_unless_known : Option Font → Option NoteKind
@@ -106,15 +113,16 @@ note_unless_known None = Some UnknownFont
 note_unless_known (Some font) = None
 
 abbrev pub block_note : Block → Line → Option NoteKind
+block_note blocks.List line = list_note (list_options (line_arguments line))
 block_note blocks.Fonts line = note_unless_known (given_font (first_text line))
 block_note _ line = None
 
 abbrev pub begin_front : Block → Line → List (Event (List ℕ))
 begin_front block line =
-    missing_quote true line ++ (note_events line (block_note block line) ++ deed_at_name line (option_map deeds.Open (opener_of block line)))
+    missing_quote true line ++ (note_events line (block_note block line) ++ (at_name line (deeds.Open (openers.Block (opener_of block line))) ∷ []))
 
 abbrev pub end_front : Block → Line → List (Event (List ℕ))
-end_front block line = missing_quote false line ++ deed_at_name line (option_map deeds.Close (closer_of block))
+end_front block line = missing_quote false line ++ (at_name line (deeds.Close (closers.Block (closer_of block))) ∷ [])
 
 -- ---- fields of a reference (`%A` and so on)
 
@@ -179,7 +187,7 @@ block_front lines.Description line = at_name line (deeds.LineScope scopes.Descri
 block_front (lines.OneLine name) line = at_name line (deeds.LineScope (scopes.OneLine name)) ∷ []
 block_front (lines.Begins block) line = begin_front block line
 block_front (lines.Ends block) line = end_front block line
-block_front lines.Item line = []
+block_front lines.Item line = at_name line (deeds.Open openers.Item) ∷ at_name line (deeds.LineScope scopes.Head) ∷ []
 block_front (lines.Field font) line = field_front (has_real_word line) line
 block_front (lines.Sentence sentence) line = quote_events line.number true (option_quote (line_arguments line))
 block_front lines.Include line = include_front (has_real_word line) line

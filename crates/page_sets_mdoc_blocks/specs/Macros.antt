@@ -1,10 +1,7 @@
 -- Which macros begin a line that goes on in words. Source: mdoc(7), "MACRO REFERENCE".
 use Rattle.std.specs.Prelude.{Bool, true, false}
-use Rattle.page_sets_mdoc_rows.specs.declared.blocks.Block.{Block}
-use Rattle.page_sets_mdoc_rows.specs.declared.blocks.Block.TheVariants as blocks
 use Rattle.page_sets_mdoc_rows.specs.declared.blocks.LineMacro.{LineMacro}
 use Rattle.page_sets_mdoc_rows.specs.declared.blocks.LineMacro.TheVariants as lines
-use Rattle.page_sets_mdoc_rows.specs.Rows.{is_word_to_come}
 
 -- the words after it are its title, its description or its row, and it needs one (`Sh Ss Nd D1 Dl`)
 abbrev pub has_phrase : LineMacro → Bool
@@ -12,15 +9,3 @@ has_phrase (lines.Heading name) = true
 has_phrase lines.Description = true
 has_phrase (lines.OneLine name) = true
 has_phrase _ = false
-
-abbrev pub is_list : Block → Bool
-is_list blocks.List = true
-is_list _ = false
-
--- macros whose events are still to come: lists, and what stands among words
-abbrev pub is_to_come : LineMacro → Bool
-is_to_come (lines.Inline inline) = is_word_to_come inline
-is_to_come (lines.Begins block) = is_list block
-is_to_come (lines.Ends block) = is_list block
-is_to_come lines.Item = true
-is_to_come _ = false

@@ -2,7 +2,7 @@
 
 ghost use Rattle.std.specs.Prelude.{◌≡◌, ◌≤◌, [], ◌∷◌, length, true, option_map, unwrap_or};
 ghost use Rattle.page_core_base.specs.LinesTaken.{Line, line_seen};
-ghost use Rattle.page_sets_lines.specs.Events.{event_seen, deed_seen, opener_seen, closer_seen, TakesNext};
+ghost use Rattle.page_sets_lines.specs.Events.{event_seen, deed_seen, block_opener_seen, block_closer_seen, TakesNext};
 ghost use Rattle.page_sets_lines.specs.declared.events.Deed.TheVariants as deeds;
 ghost use Rattle.page_sets_mdoc_blocks.specs.Fronts as fronts;
 ghost use Rattle.page_sets_mdoc_blocks.specs.FrontSteps as steps;
@@ -10,6 +10,7 @@ ghost use Rattle.page_sets_mdoc_blocks.specs.FrontSteps.{front_deed, front_event
 
 use crate::displays::{display_of, first_font};
 use crate::line_arguments::{first_text, has_real_word, missing_quote};
+use crate::lists::{list_note, list_of};
 use crate::sentences::{option_quote, spacing_of};
 use page_core_base::{NoteKind, Place, Taken};
 use page_core_limits::LINE;
@@ -23,6 +24,8 @@ use page_sets_mdoc_rows::{Block, LineMacro};
 /// What a macro does first, but for the line scope that it opens.
 #[derive(Clone, Copy)]
 pub(crate) enum FrontDeed {
+    /// An item of a list begins.
+    Item,
     Nothing,
     /// A message that names the macro.
     Refused(NoteKind),
@@ -53,7 +56,7 @@ pub struct Front {
     pub(crate) quote: Option<u32>,
     /// The message about it may begin the body of the page.
     pub(crate) begins_body: bool,
-    /// A message about the first argument, which may begin it too.
+    /// A message about the arguments, which may begin it too.
     pub(crate) note: Option<NoteKind>,
     pub(crate) deed: FrontDeed,
     pub(crate) scope: Option<LineOpener>,
@@ -91,54 +94,65 @@ fn quote_event<'a>(number: u32, begins_body: bool, column: u32) -> Event<&'a [u8
     }
 }
 
-// A message about the first argument of a line, which may begin the body of the page.
+// The detail of a message about the arguments of a line.
+fn note_detail<'a>(kind: NoteKind, line: Taken<'a>) -> &'a [u8]
+    requires { length line.text.now ≤ LINE }
+    ensures { result.now ≡ fronts.note_detail kind (line_seen line.entry) }
+{
+    match kind {
+        NoteKind::UnknownFont => first_text(line).unwrap_or(&[]),
+        _ => &[],
+    }
+}
+
+// A message about the arguments of a line, which may begin the body of the page.
 fn argument_note<'a>(kind: NoteKind, line: Taken<'a>) -> Deed<&'a [u8]>
     requires { length line.text.now ≤ LINE }
-    ensures { deed_seen result ≡ deeds.Note kind (unwrap_or (fronts.first_text (line_seen line.entry)) []) true }
+    ensures { deed_seen result ≡ deeds.Note kind (fronts.note_detail kind (line_seen line.entry)) true }
 {
     Deed::Note {
         kind,
-        detail: first_text(line).unwrap_or(&[]),
+        detail: note_detail(kind, line),
         begins_body: true,
     }
 }
 
 // What a block of lines opens with.
-fn opener_of<'a>(block: Block, line: Taken<'a>) -> Option<Opener<&'a [u8]>>
+fn opener_of<'a>(block: Block, line: Taken<'a>) -> BlockOpener<&'a [u8]>
     requires { length line.text.now ≤ LINE }
-    ensures { option_map opener_seen result ≡ fronts.opener_of block (line_seen line.entry) }
+    ensures { block_opener_seen result ≡ fronts.opener_of block (line_seen line.entry) }
 {
     match block {
-        Block::Display => Some(Opener::Block(display_of(line))),
-        Block::Fonts => Some(Opener::Block(BlockOpener::Fonts(first_font(line)))),
-        Block::Keep => Some(Opener::Block(BlockOpener::Keep)),
-        Block::List => None,
-        Block::Reference => Some(Opener::Block(BlockOpener::Reference)),
+        Block::List => list_of(line),
+        Block::Display => display_of(line),
+        Block::Fonts => BlockOpener::Fonts(first_font(line)),
+        Block::Keep => BlockOpener::Keep,
+        Block::Reference => BlockOpener::Reference,
     }
 }
 
 // What a block of lines closes with.
-fn closer_of<'a>(block: Block) -> Option<Closer<&'a [u8]>>
-    ensures { option_map closer_seen result ≡ fronts.closer_of block }
+fn closer_of<'a>(block: Block) -> BlockCloser<&'a [u8]>
+    ensures { block_closer_seen result ≡ fronts.closer_of block }
 {
     match block {
-        Block::Display => Some(Closer::Block(BlockCloser::Display)),
-        Block::Fonts => Some(Closer::Block(BlockCloser::Fonts)),
-        Block::Keep => Some(Closer::Block(BlockCloser::Keep)),
-        Block::List => None,
-        Block::Reference => Some(Closer::Block(BlockCloser::Reference)),
+        Block::List => BlockCloser::List,
+        Block::Display => BlockCloser::Display,
+        Block::Fonts => BlockCloser::Fonts,
+        Block::Keep => BlockCloser::Keep,
+        Block::Reference => BlockCloser::Reference,
     }
 }
 
 // What a block of lines opens with, or closes with.
-fn block_deed<'a>(begins: bool, block: Block, line: Taken<'a>) -> Option<Deed<&'a [u8]>>
+fn block_deed<'a>(begins: bool, block: Block, line: Taken<'a>) -> Deed<&'a [u8]>
     requires { length line.text.now ≤ LINE }
-    ensures { option_map deed_seen result ≡ steps.block_deed begins block (line_seen line.entry) }
+    ensures { deed_seen result ≡ steps.block_deed begins block (line_seen line.entry) }
 {
     if begins {
-        Some(Deed::Open(opener_of(block, line)?))
+        Deed::Open(Opener::Block(opener_of(block, line)))
     } else {
-        Some(Deed::Close(closer_of(block)?))
+        Deed::Close(Closer::Block(closer_of(block)))
     }
 }
 
@@ -149,6 +163,7 @@ fn front_deed<'a>(deed: FrontDeed, line: Taken<'a>) -> Option<Deed<&'a [u8]>>
 {
     let name = find_name(line);
     match deed {
+        FrontDeed::Item => Some(Deed::Open(Opener::Item)),
         FrontDeed::Nothing => None,
         FrontDeed::Refused(kind) => Some(Deed::Note {
             kind,
@@ -167,19 +182,20 @@ fn front_deed<'a>(deed: FrontDeed, line: Taken<'a>) -> Option<Deed<&'a [u8]>>
         }
         FrontDeed::Section => Some(Deed::Open(Opener::Section)),
         FrontDeed::Subsection => Some(Deed::Open(Opener::Subsection)),
-        FrontDeed::Begins(block) => block_deed(true, block, line),
-        FrontDeed::Ends(block) => block_deed(false, block, line),
+        FrontDeed::Begins(block) => Some(block_deed(true, block, line)),
+        FrontDeed::Ends(block) => Some(block_deed(false, block, line)),
         FrontDeed::Field => Some(Deed::Leaf(Leaf::Step(LineStep::NextField))),
         FrontDeed::Spacing(on) => Some(Deed::Leaf(Leaf::Step(LineStep::Spacing(on)))),
     }
 }
 
-// The message about the first argument of a block.
+// The message about the arguments of a block.
 fn block_note(block: Block, line: Taken<'_>) -> Option<NoteKind>
     requires { length line.text.now ≤ LINE }
     ensures { result ≡ fronts.block_note block (line_seen line.entry) }
 {
     match block {
+        Block::List => list_note(line),
         Block::Fonts if first_font(line).is_none() => Some(NoteKind::UnknownFont),
         _ => None,
     }
@@ -318,6 +334,7 @@ impl Front {
         ensures { front_events (line_seen line.entry) result ≡ fronts.block_front begins (line_seen line.entry) }
     {
         match begins {
+            LineMacro::Item => Front::scoped(FrontDeed::Item, LineOpener::Head),
             LineMacro::Prologue(name) => Front::quoting(FrontDeed::Prologue(name), line),
             LineMacro::Heading(name) => {
                 Front::scoped(heading_deed(name), LineOpener::Heading(name))

@@ -5,10 +5,11 @@
 mod displays;
 mod fronts;
 mod line_arguments;
+mod lists;
 mod macros;
 mod sentences;
 
 pub use fronts::Front;
 pub use line_arguments::has_real_word;
-pub use macros::{has_phrase, is_to_come};
+pub use macros::has_phrase;
 pub use sentences::is_standard;

@@ -3,7 +3,7 @@
 ghost use Rattle.std.specs.Prelude.{◌≡◌};
 ghost use Rattle.page_sets_mdoc_blocks.specs.Macros as macros;
 
-use page_sets_mdoc_rows::{Block, LineMacro, is_word_to_come};
+use page_sets_mdoc_rows::LineMacro;
 
 /// Whether the words after a macro are its title, its description or its row: `Sh Ss Nd D1 Dl`, which need one.
 pub fn has_phrase(begins: LineMacro) -> bool
@@ -13,23 +13,4 @@ pub fn has_phrase(begins: LineMacro) -> bool
         begins,
         LineMacro::Heading(_) | LineMacro::Description | LineMacro::OneLine(_)
     )
-}
-
-// Whether a block is a list.
-fn is_list(block: Block) -> bool
-    ensures { result ≡ macros.is_list block }
-{
-    matches!(block, Block::List)
-}
-
-/// Whether the events of a macro are still to come: it is unknown until then.
-pub fn is_to_come(begins: LineMacro) -> bool
-    ensures { result ≡ macros.is_to_come begins }
-{
-    match begins {
-        LineMacro::Inline(inline) => is_word_to_come(inline),
-        LineMacro::Begins(block) | LineMacro::Ends(block) => is_list(block),
-        LineMacro::Item => true,
-        _ => false,
-    }
 }

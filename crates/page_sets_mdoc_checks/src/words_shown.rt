@@ -82,6 +82,7 @@ fn put_step(out: &mut Shown, step: LineStep<&[u8]>) {
             put(out, b" uri");
             put_part(out, uri.text);
         }
+        LineStep::NextColumn => put(out, b" column"),
         LineStep::Glue => put(out, b" glue"),
         LineStep::ManualName => put(out, b" manual"),
         LineStep::BodyParagraph(_) => put(out, b" paragraph"),

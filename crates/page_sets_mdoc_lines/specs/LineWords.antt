@@ -11,7 +11,7 @@ use Rattle.page_sets_mdoc_rows.specs.declared.macros.Inline.TheVariants.{Author,
 use Rattle.page_sets_mdoc_rows.specs.declared.macros.Pair.{Pair}
 use Rattle.page_sets_mdoc_rows.specs.declared.macros.Pair.TheVariants.{Custom}
 use Rattle.page_sets_mdoc_rows.specs.Delimiters.{delimiter_of}
-use Rattle.page_sets_mdoc_rows.specs.Rows.{called, is_word_to_come}
+use Rattle.page_sets_mdoc_rows.specs.Rows.{called}
 
 -- the arguments that begin after this many bytes of a line
 abbrev pub arguments_after : ℕ → List ℕ → List (Argument (List ℕ))
@@ -21,13 +21,8 @@ arguments_after start text = arguments (start + 1) (drop start text)
 unfoldable pub word_delimiter : Argument (List ℕ) → Option Delimiter
 word_delimiter word = if is_quoted word.quoting then None else delimiter_of word.text
 
--- but what is still to come
-abbrev pub unless_to_come : Option Inline → Option Inline
-unless_to_come None = None
-unless_to_come (Some inline) = if is_word_to_come inline then None else Some inline
-
 unfoldable pub word_call : Argument (List ℕ) → Option Inline
-word_call word = if is_quoted word.quoting then None else unless_to_come (called word.text)
+word_call word = if is_quoted word.quoting then None else called word.text
 
 abbrev pub closes : Option Delimiter → Bool
 closes (Some Closing) = true

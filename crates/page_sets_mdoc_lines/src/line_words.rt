@@ -6,7 +6,7 @@ ghost use Rattle.page_roff_forms.specs.Arguments.{argument_seen};
 ghost use Rattle.page_sets_mdoc_lines.specs.LineWords as words;
 
 use page_roff_forms::Argument;
-use page_sets_mdoc_rows::{Delimiter, Inline, Pair, called, delimiter_of, is_word_to_come};
+use page_sets_mdoc_rows::{Delimiter, Inline, Pair, called, delimiter_of};
 
 /// The delimiter that a word is, if it is one; a word with quotes is none.
 #[tactic(auto, unfolding(crate::specs::LineWords::word_delimiter))]
@@ -27,11 +27,7 @@ pub fn word_call(name: Argument<&[u8]>) -> Option<Inline>
     if name.is_quoted() {
         return None;
     }
-    let inline = called(name.text)?;
-    if is_word_to_come(inline) {
-        return None;
-    }
-    Some(inline)
+    called(name.text)
 }
 
 /// Whether a word is a closing delimiter.

@@ -231,11 +231,6 @@ abbrev pub called_of : Option InlineRow → Option Inline
 called_of None = None
 called_of (Some row) = if_callable row.calls row.inline
 
--- macros whose events are still to come: the next column of a list
-abbrev pub is_word_to_come : Inline → Bool
-is_word_to_come NextColumn = true
-is_word_to_come _ = false
-
 -- what a word of a line calls that is this name
 abbrev pub called : List ℕ → Option Inline
 called name = called_of (inline_row name)

@@ -10,4 +10,4 @@ mod rows;
 pub use blocks::{Block, LineMacro, Sentence};
 pub use delimiters::{Delimiter, delimiter_of};
 pub use macros::{Defaulted, Inline, Pair, System};
-pub use rows::{called, is_parsed, is_word_to_come, line_macro};
+pub use rows::{called, is_parsed, line_macro};

@@ -269,13 +269,6 @@ pub fn line_macro(name: &[u8]) -> Option<LineMacro>
     Some(row.begins)
 }
 
-/// Whether the events of a macro that can stand among words are still to come: `Ta`. No word calls it until then.
-pub fn is_word_to_come(inline: Inline) -> bool
-    ensures { result ≡ rows.is_word_to_come inline }
-{
-    matches!(inline, Inline::NextColumn)
-}
-
 /// What a word of a line calls, if it names a macro that words can call ("Callable").
 pub fn called(name: &[u8]) -> Option<Inline>
     ensures { result ≡ rows.called name.now }

@@ -68,6 +68,7 @@ closes_slices line blocks.Extension = tt
 
 front_slices : (line : Line) (column : ℕ) (front : Front) → (is_word (front_event line column front).deed ≡ false) × HasSlices line.text (front_event line column front).deed
 front_slices line column (fronts.Refused len) = (refl, part_slice line.text (column - 1) len)
+front_slices line column fronts.NextColumn = (refl, tt)
 front_slices line column fronts.Glue = (refl, tt)
 front_slices line column fronts.Apostrophe = (refl, tt)
 front_slices line column (fronts.System system) = (refl, tt)

@@ -261,7 +261,7 @@ inline_events number column name inlines.Link taken words follows = with_words n
 inline_events number column name inlines.NoSpace taken words follows = step_event number column steps.Glue ∷ printed number None words
 inline_events number column name inlines.Apostrophe taken words follows =
     own_word number column owns.Apostrophe None Glued Glued ∷ printed number None words
-inline_events number column name inlines.NextColumn taken words follows = printed number None words
+inline_events number column name inlines.NextColumn taken words follows = step_event number column steps.NextColumn ∷ printed number None words
 inline_events number column name inlines.Prefix taken words follows = prefix number column name taken words
 inline_events number column name (inlines.Enclosure marks) taken words follows =
     event_at number column (deeds.LineScope (lines.Enclosure marks)) ∷ printed number None words

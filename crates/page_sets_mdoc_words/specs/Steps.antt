@@ -89,6 +89,7 @@ block_closer blocks.Extension = block_closers.Extension
 
 abbrev pub front_event : Line → ℕ → Front → Event (List ℕ)
 front_event line column (fronts.Refused len) = refusal line column len
+front_event line column fronts.NextColumn = step_event line.number column line_steps.NextColumn
 front_event line column fronts.Glue = step_event line.number column line_steps.Glue
 front_event line column fronts.Apostrophe = own_word line.number column owns.Apostrophe None Glued Glued
 front_event line column (fronts.System system) = system_word line.number column system
@@ -313,7 +314,7 @@ first_step inlines.Bsd taken extent len = steps.Version version_steps.Version
 first_step inlines.Link taken extent len = needs extent len (steps.Link (link_steps.Address extent.inside))
 first_step inlines.NoSpace taken extent len = steps.Front fronts.Glue
 first_step inlines.Apostrophe taken extent len = steps.Front fronts.Apostrophe
-first_step inlines.NextColumn taken extent len = steps.Printed None
+first_step inlines.NextColumn taken extent len = steps.Front fronts.NextColumn
 first_step inlines.Prefix taken extent len = if taken then steps.Taken takers.Prefix else steps.Front (fronts.Refused len)
 first_step (inlines.Enclosure marks) taken extent len = steps.Front (fronts.Enclosure marks)
 first_step (inlines.Opens pair) taken extent len = opening pair taken extent len

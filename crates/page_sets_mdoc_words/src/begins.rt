@@ -114,7 +114,7 @@ fn first_step(inline: Inline, taken: bool, extent: Extent, len: u32) -> Step
         ),
         Inline::NoSpace => Step::Front(Front::Glue),
         Inline::Apostrophe => Step::Front(Front::Apostrophe),
-        Inline::NextColumn => Step::Printed(None),
+        Inline::NextColumn => Step::Front(Front::NextColumn),
         Inline::Prefix => either(
             taken,
             Step::Taken(Taker::Prefix),

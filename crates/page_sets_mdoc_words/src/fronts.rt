@@ -37,6 +37,8 @@ pub enum WordBlock {
 pub enum Front {
     /// It lacks a word: a message with its name, of which this is the length.
     Refused { len: u32 },
+    /// `Ta`.
+    NextColumn,
     /// `Ns`.
     Glue,
     /// `Ap`.
@@ -126,6 +128,7 @@ fn front_event<'a>(begun: Begun<'a>, front: Front) -> Event<&'a [u8]>
     let column = begun.column;
     match front {
         Front::Refused { len } => refusal(begun, len),
+        Front::NextColumn => step_event(number, column, LineStep::NextColumn),
         Front::Glue => step_event(number, column, LineStep::Glue),
         Front::Apostrophe => {
             own_word(

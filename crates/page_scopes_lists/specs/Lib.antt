@@ -1,0 +1,3 @@
+pub mod ListWidths
+pub mod OpenLists
+pub mod Items
