@@ -1,6 +1,6 @@
 //! Texts in the columns of a list (mdoc(7), `Bl -column`, `Ta`).
 
-ghost use Rattle.std.specs.Prelude.{◌≡◌, ◌≤◌, ◌<◌, length, IfSome};
+ghost use Rattle.std.specs.Prelude.{◌≡◌, ◌≤◌, ◌<◌, if◌then◌else◌, length, IfSome};
 ghost use Rattle.page_core_base.specs.Latches.{Came};
 ghost use Rattle.page_core_escapes.specs.Tokens.{is_space, token_bytes, token_seen};
 ghost use Rattle.page_scopes_leaves.specs.Cells as cells;
@@ -84,11 +84,15 @@ fn tab_in(token: &Token<'_>) -> Option<usize>
     }
 }
 
-// Whether a token is white space.
-fn is_space(token: &Token<'_>) -> bool
-    ensures { result ≡ is_space (token_seen token.now) }
+// Where a cell ends after a token: blanks at its end are none of it.
+fn end_after(token: &Token<'_>, before: usize, after: usize) -> usize
+    ensures { result ≡ (if is_space (token_seen token.now) then before else after) }
 {
-    matches!(token, Token::White(_))
+    if matches!(token, Token::White(_)) {
+        before
+    } else {
+        after
+    }
 }
 
 // The first cell of a text, which is quoted or not.
@@ -109,9 +113,7 @@ fn find_cell(quoted: bool, text: &[u8]) -> CellSpan
             };
         }
         rest = &rest[token.len()..];
-        if !is_space(&token) {
-            end = text.len() - rest.len();
-        }
+        end = end_after(&token, end, text.len() - rest.len());
     }
     CellSpan {
         end,
