@@ -5,7 +5,7 @@ use page_scopes_layout::{Context, Setting, give_begin, give_end, margins_of};
 use page_scopes_shown::{Notation, ShownBy};
 use page_scopes_tree::{Explicit, Label};
 use page_sets_lines::{
-    Block, FontMacro, HeadingName, LineOpener, Link, Marks, OneLineName, TagName,
+    Block, FontMacro, HeadingName, LineOpener, Link, ListKind, Marks, OneLineName, TagName,
 };
 use std::alloc::Global;
 use std::process::Abort;
@@ -132,7 +132,12 @@ fn check_given(rt: &impl Abort, alloc: Global, label: Label, wanted: &str) {
 }
 
 // What a scope begins with, and what it ends with.
-const GIVEN: [(Label, &str); 15] = [
+const GIVEN: [(Label, &str); 17] = [
+    (Label::Item, " I07"),
+    (
+        Label::Explicit(Explicit::Block(Block::List(ListKind::Tag))),
+        " BI07",
+    ),
     (Label::Section, "PL I07"),
     (Label::Subsection, "PL I07"),
     (Label::Paragraph, "PI07 I07"),
