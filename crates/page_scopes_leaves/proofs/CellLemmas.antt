@@ -8,8 +8,10 @@ use Rattle.page_core_base.specs.Pieces.{Item}
 use Rattle.page_core_escapes.specs.Tokens.{TextToken, is_space, token_at, token_bytes, token_len, tokens_of}
 use Rattle.page_core_escapes.proofs.TokenLemmas.{tokens_more, tokens_none}
 use Rattle.page_scopes_layout.specs.declared.contexts.Context.{Context}
-use Rattle.page_scopes_leaves.specs.Cells.{after_tab, before_blanks, before_tab, cell, cells, cells_within, first_cell, has_tab, next_column, other_cells, other_cells_text, span, span_of, tab_in, with_more}
+use Rattle.page_scopes_leaves.specs.Cells.{after_tab, before_blanks, before_tab, cell, cells, cells_within, first_part, has_tab, other_cells, other_cells_text, span, span_of, tab_in, with_more}
+use Rattle.page_scopes_leaves.specs.Fits.{FitsAt}
 use Rattle.page_scopes_leaves.specs.Outcomes.{GivesOutcome, Outcome, followed_by}
+use Rattle.page_scopes_leaves.specs.declared.cells.CellSpan.{CellSpan}
 use Rattle.page_scopes_leaves.specs.declared.phrases.Phrase.{Phrase}
 use Rattle.page_scopes_leaves.specs.declared.runnings.Running.{Running}
 
@@ -44,7 +46,7 @@ end_by end start more = if more == 0 then end else start + more
 
 end_steps : (space none : Bool) (end start n more : ℕ) → 0 < n → (more == 0) ≡ none
     → end_by end start (if space && more == 0 then 0 else n + more) ≡ end_by (if space then end else start + n) (start + n) more
-end_steps true true end start n more some e = rw (e, e) refl
+end_steps true true end start n more some e = rw e refl
 end_steps true false end start n more some e =
     let no : (n + more == 0) ≡ false = grind (arith, nat_tests, some) in
     let a : start + (n + more) ≡ start + n + more = omega arith in
@@ -65,6 +67,18 @@ end_more quoted text n end start some e h =
     ap (end_by end start) (blanks_more quoted text n some e h ∙ ap (λ (m : ℕ). if is_space (token_at quoted text) && more == 0 then 0 else m + more) (sym e))
     ∙ end_steps (is_space (token_at quoted text)) (more == 0) end start n more some refl
 
+either_within : (test : Bool) (m n most : ℕ) → m ≤ most → n ≤ most → (if test then m else n) ≤ most
+either_within true m n most h k = h
+either_within false m n most h k = k
+
+-- where a cell ends after one token more
+pub end_within : (space : Bool) (end start most found : ℕ) → found ≡ (if space then end else start) → end ≤ most → start ≤ most → found ≤ most
+end_within space end start most found e h k = rw e (either_within space end start most h k)
+
+pub span_is : (quoted : Bool) (text : List ℕ) (end tab : ℕ) → end ≡ before_blanks (tokens_of quoted text) → tab ≡ before_tab (tokens_of quoted text)
+    → (let found : CellSpan = record { end = end; tab = tab } in found ≡ span_of quoted text)
+span_is quoted text end tab h k = rw (h, k) refl
+
 -- ---- a text in cells
 
 after_tab-shorter : (text : List ℕ) → 0 < length text → length (after_tab text) < length text
@@ -84,6 +98,19 @@ others-shorter p h =
     let b = length-drop (prefix_len (λ byte. byte == 32) (after_tab (drop tab p.text))) (after_tab (drop tab p.text)) in
     omega (arith, a, b, d)
 
+pub others-fit : (p : Phrase (List ℕ)) → has_tab p ≡ true → FitsAt p.column p.text → FitsAt (other_cells (span p) p).column (other_cells (span p) p).text
+others-fit p h fits =
+    let a = others-shorter p h in
+    let short = fits.short in
+    let room = fits.room in
+    record { short = omega (arith, a, short); room = omega (arith, a, room) }
+
+pub is_before : (m n : ℕ) → m < n → nat_lt m n ≡ true
+is_before m n h = grind (arith, nat_tests, h)
+
+pub is_not_before : (m n : ℕ) → n ≤ m → nat_lt m n ≡ false
+is_not_before m n h = grind (arith, nat_tests, h)
+
 -- what is still to come of a text in cells, which are given to a latch
 pub record CellsLeft {P O : Type 0} (left : P → O → List Item → Type 0) (start : O) (all : Outcome) (line : ℕ) (p : Phrase (List ℕ)) (c : Context) (r : Running)
     (out : O) : Type 0 where
@@ -97,39 +124,31 @@ pub all-left : {P O : Type 0} (left : P → O → List Item → Type 0) (line : 
     → CellsLeft left out (cells line p c r) line p c r out
 all-left left line p c r out = record { room = length p.text; enough = omega arith; came = λ plan rest h. h; context = refl; running = refl }
 
--- the first cell, and the column after it
-abbrev first_part : ℕ → Phrase (List ℕ) → Context → Running → Outcome
-first_part line p c r = followed_by (cell line (first_cell (span p) p) c r) (λ d s. next_column d.list d s)
-
 more-cells : (room line : ℕ) (p : Phrase (List ℕ)) (c : Context) (r : Running) → length p.text ≤ room → has_tab p ≡ true
     → (n : ℕ) × (length (other_cells_text (span p) p.text) ≤ n)
-    × (cells_within room line p c r ≡ followed_by (first_part line p c r) (cells_within n line (other_cells (span p) p)))
+    × (cells_within room line p c r ≡ followed_by (first_part (span p) line p c r) (cells_within n line (other_cells (span p) p)))
 unfolding cells_within
 more-cells zero line p c r enough h = let a = others-shorter p h in absurd (omega (arith, a, enough))
-more-cells (suc n) line p c r enough h = let a = others-shorter p h in (n, (omega (arith, a, enough), rw h refl))
+more-cells (suc n) line p c r enough h = let a = others-shorter p h in (n, omega (arith, a, enough), rw h refl)
 
 last-cell : (room line : ℕ) (p : Phrase (List ℕ)) (c : Context) (r : Running) → has_tab p ≡ false → cells_within room line p c r ≡ cell line p c r
 unfolding cells_within
 last-cell zero line p c r h = refl
 last-cell (suc n) line p c r h = rw h refl
 
-pub cells-go-on : {P O : Type 0} (left : P → O → List Item → Type 0) (start : O) (all : Outcome) (line : ℕ) (p : Phrase (List ℕ)) (c d e : Context) (r s t : Running)
-    (out next last : O) → has_tab p ≡ true → CellsLeft left start all line p c r out → GivesOutcome left out (cell line (first_cell (span p) p) c r) next d s
-    → GivesOutcome left next (next_column d.list d s) last e t → CellsLeft left start all line (other_cells (span p) p) e t last
-cells-go-on left start all line p c d e r s t out next last h before first second =
-    let given = cell line (first_cell (span p) p) c r in
-    let column = rw (first.context, first.running) at second in
+pub cells-go-on : {P O : Type 0} (left : P → O → List Item → Type 0) (start : O) (all : Outcome) (line : ℕ) (p : Phrase (List ℕ)) (c d : Context) (r s : Running)
+    (out next : O) → has_tab p ≡ true → CellsLeft left start all line p c r out → GivesOutcome left out (first_part (span p) line p c r) next d s
+    → CellsLeft left start all line (other_cells (span p) p) d s next
+cells-go-on left start all line p c d r s out next h before given =
+    let first = first_part (span p) line p c r in
     let more = more-cells before.room line p c r before.enough h in
-    let others = cells_within more.0 line (other_cells (span p) p) (first_part line p c r).context (first_part line p c r).running in
-    let placed = next_column given.context.list given.context given.running in
-    rw (column.context, column.running) (record {
+    let others = cells_within more.0 line (other_cells (span p) p) first.context first.running in
+    rw (given.context, given.running) (record {
       room = more.0;
       enough = more.1;
       came = λ plan rest x.
           let a = rw more.2 at (before.came plan rest x) in
-          column.came plan (others.items ++ rest)
-          (first.came plan (placed.items ++ (others.items ++ rest))
-          (subst (λ items. left plan out items) (append_assoc (given.items ++ placed.items) others.items rest ∙ append_assoc given.items placed.items (others.items ++ rest)) a));
+          given.came plan (others.items ++ rest) (subst (λ items. left plan out items) (append_assoc first.items others.items rest) a);
       context = before.context ∙ ap (λ (o : Outcome). o.context) more.2;
       running = before.running ∙ ap (λ (o : Outcome). o.running) more.2;
     })

@@ -104,6 +104,10 @@ other_cells span p = with_text p (other_cells_text span p.text)
 abbrev pub cell : ℕ → Phrase (List ℕ) → Context → Running → Outcome
 cell line p c r = if length p.text == 0 then nothing c r else phrase_outcome line p c r
 
+-- the first cell, and the next column
+abbrev pub first_part : CellSpan → ℕ → Phrase (List ℕ) → Context → Running → Outcome
+first_part span line p c r = followed_by (cell line (first_cell span p) c r) (λ d s. next_column d.list d s)
+
 abbrev pub span : Phrase (List ℕ) → CellSpan
 span p = span_of p.is_quoted p.text
 
@@ -114,7 +118,7 @@ has_tab p = nat_lt (span p).tab (length p.text)
 unfoldable pub cells_within : ℕ → ℕ → Phrase (List ℕ) → Context → Running → Outcome
 cells_within zero line p c r = cell line p c r
 cells_within (suc n) line p c r =
-    if has_tab p then followed_by (followed_by (cell line (first_cell (span p) p) c r) (λ d s. next_column d.list d s)) (cells_within n line (other_cells (span p) p))
+    if has_tab p then followed_by (first_part (span p) line p c r) (cells_within n line (other_cells (span p) p))
     else cell line p c r
 
 abbrev pub cells : ℕ → Phrase (List ℕ) → Context → Running → Outcome

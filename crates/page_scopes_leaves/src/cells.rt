@@ -1,6 +1,7 @@
 //! Texts in the columns of a list (mdoc(7), `Bl -column`, `Ta`).
 
-ghost use Rattle.std.specs.Prelude.{◌≡◌, ◌≤◌, ◌<◌, if◌then◌else◌, length, IfSome};
+ghost use Rattle.std.specs.Prelude.{◌≡◌, ◌≤◌, ◌<◌, ◌==◌, if◌then◌else◌, length, position, IfSome};
+ghost use Rattle.std.specs.List.{prefix_len};
 ghost use Rattle.page_core_base.specs.Latches.{Came};
 ghost use Rattle.page_core_escapes.specs.Tokens.{is_space, token_bytes, token_seen};
 ghost use Rattle.page_scopes_leaves.specs.Cells as cells;
@@ -68,6 +69,14 @@ pub(crate) fn give_column_step<O: PieceOut>(
     }
 }
 
+// The blanks of white space before its first tab, where it has one.
+fn find_tab(white: &[u8]) -> Option<usize>
+    ensures value { result ≡ position (λ byte. byte == 9) white.now }
+    ensures within { IfSome result (λ n. n < length white.now) }
+{
+    white.iter().position(|byte| *byte == b'\t')
+}
+
 // The bytes of a token before its first tab, where it has one.
 fn tab_in(token: &Token<'_>) -> Option<usize>
     requires { 0 < length (token_bytes (token_seen token.now)) }
@@ -75,7 +84,7 @@ fn tab_in(token: &Token<'_>) -> Option<usize>
     ensures within { IfSome result (λ n. n < length (token_bytes (token_seen token.now))) }
 {
     match *token {
-        Token::White(white) => white.iter().position(|byte| *byte == b'\t'),
+        Token::White(white) => find_tab(white),
         Token::Escaped {
             meaning: Escape::Tab,
             ..
@@ -106,11 +115,14 @@ fn find_cell(quoted: bool, text: &[u8]) -> CellSpan
     while !rest.is_empty() {
         let token = read_token(quoted, rest);
         let start = text.len() - rest.len();
-        if let Some(before) = tab_in(&token) {
-            return CellSpan {
-                end,
-                tab: start + before,
-            };
+        match tab_in(&token) {
+            Some(before) => {
+                return CellSpan {
+                    end,
+                    tab: start + before,
+                };
+            }
+            None => {}
         }
         rest = &rest[token.len()..];
         end = end_after(&token, end, text.len() - rest.len());
@@ -135,12 +147,19 @@ fn after_tab(text: &[u8]) -> &[u8]
     }
 }
 
+// How many blanks stand at a text's front.
+fn count_blanks(text: &[u8]) -> usize
+    ensures value { result ≡ prefix_len (λ byte. byte == 32) text.now }
+    ensures within { result ≤ length text.now }
+{
+    text.iter().take_while(|byte| **byte == b' ').count()
+}
+
 // A text without the blanks at its front.
 fn without_blanks(text: &[u8]) -> &[u8]
     ensures { result.now ≡ cells.without_blanks text.now }
 {
-    let blanks = text.iter().take_while(|byte| **byte == b' ').count();
-    &text[blanks..]
+    &text[count_blanks(text)..]
 }
 
 // The text of the first cell.
@@ -188,6 +207,24 @@ fn give_cell<O: PieceOut>(
     }
 }
 
+// Gives the words of the first cell on a line, and begins the next column.
+fn give_first_cell<O: PieceOut>(
+    out: &mut O,
+    line: u32,
+    span: CellSpan,
+    phrase: &Phrase<&[u8]>,
+    context: &mut Context,
+    running: &mut Running,
+)
+    requires end { span.end ≤ length phrase.now.text.now }
+    requires fits { FitsAt phrase.now.column phrase.now.text.now }
+    ensures { GivesOutcome O.left out.old (cells.first_part span line (phrase_seen phrase.now) context.old running.old)
+        out.new context.new running.new }
+{
+    give_cell(out, line, &first_cell(span, phrase), context, running);
+    give_next_column(out, context, running);
+}
+
 /// Gives the words of a phrase on a line cell by cell, each in its column.
 #[inline(never)]
 pub(crate) fn give_cells<O: PieceOut>(
@@ -204,8 +241,7 @@ pub(crate) fn give_cells<O: PieceOut>(
     let mut left = *phrase;
     let mut span = find_cell(left.is_quoted, left.text);
     while span.tab < left.text.len() {
-        give_cell(out, line, &first_cell(span, &left), context, running);
-        give_next_column(out, context, running);
+        give_first_cell(out, line, span, &left, context, running);
         left = other_cells(span, &left);
         span = find_cell(left.is_quoted, left.text);
     }

@@ -1,9 +1,10 @@
 -- The widths that the arguments of `Bl` give. Source: mdoc(7), `Bl`.
-use Rattle.std.specs.Prelude.{ℕ, ◌+◌, Bool, true, false, not, List, [], ◌∷◌, Option, None, Some, codes, if◌then◌else◌, ℤ, pos}
+use Rattle.std.specs.Prelude.{ℕ, ◌+◌, ◌≤◌, length, Bool, true, false, not, List, [], ◌∷◌, Option, None, Some, codes, if◌then◌else◌, ℤ, pos}
 use Rattle.page_core_base.specs.Pieces.{Item}
 use Rattle.page_core_base.specs.declared.note_kinds.NoteKind.TheVariants.{Limit}
 use Rattle.page_core_base.specs.declared.page_settings.Output.{Output}
 use Rattle.page_core_base.specs.declared.places.Place.{Place}
+use Rattle.page_core_limits.specs.declared.TheConstants.{LINE}
 use Rattle.page_roff_forms.specs.Arguments.{is_quoted}
 use Rattle.page_roff_forms.specs.declared.quotes.Argument.{Argument}
 use Rattle.page_scopes_layout.specs.Lists.{has_room, no_widths, with_width}
@@ -21,11 +22,15 @@ use Rattle.page_scopes_lists.specs.declared.widths.GivenWidths.{GivenWidths}
 -- ---- how far the text of an item stands from its head or mark
 
 -- the width of a list that is given none
-abbrev pub default_width : ListKind → ℤ
-default_width kinds.Tag = pos 6
-default_width kinds.Hang = pos 6
-default_width kinds.Enum = pos 3
-default_width _ = pos 2
+abbrev pub default_width : ListKind → ℕ
+default_width kinds.Tag = 6
+default_width kinds.Hang = 6
+default_width kinds.Enum = 3
+default_width _ = 2
+
+abbrev pub width_of : ListKind → Option ℤ → ℕ
+width_of kind None = default_width kind
+width_of kind (Some width) = hold width
 
 -- lists of these types have a hang
 abbrev pub hangs : ListKind → Bool
@@ -38,13 +43,18 @@ hangs kinds.Tag = true
 hangs _ = false
 
 -- two columns part the width from the text
-abbrev pub hang_of : ListKind → ℤ → ℕ
-hang_of kind width = if hangs kind then hold width + 2 else 0
+abbrev pub hang_of : ListKind → Option ℤ → ℕ
+hang_of kind width = if hangs kind then width_of kind width + 2 else 0
+
+-- the value of an option is a text of a line
+abbrev pub LengthFits : Option (Argument (List ℕ)) → Type 0
+LengthFits None = Unit {0}
+LengthFits (Some width) = length width.text ≤ LINE
 
 -- the columns of an option's value, and its messages
-abbrev pub given_columns : Output → ℤ → Option (Argument (List ℕ)) → ℤ
-given_columns output default None = default
-given_columns output default (Some width) = width_columns output width
+abbrev pub given_columns : Output → Option (Argument (List ℕ)) → Option ℤ
+given_columns output None = None
+given_columns output (Some width) = Some (width_columns output width)
 
 abbrev pub given_notes : Place → Option (Argument (List ℕ)) → List Item
 given_notes place None = []

@@ -1,5 +1,5 @@
 -- What lists begin with. Source: mdoc(7), `Bl`.
-use Rattle.std.specs.Prelude.{ℕ, Bool, List, ◌++◌, pos, ℤ}
+use Rattle.std.specs.Prelude.{ℕ, Bool, List, ◌++◌, unwrap_or, pos, ℤ}
 use Rattle.page_core_base.specs.Pieces.{Item}
 use Rattle.page_core_base.specs.declared.page_settings.Output.{Output}
 use Rattle.page_core_base.specs.declared.places.Place.{Place}
@@ -15,7 +15,8 @@ use Rattle.page_sets_lines.specs.ControlLines.{arguments_after}
 use Rattle.page_sets_lines.specs.Lists.{list_options}
 use Rattle.page_sets_lines.specs.declared.lists.ListKind.{ListKind}
 use Rattle.page_sets_lines.specs.declared.lists.ListOptions.{ListOptions}
-use Rattle.page_scopes_lists.specs.ListWidths.{columns_of, cut_notes, default_width, given_columns, given_notes, hang_of}
+use Rattle.page_scopes_lists.specs.ListWidths.{columns_of, cut_notes, given_columns, given_notes, hang_of}
+use Rattle.page_scopes_lists.specs.declared.open_lists.SaidList.{SaidList}
 
 -- before its first item
 abbrev pub new_list : ListKind → Bool → ℕ → ColumnWidths → OpenList
@@ -38,18 +39,22 @@ list_begins list offset c r = record {
   running = row_ended r;
 }
 
--- the messages of its width, of its offset, and of its columns
+-- what its arguments say, with the messages of its width, of its offset, and of its columns
+abbrev pub said_list : Output → ListKind → Bool → List ℕ → ListOptions (List ℕ) → SaidList
+said_list output kind is_compact text options = record {
+  list = new_list kind is_compact (hang_of kind (given_columns output options.width)) (columns_of output kind text).widths;
+  offset = given_columns output options.offset;
+}
+
 abbrev pub list_notes : Output → Place → ListKind → List ℕ → ListOptions (List ℕ) → List Item
 list_notes output place kind text options =
     given_notes place options.width ++ (given_notes place options.offset ++ cut_notes place (columns_of output kind text))
 
-abbrev pub list_by : Output → Place → ListKind → Bool → List ℕ → ListOptions (List ℕ) → Context → Running → Outcome
-list_by output place kind is_compact text options c r =
-    after_notes (list_notes output place kind text options)
-    (list_begins
-    (new_list kind is_compact (hang_of kind (given_columns output (default_width kind) options.width)) (columns_of output kind text).widths)
-    (given_columns output (pos 0) options.offset) (entered_context c) r)
+abbrev pub list_by : SaidList → Context → Running → Outcome
+list_by said c r = list_begins said.list (unwrap_or said.offset (pos 0)) (entered_context c) r
 
 -- a list of a type, compact or not, with these arguments
 unfoldable pub list_opened : Output → Place → ListKind → Bool → List ℕ → Context → Running → Outcome
-list_opened output place kind is_compact text c r = list_by output place kind is_compact text (list_options (arguments_after 0 text)) c r
+list_opened output place kind is_compact text c r =
+    after_notes (list_notes output place kind text (list_options (arguments_after 0 text)))
+    (list_by (said_list output kind is_compact text (list_options (arguments_after 0 text))) c r)

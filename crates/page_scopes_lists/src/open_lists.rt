@@ -1,15 +1,28 @@
 //! What lists begin with (mdoc(7), `Bl`).
 
-ghost use Rattle.std.specs.Prelude.{◌≡◌, ◌≤◌, length};
+ghost use Rattle.std.specs.Prelude.{◌≡◌, ◌≤◌, length, pos, unwrap_or};
+ghost use Rattle.page_core_base.specs.Latches.{Came};
+ghost use Rattle.page_scopes_layout.specs.Lists.{list_begun};
 ghost use Rattle.page_scopes_leaves.specs.Outcomes.{GivesOutcome};
+ghost use Rattle.page_scopes_lists.specs.ListWidths.{LengthFits};
 ghost use Rattle.page_scopes_lists.specs.OpenLists as lists;
+ghost use Rattle.page_sets_lines.specs.Lists.{options_seen};
 
-use crate::widths::{default_width, give_columns, give_given, hang_of};
+use crate::widths::{give_columns, give_given, hang_of};
 use page_core_base::{Output, Piece, PieceOut, Place};
 use page_core_limits::LINE;
 use page_scopes_layout::{ColumnWidths, Context, OpenList, give_margins};
 use page_scopes_leaves::Running;
-use page_sets_lines::{ListKind, read_list_options};
+use page_sets_lines::{ListKind, ListOptions, read_list_options};
+
+/// What the arguments of `Bl` say of a list, in columns.
+#[derive(Clone, Copy)]
+pub(crate) struct SaidList {
+    /// The list before its first item.
+    pub(crate) list: OpenList,
+    /// How much further in it stands than the text.
+    pub(crate) offset: Option<i32>,
+}
 
 // A list before its first item.
 fn new_list(kind: ListKind, is_compact: bool, hang: u32, widths: ColumnWidths) -> OpenList
@@ -27,19 +40,50 @@ fn new_list(kind: ListKind, is_compact: bool, hang: u32, widths: ColumnWidths) -
     }
 }
 
-// Begins a list, this many columns further in.
+// Gives the messages of what the arguments of `Bl` say, and answers that.
+fn give_said<O: PieceOut>(
+    out: &mut O,
+    output: Output,
+    place: Place,
+    kind: ListKind,
+    is_compact: bool,
+    text: &[u8],
+    options: &ListOptions<&[u8]>,
+) -> SaidList
+    requires text { length text.now ≤ LINE }
+    requires width { LengthFits (options_seen options.now).width }
+    requires offset { LengthFits (options_seen options.now).offset }
+    ensures value { result ≡ lists.said_list output kind is_compact text.now (options_seen options.now) }
+    ensures came { Came O.left out.old (lists.list_notes output place kind text.now (options_seen options.now)) out.new }
+{
+    let width = give_given(out, output, place, options.width);
+    let offset = give_given(out, output, place, options.offset);
+    let widths = give_columns(out, output, place, kind, text);
+    SaidList {
+        list: new_list(kind, is_compact, hang_of(kind, width), widths),
+        offset,
+    }
+}
+
+// The context in which a list begins.
+fn list_context(said: &SaidList, context: Context) -> Context
+    ensures { result ≡ list_begun said.now.list (unwrap_or said.now.offset (pos 0)) context }
+{
+    context.list_begun(said.list, said.offset.unwrap_or(0))
+}
+
+// Begins a list.
 fn begin_list<O: PieceOut>(
     out: &mut O,
-    list: OpenList,
-    offset: i32,
+    said: &SaidList,
     context: &mut Context,
     running: &mut Running,
 )
     ensures { GivesOutcome O.left out.old
-        (lists.list_begins list offset context.old running.old)
+        (lists.list_by said.now context.old running.old)
         out.new context.new running.new }
 {
-    *context = context.list_begun(list, offset);
+    *context = list_context(said, context.entered());
     out.give(Piece::Break);
     give_margins(out, context);
     running.end_row();
@@ -63,10 +107,6 @@ pub fn give_list<O: PieceOut>(
         out.new context.new running.new }
 {
     let options = read_list_options(text, 0);
-    let width = give_given(out, output, place, default_width(kind), options.width);
-    let offset = give_given(out, output, place, 0, options.offset);
-    let widths = give_columns(out, output, place, kind, text);
-    *context = context.entered();
-    let list = new_list(kind, is_compact, hang_of(kind, width), widths);
-    begin_list(out, list, offset, context, running);
+    let said = give_said(out, output, place, kind, is_compact, text, &options);
+    begin_list(out, &said, context, running);
 }

@@ -3,8 +3,8 @@
 ghost use Rattle.std.specs.Prelude.{◌≡◌, ◌≤◌, length};
 ghost use Rattle.page_core_base.specs.Latches.{Came};
 ghost use Rattle.page_roff_forms.specs.Arguments.{argument_seen};
-ghost use Rattle.page_scopes_leaves.specs.Fits.{GivenFits};
 ghost use Rattle.page_scopes_lists.specs.ListWidths as widths;
+ghost use Rattle.page_scopes_lists.specs.ListWidths.{LengthFits};
 ghost use Rattle.page_sets_lines.specs.Events.{given_seen};
 
 use page_core_base::{NoteKind, Output, PieceOut, Place};
@@ -23,8 +23,8 @@ pub(crate) struct GivenWidths {
     pub(crate) is_cut: bool,
 }
 
-/// The width of a list that is given none.
-pub(crate) fn default_width(kind: ListKind) -> i32
+// The width of a list that is given none.
+fn default_width(kind: ListKind) -> u32
     ensures { result ≡ widths.default_width kind }
 {
     match kind {
@@ -49,12 +49,24 @@ fn hangs(kind: ListKind) -> bool
     )
 }
 
-/// How far the text of an item stands from its head or its mark, by the list's width in columns.
-pub(crate) fn hang_of(kind: ListKind, width: i32) -> u32
+// The width of a list, in columns.
+#[tactic(auto, using(crate::proofs::ListLemmas::hold_bound))]
+fn width_of(kind: ListKind, width: Option<i32>) -> u32
+    ensures value { result ≡ widths.width_of kind width }
+    ensures bound { result ≤ 1000 }
+{
+    match width {
+        Some(width) => hold(i64::from(width)),
+        None => default_width(kind),
+    }
+}
+
+/// How far the text of an item stands from its head or its mark, by the width that the list is given.
+pub(crate) fn hang_of(kind: ListKind, width: Option<i32>) -> u32
     ensures { result ≡ widths.hang_of kind width }
 {
     if hangs(kind) {
-        hold(i64::from(width)).saturating_add(2)
+        width_of(kind, width) + 2
     } else {
         0
     }
@@ -65,16 +77,15 @@ pub(crate) fn give_given<O: PieceOut>(
     out: &mut O,
     output: Output,
     place: Place,
-    default: i32,
     given: Option<Argument<&[u8]>>,
-) -> i32
-    requires { GivenFits (given_seen given) }
-    ensures columns { result ≡ widths.given_columns output default (given_seen given.entry) }
+) -> Option<i32>
+    requires { LengthFits (given_seen given) }
+    ensures columns { result ≡ widths.given_columns output (given_seen given.entry) }
     ensures came { Came O.left out.old (widths.given_notes place (given_seen given.entry)) out.new }
 {
     match given {
-        Some(width) => give_width(out, output, place, width),
-        None => default,
+        Some(width) => Some(give_width(out, output, place, width)),
+        None => None,
     }
 }
 
