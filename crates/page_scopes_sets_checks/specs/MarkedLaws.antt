@@ -1,11 +1,11 @@
 -- The small set keeps the laws of macro sets: proofs, which the set's laws cite.
-use Rattle.std.proofs.Common.{◌≡◌, ℕ, ◌+◌, ◌*◌, ◌≤◌, Bool, true, false, List, [], ◌∷◌, length, refl, arith, inl, inr, Option, None, Some, codes}
+use Rattle.std.proofs.Common.{ℕ, ◌+◌, ◌*◌, ◌≤◌, Bool, true, false, List, [], ◌∷◌, length, arith, inl, inr, Option, None, Some, codes}
 use Rattle.std.specs.Str.{bytes_eq}
 use Rattle.std.proofs.lemmas.Bool.{cases_Bool}
 use Rattle.page_core_base.specs.LinesTaken.{Line}
 use Rattle.page_roff_forms.specs.declared.quotes.Argument.{Argument}
 use Rattle.page_sets_lines.specs.declared.plain_lines.PlainLine.{PlainLine}
-use Rattle.page_sets_lines.specs.Laws.{HasSlices, AreSlices, BeginsFrom, AreInOrder}
+use Rattle.page_sets_lines.specs.Laws.{HasSlices, AreSlices, AreInOrder}
 use Rattle.page_sets_lines.specs.ControlLines.{name_end, name_of, is_nameless, arguments_after}
 use Rattle.page_sets_lines.specs.PlainLines.{plain_line}
 use Rattle.page_sets_lines.proofs.ArgumentLaws.{ArgumentsFrom, all_after, earlier, few_after}

@@ -1,5 +1,5 @@
 -- The words of a line, macro after macro: helpers of proofs.
-use Rattle.std.proofs.Common.{◌≡◌, ℕ, suc, ◌+◌, ◌-◌, ◌≤◌, Bool, true, false, List, [], ◌∷◌, ◌++◌, length, take, drop, refl, sym, ap, ◌∙◌, subst, append_assoc, append-nil, arith, Option, None, Some}
+use Rattle.std.proofs.Common.{◌≡◌, ℕ, suc, ◌+◌, ◌-◌, ◌≤◌, Bool, true, false, List, [], ◌∷◌, ◌++◌, length, take, drop, refl, sym, ap, ◌∙◌, subst, append-nil, arith, Option, None, Some}
 use Rattle.std.specs.List.{list_all}
 use Rattle.std.proofs.lemmas.List.{drop_all, take_all}
 use Rattle.page_core_base.specs.LinesTaken.{Line}
@@ -9,7 +9,6 @@ use Rattle.page_sets_lines.specs.declared.events.Event.{Event}
 use Rattle.page_sets_lines.specs.declared.events.Deed.TheVariants as deeds
 use Rattle.page_sets_lines.specs.declared.openers.Closer.TheVariants as closers
 use Rattle.page_sets_lines.specs.PlainLines.{event_at}
-use Rattle.page_sets_lines.specs.Laws.{IsArgument}
 use Rattle.page_sets_lines.specs.ControlLines.{before_name, name_end, name_of}
 use Rattle.page_sets_lines.proofs.OrderLemmas.{AreArguments, all_arguments}
 use Rattle.page_sets_mdoc_rows.specs.declared.macros.Inline.{Inline}
@@ -17,7 +16,7 @@ use Rattle.page_sets_mdoc_rows.specs.Rows.{is_parsed}
 use Rattle.page_sets_mdoc_lines.specs.declared.cursors.Cursor.{Cursor}
 use Rattle.page_sets_mdoc_lines.specs.LineWords.{arguments_after, word_call, is_closing}
 use Rattle.page_sets_mdoc_lines.specs.Parts.{LineParts, parts, rest_parts, has_calls}
-use Rattle.page_sets_mdoc_lines.proofs.CursorLemmas.{at_end, few_left}
+use Rattle.page_sets_mdoc_lines.proofs.CursorLemmas.{at_end}
 use Rattle.page_sets_mdoc_lines.proofs.PartLemmas.{words_taken, rest_goes_on}
 use Rattle.page_sets_mdoc_words.specs.declared.steps.MacroWords.{MacroWords}
 use Rattle.page_sets_mdoc_words.specs.Synopses.{framed, placed_events}
@@ -34,7 +33,7 @@ use Rattle.page_sets_mdoc_words.specs.Steps.{step_events, macro_words_events, pl
 use Rattle.page_sets_mdoc_words.specs.WordsLeft.{after_words}
 use Rattle.page_sets_mdoc.specs.Mdoc.{field_font, tail_events, rest_events, phrase_events, head_events, line_parts, include_words}
 use Rattle.page_sets_mdoc_blocks.specs.Fronts.{name_column, has_real_word, line_arguments, given_names}
-use Rattle.page_sets_mdoc.specs.RestLaws.{rest_in_tail, rest_calls, line_name}
+use Rattle.page_sets_mdoc.specs.RestLaws.{rest_calls, line_name}
 use Rattle.page_sets_mdoc.specs.Plans.{parts_left, words_to_come, words_from, words_by}
 
 -- ---- the end of a line

@@ -1,5 +1,5 @@
 -- The macros of mdoc(7) keep the laws of macro sets: proofs, which the set's laws cite. Source: mdoc(7).
-use Rattle.std.proofs.Common.{◌≡◌, ℕ, zero, suc, ◌+◌, ◌-◌, ◌*◌, ◌≤◌, Bool, true, false, List, [], ◌∷◌, ◌++◌, length, take, drop, refl, sym, ap, ◌∙◌, subst, arith, inl, inr, length-append, length-drop, Option, None, Some, if◌then◌else◌}
+use Rattle.std.proofs.Common.{ℕ, ◌+◌, ◌-◌, ◌*◌, ◌≤◌, Bool, true, false, List, [], ◌∷◌, ◌++◌, length, refl, arith, inl, inr, length-append, Option, None, Some, if◌then◌else◌}
 use Rattle.std.proofs.lemmas.Bool.{cases_Bool}
 use Rattle.page_core_base.specs.LinesTaken.{Line}
 use Rattle.page_core_base.specs.declared.note_kinds.NoteKind.{NoteKind}
@@ -13,7 +13,7 @@ use Rattle.page_sets_lines.specs.Laws.{AreSlices, AreInOrder}
 use Rattle.page_sets_lines.specs.PlainLines.{line_end, plain_line, layout_request}
 use Rattle.page_sets_lines.proofs.ArgumentLaws.{ArgumentsFrom, all_after, earlier}
 use Rattle.page_sets_lines.proofs.LawLemmas.{name_part, line_slices, AreSlices-append, HasNoWord, order_after, order_before, line_order, named_bytes}
-use Rattle.page_sets_lines.proofs.OrderLemmas.{AreArguments, all_arguments, AreArguments-take, AreArguments-drop, in_order, takes_none}
+use Rattle.page_sets_lines.proofs.OrderLemmas.{AreArguments, all_arguments, AreArguments-take, AreArguments-drop, in_order}
 use Rattle.page_sets_mdoc_rows.specs.declared.blocks.LineMacro.{LineMacro}
 use Rattle.page_sets_mdoc_rows.specs.declared.blocks.LineMacro.TheVariants as lines
 use Rattle.page_sets_mdoc_rows.specs.Rows.{line_macro, is_parsed}
@@ -30,7 +30,7 @@ use Rattle.page_sets_mdoc_words.specs.Sentences.{sentence_events}
 use Rattle.page_sets_mdoc_rows.specs.declared.blocks.Sentence.{Sentence}
 use Rattle.page_sets_lines.specs.declared.line_steps.SynopsisStep.TheVariants.{Break}
 use Rattle.page_sets_mdoc_lines.specs.LineWords.{arguments_after}
-use Rattle.page_sets_mdoc.specs.Mdoc.{field_font, rest_events, head_events, phrase_events, line_parts, include_words, words_events, refused_events, lacks_words, macro_events, request_events, named_events, control_events, line_events, mdoc_events}
+use Rattle.page_sets_mdoc.specs.Mdoc.{field_font, include_words, words_events, refused_events, lacks_words, macro_events, request_events, named_events, control_events, line_events, mdoc_events}
 use Rattle.page_sets_mdoc.specs.Plans.{end_events, words_to_come, plan_events, line_plan_events, IsPlanOf}
 use Rattle.page_sets_mdoc.specs.RestLaws.{rest_prints, head_prints, phrase_prints}
 

@@ -7,8 +7,8 @@ use Rattle.page_roff_forms.specs.declared.quotes.Argument.{Argument}
 use Rattle.page_sets_lines.specs.declared.events.Event.{Event}
 use Rattle.page_sets_lines.specs.PlainLines.{plain_events, line_end}
 use Rattle.page_sets_mdoc_lines.specs.declared.cursors.Cursor.{Cursor}
-use Rattle.page_sets_mdoc_lines.specs.LineWords.{arguments_after, is_closing}
-use Rattle.page_sets_mdoc_lines.specs.Parts.{Call, LineParts, parts}
+use Rattle.page_sets_mdoc_lines.specs.LineWords.{is_closing}
+use Rattle.page_sets_mdoc_lines.specs.Parts.{LineParts, parts}
 use Rattle.page_sets_mdoc_lines.specs.Cursors.{IsCursorOf}
 use Rattle.page_sets_lines.specs.declared.line_steps.SynopsisStep.{SynopsisStep}
 use Rattle.page_sets_mdoc_words.specs.declared.steps.Step.{Step}

@@ -1,5 +1,5 @@
 -- The words of a line, with the calls among them, are slices of it, in its order, and few: proofs, which the set's laws cite. Source: mdoc(7).
-use Rattle.std.proofs.Common.{◌≡◌, ℕ, zero, suc, ◌+◌, ◌-◌, ◌≤◌, Bool, true, false, List, [], ◌∷◌, ◌++◌, length, take, drop, refl, sym, ap, ◌∙◌, subst, append_assoc, arith, inl, inr, length-drop, Option, None, Some}
+use Rattle.std.proofs.Common.{◌≡◌, ℕ, zero, suc, ◌+◌, ◌-◌, ◌≤◌, Bool, true, false, List, [], ◌∷◌, ◌++◌, length, take, drop, refl, sym, subst, append_assoc, arith, inl, inr, length-drop, Option, None, Some}
 use Rattle.std.specs.List.{list_all}
 use Rattle.std.proofs.lemmas.Bool.{cases_Bool}
 use Rattle.page_core_base.specs.LinesTaken.{Line}
@@ -11,7 +11,7 @@ use Rattle.page_sets_lines.proofs.OrderLemmas.{AreArguments, AreArguments-take, 
 use Rattle.page_sets_mdoc_rows.specs.declared.macros.Inline.{Inline}
 use Rattle.page_sets_mdoc_rows.specs.Rows.{is_parsed}
 use Rattle.page_sets_mdoc_lines.specs.LineWords.{word_call, is_closing}
-use Rattle.page_sets_mdoc_lines.specs.Parts.{LineParts, parts, rest_parts, has_calls}
+use Rattle.page_sets_mdoc_lines.specs.Parts.{parts, has_calls}
 use Rattle.page_sets_mdoc_lines.proofs.PartLemmas.{words_taken, rest_goes_on}
 use Rattle.page_sets_mdoc_words.specs.Synopses.{placed_events}
 use Rattle.page_sets_mdoc_words.specs.Printed.{printed}

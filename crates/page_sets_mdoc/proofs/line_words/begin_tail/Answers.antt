@@ -1,11 +1,10 @@
-use Rattle.std.proofs.Common.{None, sym, ap, subst, ◌∙◌, arith}
+use Rattle.std.proofs.Common.{None, sym, subst}
 use Rattle.page_core_base.specs.LinesTaken.{line_seen}
 use Rattle.page_roff_forms.specs.Arguments.{argument_seen}
-use Rattle.page_sets_mdoc_lines.specs.declared.extents.Extent.{Extent}
 use Rattle.page_sets_mdoc_lines.specs.Cursors.{IsCursorOf}
 use Rattle.page_sets_mdoc_lines.proofs.CursorLemmas.{few_left}
 use Rattle.page_sets_mdoc_words.specs.declared.steps.MacroWords.{MacroWords}
-use Rattle.page_sets_mdoc.proofs.LineWordLemmas.{nothing_stands, nothing_comes, all_stand, all_come, tail_comes, words_stand, begun_stands, name_short, call_comes}
+use Rattle.page_sets_mdoc.proofs.LineWordLemmas.{all_stand, all_come, tail_comes}
 use Rattle.page_sets_mdoc.proofs.line_words.begin_tail.Goals as goal
 
 pub returns-clause-stands : goal.returns-clause-stands

@@ -1,4 +1,4 @@
-use Rattle.std.proofs.Common.{Some, sym, subst, ◌∙◌, arith}
+use Rattle.std.proofs.Common.{Some, sym, subst, ◌∙◌}
 use Rattle.page_core_base.specs.LinesTaken.{line_seen}
 use Rattle.page_sets_lines.specs.declared.line_steps.SynopsisStep.TheVariants.{Break}
 use Rattle.page_sets_mdoc_lines.specs.Cursors.{IsCursorOf}

@@ -1,12 +1,9 @@
 use Rattle.std.proofs.Common.{true, Some, sym, ◌∙◌, arith}
 use Rattle.page_core_base.specs.LinesTaken.{line_seen}
 use Rattle.page_roff_forms.specs.Arguments.{argument_seen}
-use Rattle.page_sets_mdoc_lines.specs.declared.extents.Extent.{Extent}
 use Rattle.page_sets_mdoc_lines.specs.LineWords.{arguments_after}
 use Rattle.page_sets_mdoc_lines.specs.Parts.{parts}
-use Rattle.page_sets_mdoc_lines.proofs.CursorLemmas.{few_left}
-use Rattle.page_sets_mdoc_words.specs.declared.steps.MacroWords.{MacroWords}
-use Rattle.page_sets_mdoc.proofs.LineWordLemmas.{nothing_stands, nothing_comes, all_stand, all_come, tail_comes, words_stand, begun_stands, name_short, call_comes}
+use Rattle.page_sets_mdoc.proofs.LineWordLemmas.{begun_stands, name_short, call_comes}
 use Rattle.page_sets_mdoc.proofs.line_words.next_call.Goals as goal
 
 pub overflow_cast-name : goal.overflow_cast-name

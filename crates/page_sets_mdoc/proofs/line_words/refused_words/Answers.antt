@@ -1,4 +1,4 @@
-use Rattle.std.proofs.Common.{None, sym, subst, ◌∙◌, arith}
+use Rattle.std.proofs.Common.{None, sym, subst, ◌∙◌}
 use Rattle.page_core_base.specs.LinesTaken.{line_seen}
 use Rattle.page_sets_mdoc_lines.specs.Cursors.{IsCursorOf}
 use Rattle.page_sets_mdoc_lines.proofs.CursorLemmas.{few_left}
