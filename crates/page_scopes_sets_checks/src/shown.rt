@@ -1,5 +1,7 @@
 //! A sink of pieces that shows them in a short notation.
 
+ghost use Rattle.std.proofs.Common.{refl};
+
 use page_core_base::{Fault, Font, Note, NoteSink, Piece, PieceSink, Place};
 use page_scopes_shown::{Brief, Notation};
 use std::alloc::Global;

@@ -1,7 +1,10 @@
 //! What the scopes of a page give, over several sets of macros.
 
+ghost use Rattle.std.specs.Prelude.{◌≤◌, length};
+
 use crate::{Marked, Pieces};
 use page_core_base::{Fault, Form, Settings, Taken};
+use page_core_limits::LINE;
 use page_roff_forms::{LineForm, form_of};
 use page_scopes::Scopes;
 use page_sets::{Either, MacroSet, Man, Mdoc};
@@ -64,17 +67,11 @@ fn read_line(text: &str, line: u32) -> Taken<'_> {
 }
 
 // Gives the events of a line.
-fn give_line<S: MacroSet>(
-    rt: &impl Abort,
-    set: &S,
-    line: Taken<'_>,
-    scopes: &mut Scopes,
-    out: &mut Pieces,
-)
+fn give_line<S: MacroSet>(set: &S, line: Taken<'_>, scopes: &mut Scopes, out: &mut Pieces)
 where
     S::Place: Drop,
+    requires { length line.text.now ≤ LINE }
 {
-    assert!(rt; line.text.len() <= MOST);
     let mut place = set.start(line);
     while let Some(event) = set.next(line, &mut place) {
         let _ = scopes.apply(event, out);
@@ -96,7 +93,9 @@ where
     for text in script.split('\n') {
         assert!(rt; number < 1_000);
         number += 1;
-        give_line(rt, set, read_line(text, number), scopes, out);
+        let line = read_line(text, number);
+        assert!(rt; line.text.len() <= MOST);
+        give_line(set, line, scopes, out);
         out.add(b"|");
     }
 }
