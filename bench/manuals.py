@@ -21,6 +21,7 @@ LEFT_ASIDE = {
     "man": re.compile(rb"^[.'][ \t]*(TS|EQ|PS|so)\b", re.M),
     "mdoc": re.compile(rb"^[.'][ \t]*(TS|EQ|PS|so)\b|^[.'].*\b(At|Lb|St)\b", re.M),
 }
+BROKEN = re.compile(rb"([A-Za-z]-)\n *(?=[A-Za-z])")
 OPTIONS = ["-T", "ascii", "-O", "width=78"]
 
 
@@ -61,7 +62,8 @@ def trimmed(rows):
 
 
 def words(rows):
-    return b" ".join(rows).split()
+    """Returns the words of rows; one in which a row ends, after a hyphen between two letters, is taken as a whole."""
+    return BROKEN.sub(rb"\1", b"\n".join(rows)).split()
 
 
 def difference(ours, others, before, after):
