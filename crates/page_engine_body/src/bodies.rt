@@ -104,6 +104,13 @@ impl Body {
         self.set
     }
 
+    /// The fields of header and footer, as the lines so far tell them.
+    pub fn fields(&self) -> &Fields
+        ensures { result.now ≡ self.now.header.fields }
+    {
+        &self.fields
+    }
+
     // Begins the page anew by a set of macros.
     #[inline(never)]
     fn choose(&mut self, set: Either)

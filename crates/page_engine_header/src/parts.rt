@@ -49,7 +49,7 @@ impl Part<'_> {
     }
 
     /// Gives what the part prints.
-    pub(crate) fn give<O: PieceOut>(self, out: &mut O, output: Output, place: Place)
+    pub fn give<O: PieceOut>(self, out: &mut O, output: Output, place: Place)
         requires { IsShort self }
         ensures { Came O.left out.old
             (tokens_items output place roman_fonts (part_tokens self.entry)) out.new }

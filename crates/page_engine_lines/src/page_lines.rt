@@ -12,6 +12,7 @@ use crate::item_outs::ItemOut;
 use crate::taking::{give_taken, report_trailing};
 use page_core_base::{Fault, PieceLatch, PieceOut, PieceSink, Settings};
 use page_engine_body::Body;
+use page_engine_header::Fields;
 use page_roff_source::{Counts, RoffLines};
 use std::alloc::Global;
 use std::marker::Model;
@@ -127,6 +128,13 @@ impl PageLines {
         };
         self.give_footer(&mut items, number, blank_rows);
         items.latch.done()
+    }
+
+    /// The fields of header and footer, as the lines so far tell them.
+    pub fn fields(&self) -> &Fields
+        ensures { result.now ≡ self.now.body.header.fields }
+    {
+        self.body.fields()
     }
 
     /// What was counted so far.

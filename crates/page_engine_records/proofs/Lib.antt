@@ -1,0 +1,5 @@
+pub mod TextLemmas
+pub mod NameLemmas
+pub mod ReaderLemmas
+pub mod FrontLemmas
+pub mod RunLemmas

@@ -1,0 +1,52 @@
+-- What a reader of pieces keeps.
+use Rattle.std.proofs.Common.{◌≡◌, ℕ, ◌+◌, ◌<◌, ◌≤◌, Bool, true, false, List, [], ◌∷◌, ◌++◌, length, drop, get_or, refl, arith, add-one, drop-cons, Result, Ok, Err}
+use Rattle.std.proofs.lemmas.List.{drop_all}
+use Rattle.page_core_base.specs.Latches.{Emits}
+use Rattle.page_core_base.specs.Pieces.{Item}
+use Rattle.page_core_base.specs.declared.faults.Fault.{Fault}
+use Rattle.page_engine_records.specs.NameTexts.{read, spaced, with_byte, with_character, with_characters}
+use Rattle.page_engine_records.specs.ReaderSinks.{Never, Took}
+use Rattle.page_engine_records.specs.declared.name_readers.NameReader.{NameReader}
+
+-- ---- a blank that waits
+
+pub spaced_none : (is_apart : Bool) (text : List ℕ) → length text ≤ 0 → spaced is_apart text ≡ text
+spaced_none is_apart [] h = refl
+spaced_none is_apart (byte ∷ bytes) h = absurd (omega (arith, h))
+
+pub spaced_some : (text : List ℕ) → 0 < length text → spaced true text ≡ with_byte text 32
+spaced_some [] h = absurd (omega (arith, h))
+spaced_some (byte ∷ bytes) h = refl
+
+pub spaced_joined : (text : List ℕ) → spaced false text ≡ text
+spaced_joined [] = refl
+spaced_joined (byte ∷ bytes) = refl
+
+-- ---- characters
+
+pub characters-append : (r : NameReader) (xs ys : List ℕ) → with_characters r (xs ++ ys) ≡ with_characters (with_characters r xs) ys
+unfolding with_characters
+characters-append r [] ys = refl
+characters-append r (x ∷ xs) ys = characters-append (with_character r x) xs ys
+
+pub characters_none : (r : NameReader) → with_characters r [] ≡ r
+unfolding with_characters
+characters_none r = refl
+
+pub characters_one : (r : NameReader) (c : ℕ) → with_characters r (c ∷ []) ≡ with_character r c
+unfolding with_characters
+characters_one r c = refl
+
+pub characters_at : (r : NameReader) (xs : List ℕ) (i : ℕ) → i < length xs
+    → with_characters r (drop i xs) ≡ with_characters (with_character r (get_or xs i 0)) (drop (i + 1) xs)
+unfolding with_characters
+characters_at r xs i h = rw (add-one, drop-cons xs i 0) refl
+
+pub characters_end : (r : NameReader) (xs : List ℕ) (i : ℕ) → length xs ≤ i → with_characters r (drop i xs) ≡ r
+characters_end r xs i h = rw (drop_all i xs h) (characters_none r)
+
+-- ---- a sink that never fails
+
+pub came : {A : Type 0} (res : Result A Fault) (s t : NameReader) (items : List Item) → Emits res Took (λ r fault xs u. Never r xs u) s items t → t ≡ read s items
+came (Ok x) s t items h = h
+came (Err fault) s t items h = absurd h

@@ -1,0 +1,204 @@
+-- A run over the bytes of a page, part by part.
+use Rattle.std.proofs.Common.{◌≡◌, ℕ, zero, suc, ◌+◌, ◌-◌, ◌<◌, ◌≤◌, Bool, true, false, List, [], ◌∷◌, ◌++◌, length, take, drop, None, Ok, Err, Option, refl, ap, sym, ◌∙◌, append_assoc, append-nil, arith, length-append}
+use Rattle.std.proofs.Math.Path.{subst}
+use Rattle.std.specs.Prelude.{if◌then◌else◌}
+use Rattle.std.specs.Io.KnownBytes.{IsAtEnd}
+use Rattle.std.proofs.lemmas.List.{take-append-drop}
+use Rattle.page_core_base.specs.Checks.{IsGood, IsFirst}
+use Rattle.page_core_base.specs.declared.faults.Fault.{Fault}
+use Rattle.page_core_base.specs.declared.faults.Fault.TheVariants.{Memory, Read, WriteText, WriteNotes, TooLong, Settings, Failed, Ended, BadIndex}
+use Rattle.page_core_base.specs.declared.page_settings.SettingFault.{SettingFault}
+use Rattle.page_core_base.specs.declared.page_settings.Settings.{Settings as PageSettings}
+use Rattle.page_core_sources.specs.Sources.{SourceState}
+use Rattle.page_core_sources.proofs.GivenLemmas.{given_none, lean_none}
+use Rattle.page_engine_index.specs.declared.records.Record.{Record}
+use Rattle.page_roff_lines.specs.Cutting.{Point, first_point, last_line, lines_from, lines_within, point_after}
+use Rattle.page_roff_lines.specs.Decoding.{Line, lines}
+use Rattle.page_roff_lines.proofs.LineAgreement.{lines-one_by_one}
+use Rattle.page_roff_lines.proofs.PointLemmas.{lines_within-append, point_after-append}
+use Rattle.page_engine_records.specs.Fronts.{Front, after_lines, ended, front_record, page_record, record_of_lines, start}
+use Rattle.page_engine_records.specs.NameTexts.{has_ended}
+use Rattle.page_engine_records.specs.Records.{record_by}
+use Rattle.page_engine_records.specs.Runs.{HasCause, ReadsRecordOver, Stopped}
+use Rattle.page_engine_records.specs.Steps.{EndedWell, Finished, HasRoom, IsAt, IsFresh, ReadsAll, StartsAt, StoppedBy, Through, front_of}
+use Rattle.page_engine_records.specs.declared.runs.RecordRun.{RecordRun}
+use Rattle.page_engine_records.proofs.FrontLemmas.{after_lines-append, ended_stays}
+
+-- ---- bytes
+
+pub through_none : (run : RecordRun) → Through run run []
+unfolding lines_within point_after after_lines
+through_none run = record {
+  front = λ p h. refl;
+  at = λ p h. h;
+  room = λ count h. let e : 0 + count ≡ count = omega arith in subst (λ (n : ℕ). HasRoom run n) e h;
+}
+
+pub through_more : {a b d : RecordRun} (xs ys : List ℕ) → Through a b xs → Through b d ys → Through a d (xs ++ ys)
+through_more {a} {b} {d} xs ys s t = record {
+  front = λ p h.
+      let q = point_after p xs in
+      t.front q (s.at p h)
+      ∙ (ap (λ (f : Front). after_lines f (lines_within q ys)) (s.front p h)
+      ∙ (sym (after_lines-append (front_of a.page) (lines_within p xs) (lines_within q ys))
+      ∙ ap (λ (l : List Line). after_lines (front_of a.page) l) (sym (lines_within-append p xs ys))));
+  at = λ p h. rw (point_after-append p xs ys) (t.at (point_after p xs) (s.at p h));
+  room = λ count h.
+      let e : length (xs ++ ys) + count ≡ length xs + (length ys + count) = omega (arith, length-append xs ys) in
+      t.room count (s.room (length ys + count) (subst (λ (n : ℕ). HasRoom a n) e h));
+}
+
+not_both : {X : Type 0} (b : Bool) → b ≡ true → b ≡ false → X
+not_both b t f = let no : ⊥ = cc in absurd no
+
+-- after the section NAME
+pub ended_through : (run : RecordRun) (bytes : List ℕ) → has_ended run.page.name ≡ true → Through run run bytes
+ended_through run bytes e = record {
+  front = λ p h. sym (ended_stays (front_of run.page) (lines_within p bytes) e);
+  at = λ p h. record { point = λ f. not_both (has_ended run.page.name) e f; idle = h.idle };
+  room = λ count h. record {
+    free = λ f. not_both (has_ended run.page.name) e f;
+    bytes = λ f. not_both (has_ended run.page.name) e f;
+    lines = omega (arith, h.lines);
+  };
+}
+
+-- before it the cutter took them
+pub part_through : (run run' : RecordRun) (bytes : List ℕ) → has_ended run.page.name ≡ false
+    → front_of run'.page ≡ after_lines (front_of run.page) (lines_within run.cutter.point bytes)
+    → run'.cutter.point ≡ point_after run.cutter.point bytes → run'.cutter.ready ≡ false
+    → run'.cutter.point.line.consumed ≡ run.cutter.point.line.consumed + length bytes
+    → run'.page.lines.roff.source ≤ run.page.lines.roff.source + length bytes
+    → (run.page.lines.roff.to_come ≡ None → run'.page.lines.roff.to_come ≡ None) → Through run run' bytes
+part_through run run' bytes inside front point free consumed source idle = record {
+  front = λ p h. front ∙ ap (λ (q : Point). after_lines (front_of run.page) (lines_within q bytes)) (h.point inside);
+  at = λ p h. record { point = λ _. point ∙ ap (λ (q : Point). point_after q bytes) (h.point inside); idle = idle h.idle };
+  room = λ count h. record {
+    free = λ _. free;
+    bytes = λ _. let b = h.bytes inside in omega (arith, consumed, b);
+    lines = omega (arith, source, h.lines);
+  };
+}
+
+pub room_less : (run : RecordRun) (most count : ℕ) → HasRoom run most → count ≤ most → HasRoom run count
+room_less run most count h less = record {
+  free = h.free;
+  bytes = λ f. let b = h.bytes f in omega (arith, b, less);
+  lines = omega (arith, h.lines, less);
+}
+
+-- at its own point
+pub is_here : (run : RecordRun) → run.page.lines.roff.to_come ≡ None → IsAt run run.cutter.point
+is_here run idle = record { point = λ f. refl; idle = idle }
+
+-- a part of a chunk
+pub part_of : (xs ys zs : List ℕ) (n : ℕ) → xs ≡ ys ++ zs → xs ≡ (ys ++ take n zs) ++ drop n zs
+part_of xs ys zs n h = h ∙ (ap (λ l. ys ++ l) (sym (take-append-drop n zs)) ∙ sym (append_assoc ys (take n zs) (drop n zs)))
+
+pub all_done : (xs ys zs : List ℕ) → xs ≡ ys ++ zs → length zs ≤ 0 → xs ≡ ys
+all_done xs ys [] h none = h ∙ append-nil ys
+all_done xs ys (z ∷ zs) h none = absurd (omega (arith, none))
+
+-- a line that is whole has a byte
+pub some_taken : (p : Point) (n : ℕ) (chunk : List ℕ) (b : Bool) (line : Line) → lines_within p (take n chunk) ≡ (if b then line ∷ [] else []) → b ≡ true → 0 < n
+unfolding lines_within
+some_taken p zero chunk b line h t = let z : [] ≡ line ∷ [] = rw t at h in let no : ⊥ = cc in absurd no
+some_taken p (suc n) chunk b line h t = omega arith
+
+-- ---- the end
+
+pub finished : (run mid run' : RecordRun) (a b : SourceState) (bytes : List ℕ) → Through run mid bytes → Finished mid run'
+    → IsAtEnd b.remaining → b.failed ≡ a.failed → EndedWell run run' a b bytes
+finished run mid run' a b bytes s t all quiet =
+    let front : (p : Point) → IsAt run p
+    → after_lines (front_of mid.page) (last_line (point_after p bytes)) ≡ after_lines (front_of run.page) (lines_from p bytes) = λ p h.
+    ap (λ (f : Front). after_lines f (last_line (point_after p bytes))) (s.front p h)
+    ∙ sym (after_lines-append (front_of run.page) (lines_within p bytes) (last_line (point_after p bytes))) in record {
+      name = λ p h. t.name (point_after p bytes) (s.at p h) ∙ ap (λ (f : Front). ended f) (front p h);
+      fields = λ p h. t.fields (point_after p bytes) (s.at p h) ∙ ap (λ (f : Front). f.lines.body.header.fields) (front p h);
+      all = all;
+      quiet = quiet;
+    }
+
+-- ---- a run
+
+starts_at : (run : RecordRun) (s : PageSettings) → StartsAt run s → IsAt run (first_point s.encoding)
+starts_at run s h = record { point = λ f. h.point; idle = ap (λ (f : Front). f.lines.roff.to_come) h.front }
+
+pub starts_fresh : (run : RecordRun) (s : PageSettings) → StartsAt run s → IsFresh run
+starts_fresh run s h =
+    let none = ap (λ (p : Point). p.line.consumed) h.point in
+    let lines = ap (λ (f : Front). f.lines.roff.source) h.front in record {
+      room = record { free = λ f. h.free; bytes = λ f. omega (arith, none); lines = omega (arith, lines) };
+      idle = ap (λ (f : Front). f.lines.roff.to_come) h.front;
+    }
+
+whole_page : (run run' : RecordRun) (a b : SourceState) (s : PageSettings) (bytes : List ℕ) → StartsAt run s → EndedWell run run' a b bytes
+    → record_by run'.page.name.side run'.page.name.text run'.page.lines.body.header.fields.section ≡ page_record s bytes
+unfolding record_of_lines
+whole_page run run' a b s bytes h w =
+    let p = first_point s.encoding in
+    let at = starts_at run s h in
+    let f = after_lines (start s) (lines_from p bytes) in
+    let same : after_lines (front_of run.page) (lines_from p bytes) ≡ f = ap (λ (g : Front). after_lines g (lines_from p bytes)) h.front in
+    let name = w.name p at ∙ ap (λ (g : Front). ended g) same in
+    let fields = w.fields p at ∙ ap (λ (g : Front). g.lines.body.header.fields) same in
+    let all : front_record f ≡ page_record s bytes = ap (λ (l : List Line). front_record (after_lines (start s) l)) (sym (lines-one_by_one s.encoding bytes)) in
+    rw (name, fields) all
+
+pub ends_well : (run run' : RecordRun) (a b : SourceState) (s : PageSettings) (bytes : List ℕ) (found : Option Record) → IsGood s → StartsAt run s
+    → found ≡ record_by run'.page.name.side run'.page.name.text run'.page.lines.body.header.fields.section
+    → ReadsAll (Ok tt) run run' a b bytes → ReadsRecordOver (Ok found) a b s bytes
+ends_well run run' a b s bytes found good h is w = record {
+  asked = w.asked;
+  few = w.few;
+  source = w.source;
+  lean = w.lean;
+  reads = record { value = is ∙ whole_page run run' a b s bytes h w.ends; good = good; all = w.ends.all };
+  cause = w.ends.quiet;
+}
+
+stops : (a b : SourceState) (s : PageSettings) (asked : ℕ) (bytes : List ℕ) (fault : Fault) → IsGood s → StoppedBy a b asked bytes fault
+    → Stopped s bytes fault × HasCause a b asked bytes fault
+stops a b s asked bytes Read good h = (good, h)
+stops a b s asked bytes TooLong good h = (good, h)
+stops a b s asked bytes Memory good h = absurd h
+stops a b s asked bytes WriteText good h = absurd h
+stops a b s asked bytes WriteNotes good h = absurd h
+stops a b s asked bytes (Settings f) good h = absurd h
+stops a b s asked bytes Failed good h = absurd h
+stops a b s asked bytes Ended good h = absurd h
+stops a b s asked bytes (BadIndex l) good h = absurd h
+
+pub ends_early : (run run' : RecordRun) (a b : SourceState) (s : PageSettings) (bytes : List ℕ) (fault : Fault) → IsGood s
+    → ReadsAll (Err fault) run run' a b bytes → ReadsRecordOver (Err fault) a b s bytes
+ends_early run run' a b s bytes fault good w =
+    let z = stops a b s w.asked bytes fault good w.ends in record {
+      asked = w.asked;
+      few = w.few;
+      source = w.source;
+      lean = w.lean;
+      reads = z.0;
+      cause = z.1;
+    }
+
+-- nothing was read
+pub refused : (a : SourceState) (s : PageSettings) (fault : SettingFault) → IsFirst s fault → ReadsRecordOver (Err (Settings fault)) a a s []
+refused a s fault h = record {
+  asked = 0;
+  few = omega arith;
+  source = given_none a;
+  lean = lean_none a;
+  reads = (h, refl);
+  cause = refl;
+}
+
+pub without_memory : (a : SourceState) (s : PageSettings) → IsGood s → ReadsRecordOver (Err Memory) a a s []
+without_memory a s good = record {
+  asked = 0;
+  few = omega arith;
+  source = given_none a;
+  lean = lean_none a;
+  reads = (good, refl);
+  cause = refl;
+}

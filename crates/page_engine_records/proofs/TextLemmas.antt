@@ -1,0 +1,34 @@
+-- Texts in reserved memory.
+use Rattle.std.proofs.Common.{◌≡◌, ℕ, ◌+◌, ◌<◌, ◌≤◌, List, [], ◌∷◌, ◌++◌, length, refl, arith, length-append, append_assoc}
+use Rattle.std.proofs.lemmas.List.{take_all, take_at}
+use Rattle.page_engine_records.specs.NameTexts.{with_byte}
+use Rattle.page_engine_records.specs.Records.{with_name}
+use Rattle.page_engine_records.specs.declared.texts.TheConstants.{TEXT}
+use Rattle.std.specs.Prelude.{codes}
+
+pub with_room : (text : List ℕ) (byte : ℕ) → length text < TEXT → with_byte text byte ≡ text ++ byte ∷ []
+with_room text byte h = take_all TEXT (text ++ byte ∷ []) (omega (arith, length-append text (byte ∷ []), h))
+
+pub without_room : (text : List ℕ) (byte : ℕ) → TEXT ≤ length text → length text ≤ TEXT → with_byte text byte ≡ text
+without_room text byte h g = take_at text (byte ∷ []) TEXT (omega (arith, h, g))
+
+-- ---- names
+
+pub no_name : (names name : List ℕ) → length name ≤ 0 → with_name names name ≡ names
+no_name names [] h = refl
+no_name names (byte ∷ name) h = absurd (omega (arith, h))
+
+pub first_name : (names name : List ℕ) → length names ≤ 0 → with_name names name ≡ names ++ name
+first_name [] [] h = refl
+first_name [] (byte ∷ name) h = refl
+first_name (first ∷ names) name h = absurd (omega (arith, h))
+
+pub next_name : (names name : List ℕ) → 0 < length names → 0 < length name → with_name names name ≡ (names ++ codes ", ") ++ name
+next_name [] name h g = absurd (omega (arith, h))
+next_name (first ∷ names) [] h g = absurd (omega (arith, g))
+next_name (first ∷ names) (byte ∷ name) h g = simp append_assoc
+
+pub name_length : (names name : List ℕ) → length (with_name names name) ≤ length names + 2 + length name
+name_length names [] = omega arith
+name_length [] (byte ∷ name) = omega arith
+name_length (first ∷ names) (byte ∷ name) = omega (arith, length-append (first ∷ names) (codes ", " ++ byte ∷ name))

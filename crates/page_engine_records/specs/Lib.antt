@@ -1,0 +1,6 @@
+pub mod NameTexts
+pub mod ReaderSinks
+pub mod Records
+pub mod Fronts
+pub mod Runs
+pub mod Steps

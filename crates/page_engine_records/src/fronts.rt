@@ -1,0 +1,73 @@
+//! The lines of a page up to the one that ends its section NAME.
+
+ghost use Rattle.std.specs.Prelude.{◌≡◌, ◌<◌, ◌+◌, ◌^◌, None, false, true, IfOk, IfErr};
+ghost use Rattle.page_core_base.specs.Texts.{IsLine};
+ghost use Rattle.page_roff_lines.specs.Cutting.{line_of};
+ghost use Rattle.page_engine_lines.specs.Lines.{source_after, source_items};
+ghost use Rattle.page_engine_records.specs.Fronts as fronts;
+ghost use Rattle.page_engine_records.specs.NameTexts.{read, has_ended};
+ghost use Rattle.page_engine_records.specs.Steps.{front_of};
+
+use crate::name_readers::{NameReader, Side};
+use page_core_base::{Fault, Settings};
+use page_engine_lines::PageLines;
+use page_roff_lines::Cutter;
+use std::alloc::Global;
+
+/// What decides the record of a page: where its lines stand, and what was read of the section NAME.
+#[derive(Drop)]
+pub(crate) struct PageFront {
+    pub(crate) lines: PageLines,
+    pub(crate) name: NameReader,
+}
+
+impl PageFront {
+    /// The start of a page of settings that pass their check. Its fault is [`Fault::Memory`].
+    pub(crate) fn new(alloc: Global, settings: &Settings) -> Result<PageFront, Fault>
+        ensures ok { IfOk result (λ page. front_of page ≡ fronts.start settings.now) }
+        ensures fault { IfErr result (λ fault. fault ≡ Fault.Memory) }
+    {
+        let lines = PageLines::new(alloc, settings)?;
+        let Ok(name) = NameReader::new(alloc, Side::Before) else {
+            return Err(Fault::Memory);
+        };
+        Ok(PageFront { lines, name })
+    }
+
+    // Reads the pieces of a line.
+    fn read_text(&mut self, text: &[u8], number: u32)
+        requires line { IsLine text.now }
+        requires count { self.old.lines.roff.source < 2 ^ 31 }
+        ensures lines { self.new.lines ≡ source_after self.old.lines number text.now }
+        ensures name { self.new.name ≡ read self.old.name (source_items self.old.lines number text.now) }
+    {
+        let _ = self.lines.line(&mut self.name, number, text);
+    }
+
+    /// Reads the line that a cutter has.
+    pub(crate) fn read_line(&mut self, cutter: &mut Cutter)
+        requires ready { cutter.old.ready ≡ true }
+        requires count { self.old.lines.roff.source < 2 ^ 31 }
+        requires idle { self.old.lines.roff.to_come ≡ None }
+        requires inside { has_ended self.old.name ≡ false }
+        ensures front { front_of self.new ≡ fronts.after_line (front_of self.old) (line_of cutter.old.point) }
+        ensures source { self.new.lines.roff.source ≡ self.old.lines.roff.source + 1 }
+        ensures idle { self.new.lines.roff.to_come ≡ None }
+        ensures point { cutter.new.point ≡ cutter.old.point }
+        ensures ready { cutter.new.ready ≡ false }
+    {
+        if let Ok((text, number)) = cutter.line(&mut self.name) {
+            self.read_text(text, number);
+        }
+    }
+
+    /// Ends the page.
+    pub(crate) fn end(&mut self)
+        ensures name { self.new.name ≡ fronts.ended (front_of self.old) }
+        ensures header { self.new.lines.body.header ≡ self.old.lines.body.header }
+    {
+        if !self.name.has_ended() {
+            let _ = self.lines.end(&mut self.name, 1);
+        }
+    }
+}

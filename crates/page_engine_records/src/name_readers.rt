@@ -1,0 +1,244 @@
+//! A reader of pieces, which keeps the text of a page's section NAME (man(7), `SH`; mdoc(7), `Sh`).
+
+ghost use Rattle.std.specs.Prelude.{◌≡◌, IfOk, chars, refl};
+ghost use Rattle.page_core_base.specs.Pieces.{piece_of};
+ghost use Rattle.page_core_tables.specs.Printed.{printed_seen};
+ghost use Rattle.page_engine_header.specs.Printing.{characters_of, plain_printed};
+ghost use Rattle.page_engine_records.specs.NameTexts.{has_ended, heading, paragraph, read, reader_at, taken, top_heading, with_character, with_characters};
+ghost use Rattle.page_engine_records.specs.ReaderSinks.{reader-items, reader-messages, reader-notes, reader-well};
+
+use crate::texts::KeptText;
+use page_core_base::{Fault, Font, Note, NoteKind, NoteSink, Output, Piece, PieceSink, Place};
+use page_core_tables::{Printed, printed_char, printed_glyph};
+use std::alloc::{AllocError, Global};
+
+/// Where the pieces to come stand to the section NAME.
+#[derive(Clone, Copy)]
+pub enum Side {
+    Before,
+    Inside,
+    After,
+}
+
+/// Reads pieces, and keeps the text of the section NAME.
+#[derive(Drop)]
+pub struct NameReader {
+    pub(crate) side: Side,
+    /// Where a row begins, in columns.
+    pub(crate) margin: u32,
+    pub(crate) text: KeptText,
+    /// A blank stands before the next character.
+    pub(crate) is_apart: bool,
+    /// How much of the text stood before the last paragraph.
+    pub(crate) before: usize,
+}
+
+impl NameReader {
+    /// A reader that has read nothing.
+    pub(crate) fn new(alloc: Global, side: Side) -> Result<NameReader, AllocError>
+        ensures { IfOk result (λ reader. reader ≡ reader_at side) }
+    {
+        Ok(NameReader {
+            side,
+            margin: 0,
+            text: KeptText::new(alloc)?,
+            is_apart: false,
+            before: 0,
+        })
+    }
+
+    /// Whether the section has ended, so that nothing is read any more.
+    pub(crate) fn has_ended(&self) -> bool
+        ensures { result ≡ has_ended self.now }
+    {
+        matches!(self.side, Side::After)
+    }
+
+    // Takes a character, if it is one of ASCII.
+    fn take_char(&mut self, c: char)
+        ensures { self.new ≡ with_character self.old c }
+    {
+        if !c.is_ascii() {
+            return;
+        }
+        if self.is_apart && !self.text.bytes().is_empty() {
+            self.text.add(b' ');
+        }
+        self.text.add(c as u8);
+        self.is_apart = false;
+    }
+
+    // Takes the characters of a spelling.
+    fn take_spelling(&mut self, spelling: &str)
+        ensures { self.new ≡ with_characters self.old spelling.now }
+    {
+        for byte in spelling.as_bytes() {
+            self.take_char(*byte as char);
+        }
+    }
+
+    // Takes what a character or a glyph prints.
+    fn take_printed(&mut self, printed: Printed<'_>)
+        ensures { self.new ≡ with_characters self.old (printed_seen printed.entry).characters }
+    {
+        match printed {
+            Printed::Char(c) => self.take_char(c),
+            Printed::Spelling(spelling) => self.take_spelling(spelling),
+            Printed::NoSpelling(_) | Printed::NoGlyph(_) => self.take_spelling("<?>"),
+        }
+    }
+
+    // Takes what the characters of a text print.
+    fn take_text(&mut self, text: &str)
+        ensures { self.new ≡ with_characters self.old (plain_printed Output.Ascii (chars text.now)) }
+    {
+        for c in text.chars() {
+            self.take_printed(printed_char(Output::Ascii, c));
+        }
+    }
+
+    // Takes what the characters of bytes print; bytes that are not UTF-8 have none.
+    fn take_bytes(&mut self, bytes: &[u8])
+        ensures { self.new ≡ with_characters self.old (plain_printed Output.Ascii (characters_of bytes.now)) }
+    {
+        if let Ok(text) = str::from_utf8(bytes) {
+            self.take_text(text);
+        }
+    }
+
+    // Takes the front of a paragraph.
+    fn take_paragraph(&mut self)
+        ensures { self.new ≡ paragraph self.old.side self.old }
+    {
+        match self.side {
+            Side::Before => {
+                self.text.truncate(0);
+                self.is_apart = false;
+            }
+            Side::Inside => {
+                self.is_apart = true;
+                self.before = self.text.bytes().len();
+            }
+            Side::After => {}
+        }
+    }
+
+    // Takes the end of a heading at the page's left edge.
+    fn take_top_heading(&mut self)
+        ensures { self.new ≡ top_heading self.old.side self.old }
+    {
+        match self.side {
+            Side::Before => {
+                if self.text.bytes() == b"NAME".as_slice() {
+                    self.side = Side::Inside;
+                    self.text.truncate(0);
+                    self.is_apart = false;
+                    self.before = 0;
+                }
+            }
+            Side::Inside => {
+                self.text.truncate(self.before);
+                self.side = Side::After;
+            }
+            Side::After => {}
+        }
+    }
+
+    // Takes the end of a heading.
+    fn take_heading(&mut self)
+        ensures { self.new ≡ heading self.old }
+    {
+        if self.margin == 0 {
+            self.take_top_heading();
+        } else {
+            self.is_apart = true;
+        }
+    }
+
+    // Takes a piece.
+    fn take(&mut self, piece: Piece<&[u8]>)
+        ensures { self.new ≡ taken self.old (piece_of piece.entry) }
+    {
+        match piece {
+            Piece::Text { text, .. } => self.take_bytes(text),
+            Piece::Glyph { name, .. } => self.take_printed(printed_glyph(Output::Ascii, name)),
+            Piece::Char { c, .. } => self.take_printed(printed_char(Output::Ascii, c)),
+            Piece::Tab { .. } => self.take_char(' '),
+            Piece::Glue => self.is_apart = false,
+            Piece::Para(_) => self.take_paragraph(),
+            Piece::Heading => self.take_heading(),
+            Piece::Indent { first, .. } => self.margin = first,
+            Piece::Split | Piece::Literal(_) | Piece::Tag { .. } => {}
+            Piece::Blank { .. }
+            | Piece::Break
+            | Piece::RowEnd
+            | Piece::Space(_)
+            | Piece::TagEnd
+            | Piece::Column(_) => self.is_apart = true,
+        }
+    }
+}
+
+impl NoteSink for NameReader {
+    // Messages are no text.
+    ghost gave = { λ s xs t. t ≡ s };
+
+    ghost within = { λ s xs t. t ≡ s };
+
+    ghost failed = { λ _. 0 };
+
+    ghost Loans = { Unit {0} };
+
+    ghost loans = { λ _. tt };
+
+    ghost laws = { reader-notes };
+
+    ghost whole = { λ s t xs same. same };
+
+    fn note(&mut self, _note: &Note) -> Result<(), Fault> {
+        Ok(())
+    }
+
+    fn takes(&self, _kind: NoteKind) -> bool {
+        false
+    }
+
+    fn failures(&self) -> u64 {
+        0
+    }
+}
+
+impl PieceSink for NameReader {
+    ghost took = { λ s xs t. t ≡ read s xs };
+
+    ghost broke = { λ s fault xs t. ⊥ };
+
+    ghost row_failed = { λ _. 0 };
+
+    ghost items = { reader-items };
+
+    ghost messages = { reader-messages };
+
+    ghost message_fault = { λ s t xs same rose. reader-well rose };
+
+    ghost quiet = { λ s t xs took. (refl, refl) };
+
+    ghost causes = { λ s t fault xs broke. absurd broke };
+
+    #[tactic(auto, unfolding(crate::specs::NameTexts::read, crate::specs::NameTexts::read_piece))]
+    fn piece(&mut self, piece: Piece<&[u8]>) -> Result<(), Fault> {
+        if !self.has_ended() {
+            self.take(piece);
+        }
+        Ok(())
+    }
+
+    // Words come one by one.
+    fn take_words(&mut self, _text: &[u8], _font: Font, _place: Place) -> usize {
+        0
+    }
+
+    fn row_failures(&self) -> u64 {
+        0
+    }
+}
