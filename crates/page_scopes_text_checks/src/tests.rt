@@ -179,7 +179,7 @@ fn glued_by(alloc: Global, is_literal: bool, first: &str, second: &str) -> Shown
     let mut running = Running::start();
     give_argument(&mut out, first, BOLD, &mut context, &mut running);
     give_argument(&mut out, second, ITALIC, &mut context, &mut running);
-    running.end_line();
+    running.end_line(true);
     out.add(if context.fonts.value.font == Font::R {
         b" "
     } else {
