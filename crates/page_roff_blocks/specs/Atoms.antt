@@ -32,6 +32,7 @@ keyword_in None = keywords.Other
 keyword_in (Some requests.If) = keywords.If
 keyword_in (Some requests.IfElse) = keywords.IfElse
 keyword_in (Some requests.Else) = keywords.Else
+keyword_in (Some requests.While) = keywords.Other
 keyword_in (Some (requests.Region kind)) = keywords.Region kind
 keyword_in (Some (requests.Definition request)) = keywords.Other
 keyword_in (Some (requests.Layout request)) = keywords.Other

@@ -19,10 +19,13 @@ pub(crate) struct Roff {
 
 impl Roff {
     pub(crate) fn new(alloc: Global) -> Result<Roff, AllocError> {
+        let names = Names::new(alloc)?;
+        let arguments = CallArguments::new(alloc)?;
+        let line = Expansion::new(alloc)?;
         Ok(Roff {
-            names: Names::new(alloc)?,
-            arguments: CallArguments::new(alloc)?,
-            line: Expansion::new(alloc)?,
+            names,
+            arguments,
+            line,
             output: Output::Ascii,
         })
     }

@@ -26,10 +26,13 @@ pub struct Fixture {
 
 impl Fixture {
     pub fn new(rt: &impl AllocGlobal) -> Result<Fixture, Fail> {
+        let names = Names::new(rt.alloc())?;
+        let arguments = CallArguments::new(rt.alloc())?;
+        let line = Expansion::new(rt.alloc())?;
         Ok(Fixture {
-            names: Names::new(rt.alloc())?,
-            arguments: CallArguments::new(rt.alloc())?,
-            line: Expansion::new(rt.alloc())?,
+            names,
+            arguments,
+            line,
             notes: KeptNotes::new(rt.alloc()),
         })
     }

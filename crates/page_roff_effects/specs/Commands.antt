@@ -24,6 +24,7 @@ request_command None = Pass
 request_command (Some requests.If) = Pass
 request_command (Some requests.IfElse) = Pass
 request_command (Some requests.Else) = Pass
+request_command (Some requests.While) = Refuse
 request_command (Some (requests.Region kind)) = Pass
 request_command (Some (requests.Definition request)) = Define request
 request_command (Some (requests.Layout request)) = Pass

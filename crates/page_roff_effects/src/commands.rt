@@ -65,7 +65,7 @@ fn request_command(request: Option<Request>) -> Command
     match request {
         Some(Request::Definition(request)) => Command::Define(request),
         Some(Request::Ignored) => Command::Ignore,
-        Some(Request::Unsupported) => Command::Refuse,
+        Some(Request::While | Request::Unsupported) => Command::Refuse,
         _ => Command::Pass,
     }
 }

@@ -8,7 +8,7 @@ use Rattle.page_roff_requests.specs.declared.requests.DefinitionRequest.TheVaria
 use Rattle.page_roff_requests.specs.declared.requests.LayoutRequest.{LayoutRequest}
 use Rattle.page_roff_requests.specs.declared.requests.LayoutRequest.TheVariants.{Break, Space, Font, Shift, Literal}
 use Rattle.page_roff_requests.specs.declared.requests.Request.{Request}
-use Rattle.page_roff_requests.specs.declared.requests.Request.TheVariants.{If, IfElse, Else, Region, Definition, Layout, Ignored, Unsupported}
+use Rattle.page_roff_requests.specs.declared.requests.Request.TheVariants.{If, IfElse, Else, While, Region, Definition, Layout, Ignored, Unsupported}
 
 -- what does something, each name with what it is
 abbrev pub supported_rows : List (List ℕ × Request)
@@ -16,6 +16,7 @@ supported_rows =
     (codes "if", If)
     ∷ (codes "ie", IfElse)
     ∷ (codes "el", Else)
+    ∷ (codes "while", While)
     ∷ (region_name Define, Region Define)
     ∷ (region_name Append, Region Append)
     ∷ (region_name Ignore, Region Ignore)
@@ -73,7 +74,6 @@ unsupported_control_rows =
     ∷ (codes "break", Unsupported)
     ∷ (codes "nop", Unsupported)
     ∷ (codes "shift", Unsupported)
-    ∷ (codes "while", Unsupported)
     ∷ []
 
 -- the others that are not supported

@@ -46,6 +46,8 @@ pub enum Request {
     IfElse,
     /// `el`
     Else,
+    /// `while`
+    While,
     /// It begins a region.
     Region(RegionKind),
     /// It defines, or takes definitions away.
@@ -67,6 +69,7 @@ fn supported(name: &[u8]) -> Option<Request>
         b"if" => Some(Request::If),
         b"ie" => Some(Request::IfElse),
         b"el" => Some(Request::Else),
+        b"while" => Some(Request::While),
         b"de" => Some(Request::Region(RegionKind::Define)),
         b"am" => Some(Request::Region(RegionKind::Append)),
         b"ig" => Some(Request::Region(RegionKind::Ignore)),
@@ -133,7 +136,7 @@ fn unsupported_control(name: &[u8]) -> Option<Request>
         return Some(Request::Unsupported);
     }
     match name {
-        b"break" | b"nop" | b"shift" | b"while" => Some(Request::Unsupported),
+        b"break" | b"nop" | b"shift" => Some(Request::Unsupported),
         _ => None,
     }
 }

@@ -72,6 +72,7 @@ keyword_part_is (Some requests.IfElse) line column rest rest_column h r =
     head_part_is _ (conditional_of rest_column (raw_rest line rest_column)).guarded (conditional_line rest_column (raw_rest line rest_column) r)
 keyword_part_is (Some requests.Else) line column rest rest_column h r =
     head_part_is _ (guarded_of rest_column (raw_rest line rest_column)) (guarded_line rest_column (raw_rest line rest_column) r)
+keyword_part_is (Some requests.While) line column rest rest_column h r = plain_part_is line h
 keyword_part_is (Some (requests.Region kind)) line column rest rest_column h r = record { leaf = tt; line = tt }
 keyword_part_is (Some (requests.Definition request)) line column rest rest_column h r = plain_part_is line h
 keyword_part_is (Some (requests.Layout request)) line column rest rest_column h r = plain_part_is line h

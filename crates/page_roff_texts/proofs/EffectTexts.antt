@@ -113,6 +113,7 @@ request_is may_call None line text m t r h = pass_is line text m t h
 request_is may_call (Some requests.If) line text m t r h = pass_is line text m t h
 request_is may_call (Some requests.IfElse) line text m t r h = pass_is line text m t h
 request_is may_call (Some requests.Else) line text m t r h = pass_is line text m t h
+request_is may_call (Some requests.While) line text m t r h = record { memory = h; product = tt }
 request_is may_call (Some (requests.Region kind)) line text m t r h = pass_is line text m t h
 request_is may_call (Some (requests.Definition request)) line text m t r h =
     record { memory = record { names = request_holds request _ (rest_column line) (rest_of line text) m.definitions r h.names; body = h.body }; product = tt }

@@ -69,6 +69,7 @@ layout_in None = None
 layout_in (Some names.If) = None
 layout_in (Some names.IfElse) = None
 layout_in (Some names.Else) = None
+layout_in (Some names.While) = None
 layout_in (Some (names.Region kind)) = None
 layout_in (Some (names.Definition request)) = None
 layout_in (Some (names.Layout request)) = Some request
