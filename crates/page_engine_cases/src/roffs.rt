@@ -34,10 +34,9 @@ pub(crate) fn run_roff(
         return None;
     }
     let mut lines = Lines::new(alloc, settings.encoding)?;
-    let mut feed = RoffFeed {
-        messages: Store::new(alloc, room, Fails::Never).ok()?,
-        roff: Roff::new(alloc, settings).ok()?,
-    };
+    let messages = Store::new(alloc, room, Fails::Never).ok()?;
+    let roff = Roff::new(alloc, settings).ok()?;
+    let mut feed = RoffFeed { messages, roff };
     lines.feed_all(&mut feed, bytes).ok()?;
     let own: Result<Vec<u8>, AllocError> = Vec::with_capacity(alloc, 1);
     Some(RoffEnding {

@@ -31,9 +31,11 @@ impl<'a> Streams<'a> {
         fails: (Fails, Fails),
         shows: Shows<'a>,
     ) -> Option<Streams<'a>> {
+        let rows = Store::new(alloc, room, fails.0).ok()?;
+        let messages = Store::new(alloc, room, fails.1).ok()?;
         Some(Streams {
-            rows: Store::new(alloc, room, fails.0).ok()?,
-            messages: Store::new(alloc, room, fails.1).ok()?,
+            rows,
+            messages,
             shows,
             rows_shown: 0,
             messages_shown: 0,
