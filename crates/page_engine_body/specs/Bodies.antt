@@ -14,7 +14,7 @@ use Rattle.page_engine_header.specs.Fields.{no_fields}
 use Rattle.page_engine_header.specs.Header.{header_items, footer_row}
 use Rattle.page_engine_header.specs.declared.fields.Fields.{Fields}
 use Rattle.page_engine_header.specs.declared.headers.Measure.{Measure}
-use Rattle.page_scopes_leaves.specs.Fits.{DeedFits}
+use Rattle.page_scopes_phrases.specs.Fits.{DeedFits}
 use Rattle.page_scopes_words.specs.Words.{at, says}
 use Rattle.page_scopes.specs.Edges as scopes
 use Rattle.page_scopes.specs.Edges.{PageEdge}

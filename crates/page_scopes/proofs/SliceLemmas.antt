@@ -2,7 +2,7 @@
 use Rattle.std.proofs.Common.{◌≡◌, ℕ, ◌≤◌, List, [], ◌∷◌, length, Option, None, Some, arith}
 use Rattle.page_core_limits.specs.declared.TheConstants.{LINE}
 use Rattle.page_roff_forms.specs.declared.quotes.Argument.{Argument}
-use Rattle.page_scopes_leaves.specs.Fits.{ArgumentFits, BlockCloserFits, BlockOpenerFits, CloserFits, DeedFits, GivenFits, LeafFits, OpenerFits, StepFits}
+use Rattle.page_scopes_phrases.specs.Fits.{ArgumentFits, BlockCloserFits, BlockOpenerFits, CloserFits, DeedFits, GivenFits, LeafFits, OpenerFits, StepFits}
 use Rattle.page_sets_lines.specs.Laws.{AreSlices, BlockClosesSlices, BlockOpensSlices, ClosesSlices, HasSlices, IsArgument, IsArgumentIfGiven, IsPart, LeavesSlices, OpensSlices, StepsSlices}
 use Rattle.page_sets_lines.specs.declared.blocks.BlockCloser.{BlockCloser}
 use Rattle.page_sets_lines.specs.declared.blocks.BlockCloser.TheVariants as block_closers

@@ -10,7 +10,7 @@ use Rattle.page_scopes_laws.specs.Forests.{Ender, by_act, still_open, Forest, no
 use Rattle.page_scopes_laws.specs.Layouts.{Layout, scope_of, closing_state, after, if_open, open_in, open_outer, labels, edge}
 use Rattle.page_scopes_laws.specs.declared.Scope.{Scope}
 use Rattle.page_scopes_nodes.specs.Begins.{opener_target, kept_target}
-use Rattle.page_scopes_leaves.specs.declared.kept_texts.KeptText.{KeptText}
+use Rattle.page_scopes_phrases.specs.declared.kept_texts.KeptText.{KeptText}
 use Rattle.page_scopes_tree.specs.Acts.{Step}
 use Rattle.page_scopes_tree.specs.Frames.{framed, act_of, event_of}
 use Rattle.page_scopes_tree.specs.Nests.{Fact, scopes_nesting}

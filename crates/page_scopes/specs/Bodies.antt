@@ -11,11 +11,11 @@ use Rattle.page_scopes_blocks.specs.NameHangs.{deed_counted}
 use Rattle.page_scopes_layout.specs.Nodes.{margin_items}
 use Rattle.page_scopes_layout.specs.declared.contexts.Context.{Context}
 use Rattle.page_scopes_leaves.specs.Deeds.{deed_outcome, name_after}
-use Rattle.page_scopes_leaves.specs.LineWords.{argument_word, line_word}
-use Rattle.page_scopes_leaves.specs.Outcomes.{Outcome, nothing}
-use Rattle.page_scopes_leaves.specs.Runnings.{row_ended}
-use Rattle.page_scopes_leaves.specs.declared.kept_texts.KeptText.{KeptText}
-use Rattle.page_scopes_leaves.specs.declared.runnings.Running.{Running}
+use Rattle.page_scopes_phrases.specs.LineWords.{argument_word, line_word}
+use Rattle.page_scopes_phrases.specs.Outcomes.{Outcome, nothing}
+use Rattle.page_scopes_phrases.specs.Runnings.{row_ended}
+use Rattle.page_scopes_phrases.specs.declared.kept_texts.KeptText.{KeptText}
+use Rattle.page_scopes_phrases.specs.declared.runnings.Running.{Running}
 use Rattle.page_scopes_text.specs.Numbers.{number_notes}
 use Rattle.page_scopes_tree.specs.declared.acts.Act.{Act}
 use Rattle.page_scopes_tree.specs.declared.acts.Act.TheVariants as acts

@@ -1,8 +1,8 @@
 -- The layout of man(7) and mdoc(7): what scopes keep, begin with and end with, and what other events give. Source: man(7), "MACRO OVERVIEW"; mdoc(7), "MACRO REFERENCE".
 use Rattle.std.specs.Prelude.{ℕ, List, None}
 use Rattle.page_scopes_layout.specs.Contexts as contexts
-use Rattle.page_scopes_leaves.specs.Outcomes.{Outcome}
-use Rattle.page_scopes_leaves.specs.Runnings as runnings
+use Rattle.page_scopes_phrases.specs.Outcomes.{Outcome}
+use Rattle.page_scopes_phrases.specs.Runnings as runnings
 use Rattle.page_scopes_nodes.specs.Begins.{begun_by, kept_target}
 use Rattle.page_scopes_nodes.specs.Ends.{ended}
 use Rattle.page_scopes_nodes.specs.declared.page_layouts.PageLayout.{PageLayout}

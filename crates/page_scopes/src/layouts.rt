@@ -3,7 +3,7 @@
 ghost use Rattle.std.specs.Prelude.{◌≡◌, ◌<◌, ◌∷◌, reverse, vec_capacity, vec_len};
 ghost use Rattle.page_roff_forms.specs.Arguments.{argument_seen};
 ghost use Rattle.page_scopes.specs.Tables.{start};
-ghost use Rattle.page_scopes_leaves.specs.KeptTexts.{kept_of};
+ghost use Rattle.page_scopes_phrases.specs.KeptTexts.{kept_of};
 ghost use Rattle.page_scopes_tree.specs.Stacks.{Keeps};
 
 use crate::bodies::{give_coming, give_standing};
@@ -11,8 +11,8 @@ use page_core_base::{PieceOut, Place};
 use page_roff_forms::Argument;
 use page_scopes_laws::Scope;
 use page_scopes_layout::Context;
-use page_scopes_leaves::{KeptText, Running};
 use page_scopes_nodes::{PageLayout, give_begun, give_ended};
+use page_scopes_phrases::{KeptText, Running};
 use page_scopes_tree::{Act, Label, Laying};
 use page_sets_lines::{Deed, Event, Opener};
 
@@ -66,7 +66,7 @@ impl LayoutState {
 
 impl Laying for LayoutState {
     ghost use Rattle.page_scopes.specs.Tables.{layout_tables};
-    ghost use Rattle.page_scopes_leaves.specs.Fits.{DeedFits};
+    ghost use Rattle.page_scopes_phrases.specs.Fits.{DeedFits};
 
     type Kept = Kept;
 

@@ -7,12 +7,12 @@ use Rattle.page_roff_forms.specs.declared.quotes.Argument.{Argument}
 use Rattle.page_scopes_layout.specs.declared.contexts.Context.{Context}
 use Rattle.page_scopes_layout.specs.declared.contexts.SeriesSoFar.{SeriesSoFar}
 use Rattle.page_scopes_layout.specs.declared.contexts.SeriesSoFar.TheVariants.{Begun}
-use Rattle.page_scopes_leaves.specs.LineWords.{argument_word, line_word, own_word}
-use Rattle.page_scopes_leaves.specs.Outcomes.{Outcome, followed_by, nothing}
+use Rattle.page_scopes_phrases.specs.LineWords.{argument_word, line_word, own_word}
+use Rattle.page_scopes_phrases.specs.Outcomes.{Outcome, followed_by, nothing}
 use Rattle.page_scopes_leaves.specs.Steps.{function_end}
-use Rattle.page_scopes_leaves.specs.Phrases.{phrase_context, phrase_items, phrase_running}
-use Rattle.page_scopes_leaves.specs.declared.phrases.Phrase.{Phrase}
-use Rattle.page_scopes_leaves.specs.declared.runnings.Running.{Running}
+use Rattle.page_scopes_phrases.specs.Phrases.{phrase_context, phrase_items, phrase_running}
+use Rattle.page_scopes_phrases.specs.declared.phrases.Phrase.{Phrase}
+use Rattle.page_scopes_phrases.specs.declared.runnings.Running.{Running}
 use Rattle.page_scopes_tree.specs.declared.labels.Explicit.{Explicit}
 use Rattle.page_scopes_tree.specs.declared.labels.Explicit.TheVariants as explicits
 use Rattle.page_scopes_tree.specs.declared.labels.Label.{Label}

@@ -4,8 +4,8 @@ use Rattle.page_core_base.specs.declared.page_settings.Output.{Output}
 use Rattle.page_roff_forms.specs.Arguments.{is_quoted}
 use Rattle.page_scopes_layout.specs.declared.TheConstants.{MARGIN}
 use Rattle.page_scopes_leaves.specs.Steps.{counting}
-use Rattle.page_scopes_leaves.specs.declared.kept_texts.KeptText.{KeptText}
-use Rattle.page_scopes_leaves.specs.declared.runnings.Running.{Running}
+use Rattle.page_scopes_phrases.specs.declared.kept_texts.KeptText.{KeptText}
+use Rattle.page_scopes_phrases.specs.declared.runnings.Running.{Running}
 use Rattle.page_scopes_widths.specs.Names.{name_columns}
 use Rattle.page_sets_lines.specs.declared.events.Deed.{Deed}
 use Rattle.page_sets_lines.specs.declared.events.Deed.TheVariants as deeds

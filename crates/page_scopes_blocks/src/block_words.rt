@@ -3,17 +3,18 @@
 ghost use Rattle.std.specs.Prelude.{◌≡◌};
 ghost use Rattle.page_roff_forms.specs.Arguments.{argument_seen};
 ghost use Rattle.page_scopes_blocks.specs.BlockWords as words;
-ghost use Rattle.page_scopes_leaves.specs.Fits.{ArgumentFits, BlockOpenerFits, FitsAt, GivenFits};
-ghost use Rattle.page_scopes_leaves.specs.Outcomes.{GivesOutcome};
-ghost use Rattle.page_scopes_leaves.specs.Phrases.{phrase_seen};
+ghost use Rattle.page_scopes_phrases.specs.Fits.{ArgumentFits, BlockOpenerFits, FitsAt, GivenFits};
+ghost use Rattle.page_scopes_phrases.specs.Outcomes.{GivesOutcome};
+ghost use Rattle.page_scopes_phrases.specs.Phrases.{phrase_seen};
 ghost use Rattle.page_sets_lines.specs.Events.{block_opener_seen, given_seen, word_seen};
 
 use page_core_base::{Font, PieceOut, Place};
 use page_core_limits::LINE;
 use page_roff_forms::Argument;
 use page_scopes_layout::{Context, SeriesSoFar};
-use page_scopes_leaves::{
-    Phrase, Running, argument_word, give_function_end, give_line_word, give_own_word, give_phrase,
+use page_scopes_leaves::give_function_end;
+use page_scopes_phrases::{
+    Phrase, Running, argument_word, give_line_word, give_own_word, give_phrase,
 };
 use page_scopes_tree::{Explicit, Label};
 use page_sets_lines::{Block, BlockOpener, Join, LineOpener, Marks, Own, OwnWord, Word};

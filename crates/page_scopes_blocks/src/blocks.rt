@@ -6,15 +6,15 @@ ghost use Rattle.page_roff_forms.specs.Arguments.{argument_seen};
 ghost use Rattle.page_scopes_blocks.specs.BlockWords.{function_name};
 ghost use Rattle.page_scopes_blocks.specs.Blocks as blocks;
 ghost use Rattle.page_scopes_layout.specs.Begins.{function_begun};
-ghost use Rattle.page_scopes_leaves.specs.Fits.{ArgumentFits, BlockOpenerFits, GivenFits};
-ghost use Rattle.page_scopes_leaves.specs.Outcomes.{GivesOutcome};
+ghost use Rattle.page_scopes_phrases.specs.Fits.{ArgumentFits, BlockOpenerFits, GivenFits};
+ghost use Rattle.page_scopes_phrases.specs.Outcomes.{GivesOutcome};
 ghost use Rattle.page_sets_lines.specs.Events.{block_opener_seen, given_seen};
 
 use crate::block_words::{give_block_words, give_function_name};
 use page_core_base::{Output, Piece, PieceOut, Place};
 use page_roff_forms::Argument;
 use page_scopes_layout::{Context, give_margins};
-use page_scopes_leaves::Running;
+use page_scopes_phrases::Running;
 use page_scopes_widths::give_width;
 use page_sets_lines::BlockOpener;
 

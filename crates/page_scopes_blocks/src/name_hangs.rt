@@ -3,12 +3,12 @@
 ghost use Rattle.std.specs.Prelude.{◌≡◌, ◌≤◌, ◌*◌};
 ghost use Rattle.page_core_limits.specs.declared.TheConstants.{LINE};
 ghost use Rattle.page_scopes_blocks.specs.NameHangs as hangs;
-ghost use Rattle.page_scopes_leaves.specs.Fits.{DeedFits, FitsAt};
+ghost use Rattle.page_scopes_phrases.specs.Fits.{DeedFits, FitsAt};
 ghost use Rattle.page_sets_lines.specs.Events.{deed_seen, word_seen};
 
 use page_core_base::Output;
 use page_scopes_layout::MARGIN;
-use page_scopes_leaves::{KeptText, Running};
+use page_scopes_phrases::{KeptText, Running};
 use page_scopes_widths::name_columns;
 use page_sets_lines::{Deed, Leaf, LineStep, Role, Word};
 

@@ -1,4 +1,1 @@
 pub mod RawCells
-pub mod KeptLemmas
-pub mod CellLemmas
-pub mod HeadingLemmas

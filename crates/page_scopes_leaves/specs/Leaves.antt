@@ -8,13 +8,13 @@ use Rattle.page_core_base.specs.declared.places.Place.{Place}
 use Rattle.page_scopes_layout.specs.Begins.{font_begun}
 use Rattle.page_scopes_layout.specs.Settings.{set_to}
 use Rattle.page_scopes_layout.specs.declared.contexts.Context.{Context}
-use Rattle.page_scopes_leaves.specs.LineWords.{own_word}
-use Rattle.page_scopes_leaves.specs.Outcomes.{Outcome, nothing, row_margin_items}
+use Rattle.page_scopes_phrases.specs.LineWords.{own_word}
+use Rattle.page_scopes_phrases.specs.Outcomes.{Outcome, nothing, row_margin_items}
 use Rattle.page_scopes_leaves.specs.Requests.{given_rows, given_rows_notes, literal, request}
-use Rattle.page_scopes_leaves.specs.Runnings.{row_ended, with_content}
+use Rattle.page_scopes_phrases.specs.Runnings.{row_ended, with_content}
 use Rattle.page_scopes_leaves.specs.Steps.{step_outcome}
-use Rattle.page_scopes_leaves.specs.declared.kept_texts.KeptText.{KeptText}
-use Rattle.page_scopes_leaves.specs.declared.runnings.Running.{Running}
+use Rattle.page_scopes_phrases.specs.declared.kept_texts.KeptText.{KeptText}
+use Rattle.page_scopes_phrases.specs.declared.runnings.Running.{Running}
 use Rattle.page_scopes_words.specs.Words.{says, white_cells}
 use Rattle.page_sets_lines.specs.declared.leaves.Leaf.{Leaf}
 use Rattle.page_sets_lines.specs.declared.leaves.Leaf.TheVariants as leaves

@@ -1,12 +1,3 @@
-pub mod Headings
-pub mod Runnings
-pub mod Fits
-pub mod Outcomes
-pub mod Phrases
-pub mod Cells
-pub mod LineWords
-pub mod KeptTexts
-pub mod ManualNames
 pub mod Tags
 pub mod Requests
 pub mod RawLines

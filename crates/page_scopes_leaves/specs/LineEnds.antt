@@ -3,9 +3,9 @@ use Rattle.std.specs.Prelude.{Bool, not, ◌&&◌, [], ◌∷◌, if◌then◌el
 use Rattle.page_core_base.specs.Pieces.{shown}
 use Rattle.page_core_base.specs.declared.pieces.Piece.TheVariants as pieces
 use Rattle.page_scopes_layout.specs.declared.contexts.Context.{Context}
-use Rattle.page_scopes_leaves.specs.Outcomes.{Outcome}
-use Rattle.page_scopes_leaves.specs.Runnings.{line_ended}
-use Rattle.page_scopes_leaves.specs.declared.runnings.Running.{Running}
+use Rattle.page_scopes_phrases.specs.Outcomes.{Outcome}
+use Rattle.page_scopes_phrases.specs.Runnings.{line_ended}
+use Rattle.page_scopes_phrases.specs.declared.runnings.Running.{Running}
 
 -- where rows are kept, a line with words of the page's text is a row, unless it ends in `\c`
 abbrev pub ends_row : Context → Running → Bool

@@ -8,19 +8,19 @@ use Rattle.page_scopes_layout.specs.Begins.{flat, name_begun, name_ended}
 use Rattle.page_scopes_layout.specs.Settings.{set_to}
 use Rattle.page_scopes_layout.specs.Nodes.{margin_items}
 use Rattle.page_scopes_layout.specs.declared.contexts.Context.{Context}
-use Rattle.page_scopes_leaves.specs.Cells.{column_step}
+use Rattle.page_scopes_phrases.specs.Cells.{column_step}
 use Rattle.page_scopes_layout.specs.declared.contexts.SeriesSoFar.{SeriesSoFar}
 use Rattle.page_scopes_layout.specs.declared.contexts.SeriesSoFar.TheVariants as series
 use Rattle.page_scopes_layout.specs.declared.contexts.PageSection.{PageSection}
 use Rattle.page_scopes_layout.specs.declared.contexts.PageSection.TheVariants.{Synopsis}
-use Rattle.page_scopes_leaves.specs.LineWords.{argument_word, line_word, own_word}
-use Rattle.page_scopes_leaves.specs.ManualNames.{manual_name}
-use Rattle.page_scopes_leaves.specs.Headings.{is_heading}
-use Rattle.page_scopes_leaves.specs.Outcomes.{Outcome, followed_by, nothing, row_margin_items}
-use Rattle.page_scopes_leaves.specs.Phrases.{blanks_part, joined_gap}
-use Rattle.page_scopes_leaves.specs.Runnings.{row_ended}
-use Rattle.page_scopes_leaves.specs.declared.kept_texts.KeptText.{KeptText}
-use Rattle.page_scopes_leaves.specs.declared.runnings.Running.{Running}
+use Rattle.page_scopes_phrases.specs.LineWords.{argument_word, line_word, own_word}
+use Rattle.page_scopes_phrases.specs.ManualNames.{manual_name}
+use Rattle.page_scopes_phrases.specs.Headings.{is_heading}
+use Rattle.page_scopes_phrases.specs.Outcomes.{Outcome, followed_by, nothing, row_margin_items}
+use Rattle.page_scopes_phrases.specs.Phrases.{blanks_part, joined_gap}
+use Rattle.page_scopes_phrases.specs.Runnings.{row_ended}
+use Rattle.page_scopes_phrases.specs.declared.kept_texts.KeptText.{KeptText}
+use Rattle.page_scopes_phrases.specs.declared.runnings.Running.{Running}
 use Rattle.page_scopes_words.specs.Words.{says}
 use Rattle.page_sets_lines.specs.MacroNames.{body_paragraph_name}
 use Rattle.page_sets_lines.specs.declared.events.Join.TheVariants.{Apart, Glued}

@@ -6,11 +6,11 @@ use Rattle.page_core_base.specs.declared.pieces.TagForm.TheVariants.{Row}
 use Rattle.page_scopes_layout.specs.Nodes.{margin_items}
 use Rattle.page_scopes_layout.specs.declared.contexts.Context.{Context}
 use Rattle.page_scopes_layout.specs.declared.contexts.PagePart.TheVariants as parts
-use Rattle.page_scopes_leaves.specs.LineWords.{line_word}
-use Rattle.page_scopes_leaves.specs.Outcomes.{Outcome, followed_by}
-use Rattle.page_scopes_leaves.specs.Phrases.{phrase_outcome}
-use Rattle.page_scopes_leaves.specs.declared.phrases.Phrase.{Phrase}
-use Rattle.page_scopes_leaves.specs.declared.runnings.Running.{Running}
+use Rattle.page_scopes_phrases.specs.LineWords.{line_word}
+use Rattle.page_scopes_phrases.specs.Outcomes.{Outcome, followed_by}
+use Rattle.page_scopes_phrases.specs.Phrases.{phrase_outcome}
+use Rattle.page_scopes_phrases.specs.declared.phrases.Phrase.{Phrase}
+use Rattle.page_scopes_phrases.specs.declared.runnings.Running.{Running}
 use Rattle.page_scopes_leaves.specs.declared.tags.TagPlace.{TagPlace}
 use Rattle.page_sets_lines.specs.declared.events.Word.{Word}
 

@@ -2,14 +2,14 @@
 
 ghost use Rattle.std.specs.Prelude.{◌≡◌};
 ghost use Rattle.page_scopes_leaves.specs.Deeds as deeds;
-ghost use Rattle.page_scopes_leaves.specs.Fits.{DeedFits};
-ghost use Rattle.page_scopes_leaves.specs.Outcomes.{GivesOutcome};
+ghost use Rattle.page_scopes_phrases.specs.Fits.{DeedFits};
+ghost use Rattle.page_scopes_phrases.specs.Outcomes.{GivesOutcome};
 ghost use Rattle.page_sets_lines.specs.Events.{deed_seen};
 
-use crate::manual_names::keep_name;
-use crate::{KeptText, Running, end_line, give_leaf, give_line_word, give_raw_line};
+use crate::{end_line, give_leaf, give_raw_line};
 use page_core_base::{PieceOut, Place};
 use page_scopes_layout::Context;
+use page_scopes_phrases::{KeptText, Running, give_line_word, keep_name};
 use page_scopes_words::report;
 use page_sets_lines::Deed;
 

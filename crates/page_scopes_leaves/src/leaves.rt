@@ -2,17 +2,17 @@
 
 ghost use Rattle.std.specs.Prelude.{◌≡◌};
 ghost use Rattle.page_core_base.specs.Latches.{Came};
-ghost use Rattle.page_scopes_leaves.specs.Fits.{LeafFits};
+ghost use Rattle.page_scopes_phrases.specs.Fits.{LeafFits};
 ghost use Rattle.page_scopes_leaves.specs.Leaves as leaves;
-ghost use Rattle.page_scopes_leaves.specs.Outcomes.{GivesOutcome};
+ghost use Rattle.page_scopes_phrases.specs.Outcomes.{GivesOutcome};
 ghost use Rattle.page_sets_lines.specs.Events.{leaf_seen, text_seen};
 
 use crate::margins::give_row_margins;
 use crate::requests::{give_given_rows, give_literal, give_request};
 use crate::steps::give_step;
-use crate::{KeptText, Running, give_own_word};
 use page_core_base::{Font, NoteKind, Piece, PieceOut, Place};
 use page_scopes_layout::{Context, Setting};
+use page_scopes_phrases::{KeptText, Running, give_own_word};
 use page_scopes_words::{give_white_cells, report};
 use page_sets_lines::Leaf;
 

@@ -2,11 +2,11 @@
 
 ghost use Rattle.std.specs.Prelude.{◌≡◌};
 ghost use Rattle.page_scopes_leaves.specs.LineEnds as ends;
-ghost use Rattle.page_scopes_leaves.specs.Outcomes.{GivesOutcome};
+ghost use Rattle.page_scopes_phrases.specs.Outcomes.{GivesOutcome};
 
-use crate::Running;
 use page_core_base::{Piece, PieceOut};
 use page_scopes_layout::Context;
+use page_scopes_phrases::Running;
 
 // Whether a line is a row that ends with it.
 fn ends_row(context: &Context, running: &Running) -> bool

@@ -2,7 +2,7 @@
 
 ghost use Rattle.std.specs.Prelude.{◌≡◌};
 ghost use Rattle.page_core_base.specs.Latches.{Came};
-ghost use Rattle.page_scopes_leaves.specs.Outcomes.{row_margin_items};
+ghost use Rattle.page_scopes_phrases.specs.Outcomes.{row_margin_items};
 
 use page_core_base::{Piece, PieceOut};
 use page_scopes_layout::{Context, give_margins};

@@ -1,12 +1,12 @@
 //! Lines of tables, equations and pictures: rows of their characters as they are (roff(7), `TS`, `EQ` and `PS`).
 
 ghost use Rattle.page_core_base.specs.Latches.{Came};
-ghost use Rattle.page_scopes_leaves.specs.Outcomes.{GivesOutcome};
+ghost use Rattle.page_scopes_phrases.specs.Outcomes.{GivesOutcome};
 ghost use Rattle.page_scopes_leaves.specs.RawLines as raw;
 
-use crate::Running;
 use page_core_base::{Font, Piece, PieceOut, Place};
 use page_scopes_layout::Context;
+use page_scopes_phrases::Running;
 
 // Gives characters up to a tab.
 fn give_part<O: PieceOut>(out: &mut O, place: Place, font: Font, text: &[u8])

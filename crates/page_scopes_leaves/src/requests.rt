@@ -3,17 +3,17 @@
 ghost use Rattle.std.specs.Prelude.{◌≡◌};
 ghost use Rattle.page_core_base.specs.Latches.{Came};
 ghost use Rattle.page_core_escapes.specs.Escapes.{face_seen};
-ghost use Rattle.page_scopes_leaves.specs.Outcomes.{GivesOutcome};
+ghost use Rattle.page_scopes_phrases.specs.Outcomes.{GivesOutcome};
 ghost use Rattle.page_scopes_leaves.specs.Requests as requests;
-ghost use Rattle.page_scopes_leaves.specs.Runnings.{row_ended, with_content};
+ghost use Rattle.page_scopes_phrases.specs.Runnings.{row_ended, with_content};
 ghost use Rattle.page_scopes_text.specs.Numbers.{columns_notes};
 ghost use Rattle.page_sets_lines.specs.Events.{request_seen, text_seen};
 
-use crate::Running;
 use crate::margins::give_row_margins;
 use page_core_base::{Piece, PieceOut, Place};
 use page_core_escapes::{FontName, read_font};
 use page_scopes_layout::{Context, Setting};
+use page_scopes_phrases::Running;
 use page_scopes_text::{give_columns, give_rows};
 use page_scopes_words::{Fonts, report_font};
 use page_sets_lines::Request;

@@ -1,20 +1,18 @@
 //! What macros of mdoc(7) change in their line, or print there (mdoc(7), "MACRO REFERENCE").
 
 ghost use Rattle.std.specs.Prelude.{◌≡◌};
-ghost use Rattle.page_scopes_leaves.specs.Fits.{StepFits};
-ghost use Rattle.page_scopes_leaves.specs.Outcomes.{GivesOutcome};
+ghost use Rattle.page_scopes_phrases.specs.Fits.{StepFits};
+ghost use Rattle.page_scopes_phrases.specs.Outcomes.{GivesOutcome};
 ghost use Rattle.page_scopes_leaves.specs.Steps as steps;
 ghost use Rattle.page_sets_lines.specs.Events.{step_seen};
 
-use crate::cells::give_column_step;
-use crate::headings::is_heading;
-use crate::kept_texts::KeptText;
-use crate::manual_names::give_manual_name;
 use crate::margins::give_row_margins;
-use crate::phrases::{blanks_part, joined_gap};
-use crate::{Running, argument_word, give_line_word, give_own_word};
 use page_core_base::{NoteKind, Piece, PieceOut, Place};
 use page_scopes_layout::{Context, PageSection, SeriesSoFar, Setting, give_margins};
+use page_scopes_phrases::{
+    KeptText, Running, argument_word, blanks_part, give_column_step, give_line_word,
+    give_manual_name, give_own_word, is_heading, joined_gap,
+};
 use page_scopes_words::report;
 use page_sets_lines::{BodyParagraphName, Join, LineStep, Own, OwnWord, SynopsisStep};
 

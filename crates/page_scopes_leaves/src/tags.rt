@@ -2,15 +2,15 @@
 
 ghost use Rattle.std.specs.Prelude.{◌≡◌};
 ghost use Rattle.page_core_base.specs.Latches.{Came};
-ghost use Rattle.page_scopes_leaves.specs.Fits.{ArgumentFits, FitsAt};
-ghost use Rattle.page_scopes_leaves.specs.Outcomes.{GivesOutcome};
-ghost use Rattle.page_scopes_leaves.specs.Phrases.{phrase_seen};
+ghost use Rattle.page_scopes_phrases.specs.Fits.{ArgumentFits, FitsAt};
+ghost use Rattle.page_scopes_phrases.specs.Outcomes.{GivesOutcome};
+ghost use Rattle.page_scopes_phrases.specs.Phrases.{phrase_seen};
 ghost use Rattle.page_scopes_leaves.specs.Tags as tags;
 ghost use Rattle.page_sets_lines.specs.Events.{word_seen};
 
-use crate::{Phrase, Running, give_line_word, give_phrase};
 use page_core_base::{Piece, PieceOut, TagForm};
 use page_scopes_layout::{Context, PagePart, give_margins};
+use page_scopes_phrases::{Phrase, Running, give_line_word, give_phrase};
 use page_sets_lines::Word;
 
 /// Where a tag stands, in columns.

@@ -3,7 +3,8 @@
 use page_core_base::{Form, Taken};
 use page_roff_forms::{LineForm, form_of};
 use page_scopes_layout::Context;
-use page_scopes_leaves::{Running, give_deed};
+use page_scopes_leaves::give_deed;
+use page_scopes_phrases::Running;
 use page_scopes_shown::Shown;
 use page_sets::{Deed, Event, Leaf, Man};
 use page_sets_checks::events_of;

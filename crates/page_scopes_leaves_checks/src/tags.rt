@@ -1,15 +1,14 @@
 //! Tags of arguments, which stand in front of the text of their paragraph.
 
 ghost use Rattle.std.specs.Prelude.{◌≤◌, length};
-ghost use Rattle.page_scopes_leaves.specs.Fits.{ArgumentFits};
+ghost use Rattle.page_scopes_phrases.specs.Fits.{ArgumentFits};
 ghost use Rattle.page_sets_lines.specs.Events.{word_seen};
 
 use crate::pages::{MOST, Page};
 use page_core_base::{Font, Place};
 use page_roff_forms::{Argument, Quoting};
-use page_scopes_leaves::{
-    TagPlace, end_line, give_leaf, give_line_word, give_own_word, give_raw_line, give_tag,
-};
+use page_scopes_leaves::{TagPlace, end_line, give_leaf, give_raw_line, give_tag};
+use page_scopes_phrases::{give_line_word, give_own_word};
 use page_scopes_shown::Shown;
 use page_sets::{Join, Leaf, Own, OwnWord, Role, Word};
 use std::alloc::Global;

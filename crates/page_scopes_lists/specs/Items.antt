@@ -8,11 +8,11 @@ use Rattle.page_scopes_layout.specs.Margins.{hold}
 use Rattle.page_scopes_layout.specs.Nodes.{begin_items, margin_items}
 use Rattle.page_scopes_layout.specs.declared.contexts.Context.{Context}
 use Rattle.page_scopes_layout.specs.declared.lists.OpenList.{OpenList}
-use Rattle.page_scopes_leaves.specs.Outcomes.{Outcome, followed_by, nothing}
-use Rattle.page_scopes_leaves.specs.Runnings.{row_ended}
+use Rattle.page_scopes_phrases.specs.Outcomes.{Outcome, followed_by, nothing}
+use Rattle.page_scopes_phrases.specs.Runnings.{row_ended}
 use Rattle.page_scopes_leaves.specs.Tags.{phrase_tag}
-use Rattle.page_scopes_leaves.specs.declared.phrases.Phrase.{Phrase}
-use Rattle.page_scopes_leaves.specs.declared.runnings.Running.{Running}
+use Rattle.page_scopes_phrases.specs.declared.phrases.Phrase.{Phrase}
+use Rattle.page_scopes_phrases.specs.declared.runnings.Running.{Running}
 use Rattle.page_scopes_leaves.specs.declared.tags.TagPlace.{TagPlace}
 use Rattle.page_scopes_tree.specs.declared.labels.Label.TheVariants as labels
 use Rattle.page_sets_lines.specs.declared.events.Join.TheVariants.{Apart}

@@ -8,9 +8,9 @@ use Rattle.page_scopes_layout.specs.Lists.{list_begun}
 use Rattle.page_scopes_layout.specs.declared.contexts.Context.{Context}
 use Rattle.page_scopes_layout.specs.declared.lists.ColumnWidths.{ColumnWidths}
 use Rattle.page_scopes_layout.specs.declared.lists.OpenList.{OpenList}
-use Rattle.page_scopes_leaves.specs.Outcomes.{Outcome, after_notes, row_margin_items}
-use Rattle.page_scopes_leaves.specs.Runnings.{row_ended}
-use Rattle.page_scopes_leaves.specs.declared.runnings.Running.{Running}
+use Rattle.page_scopes_phrases.specs.Outcomes.{Outcome, after_notes, row_margin_items}
+use Rattle.page_scopes_phrases.specs.Runnings.{row_ended}
+use Rattle.page_scopes_phrases.specs.declared.runnings.Running.{Running}
 use Rattle.page_sets_lines.specs.ControlLines.{arguments_after}
 use Rattle.page_sets_lines.specs.Lists.{list_options}
 use Rattle.page_sets_lines.specs.declared.lists.ListKind.{ListKind}

@@ -1,9 +1,9 @@
 //! Items of lists: their marks and numbers (mdoc(7), `Bl` and `It`).
 
 ghost use Rattle.std.specs.Prelude.{◌≡◌, ◌≤◌, ◌++◌, length, codes, decimal};
-ghost use Rattle.page_scopes_leaves.specs.Fits.{FitsAt};
-ghost use Rattle.page_scopes_leaves.specs.Outcomes.{GivesOutcome};
-ghost use Rattle.page_scopes_leaves.specs.Phrases.{phrase_seen};
+ghost use Rattle.page_scopes_phrases.specs.Fits.{FitsAt};
+ghost use Rattle.page_scopes_phrases.specs.Outcomes.{GivesOutcome};
+ghost use Rattle.page_scopes_phrases.specs.Phrases.{phrase_seen};
 ghost use Rattle.page_scopes_lists.specs.Items as items;
 
 use arrayvec::ArrayVec;
@@ -11,7 +11,8 @@ use itoa::Buffer;
 use page_core_base::{PieceOut, Place};
 use page_core_limits::LINE;
 use page_scopes_layout::{Context, OpenList, give_begin, give_margins, hold};
-use page_scopes_leaves::{Phrase, Running, TagPlace, give_phrase_tag};
+use page_scopes_leaves::{TagPlace, give_phrase_tag};
+use page_scopes_phrases::{Phrase, Running};
 use page_scopes_tree::Label;
 use page_sets_lines::{Join, ListKind};
 

@@ -3,7 +3,7 @@
 ghost use Rattle.std.specs.Prelude.{◌≡◌, ◌≤◌, length, pos, unwrap_or};
 ghost use Rattle.page_core_base.specs.Latches.{Came};
 ghost use Rattle.page_scopes_layout.specs.Lists.{list_begun};
-ghost use Rattle.page_scopes_leaves.specs.Outcomes.{GivesOutcome};
+ghost use Rattle.page_scopes_phrases.specs.Outcomes.{GivesOutcome};
 ghost use Rattle.page_scopes_lists.specs.ListWidths.{LengthFits};
 ghost use Rattle.page_scopes_lists.specs.OpenLists as lists;
 ghost use Rattle.page_sets_lines.specs.Lists.{options_seen};
@@ -12,7 +12,7 @@ use crate::widths::{give_columns, give_given, hang_of};
 use page_core_base::{Output, Piece, PieceOut, Place};
 use page_core_limits::LINE;
 use page_scopes_layout::{ColumnWidths, Context, OpenList, give_margins};
-use page_scopes_leaves::Running;
+use page_scopes_phrases::Running;
 use page_sets_lines::{ListKind, ListOptions, read_list_options};
 
 /// What the arguments of `Bl` say of a list, in columns.

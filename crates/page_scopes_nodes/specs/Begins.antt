@@ -8,12 +8,12 @@ use Rattle.page_scopes_layout.specs.Lists.{head_begun}
 use Rattle.page_scopes_layout.specs.Nodes.{line_begin_items}
 use Rattle.page_scopes_layout.specs.declared.contexts.Context.{Context}
 use Rattle.page_scopes_blocks.specs.BlockWords.{line_words}
-use Rattle.page_scopes_leaves.specs.Headings.{no_heading}
-use Rattle.page_scopes_leaves.specs.KeptTexts.{kept_of}
-use Rattle.page_scopes_leaves.specs.Outcomes.{Outcome, followed_by, nothing}
-use Rattle.page_scopes_leaves.specs.Runnings.{row_ended}
-use Rattle.page_scopes_leaves.specs.declared.kept_texts.KeptText.{KeptText}
-use Rattle.page_scopes_leaves.specs.declared.runnings.Running.{Running}
+use Rattle.page_scopes_phrases.specs.Headings.{no_heading}
+use Rattle.page_scopes_phrases.specs.KeptTexts.{kept_of}
+use Rattle.page_scopes_phrases.specs.Outcomes.{Outcome, followed_by, nothing}
+use Rattle.page_scopes_phrases.specs.Runnings.{row_ended}
+use Rattle.page_scopes_phrases.specs.declared.kept_texts.KeptText.{KeptText}
+use Rattle.page_scopes_phrases.specs.declared.runnings.Running.{Running}
 use Rattle.page_sets_lines.specs.declared.events.Deed.{Deed}
 use Rattle.page_sets_lines.specs.declared.events.Deed.TheVariants as deeds
 use Rattle.page_sets_lines.specs.declared.events.Event.{Event}

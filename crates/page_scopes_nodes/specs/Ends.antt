@@ -6,11 +6,11 @@ use Rattle.page_scopes_layout.specs.Nodes.{end_items, is_row}
 use Rattle.page_scopes_layout.specs.declared.contexts.Context.{Context}
 use Rattle.page_scopes_layout.specs.declared.contexts.PageSection.{PageSection}
 use Rattle.page_scopes_blocks.specs.BlockWords.{last_words}
-use Rattle.page_scopes_leaves.specs.Headings.{headed_section}
-use Rattle.page_scopes_leaves.specs.declared.headings.HeadingSoFar.{HeadingSoFar}
-use Rattle.page_scopes_leaves.specs.Outcomes.{Outcome, followed_by}
-use Rattle.page_scopes_leaves.specs.Runnings.{row_ended}
-use Rattle.page_scopes_leaves.specs.declared.runnings.Running.{Running}
+use Rattle.page_scopes_phrases.specs.Headings.{headed_section}
+use Rattle.page_scopes_phrases.specs.declared.headings.HeadingSoFar.{HeadingSoFar}
+use Rattle.page_scopes_phrases.specs.Outcomes.{Outcome, followed_by}
+use Rattle.page_scopes_phrases.specs.Runnings.{row_ended}
+use Rattle.page_scopes_phrases.specs.declared.runnings.Running.{Running}
 use Rattle.page_scopes_tree.specs.declared.labels.Explicit.{Explicit}
 use Rattle.page_scopes_tree.specs.declared.labels.Explicit.TheVariants as explicits
 use Rattle.page_scopes_tree.specs.declared.labels.Label.{Label}
@@ -22,7 +22,7 @@ use Rattle.page_sets_lines.specs.declared.macro_names.HeadingName.TheVariants as
 use Rattle.page_sets_lines.specs.declared.openers.LineOpener.{LineOpener}
 use Rattle.page_sets_lines.specs.declared.openers.LineOpener.TheVariants as lines
 use Rattle.page_scopes_nodes.specs.Targets.{target_word}
-use Rattle.page_scopes_leaves.specs.declared.kept_texts.KeptText.{KeptText}
+use Rattle.page_scopes_phrases.specs.declared.kept_texts.KeptText.{KeptText}
 
 -- the target of a link (`UR` up to `UE`, `MT` up to `ME`) is its last word
 abbrev pub last_word : Place → Label → Option KeptText → Context → Running → Outcome

@@ -16,11 +16,11 @@ use Rattle.page_scopes_lists.specs.Items.{item_opened}
 use Rattle.page_scopes_lists.specs.OpenLists.{list_opened}
 use Rattle.page_sets_lines.specs.declared.blocks.BlockOpener.{BlockOpener}
 use Rattle.page_sets_lines.specs.declared.blocks.BlockOpener.TheVariants as block_openers
-use Rattle.page_scopes_leaves.specs.LineWords.{argument_word}
-use Rattle.page_scopes_leaves.specs.Outcomes.{Outcome, after_notes, followed_by, nothing}
-use Rattle.page_scopes_leaves.specs.Runnings.{row_ended}
+use Rattle.page_scopes_phrases.specs.LineWords.{argument_word}
+use Rattle.page_scopes_phrases.specs.Outcomes.{Outcome, after_notes, followed_by, nothing}
+use Rattle.page_scopes_phrases.specs.Runnings.{row_ended}
 use Rattle.page_scopes_leaves.specs.Tags.{tag}
-use Rattle.page_scopes_leaves.specs.declared.runnings.Running.{Running}
+use Rattle.page_scopes_phrases.specs.declared.runnings.Running.{Running}
 use Rattle.page_scopes_leaves.specs.declared.tags.TagPlace.{TagPlace}
 use Rattle.page_scopes_text.specs.Numbers.{columns_notes, columns_value}
 use Rattle.page_scopes_tree.specs.declared.labels.Explicit.TheVariants.{RelativeMargin, Syntax}

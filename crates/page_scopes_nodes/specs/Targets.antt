@@ -9,12 +9,12 @@ use Rattle.page_roff_forms.specs.Arguments.{is_quoted}
 use Rattle.page_roff_forms.specs.declared.quotes.Argument.{Argument}
 use Rattle.page_scopes_layout.specs.declared.contexts.Context.{Context}
 use Rattle.page_scopes_layout.specs.declared.settings.Setting.{Setting}
-use Rattle.page_scopes_leaves.specs.Headings.{heading_broken}
-use Rattle.page_scopes_leaves.specs.KeptTexts.{after_kept, cut_notes, fonts_through, gap_items, kept_tokens, parts_items}
-use Rattle.page_scopes_leaves.specs.Outcomes.{Outcome}
-use Rattle.page_scopes_leaves.specs.Phrases.{is_text}
-use Rattle.page_scopes_leaves.specs.declared.kept_texts.KeptText.{KeptText}
-use Rattle.page_scopes_leaves.specs.declared.runnings.Running.{Running}
+use Rattle.page_scopes_phrases.specs.Headings.{heading_broken}
+use Rattle.page_scopes_phrases.specs.KeptTexts.{after_kept, cut_notes, fonts_through, gap_items, kept_tokens, parts_items}
+use Rattle.page_scopes_phrases.specs.Outcomes.{Outcome}
+use Rattle.page_scopes_phrases.specs.Phrases.{is_text}
+use Rattle.page_scopes_phrases.specs.declared.kept_texts.KeptText.{KeptText}
+use Rattle.page_scopes_phrases.specs.declared.runnings.Running.{Running}
 use Rattle.page_scopes_text.specs.Words.{token_notes}
 use Rattle.page_scopes_words.specs.Words.{at}
 use Rattle.page_scopes_words.specs.declared.fonts.Fonts.{Fonts}

@@ -2,8 +2,8 @@
 
 ghost use Rattle.std.specs.Prelude.{◌≡◌};
 ghost use Rattle.page_scopes_layout.specs.Begins.{entered_context};
-ghost use Rattle.page_scopes_leaves.specs.Fits.{DeedFits};
-ghost use Rattle.page_scopes_leaves.specs.Outcomes.{GivesOutcome};
+ghost use Rattle.page_scopes_phrases.specs.Fits.{DeedFits};
+ghost use Rattle.page_scopes_phrases.specs.Outcomes.{GivesOutcome};
 ghost use Rattle.page_scopes_nodes.specs.Begins as begins;
 ghost use Rattle.page_sets_lines.specs.Events.{deed_seen, event_seen};
 
@@ -12,7 +12,7 @@ use crate::openers::give_opened;
 use page_core_base::{Font, PieceOut, Place};
 use page_scopes_blocks::give_line_words;
 use page_scopes_layout::{Context, give_begin};
-use page_scopes_leaves::{HeadingSoFar, Running};
+use page_scopes_phrases::{HeadingSoFar, Running};
 use page_scopes_tree::Label;
 use page_sets_lines::{Deed, Event, FontMacro, HeadingName, LineOpener};
 

@@ -2,14 +2,14 @@
 
 ghost use Rattle.std.specs.Prelude.{◌≡◌};
 ghost use Rattle.page_scopes_layout.specs.Nodes.{is_row};
-ghost use Rattle.page_scopes_leaves.specs.Outcomes.{GivesOutcome};
+ghost use Rattle.page_scopes_phrases.specs.Outcomes.{GivesOutcome};
 ghost use Rattle.page_scopes_nodes.specs.Ends as ends;
 
 use crate::targets::give_target;
 use page_core_base::{PieceOut, Place};
 use page_scopes_blocks::give_last_words;
 use page_scopes_layout::{Context, PageSection, give_end};
-use page_scopes_leaves::{HeadingSoFar, KeptText, Running};
+use page_scopes_phrases::{HeadingSoFar, KeptText, Running};
 use page_scopes_tree::{Explicit, Label};
 use page_sets_lines::{Block, HeadingName, LineOpener};
 

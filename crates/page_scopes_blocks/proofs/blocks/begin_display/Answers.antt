@@ -2,7 +2,7 @@ use Rattle.std.proofs.Common.{◌≡◌, ap, subst, refl, ◌∙◌, rules, w32,
 use Rattle.std.proofs.lemmas.Int.{to_z-of_z}
 use Rattle.page_scopes_blocks.specs.Blocks as blocks
 use Rattle.page_scopes_layout.specs.Begins.{display_begun}
-use Rattle.page_scopes_leaves.specs.Outcomes.{GivesOutcome, after_notes}
+use Rattle.page_scopes_phrases.specs.Outcomes.{GivesOutcome, after_notes}
 use Rattle.page_sets_lines.specs.Events.{given_seen}
 use Rattle.page_scopes_blocks.proofs.BlockLemmas.{came_after}
 use Rattle.page_scopes_blocks.proofs.blocks.begin_display.Goals as goal

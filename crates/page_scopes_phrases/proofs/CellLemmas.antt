@@ -1,0 +1,164 @@
+-- Texts in columns, cell by cell: helpers of proofs.
+use Rattle.std.proofs.Common.{◌≡◌, ℕ, zero, suc, ◌+◌, ◌-◌, ◌<◌, ◌≤◌, ◌==◌, nat_lt, ◌&&◌, Bool, true, false, List, [], ◌∷◌, ◌++◌, length, drop, refl, sym, ap, subst, ◌∙◌, append_assoc, arith, inl, inr, length-drop, Option, None, Some, if◌then◌else◌}
+use Rattle.std.specs.List.{prefix_len}
+use Rattle.std.proofs.lemmas.Bool.{cases_Bool}
+use Rattle.std.proofs.lemmas.Bool.Decides.{nat_tests}
+use Rattle.page_core_base.specs.Latches.{CameUpTo}
+use Rattle.page_core_base.specs.Pieces.{Item}
+use Rattle.page_core_escapes.specs.Tokens.{TextToken, is_space, token_at, token_bytes, token_len, tokens_of}
+use Rattle.page_core_escapes.proofs.TokenLemmas.{tokens_more, tokens_none}
+use Rattle.page_scopes_layout.specs.declared.contexts.Context.{Context}
+use Rattle.page_scopes_phrases.specs.Cells.{after_tab, before_blanks, before_tab, cell, cells, cells_within, first_part, has_tab, other_cells, other_cells_text, span, span_of, tab_in, with_more}
+use Rattle.page_scopes_phrases.specs.Fits.{FitsAt}
+use Rattle.page_scopes_phrases.specs.Outcomes.{GivesOutcome, Outcome, followed_by}
+use Rattle.page_scopes_phrases.specs.declared.cells.CellSpan.{CellSpan}
+use Rattle.page_scopes_phrases.specs.declared.phrases.Phrase.{Phrase}
+use Rattle.page_scopes_phrases.specs.declared.runnings.Running.{Running}
+
+-- ---- the first cell, token by token
+
+pub tab_found : (quoted : Bool) (text : List ℕ) (n k : ℕ) → 0 < n → n ≡ token_len quoted text → tab_in (token_at quoted text) ≡ Some k
+    → before_tab (tokens_of quoted text) ≡ k
+tab_found quoted text n k some e h = ap before_tab (tokens_more quoted text n some e) ∙ (rw h refl)
+
+pub tab_more : (quoted : Bool) (text : List ℕ) (n : ℕ) → 0 < n → n ≡ token_len quoted text → tab_in (token_at quoted text) ≡ None
+    → before_tab (tokens_of quoted text) ≡ n + before_tab (tokens_of quoted (drop n text))
+tab_more quoted text n some e h =
+    ap before_tab (tokens_more quoted text n some e) ∙ (rw h (ap (λ (m : ℕ). m + before_tab (tokens_of quoted (drop n text))) (sym e)))
+
+pub tab_none : (quoted : Bool) (text : List ℕ) → length text ≤ 0 → before_tab (tokens_of quoted text) ≡ 0
+tab_none quoted text h = ap before_tab (tokens_none quoted text h)
+
+pub blanks_found : (quoted : Bool) (text : List ℕ) (n k : ℕ) → 0 < n → n ≡ token_len quoted text → tab_in (token_at quoted text) ≡ Some k
+    → before_blanks (tokens_of quoted text) ≡ 0
+blanks_found quoted text n k some e h = ap before_blanks (tokens_more quoted text n some e) ∙ (rw h refl)
+
+pub blanks_none : (quoted : Bool) (text : List ℕ) → length text ≤ 0 → before_blanks (tokens_of quoted text) ≡ 0
+blanks_none quoted text h = ap before_blanks (tokens_none quoted text h)
+
+blanks_more : (quoted : Bool) (text : List ℕ) (n : ℕ) → 0 < n → n ≡ token_len quoted text → tab_in (token_at quoted text) ≡ None
+    → before_blanks (tokens_of quoted text) ≡ with_more (token_at quoted text) (before_blanks (tokens_of quoted (drop n text)))
+blanks_more quoted text n some e h = ap before_blanks (tokens_more quoted text n some e) ∙ (rw h refl)
+
+-- where the first cell ends, by what is found of it and what is left
+abbrev pub end_by : ℕ → ℕ → ℕ → ℕ
+end_by end start more = if more == 0 then end else start + more
+
+end_steps : (space none : Bool) (end start n more : ℕ) → 0 < n → (more == 0) ≡ none
+    → end_by end start (if space && more == 0 then 0 else n + more) ≡ end_by (if space then end else start + n) (start + n) more
+end_steps true true end start n more some e = rw e refl
+end_steps true false end start n more some e =
+    let no : (n + more == 0) ≡ false = grind (arith, nat_tests, some) in
+    let a : start + (n + more) ≡ start + n + more = omega arith in
+    rw (e, no) a
+end_steps false none end start n more some e =
+    let no : (n + more == 0) ≡ false = grind (arith, nat_tests, some) in
+    rw no (elim (cases_Bool (more == 0)) [
+      | inl z ↦ rw z (let m : more ≡ 0 = grind (arith, nat_tests, z) in let a : start + (n + more) ≡ start + n = omega (arith, m) in a)
+      | inr z ↦ rw z (let a : start + (n + more) ≡ start + n + more = omega arith in a)
+    ])
+
+-- one token more, which holds no tab
+pub end_more : (quoted : Bool) (text : List ℕ) (n end start : ℕ) → 0 < n → n ≡ token_len quoted text → tab_in (token_at quoted text) ≡ None
+    → end_by end start (before_blanks (tokens_of quoted text))
+    ≡ end_by (if is_space (token_at quoted text) then end else start + n) (start + n) (before_blanks (tokens_of quoted (drop n text)))
+end_more quoted text n end start some e h =
+    let more = before_blanks (tokens_of quoted (drop n text)) in
+    ap (end_by end start) (blanks_more quoted text n some e h ∙ ap (λ (m : ℕ). if is_space (token_at quoted text) && more == 0 then 0 else m + more) (sym e))
+    ∙ end_steps (is_space (token_at quoted text)) (more == 0) end start n more some refl
+
+either_within : (test : Bool) (m n most : ℕ) → m ≤ most → n ≤ most → (if test then m else n) ≤ most
+either_within true m n most h k = h
+either_within false m n most h k = k
+
+-- where a cell ends after one token more
+pub end_within : (space : Bool) (end start most found : ℕ) → found ≡ (if space then end else start) → end ≤ most → start ≤ most → found ≤ most
+end_within space end start most found e h k = rw e (either_within space end start most h k)
+
+pub span_is : (quoted : Bool) (text : List ℕ) (end tab : ℕ) → end ≡ before_blanks (tokens_of quoted text) → tab ≡ before_tab (tokens_of quoted text)
+    → (let found : CellSpan = record { end = end; tab = tab } in found ≡ span_of quoted text)
+span_is quoted text end tab h k = rw (h, k) refl
+
+-- ---- a text in cells
+
+after_tab-shorter : (text : List ℕ) → 0 < length text → length (after_tab text) < length text
+after_tab-shorter [] h = absurd (omega arith)
+after_tab-shorter (byte ∷ bytes) h = elim (cases_Bool (byte == 9)) [
+  | inl t ↦ rw t (omega arith)
+  | inr t ↦ rw t (omega (arith, length-drop 1 bytes))
+]
+
+pub others-shorter : (p : Phrase (List ℕ)) → has_tab p ≡ true → length (other_cells_text (span p) p.text) < length p.text
+others-shorter p h =
+    let tab = (span p).tab in
+    let before : tab < length p.text = grind (arith, nat_tests, h) in
+    let d = length-drop tab p.text in
+    let some : 0 < length (drop tab p.text) = omega (arith, d, before) in
+    let a = after_tab-shorter (drop tab p.text) some in
+    let b = length-drop (prefix_len (λ byte. byte == 32) (after_tab (drop tab p.text))) (after_tab (drop tab p.text)) in
+    omega (arith, a, b, d)
+
+pub others-fit : (p : Phrase (List ℕ)) → has_tab p ≡ true → FitsAt p.column p.text → FitsAt (other_cells (span p) p).column (other_cells (span p) p).text
+others-fit p h fits =
+    let a = others-shorter p h in
+    let short = fits.short in
+    let room = fits.room in
+    record { short = omega (arith, a, short); room = omega (arith, a, room) }
+
+pub is_before : (m n : ℕ) → m < n → nat_lt m n ≡ true
+is_before m n h = grind (arith, nat_tests, h)
+
+pub is_not_before : (m n : ℕ) → n ≤ m → nat_lt m n ≡ false
+is_not_before m n h = grind (arith, nat_tests, h)
+
+-- what is still to come of a text in cells, which are given to a latch
+pub record CellsLeft {P O : Type 0} (left : P → O → List Item → Type 0) (start : O) (all : Outcome) (line : ℕ) (p : Phrase (List ℕ)) (c : Context) (r : Running)
+    (out : O) : Type 0 where
+  pub room : ℕ
+  pub enough : length p.text ≤ room
+  pub came : CameUpTo left start all.items (cells_within room line p c r).items out
+  pub context : all.context ≡ (cells_within room line p c r).context
+  pub running : all.running ≡ (cells_within room line p c r).running
+
+pub all-left : {P O : Type 0} (left : P → O → List Item → Type 0) (line : ℕ) (p : Phrase (List ℕ)) (c : Context) (r : Running) (out : O)
+    → CellsLeft left out (cells line p c r) line p c r out
+all-left left line p c r out = record { room = length p.text; enough = omega arith; came = λ plan rest h. h; context = refl; running = refl }
+
+more-cells : (room line : ℕ) (p : Phrase (List ℕ)) (c : Context) (r : Running) → length p.text ≤ room → has_tab p ≡ true
+    → (n : ℕ) × (length (other_cells_text (span p) p.text) ≤ n)
+    × (cells_within room line p c r ≡ followed_by (first_part (span p) line p c r) (cells_within n line (other_cells (span p) p)))
+unfolding cells_within
+more-cells zero line p c r enough h = let a = others-shorter p h in absurd (omega (arith, a, enough))
+more-cells (suc n) line p c r enough h = let a = others-shorter p h in (n, omega (arith, a, enough), rw h refl)
+
+last-cell : (room line : ℕ) (p : Phrase (List ℕ)) (c : Context) (r : Running) → has_tab p ≡ false → cells_within room line p c r ≡ cell line p c r
+unfolding cells_within
+last-cell zero line p c r h = refl
+last-cell (suc n) line p c r h = rw h refl
+
+pub cells-go-on : {P O : Type 0} (left : P → O → List Item → Type 0) (start : O) (all : Outcome) (line : ℕ) (p : Phrase (List ℕ)) (c d : Context) (r s : Running)
+    (out next : O) → has_tab p ≡ true → CellsLeft left start all line p c r out → GivesOutcome left out (first_part (span p) line p c r) next d s
+    → CellsLeft left start all line (other_cells (span p) p) d s next
+cells-go-on left start all line p c d r s out next h before given =
+    let first = first_part (span p) line p c r in
+    let more = more-cells before.room line p c r before.enough h in
+    let others = cells_within more.0 line (other_cells (span p) p) first.context first.running in
+    rw (given.context, given.running) (record {
+      room = more.0;
+      enough = more.1;
+      came = λ plan rest x.
+          let a = rw more.2 at (before.came plan rest x) in
+          given.came plan (others.items ++ rest) (subst (λ items. left plan out items) (append_assoc first.items others.items rest) a);
+      context = before.context ∙ ap (λ (o : Outcome). o.context) more.2;
+      running = before.running ∙ ap (λ (o : Outcome). o.running) more.2;
+    })
+
+pub cells-end : {P O : Type 0} (left : P → O → List Item → Type 0) (start : O) (all : Outcome) (line : ℕ) (p : Phrase (List ℕ)) (c d : Context) (r s : Running)
+    (out last : O) → has_tab p ≡ false → CellsLeft left start all line p c r out → GivesOutcome left out (cell line p c r) last d s → GivesOutcome left start all last d s
+cells-end left start all line p c d r s out last h before given =
+    let same = last-cell before.room line p c r h in
+    record {
+      came = λ plan rest x. given.came plan rest (rw same at (before.came plan rest x));
+      context = given.context ∙ sym (before.context ∙ ap (λ (o : Outcome). o.context) same);
+      running = given.running ∙ sym (before.running ∙ ap (λ (o : Outcome). o.running) same);
+    }

@@ -1,0 +1,16 @@
+use Rattle.std.proofs.Common.{◌≡◌, ◌≤◌, length}
+use Rattle.page_core_base.specs.Latches.{CameUpTo}
+use Rattle.page_core_escapes.specs.Tokens.{tokens_of}
+use Rattle.page_core_limits.specs.declared.TheConstants.{LINE}
+use Rattle.page_scopes_phrases.specs.KeptTexts.{fonts_through, parts_items}
+use Rattle.page_scopes_phrases.proofs.kept_texts.give_parts.Given as goal
+
+abbrev pub invariant-loop-rest : goal.invariant-loop-rest
+invariant-loop-rest g l =
+    CameUpTo g.O.PieceOut.left l.fn.out (parts_items l.is_literal l.place l.fn.start (tokens_of l.quoted l.text))
+    (parts_items l.is_literal l.place l.fonts (tokens_of l.quoted l.rest)) l.out
+    × (fonts_through l.fn.start (tokens_of l.quoted l.text) ≡ fonts_through l.fonts (tokens_of l.quoted l.rest))
+    × (length l.rest ≤ LINE)
+
+abbrev pub decreases-loop-rest : goal.decreases-loop-rest
+decreases-loop-rest g l = length l.rest

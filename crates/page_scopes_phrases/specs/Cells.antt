@@ -1,0 +1,129 @@
+-- Texts in the columns of a list. Source: mdoc(7), `Bl -column`, `Ta`.
+use Rattle.std.specs.Prelude.{ℕ, zero, suc, ◌+◌, ◌-◌, ◌==◌, nat_lt, Bool, true, false, ◌&&◌, List, [], ◌∷◌, ◌++◌, length, take, drop, Option, None, Some, is_some, position, unwrap_or, if◌then◌else◌}
+use Rattle.std.specs.List.{prefix_len}
+use Rattle.page_core_base.specs.Pieces.{shown}
+use Rattle.page_core_base.specs.declared.note_kinds.NoteKind.TheVariants.{ItemOutside}
+use Rattle.page_core_base.specs.declared.pieces.Piece.TheVariants as pieces
+use Rattle.page_core_base.specs.declared.places.Place.{Place}
+use Rattle.page_core_escapes.specs.Meanings.{Meaning, tab}
+use Rattle.page_core_escapes.specs.Tokens.{TextToken, white, plain, quotes, escaped, is_space, token_bytes, tokens_of}
+use Rattle.page_scopes_layout.specs.Lists.{has_columns, next_cell}
+use Rattle.page_scopes_layout.specs.declared.contexts.Context.{Context}
+use Rattle.page_scopes_layout.specs.declared.lists.OpenList.{OpenList}
+use Rattle.page_scopes_phrases.specs.Outcomes.{Outcome, followed_by, nothing}
+use Rattle.page_scopes_phrases.specs.Phrases.{phrase_outcome}
+use Rattle.page_scopes_phrases.specs.declared.cells.CellSpan.{CellSpan}
+use Rattle.page_scopes_phrases.specs.declared.phrases.Phrase.{Phrase}
+use Rattle.page_scopes_phrases.specs.declared.runnings.Running.{Running}
+use Rattle.page_scopes_words.specs.Words.{says}
+use Rattle.page_sets_lines.specs.declared.events.Join.TheVariants.{Apart}
+
+-- ---- columns
+
+abbrev pub has_open_columns : Option OpenList → Bool
+has_open_columns (Some list) = has_columns list
+has_open_columns None = false
+
+-- the innermost list has columns
+abbrev pub in_columns : Context → Bool
+in_columns c = has_open_columns c.list
+
+-- what stands before the next word there stands in place of a blank
+abbrev pub column_of : OpenList → Context → Running → Outcome
+column_of list c r = record {
+  items = shown (pieces.Column (next_cell list).column) ∷ [];
+  context = record c { list = Some (next_cell list) };
+  running = record r { gap = 0; line = record r.line { ends_blank = false } };
+}
+
+abbrev pub next_column : Option OpenList → Context → Running → Outcome
+next_column (Some list) c r = if has_columns list then column_of list c r else nothing c r
+next_column None c r = nothing c r
+
+-- `Ta`: it is reported where no list is open, and does nothing in a list without columns
+abbrev pub column_step : Place → Option OpenList → Context → Running → Outcome
+column_step place (Some list) c r = next_column (Some list) c r
+column_step place None c r = record { items = says ItemOutside place [] ∷ []; context = c; running = r }
+
+-- ---- the first cell of a text
+
+abbrev pub if_tab : Meaning → Option ℕ
+if_tab tab = Some 0
+if_tab _ = None
+
+-- the bytes of a token before its first tab, where it has one
+abbrev pub tab_in : TextToken → Option ℕ
+tab_in (white bytes) = position (λ byte. byte == 9) bytes
+tab_in (escaped bytes meaning) = if_tab meaning
+tab_in (plain bytes) = None
+tab_in (quotes bytes) = None
+
+-- the bytes before the first tab; all of them where there is none
+abbrev pub before_tab : List TextToken → ℕ
+before_tab [] = 0
+before_tab (token ∷ tokens) = unwrap_or (tab_in token) (length (token_bytes token) + before_tab tokens)
+
+-- the bytes of a token and of what follows it; blanks that nothing follows are none
+abbrev pub with_more : TextToken → ℕ → ℕ
+with_more token more = if is_space token && more == 0 then 0 else length (token_bytes token) + more
+
+-- the bytes before the first tab and before the blanks in front of it
+abbrev pub before_blanks : List TextToken → ℕ
+before_blanks [] = 0
+before_blanks (token ∷ tokens) = if is_some (tab_in token) then 0 else with_more token (before_blanks tokens)
+
+abbrev pub span_of : Bool → List ℕ → CellSpan
+span_of quoted text = record { end = before_blanks (tokens_of quoted text); tab = before_tab (tokens_of quoted text) }
+
+-- ---- the texts of cells
+
+abbrev pub first_cell : CellSpan → Phrase (List ℕ) → Phrase (List ℕ)
+first_cell span p = record p { text = take span.end p.text; after = Apart }
+
+-- after a tab, which is one byte or the two of an escape
+abbrev pub after_tab : List ℕ → List ℕ
+after_tab [] = []
+after_tab (byte ∷ bytes) = if byte == 9 then bytes else drop 1 bytes
+
+abbrev pub without_blanks : List ℕ → List ℕ
+without_blanks text = drop (prefix_len (λ byte. byte == 32) text) text
+
+-- blanks beside a tab are nothing
+abbrev pub other_cells_text : CellSpan → List ℕ → List ℕ
+other_cells_text span text = without_blanks (after_tab (drop span.tab text))
+
+abbrev pub with_text : Phrase (List ℕ) → List ℕ → Phrase (List ℕ)
+with_text p rest = record p { text = rest; column = p.column + (length p.text - length rest); is_line = false; before = Apart }
+
+abbrev pub other_cells : CellSpan → Phrase (List ℕ) → Phrase (List ℕ)
+other_cells span p = with_text p (other_cells_text span p.text)
+
+-- ---- a text in cells
+
+-- a cell without a byte is no word
+abbrev pub cell : ℕ → Phrase (List ℕ) → Context → Running → Outcome
+cell line p c r = if length p.text == 0 then nothing c r else phrase_outcome line p c r
+
+-- the first cell, and the next column
+abbrev pub first_part : CellSpan → ℕ → Phrase (List ℕ) → Context → Running → Outcome
+first_part span line p c r = followed_by (cell line (first_cell span p) c r) (λ d s. next_column d.list d s)
+
+abbrev pub span : Phrase (List ℕ) → CellSpan
+span p = span_of p.is_quoted p.text
+
+abbrev pub has_tab : Phrase (List ℕ) → Bool
+has_tab p = nat_lt (span p).tab (length p.text)
+
+-- each tab begins the next column; a text has no more of them than bytes
+unfoldable pub cells_within : ℕ → ℕ → Phrase (List ℕ) → Context → Running → Outcome
+cells_within zero line p c r = cell line p c r
+cells_within (suc n) line p c r =
+    if has_tab p then followed_by (first_part (span p) line p c r) (cells_within n line (other_cells (span p) p))
+    else cell line p c r
+
+abbrev pub cells : ℕ → Phrase (List ℕ) → Context → Running → Outcome
+cells line p c r = cells_within (length p.text) line p c r
+
+-- a text is parted by tabs where columns are open
+abbrev pub text_outcome : ℕ → Phrase (List ℕ) → Context → Running → Outcome
+text_outcome line p c r = if in_columns c then cells line p c r else phrase_outcome line p c r

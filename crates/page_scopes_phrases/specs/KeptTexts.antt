@@ -1,0 +1,73 @@
+-- Texts that are kept of an argument and printed later: the target of a link, and the name of the manual. Source: man(7), `UR`, `MT`; mdoc(7), `Nm`.
+use Rattle.std.specs.Prelude.{ℕ, Bool, true, false, ◌||◌, ◌==◌, nat_lt, List, [], ◌∷◌, ◌++◌, length, codes, if◌then◌else◌}
+use Rattle.page_core_base.specs.Messages.{text_front}
+use Rattle.page_core_base.specs.Pieces.{Item, shown}
+use Rattle.page_core_base.specs.declared.cells.Font.{Font}
+use Rattle.page_core_base.specs.declared.cells.Font.TheVariants.{R}
+use Rattle.page_core_base.specs.declared.note_kinds.NoteKind.TheVariants.{Limit}
+use Rattle.page_core_base.specs.declared.pieces.Piece.TheVariants.{Blank}
+use Rattle.page_core_base.specs.declared.places.Place.{Place}
+use Rattle.page_core_escapes.specs.Tokens.{TextToken, white, tokens_of}
+use Rattle.page_core_limits.specs.declared.TheConstants.{FIELD}
+use Rattle.page_roff_forms.specs.Arguments.{is_quoted}
+use Rattle.page_roff_forms.specs.declared.quotes.Argument.{Argument}
+use Rattle.page_scopes_layout.specs.declared.settings.Setting.{Setting}
+use Rattle.page_scopes_phrases.specs.declared.kept_texts.KeptText.{KeptText}
+use Rattle.page_scopes_phrases.specs.declared.runnings.Running.{Running}
+use Rattle.page_scopes_text.specs.Words.{blank_cells, fonts_after, token_items}
+use Rattle.page_scopes_words.specs.Words.{has_tab, says, white_cells}
+use Rattle.page_scopes_words.specs.declared.fonts.Fonts.{Fonts}
+
+-- the first FIELD bytes are kept, up to a character's end
+abbrev pub kept_of : Argument (List ℕ) → KeptText
+kept_of argument = record { text = text_front FIELD argument.text; is_quoted = is_quoted argument.quoting }
+
+abbrev pub cut_notes : Place → List ℕ → List Item
+cut_notes place text = if nat_lt FIELD (length text) then says Limit place (codes "FIELD") ∷ [] else []
+
+abbrev pub kept_tokens : KeptText → List TextToken
+kept_tokens kept = tokens_of kept.is_quoted kept.text
+
+-- ---- where it is printed
+
+-- the blanks before it
+abbrev pub kept_gap : Running → Place → List Item
+kept_gap r place = if r.line.is_after_word then blank_cells r.gap R place else []
+
+abbrev pub filled_gap : ℕ → List Item
+filled_gap gap = if gap == 0 then [] else shown (Blank gap false) ∷ []
+
+abbrev pub gap_items : Bool → Running → Place → List Item
+gap_items literal r place = if literal then kept_gap r place else filled_gap r.gap
+
+-- its parts are one blank apart, which is reported where it stands for a tab, or as they are written
+abbrev pub white_items : Bool → Place → List ℕ → List Item
+white_items literal place bytes = if literal then white_cells place bytes else shown (Blank 1 (has_tab bytes)) ∷ []
+
+abbrev pub part_items : Bool → Place → Font → TextToken → List Item
+part_items literal place font (white bytes) = white_items literal place bytes
+part_items literal place font token = token_items font place token
+
+-- without the messages of its escapes, all at one place
+abbrev pub parts_items : Bool → Place → Setting Fonts → List TextToken → List Item
+parts_items literal place fonts [] = []
+parts_items literal place fonts (token ∷ tokens) =
+    part_items literal place fonts.value.font token ++ parts_items literal place (fonts_after token fonts) tokens
+
+abbrev pub fonts_through : Setting Fonts → List TextToken → Setting Fonts
+fonts_through fonts [] = fonts
+fonts_through fonts (token ∷ tokens) = fonts_through (fonts_after token fonts) tokens
+
+-- it is a word
+abbrev pub after_kept : (in_text spacing : Bool) → Running → Running
+after_kept in_text spacing r = record r {
+  has_content = true;
+  gap = if spacing then 1 else 0;
+  line = record r.line {
+    has_words = true;
+    has_row_words = r.line.has_row_words || in_text;
+    is_after_word = true;
+    is_cut = false;
+    ends_blank = false;
+  };
+}

@@ -1,0 +1,94 @@
+-- Words of a line, and words that a macro prints itself. Source: man(7), mdoc(7); roff(7), "Macro syntax".
+use Rattle.std.specs.Prelude.{ℕ, ◌-◌, min, Bool, true, false, not, ◌&&◌, ◌||◌, List, [], ◌∷◌, ◌++◌, Option}
+use Rattle.page_core_base.specs.Pieces.{Item}
+use Rattle.page_core_base.specs.declared.cells.Font.{Font}
+use Rattle.page_core_base.specs.declared.note_kinds.NoteKind.TheVariants.{Unterminated}
+use Rattle.page_core_base.specs.declared.places.Place.{Place}
+use Rattle.page_core_limits.specs.declared.TheConstants.{LINE}
+use Rattle.page_roff_forms.specs.Arguments.{is_quoted}
+use Rattle.page_roff_forms.specs.declared.quotes.Argument.{Argument}
+use Rattle.page_roff_forms.specs.declared.quotes.Quoting.{Quoting}
+use Rattle.page_roff_forms.specs.declared.quotes.Quoting.TheVariants.{Unclosed}
+use Rattle.page_scopes_layout.specs.declared.contexts.Context.{Context}
+use Rattle.page_scopes_phrases.specs.Cells.{text_outcome}
+use Rattle.page_scopes_phrases.specs.Outcomes.{Outcome}
+use Rattle.page_scopes_phrases.specs.Phrases.{phrase_context, phrase_items, phrase_running}
+use Rattle.page_scopes_phrases.specs.declared.phrases.Phrase.{Phrase}
+use Rattle.page_scopes_phrases.specs.declared.runnings.Running.{Running}
+use Rattle.page_scopes_words.specs.Sentences.{ends_sentence}
+use Rattle.page_scopes_words.specs.Words.{at, says}
+use Rattle.page_sets_lines.specs.MacroNames.{own_ends_sentence, own_is_word, own_text}
+use Rattle.page_sets_lines.specs.declared.events.Join.{Join}
+use Rattle.page_sets_lines.specs.declared.events.Join.TheVariants.{Apart}
+use Rattle.page_sets_lines.specs.declared.events.Role.{Role}
+use Rattle.page_sets_lines.specs.declared.events.Role.TheVariants as roles
+use Rattle.page_sets_lines.specs.declared.events.Word.{Word}
+use Rattle.page_sets_lines.specs.declared.leaves.Own.{Own}
+use Rattle.page_sets_lines.specs.declared.leaves.OwnWord.{OwnWord}
+
+abbrev pub is_line : Role → Bool
+is_line roles.Line = true
+is_line roles.Argument = false
+is_line roles.Delimiter = false
+is_line (roles.Name column) = false
+
+-- a quote without its end is reported at the quote
+abbrev pub quote_items : ℕ → Quoting → ℕ → List Item
+quote_items line Unclosed column = says Unterminated (at line (column - 1)) [] ∷ []
+quote_items line _ column = []
+
+abbrev pub word_phrase : Word (List ℕ) → Phrase (List ℕ)
+word_phrase word = record {
+  text = word.arg.text;
+  column = word.arg.column;
+  is_quoted = is_quoted word.arg.quoting;
+  is_line = is_line word.role;
+  is_written = true;
+  font = word.font;
+  before = word.before;
+  after = word.after;
+}
+
+-- a sentence ends as its last word is written, with the blanks of an escape that reaches to the line's end
+abbrev pub with_sentence : List ℕ → Running → Running
+with_sentence text r = record r { line = record r.line { is_sentence = ends_sentence r.line.ends_blank text } }
+
+-- a word of a line
+unfoldable pub line_word : ℕ → Word (List ℕ) → Context → Running → Outcome
+line_word line word c r = record {
+  items = quote_items line word.arg.quoting word.arg.column ++ (text_outcome line (word_phrase word) c r).items;
+  context = (text_outcome line (word_phrase word) c r).context;
+  running = with_sentence word.arg.text (text_outcome line (word_phrase word) c r).running;
+}
+
+-- an argument as a word
+abbrev pub argument_word : Option Font → Join → Argument (List ℕ) → Word (List ℕ)
+argument_word font before argument = record { arg = argument; role = roles.Argument; font = font; before = before; after = Apart }
+
+-- ---- words of a macro's own
+
+-- it stands at its macro, which stands in a line
+abbrev pub own_phrase : Place → OwnWord → Phrase (List ℕ)
+own_phrase place word = record {
+  text = own_text word.own;
+  column = min place.column LINE;
+  is_quoted = false;
+  is_line = false;
+  is_written = false;
+  font = word.font;
+  before = word.before;
+  after = word.after;
+}
+
+-- a mark of a macro ends no sentence, and leaves one that has ended; after a word none has ended, but after those of `Ex` and `Rv` one has
+abbrev pub own_sentence : Own → Running → Running
+own_sentence own r = record r {
+  line = record r.line { is_sentence = own_ends_sentence own || (r.line.is_sentence && not (own_is_word own)) };
+}
+
+unfoldable pub own_word : Place → OwnWord → Context → Running → Outcome
+own_word place word c r = record {
+  items = phrase_items place.line (own_phrase place word) c r;
+  context = phrase_context (own_phrase place word) c r;
+  running = own_sentence word.own (phrase_running (own_phrase place word) c r);
+}

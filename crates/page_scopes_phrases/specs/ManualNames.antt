@@ -1,0 +1,84 @@
+-- The name of the manual: the first word of the first `Nm` that has one, which each `Nm` without words prints. Source: mdoc(7), `Nm`.
+use Rattle.std.specs.Prelude.{ℕ, min, nat_lt, ◌==◌, false, ◌||◌, if◌then◌else◌, List, [], ◌∷◌, ◌++◌, length, Option, None, Some}
+use Rattle.page_core_base.specs.Pieces.{Item, shown}
+use Rattle.page_core_base.specs.declared.cells.Font.TheVariants.{B}
+use Rattle.page_core_base.specs.declared.note_kinds.NoteKind.TheVariants.{MissingName}
+use Rattle.page_core_base.specs.declared.pieces.Piece.TheVariants.{Text}
+use Rattle.page_core_base.specs.declared.places.Place.{Place}
+use Rattle.page_core_limits.specs.declared.TheConstants.{LINE}
+use Rattle.page_roff_forms.specs.declared.quotes.Argument.{Argument}
+use Rattle.page_scopes_layout.specs.declared.contexts.Context.{Context}
+use Rattle.page_scopes_phrases.specs.Headings.{heading_further}
+use Rattle.page_scopes_phrases.specs.KeptTexts.{after_kept, cut_notes, gap_items, kept_of, kept_tokens, parts_items}
+use Rattle.page_scopes_phrases.specs.LineWords.{with_sentence}
+use Rattle.page_scopes_phrases.specs.Outcomes.{Outcome}
+use Rattle.page_scopes_phrases.specs.Phrases.{is_text, own_fonts, phrase_context, phrase_items, phrase_running}
+use Rattle.page_scopes_phrases.specs.declared.kept_texts.KeptText.{KeptText}
+use Rattle.page_scopes_phrases.specs.declared.phrases.Phrase.{Phrase}
+use Rattle.page_scopes_phrases.specs.declared.runnings.Running.{Running}
+use Rattle.page_scopes_words.specs.Words.{at, says}
+use Rattle.page_sets_lines.specs.declared.events.Join.TheVariants.{Apart}
+use Rattle.page_sets_lines.specs.declared.events.Role.{Role}
+use Rattle.page_sets_lines.specs.declared.events.Role.TheVariants as roles
+
+-- ---- which word it is
+
+abbrev pub first_name : Argument (List ℕ) → Option KeptText → Option KeptText
+first_name argument None = Some (kept_of argument)
+first_name argument (Some name) = Some name
+
+abbrev pub named : Role → Argument (List ℕ) → Option KeptText → Option KeptText
+named (roles.Name column) argument name = first_name argument name
+named _ argument name = name
+
+-- that it is cut is reported at its macro
+abbrev pub first_notes : Place → Argument (List ℕ) → Option KeptText → List Item
+first_notes place argument None = cut_notes place argument.text
+first_notes place argument (Some name) = []
+
+abbrev pub name_notes : ℕ → Role → Argument (List ℕ) → Option KeptText → List Item
+name_notes line (roles.Name column) argument name = first_notes (at line column) argument name
+name_notes line _ argument name = []
+
+-- ---- where it is printed
+
+-- where there is no name, a word of no bytes stands
+abbrev pub nameless : Place → Phrase (List ℕ)
+nameless place = record {
+  text = [];
+  column = min place.column LINE;
+  is_quoted = false;
+  is_line = false;
+  is_written = false;
+  font = Some B;
+  before = Apart;
+  after = Apart;
+}
+
+unfoldable pub missing_name : Place → Context → Running → Outcome
+missing_name place c r = record {
+  items = says MissingName place [] ∷ phrase_items place.line (nameless place) c r;
+  context = phrase_context (nameless place) c r;
+  running = with_sentence [] (phrase_running (nameless place) c r);
+}
+
+-- a name of no bytes is a text without characters
+abbrev pub empty_items : Place → KeptText → List Item
+empty_items place name = if length name.text == 0 then shown (Text [] B place) ∷ [] else []
+
+-- it may be of a heading
+abbrev pub name_in_heading : KeptText → Context → Running → Running
+name_in_heading name c r = record r { heading = heading_further c.part name.is_quoted r.gap name.text r.heading }
+
+-- in bold, without the messages of its escapes; a sentence ends as it is written
+unfoldable pub name_word : Place → KeptText → Context → Running → Outcome
+name_word place name c r = record {
+  items = gap_items c.is_literal.value r place
+      ++ (empty_items place name ++ parts_items c.is_literal.value place (own_fonts (Some B) c.fonts) (kept_tokens name));
+  context = record c { has_row = c.has_row || nat_lt 0 (length name.text) };
+  running = with_sentence name.text (after_kept (is_text c.part) c.has_spacing.value (name_in_heading name c r));
+}
+
+abbrev pub manual_name : Place → Option KeptText → Context → Running → Outcome
+manual_name place (Some name) c r = name_word place name c r
+manual_name place None c r = missing_name place c r

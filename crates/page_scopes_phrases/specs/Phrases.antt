@@ -1,0 +1,123 @@
+-- A text that an event prints: its fonts, and how it stands beside the words around it. Source: man(7), `B`, `BR`; roff(7), `\f`, `\c`.
+use Rattle.std.specs.Prelude.{ℕ, max, Bool, true, false, not, ◌||◌, ◌&&◌, List, Option, None, Some, is_some, if◌then◌else◌}
+use Rattle.std.specs.Borrow.{Bor}
+use Rattle.page_core_base.specs.Pieces.{Item}
+use Rattle.page_core_base.specs.declared.cells.Font.{Font}
+use Rattle.page_scopes_layout.specs.declared.contexts.Context.{Context}
+use Rattle.page_scopes_layout.specs.declared.contexts.PagePart.{PagePart}
+use Rattle.page_scopes_layout.specs.declared.contexts.PagePart.TheVariants as parts
+use Rattle.page_scopes_layout.specs.declared.settings.Setting.{Setting}
+use Rattle.page_scopes_phrases.specs.Headings.{heading_further}
+use Rattle.page_scopes_phrases.specs.Outcomes.{Outcome}
+use Rattle.page_scopes_phrases.specs.declared.phrases.Phrase.{Phrase}
+use Rattle.page_scopes_phrases.specs.declared.runnings.Running.{Running}
+use Rattle.page_scopes_text.specs.Parted.{words_of}
+use Rattle.page_scopes_text.specs.Texts.{text_after, text_items}
+use Rattle.page_scopes_text.specs.declared.pens.Pen.{Pen}
+use Rattle.page_scopes_text.specs.declared.pens.TextStyle.{TextStyle}
+use Rattle.page_scopes_words.specs.Fonts.{with_font}
+use Rattle.page_scopes_words.specs.declared.fonts.Fonts.{Fonts}
+use Rattle.page_sets_lines.specs.declared.events.Join.{Join}
+use Rattle.page_sets_lines.specs.declared.events.Join.TheVariants.{Apart, Glued}
+
+-- a phrase of the program, with what its text holds
+abbrev pub phrase_seen : Phrase (Bor (List ℕ)) → Phrase (List ℕ)
+phrase_seen p = record {
+  text = p.text.now;
+  column = p.column;
+  is_quoted = p.is_quoted;
+  is_line = p.is_line;
+  is_written = p.is_written;
+  font = p.font;
+  before = p.before;
+  after = p.after;
+}
+
+-- ---- before its words
+
+-- a font of its own is in use in it, and the one before is the former one
+abbrev pub own_fonts : Option Font → Setting Fonts → Setting Fonts
+own_fonts None fonts = fonts
+own_fonts (Some font) fonts = record { value = with_font font fonts.value; is_set = fonts.is_set }
+
+-- where rows are filled, blanks at a text's end part it from the next one even where that is glued
+abbrev pub joined_gap : Join → Bool → ℕ → ℕ
+joined_gap Apart parts gap = gap
+joined_gap Glued parts gap = if parts then gap else 0
+
+abbrev pub blanks_part : Bool → Context → Bool
+blanks_part ends_blank c = ends_blank && not c.is_literal.value
+
+abbrev pub is_tag : PagePart → Bool
+is_tag parts.Tag = true
+is_tag _ = false
+
+-- where rows are filled, a row may end within the words of what is written in the page, but for tags
+abbrev pub splits : Phrase (List ℕ) → Context → Bool
+splits p c = p.is_written && (not c.is_literal.value && not (is_tag c.part))
+
+abbrev pub phrase_style : Phrase (List ℕ) → Context → TextStyle
+phrase_style p c = record { is_quoted = p.is_quoted; is_literal = c.is_literal.value; is_line = p.is_line }
+
+abbrev pub phrase_pen : Phrase (List ℕ) → Context → Running → Pen
+phrase_pen p c r = record {
+  fonts = own_fonts p.font c.fonts;
+  column = p.column;
+  gap = joined_gap p.before (blanks_part r.line.ends_blank c) r.gap;
+  is_after_word = r.line.is_after_word;
+  has_cell = false;
+  is_cut = false;
+  ends_blank = false;
+  splits = splits p c;
+}
+
+abbrev pub phrase_items : ℕ → Phrase (List ℕ) → Context → Running → List Item
+phrase_items line p c r = text_items (phrase_style p c) line (phrase_pen p c r) (words_of p.is_quoted p.text)
+
+-- ---- after its words
+
+abbrev pub phrase_end : Phrase (List ℕ) → Context → Running → Pen
+phrase_end p c r = text_after (phrase_style p c) (phrase_pen p c r) (words_of p.is_quoted p.text)
+
+-- a font of its own leaves the fonts as they were; in the words of a font macro escapes set them, but not for good
+abbrev pub kept_fonts : Option Font → Bool → Setting Fonts → Setting Fonts → Setting Fonts
+kept_fonts (Some font) is_guarded before now = before
+kept_fonts None is_guarded before now = record { value = now.value; is_set = if is_guarded then before.is_set else now.is_set }
+
+abbrev pub context_after : Phrase (List ℕ) → Bool → Pen → Context → Context
+context_after p is_guarded pen c = record c { fonts = kept_fonts p.font is_guarded c.fonts pen.fonts; has_row = c.has_row || pen.has_cell }
+
+-- blanks at its end are at least one; after its last word none stands where none are to stand between words (`Sm off`)
+abbrev pub end_gap : (spacing : Bool) → Pen → ℕ
+end_gap spacing pen = if pen.ends_blank then max pen.gap 1 else if spacing then pen.gap else 0
+
+abbrev pub is_text : PagePart → Bool
+is_text parts.Text = true
+is_text _ = false
+
+abbrev pub running_after : Phrase (List ℕ) → Pen → Context → Running → Running
+running_after p pen c r = record r {
+  has_content = true;
+  gap = joined_gap p.after (blanks_part pen.ends_blank c) (end_gap c.has_spacing.value pen);
+  line = record r.line {
+    has_words = true;
+    has_row_words = r.line.has_row_words || is_text c.part;
+    is_after_word = true;
+    is_cut = pen.is_cut;
+    ends_blank = pen.ends_blank;
+  };
+}
+
+-- it may be of a heading
+abbrev pub in_heading : Phrase (List ℕ) → Context → Running → Running
+in_heading p c r = record r { heading = heading_further c.part p.is_quoted (phrase_pen p c r).gap p.text r.heading }
+
+abbrev pub phrase_context : Phrase (List ℕ) → Context → Running → Context
+phrase_context p c r = context_after p (is_some r.line.fonts_before) (phrase_end p c r) c
+
+abbrev pub phrase_running : Phrase (List ℕ) → Context → Running → Running
+phrase_running p c r = running_after p (phrase_end p c r) c (in_heading p c r)
+
+-- all three
+abbrev pub phrase_outcome : ℕ → Phrase (List ℕ) → Context → Running → Outcome
+phrase_outcome line p c r = record { items = phrase_items line p c r; context = phrase_context p c r; running = phrase_running p c r }

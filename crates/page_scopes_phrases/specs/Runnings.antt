@@ -1,0 +1,40 @@
+-- What no scope restores: what is known along a page, and of its line so far. Source: man(7); roff(7), "Sentences", `\c`.
+use Rattle.std.specs.Prelude.{ℕ, Bool, true, false, not, ◌==◌, ◌||◌, None, if◌then◌else◌}
+use Rattle.page_scopes_phrases.specs.Headings.{no_heading}
+use Rattle.page_scopes_phrases.specs.declared.runnings.LineSoFar.{LineSoFar}
+use Rattle.page_scopes_phrases.specs.declared.runnings.Running.{Running}
+
+-- at the front of a line
+abbrev pub no_line : LineSoFar
+no_line = record {
+  has_words = false;
+  has_row_words = false;
+  is_after_word = false;
+  is_cut = false;
+  ends_blank = false;
+  is_sentence = false;
+  fonts_before = None;
+  name_columns = None;
+}
+
+-- before a page's first line
+abbrev pub start : Running
+start = record { has_begun = false; has_content = false; gap = 1; line = no_line; heading = no_heading }
+
+-- after a line with words one blank stands, two after a sentence, none where it ends in `\c` or where no blanks stand between words; what is glued stays glued
+abbrev pub words_gap : (spacing : Bool) → LineSoFar → ℕ → ℕ
+words_gap spacing line gap = if line.is_cut || (gap == 0 || not spacing) then 0 else if line.is_sentence then 2 else 1
+
+abbrev pub line_gap : (spacing : Bool) → LineSoFar → ℕ → ℕ
+line_gap spacing line gap = if line.has_words then words_gap spacing line gap else gap
+
+abbrev pub line_ended : (spacing : Bool) → Running → Running
+line_ended spacing r = record r { gap = line_gap spacing r.line r.gap; line = no_line }
+
+-- the row ends: no word stands in it yet
+abbrev pub row_ended : Running → Running
+row_ended r = record r { line = record r.line { has_row_words = false; is_after_word = false } }
+
+-- something came since the last heading
+abbrev pub with_content : Running → Running
+with_content r = record r { has_content = true }

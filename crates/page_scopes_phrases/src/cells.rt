@@ -1,0 +1,249 @@
+//! Texts in the columns of a list (mdoc(7), `Bl -column`, `Ta`).
+
+ghost use Rattle.std.specs.Prelude.{◌≡◌, ◌≤◌, ◌<◌, ◌==◌, if◌then◌else◌, length, position, IfSome};
+ghost use Rattle.std.specs.List.{prefix_len};
+ghost use Rattle.page_core_base.specs.Latches.{Came};
+ghost use Rattle.page_core_escapes.specs.Tokens.{is_space, token_bytes, token_seen};
+ghost use Rattle.page_scopes_phrases.specs.Cells as cells;
+ghost use Rattle.page_scopes_phrases.specs.Fits.{FitsAt};
+ghost use Rattle.page_scopes_phrases.specs.Outcomes.{GivesOutcome};
+ghost use Rattle.page_scopes_phrases.specs.Phrases.{phrase_seen};
+
+use crate::{Phrase, Running, give_phrase};
+use page_core_base::{NoteKind, Piece, PieceOut, Place};
+use page_core_escapes::{Escape, Token, read_token};
+use page_core_limits::LINE;
+use page_scopes_layout::Context;
+use page_scopes_words::report;
+use page_sets_lines::Join;
+
+/// Where the first cell of a text ends, in bytes from its front, and where the tab after it stands; both at the text's end where no
+/// tab is.
+#[derive(Clone, Copy)]
+pub(crate) struct CellSpan {
+    pub(crate) end: usize,
+    pub(crate) tab: usize,
+}
+
+/// Whether the innermost list has columns.
+#[inline(always)]
+pub(crate) fn in_columns(context: &Context) -> bool
+    ensures { result ≡ cells.in_columns context.now }
+{
+    match &context.list {
+        Some(list) => list.has_columns(),
+        None => false,
+    }
+}
+
+// Begins the next column, where the innermost list has columns.
+fn give_next_column<O: PieceOut>(out: &mut O, context: &mut Context, running: &mut Running)
+    ensures { GivesOutcome O.left out.old (cells.next_column context.old.list context.old running.old)
+        out.new context.new running.new }
+{
+    if let Some(list) = context.list {
+        if list.has_columns() {
+            let next = list.next_cell();
+            context.list = Some(next);
+            out.give(Piece::Column(next.column));
+            running.gap = 0;
+            running.line.ends_blank = false;
+        }
+    }
+}
+
+/// Begins the next column: `Ta`.
+pub fn give_column_step<O: PieceOut>(
+    out: &mut O,
+    place: Place,
+    context: &mut Context,
+    running: &mut Running,
+)
+    ensures { GivesOutcome O.left out.old (cells.column_step place context.old.list context.old running.old)
+        out.new context.new running.new }
+{
+    if context.list.is_some() {
+        give_next_column(out, context, running);
+    } else {
+        report(out, NoteKind::ItemOutside, place, b"");
+    }
+}
+
+// The blanks of white space before its first tab, where it has one.
+fn find_tab(white: &[u8]) -> Option<usize>
+    ensures value { result ≡ position (λ byte. byte == 9) white.now }
+    ensures within { IfSome result (λ n. n < length white.now) }
+{
+    white.iter().position(|byte| *byte == b'\t')
+}
+
+// The bytes of a token before its first tab, where it has one.
+fn tab_in(token: &Token<'_>) -> Option<usize>
+    requires { 0 < length (token_bytes (token_seen token.now)) }
+    ensures value { result ≡ cells.tab_in (token_seen token.now) }
+    ensures within { IfSome result (λ n. n < length (token_bytes (token_seen token.now))) }
+{
+    match *token {
+        Token::White(white) => find_tab(white),
+        Token::Escaped {
+            meaning: Escape::Tab,
+            ..
+        } => Some(0),
+        _ => None,
+    }
+}
+
+// Where a cell ends after a token: blanks at its end are none of it.
+fn end_after(token: &Token<'_>, before: usize, after: usize) -> usize
+    ensures { result ≡ (if is_space (token_seen token.now) then before else after) }
+{
+    if matches!(token, Token::White(_)) {
+        before
+    } else {
+        after
+    }
+}
+
+// The first cell of a text, which is quoted or not.
+fn find_cell(quoted: bool, text: &[u8]) -> CellSpan
+    requires { length text.now ≤ LINE }
+    ensures value { result ≡ cells.span_of quoted text.now }
+    ensures within { (result.end ≤ length text.now) × (result.tab ≤ length text.now) }
+{
+    let mut rest = text;
+    let mut end = 0;
+    while !rest.is_empty() {
+        let token = read_token(quoted, rest);
+        let start = text.len() - rest.len();
+        match tab_in(&token) {
+            Some(before) => {
+                return CellSpan {
+                    end,
+                    tab: start + before,
+                };
+            }
+            None => {}
+        }
+        rest = &rest[token.len()..];
+        end = end_after(&token, end, text.len() - rest.len());
+    }
+    CellSpan {
+        end,
+        tab: text.len(),
+    }
+}
+
+// What follows a tab at a text's front, which is one byte or the two of an escape.
+fn after_tab(text: &[u8]) -> &[u8]
+    ensures { result.now ≡ cells.after_tab text.now }
+{
+    match text {
+        [] => text,
+        [b'\t', rest @ ..] => rest,
+        [_, rest @ ..] => match rest {
+            [] => rest,
+            [_, rest @ ..] => rest,
+        },
+    }
+}
+
+// How many blanks stand at a text's front.
+fn count_blanks(text: &[u8]) -> usize
+    ensures value { result ≡ prefix_len (λ byte. byte == 32) text.now }
+    ensures within { result ≤ length text.now }
+{
+    text.iter().take_while(|byte| **byte == b' ').count()
+}
+
+// A text without the blanks at its front.
+fn without_blanks(text: &[u8]) -> &[u8]
+    ensures { result.now ≡ cells.without_blanks text.now }
+{
+    &text[count_blanks(text)..]
+}
+
+// The text of the first cell.
+fn first_cell<'a>(span: CellSpan, phrase: &Phrase<&'a [u8]>) -> Phrase<&'a [u8]>
+    requires { span.end ≤ length phrase.now.text.now }
+    ensures { phrase_seen result ≡ cells.first_cell span (phrase_seen phrase.now) }
+{
+    Phrase {
+        text: &phrase.text[..span.end],
+        after: Join::Apart,
+        ..*phrase
+    }
+}
+
+// The text of the other cells.
+fn other_cells<'a>(span: CellSpan, phrase: &Phrase<&'a [u8]>) -> Phrase<&'a [u8]>
+    requires within { span.tab < length phrase.now.text.now }
+    requires fits { FitsAt phrase.now.column phrase.now.text.now }
+    ensures { phrase_seen result ≡ cells.other_cells span (phrase_seen phrase.now) }
+{
+    let text = without_blanks(after_tab(&phrase.text[span.tab..]));
+    Phrase {
+        text,
+        column: phrase.column + (phrase.text.len() - text.len()) as u32,
+        is_line: false,
+        before: Join::Apart,
+        ..*phrase
+    }
+}
+
+// Gives the words of a cell on a line, where it has any.
+fn give_cell<O: PieceOut>(
+    out: &mut O,
+    line: u32,
+    phrase: &Phrase<&[u8]>,
+    context: &mut Context,
+    running: &mut Running,
+)
+    requires { FitsAt phrase.now.column phrase.now.text.now }
+    ensures { GivesOutcome O.left out.old (cells.cell line (phrase_seen phrase.now) context.old running.old)
+        out.new context.new running.new }
+{
+    if !phrase.text.is_empty() {
+        give_phrase(out, line, phrase, context, running);
+    }
+}
+
+// Gives the words of the first cell on a line, and begins the next column.
+fn give_first_cell<O: PieceOut>(
+    out: &mut O,
+    line: u32,
+    span: CellSpan,
+    phrase: &Phrase<&[u8]>,
+    context: &mut Context,
+    running: &mut Running,
+)
+    requires end { span.end ≤ length phrase.now.text.now }
+    requires fits { FitsAt phrase.now.column phrase.now.text.now }
+    ensures { GivesOutcome O.left out.old (cells.first_part span line (phrase_seen phrase.now) context.old running.old)
+        out.new context.new running.new }
+{
+    give_cell(out, line, &first_cell(span, phrase), context, running);
+    give_next_column(out, context, running);
+}
+
+/// Gives the words of a phrase on a line cell by cell, each in its column.
+#[inline(never)]
+pub(crate) fn give_cells<O: PieceOut>(
+    out: &mut O,
+    line: u32,
+    phrase: &Phrase<&[u8]>,
+    context: &mut Context,
+    running: &mut Running,
+)
+    requires { FitsAt phrase.now.column phrase.now.text.now }
+    ensures { GivesOutcome O.left out.old (cells.cells line (phrase_seen phrase.now) context.old running.old)
+        out.new context.new running.new }
+{
+    let mut left = *phrase;
+    let mut span = find_cell(left.is_quoted, left.text);
+    while span.tab < left.text.len() {
+        give_first_cell(out, line, span, &left, context, running);
+        left = other_cells(span, &left);
+        span = find_cell(left.is_quoted, left.text);
+    }
+    give_cell(out, line, &left, context, running);
+}

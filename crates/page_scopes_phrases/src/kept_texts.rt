@@ -1,0 +1,193 @@
+//! Texts that are kept of an argument and printed later, more than once if need be: the target of a link and the name of the manual (man(7), `UR`, `MT`;
+//! mdoc(7), `Nm`).
+
+ghost use Rattle.std.specs.Prelude.{◌≡◌, ◌≤◌, ◌<◌, length, false};
+ghost use Rattle.page_core_base.specs.Latches.{Came};
+ghost use Rattle.page_core_base.specs.Messages.{text_front};
+ghost use Rattle.page_core_escapes.specs.Tokens.{token_seen, tokens_of};
+ghost use Rattle.page_core_limits.specs.declared.TheConstants.{FIELD};
+ghost use Rattle.page_roff_forms.specs.Arguments.{argument_seen};
+ghost use Rattle.page_scopes_phrases.specs.KeptTexts as kept;
+
+use crate::Running;
+use arrayvec::ArrayVec;
+use page_core_base::{Font, NoteKind, Piece, PieceOut, Place, text_front};
+use page_core_escapes::{Token, read_token};
+use page_core_limits::{FIELD, LINE, Limit};
+use page_roff_forms::Argument;
+use page_scopes_layout::Setting;
+use page_scopes_text::{fonts_after, give_blank_cells, give_token};
+use page_scopes_words::{Fonts, give_white_cells, has_tab, report};
+use std::marker::Model;
+
+/// A text of at most [`FIELD`] bytes.
+#[derive(Drop)]
+pub struct FieldText {
+    bytes: ArrayVec<u8, 256>,
+}
+
+impl Model for FieldText {
+    ghost use Rattle.std.specs.Prelude.{List, ℕ};
+
+    ghost Value = { List ℕ };
+
+    ghost view = { λ t. t.bytes.items };
+}
+
+impl FieldText {
+    // A text of at most 256 bytes.
+    fn of(text: &[u8]) -> FieldText
+        requires { length text.now ≤ 256 }
+        ensures { result ≡ text.now }
+    {
+        let mut bytes = ArrayVec::new();
+        let _ = bytes.try_extend_from_slice(text);
+        FieldText { bytes }
+    }
+
+    /// The bytes of the text.
+    pub fn text(&self) -> &[u8]
+        ensures text { result.now ≡ self.now }
+        ensures within { length result.now ≤ 256 }
+    {
+        self.bytes.as_slice()
+    }
+}
+
+/// A text that is kept of an argument, up to [`FIELD`] bytes.
+#[derive(Drop)]
+pub struct KeptText {
+    pub text: FieldText,
+    /// A pair of quotes in it is one quote.
+    pub is_quoted: bool,
+}
+
+impl KeptText {
+    /// What is kept of an argument.
+    pub fn of(argument: Argument<&[u8]>) -> KeptText
+        ensures { result ≡ kept.kept_of (argument_seen argument.entry) }
+    {
+        KeptText {
+            text: FieldText::of(text_front(argument.text, FIELD).as_bytes()),
+            is_quoted: argument.is_quoted(),
+        }
+    }
+}
+
+/// Reports at a place that a text is not kept whole.
+pub fn report_cut<O: PieceOut>(out: &mut O, place: Place, text: &[u8])
+    ensures { Came O.left out.old (kept.cut_notes place text.now) out.new }
+{
+    if text.len() > FIELD {
+        report(out, NoteKind::Limit, place, Limit::Field.name().as_bytes());
+    }
+}
+
+/// Gives the blanks before a kept text.
+pub fn give_kept_gap<O: PieceOut>(out: &mut O, is_literal: bool, running: &Running, place: Place)
+    ensures { Came O.left out.old (kept.gap_items is_literal running.now place) out.new }
+{
+    if is_literal {
+        if running.line.is_after_word {
+            give_blank_cells(out, running.gap, Font::R, place);
+        }
+    } else if running.gap != 0 {
+        out.give(Piece::Blank {
+            count: running.gap,
+            has_tab: false,
+        });
+    }
+}
+
+// Gives white space in a kept text.
+fn give_white<O: PieceOut>(out: &mut O, is_literal: bool, place: Place, white: &[u8])
+    ensures { Came O.left out.old (kept.white_items is_literal place white.now) out.new }
+{
+    if is_literal {
+        give_white_cells(out, place, white);
+    } else {
+        out.give(Piece::Blank {
+            count: 1,
+            has_tab: has_tab(white),
+        });
+    }
+}
+
+// Gives a token of a kept text.
+fn give_part<O: PieceOut>(
+    out: &mut O,
+    is_literal: bool,
+    place: Place,
+    font: Font,
+    token: &Token<'_>,
+)
+    ensures { Came O.left out.old
+        (kept.part_items is_literal place font (token_seen token.now)) out.new }
+{
+    match *token {
+        Token::White(white) => give_white(out, is_literal, place, white),
+        _ => give_token(out, font, place, token),
+    }
+}
+
+// Gives what a text prints without its messages, all at one place; the fonts after it.
+fn give_parts<O: PieceOut>(
+    out: &mut O,
+    is_literal: bool,
+    quoted: bool,
+    place: Place,
+    start: Setting<Fonts>,
+    text: &[u8],
+) -> Setting<Fonts>
+    requires { length text.now ≤ LINE }
+    ensures came { Came O.left out.old
+        (kept.parts_items is_literal place start (tokens_of quoted text.now)) out.new }
+    ensures fonts { result ≡ kept.fonts_through start (tokens_of quoted text.now) }
+{
+    let mut rest = text;
+    let mut fonts = start;
+    while !rest.is_empty() {
+        let token = read_token(quoted, rest);
+        give_part(out, is_literal, place, fonts.value.font, &token);
+        fonts = fonts_after(&token, fonts);
+        rest = &rest[token.len()..];
+    }
+    fonts
+}
+
+/// Gives what a kept text prints without its messages, all at one place; the fonts after it.
+pub fn give_kept<O: PieceOut>(
+    out: &mut O,
+    is_literal: bool,
+    place: Place,
+    start: Setting<Fonts>,
+    text: &KeptText,
+) -> Setting<Fonts>
+    ensures came { Came O.left out.old
+        (kept.parts_items is_literal place start (kept.kept_tokens text.now)) out.new }
+    ensures fonts { result ≡ kept.fonts_through start (kept.kept_tokens text.now) }
+{
+    give_parts(
+        out,
+        is_literal,
+        text.is_quoted,
+        place,
+        start,
+        text.text.text(),
+    )
+}
+
+impl Running {
+    /// What is known along the page goes on after a kept text, which is a word.
+    pub fn pass_kept(&mut self, in_text: bool, has_spacing: bool)
+        ensures { self.new ≡ kept.after_kept in_text has_spacing self.old }
+    {
+        self.has_content = true;
+        self.gap = if has_spacing { 1 } else { 0 };
+        self.line.has_words = true;
+        self.line.has_row_words = self.line.has_row_words || in_text;
+        self.line.is_after_word = true;
+        self.line.is_cut = false;
+        self.line.ends_blank = false;
+    }
+}

@@ -1,0 +1,22 @@
+//! Words of events as pieces and messages, and what is known along a page whatever its scopes are (man(7), mdoc(7)).
+//!
+//! A word comes in, in the context of the open scopes; it gives an outcome: items, and the context and what is known after it. In columns a text
+//! is parted into cells first. What it says of a heading, and what is kept of a name, is followed beside. Read `src/runnings.rt` first, then
+//! `specs/Outcomes.antt`, `Phrases.antt` (one text) and `LineWords.antt` (a word of a line).
+#![tactic(auto)]
+
+mod cells;
+mod headings;
+mod kept_texts;
+mod line_words;
+mod manual_names;
+mod phrases;
+mod runnings;
+
+pub use cells::give_column_step;
+pub use headings::{HeadingSoFar, is_heading};
+pub use kept_texts::{FieldText, KeptText, give_kept, give_kept_gap, report_cut};
+pub use line_words::{argument_word, give_line_word, give_own_word};
+pub use manual_names::{give_manual_name, keep_name};
+pub use phrases::{Phrase, blanks_part, give_phrase, joined_gap};
+pub use runnings::{LineSoFar, Running};

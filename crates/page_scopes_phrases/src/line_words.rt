@@ -1,0 +1,151 @@
+//! Words of a line, and words that a macro prints itself (man(7), mdoc(7); roff(7), "Macro syntax").
+
+ghost use Rattle.std.specs.Prelude.{◌≡◌};
+ghost use Rattle.page_core_base.specs.Latches.{Came};
+ghost use Rattle.page_roff_forms.specs.Arguments.{argument_seen};
+ghost use Rattle.page_scopes_phrases.specs.Fits.{FitsAt};
+ghost use Rattle.page_scopes_phrases.specs.Cells.{text_outcome};
+ghost use Rattle.page_scopes_phrases.specs.LineWords as lines;
+ghost use Rattle.page_scopes_phrases.specs.Outcomes.{GivesOutcome};
+ghost use Rattle.page_scopes_phrases.specs.Phrases.{phrase_seen};
+ghost use Rattle.page_sets_lines.specs.Events.{word_seen};
+
+use crate::cells::{give_cells, in_columns};
+use crate::{Phrase, Running, give_phrase};
+use page_core_base::{Font, NoteKind, PieceOut, Place};
+use page_core_limits::LINE;
+use page_roff_forms::{Argument, Quoting};
+use page_scopes_layout::Context;
+use page_scopes_words::{ends_sentence, report};
+use page_sets_lines::{Join, OwnWord, Role, Word};
+
+// Reports a quote without its end.
+fn report_quote<O: PieceOut>(out: &mut O, line: u32, quoting: Quoting, column: u32)
+    ensures { Came O.left out.old (lines.quote_items line quoting column) out.new }
+{
+    if let Quoting::Unclosed = quoting {
+        let place = Place {
+            line,
+            column: column.saturating_sub(1),
+        };
+        report(out, NoteKind::Unterminated, place, b"");
+    }
+}
+
+// Whether a word is a whole line.
+fn is_line(role: Role) -> bool
+    ensures { result ≡ lines.is_line role }
+{
+    match role {
+        Role::Line => true,
+        Role::Argument | Role::Delimiter | Role::Name { .. } => false,
+    }
+}
+
+/// An argument as a word, in a font of its own if it has one.
+pub fn argument_word<'a>(
+    font: Option<Font>,
+    before: Join,
+    argument: Argument<&'a [u8]>,
+) -> Word<&'a [u8]>
+    ensures { word_seen result ≡ lines.argument_word font before (argument_seen argument.entry) }
+{
+    Word {
+        arg: argument,
+        role: Role::Argument,
+        font,
+        before,
+        after: Join::Apart,
+    }
+}
+
+// A word of a line as a phrase.
+fn word_phrase<'a>(word: &Word<&'a [u8]>) -> Phrase<&'a [u8]>
+    ensures { phrase_seen result ≡ lines.word_phrase (word_seen word.now) }
+{
+    Phrase {
+        text: word.arg.text,
+        column: word.arg.column,
+        is_quoted: word.arg.is_quoted(),
+        is_line: is_line(word.role),
+        is_written: true,
+        font: word.font,
+        before: word.before,
+        after: word.after,
+    }
+}
+
+// Gives the words of a phrase, in columns where these are open.
+#[inline(always)]
+fn give_parted<O: PieceOut>(
+    out: &mut O,
+    line: u32,
+    phrase: &Phrase<&[u8]>,
+    context: &mut Context,
+    running: &mut Running,
+)
+    requires { FitsAt phrase.now.column phrase.now.text.now }
+    ensures { GivesOutcome O.left out.old (text_outcome line (phrase_seen phrase.now) context.old running.old)
+        out.new context.new running.new }
+{
+    if in_columns(context) {
+        give_cells(out, line, phrase, context, running);
+    } else {
+        give_phrase(out, line, phrase, context, running);
+    }
+}
+
+/// Gives a word of a line.
+#[tactic(auto, unfolding(crate::specs::LineWords::line_word))]
+#[inline(always)]
+pub fn give_line_word<O: PieceOut>(
+    out: &mut O,
+    line: u32,
+    word: &Word<&[u8]>,
+    context: &mut Context,
+    running: &mut Running,
+)
+    requires { FitsAt word.now.arg.column word.now.arg.text.now }
+    ensures { GivesOutcome O.left out.old
+        (lines.line_word line (word_seen word.now) context.old running.old)
+        out.new context.new running.new }
+{
+    report_quote(out, line, word.arg.quoting, word.arg.column);
+    give_parted(out, line, &word_phrase(word), context, running);
+    running.line.is_sentence = ends_sentence(running.line.ends_blank, word.arg.text);
+}
+
+// A word of a macro's own as a phrase.
+fn own_phrase(place: Place, word: OwnWord) -> Phrase<&'static [u8]>
+    ensures seen { phrase_seen result ≡ lines.own_phrase place word }
+    ensures fits { FitsAt result.column result.text.now }
+{
+    Phrase {
+        text: word.own.text().as_bytes(),
+        column: place.column.min(LINE as u32),
+        is_quoted: false,
+        is_line: false,
+        is_written: false,
+        font: word.font,
+        before: word.before,
+        after: word.after,
+    }
+}
+
+/// Gives a word of a macro's own, at the macro's place.
+#[tactic(auto, unfolding(crate::specs::LineWords::own_word))]
+pub fn give_own_word<O: PieceOut>(
+    out: &mut O,
+    place: Place,
+    word: OwnWord,
+    context: &mut Context,
+    running: &mut Running,
+)
+    ensures { GivesOutcome O.left out.old
+        (lines.own_word place word context.old running.old)
+        out.new context.new running.new }
+{
+    give_phrase(out, place.line, &own_phrase(place, word), context, running);
+    running.line.is_sentence = word.own.ends_sentence()
+        || (running.line.is_sentence && !word.own.is_word());
+}

@@ -1,0 +1,142 @@
+//! The name of the manual: the first word of the first `Nm` that has one, which each `Nm` without words prints (mdoc(7), `Nm`).
+
+ghost use Rattle.std.specs.Prelude.{◌≡◌};
+ghost use Rattle.page_core_base.specs.Latches.{Came};
+ghost use Rattle.page_roff_forms.specs.Arguments.{argument_seen};
+ghost use Rattle.page_scopes_phrases.specs.Fits.{FitsAt};
+ghost use Rattle.page_scopes_phrases.specs.ManualNames as names;
+ghost use Rattle.page_scopes_phrases.specs.Outcomes.{GivesOutcome};
+ghost use Rattle.page_scopes_phrases.specs.Phrases.{phrase_seen};
+
+use crate::Running;
+use crate::kept_texts::{KeptText, give_kept, give_kept_gap, report_cut};
+use crate::phrases::{Phrase, give_phrase, is_text, own_fonts};
+use page_core_base::{Font, NoteKind, Piece, PieceOut, Place};
+use page_core_limits::LINE;
+use page_roff_forms::Argument;
+use page_scopes_layout::Context;
+use page_scopes_words::{ends_sentence, report};
+use page_sets_lines::{Join, Role};
+
+// Keeps a word of `Nm` at a column, unless there is a name.
+#[inline(never)]
+fn keep_word<O: PieceOut>(
+    out: &mut O,
+    place: Place,
+    argument: Argument<&[u8]>,
+    name: &mut Option<KeptText>,
+)
+    ensures came { Came O.left out.old (names.first_notes place (argument_seen argument.entry) name.old) out.new }
+    ensures name { name.new ≡ names.first_name (argument_seen argument.entry) name.old }
+{
+    if name.is_none() {
+        report_cut(out, place, argument.text);
+        *name = Some(KeptText::of(argument));
+    }
+}
+
+/// Keeps a word as the name of the manual, where it is a name and there is none yet.
+#[inline(always)]
+pub fn keep_name<O: PieceOut>(
+    out: &mut O,
+    line: u32,
+    role: Role,
+    argument: Argument<&[u8]>,
+    name: &mut Option<KeptText>,
+)
+    ensures came { Came O.left out.old (names.name_notes line role (argument_seen argument.entry) name.old) out.new }
+    ensures name { name.new ≡ names.named role (argument_seen argument.entry) name.old }
+{
+    if let Role::Name { column } = role {
+        keep_word(out, Place { line, column }, argument, name);
+    }
+}
+
+// A word of no bytes, in the place of a name.
+fn nameless(place: Place) -> Phrase<&'static [u8]>
+    ensures seen { phrase_seen result ≡ names.nameless place }
+    ensures fits { FitsAt result.column result.text.now }
+{
+    Phrase {
+        text: b"",
+        column: place.column.min(LINE as u32),
+        is_quoted: false,
+        is_line: false,
+        is_written: false,
+        font: Some(Font::B),
+        before: Join::Apart,
+        after: Join::Apart,
+    }
+}
+
+// Gives the word of a manual without a name.
+#[tactic(auto, unfolding(crate::specs::ManualNames::missing_name))]
+fn give_nameless<O: PieceOut>(
+    out: &mut O,
+    place: Place,
+    context: &mut Context,
+    running: &mut Running,
+)
+    ensures { GivesOutcome O.left out.old
+        (names.missing_name place context.old running.old)
+        out.new context.new running.new }
+{
+    report(out, NoteKind::MissingName, place, b"");
+    give_phrase(out, place.line, &nameless(place), context, running);
+    running.line.is_sentence = ends_sentence(running.line.ends_blank, b"");
+}
+
+// A name of no bytes is a text without characters.
+fn give_empty<O: PieceOut>(out: &mut O, place: Place, name: &KeptText)
+    ensures { Came O.left out.old (names.empty_items place name.now) out.new }
+{
+    if name.text.text().is_empty() {
+        out.give(Piece::Text {
+            text: b"",
+            font: Font::B,
+            place,
+        });
+    }
+}
+
+// Gives a name in bold.
+#[tactic(auto, unfolding(crate::specs::ManualNames::name_word))]
+fn give_name_word<O: PieceOut>(
+    out: &mut O,
+    place: Place,
+    name: &KeptText,
+    context: &mut Context,
+    running: &mut Running,
+)
+    ensures { GivesOutcome O.left out.old
+        (names.name_word place name.now context.old running.old)
+        out.new context.new running.new }
+{
+    let is_literal = context.is_literal.value;
+    give_kept_gap(out, is_literal, running, place);
+    give_empty(out, place, name);
+    let fonts = own_fonts(Some(Font::B), context.fonts);
+    let _ = give_kept(out, is_literal, place, fonts, name);
+    context.has_row = context.has_row || !name.text.text().is_empty();
+    running.heading.pass_text(context.part, name.is_quoted, running.gap, name.text.text());
+    running.pass_kept(is_text(context.part), context.has_spacing.value);
+    running.line.is_sentence = ends_sentence(false, name.text.text());
+}
+
+/// Gives the name of the manual.
+pub fn give_manual_name<O: PieceOut>(
+    out: &mut O,
+    place: Place,
+    name: &Option<KeptText>,
+    context: &mut Context,
+    running: &mut Running,
+)
+    ensures { GivesOutcome O.left out.old
+        (names.manual_name place name.now context.old running.old)
+        out.new context.new running.new }
+{
+    match name {
+        Some(name) => give_name_word(out, place, name, context, running),
+        None => give_nameless(out, place, context, running),
+    }
+}

@@ -1,0 +1,211 @@
+//! Texts that events print: their fonts, and how they stand beside the words around them (man(7), `B`, `BR`).
+
+ghost use Rattle.std.specs.Prelude.{◌≡◌};
+ghost use Rattle.page_scopes_phrases.specs.Fits.{FitsAt};
+ghost use Rattle.page_scopes_phrases.specs.Outcomes.{GivesOutcome};
+ghost use Rattle.page_scopes_phrases.specs.Phrases as phrases;
+ghost use Rattle.page_scopes_phrases.specs.Phrases.{phrase_seen};
+
+use crate::Running;
+use page_core_base::{Font, PieceOut};
+use page_scopes_layout::{Context, PagePart, Setting};
+use page_scopes_text::{Pen, TextStyle, give_text};
+use page_scopes_words::Fonts;
+use page_sets_lines::Join;
+use std::alloc::AllocError;
+
+/// A text that an event prints; `W` is a text.
+pub struct Phrase<W> {
+    pub text: W,
+    /// The column of its first byte.
+    pub column: u32,
+    /// A pair of quotes in it is one quote.
+    pub is_quoted: bool,
+    /// It is a whole line.
+    pub is_line: bool,
+    /// It stands in the page, and is no word of a macro's own.
+    pub is_written: bool,
+    /// A font of its own.
+    pub font: Option<Font>,
+    /// How it stands beside the word before it.
+    pub before: Join,
+    /// How it stands beside the word after it.
+    pub after: Join,
+}
+
+impl<W: Copy> Copy for Phrase<W> {}
+
+impl<W: Copy> Clone for Phrase<W> {
+    ghost is_clone = { λ x y. y ≡ x };
+
+    ghost is_infallible = { λ _. Unit {0} };
+
+    fn clone(&self) -> Result<Phrase<W>, AllocError> {
+        Ok(*self)
+    }
+}
+
+/// The fonts at a phrase's front.
+pub(crate) fn own_fonts(font: Option<Font>, fonts: Setting<Fonts>) -> Setting<Fonts>
+    ensures { result ≡ phrases.own_fonts font fonts }
+{
+    match font {
+        None => fonts,
+        Some(font) => Setting {
+            value: Fonts {
+                font,
+                former: fonts.value.font,
+            },
+            is_set: fonts.is_set,
+        },
+    }
+}
+
+/// The count of blanks where a phrase is joined; blanks at a text's end may part it all the same.
+pub fn joined_gap(join: Join, parts: bool, gap: u32) -> u32
+    ensures { result ≡ phrases.joined_gap join parts gap }
+{
+    match join {
+        Join::Apart => gap,
+        Join::Glued => { if parts { gap } else { 0 } }
+    }
+}
+
+/// Whether blanks at a text's end part it from a phrase that is glued.
+pub fn blanks_part(ends_blank: bool, context: &Context) -> bool
+    ensures { result ≡ phrases.blanks_part ends_blank context.now }
+{
+    ends_blank && !context.is_literal.value
+}
+
+// How a phrase is read.
+fn phrase_style(phrase: &Phrase<&[u8]>, context: &Context) -> TextStyle
+    ensures { result ≡ phrases.phrase_style (phrase_seen phrase.now) context.now }
+{
+    TextStyle {
+        is_quoted: phrase.is_quoted,
+        is_literal: context.is_literal.value,
+        is_line: phrase.is_line,
+    }
+}
+
+// Whether a row may end within the words of a phrase: where rows are filled, in what is written in the page, but for tags.
+fn splits(phrase: &Phrase<&[u8]>, context: &Context) -> bool
+    ensures { result ≡ phrases.splits (phrase_seen phrase.now) context.now }
+{
+    phrase.is_written && !context.is_literal.value && !matches!(context.part, PagePart::Tag)
+}
+
+// What is known at a phrase's front.
+fn phrase_pen(phrase: &Phrase<&[u8]>, context: &Context, running: &Running) -> Pen
+    ensures { result ≡ phrases.phrase_pen (phrase_seen phrase.now) context.now running.now }
+{
+    Pen {
+        fonts: own_fonts(phrase.font, context.fonts),
+        column: phrase.column,
+        gap: joined_gap(
+            phrase.before,
+            blanks_part(running.line.ends_blank, context),
+            running.gap,
+        ),
+        is_after_word: running.line.is_after_word,
+        has_cell: false,
+        is_cut: false,
+        ends_blank: false,
+        splits: splits(phrase, context),
+    }
+}
+
+// The fonts after a phrase.
+fn kept_fonts(
+    font: Option<Font>,
+    is_guarded: bool,
+    before: Setting<Fonts>,
+    now: Setting<Fonts>,
+) -> Setting<Fonts>
+    ensures { result ≡ phrases.kept_fonts font is_guarded before now }
+{
+    match font {
+        Some(_) => before,
+        None => Setting {
+            value: now.value,
+            is_set: if is_guarded {
+                before.is_set
+            } else {
+                now.is_set
+            },
+        },
+    }
+}
+
+// The context goes on after a phrase; `is_guarded` says whether it is one of a font macro's words.
+fn pass_context(context: &mut Context, phrase: &Phrase<&[u8]>, is_guarded: bool, pen: &Pen)
+    ensures { context.new
+        ≡ phrases.context_after (phrase_seen phrase.now) is_guarded pen.now context.old }
+{
+    context.fonts = kept_fonts(phrase.font, is_guarded, context.fonts, pen.fonts);
+    context.has_row = context.has_row || pen.has_cell;
+}
+
+// The count of blanks after a phrase; they stand between words, or do not.
+fn end_gap(has_spacing: bool, pen: &Pen) -> u32
+    ensures { result ≡ phrases.end_gap has_spacing pen.now }
+{
+    if pen.ends_blank {
+        pen.gap.max(1)
+    } else if has_spacing {
+        pen.gap
+    } else {
+        0
+    }
+}
+
+/// Whether a part of a page is its text.
+pub(crate) fn is_text(part: PagePart) -> bool
+    ensures { result ≡ phrases.is_text part }
+{
+    matches!(part, PagePart::Text)
+}
+
+// What is known along the page goes on after a phrase.
+fn pass_running(running: &mut Running, phrase: &Phrase<&[u8]>, context: &Context, pen: &Pen)
+    ensures { running.new
+        ≡ phrases.running_after (phrase_seen phrase.now) pen.now context.now running.old }
+{
+    running.has_content = true;
+    running.gap = joined_gap(
+        phrase.after,
+        blanks_part(pen.ends_blank, context),
+        end_gap(context.has_spacing.value, pen),
+    );
+    running.line.has_words = true;
+    running.line.has_row_words = running.line.has_row_words || is_text(context.part);
+    running.line.is_after_word = true;
+    running.line.is_cut = pen.is_cut;
+    running.line.ends_blank = pen.ends_blank;
+}
+
+/// Gives the words of a phrase on a line.
+#[inline(always)]
+pub fn give_phrase<O: PieceOut>(
+    out: &mut O,
+    line: u32,
+    phrase: &Phrase<&[u8]>,
+    context: &mut Context,
+    running: &mut Running,
+)
+    requires { FitsAt phrase.now.column phrase.now.text.now }
+    ensures { GivesOutcome O.left out.old
+        (phrases.phrase_outcome line (phrase_seen phrase.now) context.old running.old)
+        out.new context.new running.new }
+{
+    let is_guarded = running.line.fonts_before.is_some();
+    let style = phrase_style(phrase, context);
+    let mut pen = phrase_pen(phrase, context, running);
+    running
+        .heading
+        .pass_text(context.part, phrase.is_quoted, pen.gap, phrase.text);
+    give_text(out, style, line, &mut pen, phrase.text);
+    pass_running(running, phrase, context, &pen);
+    pass_context(context, phrase, is_guarded, &pen);
+}

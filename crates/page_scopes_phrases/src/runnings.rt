@@ -1,0 +1,103 @@
+//! What no scope restores: what is known along a page, and of its line so far (man(7); roff(7), "Sentences").
+
+ghost use Rattle.std.specs.Prelude.{◌≡◌};
+ghost use Rattle.page_scopes_phrases.specs.Runnings as runnings;
+
+use crate::HeadingSoFar;
+use page_scopes_layout::Setting;
+use page_scopes_words::Fonts;
+
+/// What is known of a line so far.
+#[derive(Clone, Copy)]
+pub struct LineSoFar {
+    /// It gave a word.
+    pub has_words: bool,
+    /// It gave a word of the page's text, which is no tag and no heading, since its last break.
+    pub has_row_words: bool,
+    /// It gave a word since its last break.
+    pub is_after_word: bool,
+    /// Its last word ends in `\c`.
+    pub is_cut: bool,
+    /// Its last argument ends in a blank or a tab.
+    pub ends_blank: bool,
+    /// Its last word ends a sentence.
+    pub is_sentence: bool,
+    /// The fonts before the words of a font macro, where it is in them.
+    pub fonts_before: Option<Setting<Fonts>>,
+    /// The columns of the words of `Nm` so far, each with a blank after it, where it begins a row of the SYNOPSIS.
+    pub name_columns: Option<u16>,
+}
+
+/// What is known along a page whatever its scopes are.
+#[derive(Clone, Copy)]
+pub struct Running {
+    /// The body of the page has begun.
+    pub has_begun: bool,
+    /// A word, a raw line, a blank line or `sp` came since the last heading.
+    pub has_content: bool,
+    /// The count of blanks before the next word.
+    pub gap: u32,
+    pub line: LineSoFar,
+    /// How far the heading that is open is one of the words that are looked for.
+    pub heading: HeadingSoFar,
+}
+
+// The front of a line.
+const NO_LINE: LineSoFar = LineSoFar {
+    has_words: false,
+    has_row_words: false,
+    is_after_word: false,
+    is_cut: false,
+    ends_blank: false,
+    is_sentence: false,
+    fonts_before: None,
+    name_columns: None,
+};
+
+impl LineSoFar {
+    // The count of blanks after the line, of its last word's; blanks stand between words, or do not.
+    fn gap(&self, has_spacing: bool, gap: u32) -> u32
+        ensures { result ≡ runnings.line_gap has_spacing self.now gap }
+    {
+        if !self.has_words {
+            gap
+        } else if self.is_cut || gap == 0 || !has_spacing {
+            0
+        } else if self.is_sentence {
+            2
+        } else {
+            1
+        }
+    }
+}
+
+impl Running {
+    /// What is known before a page's first line.
+    pub fn start() -> Running
+        ensures { result ≡ runnings.start }
+    {
+        Running {
+            has_begun: false,
+            has_content: false,
+            gap: 1,
+            line: NO_LINE,
+            heading: HeadingSoFar::start(),
+        }
+    }
+
+    /// The row ends: no word stands in it yet.
+    pub fn end_row(&mut self)
+        ensures { self.new ≡ runnings.row_ended self.old }
+    {
+        self.line.has_row_words = false;
+        self.line.is_after_word = false;
+    }
+
+    /// The line ends; blanks stand between words, or do not.
+    pub fn end_line(&mut self, has_spacing: bool)
+        ensures { self.new ≡ runnings.line_ended has_spacing self.old }
+    {
+        self.gap = self.line.gap(has_spacing, self.gap);
+        self.line = NO_LINE;
+    }
+}
