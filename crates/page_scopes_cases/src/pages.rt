@@ -1,19 +1,19 @@
 //! A page, whose lines come one by one.
 
 ghost use Rattle.std.specs.Prelude.{◌≡◌, ◌≤◌, length};
-ghost use Rattle.page_scopes_leaves.specs.Fits.{GivenFits};
-ghost use Rattle.page_sets_lines.specs.Events.{given_seen};
+ghost use Rattle.page_scopes_phrases.specs.Fits.{DeedFits};
+ghost use Rattle.page_sets_lines.specs.Events.{deed_seen};
 
 use crate::shown::{Shown, nothing};
-use crate::spelled::{deed_of, read_part};
+use crate::spelled::{deed_of, list_deed, read_part};
 use page_core_base::{Form, Output, Place, Taken};
 use page_core_limits::LINE;
-use page_roff_forms::{Argument, LineForm, form_of};
+use page_roff_forms::{LineForm, form_of};
 use page_scopes::OpenScopes;
 use page_scopes_nodes::PageLayout;
 use page_sets::Man;
 use page_sets_checks::Verbatim;
-use page_sets_lines::{Event, MacroSet};
+use page_sets_lines::{Deed, Event, MacroSet};
 use std::alloc::{AllocError, Global};
 
 /// The scopes of a page, and the number of its next line.
@@ -75,33 +75,40 @@ where
     }
 }
 
-// Gives what an event in a column of a line settles.
-fn give_spelled_event(
-    scopes: &mut OpenScopes,
-    out: &mut Shown,
-    place: Place,
-    name: &str,
-    text: Option<Argument<&[u8]>>,
-)
-    requires { GivenFits (given_seen text) }
+// Gives what an event settles.
+fn give_deed(scopes: &mut OpenScopes, out: &mut Shown, place: Place, deed: Deed<&[u8]>)
+    requires { DeedFits (deed_seen deed) }
 {
-    let event = Event {
-        place,
-        deed: deed_of(name, place.column, text),
-    };
-    scopes.give_event(&event, out);
+    scopes.give_event(&Event { place, deed }, out);
 }
 
-// Gives what the events of a line settle, which are spelled, and the line's end.
+// Gives what the events of a line settle, which are spelled, each in its column.
 fn give_spelled(text: &str, line: u32, scopes: &mut OpenScopes, out: &mut Shown) {
     let mut column = 2u32;
     for part in text.split(' ') {
         let (name, text) = read_part(part, column);
-        give_spelled_event(scopes, out, Place { line, column }, name, text);
+        give_deed(
+            scopes,
+            out,
+            Place { line, column },
+            deed_of(name, column, text),
+        );
         let len = u32::try_from(part.len()).unwrap_or(u32::MAX);
         column = column.saturating_add(1).saturating_add(len);
     }
-    give_spelled_event(scopes, out, Place { line, column: 1 }, "", None);
+}
+
+// Gives what a line of mdoc(7) settles, and its end.
+fn give_mdoc(text: &str, line: u32, scopes: &mut OpenScopes, out: &mut Shown) {
+    match text.strip_prefix("Bl ") {
+        Some(options) => {
+            let place = Place { line, column: 2 };
+            give_deed(scopes, out, place, list_deed(options.as_bytes()));
+        }
+        None => give_spelled(text, line, scopes, out),
+    }
+    let place = Place { line, column: 1 };
+    give_deed(scopes, out, place, Deed::End { fills: true });
 }
 
 impl Page {
@@ -146,7 +153,7 @@ impl Page {
         if text == "end" {
             self.scopes.give_end(self.line, out);
         } else if let Some(spelled) = text.strip_prefix('&') {
-            give_spelled(spelled, self.line, &mut self.scopes, out);
+            give_mdoc(spelled, self.line, &mut self.scopes, out);
         } else {
             self.take_line(out, text.as_bytes());
         }

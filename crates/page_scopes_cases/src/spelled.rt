@@ -1,10 +1,11 @@
 //! Events of mdoc(7) as they are spelled here: each between blanks, by the name of its macro, with a text after `=` where it has one. `head` and
 //! `subhead` are the headings of `Sh` and `Ss`, `in` and `out` delimiters before and after words, `w`, `b` and `i` words in no font of their own, in
 //! bold and in italic, `field` and `argument` are the next field of a reference and the next argument of a function, `ends` is the end of `Fn`, `row`,
-//! `include`, `hang` and `hung` are what macros do in the SYNOPSIS, and `tail` is what ends the enclosures before a line's last delimiters.
+//! `include`, `hang` and `hung` are what macros do in the SYNOPSIS, and `tail` is what ends the enclosures before a line's last delimiters. `It` is an
+//! item, and `label` its head; `Bl` takes its arguments, which are the rest of its line.
 
 ghost use Rattle.std.specs.Prelude.{IfSome};
-ghost use Rattle.page_scopes_leaves.specs.Fits.{ArgumentFits, DeedFits, GivenFits};
+ghost use Rattle.page_scopes_phrases.specs.Fits.{ArgumentFits, DeedFits, GivenFits};
 ghost use Rattle.page_roff_forms.specs.Arguments.{argument_seen};
 ghost use Rattle.page_sets_lines.specs.Events.{deed_seen, given_seen, word_seen};
 
@@ -12,7 +13,8 @@ use page_core_base::Font;
 use page_roff_forms::{Argument, Quoting};
 use page_sets_lines::{
     BlockCloser, BlockOpener, BodyParagraphName, Closer, Deed, HeadingName, Join, Leaf, LineOpener,
-    LineStep, Marks, OneLineName, Opener, Own, OwnWord, Quotation, Role, SynopsisStep, Word,
+    LineStep, ListKind, Marks, OneLineName, Opener, Own, OwnWord, Quotation, Role, SynopsisStep,
+    Word, read_list_options,
 };
 
 // The bytes at most of a text, and the columns of a line.
@@ -74,6 +76,8 @@ fn bare_deed<'a>(name: &str) -> Option<Deed<&'a [u8]>>
         "Nd" => Some(Deed::LineScope(LineOpener::Description)),
         "D1" => Some(Deed::LineScope(LineOpener::OneLine(OneLineName::D1))),
         "Pp" => Some(Deed::Leaf(Leaf::Step(LineStep::BodyParagraph(BodyParagraphName::Pp)))),
+        "It" => Some(Deed::Open(Opener::Item)),
+        "label" => Some(Deed::LineScope(LineOpener::Head)),
         "tail" => Some(Deed::Close(Closer::Enclosures)),
         "field" => Some(Deed::Leaf(Leaf::Step(LineStep::NextField))),
         _ => block_deed(name),
@@ -147,6 +151,7 @@ fn block_end_deed<'a>(name: &str) -> Option<Deed<&'a [u8]>>
         "Ek" => BlockCloser::Keep,
         "Re" => BlockCloser::Reference,
         "Fc" => BlockCloser::Function,
+        "El" => BlockCloser::List,
         _ => return step_deed(name),
     };
     Some(Deed::Close(Closer::Block(closer)))
@@ -158,6 +163,7 @@ fn step_deed<'a>(name: &str) -> Option<Deed<&'a [u8]>>
 {
     let step = match name {
         "argument" => LineStep::NextArgument,
+        "Ta" => LineStep::NextColumn,
         "ends" => LineStep::FunctionEnd,
         "Sm" => LineStep::Spacing(None),
         "Sm-on" => LineStep::Spacing(Some(true)),
@@ -250,6 +256,21 @@ pub(crate) fn deed_of<'a>(
             Deed::Word(word_of(name, column, argument))
         }
     }
+}
+
+/// The list that begins with these arguments.
+pub(crate) fn list_deed<'a>(options: &'a [u8]) -> Deed<&'a [u8]>
+    ensures { DeedFits (deed_seen result) }
+{
+    if options.len() > MOST {
+        return Deed::End { fills: true };
+    }
+    let said = read_list_options(options, 0);
+    Deed::Open(Opener::Block(BlockOpener::List {
+        kind: said.kind.unwrap_or(ListKind::Item),
+        is_compact: said.is_compact,
+        options,
+    }))
 }
 
 /// The name and the text of an event that begins in a column.
