@@ -49,6 +49,7 @@ check:
 install: mandoc
 	install -D -m 755 mandoc $(DESTDIR)$(PREFIX)/bin/mandoc
 	install -D -m 644 man/mandoc.1 $(DESTDIR)$(PREFIX)/share/man/man1/mandoc.1
+	install -D -m 644 man/makewhatis.1 $(DESTDIR)$(PREFIX)/share/man/man1/mandoc-makewhatis.1
 	install -D -m 644 man/whatis.1 $(DESTDIR)$(PREFIX)/share/man/man1/mandoc-whatis.1
 
 clean:

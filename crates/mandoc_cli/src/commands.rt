@@ -1,6 +1,7 @@
 //! What a command line asks for, done (mandoc(1), makewhatis(8), whatis(1)).
 
 use crate::formatting::format_all;
+use crate::indexing::make_indexes;
 use crate::searching::search;
 use crate::{BAD_COMMAND, SYSTEM_FAILURE};
 use mandoc_command::{Command, Refusal};
@@ -19,7 +20,7 @@ pub fn run_command<R: Files, I: Read, W: Write, V: Write>(
 ) -> u8 {
     match command {
         Command::Format(format) => format_all(rt, alloc, format, input, out, err),
-        Command::Makewhatis(_) => refuse(err, Refusal::Words),
+        Command::Makewhatis(asked) => make_indexes(rt, alloc, asked, out, err),
         Command::Whatis(asked) => search(rt, alloc, asked, out, err),
     }
 }

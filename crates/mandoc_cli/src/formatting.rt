@@ -1,6 +1,6 @@
 //! The pages of a command line, each from its bytes to its rows, its messages and its status (mandoc(1), DESCRIPTION).
 
-use crate::SYSTEM_FAILURE;
+use crate::faults::{Done, tell_fault, tell_unopened};
 use crate::streams::{FlushingReader, Stream, flush};
 use mandoc_command::{Format, status_of};
 use page_core_base::{Fault, Output, Settings};
@@ -11,13 +11,6 @@ use std::io::{self, BufWriter, Read, Write};
 
 /// The name that messages have of the standard input.
 const STANDARD_INPUT: &str = "<stdin>";
-
-// What a page left: its status, and whether no further page can be written.
-#[derive(Clone, Copy)]
-struct Done {
-    status: u8,
-    stops: bool,
-}
 
 /// Formats the pages of a command in their order, and answers the worst of their statuses (mandoc(1), EXIT STATUS).
 ///
@@ -57,10 +50,7 @@ fn format_file<R: Files, W: Write, V: Write>(
 ) -> Done {
     match fs::open(rt, name) {
         Ok(mut file) => format_page(alloc, &mut file, out, err, name, settings),
-        Err(_) => {
-            let _ = writeln!(err, "mandoc: {name}: cannot open");
-            failed(false)
-        }
+        Err(_) => tell_unopened(err, name),
     }
 }
 
@@ -74,14 +64,8 @@ fn format_page<I: Read, W: Write, V: Write>(
     settings: &Settings,
 ) -> Done {
     match run_buffered(alloc, input, out, err, name, settings) {
-        Ok(outcome) => Done {
-            status: status_of(outcome.worst),
-            stops: false,
-        },
-        Err(fault) => {
-            let _ = writeln!(err, "mandoc: {name}: {fault}");
-            failed(matches!(fault, Fault::WriteText | Fault::WriteNotes))
-        }
+        Ok(outcome) => Done::with(status_of(outcome.worst)),
+        Err(fault) => tell_fault(err, name, fault),
     }
 }
 
@@ -145,12 +129,4 @@ fn put_out(
     let outcome = run?;
     at_the_end?;
     Ok(outcome)
-}
-
-// What a page leaves that failed.
-fn failed(stops: bool) -> Done {
-    Done {
-        status: SYSTEM_FAILURE,
-        stops,
-    }
 }

@@ -1,6 +1,6 @@
 //! Words looked for in the index of a directory (whatis(1)).
 
-use crate::SYSTEM_FAILURE;
+use crate::faults::{tell_fault, tell_unopened};
 use mandoc_command::Whatis;
 use page_core_base::Fault;
 use page_engine_index::{Show, whatis};
@@ -27,25 +27,16 @@ pub fn search<R: Files, W: Write, V: Write>(
         None => ".",
     };
     let Ok(name) = format!(in alloc; "{dir}/whatis.idx") else {
-        return tell(err, dir, Fault::Memory);
+        return tell_fault(err, format_args!("{dir}/whatis.idx"), Fault::Memory).status;
     };
     match fs::open(rt, name.as_str()) {
         Ok(mut index) => match search_buffered(alloc, &mut index, asked, out) {
             Ok(0) => NOT_FOUND,
             Ok(_) => FOUND,
-            Err(fault) => tell(err, dir, fault),
+            Err(fault) => tell_fault(err, name.as_str(), fault).status,
         },
-        Err(_) => {
-            let _ = writeln!(err, "mandoc: {dir}/whatis.idx: cannot open");
-            SYSTEM_FAILURE
-        }
+        Err(_) => tell_unopened(err, name.as_str()).status,
     }
-}
-
-// Tells of a fault of the index in a directory.
-fn tell<V: Write>(err: &mut V, dir: &str, fault: Fault) -> u8 {
-    let _ = writeln!(err, "mandoc: {dir}/whatis.idx: {fault}");
-    SYSTEM_FAILURE
 }
 
 // Prints the rows with a buffer, which is put out before a fault is told, and answers their number.

@@ -1,0 +1,195 @@
+//! For tests: files of a runtime, of which one call fails.
+
+use std::alloc::Allocator;
+use std::cell::Cell;
+use std::fs::{Files, Metadata, OpenFile, OpenOptions};
+use std::io::{self, ErrorKind, Read, Seek, SeekFrom, Write};
+
+/// A call that can fail.
+#[derive(Clone, Copy, PartialEq, Eq)]
+pub enum Call {
+    /// A file is opened that is read.
+    Open,
+    /// A file is read.
+    Read,
+    /// A folder is opened.
+    List,
+    /// Names in a folder are read.
+    Names,
+    /// A file is made.
+    Create,
+    /// A file is written.
+    Write,
+    /// What was written is put out.
+    Flush,
+    /// A file is given another name.
+    Rename,
+}
+
+/// Which call fails, and how many of its kind come before it.
+#[derive(Drop)]
+pub struct Failure {
+    /// The kind of call; none: each counts.
+    call: Option<Call>,
+    before: Cell<u32>,
+    has_come: Cell<bool>,
+}
+
+impl Failure {
+    /// The failure of a call of this kind, or of any, after this number of them.
+    pub fn new(call: Option<Call>, before: u32) -> Failure {
+        Failure {
+            call,
+            before: Cell::new(before),
+            has_come: Cell::new(false),
+        }
+    }
+
+    /// Whether the call has failed.
+    pub fn has_come(&self) -> bool {
+        self.has_come.get()
+    }
+
+    // Counts a call, and fails it if it is the one.
+    fn at(&self, call: Call) -> io::Result<()> {
+        if self.has_come.get() || self.call.is_some_and(|wanted| wanted != call) {
+            return Ok(());
+        }
+        if let Some(left) = self.before.get().checked_sub(1) {
+            self.before.set(left);
+            return Ok(());
+        }
+        self.has_come.set(true);
+        Err(io::Error::from(ErrorKind::Other))
+    }
+}
+
+/// The files of a runtime, of which one call fails.
+#[derive(Drop)]
+pub struct FailingFiles<'a, R> {
+    pub rt: &'a R,
+    pub failure: &'a Failure,
+}
+
+/// A file of these.
+#[derive(Drop)]
+pub struct FailingFile<'a, F> {
+    file: F,
+    failure: &'a Failure,
+}
+
+/// The names in a folder of these.
+#[derive(Drop)]
+pub struct FailingNames<'a, D> {
+    names: D,
+    failure: &'a Failure,
+}
+
+impl<D: Read> Read for FailingNames<'_, D> {
+    fn read(&mut self, buffer: &mut [u8]) -> io::Result<usize> {
+        self.failure.at(Call::Names)?;
+        self.names.read(buffer)
+    }
+}
+
+impl<F: Read> Read for FailingFile<'_, F> {
+    fn read(&mut self, buffer: &mut [u8]) -> io::Result<usize> {
+        self.failure.at(Call::Read)?;
+        self.file.read(buffer)
+    }
+}
+
+impl<F: Write> Write for FailingFile<'_, F> {
+    fn write(&mut self, bytes: &[u8]) -> io::Result<usize> {
+        self.failure.at(Call::Write)?;
+        self.file.write(bytes)
+    }
+
+    fn flush(&mut self) -> io::Result<()> {
+        self.failure.at(Call::Flush)?;
+        self.file.flush()
+    }
+}
+
+impl<F: Seek> Seek for FailingFile<'_, F> {
+    fn seek(&mut self, to: SeekFrom) -> io::Result<u64> {
+        self.file.seek(to)
+    }
+}
+
+impl<F: OpenFile> OpenFile for FailingFile<'_, F> {
+    fn metadata(&self) -> io::Result<Metadata> {
+        self.file.metadata()
+    }
+
+    fn set_len(&self, size: u64) -> io::Result<()> {
+        self.file.set_len(size)
+    }
+
+    fn sync_all(&self) -> io::Result<()> {
+        self.file.sync_all()
+    }
+
+    fn sync_data(&self) -> io::Result<()> {
+        self.file.sync_data()
+    }
+}
+
+impl<'a, R: Files> Files for FailingFiles<'a, R> {
+    type File = FailingFile<'a, R::File>;
+
+    type Dir = FailingNames<'a, R::Dir>;
+
+    fn open_file(&self, how: &OpenOptions, path: &str) -> io::Result<FailingFile<'a, R::File>> {
+        self.failure.at(if how.asks_create() {
+            Call::Create
+        } else {
+            Call::Open
+        })?;
+        Ok(FailingFile {
+            file: self.rt.open_file(how, path)?,
+            failure: self.failure,
+        })
+    }
+
+    fn open_dir(&self, path: &str) -> io::Result<FailingNames<'a, R::Dir>> {
+        self.failure.at(Call::List)?;
+        Ok(FailingNames {
+            names: self.rt.open_dir(path)?,
+            failure: self.failure,
+        })
+    }
+
+    fn rename(&self, from: &str, to: &str) -> io::Result<()> {
+        self.failure.at(Call::Rename)?;
+        self.rt.rename(from, to)
+    }
+
+    fn metadata(&self, path: &str) -> io::Result<Metadata> {
+        self.rt.metadata(path)
+    }
+
+    fn symlink_metadata(&self, path: &str) -> io::Result<Metadata> {
+        self.rt.symlink_metadata(path)
+    }
+
+    fn copy(&self, from: &str, to: &str) -> io::Result<u64> {
+        self.rt.copy(from, to)
+    }
+
+    fn remove_file(&self, path: &str) -> io::Result<()> {
+        self.rt.remove_file(path)
+    }
+
+    fn create_dir(&self, path: &str) -> io::Result<()> {
+        self.rt.create_dir(path)
+    }
+
+    fn remove_dir(&self, path: &str) -> io::Result<()> {
+        self.rt.remove_dir(path)
+    }
+
+    fn remove_dir_all<B: Allocator>(&self, alloc: B, path: &str) -> io::Result<()> {
+        self.rt.remove_dir_all(alloc, path)
+    }
+}

@@ -1,0 +1,38 @@
+//! What is told of files that fail, and how a run goes on after that (mandoc(1), DIAGNOSTICS and EXIT STATUS).
+
+use crate::SYSTEM_FAILURE;
+use page_core_base::Fault;
+use std::fmt::Display;
+use std::io::Write;
+
+/// What a page or an index left: its status, and whether nothing further can be written.
+#[derive(Clone, Copy)]
+pub struct Done {
+    pub status: u8,
+    pub stops: bool,
+}
+
+impl Done {
+    /// What is left where no fault ends it.
+    pub fn with(status: u8) -> Done {
+        Done {
+            status,
+            stops: false,
+        }
+    }
+}
+
+/// Tells of a file that can't be opened, or a folder that can't be listed; the next one goes on, also where that line can't be printed.
+pub fn tell_unopened<V: Write>(err: &mut V, name: &str) -> Done {
+    let _ = writeln!(err, "mandoc: {name}: cannot open");
+    Done::with(SYSTEM_FAILURE)
+}
+
+/// Tells of a fault at a file. After one of writing nothing further can be written.
+pub fn tell_fault<V: Write, N: Display + Drop>(err: &mut V, name: N, fault: Fault) -> Done {
+    let _ = writeln!(err, "mandoc: {name}: {fault}");
+    Done {
+        status: SYSTEM_FAILURE,
+        stops: matches!(fault, Fault::WriteText | Fault::WriteNotes),
+    }
+}

@@ -1,0 +1,133 @@
+//! Indexes made of the pages of directories (makewhatis(8)).
+
+use crate::faults::{Done, tell_fault};
+use crate::page_records::{Form, Pages};
+use mandoc_command::Makewhatis;
+use page_core_base::Fault;
+use std::alloc::Global;
+use std::fs::{self, Files};
+use std::io::{BufWriter, Write};
+
+/// Makes the indexes of directories in their order, or prints the records of their pages, and answers the worst status (makewhatis(8),
+/// EXIT STATUS).
+///
+/// A page or a folder that can't be read is told of on `err`, and the others go on, also where that line can't be printed. An index, or
+/// records, that can't be written end it.
+pub fn make_indexes<R: Files, W: Write, V: Write>(
+    rt: &R,
+    alloc: Global,
+    asked: &Makewhatis,
+    out: &mut W,
+    err: &mut V,
+) -> u8 {
+    let mut worst = 0;
+    for dir in asked.dirs.as_slice() {
+        let done = if asked.prints {
+            print_records(rt, alloc, dir.as_str(), out, err)
+        } else {
+            make_index(rt, alloc, dir.as_str(), err)
+        };
+        worst = worst.max(done.status);
+        if done.stops {
+            break;
+        }
+    }
+    worst
+}
+
+// Prints the records of the pages in a directory.
+fn print_records<R: Files, W: Write, V: Write>(
+    rt: &R,
+    alloc: Global,
+    dir: &str,
+    out: &mut W,
+    err: &mut V,
+) -> Done {
+    match give_buffered(rt, alloc, dir, Form::Printed, out, err) {
+        Ok(status) => Done::with(status),
+        Err(fault) => tell_fault(err, dir, fault),
+    }
+}
+
+// Makes the index of a directory, which takes the place of the one that is there once it is whole.
+fn make_index<R: Files, V: Write>(rt: &R, alloc: Global, dir: &str, err: &mut V) -> Done {
+    let (Ok(unfinished), Ok(name)) = (
+        format!(in alloc; "{dir}/whatis.tmp"),
+        format!(in alloc; "{dir}/whatis.idx"),
+    ) else {
+        return tell_fault(err, format_args!("{dir}/whatis.idx"), Fault::Memory);
+    };
+    match replace_index(rt, alloc, dir, unfinished.as_str(), name.as_str(), err) {
+        Ok(status) => Done::with(status),
+        Err(fault) => tell_fault(err, name.as_str(), fault),
+    }
+}
+
+// Writes an index under a name of its own, and gives it the one that it is for. An index that can't be finished is removed.
+fn replace_index<R: Files, V: Write>(
+    rt: &R,
+    alloc: Global,
+    dir: &str,
+    unfinished: &str,
+    name: &str,
+    err: &mut V,
+) -> Result<u8, Fault> {
+    let Ok(file) = fs::create(rt, unfinished) else {
+        return Err(Fault::WriteText);
+    };
+    let finished = match write_index(rt, alloc, dir, file, err) {
+        Ok(status) => renamed(rt, unfinished, name, status),
+        Err(fault) => Err(fault),
+    };
+    if finished.is_err() {
+        let _ = fs::remove_file(rt, unfinished);
+    }
+    finished
+}
+
+// Writes an index, and closes its file.
+fn write_index<R: Files, V: Write>(
+    rt: &R,
+    alloc: Global,
+    dir: &str,
+    mut file: R::File,
+    err: &mut V,
+) -> Result<u8, Fault> {
+    give_buffered(rt, alloc, dir, Form::Index, &mut file, err)
+}
+
+// Gives an index that is whole its name, and answers the status that its pages left.
+fn renamed<R: Files>(rt: &R, unfinished: &str, name: &str, status: u8) -> Result<u8, Fault> {
+    match fs::rename(rt, unfinished, name) {
+        Ok(()) => Ok(status),
+        Err(_) => Err(Fault::WriteText),
+    }
+}
+
+// Gives the records of the pages in a directory with a buffer, which is put out at the end, and answers the worst status of the pages.
+fn give_buffered<R: Files, W: Write, V: Write>(
+    rt: &R,
+    alloc: Global,
+    dir: &str,
+    form: Form,
+    out: &mut W,
+    err: &mut V,
+) -> Result<u8, Fault> {
+    let Ok(mut records) = BufWriter::new(alloc, out) else {
+        return Err(Fault::Memory);
+    };
+    let mut pages = Pages {
+        rt,
+        alloc,
+        dir,
+        form,
+        err,
+    };
+    let given = pages.give_all(&mut records);
+    let flushed = records.flush();
+    let status = given?;
+    match flushed {
+        Ok(()) => Ok(status),
+        Err(_) => Err(Fault::WriteText),
+    }
+}

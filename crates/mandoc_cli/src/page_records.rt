@@ -1,0 +1,161 @@
+//! The records of the pages in a directory (makewhatis(8)).
+
+ghost use Rattle.std.specs.Prelude.{◌≡◌, true};
+ghost use Rattle.page_engine_index.specs.Fields.{is_field};
+
+use crate::faults::{tell_fault, tell_unopened};
+use page_core_base::{Fault, Settings};
+use page_engine_index::{FIRST_LINE, Record, is_field, print_record, write_record};
+use page_engine_records::name_record;
+use std::alloc::Global;
+use std::fs::{self, Files};
+use std::io::{self, ErrorKind, Write};
+
+/// The folders of pages below a directory, by the sections of the manual.
+const FOLDERS: [&str; 9] = [
+    "man1", "man2", "man3", "man4", "man5", "man6", "man7", "man8", "man9",
+];
+
+/// How records are written.
+#[derive(Clone, Copy)]
+pub enum Form {
+    /// As an index, with its first line.
+    Index,
+    /// As rows to be read.
+    Printed,
+}
+
+/// The pages in a directory, the form of their records, and where faults are told.
+#[derive(Drop)]
+pub struct Pages<'a, R, V> {
+    pub rt: &'a R,
+    pub alloc: Global,
+    pub dir: &'a str,
+    pub form: Form,
+    pub err: &'a mut V,
+}
+
+impl<R: Files, V: Write> Pages<'_, R, V> {
+    /// Gives the records of all pages, folder by folder, each in the order of the bytes of its files' names, and answers the worst status.
+    ///
+    /// Its fault is [`Fault::WriteText`] where a record can't be written. What can't be read is told of, and the next page follows.
+    pub fn give_all<W: Write>(&mut self, out: &mut W) -> Result<u8, Fault> {
+        self.give_first_line(out)?;
+        let mut worst = 0;
+        for folder in FOLDERS.iter() {
+            let status = self.give_folder(out, folder)?;
+            worst = worst.max(status);
+        }
+        Ok(worst)
+    }
+
+    // Gives the first line of an index.
+    fn give_first_line<W: Write>(&self, out: &mut W) -> Result<(), Fault> {
+        match self.form {
+            Form::Index if writeln!(out, "{FIRST_LINE}").is_err() => Err(Fault::WriteText),
+            _ => Ok(()),
+        }
+    }
+
+    // Gives the records of the pages in a folder, if there is one.
+    fn give_folder<W: Write>(&mut self, out: &mut W, folder: &str) -> Result<u8, Fault> {
+        let Ok(path) = format!(in self.alloc; "{}/{folder}", self.dir) else {
+            return Err(Fault::Memory);
+        };
+        match names_in(self.rt, self.alloc, path.as_str()) {
+            Ok(names) => self.give_files(out, folder, names.as_slice()),
+            Err(error) => Ok(self.tell_unlisted(path.as_str(), error.kind())),
+        }
+    }
+
+    // Tells of a folder that can't be listed, unless there is none, and answers the status.
+    fn tell_unlisted(&mut self, folder: &str, kind: ErrorKind) -> u8 {
+        match kind {
+            ErrorKind::NotFound => 0,
+            ErrorKind::OutOfMemory => tell_fault(self.err, folder, Fault::Memory).status,
+            _ => tell_unopened(self.err, folder).status,
+        }
+    }
+
+    // Gives the records of the pages in a folder by the names of their files.
+    fn give_files<W: Write>(
+        &mut self,
+        out: &mut W,
+        folder: &str,
+        names: &[String],
+    ) -> Result<u8, Fault> {
+        let mut worst = 0;
+        for name in names {
+            let Ok(file) = format!(in self.alloc; "{folder}/{name}") else {
+                return Err(Fault::Memory);
+            };
+            let status = self.give_page(out, file.as_str())?;
+            worst = worst.max(status);
+        }
+        Ok(worst)
+    }
+
+    // Gives the record of the page in a file, if it has one, and answers the status. A file whose name can't stand in an index is passed over.
+    fn give_page<W: Write>(&mut self, out: &mut W, file: &str) -> Result<u8, Fault> {
+        if !is_field(file) {
+            return Ok(0);
+        }
+        let Ok(path) = format!(in self.alloc; "{}/{file}", self.dir) else {
+            return Err(Fault::Memory);
+        };
+        match self.record_in(path.as_str()) {
+            Ok(Some(record)) => {
+                give_record(out, self.form, &record, file)?;
+                Ok(0)
+            }
+            Ok(None) => Ok(0),
+            Err(status) => Ok(status),
+        }
+    }
+
+    // The record of the page in a file, if it is one and has one; where it can't be read, the status after it was told.
+    fn record_in(&mut self, path: &str) -> Result<Option<Record>, u8> {
+        if !is_file(self.rt, path) {
+            return Ok(None);
+        }
+        match fs::open(self.rt, path) {
+            Ok(mut file) => match name_record(self.alloc, &mut file, &Settings::new()) {
+                Ok(record) => Ok(record),
+                Err(fault) => Err(tell_fault(self.err, path, fault).status),
+            },
+            Err(_) => Err(tell_unopened(self.err, path).status),
+        }
+    }
+}
+
+// The names of what lies in a folder, in the order of their bytes. A name that isn't text can't stand in an index, and is left out.
+fn names_in<R: Files>(rt: &R, alloc: Global, folder: &str) -> io::Result<Vec<String>> {
+    let mut names = Vec::new(alloc);
+    for entry in fs::read_dir(&(rt, alloc), folder)? {
+        match entry {
+            Ok(entry) => names.push(String::from_str(alloc, entry.file_name())?)?,
+            Err(error) if error.kind() == ErrorKind::InvalidFilename => {}
+            Err(error) => return Err(error),
+        }
+    }
+    names.sort_unstable();
+    Ok(names)
+}
+
+// Whether a path leads to a file, and not to a folder or a device. What can't be told is seen when it is opened.
+fn is_file<R: Files>(rt: &R, path: &str) -> bool {
+    match fs::metadata(rt, path) {
+        Ok(metadata) => metadata.is_file(),
+        Err(_) => true,
+    }
+}
+
+// Gives a record in a form.
+fn give_record<W: Write>(out: &mut W, form: Form, page: &Record, file: &str) -> Result<(), Fault>
+    requires { is_field file.now ≡ true }
+{
+    match form {
+        Form::Index => write_record(out, page, file),
+        Form::Printed => print_record(out, page),
+    }
+}
