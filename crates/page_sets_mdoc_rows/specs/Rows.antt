@@ -1,6 +1,6 @@
 -- The table of mdoc(7): what each macro does, and how it stands to the macros among its words. Source: mdoc(7),
 -- "MACRO REFERENCE" and "MACRO SYNTAX", of which the summary has the columns "Callable" and "Parsed".
-use Rattle.std.specs.Prelude.{ℕ, Bool, true, false, List, [], ◌∷◌, Option, None, Some, codes}
+use Rattle.std.specs.Prelude.{ℕ, Bool, true, false, ◌&&◌, nat_le, List, [], ◌∷◌, length, Option, None, Some, codes}
 use Rattle.page_sets_mdoc_rows.specs.declared.macros.Inline.{Inline}
 use Rattle.page_sets_mdoc_rows.specs.declared.macros.Inline.TheVariants.{Words, Author, Declaration, TypeName, Arguments, Name, Flag, Reference, Function, Bsd, Link, NoSpace, Apostrophe, NextColumn, Prefix, Enclosure, Opens, Closes}
 use Rattle.page_sets_mdoc_rows.specs.declared.macros.Inline.TheVariants as inlines
@@ -248,3 +248,12 @@ parsed_of None None = false
 -- whether words of the line that a macro begins can call others
 abbrev pub is_parsed : List ℕ → Bool
 is_parsed name = parsed_of (inline_row name) (other_row name)
+
+-- ---- of the program: all macros that can stand among words have a capital letter and one or two bytes after it
+
+abbrev pub is_capital : ℕ → Bool
+is_capital byte = nat_le 65 byte && nat_le byte 90
+
+abbrev pub looks_inline : List ℕ → Bool
+looks_inline [] = false
+looks_inline (byte ∷ bytes) = is_capital byte && nat_le (length bytes) 2

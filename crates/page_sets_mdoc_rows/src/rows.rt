@@ -232,10 +232,24 @@ fn leaf_row(name: &[u8]) -> Option<BlockRow>
     }
 }
 
+// Whether a name has a capital letter and one or two bytes after it, as all macros that can stand among words have. Most words have not.
+fn looks_inline(name: &[u8]) -> bool
+    ensures { result ≡ rows.looks_inline name.now }
+{
+    match name {
+        [first, rest @ ..] => first.is_ascii_uppercase() && rest.len() <= 2,
+        [] => false,
+    }
+}
+
 // The row of a macro that can stand among words.
+#[tactic(auto, using(crate::proofs::OtherNames::no_inline_row))]
 fn inline_row(name: &[u8]) -> Option<InlineRow>
     ensures { result ≡ rows.inline_row name.now }
 {
+    if !looks_inline(name) {
+        return None;
+    }
     if let Some(row) = words_row(name) {
         return Some(row);
     }
