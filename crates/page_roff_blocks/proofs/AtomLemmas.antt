@@ -1,5 +1,5 @@
 -- The parts of a line: each remainder is shorter than its line. Helpers of proofs.
-use Rattle.std.proofs.Common.{◌≡◌, ℕ, zero, suc, ◌+◌, ◌-◌, ◌<◌, ◌≤◌, ◌==◌, nat_lt, true, false, List, [], ◌∷◌, length, take, drop, Option, Some, None, IfSome, refl, sym, ap, ◌∙◌, inl, inr, arith, length-drop}
+use Rattle.std.proofs.Common.{◌≡◌, ℕ, zero, suc, ◌+◌, ◌-◌, ◌<◌, ◌≤◌, ◌==◌, nat_lt, Bool, true, false, List, [], ◌∷◌, length, take, drop, Option, Some, None, IfSome, refl, sym, ap, ◌∙◌, inl, inr, arith, length-drop}
 use Rattle.std.proofs.lemmas.Bool.{cases_Bool}
 use Rattle.std.proofs.lemmas.Bool.Decides.{nat_tests}
 use Rattle.std.proofs.lemmas.List.{length-take-le}
@@ -9,6 +9,8 @@ use Rattle.page_roff_forms.specs.declared.line_forms.LineForm.{LineForm}
 use Rattle.page_roff_forms.specs.declared.line_forms.LineForm.TheVariants.{Comment, BlankLine, Text, Control}
 use Rattle.page_roff_forms.proofs.ControlLemmas.{uncommented_control}
 use Rattle.page_roff_heads.specs.Heads.{conditional_of, guarded_of, block_end_of}
+use Rattle.page_roff_heads.specs.Loops.{loop_of}
+use Rattle.page_roff_heads.specs.declared.loops.LoopRead.{LoopRead}
 use Rattle.page_roff_heads.specs.declared.heads.BlockEnd.{BlockEnd}
 use Rattle.page_roff_heads.specs.declared.texts.Placed.{Placed}
 use Rattle.page_roff_heads.proofs.Within.{conditional_within, guarded_within, end_shorter, rest_within}
@@ -17,7 +19,8 @@ use Rattle.page_roff_blocks.specs.declared.atoms.Atom.TheVariants.{Leaf}
 use Rattle.page_roff_blocks.specs.declared.parts.Columns.{Columns}
 use Rattle.page_roff_blocks.specs.declared.parts.Keyword.{Keyword}
 use Rattle.page_roff_blocks.specs.declared.parts.Keyword.TheVariants as keywords
-use Rattle.page_roff_blocks.specs.Atoms.{rest_text, end_part, cut_part, plain_part, raw_rest, keyword_of, keyword_part, form_part, part_of, with_part, parts, atoms, atoms_left, IsWithin, columns_of, named_part}
+use Rattle.page_roff_blocks.specs.Atoms.{whole_part, part_of, with_part, parts, atoms, atoms_left, IsWithin}
+use Rattle.page_roff_blocks.specs.Parts.{rest_text, loop_part_if, end_part, cut_part, plain_part, raw_rest, keyword_of, keyword_part, form_part, written_part, columns_of, named_part}
 
 -- what is left of a line is shorter than the line
 abbrev pub IsShorter : List ℕ → Option (List ℕ) → Type 0
@@ -47,6 +50,16 @@ plain_shorter line = cut_shorter line (block_end_of line) (end_shorter line)
 raw_shorter : (line : List ℕ) (column : ℕ) → 2 ≤ column → column ≤ length line + 1 → length (raw_rest line column) < length line
 raw_shorter line column a b = omega (arith, length-drop (column - 1) line)
 
+-- what a loop guards is what a conditional does
+loop_within : (column : ℕ) (rest : List ℕ) → remainders.IsWithin (length rest) (loop_of column rest).guarded.remainder
+unfolding loop_of conditional_of
+loop_within column rest = conditional_within column rest
+
+loop_shorter : (line : List ℕ) (opens : Bool) (read : LoopRead (List ℕ)) → IsShorter line (rest_text read.guarded.remainder)
+    → IsShorter line (loop_part_if opens read).rest
+loop_shorter line true read h = h
+loop_shorter line false read h = tt
+
 keyword_shorter : (k : Keyword) (line : List ℕ) (column : ℕ) (rest : List ℕ) (rest_column : ℕ) → 2 ≤ rest_column → rest_column ≤ length line + 1
     → IsShorter line (keyword_part k line column rest rest_column).rest
 keyword_shorter keywords.If line column rest rest_column a b =
@@ -58,6 +71,11 @@ keyword_shorter keywords.IfElse line column rest rest_column a b =
 keyword_shorter keywords.Else line column rest rest_column a b =
     let raw = raw_rest line rest_column in
     within_shorter (length raw) line (guarded_of rest_column raw).remainder (guarded_within rest_column raw) (raw_shorter line rest_column a b)
+keyword_shorter keywords.While line column rest rest_column a b =
+    let raw = raw_rest line rest_column in
+    let read = loop_of rest_column raw in
+    loop_shorter line read.guarded.opens_block read
+    (within_shorter (length raw) line read.guarded.remainder (loop_within rest_column raw) (raw_shorter line rest_column a b))
 keyword_shorter (keywords.Region kind) line column rest rest_column a b = tt
 keyword_shorter keywords.Other line column rest rest_column a b = plain_shorter line
 
@@ -69,9 +87,13 @@ form_shorter line (Control name column rest rest_column) e =
     let h = rest_within line name rest column rest_column e in
     keyword_shorter (keyword_of name) line column rest rest_column h.0 h.1
 
+pub written_shorter : (line : List ℕ) → IsShorter line (written_part line).rest
+unfolding written_part
+written_shorter line = form_shorter line (form_of line) refl
+
 pub part_shorter : (line : List ℕ) → IsShorter line (part_of line).rest
 unfolding part_of
-part_shorter line = form_shorter line (form_of line) refl
+part_shorter line = written_shorter line
 
 -- ---- the columns of a control line, by its name
 
@@ -158,8 +180,8 @@ part_in line (Control other column rest rest_column) name e =
     let same : other ≡ name = cc in
     rw same refl
 
-pub part_named : (line name : List ℕ) → name_of (form_of line) ≡ Some name → part_of line ≡ named_part (keyword_of name) line (form_of line)
-unfolding part_of
+pub part_named : (line name : List ℕ) → name_of (form_of line) ≡ Some name → written_part line ≡ named_part (keyword_of name) line (form_of line)
+unfolding written_part
 part_named line name e = part_in line (form_of line) name e
 
 -- ---- a line without a name heads nothing, nor does one of another name
@@ -173,8 +195,8 @@ named_other line (Control other column rest rest_column) name e k =
     let same : other ≡ name = cc in
     rw (same, k) refl
 
-pub plain_named : (line name : List ℕ) → name_of (form_of line) ≡ Some name → keyword_of name ≡ keywords.Other → part_of line ≡ plain_part line
-unfolding part_of
+pub plain_named : (line name : List ℕ) → name_of (form_of line) ≡ Some name → keyword_of name ≡ keywords.Other → written_part line ≡ plain_part line
+unfolding written_part
 plain_named line name e k = named_other line (form_of line) name e k
 
 nameless : (line : List ℕ) (form : LineForm (List ℕ)) → name_of form ≡ None → form_part line form ≡ plain_part line
@@ -183,8 +205,8 @@ nameless line BlankLine e = refl
 nameless line (Text text) e = refl
 nameless line (Control other column rest rest_column) e = let no : ⊥ = cc in absurd no
 
-pub plain_nameless : (line : List ℕ) → name_of (form_of line) ≡ None → part_of line ≡ plain_part line
-unfolding part_of
+pub plain_nameless : (line : List ℕ) → name_of (form_of line) ≡ None → written_part line ≡ plain_part line
+unfolding written_part
 plain_nameless line e = nameless line (form_of line) e
 
 -- ---- so many remainders are enough
@@ -224,5 +246,7 @@ atoms_cons line =
 
 -- ---- a line that heads nothing and ends no block is one part
 
-pub one_leaf : (line : List ℕ) → part_of line ≡ plain_part line → block_end_of line ≡ None → atoms line ≡ Leaf line ∷ []
-one_leaf line h e = atoms_cons line ∙ ap (λ part. with_part part (atoms_left part.rest)) (h ∙ ap (cut_part line) e)
+pub one_leaf : (line : List ℕ) → written_part line ≡ plain_part line → block_end_of line ≡ None → atoms line ≡ Leaf line ∷ []
+unfolding part_of
+one_leaf line h e =
+    atoms_cons line ∙ ap (λ part. with_part (whole_part part) (atoms_left part.rest)) (h ∙ ap (cut_part line) e)

@@ -1,5 +1,5 @@
 -- What is left of a line after a part is the end of that line: helpers of proofs.
-use Rattle.std.proofs.Common.{◌≡◌, ℕ, ◌+◌, ◌-◌, ◌≤◌, nat_lt, false, List, ◌∷◌, length, take, drop, Option, Some, None, refl, sym, ap, ◌∙◌, arith, inl, inr, length-drop}
+use Rattle.std.proofs.Common.{◌≡◌, ℕ, ◌+◌, ◌-◌, ◌≤◌, nat_lt, Bool, true, false, List, ◌∷◌, length, take, drop, Option, Some, None, refl, sym, ap, ◌∙◌, arith, inl, inr, length-drop}
 use Rattle.std.proofs.lemmas.Bool.{cases_Bool}
 use Rattle.std.proofs.lemmas.Bool.Decides.{nat_tests}
 use Rattle.std.proofs.lemmas.List.{drop-drop, drop_all, take_all}
@@ -8,12 +8,17 @@ use Rattle.page_roff_forms.specs.declared.line_forms.LineForm.{LineForm}
 use Rattle.page_roff_forms.specs.declared.line_forms.LineForm.TheVariants.{Comment, BlankLine, Text, Control}
 use Rattle.page_roff_heads.specs.Conditions.{condition_len}
 use Rattle.page_roff_heads.specs.Heads.{conditional_of, guarded_of, end_place, block_end_of}
+use Rattle.page_roff_heads.specs.Loops.{loop_of}
+use Rattle.page_roff_heads.specs.declared.loops.LoopRead.{LoopRead}
 use Rattle.page_roff_heads.specs.Texts.{blank_len, after_blanks, begins_pair, is_some_line, remainder_of}
 use Rattle.page_roff_heads.specs.declared.texts.Placed.{Placed}
 use Rattle.page_roff_blocks.specs.declared.parts.Keyword.{Keyword}
 use Rattle.page_roff_blocks.specs.declared.parts.Keyword.TheVariants as keywords
-use Rattle.page_roff_blocks.specs.Atoms.{rest_text, plain_part, raw_rest, keyword_of, keyword_part, form_part, part_of, with_part, atoms, atoms_left}
-use Rattle.page_roff_blocks.specs.LinePlaces.{IsEndOf, IsRestIn, rest_at, parts_at, place_after}
+use Rattle.page_roff_blocks.specs.declared.atoms.Atom.{Atom}
+use Rattle.page_roff_blocks.specs.declared.atoms.Atom.TheVariants.{Leaf, Guard, Block, Loop, End, Region}
+use Rattle.page_roff_blocks.specs.Atoms.{part_of, with_part, atoms, atoms_left, whole_atom}
+use Rattle.page_roff_blocks.specs.Parts.{rest_text, loop_part_if, plain_part, raw_rest, keyword_of, keyword_part, form_part, written_part}
+use Rattle.page_roff_blocks.specs.LinePlaces.{IsEndOf, IsRestIn, rest_at, parts_at, place_after, is_block, opens_block}
 use Rattle.page_roff_blocks.proofs.AtomLemmas.{end_rest, atoms_cons}
 
 -- a text is what a line ends with
@@ -78,11 +83,24 @@ plain_ends line =
       | inr t ↦ rw t tt
     ]
 
+loop_ends : (column : ℕ) (rest : List ℕ) → EndsRemainder rest (loop_of column rest).guarded.remainder
+unfolding loop_of conditional_of
+loop_ends column rest = conditional_ends column rest
+
+loop_if_ends : (line : List ℕ) (opens : Bool) (read : LoopRead (List ℕ)) → EndsRest line (rest_text read.guarded.remainder) → EndsRest line (loop_part_if opens read).rest
+unfolding EndsRest
+loop_if_ends line true read h = h
+loop_if_ends line false read h = tt
+
 keyword_ends : (k : Keyword) (line : List ℕ) (column : ℕ) (rest : List ℕ) (rest_column : ℕ) → EndsRest line (keyword_part k line column rest rest_column).rest
 unfolding EndsRest
 keyword_ends keywords.If line column rest n = let raw = raw_rest line n in further_rest (n - 1) line (conditional_of n raw).guarded.remainder (conditional_ends n raw)
 keyword_ends keywords.IfElse line column rest n = let raw = raw_rest line n in further_rest (n - 1) line (conditional_of n raw).guarded.remainder (conditional_ends n raw)
 keyword_ends keywords.Else line column rest n = let raw = raw_rest line n in further_rest (n - 1) line (guarded_of n raw).remainder (guarded_ends n raw)
+keyword_ends keywords.While line column rest n =
+    let raw = raw_rest line n in
+    let read = loop_of n raw in
+    loop_if_ends line read.guarded.opens_block read (further_rest (n - 1) line read.guarded.remainder (loop_ends n raw))
 keyword_ends (keywords.Region kind) line column rest n = tt
 keyword_ends keywords.Other line column rest n = plain_ends line
 
@@ -117,9 +135,13 @@ end_of line (Some text) h =
     rw e (omega (arith, l), end_at h.0 line)
 
 -- what is left of a line after its first part is its end
+pub written_ends : (line : List ℕ) → IsEndOf line (written_part line).rest
+unfolding written_part
+written_ends line = end_of line (written_part line).rest (form_ends line (form_of line))
+
 pub rest_ends : (line : List ℕ) → IsEndOf line (part_of line).rest
 unfolding part_of
-rest_ends line = end_of line (part_of line).rest (form_ends line (form_of line))
+rest_ends line = written_ends line
 
 -- what is left of the end of a line is the end of the line
 pub end_further : (n : ℕ) (line : List ℕ) (rest : Option (List ℕ)) → n ≤ length line → IsEndOf (drop n line) rest → IsEndOf line rest
@@ -139,7 +161,7 @@ pub place_within : (line : List ℕ) (rest : Option (List ℕ)) → IsRestIn lin
 place_within line None = tt
 place_within line (Some text) = omega arith
 
-to_end : (n : ℕ) (line : List ℕ) → take (length line - n) (drop n line) ≡ drop n line
+pub to_end : (n : ℕ) (line : List ℕ) → take (length line - n) (drop n line) ≡ drop n line
 to_end n line = take_all (length line - n) (drop n line) (omega (arith, length-drop n line))
 
 -- what is left after the first part of the end of a line, which a slice of the line holds
@@ -153,3 +175,17 @@ slice_parts n line p =
     let part = part_of (drop n line) in
     let found = rest_found line part.rest (end_further n line part.rest p (rest_ends (drop n line))) in
     rw (to_end n line) (atoms_cons (drop n line) ∙ sym (ap (λ rest. with_part part (atoms_left rest)) found))
+
+-- what of a part belongs to a loop does not change whether it opens a block
+whole_block : (atom : Atom (List ℕ)) → is_block (whole_atom atom) ≡ is_block atom
+whole_block (Leaf text) = refl
+whole_block (Guard head) = refl
+whole_block (Block opening) = refl
+whole_block (Loop head) = refl
+whole_block End = refl
+whole_block (Region head) = refl
+
+pub slice_opens : (n : ℕ) (line : List ℕ) → n ≤ length line
+    → opens_block (atoms (drop n line)) ≡ is_block (written_part (take (length line - n) (drop n line))).atom
+unfolding part_of
+slice_opens n line p = ap opens_block (slice_parts n line p) ∙ whole_block _

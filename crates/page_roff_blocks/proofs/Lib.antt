@@ -3,4 +3,5 @@ pub mod EndLemmas
 pub mod FoldLemmas
 pub mod HeadLemmas
 pub mod LevelLemmas
+pub mod LoopLemmas
 pub mod RoomLemmas

@@ -1,14 +1,16 @@
 -- How many parts a line has, and how many blocks they skip: helpers of proofs.
 use Rattle.std.proofs.Common.{◌≡◌, ℕ, zero, suc, ◌+◌, ◌*◌, ◌≤◌, Bool, true, false, List, [], ◌∷◌, length, Option, Some, None, refl, arith}
 use Rattle.page_roff_blocks.specs.declared.atoms.Atom.{Atom}
-use Rattle.page_roff_blocks.specs.declared.atoms.Atom.TheVariants.{Leaf, Guard, Block, End, Region}
+use Rattle.page_roff_blocks.specs.declared.atoms.Atom.TheVariants.{Leaf, Guard, Block, Loop, End, Region}
 use Rattle.page_roff_blocks.specs.declared.atoms.Head.{Head}
+use Rattle.page_roff_blocks.specs.declared.atoms.Opening.{Opening}
+use Rattle.page_roff_blocks.specs.declared.atoms.Opening.TheVariants as openings
 use Rattle.page_roff_blocks.specs.declared.levels.Way.{Way}
 use Rattle.page_roff_blocks.specs.declared.levels.Way.TheVariants.{Runs, Skips, Exceeds}
 use Rattle.page_roff_blocks.specs.Atoms.{ends_first, part_of, parts, atoms}
-use Rattle.page_roff_blocks.specs.Levels.{Levels, bit_after, way_of, enter, skip, leave, leave_from, leave_level, Spot, after_part, guarded_by}
+use Rattle.page_roff_blocks.specs.Levels.{Levels, bit_after, way_of, enter, open_loop, skip, leave, leave_from, leave_loop, leave_level, Spot, after_part, guarded_by}
 use Rattle.page_roff_blocks.specs.Run.{Meaning, value}
-use Rattle.page_roff_blocks.specs.Steps.{met, step_leaf, guard_with, guard_met, step_guard, block_with, block_met, step_block, step_end, step_region, step_parts}
+use Rattle.page_roff_blocks.specs.Steps.{met, step_leaf, guard_with, guard_met, step_guard, block_with, opening_met, block_met, step_block, step_loop, step_end, step_region, step_parts}
 use Rattle.page_roff_blocks.proofs.AtomLemmas.{room, room_left, part_shorter}
 
 ends_room : (is_end : Bool) (more : List (Atom (List ℕ))) → length (ends_first is_end more) ≤ suc (length more)
@@ -37,11 +39,13 @@ enter_room Runs bit l = omega arith
 enter_room Skips bit l = omega arith
 enter_room Exceeds bit l = omega arith
 
-pub leave_room : (bit : Bool) (outer : List Bool) (n : ℕ) → (leave (record { bit = bit; outer = outer; skipped = n })).skipped ≤ n
-unfolding leave leave_from leave_level
-leave_room bit [] zero = omega arith
-leave_room bit (b ∷ bs) zero = omega arith
-leave_room bit outer (suc n) = omega arith
+pub leave_room : (bit : Bool) (outer : List Bool) (in_loop : Bool) (n : ℕ)
+    → (leave (record { bit = bit; outer = outer; in_loop = in_loop; skipped = n })).skipped ≤ n
+unfolding leave leave_from leave_loop leave_level
+leave_room bit outer true zero = omega arith
+leave_room bit [] false zero = omega arith
+leave_room bit (b ∷ bs) false zero = omega arith
+leave_room bit outer in_loop (suc n) = omega arith
 
 module _ {X S : Type 0} (m : Meaning X S) where
   guard_room : (is_met : Bool) (h : Head (List ℕ)) (spot : Spot) (s : S) → (guard_met m is_met h spot s).0.levels.skipped ≡ spot.levels.skipped
@@ -49,16 +53,17 @@ module _ {X S : Type 0} (m : Meaning X S) where
   guard_room true h spot s = refl
   guard_room false h spot s = refl
 
-  block_room : (is_met : Bool) (h : Head (List ℕ)) (spot : Spot) (s : S) → (block_met m is_met h spot s).0.levels.skipped ≤ spot.levels.skipped + 1
-  unfolding block_met block_with after_part skip
-  block_room true h spot s =
+  block_room : (is_met : Bool) (h : Opening (List ℕ)) (spot : Spot) (s : S) → (block_met m is_met h spot s).0.levels.skipped ≤ spot.levels.skipped + 1
+  unfolding block_met opening_met block_with after_part open_loop skip
+  block_room true (openings.Conditional h) spot s =
       let v = value m h.branch spot.levels.bit s in
       enter_room (way_of v.0 (length spot.levels.outer)) (bit_after h.branch v.0 spot.levels.bit) spot.levels
+  block_room true (openings.Loop h) spot s = omega arith
   block_room false h spot s = omega arith
 
   -- each part skips one block at most
   pub step_room : (parts : List (Atom (List ℕ))) (spot : Spot) (s : S) → (step_parts m parts spot s).place.levels.skipped ≤ spot.levels.skipped + length parts
-  unfolding step_parts step_leaf step_guard step_block step_end step_region after_part
+  unfolding step_parts step_leaf step_guard step_block step_loop step_end step_region after_part
   step_room [] spot s = omega arith
   step_room (Leaf text ∷ rest) spot s =
       let r = step_leaf m text spot s in
@@ -76,9 +81,13 @@ module _ {X S : Type 0} (m : Meaning X S) where
       let h = step_room rest r.0 r.1 in
       let k = block_room q.0 head spot q.1 in
       omega (arith, h, k)
+  step_room (Loop head ∷ rest) spot s =
+      let r = step_loop m head spot s in
+      let h = step_room rest r.0 r.1 in
+      omega (arith, h)
   step_room (End ∷ rest) spot s =
       let r = step_end m spot s in
       let h = step_room rest r.0 r.1 in
-      let k = leave_room spot.levels.bit spot.levels.outer spot.levels.skipped in
+      let k = leave_room spot.levels.bit spot.levels.outer spot.levels.in_loop spot.levels.skipped in
       omega (arith, h, k)
   step_room (Region head ∷ rest) spot s = omega arith

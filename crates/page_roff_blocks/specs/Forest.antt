@@ -1,10 +1,12 @@
--- The raw lines of one source as a forest, found from the raw text alone. Source: roff(7), "if", "de", "ig".
+-- The raw lines of one source as a forest, found from the raw text alone. Source: roff(7), "if", "while", "de", "ig".
 -- No definition and no value of a condition has a part in it.
 -- A raw line is of any type that has a text: it may have more than that, as its number.
 use Rattle.std.specs.Prelude.{ℕ, Bool, true, false, List, [], ◌∷◌}
+use Rattle.page_roff_heads.specs.declared.loops.LoopHead.{LoopHead}
 use Rattle.page_roff_blocks.specs.declared.atoms.Atom.{Atom}
-use Rattle.page_roff_blocks.specs.declared.atoms.Atom.TheVariants.{Leaf, Guard, Block, End, Region}
+use Rattle.page_roff_blocks.specs.declared.atoms.Atom.TheVariants.{Leaf, Guard, Block, Loop, End, Region}
 use Rattle.page_roff_blocks.specs.declared.atoms.Head.{Head}
+use Rattle.page_roff_blocks.specs.declared.atoms.Opening.{Opening}
 use Rattle.page_roff_blocks.specs.declared.regions.RegionHead.{RegionHead}
 use Rattle.page_roff_blocks.specs.Atoms.{atoms}
 use Rattle.page_roff_blocks.specs.Regions.{is_ending}
@@ -17,8 +19,10 @@ pub data Forest (X : Type 0) : Type 0 where
   leaf : List ℕ → Forest X → Forest X
   -- the head of a conditional without a block, which guards the next node of its line
   guard : Head (List ℕ) → Forest X → Forest X
-  -- the head of a conditional with its block
-  block : Head (List ℕ) → Forest X → Forest X → Forest X
+  -- the head of a conditional or of a loop with its block
+  block : Opening (List ℕ) → Forest X → Forest X → Forest X
+  -- a loop of one line, without a block
+  loop : LoopHead (List ℕ) → Forest X → Forest X
   -- the head of a region, its lines and the line that ends it
   region : RegionHead (List ℕ) → List X → X → Forest X → Forest X
 
@@ -27,7 +31,7 @@ pub data Forest (X : Type 0) : Type 0 where
 pub data Source (X : Type 0) : Type 0 where
   ends : Forest X → Source X
   shuts : Forest X → Source X → Source X
-  opens : Forest X → Head (List ℕ) → Source X → Source X
+  opens : Forest X → Opening (List ℕ) → Source X → Source X
   holds : Forest X → RegionHead (List ℕ) → List X → Source X
 
 -- lines that begin inside a region: those up to its end line, that line, and the source after it
@@ -43,7 +47,7 @@ before node (opens f h s) = opens (node f) h s
 before node (holds f r ls) = holds (node f) r ls
 
 -- a block goes up to the first end that no block in it takes
-unfoldable pub enclose : {X : Type 0} → Head (List ℕ) → Source X → Source X
+unfoldable pub enclose : {X : Type 0} → Opening (List ℕ) → Source X → Source X
 enclose h (ends f) = opens empty h (ends f)
 enclose h (shuts f s) = before (block h f) s
 enclose h (opens f g s) = opens empty h (opens f g s)
@@ -66,6 +70,7 @@ line_of [] after inside = after
 line_of (Leaf text ∷ rest) after inside = before (leaf text) (line_of rest after inside)
 line_of (Guard h ∷ rest) after inside = before (guard h) (line_of rest after inside)
 line_of (Block h ∷ rest) after inside = enclose h (line_of rest after inside)
+line_of (Loop h ∷ rest) after inside = before (loop h) (line_of rest after inside)
 line_of (End ∷ rest) after inside = shuts empty (line_of rest after inside)
 line_of (Region r ∷ rest) after inside = enregion r (inside r.ending)
 

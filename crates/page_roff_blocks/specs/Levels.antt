@@ -1,4 +1,4 @@
--- Where a source stands: the levels of its blocks, and an open region. Source: roff(7), "if", "ie", "el".
+-- Where a source stands: the levels of its blocks, and an open region. Source: roff(7), "if", "ie", "el", "while".
 use Rattle.std.specs.Prelude.{ℕ, zero, suc, Bool, true, false, not, List, [], ◌∷◌, length, Option, Some, None, nat_lt, nat_le, if◌then◌else◌}
 use Rattle.std.specs.Borrow.{Bor}
 use Rattle.page_core_limits.specs.declared.TheConstants.{CONDS, NAME}
@@ -8,19 +8,23 @@ use Rattle.page_roff_blocks.specs.declared.regions.RegionHead.{RegionHead}
 use Rattle.page_roff_requests.specs.declared.regions.RegionKind.{RegionKind}
 use Rattle.page_roff_blocks.specs.declared.spots.Reached.{Reached}
 use Rattle.page_roff_blocks.specs.declared.spots.Reached.TheVariants.{PassedOver, First, Remainder}
+use Rattle.page_roff_blocks.specs.declared.levels.Ended.{Ended}
+use Rattle.page_roff_blocks.specs.declared.levels.Ended.TheVariants as endings
 use Rattle.page_roff_blocks.specs.declared.levels.Way.{Way}
 use Rattle.page_roff_blocks.specs.declared.levels.Way.TheVariants.{Runs, Skips, Exceeds}
 
--- The innermost level's bit for `ie`, the bits of the levels around it from the inside out, and the number
--- of skipped blocks that are open in it.
+-- The innermost level's bit for `ie`, and the bits of the levels around it from the inside out.
 pub record Levels : Type 0 where
   pub bit : Bool
   pub outer : List Bool
+  -- whether a loop is being collected in the innermost level
+  pub in_loop : Bool
+  -- the number of skipped blocks that are open there: those in the loop, where one is collected
   pub skipped : ℕ
 
 -- outside all blocks
 unfoldable pub outside : Levels
-outside = record { bit = false; outer = []; skipped = 0 }
+outside = record { bit = false; outer = []; in_loop = false; skipped = 0 }
 
 -- `ie` sets the bit of its level to the opposite of its condition, `el` clears it
 unfoldable pub bit_after : Branch (List ℕ) → Bool → Bool → Bool
@@ -39,33 +43,49 @@ way_of true count = way_in (nat_lt count CONDS)
 
 -- a block is entered in a level that is run, whose bit is this one from then on
 unfoldable pub enter : Way → Bool → Levels → Levels
-enter Runs bit l = record { bit = false; outer = bit ∷ l.outer; skipped = 0 }
-enter Skips bit l = record { bit = bit; outer = l.outer; skipped = 1 }
-enter Exceeds bit l = record { bit = bit; outer = l.outer; skipped = 1 }
+enter Runs bit l = record { bit = false; outer = bit ∷ l.outer; in_loop = false; skipped = 0 }
+enter Skips bit l = record { bit = bit; outer = l.outer; in_loop = false; skipped = 1 }
+enter Exceeds bit l = record { bit = bit; outer = l.outer; in_loop = false; skipped = 1 }
 
 -- a block is skipped
 unfoldable pub skip : Levels → Levels
 skip l = record l { skipped = suc l.skipped }
 
--- the innermost block ends, if there is one
+-- a loop begins to be collected in a level that is run
+unfoldable pub open_loop : Levels → Levels
+open_loop l = record l { in_loop = true }
+
+-- What is innermost ends: a skipped block first, then a loop, then a level, if there is one.
 unfoldable pub leave_level : List Bool → Levels → Levels
 leave_level [] l = l
-leave_level (bit ∷ outer) l = record { bit = bit; outer = outer; skipped = 0 }
+leave_level (bit ∷ outer) l = record { bit = bit; outer = outer; in_loop = false; skipped = 0 }
+
+unfoldable pub leave_loop : Bool → Levels → Levels
+leave_loop true l = record l { in_loop = false }
+leave_loop false l = leave_level l.outer l
 
 unfoldable pub leave_from : ℕ → Levels → Levels
-leave_from zero l = leave_level l.outer l
+leave_from zero l = leave_loop l.in_loop l
 leave_from (suc skipped) l = record l { skipped = skipped }
 
 unfoldable pub leave : Levels → Levels
 leave l = leave_from l.skipped l
 
-unfoldable pub is_block : ℕ → List Bool → Bool
-is_block (suc skipped) outer = true
-is_block zero (bit ∷ outer) = true
-is_block zero [] = false
+-- what that is
+unfoldable pub level_ends : List Bool → Ended
+level_ends [] = endings.Nothing
+level_ends (bit ∷ outer) = endings.Block
 
-unfoldable pub has_block : Levels → Bool
-has_block l = is_block l.skipped l.outer
+unfoldable pub loop_ends : Bool → List Bool → Ended
+loop_ends true outer = endings.Loop
+loop_ends false outer = level_ends outer
+
+unfoldable pub ends_from : ℕ → Bool → List Bool → Ended
+ends_from zero in_loop outer = loop_ends in_loop outer
+ends_from (suc skipped) in_loop outer = endings.Block
+
+unfoldable pub what_ends : Levels → Ended
+what_ends l = ends_from l.skipped l.in_loop l.outer
 
 -- Where a source stands in a line: its levels, whether a part of the line was reached, and whether the next
 -- part is passed over, since a head guards it.
@@ -87,7 +107,7 @@ unfoldable pub guarded_by : Branch (List ℕ) → Bool → Levels → Spot
 guarded_by branch value l =
     record { levels = record l { bit = bit_after branch value l.bit }; begun = true; passing = not value }
 
--- how a part is reached where no block is skipped
+-- how a part is reached where no block is skipped, and no loop collected
 unfoldable pub reached_if : Bool → Bool → Reached
 reached_if true begun = PassedOver
 reached_if false false = First
@@ -97,8 +117,12 @@ unfoldable pub reached_from : ℕ → Bool → Bool → Reached
 reached_from zero passing begun = reached_if passing begun
 reached_from (suc skipped) passing begun = PassedOver
 
+unfoldable pub reached_in : Bool → ℕ → Bool → Bool → Reached
+reached_in true skipped passing begun = PassedOver
+reached_in false skipped passing begun = reached_from skipped passing begun
+
 unfoldable pub reached : Spot → Reached
-reached s = reached_from s.levels.skipped s.passing s.begun
+reached s = reached_in s.levels.in_loop s.levels.skipped s.passing s.begun
 
 -- An open region: what it is, the macro that it defines, the name of its end line, and whether it is run. A
 -- name beyond the limit of names defines nothing.

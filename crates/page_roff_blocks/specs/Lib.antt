@@ -1,6 +1,8 @@
 pub mod Atoms
 pub mod Caps
 pub mod Regions
+pub mod Parts
+pub mod Loops
 pub mod Forest
 pub mod Levels
 pub mod LinePlaces

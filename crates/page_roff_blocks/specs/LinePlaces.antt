@@ -1,7 +1,7 @@
 -- Places in a raw line, between its parts: how the code goes through a line. Trust needs no reading of it. Source: roff(7), "if", "ie", "el".
-use Rattle.std.specs.Prelude.{◌≡◌, ℕ, ◌-◌, ◌≤◌, Bool, true, false, not, ◌&&◌, is_none, List, ◌∷◌, length, drop, Option, Some, None}
+use Rattle.std.specs.Prelude.{◌≡◌, ℕ, ◌-◌, ◌≤◌, Bool, true, false, not, ◌&&◌, is_none, List, [], ◌∷◌, length, drop, Option, Some, None}
 use Rattle.page_roff_blocks.specs.declared.atoms.Atom.{Atom}
-use Rattle.page_roff_blocks.specs.declared.atoms.Atom.TheVariants.{Leaf}
+use Rattle.page_roff_blocks.specs.declared.atoms.Atom.TheVariants.{Leaf, Guard, Block, Loop, End, Region}
 use Rattle.page_roff_blocks.specs.declared.line_places.LinePlace.{LinePlace}
 use Rattle.page_roff_blocks.specs.Atoms.{atoms_left, ends_first}
 
@@ -25,6 +25,19 @@ whole_first false line more = more
 -- the parts of a line after a place in it
 abbrev pub parts_at : List ℕ → LinePlace → List (Atom (List ℕ))
 parts_at line place = whole_first place.is_whole line (ends_first place.is_end (atoms_left (rest_at line place.rest)))
+
+-- whether the first of parts opens a block
+abbrev pub is_block : Atom (List ℕ) → Bool
+is_block (Leaf text) = false
+is_block (Guard head) = false
+is_block (Block opening) = true
+is_block (Loop head) = false
+is_block End = false
+is_block (Region head) = false
+
+abbrev pub opens_block : List (Atom (List ℕ)) → Bool
+opens_block [] = false
+opens_block (part ∷ more) = is_block part
 
 -- it lies in a line
 abbrev pub IsRestIn : List ℕ → Option ℕ → Type 0

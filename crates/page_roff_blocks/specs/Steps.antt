@@ -1,13 +1,16 @@
--- The parts of a source, one after another: the steps of the code. Trust needs no reading of it. Source: roff(7), "if", "de", "ig".
+-- The parts of a source, one after another: the steps of the code. Trust needs no reading of it. Source: roff(7), "if", "while", "de", "ig".
 use Rattle.std.specs.Prelude.{ℕ, Bool, true, false, List, [], ◌∷◌, length, Option, Some, None}
+use Rattle.page_roff_heads.specs.declared.loops.LoopHead.{LoopHead}
 use Rattle.page_roff_blocks.specs.declared.atoms.Atom.{Atom}
-use Rattle.page_roff_blocks.specs.declared.atoms.Atom.TheVariants.{Leaf, Guard, Block, End, Region}
+use Rattle.page_roff_blocks.specs.declared.atoms.Atom.TheVariants.{Leaf, Guard, Block, Loop, End, Region}
 use Rattle.page_roff_blocks.specs.declared.atoms.Head.{Head}
+use Rattle.page_roff_blocks.specs.declared.atoms.Opening.{Opening}
+use Rattle.page_roff_blocks.specs.declared.atoms.Opening.TheVariants as openings
 use Rattle.page_roff_blocks.specs.declared.regions.RegionHead.{RegionHead}
 use Rattle.page_roff_blocks.specs.Atoms.{atoms}
 use Rattle.page_roff_blocks.specs.Regions.{is_ending}
-use Rattle.page_roff_blocks.specs.Levels.{Levels, bit_after, way_of, enter, skip, leave, has_block, Spot, at_line, after_part, guarded_by, reached, Opened, opened}
-use Rattle.page_roff_blocks.specs.Run.{Meaning, At, meet_as, value, leaf_if, refuse_if, unopened_if}
+use Rattle.page_roff_blocks.specs.Levels.{Levels, bit_after, way_of, enter, open_loop, skip, leave, what_ends, Spot, at_line, after_part, guarded_by, reached, Opened, opened}
+use Rattle.page_roff_blocks.specs.Run.{Meaning, At, meet_as, value, leaf_if, loop_if, refuse_if, keep_if, end_by}
 
 module _ {X S : Type 0} (m : Meaning X S) where
   -- how the next part is met
@@ -34,16 +37,24 @@ module _ {X S : Type 0} (m : Meaning X S) where
       let way = way_of v.0 (length spot.levels.outer) in
       (after_part (enter way (bit_after h.branch v.0 spot.levels.bit) spot.levels), refuse_if m way h v.1)
 
-  unfoldable pub block_met : Bool → Head (List ℕ) → Spot → S → Spot × S
-  block_met true h spot s = block_with h spot (value m h.branch spot.levels.bit s)
+  unfoldable pub opening_met : Opening (List ℕ) → Spot → S → Spot × S
+  opening_met (openings.Conditional h) spot s = block_with h spot (value m h.branch spot.levels.bit s)
+  opening_met (openings.Loop h) spot s = (after_part (open_loop spot.levels), m.opens_loop h s)
+
+  unfoldable pub block_met : Bool → Opening (List ℕ) → Spot → S → Spot × S
+  block_met true h spot s = opening_met h spot s
   block_met false h spot s = (after_part (skip spot.levels), s)
 
-  unfoldable pub step_block : Head (List ℕ) → Spot → S → Spot × S
+  unfoldable pub step_block : Opening (List ℕ) → Spot → S → Spot × S
   step_block h spot s = let q = met spot s in block_met q.0 h spot q.1
+
+  -- a loop of one line
+  unfoldable pub step_loop : LoopHead (List ℕ) → Spot → S → Spot × S
+  step_loop h spot s = let q = met spot s in (after_part spot.levels, loop_if m q.0 h q.1)
 
   -- the end of a block
   unfoldable pub step_end : Spot → S → Spot × S
-  step_end spot s = (after_part (leave spot.levels), unopened_if m (has_block spot.levels) s)
+  step_end spot s = (after_part (leave spot.levels), end_by m (what_ends spot.levels) s)
 
   -- the head of a region, with which its line ends
   unfoldable pub step_region : RegionHead (List ℕ) → Spot → S → At S
@@ -57,16 +68,25 @@ module _ {X S : Type 0} (m : Meaning X S) where
   step_parts (Leaf text ∷ rest) spot s = let r = step_leaf text spot s in step_parts rest r.0 r.1
   step_parts (Guard h ∷ rest) spot s = let r = step_guard h spot s in step_parts rest r.0 r.1
   step_parts (Block h ∷ rest) spot s = let r = step_block h spot s in step_parts rest r.0 r.1
+  step_parts (Loop h ∷ rest) spot s = let r = step_loop h spot s in step_parts rest r.0 r.1
   step_parts (End ∷ rest) spot s = let r = step_end spot s in step_parts rest r.0 r.1
   step_parts (Region head ∷ rest) spot s = step_region head spot s
 
   -- a line in an open region
   unfoldable pub step_inside : Bool → Opened → X → Levels → S → At S
-  step_inside true o line l s = record { place = record { region = None; levels = l }; state = m.ends_region o line s }
-  step_inside false o line l s = record { place = record { region = Some o; levels = l }; state = m.reads o line s }
+  step_inside true o line l s = record { place = record { region = None; levels = l }; state = keep_if m l.in_loop line (m.ends_region o line s) }
+  step_inside false o line l s = record { place = record { region = Some o; levels = l }; state = keep_if m l.in_loop line (m.reads o line s) }
+
+  -- a line that begins, in a loop that is collected or not
+  unfoldable pub collect_if : Bool → ℕ → X → S → S
+  collect_if true k line s = m.collects k line s
+  collect_if false k line s = s
+
+  unfoldable pub begin_line : X → Levels → S → S
+  begin_line line l s = collect_if l.in_loop l.skipped line (m.begins line s)
 
   unfoldable pub step_from : (X → List ℕ) → Option Opened → X → Levels → S → At S
-  step_from text None line l s = step_parts (atoms (text line)) (at_line l) (m.begins line s)
+  step_from text None line l s = step_parts (atoms (text line)) (at_line l) (begin_line line l s)
   step_from text (Some o) line l s = step_inside (is_ending o.ending (text line)) o line l s
 
   -- one line

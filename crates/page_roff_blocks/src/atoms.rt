@@ -1,9 +1,9 @@
-//! What a raw line is made of (roff(7), "if", "ie", "el").
+//! What a raw line is made of (roff(7), "if", "ie", "el", "while").
 
 ghost use Rattle.std.specs.Prelude.{◌≡◌};
 
 use crate::regions::RegionHead;
-use page_roff_heads::Condition;
+use page_roff_heads::{Condition, LoopHead};
 use std::alloc::AllocError;
 
 /// What the head of a conditional asks; `W` is a text.
@@ -23,16 +23,26 @@ pub struct Head<W> {
     pub branch: Branch<W>,
 }
 
+/// A head that opens a block; `W` is a text.
+pub enum Opening<W> {
+    /// That of a conditional.
+    Conditional(Head<W>),
+    /// That of a loop.
+    Loop(LoopHead<W>),
+}
+
 /// A part of a raw line; `W` is a text. What follows a part on its line is a remainder, a line of its own:
 /// columns are those of the remainder in which they stand.
 pub enum Atom<W> {
-    /// A line that heads no conditional and no region, or what stands in such a line before the end of a
+    /// A line that heads no conditional, no loop and no region, or what stands in such a line before the end of a
     /// block.
     Leaf(W),
     /// The head of a conditional without a block. It guards the next part of its line, if there is one.
     Guard(Head<W>),
-    /// The head of a conditional that opens a block.
-    Block(Head<W>),
+    /// The head of a conditional or of a loop that opens a block.
+    Block(Opening<W>),
+    /// A loop without a block. Nothing follows it on its line.
+    Loop(LoopHead<W>),
     /// The end of the innermost block.
     End,
     /// The head of a region. Nothing follows it on its line.
@@ -59,6 +69,18 @@ impl<W: Copy> Clone for Head<W> {
     ghost is_infallible = { λ _. Unit {0} };
 
     fn clone(&self) -> Result<Head<W>, AllocError> {
+        Ok(*self)
+    }
+}
+
+impl<W: Copy> Copy for Opening<W> {}
+
+impl<W: Copy> Clone for Opening<W> {
+    ghost is_clone = { λ x y. y ≡ x };
+
+    ghost is_infallible = { λ _. Unit {0} };
+
+    fn clone(&self) -> Result<Opening<W>, AllocError> {
         Ok(*self)
     }
 }

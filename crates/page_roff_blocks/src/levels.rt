@@ -1,9 +1,9 @@
-//! The levels of the blocks of one source (roff(7), "if", "ie", "el").
+//! The levels of the blocks of one source (roff(7), "if", "ie", "el", "while").
 
 ghost use Rattle.std.specs.Prelude.{◌≡◌, ◌<◌, ◌≤◌, ◌^◌, length};
 ghost use Rattle.page_core_limits.specs.declared.TheConstants.{CONDS};
 ghost use Rattle.page_roff_blocks.specs.Atoms.{branch_seen};
-ghost use Rattle.page_roff_blocks.specs.Levels.{outside, bit_after, way_of, enter, skip, leave, has_block};
+ghost use Rattle.page_roff_blocks.specs.Levels.{outside, bit_after, way_of, enter, open_loop, skip, leave, what_ends};
 
 use crate::atoms::Branch;
 use arrayvec::ArrayVec;
@@ -21,13 +21,25 @@ pub enum Way {
     Exceeds,
 }
 
+/// What the end of a block ends.
+#[derive(Clone, Copy)]
+pub enum Ended {
+    /// A block, one in a loop too.
+    Block,
+    /// The loop that is collected.
+    Loop,
+    /// Nothing: no block is open.
+    Nothing,
+}
+
 /// The levels of the blocks of one source: for each true block that is open, and for what is outside of
-/// all, the bit that `ie` leaves to `el`; and the number of skipped blocks that are open in the innermost
-/// of them.
+/// all, the bit that `ie` leaves to `el`; whether a loop is being collected in the innermost of them; and
+/// the number of skipped blocks that are open there, which are those in the loop where one is collected.
 #[derive(Drop)]
 pub struct Levels {
     bit: bool,
     outer: ArrayVec<bool, CONDS>,
+    in_loop: bool,
     skipped: u64,
 }
 
@@ -38,7 +50,7 @@ impl Model for Levels {
 
     ghost use Rattle.std.specs.Prelude.{reverse};
 
-    ghost view = { λ l. record { bit = l.bit; outer = reverse l.outer.items; skipped = l.skipped } };
+    ghost view = { λ l. record { bit = l.bit; outer = reverse l.outer.items; in_loop = l.in_loop; skipped = l.skipped } };
 }
 
 impl Branch<&[u8]> {
@@ -64,6 +76,7 @@ impl Levels {
         Levels {
             bit: false,
             outer: ArrayVec::new(),
+            in_loop: false,
             skipped: 0,
         }
     }
@@ -73,6 +86,13 @@ impl Levels {
         ensures { result ≡ self.now.bit }
     {
         self.bit
+    }
+
+    /// Whether a loop is being collected here.
+    pub fn in_loop(&self) -> bool
+        ensures { result ≡ self.now.in_loop }
+    {
+        self.in_loop
     }
 
     /// The number of skipped blocks that are open here.
@@ -105,6 +125,7 @@ impl Levels {
         ensures way { result ≡ way_of value (length self.old.outer) }
         ensures levels { self.new ≡ enter result self.old.bit self.old }
     {
+        self.in_loop = false;
         if !value {
             self.skipped = 1;
             return Way::Skips;
@@ -128,22 +149,34 @@ impl Levels {
         self.skipped += 1;
     }
 
-    /// The innermost block ends: whether there was one.
-    #[tactic(auto, unfolding(crate::specs::Levels::leave, crate::specs::Levels::leave_from, crate::specs::Levels::leave_level, crate::specs::Levels::has_block, crate::specs::Levels::is_block))]
-    pub fn leave(&mut self) -> bool
+    /// Begins to collect a loop.
+    #[tactic(auto, unfolding(crate::specs::Levels::open_loop))]
+    pub fn open_loop(&mut self)
+        ensures { self.new ≡ open_loop self.old }
+    {
+        self.in_loop = true;
+    }
+
+    /// The innermost block ends, or the loop that is collected: which of them it was, if any.
+    #[tactic(auto, unfolding(crate::specs::Levels::leave, crate::specs::Levels::leave_from, crate::specs::Levels::leave_loop, crate::specs::Levels::leave_level, crate::specs::Levels::what_ends, crate::specs::Levels::ends_from, crate::specs::Levels::loop_ends, crate::specs::Levels::level_ends))]
+    pub fn leave(&mut self) -> Ended
         ensures levels { self.new ≡ leave self.old }
-        ensures block { result ≡ has_block self.old }
+        ensures ended { result ≡ what_ends self.old }
     {
         if self.skipped > 0 {
             self.skipped -= 1;
-            return true;
+            return Ended::Block;
+        }
+        if self.in_loop {
+            self.in_loop = false;
+            return Ended::Loop;
         }
         match self.outer.pop() {
             Some(bit) => {
                 self.bit = bit;
-                true
+                Ended::Block
             }
-            None => false,
+            None => Ended::Nothing,
         }
     }
 

@@ -1,13 +1,14 @@
-//! Places in a raw line, between its parts (roff(7), "if", "ie", "el").
+//! Places in a raw line, between its parts (roff(7), "if", "ie", "el", "while").
 
-ghost use Rattle.std.specs.Prelude.{◌≡◌, ◌≤◌, false, length, IfSome};
+ghost use Rattle.std.specs.Prelude.{◌≡◌, ◌≤◌, false, length, drop, IfSome};
 ghost use Rattle.page_core_limits.specs.declared.TheConstants.{LINE};
 ghost use Rattle.page_roff_blocks.specs.Atoms.{atom_seen, atoms, FitsAtom, ReadsNext};
-ghost use Rattle.page_roff_blocks.specs.LinePlaces.{parts_at, line_end, is_at_end, place_after, IsPlaceIn, IsEndOf};
+ghost use Rattle.page_roff_blocks.specs.LinePlaces.{parts_at, line_end, is_at_end, is_block, opens_block, place_after, IsPlaceIn, IsEndOf};
 ghost use Rattle.page_roff_blocks.specs.Regions.{text_seen};
 
 use crate::atoms::Atom;
-use crate::parts::{is_leaf, part_of};
+use crate::loops::part_of;
+use crate::parts::{is_leaf, written_part};
 use page_core_limits::LINE;
 
 /// A place in a raw line, between two of its parts.
@@ -21,8 +22,8 @@ pub struct LinePlace {
     rest: Option<usize>,
 }
 
-// Where the end of a line that is left begins.
-fn place_after(line: &[u8], rest: Option<&[u8]>) -> Option<usize>
+/// Where the end of a line that is left begins.
+pub(crate) fn place_after(line: &[u8], rest: Option<&[u8]>) -> Option<usize>
     requires { IsEndOf line.now (text_seen rest) }
     ensures { result ≡ place_after line.now (text_seen rest.entry) }
 {
@@ -30,6 +31,13 @@ fn place_after(line: &[u8], rest: Option<&[u8]>) -> Option<usize>
         Some(text) => Some(line.len() - text.len()),
         None => None,
     }
+}
+
+// Whether a part opens a block.
+fn is_block(atom: &Atom<&[u8]>) -> bool
+    ensures { result ≡ is_block (atom_seen atom.now) }
+{
+    matches!(atom, Atom::Block(_))
 }
 
 impl LinePlace {
@@ -102,5 +110,54 @@ impl LinePlace {
             return Some(Atom::Leaf(line));
         }
         self.next_of_several(line)
+    }
+
+    // Goes past the next part of a line that is not one part.
+    fn pass_of_several(&mut self, line: &[u8])
+        requires short { length line.now ≤ LINE }
+        requires within { IsPlaceIn line.now self.old }
+        requires several { self.old.is_whole ≡ false }
+        ensures next { parts_at line.now self.new ≡ drop 1 (parts_at line.now self.old) }
+        ensures within { IsPlaceIn line.now self.new }
+    {
+        if self.is_end {
+            self.is_end = false;
+            return;
+        }
+        if let Some(start) = self.rest {
+            let part = written_part(&line[start..]);
+            self.is_end = part.is_end;
+            self.rest = place_after(line, part.rest);
+        }
+    }
+
+    /// Goes past the next part of a line of at most [`LINE`] bytes, in which the place is, if there is one. What belongs to a loop is not
+    /// looked for: loops that are passed over are not read again for each other one in their line.
+    pub fn pass_atom(&mut self, line: &[u8])
+        requires short { length line.now ≤ LINE }
+        requires within { IsPlaceIn line.now self.old }
+        ensures next { parts_at line.now self.new ≡ drop 1 (parts_at line.now self.old) }
+        ensures within { IsPlaceIn line.now self.new }
+    {
+        if self.is_whole {
+            self.is_whole = false;
+            return;
+        }
+        self.pass_of_several(line);
+    }
+
+    /// Whether the next part of a line of at most [`LINE`] bytes, in which the place is, opens a block. What belongs to a loop is not looked for.
+    pub fn opens_block(&self, line: &[u8]) -> bool
+        requires short { length line.now ≤ LINE }
+        requires within { IsPlaceIn line.now self.now }
+        ensures { result ≡ opens_block (parts_at line.now self.now) }
+    {
+        if self.is_whole || self.is_end {
+            return false;
+        }
+        match self.rest {
+            None => false,
+            Some(start) => is_block(&written_part(&line[start..]).atom),
+        }
     }
 }

@@ -1,22 +1,24 @@
-//! The first part of a raw line (roff(7), "if", "ie", "el").
+//! The first part of a raw line (roff(7), "if", "ie", "el", "while").
 
 ghost use Rattle.std.specs.Prelude.{◌≡◌, ◌≤◌, ◌+◌, true, [], ◌∷◌, length, Some};
 ghost use Rattle.page_core_limits.specs.declared.TheConstants.{LINE};
 ghost use Rattle.page_roff_forms.specs.LineForms.{form_of, name_of};
 ghost use Rattle.page_roff_heads.specs.Heads.{conditional_of, guarded_of, guarded_seen, FitsGuarded};
+ghost use Rattle.page_roff_heads.specs.Loops.{loop_of, loop_seen, FitsLoop};
 ghost use Rattle.page_roff_heads.specs.Texts.{remainder_seen};
 ghost use Rattle.page_roff_blocks.specs.declared.atoms.Atom.TheVariants.{Leaf};
 ghost use Rattle.page_roff_blocks.specs.declared.atoms.Branch.TheVariants.{If, IfElse};
-ghost use Rattle.page_roff_blocks.specs.Atoms.{keyword_of, rest_text, head_part, head_seen, conditional_part, else_part, end_part, plain_part, part_of, part_seen, atoms, IsWithin, FitsBranch, FitsRest, FitsPart};
-ghost use Rattle.page_roff_blocks.specs.Atoms.{columns_of, named_part};
+ghost use Rattle.page_roff_blocks.specs.Atoms.{head_seen, part_seen, atoms, IsWithin, FitsBranch, FitsRest, FitsPart};
+ghost use Rattle.page_roff_blocks.specs.Parts.{keyword_of, rest_text, head_part, conditional_part, else_part, loop_part, end_part, plain_part, written_part};
+ghost use Rattle.page_roff_blocks.specs.Parts.{columns_of, named_part};
 ghost use Rattle.page_roff_blocks.specs.declared.parts.Keyword.TheVariants as keywords;
 ghost use Rattle.page_roff_blocks.specs.Regions.{text_seen};
 
-use crate::atoms::{Atom, Branch, Head};
+use crate::atoms::{Atom, Branch, Head, Opening};
 use crate::regions::region_head;
 use page_core_limits::LINE;
 use page_roff_forms::{LineForm, control_name, form_of, white_len};
-use page_roff_heads::{Conditional, Guarded, Placed, block_end, read_conditional, read_guarded};
+use page_roff_heads::{Guarded, LoopHead, LoopRead, Placed, block_end, read_conditional, read_guarded, read_loop};
 use page_roff_requests::{RegionKind, Request};
 use std::alloc::AllocError;
 
@@ -26,6 +28,7 @@ pub(crate) enum Keyword {
     If,
     IfElse,
     Else,
+    While,
     Region(RegionKind),
     Other,
 }
@@ -66,6 +69,7 @@ fn keyword_of(name: &[u8]) -> Keyword
         Some(Request::If) => Keyword::If,
         Some(Request::IfElse) => Keyword::IfElse,
         Some(Request::Else) => Keyword::Else,
+        Some(Request::While) => Keyword::While,
         Some(Request::Region(kind)) => Keyword::Region(kind),
         _ => Keyword::Other,
     }
@@ -92,12 +96,39 @@ fn head_part<'a>(head: Head<&'a [u8]>, guarded: Guarded<&'a [u8]>) -> Part<&'a [
 {
     Part {
         atom: if guarded.opens_block {
-            Atom::Block(head)
+            Atom::Block(Opening::Conditional(head))
         } else {
             Atom::Guard(head)
         },
         is_end: false,
         rest: rest_text(guarded.remainder),
+    }
+}
+
+// The head of a loop. With a block, all that follows it on its line is its body as yet.
+fn loop_part<'a>(read: LoopRead<&'a [u8]>) -> Part<&'a [u8]>
+    requires { FitsLoop (loop_seen read) }
+    ensures value { part_seen result ≡ loop_part (loop_seen read.entry) }
+    ensures fits { FitsPart (part_seen result) }
+{
+    let rest = rest_text(read.guarded.remainder);
+    if read.guarded.opens_block {
+        return Part {
+            atom: Atom::Block(Opening::Loop(LoopHead {
+                condition: read.condition,
+                body: Some(read.first),
+            })),
+            is_end: false,
+            rest,
+        };
+    }
+    Part {
+        atom: Atom::Loop(LoopHead {
+            condition: read.condition,
+            body: rest,
+        }),
+        is_end: false,
+        rest: None,
     }
 }
 
@@ -186,6 +217,7 @@ fn keyword_part(keyword: Keyword, line: &[u8], columns: Columns) -> Part<&[u8]>
         Keyword::If => if_part(raw_rest, columns.name, columns.rest),
         Keyword::IfElse => if_else_part(raw_rest, columns.name, columns.rest),
         Keyword::Else => else_part(raw_rest, columns.name, columns.rest),
+        Keyword::While => loop_part(read_loop(raw_rest, columns.rest)),
         Keyword::Region(kind) => region_part(kind, line),
         Keyword::Other => plain_part(line),
     }
@@ -228,10 +260,10 @@ fn else_part(raw_rest: &[u8], column: u32, rest_column: u32) -> Part<&[u8]>
     head_part(Head { column, branch }, read_guarded(raw_rest, rest_column))
 }
 
-// The first part of a line. Only the head of a region is parted from its comment.
-pub(crate) fn part_of(line: &[u8]) -> Part<&[u8]>
+/// The first part of a line as it is written. Only the head of a region is parted from its comment.
+pub(crate) fn written_part(line: &[u8]) -> Part<&[u8]>
     requires { length line.now ≤ LINE }
-    ensures value { part_seen result ≡ part_of line.now }
+    ensures value { part_seen result ≡ written_part line.now }
     ensures fits { FitsPart (part_seen result) }
 {
     match control_name(line) {
@@ -240,9 +272,9 @@ pub(crate) fn part_of(line: &[u8]) -> Part<&[u8]>
     }
 }
 
-// Whether a line heads no conditional and no region.
+// Whether a line heads no conditional, no loop and no region.
 fn heads_nothing(line: &[u8]) -> bool
-    ensures { result ≡ true → part_of line.now ≡ plain_part line.now }
+    ensures { result ≡ true → written_part line.now ≡ plain_part line.now }
 {
     match control_name(line) {
         Some(name) => matches!(keyword_of(name), Keyword::Other),

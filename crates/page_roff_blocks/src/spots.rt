@@ -1,18 +1,18 @@
-//! Where a source stands in a line (roff(7), "if", "ie", "el").
+//! Where a source stands in a line (roff(7), "if", "ie", "el", "while").
 
 ghost use Rattle.std.specs.Prelude.{◌≡◌, ◌<◌, ◌≤◌, ◌^◌, true, length};
 ghost use Rattle.page_core_limits.specs.declared.TheConstants.{CONDS};
 ghost use Rattle.page_roff_blocks.specs.Atoms.{branch_seen};
-ghost use Rattle.page_roff_blocks.specs.Levels.{outside, bit_after, way_of, enter, skip, leave, has_block, at_line, after_part, guarded_by, reached};
+ghost use Rattle.page_roff_blocks.specs.Levels.{outside, bit_after, way_of, enter, open_loop, skip, leave, what_ends, at_line, after_part, guarded_by, reached};
 
 use crate::atoms::Branch;
-use crate::levels::{Levels, Way};
+use crate::levels::{Ended, Levels, Way};
 use std::marker::Model;
 
 /// How a part of a line is reached.
 #[derive(Clone, Copy)]
 pub enum Reached {
-    /// A skipped block or the head before it passes it over.
+    /// A skipped block, a loop that is collected or the head before it passes it over.
     PassedOver,
     /// It is the first part of its line.
     First,
@@ -57,6 +57,13 @@ impl Spot {
         self.levels.bit()
     }
 
+    /// Whether a loop is being collected here.
+    pub fn in_loop(&self) -> bool
+        ensures { result ≡ self.now.levels.in_loop }
+    {
+        self.levels.in_loop()
+    }
+
     /// The number of skipped blocks that are open here.
     pub fn skipped(&self) -> u64
         ensures { result ≡ self.now.levels.skipped }
@@ -74,11 +81,11 @@ impl Spot {
     }
 
     /// How the next part of the line is reached.
-    #[tactic(auto, unfolding(crate::specs::Levels::reached, crate::specs::Levels::reached_from, crate::specs::Levels::reached_if))]
+    #[tactic(auto, unfolding(crate::specs::Levels::reached, crate::specs::Levels::reached_in, crate::specs::Levels::reached_from, crate::specs::Levels::reached_if))]
     pub fn reached(&self) -> Reached
         ensures { result ≡ reached self.now }
     {
-        if self.passing || self.levels.skipped() > 0 {
+        if self.passing || self.levels.in_loop() || self.levels.skipped() > 0 {
             Reached::PassedOver
         } else if self.begun {
             Reached::Remainder
@@ -87,7 +94,7 @@ impl Spot {
         }
     }
 
-    /// Goes past a leaf, or past the head of a region.
+    /// Goes past a leaf, a loop of one line or the head of a region.
     #[tactic(auto, unfolding(crate::specs::Levels::after_part))]
     pub fn pass(&mut self)
         ensures { self.new ≡ after_part self.old.levels }
@@ -134,11 +141,20 @@ impl Spot {
         self.levels.skip();
     }
 
-    /// The innermost block ends: whether there was one.
+    /// Goes past the head of a loop with a block, and begins to collect it.
     #[tactic(auto, unfolding(crate::specs::Levels::after_part))]
-    pub fn leave(&mut self) -> bool
+    pub fn open_loop(&mut self)
+        ensures { self.new ≡ after_part (open_loop self.old.levels) }
+    {
+        self.pass();
+        self.levels.open_loop();
+    }
+
+    /// The innermost block ends, or the loop that is collected: which of them it was, if any.
+    #[tactic(auto, unfolding(crate::specs::Levels::after_part))]
+    pub fn leave(&mut self) -> Ended
         ensures spot { self.new ≡ after_part (leave self.old.levels) }
-        ensures block { result ≡ has_block self.old.levels }
+        ensures ended { result ≡ what_ends self.old.levels }
     {
         self.pass();
         self.levels.leave()

@@ -1,7 +1,8 @@
 //! The parts of lines.
 
 use arrayvec::ArrayVec;
-use page_roff_blocks::{Atom, Branch, Head, LinePlace, RegionHead};
+use page_roff_blocks::{Atom, Branch, Head, LinePlace, Opening, RegionHead, loop_text};
+use page_roff_heads::LoopHead;
 use std::process::Abort;
 
 type Shown = ArrayVec<u8, 200>;
@@ -18,6 +19,22 @@ fn show_head(shown: &mut Shown, head: Head<&[u8]>) {
     }
 }
 
+// A loop's condition, and what of its line belongs to it.
+fn show_loop(shown: &mut Shown, head: LoopHead<&[u8]>) {
+    show(shown, b"while(");
+    show(shown, head.condition);
+    show(shown, b")");
+    show(shown, head.body.unwrap_or(b"none"));
+}
+
+fn show_opening(shown: &mut Shown, opening: Opening<&[u8]>) {
+    match opening {
+        Opening::Conditional(head) => show_head(shown, head),
+        Opening::Loop(head) => show_loop(shown, head),
+    }
+    show(shown, b"{");
+}
+
 // A region's name, the macro that it defines, and its end name, after `!` where a longer one was asked for.
 fn show_region(shown: &mut Shown, head: RegionHead<&[u8]>) {
     show(shown, head.kind.name());
@@ -31,10 +48,8 @@ fn show_atom(shown: &mut Shown, atom: Atom<&[u8]>) {
     match atom {
         Atom::Leaf(text) => show(shown, text),
         Atom::Guard(head) => show_head(shown, head),
-        Atom::Block(head) => {
-            show_head(shown, head);
-            show(shown, b"{");
-        }
+        Atom::Block(opening) => show_opening(shown, opening),
+        Atom::Loop(head) => show_loop(shown, head),
         Atom::End => show(shown, b"}"),
         Atom::Region(head) => show_region(shown, head),
     }
@@ -52,6 +67,14 @@ fn check_atoms(rt: &impl Abort, line: &[u8], want: &[u8]) {
         }
     }
     assert_eq!(rt; shown.as_slice(), want);
+}
+
+// Checks what of a line belongs to a loop in which so many blocks are open.
+fn check_loop_text(rt: &impl Abort, line: &[u8], open_blocks: u64, want: &[u8]) {
+    assert!(rt; line.len() < 200);
+    assert!(rt; open_blocks < 10);
+    let text = loop_text(line, open_blocks).unwrap_or(b"none");
+    assert_eq!(rt; text, want);
 }
 
 #[test]
@@ -97,6 +120,62 @@ fn heads_of_conditionals(rt: HostRuntime) {
         (".ifn x", ".ifn x|"),
     ] {
         check_atoms(&rt, line.as_bytes(), want.as_bytes());
+    }
+}
+
+#[test]
+fn heads_of_loops(rt: HostRuntime) {
+    for (line, want) in [
+        (".while n x", "while(n)x|"),
+        (".while", "while()none|"),
+        (".while n", "while(n)none|"),
+        (".while n \\\" x", "while(n)none|"),
+        ("'\twhile !\\w'a b'<3 x \\} y", "while(!\\w'a b'<3)x \\} y|"),
+        (".while n .de x", "while(n).de x|"),
+        (".while n .if n \\{ a", "while(n).if n \\{ a|"),
+        (".while 'a", "while('a)none|"),
+        (".while 'a \\\" x", "while('a )none|"),
+        (".while n \\{", "while(n)none{|"),
+        (".while n \\{  a", "while(n)a{|a|"),
+        (".while n \\{\\\" c", "while(n)\\\" c{|"),
+        (".while n \\{\\}", "while(n)none{|}|"),
+        (".while n\\{ a\\} b", "while(n)a{|a|}|b|"),
+        (
+            ".while n \\{.if t \\{ a \\} b \\} c",
+            "while(n).if t \\{ a \\} b {|if{|a |}|b |}|c|",
+        ),
+        (
+            ".while n \\{.while t \\{a\\}\\}",
+            "while(n).while t \\{a\\}{|while(t)a{|a|}|}|",
+        ),
+        (".while n \\{.while t \\}", "while(n).while t \\}{|while(t)\\}|"),
+        (".while n \\{.de x \\}", "while(n).de x \\}{|de(x)\\}|"),
+        (".if t .while n x", "if|while(n)x|"),
+        ("a\\} .while n x", "a|}|while(n)x|"),
+        (".whilen x", ".whilen x|"),
+    ] {
+        check_atoms(&rt, line.as_bytes(), want.as_bytes());
+    }
+}
+
+#[test]
+fn lines_of_loops(rt: HostRuntime) {
+    for (line, open_blocks, want) in [
+        ("", 0, ""),
+        ("a", 0, "a"),
+        (".\\}", 0, "."),
+        ("\\} b", 0, "none"),
+        ("\\} b", 1, "\\} b"),
+        ("a\\} b\\} c", 1, "a\\} b"),
+        ("\\}\\}", 1, "\\}"),
+        (".if n \\{ a \\} b \\} c", 0, ".if n \\{ a \\} b "),
+        (".if n \\} c", 0, ".if n "),
+        (".while n x \\}", 0, ".while n x \\}"),
+        (".while n \\{ x \\}  \\} c", 0, ".while n \\{ x \\}  "),
+        (".de x \\}", 0, ".de x \\}"),
+        ("a \\\" \\}", 0, "a \\\" \\}"),
+    ] {
+        check_loop_text(&rt, line.as_bytes(), open_blocks, want.as_bytes());
     }
 }
 

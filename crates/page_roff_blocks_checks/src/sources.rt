@@ -1,8 +1,10 @@
 //! Sources: what is run of them, where `n` is true and every other condition false.
 
 use arrayvec::ArrayVec;
-use page_roff_blocks::{Atom, Branch, Head, LinePlace, OpenRegion, Reached, Spot, Way};
-use page_roff_heads::{Condition, Test};
+use page_roff_blocks::{
+    Atom, Branch, Ended, Head, LinePlace, OpenRegion, Opening, Reached, Spot, Way, loop_text,
+};
+use page_roff_heads::{Condition, LoopHead, Test};
 use std::process::Abort;
 
 // A source that is run line by line.
@@ -10,8 +12,8 @@ use std::process::Abort;
 struct Source {
     spot: Spot,
     region: Option<OpenRegion>,
-    // The leaves that were run, with a bar after each, and the regions: in brackets where they are run,
-    // else in braces.
+    // The leaves that were run, with a bar after each; the regions: in brackets where they are run, else in
+    // braces; and the loops: their condition and lines, each after a colon, in angles.
     given: ArrayVec<u8, 400>,
     // The lines, and the remainders that were run.
     taken: u32,
@@ -73,15 +75,54 @@ impl Source {
         self.spot.guard(&head.branch, value);
     }
 
-    fn block(&mut self, rt: &impl Abort, head: Head<&[u8]>) {
+    fn collect(&mut self, text: Option<&[u8]>) {
+        if let Some(line) = text {
+            self.give(b":");
+            self.give(line);
+        }
+    }
+
+    fn open_loop(&mut self, head: LoopHead<&[u8]>) {
+        self.give(b"<");
+        self.give(head.condition);
+        self.collect(head.body);
+    }
+
+    fn one_line(&mut self, head: LoopHead<&[u8]>) {
+        if self.meets() {
+            self.open_loop(head);
+            self.give(b">");
+        }
+        self.spot.pass();
+    }
+
+    fn block(&mut self, rt: &impl Abort, opening: Opening<&[u8]>) {
         if !self.meets() {
             assert!(rt; self.spot.skipped() < 1000);
             self.spot.skip();
             return;
         }
+        match opening {
+            Opening::Conditional(head) => self.enter(head),
+            Opening::Loop(head) => {
+                self.open_loop(head);
+                self.spot.open_loop();
+            }
+        }
+    }
+
+    fn enter(&mut self, head: Head<&[u8]>) {
         let value = self.value(head);
         if matches!(self.spot.enter(&head.branch, value), Way::Exceeds) {
             self.exceeding = self.exceeding.saturating_add(1);
+        }
+    }
+
+    fn end(&mut self) {
+        match self.spot.leave() {
+            Ended::Block => {}
+            Ended::Loop => self.give(b">"),
+            Ended::Nothing => self.unopened = self.unopened.saturating_add(1),
         }
     }
 
@@ -89,12 +130,9 @@ impl Source {
         match atom {
             Atom::Leaf(text) => self.leaf(text),
             Atom::Guard(head) => self.guard(head),
-            Atom::Block(head) => self.block(rt, head),
-            Atom::End => {
-                if !self.spot.leave() {
-                    self.unopened = self.unopened.saturating_add(1);
-                }
-            }
+            Atom::Block(opening) => self.block(rt, opening),
+            Atom::Loop(head) => self.one_line(head),
+            Atom::End => self.end(),
             Atom::Region(head) => {
                 let is_run = self.meets();
                 assert!(rt; head.ending.len() <= 64);
@@ -112,11 +150,25 @@ impl Source {
             None => return false,
             Some(region) => (region.is_ended_by(line), region.is_run()),
         };
+        if self.spot.in_loop() {
+            self.collect(Some(line));
+        }
         if ends {
             self.give(if is_run { b"]" } else { b"}" });
             self.region = None;
         }
         true
+    }
+
+    // A line begins, in a loop that is collected or not.
+    fn begin(&mut self, rt: &impl Abort, line: &[u8]) {
+        assert!(rt; line.len() < 100);
+        self.spot.begin_line();
+        if self.spot.in_loop() {
+            let open_blocks = self.spot.skipped();
+            assert!(rt; open_blocks < 1000);
+            self.collect(loop_text(line, open_blocks));
+        }
     }
 
     fn line(&mut self, rt: &impl Abort, line: &str) {
@@ -125,7 +177,7 @@ impl Source {
             return;
         }
         assert!(rt; line.len() < 100);
-        self.spot.begin_line();
+        self.begin(rt, line.as_bytes());
         let mut place = LinePlace::start(line.as_bytes());
         for _ in 0..50 {
             if let Some(atom) = place.next_atom(line.as_bytes()) {
@@ -221,6 +273,88 @@ fn regions(rt: HostRuntime) {
         5,
         0,
     );
+}
+
+#[test]
+fn loops(rt: HostRuntime) {
+    check(
+        &rt,
+        &[".while n \\{", ".nr i +1", "", ".\\} b"],
+        "<n:.nr i +1::.>b|",
+        5,
+        0,
+    );
+    check(&rt, &[".while t a", ".while n", "b"], "<t:a><n>b|", 3, 0);
+    check(&rt, &[".while n \\{\\}", "\\}"], "<n>", 2, 1);
+    check(&rt, &[".if t .while n x", ".if n .while n x"], "<n:x>", 3, 0);
+    check(
+        &rt,
+        &[".while n \\{", ".if n \\{", ".\\}", "a\\} b"],
+        "<n:.if n \\{:.\\}:a>b|",
+        5,
+        0,
+    );
+    check(
+        &rt,
+        &[".while n \\{.while t \\{ a", "\\}", "\\}"],
+        "<n:.while t \\{ a:\\}>",
+        3,
+        0,
+    );
+    check(&rt, &[".while n \\{", "a"], "<n:a", 2, 0);
+}
+
+#[test]
+fn ends_and_bits_of_loops(rt: HostRuntime) {
+    check(
+        &rt,
+        &[".if n \\{", ".while t x \\}", "a", "\\}", "\\}"],
+        "<t:x \\}>a|",
+        5,
+        1,
+    );
+    check(
+        &rt,
+        &[".if t \\{", ".while n \\}", "a", "\\} b"],
+        "b|",
+        5,
+        0,
+    );
+    check(
+        &rt,
+        &[".if t \\{", ".while n \\{", "\\} a", "\\} b"],
+        "b|",
+        5,
+        0,
+    );
+    check(&rt, &[".ie t a", ".while n b", ".el c"], "<n:b>c|", 4, 0);
+    check(&rt, &[".ie n a", ".while n b", ".el c"], "a|<n:b>", 4, 0);
+    check(
+        &rt,
+        &[".ie t a", ".while n \\{", ".ie n b", ".\\}", ".el c"],
+        "<n:.ie n b:.>c|",
+        6,
+        0,
+    );
+}
+
+#[test]
+fn regions_in_loops(rt: HostRuntime) {
+    check(
+        &rt,
+        &[".while n \\{", ".de x", "\\} a", "..", "\\} b"],
+        "<n:.de x{x:\\} a:..}>b|",
+        6,
+        0,
+    );
+    check(
+        &rt,
+        &[".while n \\{.ig y", "a", ".y", "\\}"],
+        "<n:.ig y{:a:.y}>",
+        4,
+        0,
+    );
+    check(&rt, &[".while n .de x", "a"], "<n:.de x>a|", 2, 0);
 }
 
 #[test]

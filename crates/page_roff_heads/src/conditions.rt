@@ -282,9 +282,9 @@ fn starts_with_letter(text: &[u8]) -> bool
     }
 }
 
-// The condition at a text's front, and how many bytes it takes. Its first byte stands at a column.
+/// The condition at a text's front, and how many bytes it takes. Its first byte stands at a column.
 #[tactic(auto, unfolding(crate::specs::Conditions::condition_of, crate::specs::Conditions::condition_len))]
-fn read_condition(text: &[u8], column: u32) -> (Condition<&[u8]>, usize)
+pub fn read_condition(text: &[u8], column: u32) -> (Condition<&[u8]>, usize)
     requires short { length text.now ≤ LINE }
     requires room { column + length text.now ≤ LINE + 1 }
     ensures value { condition_seen result.0 ≡ written.condition_of column text.now }

@@ -1,16 +1,18 @@
-//! The heads of conditionals as they are written: what `if`, `ie` and `el` test and guard, and where blocks end
-//! (roff(7), "Conditional expressions"). All of it is read from the raw line alone.
+//! The heads of conditionals and loops as they are written: what `if`, `ie`, `el` and `while` test and guard, and where
+//! blocks end (roff(7), "Conditional expressions"). All of it is read from the raw line alone.
 //!
 //! It stands above `page_roff_forms`; `page_roff_blocks` parts lines by it, and `page_roff_conditions` answers the conditions that it reads.
-//! Read `specs/Heads.antt` and `Conditions.antt` first.
+//! Read `specs/Heads.antt`, `Loops.antt` and `Conditions.antt` first.
 #![tactic(auto)]
 
 mod conditions;
 mod delimiters;
 mod expressions;
 mod heads;
+mod loops;
 mod texts;
 
-pub use conditions::{Condition, Test};
+pub use conditions::{Condition, Test, read_condition};
 pub use heads::{BlockEnd, Conditional, Guarded, block_end, read_conditional, read_guarded};
+pub use loops::{LoopHead, LoopRead, read_loop};
 pub use texts::{Placed, remainder};

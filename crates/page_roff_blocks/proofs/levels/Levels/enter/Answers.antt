@@ -7,7 +7,7 @@ use Rattle.page_roff_blocks.proofs.levels.Levels.enter.Goals as goal
 pub returns-clause-levels : goal.returns-clause-levels
 returns-clause-levels c =
     let s = c.self.inside in
-    let old : Levels = record { bit = s.bit; outer = reverse s.outer.items; skipped = s.skipped } in
+    let old : Levels = record { bit = s.bit; outer = reverse s.outer.items; in_loop = s.in_loop; skipped = s.skipped } in
     let way = c.enter_block.result in
     c.enter_block.ensures.levels
     ∙ enter_bit way c.bit_after-self-inside.result old

@@ -1,8 +1,8 @@
 use Rattle.std.proofs.Common.{◌∙◌, ap, sym}
 use Rattle.page_roff_forms.specs.LineForms.{form_of, name_seen}
-use Rattle.page_roff_blocks.specs.Atoms.{named_part}
+use Rattle.page_roff_blocks.specs.Parts.{named_part}
 use Rattle.page_roff_blocks.proofs.AtomLemmas.{part_named, plain_nameless}
-use Rattle.page_roff_blocks.proofs.parts.part_of.Goals as goal
+use Rattle.page_roff_blocks.proofs.parts.written_part.Goals as goal
 
 pub columns_of-requires-clause-named : goal.columns_of-requires-clause-named
 columns_of-requires-clause-named c = sym c.control_name.ensures ∙ ap name_seen c.in-Some.is

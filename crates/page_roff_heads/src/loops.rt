@@ -1,0 +1,94 @@
+//! The heads of loops (roff(7), `while`).
+
+ghost use Rattle.std.specs.Prelude.{◌≡◌, ◌≤◌, ◌+◌, length};
+ghost use Rattle.page_roff_heads.specs.Loops.{first_of, loop_at, loop_of, loop_seen, FitsLoop};
+
+use crate::conditions::read_before_comment;
+use crate::heads::{Guarded, read_guarded};
+use crate::texts::{begins_pair, blank_len};
+use page_core_limits::LINE;
+use std::alloc::AllocError;
+
+/// The head of a loop; `W` is a text.
+pub struct LoopHead<W> {
+    /// The condition as it is written, from its first `!` on.
+    pub condition: W,
+    /// What of the head's line belongs to the loop: with a block, what follows `\{`, up to the `\}` that
+    /// ends the loop if it stands on the line; without one, the remainder.
+    pub body: Option<W>,
+}
+
+/// What stands after the name of a loop; `W` is a text.
+pub struct LoopRead<W> {
+    /// The condition as it is written, from its first `!` on.
+    pub condition: W,
+    pub guarded: Guarded<W>,
+    /// All that follows `\{`, without the blanks before it. Nothing where no block is opened.
+    pub first: W,
+}
+
+impl<W: Copy> Copy for LoopHead<W> {}
+
+impl<W: Copy> Clone for LoopHead<W> {
+    ghost is_clone = { λ x y. y ≡ x };
+
+    ghost is_infallible = { λ _. Unit {0} };
+
+    fn clone(&self) -> Result<LoopHead<W>, AllocError> {
+        Ok(*self)
+    }
+}
+
+impl<W: Copy> Copy for LoopRead<W> {}
+
+impl<W: Copy> Clone for LoopRead<W> {
+    ghost is_clone = { λ x y. y ≡ x };
+
+    ghost is_infallible = { λ _. Unit {0} };
+
+    fn clone(&self) -> Result<LoopRead<W>, AllocError> {
+        Ok(*self)
+    }
+}
+
+// What follows the `\{` that opens a block, without the blanks before it.
+#[tactic(auto, unfolding(crate::specs::Loops::first_of))]
+fn first_of(text: &[u8]) -> &[u8]
+    ensures value { result.now ≡ first_of text.now }
+    ensures short { length result.now ≤ length text.now }
+{
+    let body = &text[blank_len(text)..];
+    if !begins_pair(b'{', body) {
+        return b"";
+    }
+    let first = &body[2..];
+    &first[blank_len(first)..]
+}
+
+// A condition, of which the first byte stands at a column, and what it guards.
+fn loop_at(text: &[u8], column: u32) -> LoopRead<&[u8]>
+    requires short { length text.now ≤ LINE }
+    requires room { column + length text.now ≤ LINE + 1 }
+    ensures value { loop_seen result ≡ loop_at column text.now }
+    ensures fits { FitsLoop (loop_seen result) }
+{
+    let (_, len) = read_before_comment(text, column);
+    let guarded = &text[len..];
+    LoopRead {
+        condition: &text[..len],
+        guarded: read_guarded(guarded, column + len as u32),
+        first: first_of(guarded),
+    }
+}
+
+/// Reads the rest of a control line `while` with its comment: what follows its name. The first byte stands at a column.
+#[tactic(auto, unfolding(crate::specs::Loops::loop_of))]
+pub fn read_loop(rest: &[u8], column: u32) -> LoopRead<&[u8]>
+    requires short { length rest.now ≤ LINE }
+    requires room { column + length rest.now ≤ LINE + 1 }
+    ensures value { loop_seen result ≡ loop_of column rest.now }
+    ensures fits { FitsLoop (loop_seen result) }
+{
+    let blanks = blank_len(rest);
+    loop_at(&rest[blanks..], column + blanks as u32)
+}
