@@ -2,14 +2,18 @@
 use Rattle.std.proofs.Common.{ℕ, zero, suc, ◌+◌, ◌≤◌, Bool, true, false, List, [], ◌∷◌, Option, Some, None, sym, subst, arith}
 use Rattle.page_roff_blocks.specs.Atoms.{atoms}
 use Rattle.page_roff_blocks.specs.Regions.{is_ending}
-use Rattle.page_roff_blocks.specs.Levels.{Levels, at_line, Opened, first_place}
-use Rattle.page_roff_blocks.specs.Run.{At, run_lines}
-use Rattle.page_roff_blocks.specs.Steps.{step_inside, step_from, step, step_lines}
+use Rattle.page_roff_blocks.specs.Levels.{Levels, at_line, Opened}
+use Rattle.page_roff_blocks.specs.Loops.{loop_text}
+use Rattle.page_roff_blocks.specs.Run.{At, keep_if}
+use Rattle.page_roff_blocks.specs.Steps.{step_inside, collect_if, step_from, step, step_lines}
+use Rattle.page_roff_blocks.specs.Steps as steps
 use Rattle.page_roff_blocks.proofs.FoldLemmas.{run_is_steps}
 use Rattle.page_core_limits.specs.declared.TheConstants.{CALLS, REREAD}
-use Rattle.page_roff_language.specs.Languages.{Kind, page, body, Done, gives, calls, finish_at, call_with, gives_at, meaning_at, run_page}
-use Rattle.page_roff_language.specs.Budgets.{Budgeted, Effects, with_rest, charge_by, charge, begin_line, whether_run, meet, test, unopened_by, read_line, end_line, meaning, done_with, language}
-use Rattle.page_roff_language.proofs.KeepLemmas.{KeepsParts, KeepsLines, IsAny, any_leaves, any_lines, parts_keep, run_keeps}
+use Rattle.page_roff_language.specs.Languages.{page, meaning_by, meaning_at, run_page}
+use Rattle.page_roff_language.specs.Budgets.{Budgeted, Effects, with_rest, charge_by, charge, begin_line, read_line, end_line, collect_some, meaning, language}
+use Rattle.page_roff_language.proofs.BodyLemmas.{some_keeps, parts_keep}
+use Rattle.page_roff_language.proofs.KeepLemmas.{IsAny, any_leaves}
+use Rattle.page_roff_language.proofs.KeepLemmas as keep
 
 left_if : Bool → ℕ → ℕ
 left_if true left = 0
@@ -37,78 +41,58 @@ module _ {R : Type 0} (e : Effects R) where
   unfolding charge
   charge_within n s h = charge_bound s.left s.gave_up s.taken s.rest n h
 
-  meet_within : (n : ℕ) (is_remainder : Bool) (s : Budgeted R) → Within n s → Within n (meet e is_remainder s).1
-  unfolding meet whether_run
-  meet_within n true s h = charge_within n s h
-  meet_within n false s h = h
+  rest_within : (n : ℕ) (s : Budgeted R) (r : R) → Within n s → Within n (with_rest e s r)
+  unfolding with_rest Within bound
+  rest_within n s r h = h
 
-  unopened_within : (n : ℕ) (kind : Kind) (gave_up : Bool) (s : Budgeted R) → Within n s → Within n (unopened_by e kind gave_up s)
-  unfolding unopened_by with_rest Within bound
-  unopened_within n page gave_up s h = h
-  unopened_within n (body args) true s h = h
-  unopened_within n (body args) false s h = h
-
-  done_within : (n : ℕ) (s : Budgeted R) (call : List (List ℕ) → List (List ℕ) → Budgeted R → Budgeted R)
-      → ((ls args : List (List ℕ)) (s : Budgeted R) → Within n s → Within n (call ls args s))
-      → (done : Done R) → Within n s → Within n (call_with (language e) call (done_with e s done))
-  unfolding call_with done_with with_rest Within bound
-  done_within n s call keep (gives r) h = h
-  done_within n s call keep (calls ls args r) h = keep ls args (with_rest e s r) h
-
-  parts_within : (n d : ℕ) (kind : Kind) → ((text : List ℕ) (s : Budgeted R) → Within n s → Within n (gives_at (language e) d kind text s))
-      → KeepsParts IsAny (meaning_at (language e) d kind) (Within n)
-  unfolding meaning_at language meaning test with_rest Within bound
-  parts_within n d kind gives_within =
-      record {
-        meets = meet_within n;
-        tests = λ condition s h. h;
-        gives = λ text s t h. gives_within text s h;
-        refuses = λ head s h. h;
-        unopened = λ s h. unopened_within n kind s.gave_up s h;
-        opens_region = λ head is_run s h. h;
-      }
-
-  lines_within : (n d : ℕ) (args : List (List ℕ)) → KeepsLines IsAny (meaning_at (language e) d (body args)) (Within n)
-  unfolding meaning_at language meaning begin_line read_line end_line with_rest Within bound
-  lines_within n d args =
-      record {
-        begins = λ line s t h. charge_within n s h;
-        reads = λ o line s t h. charge_within n s h;
-        ends_region = λ o line s t h. charge_within n s h;
-      }
-
-  gives_within : (d n : ℕ) (kind : Kind) (text : List ℕ) (s : Budgeted R) → Within n s → Within n (gives_at (language e) d kind text s)
-  unfolding gives_at meaning_at language finish_at with_rest Within bound
-  gives_within zero n kind text s h = done_within n s (λ ls args s. s) (λ ls args s h. h) (e.leaf false kind text s.rest) h
-  gives_within (suc d) n kind text s h =
-      done_within n s (λ ls args s. finish_at (language e) (run_lines (meaning_at (language e) d (body args)) (λ t. t) ls (record { place = first_place; state = s })))
-      (λ ls args s h.
-      run_keeps IsAny (meaning_at (language e) d (body args)) (Within n) (parts_within n d (body args) (gives_within d n (body args)))
-      (λ line t. any_leaves (atoms line)) (lines_within n d args) ls (record { place = first_place; state = s }) (any_lines ls) h)
-      (e.leaf true kind text s.rest) h
+  some_within : (n : ℕ) (text : Option (List ℕ)) (s : Budgeted R) → Within n s → Within n (collect_some e text s)
+  some_within n text s h = some_keeps e (Within n) (charge_within n) (rest_within n) text s h
 
   begin_within : (s : Budgeted R) → Within (s.taken + 1 + REREAD) (begin_line e page s)
   unfolding begin_line Within bound left_if
   begin_within s = omega arith
 
+  kept_within : (n : ℕ) (in_loop : Bool) (line : List ℕ) (s : Budgeted R) → Within n s → Within n (keep_if (meaning_at (language e) CALLS page) in_loop line s)
+  unfolding keep_if meaning_at meaning_by language meaning
+  kept_within n true line s h = some_within n (Some line) s h
+  kept_within n false line s h = h
+
+  collected_within : (n : ℕ) (in_loop : Bool) (open_blocks : ℕ) (line : List ℕ) (s : Budgeted R) → Within n s
+      → Within n (collect_if (meaning_at (language e) CALLS page) in_loop open_blocks line s)
+  unfolding collect_if meaning_at meaning_by language meaning
+  collected_within n true open_blocks line s h = some_within n (loop_text open_blocks line) s h
+  collected_within n false open_blocks line s h = h
+
+  read_within : (o : Opened) (line : List ℕ) (s : Budgeted R) → Within (s.taken + 1 + REREAD) ((meaning_at (language e) CALLS page).reads o line s)
+  unfolding meaning_at meaning_by language meaning begin_line read_line with_rest Within bound left_if
+  read_within o line s = omega arith
+
+  end_within : (o : Opened) (line : List ℕ) (s : Budgeted R) → Within (s.taken + 1 + REREAD) ((meaning_at (language e) CALLS page).ends_region o line s)
+  unfolding meaning_at meaning_by language meaning begin_line end_line with_rest Within bound left_if
+  end_within o line s = omega arith
+
   inside_within : (is_end : Bool) (o : Opened) (line : List ℕ) (l : Levels) (s : Budgeted R)
       → Within (s.taken + 1 + REREAD) (step_inside (meaning_at (language e) CALLS page) is_end o line l s).state
-  unfolding step_inside meaning_at language meaning begin_line read_line end_line with_rest Within bound left_if
-  inside_within true o line l s = omega arith
-  inside_within false o line l s = omega arith
+  unfolding step_inside
+  inside_within true o line l s =
+      let m = meaning_at (language e) CALLS page in
+      kept_within (s.taken + 1 + REREAD) l.in_loop line (m.ends_region o line s) (end_within o line s)
+  inside_within false o line l s =
+      let m = meaning_at (language e) CALLS page in
+      kept_within (s.taken + 1 + REREAD) l.in_loop line (m.reads o line s) (read_within o line s)
 
   begins_page : (line : List ℕ) (s : Budgeted R) → Within (s.taken + 1 + REREAD) ((meaning_at (language e) CALLS page).begins line s)
-  unfolding meaning_at language meaning
+  unfolding meaning_at meaning_by language meaning
   begins_page line s = begin_within s
 
   line_within : (o : Option Opened) (line : List ℕ) (l : Levels) (s : Budgeted R)
       → Within (s.taken + 1 + REREAD) (step_from (meaning_at (language e) CALLS page) (λ t. t) o line l s).state
-  unfolding step_from
+  unfolding step_from steps.begin_line
   line_within None line l s =
       let n = s.taken + 1 + REREAD in
       let m = meaning_at (language e) CALLS page in
-      parts_keep IsAny m (Within n) (parts_within n CALLS page (gives_within CALLS n page)) (atoms line) (at_line l) (m.begins line s)
-      (any_leaves (atoms line)) (begins_page line s)
+      keep.parts_keep IsAny m (Within n) (parts_keep e (Within n) (charge_within n) (rest_within n) CALLS page) (atoms line) (at_line l) (steps.begin_line m line l s)
+      (any_leaves (atoms line)) (collected_within n l.in_loop l.skipped line (m.begins line s) (begins_page line s))
   line_within (Some o) line l s = inside_within (is_ending o.ending line) o line l s
 
   taken_bound : (n : ℕ) (s : Budgeted R) → Within n s → s.taken ≤ n

@@ -1,10 +1,15 @@
 -- What stands in front stays there: helpers of proofs.
 use Rattle.std.proofs.Common.{◌≡◌, ℕ, zero, suc, Bool, true, false, List, [], ◌∷◌, length, Option, Some, None, refl, sym, ap, ◌∙◌}
 use Rattle.page_roff_blocks.specs.declared.atoms.Atom.{Atom}
-use Rattle.page_roff_blocks.specs.declared.atoms.Atom.TheVariants.{Leaf, Guard, Block, End, Region}
+use Rattle.page_roff_blocks.specs.declared.atoms.Atom.TheVariants.{Leaf, Guard, Block, Loop, End, Region}
 use Rattle.page_roff_blocks.specs.declared.atoms.Branch.{Branch}
 use Rattle.page_roff_blocks.specs.declared.atoms.Branch.TheVariants.{If, IfElse, Else}
 use Rattle.page_roff_blocks.specs.declared.atoms.Head.{Head}
+use Rattle.page_roff_blocks.specs.declared.atoms.Opening.{Opening}
+use Rattle.page_roff_blocks.specs.declared.atoms.Opening.TheVariants as openings
+use Rattle.page_roff_heads.specs.declared.loops.LoopHead.{LoopHead}
+use Rattle.page_roff_blocks.specs.declared.levels.Ended.{Ended}
+use Rattle.page_roff_blocks.specs.declared.levels.Ended.TheVariants as endings
 use Rattle.page_roff_blocks.specs.declared.levels.Way.{Way}
 use Rattle.page_roff_blocks.specs.declared.levels.Way.TheVariants.{Runs, Skips, Exceeds}
 use Rattle.page_roff_blocks.specs.declared.regions.RegionHead.{RegionHead}
@@ -12,15 +17,15 @@ use Rattle.page_roff_blocks.specs.declared.spots.Reached.{Reached}
 use Rattle.page_roff_blocks.specs.declared.spots.Reached.TheVariants.{PassedOver, First, Remainder}
 use Rattle.page_roff_blocks.specs.Atoms.{atoms}
 use Rattle.page_roff_blocks.specs.Regions.{is_ending}
-use Rattle.page_roff_blocks.specs.Levels.{Levels, bit_after, way_of, enter, has_block, Spot, at_line, after_part, reached, Opened, opened, first_place}
-use Rattle.page_roff_blocks.specs.Run.{Meaning, At, meet_as, value, leaf_if, refuse_if, unopened_if, run_lines}
-use Rattle.page_roff_blocks.specs.Steps.{met, step_leaf, guard_with, guard_met, step_guard, block_with, block_met, step_block, step_end, step_region, step_parts, step_inside, step_from, step, step_lines}
+use Rattle.page_roff_blocks.specs.Levels.{Levels, bit_after, way_of, enter, open_loop, what_ends, Spot, at_line, after_part, reached, Opened, opened, first_place}
+use Rattle.page_roff_blocks.specs.Run.{Meaning, At, meet_as, value, keep_if, leaf_if, loop_if, refuse_if, end_by, run_lines}
+use Rattle.page_roff_blocks.specs.Steps.{met, step_leaf, guard_with, guard_met, step_guard, block_with, opening_met, block_met, step_block, step_loop, step_end, step_region, step_parts, step_inside, collect_if, begin_line, step_from, step, step_lines}
 use Rattle.page_roff_blocks.proofs.FoldLemmas.{run_is_steps}
-use Rattle.page_roff_language.specs.Languages.{Kind, body, Done, gives, calls, Language, finish_at, call_with, gives_at, meaning_at}
-use Rattle.page_roff_language.specs.Machine.{Frame, Running, depth, line_in, line_rest, after_line, rest, rest_of}
+use Rattle.page_roff_language.specs.Languages.{Kind, body, inner, Done, gives, calls, repeats, TURNS, Language, is_some, run_if, finish_at, run_body, turns, done_by, meaning_by, done_at, meaning_at}
+use Rattle.page_roff_language.specs.Machine.{Turning, Frame, Running, depth, line_in, line_rest, finish_if, ended, after_line, rest, rest_of}
 use Rattle.page_roff_language.specs.Fronts.{over_pair, over, over_running, over_done, IsFrontOfParts, IsFront}
 
-module _ {S : Type 0} (front : S → S) (m : Meaning (List ℕ) S) (k : IsFrontOfParts front m) (gives_front : (text : List ℕ) (s : S) → m.gives text (front s) ≡ front (m.gives text s)) where
+module _ {S : Type 0} (front : S → S) (m : Meaning (List ℕ) S) (k : IsFrontOfParts front m) (gives_front : (text : List ℕ) (s : S) → m.gives text (front s) ≡ front (m.gives text s)) (closes_front : (s : S) → m.closes_loop (front s) ≡ front (m.closes_loop s)) where
   meet_front : (r : Reached) (s : S) → meet_as m r (front s) ≡ over_pair front (meet_as m r s)
   unfolding meet_as
   meet_front PassedOver s = refl
@@ -75,23 +80,43 @@ module _ {S : Type 0} (front : S → S) (m : Meaning (List ℕ) S) (k : IsFrontO
       let pair : S → Spot × S = λ s. (after_part (enter way (bit_after h.branch v.0 spot.levels.bit) spot.levels), s) in
       ap pair (refuse_front way h v.1)
 
-  block_front : (is_met : Bool) (h : Head (List ℕ)) (spot : Spot) (s : S) → block_met m is_met h spot (front s) ≡ over_pair front (block_met m is_met h spot s)
-  unfolding block_met
-  block_front true h spot s =
+  opening_front : (opening : Opening (List ℕ)) (spot : Spot) (s : S) → opening_met m opening spot (front s) ≡ over_pair front (opening_met m opening spot s)
+  unfolding opening_met
+  opening_front (openings.Conditional h) spot s =
       ap (block_with m h spot) (value_front h.branch spot.levels.bit s) ∙ block_with_front h spot (value m h.branch spot.levels.bit s)
-  block_front false h spot s = refl
+  opening_front (openings.Loop h) spot s =
+      let pair : S → Spot × S = λ s. (after_part (open_loop spot.levels), s) in ap pair (k.opens_loop h s)
 
-  step_block_front : (h : Head (List ℕ)) (spot : Spot) (s : S) → step_block m h spot (front s) ≡ over_pair front (step_block m h spot s)
+  block_front : (is_met : Bool) (opening : Opening (List ℕ)) (spot : Spot) (s : S) → block_met m is_met opening spot (front s) ≡ over_pair front (block_met m is_met opening spot s)
+  unfolding block_met
+  block_front true opening spot s = opening_front opening spot s
+  block_front false opening spot s = refl
+
+  step_block_front : (opening : Opening (List ℕ)) (spot : Spot) (s : S) → step_block m opening spot (front s) ≡ over_pair front (step_block m opening spot s)
   unfolding step_block
-  step_block_front h spot s =
+  step_block_front opening spot s =
       let q = met m spot s in
-      let then : Bool × S → Spot × S = λ q. block_met m q.0 h spot q.1 in
-      ap then (met_front spot s) ∙ block_front q.0 h spot q.1
+      let then : Bool × S → Spot × S = λ q. block_met m q.0 opening spot q.1 in
+      ap then (met_front spot s) ∙ block_front q.0 opening spot q.1
 
-  unopened_front : (is_open : Bool) (s : S) → unopened_if m is_open (front s) ≡ front (unopened_if m is_open s)
-  unfolding unopened_if
-  unopened_front true s = refl
-  unopened_front false s = k.unopened s
+  loop_front : (is_met : Bool) (h : LoopHead (List ℕ)) (s : S) → loop_if m is_met h (front s) ≡ front (loop_if m is_met h s)
+  unfolding loop_if
+  loop_front true h s = ap m.closes_loop (k.opens_loop h s) ∙ closes_front (m.opens_loop h s)
+  loop_front false h s = refl
+
+  step_loop_front : (h : LoopHead (List ℕ)) (spot : Spot) (s : S) → step_loop m h spot (front s) ≡ over_pair front (step_loop m h spot s)
+  unfolding step_loop
+  step_loop_front h spot s =
+      let q = met m spot s in
+      let then : Bool × S → Spot × S = λ q. (after_part spot.levels, loop_if m q.0 h q.1) in
+      let pair : S → Spot × S = λ s. (after_part spot.levels, s) in
+      ap then (met_front spot s) ∙ ap pair (loop_front q.0 h q.1)
+
+  end_front : (ending : Ended) (s : S) → end_by m ending (front s) ≡ front (end_by m ending s)
+  unfolding end_by
+  end_front endings.Block s = refl
+  end_front endings.Loop s = closes_front s
+  end_front endings.Nothing s = k.unopened s
 
   region_front : (head : RegionHead (List ℕ)) (spot : Spot) (s : S) → step_region m head spot (front s) ≡ over front (step_region m head spot s)
   unfolding step_region
@@ -113,19 +138,40 @@ module _ {S : Type 0} (front : S → S) (m : Meaning (List ℕ) S) (k : IsFrontO
   parts_front (Block head ∷ rest) spot s =
       let r = step_block m head spot s in
       ap (λ (r : Spot × S). step_parts m rest r.0 r.1) (step_block_front head spot s) ∙ parts_front rest r.0 r.1
+  parts_front (Loop head ∷ rest) spot s =
+      let r = step_loop m head spot s in
+      ap (λ (r : Spot × S). step_parts m rest r.0 r.1) (step_loop_front head spot s) ∙ parts_front rest r.0 r.1
   parts_front (End ∷ rest) spot s =
       let r = step_end m spot s in
-      ap (step_parts m rest r.0) (unopened_front (has_block spot.levels) s) ∙ parts_front rest r.0 r.1
+      ap (step_parts m rest r.0) (end_front (what_ends spot.levels) s) ∙ parts_front rest r.0 r.1
   parts_front (Region head ∷ rest) spot s = region_front head spot s
+
+  keep_front : (in_loop : Bool) (line : List ℕ) (s : S) → keep_if m in_loop line (front s) ≡ front (keep_if m in_loop line s)
+  unfolding keep_if
+  keep_front true line s = k.keeps line s
+  keep_front false line s = refl
+
+  collect_front : (in_loop : Bool) (open_blocks : ℕ) (line : List ℕ) (s : S) → collect_if m in_loop open_blocks line (front s) ≡ front (collect_if m in_loop open_blocks line s)
+  unfolding collect_if
+  collect_front true open_blocks line s = k.collects open_blocks line s
+  collect_front false open_blocks line s = refl
+
+  begin_front : (line : List ℕ) (l : Levels) (s : S) → begin_line m line l (front s) ≡ front (begin_line m line l s)
+  unfolding begin_line
+  begin_front line l s = ap (collect_if m l.in_loop l.skipped line) (k.begins line s) ∙ collect_front l.in_loop l.skipped line (m.begins line s)
 
   inside_front : (is_end : Bool) (o : Opened) (line : List ℕ) (l : Levels) (s : S) → step_inside m is_end o line l (front s) ≡ over front (step_inside m is_end o line l s)
   unfolding step_inside
-  inside_front true o line l s = let at : S → At S = λ s. record { place = record { region = None; levels = l }; state = s } in ap at (k.ends_region o line s)
-  inside_front false o line l s = let at : S → At S = λ s. record { place = record { region = Some o; levels = l }; state = s } in ap at (k.reads o line s)
+  inside_front true o line l s =
+      let at : S → At S = λ s. record { place = record { region = None; levels = l }; state = s } in
+      ap at (ap (keep_if m l.in_loop line) (k.ends_region o line s) ∙ keep_front l.in_loop line (m.ends_region o line s))
+  inside_front false o line l s =
+      let at : S → At S = λ s. record { place = record { region = Some o; levels = l }; state = s } in
+      ap at (ap (keep_if m l.in_loop line) (k.reads o line s) ∙ keep_front l.in_loop line (m.reads o line s))
 
   from_front : (o : Option Opened) (line : List ℕ) (l : Levels) (s : S) → step_from m (λ t. t) o line l (front s) ≡ over front (step_from m (λ t. t) o line l s)
   unfolding step_from
-  from_front None line l s = ap (step_parts m (atoms line) (at_line l)) (k.begins line s) ∙ parts_front (atoms line) (at_line l) (m.begins line s)
+  from_front None line l s = ap (step_parts m (atoms line) (at_line l)) (begin_front line l s) ∙ parts_front (atoms line) (at_line l) (begin_line m line l s)
   from_front (Some o) line l s = inside_front (is_ending o.ending line) o line l s
 
   pub lines_front : (lines : List (List ℕ)) (a : At S) → step_lines m (λ t. t) lines (over front a) ≡ over front (step_lines m (λ t. t) lines a)
@@ -137,10 +183,10 @@ module _ {S : Type 0} (front : S → S) (m : Meaning (List ℕ) S) (k : IsFrontO
 module _ {S : Type 0} (front : S → S) (l : Language S) (f : IsFront front l) where
   finish_front : (a : At S) → finish_at l (over front a) ≡ front (finish_at l a)
   unfolding finish_at
-  finish_front a = f.finish a.place.region a.state
+  finish_front a = f.finish a.place.region a.place.levels.in_loop a.state
 
   same_parts : (d : ℕ) (kind : Kind) → IsFrontOfParts front (meaning_at l d kind)
-  unfolding meaning_at
+  unfolding meaning_at meaning_by
   same_parts d kind =
       let k = f.parts kind in
       record {
@@ -152,56 +198,103 @@ module _ {S : Type 0} (front : S → S) (l : Language S) (f : IsFront front l) w
         opens_region = k.opens_region;
         reads = k.reads;
         ends_region = k.ends_region;
+        opens_loop = k.opens_loop;
+        collects = k.collects;
+        keeps = k.keeps;
       }
 
-  done_front : (call : List (List ℕ) → List (List ℕ) → S → S) → ((ls args : List (List ℕ)) (s : S) → call ls args (front s) ≡ front (call ls args s))
-      → (done : Done S) → call_with l call (over_done front done) ≡ front (call_with l call done)
-  unfolding call_with
-  done_front call h (gives s) = refl
-  done_front call h (calls ls args s) = h ls args s
+  -- what comes of leaves and loops, where so many more sources may run
+  DoneFront : ℕ → Type 0
+  DoneFront d = (kind : Kind) (done : Done S) → done_at l d kind (over_done front done) ≡ front (done_at l d kind done)
 
-  run_front : (d : ℕ) (args : List (List ℕ)) → ((text : List ℕ) (s : S) → gives_at l d (body args) text (front s) ≡ front (gives_at l d (body args) text s))
-      → (ls : List (List ℕ)) (s : S)
-      → finish_at l (run_lines (meaning_at l d (body args)) (λ t. t) ls (record { place = first_place; state = front s }))
-      ≡ front (finish_at l (run_lines (meaning_at l d (body args)) (λ t. t) ls (record { place = first_place; state = s })))
-  unfolding meaning_at
-  run_front d args h ls s =
-      let m = meaning_at l d (body args) in
+  gives_front : (d : ℕ) → DoneFront d → (kind : Kind) (text : List ℕ) (s : S) → (meaning_at l d kind).gives text (front s) ≡ front ((meaning_at l d kind).gives text s)
+  unfolding DoneFront meaning_at meaning_by
+  gives_front d h kind text s = ap (done_at l d kind) (f.leaf (is_some d) kind text s) ∙ h kind (l.leaf (is_some d) kind text s)
+
+  closes_front : (d : ℕ) → DoneFront d → (kind : Kind) (s : S) → (meaning_at l d kind).closes_loop (front s) ≡ front ((meaning_at l d kind).closes_loop s)
+  unfolding DoneFront meaning_at meaning_by
+  closes_front d h kind s = ap (done_at l d kind) (f.closes (is_some d) s) ∙ h kind (l.closes (is_some d) s)
+
+  body_front : (d : ℕ) (kind : Kind) → DoneFront d → (ls : List (List ℕ)) (s : S)
+      → run_body l (meaning_at l d kind) ls (front s) ≡ front (run_body l (meaning_at l d kind) ls s)
+  unfolding run_body
+  body_front d kind h ls s =
+      let m = meaning_at l d kind in
       let a : At S = record { place = first_place; state = s } in
-      ap (finish_at l) (run_is_steps m (λ t. t) ls (over front a) ∙ lines_front front m (same_parts d (body args)) h ls a ∙ ap (over front) (sym (run_is_steps m (λ t. t) ls a)))
+      ap (finish_at l)
+      (run_is_steps m (λ t. t) ls (over front a) ∙ lines_front front m (same_parts d kind) (gives_front d h kind) (closes_front d h kind) ls a
+      ∙ ap (over front) (sym (run_is_steps m (λ t. t) ls a)))
       ∙ finish_front (run_lines m (λ t. t) ls a)
 
-  gives_front : (d : ℕ) (kind : Kind) (text : List ℕ) (s : S) → gives_at l d kind text (front s) ≡ front (gives_at l d kind text s)
-  unfolding gives_at meaning_at
-  gives_front zero kind text s =
-      ap (call_with l (λ ls args s. s)) (f.leaf false kind text s) ∙ done_front (λ ls args s. s) (λ ls args s. refl) (l.leaf false kind text s)
-  gives_front (suc d) kind text s =
-      let call : List (List ℕ) → List (List ℕ) → S → S = λ ls args s. finish_at l (run_lines (meaning_at l d (body args)) (λ t. t) ls (record { place = first_place; state = s })) in
-      ap (call_with l call) (f.leaf true kind text s)
-      ∙ done_front call (λ ls args s. run_front d args (gives_front d (body args)) ls s) (l.leaf true kind text s)
+  if_front : (runs : Bool) (run : S → S) → ((s : S) → run (front s) ≡ front (run s)) → (s : S) → run_if runs run (front s) ≡ front (run_if runs run s)
+  unfolding run_if
+  if_front true run h s = h s
+  if_front false run h s = refl
+
+  turns_front : (n : ℕ) (run : S → S) → ((s : S) → run (front s) ≡ front (run s)) → (kind : Kind) (condition : List ℕ) (s : S)
+      → turns l n run kind condition (front s) ≡ front (turns l n run kind condition s)
+  unfolding turns
+  turns_front zero run h kind condition s = refl
+  turns_front (suc n) run h kind condition s =
+      let v = l.turn kind condition s in
+      let then : S → S = λ s. turns l n run kind condition (run s) in
+      let if : Bool × S → S = λ v. run_if v.0 then v.1 in
+      ap if (f.turn kind condition s)
+      ∙ if_front v.0 then (λ s. ap (turns l n run kind condition) (h s) ∙ turns_front n run h kind condition (run s)) v.1
+
+  done_front : (d : ℕ) → DoneFront d
+  unfolding DoneFront done_at done_by meaning_at
+  done_front zero kind (gives s) = refl
+  done_front zero kind (calls ls args s) = refl
+  done_front zero kind (repeats condition ls s) = refl
+  done_front (suc d) kind (gives s) = refl
+  done_front (suc d) kind (calls ls args s) = body_front d (body (Some args)) (done_front d) ls s
+  done_front (suc d) kind (repeats condition ls s) =
+      turns_front TURNS (run_body l (meaning_at l d (inner kind)) ls) (body_front d (inner kind) (done_front d) ls) (inner kind) condition s
 
   in_front : (d : ℕ) (kind : Kind) (region : Option Opened) (g : Frame) (s : S) → line_in l (meaning_at l d kind) region g (front s) ≡ over front (line_in l (meaning_at l d kind) region g s)
-  unfolding line_in meaning_at
-  in_front d kind None g s = parts_front front (meaning_at l d kind) (same_parts d kind) (gives_front d kind) g.parts g.spot s
+  unfolding line_in
+  in_front d kind None g s =
+      parts_front front (meaning_at l d kind) (same_parts d kind) (gives_front d (done_front d) kind) (closes_front d (done_front d) kind) g.parts g.spot s
   in_front d kind (Some o) g s = refl
 
-  after_front : (kind : Kind) (lines : List (List ℕ)) (under : List Frame) (a : At S) → after_line l kind lines under (over front a) ≡ over front (after_line l kind lines under a)
-  unfolding after_line line_rest meaning_at
-  after_front kind lines [] a =
-      lines_front front (meaning_at l (depth []) kind) (same_parts (depth []) kind) (gives_front (depth []) kind) lines a
-  after_front kind lines (g ∷ gs) a =
+  lines_over : (d : ℕ) (kind : Kind) (lines : List (List ℕ)) (a : At S)
+      → step_lines (meaning_at l d kind) (λ t. t) lines (over front a) ≡ over front (step_lines (meaning_at l d kind) (λ t. t) lines a)
+  lines_over d kind lines a =
+      lines_front front (meaning_at l d kind) (same_parts d kind) (gives_front d (done_front d) kind) (closes_front d (done_front d) kind) lines a
+
+  last_front : (begun : Bool) (a : At S) → finish_if l begun (over front a) ≡ front (finish_if l begun a)
+  unfolding finish_if
+  last_front true a = finish_front a
+  last_front false a = refl
+
+  ended_front : (turning : Option Turning) (d : ℕ) (kind : Kind) (a : At S)
+      → ended l turning (meaning_at l d kind) kind (over front a) ≡ front (ended l turning (meaning_at l d kind) kind a)
+  unfolding ended
+  ended_front None d kind a = finish_front a
+  ended_front (Some t) d kind a =
+      let run = run_body l (meaning_at l d kind) t.lines in
+      ap (turns l t.left run kind t.condition) (last_front t.begun a)
+      ∙ turns_front t.left run (body_front d kind (done_front d) t.lines) kind t.condition (finish_if l t.begun a)
+
+  after_front : (kind : Kind) (turning : Option Turning) (lines : List (List ℕ)) (under : List Frame) (a : At S)
+      → after_line l kind turning lines under (over front a) ≡ over front (after_line l kind turning lines under a)
+  unfolding after_line line_rest
+  after_front kind turning lines [] a = lines_over (depth []) kind lines a
+  after_front kind turning lines (g ∷ gs) a =
       let d = depth (g ∷ gs) in
       let m = meaning_at l d kind in
       let n = meaning_at l (depth gs) g.kind in
       let b = step_lines m (λ t. t) lines a in
-      ap (λ (a : At S). after_line l g.kind g.lines gs (line_in l n g.region g (finish_at l a))) (lines_front front m (same_parts d kind) (gives_front d kind) lines a)
-      ∙ ap (λ (s : S). after_line l g.kind g.lines gs (line_in l n g.region g s)) (finish_front b)
-      ∙ ap (after_line l g.kind g.lines gs) (in_front (depth gs) g.kind g.region g (finish_at l b))
-      ∙ after_front g.kind g.lines gs (line_in l n g.region g (finish_at l b))
+      let s = ended l turning m kind b in
+      ap (λ (a : At S). after_line l g.kind g.turning g.lines gs (line_in l n g.region g (ended l turning m kind a))) (lines_over d kind lines a)
+      ∙ ap (λ (s : S). after_line l g.kind g.turning g.lines gs (line_in l n g.region g s)) (ended_front turning d kind b)
+      ∙ ap (after_line l g.kind g.turning g.lines gs) (in_front (depth gs) g.kind g.region g s)
+      ∙ after_front g.kind g.turning g.lines gs (line_in l n g.region g s)
 
   pub rest_front : (r : Running S) → rest_of l (over_running front r) ≡ over front (rest_of l r)
   unfolding rest_of rest line_rest
   rest_front r =
       let g = r.top in
-      ap (after_line l g.kind g.lines r.under) (in_front (depth r.under) g.kind g.region g r.state)
-      ∙ after_front g.kind g.lines r.under (line_in l (meaning_at l (depth r.under) g.kind) g.region g r.state)
+      ap (after_line l g.kind g.turning g.lines r.under) (in_front (depth r.under) g.kind g.region g r.state)
+      ∙ after_front g.kind g.turning g.lines r.under (line_in l (meaning_at l (depth r.under) g.kind) g.region g r.state)

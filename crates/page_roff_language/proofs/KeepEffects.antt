@@ -1,22 +1,26 @@
--- What all effects of parts keep, the lines of a page keep, with the macros that they call: helpers of proofs.
-use Rattle.std.proofs.Common.{ℕ, zero, suc, Bool, true, false, ◌&&◌, not, List, [], ◌∷◌, Option}
+-- What all effects of parts keep, the lines of a page keep, with the macros that they call and their loops: helpers of proofs.
+use Rattle.std.proofs.Common.{ℕ, zero, suc, Bool, true, false, ◌&&◌, not, List, Option, Some, None}
 use Rattle.page_roff_heads.specs.declared.conditions.Condition.{Condition}
+use Rattle.page_roff_heads.specs.declared.loops.LoopHead.{LoopHead}
 use Rattle.page_roff_blocks.specs.declared.atoms.Head.{Head}
 use Rattle.page_roff_blocks.specs.declared.regions.RegionHead.{RegionHead}
 use Rattle.page_roff_blocks.specs.Levels.{Opened, first_place}
+use Rattle.page_roff_blocks.specs.Loops.{loop_text}
 use Rattle.page_roff_blocks.specs.Run.{At, run_lines}
 use Rattle.page_core_limits.specs.declared.TheConstants.{CALLS}
-use Rattle.page_roff_language.specs.Languages.{Kind, page, body, Done, gives, calls, finish_at, call_with, gives_at, meaning_at, run_page}
-use Rattle.page_roff_language.specs.Budgets.{Budgeted, Effects, with_rest, charge_by, charge, begin_line, whether_run, meet, test, unopened_by, read_line, end_line, meaning, done_with, language}
-use Rattle.page_roff_language.proofs.KeepLemmas.{AreSuch, HasLeaves, KeepsParts, KeepsLines, run_keeps}
+use Rattle.page_roff_language.specs.Languages.{Kind, page, body, inner, Done, gives, calls, repeats, TURNS, is_some, finish_at, run_body, done_by, meaning_by, done_at, meaning_at, run_page}
+use Rattle.page_roff_language.specs.Budgets.{Budgeted, Effects, with_rest, charge_by, charge, begin_line, whether_run, meet, test, unopened_by, read_line, end_line, collect_some, meaning, done_with, closed_with, turn_by, turn, language}
+use Rattle.page_roff_language.proofs.KeepLemmas.{IsIfSome, IsLoopHead, AreSuch, HasLeaves, HasLoopTexts, KeepsParts, KeepsLines, run_keeps, turns_keep}
 
--- a leaf gives what is kept, or calls a macro whose lines and arguments are such
+-- what is kept is given, or a macro is called whose lines and arguments are such, or a loop repeats whose condition and lines are
 abbrev pub IsKeptAfter : {R : Type 0} → (List ℕ → Type 0) → (Kind → Type 0) → (R → Type 0) → Done R → Type 0
 IsKeptAfter T K P (gives r) = P r
-IsKeptAfter T K P (calls lines args r) = AreSuch T lines × K (body args) × P r
+IsKeptAfter T K P (calls lines args r) = AreSuch T lines × K (body (Some args)) × P r
+IsKeptAfter T K P (repeats condition lines r) = T condition × AreSuch T lines × P r
 
 -- in sources of such kinds, whose lines are such texts
 pub record KeepsEffects {R : Type 0} (T : List ℕ → Type 0) (K : Kind → Type 0) (P : R → Type 0) (e : Effects R) : Type 0 where
+  pub inner : (kind : Kind) → K kind → K (inner kind)
   pub exhausts : (r : R) → P r → P (e.exhausts r)
   pub tests : (kind : Kind) (condition : Condition (List ℕ)) (r : R) → P r → P (e.tests kind condition r).1
   pub leaf : (may_call : Bool) (kind : Kind) (text : List ℕ) (r : R) → K kind → T text → P r → IsKeptAfter T K P (e.leaf may_call kind text r)
@@ -25,9 +29,13 @@ pub record KeepsEffects {R : Type 0} (T : List ℕ → Type 0) (K : Kind → Typ
   pub opens_region : (kind : Kind) (head : RegionHead (List ℕ)) (is_run : Bool) (r : R) → P r → P (e.opens_region kind head is_run r)
   pub reads : (kind : Kind) (o : Opened) (is_run : Bool) (line : List ℕ) (r : R) → K kind → T line → P r → P (e.reads kind o is_run line r)
   pub ends_region : (kind : Kind) (o : Opened) (is_run : Bool) (line : List ℕ) (r : R) → P r → P (e.ends_region kind o is_run line r)
-  pub finish : (region : Option Opened) (gave_up : Bool) (r : R) → P r → P (e.finish region gave_up r)
+  pub opens_loop : (h : LoopHead (List ℕ)) (r : R) → IsLoopHead T h → P r → P (e.opens_loop h r)
+  pub collects : (is_run : Bool) (text : List ℕ) (r : R) → T text → P r → P (e.collects is_run text r)
+  pub closes : (is_run may_run : Bool) (r : R) → P r → IsKeptAfter T K P (e.closes is_run may_run r)
+  pub turns : (kind : Kind) (condition : List ℕ) (r : R) → K kind → T condition → P r → P (e.turns kind condition r).1
+  pub finish : (region : Option Opened) (in_loop gave_up : Bool) (r : R) → P r → P (e.finish region in_loop gave_up r)
 
-module _ {R : Type 0} (T : List ℕ → Type 0) (K : Kind → Type 0) (P : R → Type 0) (e : Effects R) (leaves : HasLeaves T) (k : KeepsEffects T K P e) where
+module _ {R : Type 0} (T : List ℕ → Type 0) (K : Kind → Type 0) (P : R → Type 0) (e : Effects R) (leaves : HasLeaves T) (texts : HasLoopTexts T) (k : KeepsEffects T K P e) where
   Kept : Budgeted R → Type 0
   Kept s = P s.rest
 
@@ -67,48 +75,85 @@ module _ {R : Type 0} (T : List ℕ → Type 0) (K : Kind → Type 0) (P : R →
   end_keeps kind o line s h =
       let b = begin_line e kind s in k.ends_region kind o (o.is_run && not b.gave_up) line b.rest (begin_keeps kind s h)
 
-  done_keeps : (s : Budgeted R) (call : List (List ℕ) → List (List ℕ) → Budgeted R → Budgeted R)
-      → ((lines args : List (List ℕ)) (s : Budgeted R) → AreSuch T lines → K (body args) → Kept s → Kept (call lines args s))
-      → (done : Done R) → IsKeptAfter T K P done → Kept (call_with (language e) call (done_with e s done))
-  unfolding call_with done_with with_rest Kept
-  done_keeps s call keep (gives r) h = h
-  done_keeps s call keep (calls lines args r) h = keep lines args (with_rest e s r) h.0 h.1 h.2
+  some_keeps : (text : Option (List ℕ)) (s : Budgeted R) → IsIfSome T text → Kept s → Kept (collect_some e text s)
+  unfolding collect_some with_rest Kept
+  some_keeps None s t h = h
+  some_keeps (Some text) s t h = k.collects (not s.gave_up) text s.rest t h
 
-  parts_keep : (d : ℕ) (kind : Kind) → ((text : List ℕ) (s : Budgeted R) → T text → Kept s → Kept (gives_at (language e) d kind text s))
-      → KeepsParts T (meaning_at (language e) d kind) Kept
-  unfolding meaning_at language meaning test with_rest Kept
-  parts_keep d kind gives_keeps = record {
+  leaf_done : (s : Budgeted R) (done : Done R) → IsKeptAfter T K P done → IsKeptAfter T K Kept (done_with e s done)
+  unfolding done_with with_rest Kept
+  leaf_done s (gives r) h = h
+  leaf_done s (calls lines args r) h = h
+  leaf_done s (repeats condition lines r) h = h
+
+  closed_done : (s : Budgeted R) (done : Done R) → IsKeptAfter T K P done → IsKeptAfter T K Kept (closed_with e s done)
+  unfolding closed_with with_rest Kept
+  closed_done s (gives r) h = h
+  closed_done s (calls lines args r) h = h.2
+  closed_done s (repeats condition lines r) h = h
+
+  tested_keeps : (gave_up : Bool) (kind : Kind) (condition : List ℕ) (s : Budgeted R) → K kind → T condition → Kept s → Kept (turn_by e gave_up kind condition s).1
+  unfolding turn_by with_rest Kept
+  tested_keeps true kind condition s a t h = h
+  tested_keeps false kind condition s a t h = k.turns kind condition s.rest a t h
+
+  turn_keeps : (kind : Kind) (condition : List ℕ) (s : Budgeted R) → K kind → T condition → Kept s → Kept ((language e).turn kind condition s).1
+  unfolding language turn
+  turn_keeps kind condition s a t h = let c = charge e s in tested_keeps c.gave_up kind condition c a t (charge_keeps s h)
+
+  -- what comes of leaves and loops keeps it, where so many more sources may run
+  DoneKeeps : ℕ → Type 0
+  DoneKeeps d = (kind : Kind) (done : Done (Budgeted R)) → K kind → IsKeptAfter T K Kept done → Kept (done_at (language e) d kind done)
+
+  parts_keep : (d : ℕ) (kind : Kind) → K kind → DoneKeeps d → KeepsParts T (meaning_at (language e) d kind) Kept
+  unfolding meaning_at meaning_by language meaning test with_rest Kept DoneKeeps
+  parts_keep d kind a done_keeps = record {
     meets = meet_keeps;
     tests = λ condition s h. k.tests kind condition s.rest h;
-    gives = gives_keeps;
+    gives = λ text s t h.
+        done_keeps kind (done_with e s (e.leaf (is_some d) kind text s.rest)) a (leaf_done s (e.leaf (is_some d) kind text s.rest) (k.leaf (is_some d) kind text s.rest a t h));
     refuses = λ head s h. k.refuses head s.rest h;
     unopened = λ s h. unopened_keeps kind s.gave_up s h;
     opens_region = λ head is_run s h. k.opens_region kind head is_run s.rest h;
+    opens_loop = λ head s t h. k.opens_loop head s.rest t h;
+    closes_loop = λ s h.
+        let done = e.closes (not s.gave_up) (is_some d) s.rest in
+        done_keeps kind (closed_with e s done) a (closed_done s done (k.closes (not s.gave_up) (is_some d) s.rest h));
   }
 
   lines_keep : (d : ℕ) (kind : Kind) → K kind → KeepsLines T (meaning_at (language e) d kind) Kept
-  unfolding meaning_at language meaning
+  unfolding meaning_at meaning_by language meaning
   lines_keep d kind a = record {
     begins = λ line s t h. begin_keeps kind s h;
     reads = λ o line s t h. read_keeps kind o line s a t h;
     ends_region = λ o line s t h. end_keeps kind o line s h;
+    collects = λ open_blocks line s t h. some_keeps (loop_text open_blocks line) s (texts open_blocks line t) h;
+    keeps = λ line s t h. some_keeps (Some line) s t h;
   }
 
-  gives_keeps : (d : ℕ) (kind : Kind) → K kind → (text : List ℕ) (s : Budgeted R) → T text → Kept s → Kept (gives_at (language e) d kind text s)
-  unfolding gives_at meaning_at language finish_at with_rest Kept
-  gives_keeps zero kind a text s t h =
-      done_keeps s (λ lines args s. s) (λ lines args s l b h. h) (e.leaf false kind text s.rest) (k.leaf false kind text s.rest a t h)
-  gives_keeps (suc d) kind a text s t h =
-      done_keeps s
-      (λ lines args s. finish_at (language e) (run_lines (meaning_at (language e) d (body args)) (λ t. t) lines (record { place = first_place; state = s })))
-      (λ lines args s l b h.
-      let after = run_lines (meaning_at (language e) d (body args)) (λ t. t) lines (record { place = first_place; state = s }) in
-      k.finish after.place.region after.state.gave_up after.state.rest
-      (run_keeps T (meaning_at (language e) d (body args)) Kept (parts_keep d (body args) (gives_keeps d (body args) b)) leaves (lines_keep d (body args) b) lines
-      (record { place = first_place; state = s }) l h))
-      (e.leaf true kind text s.rest) (k.leaf true kind text s.rest a t h)
+  body_keeps : (d : ℕ) (kind : Kind) → K kind → DoneKeeps d → (lines : List (List ℕ)) (s : Budgeted R) → AreSuch T lines → Kept s
+      → Kept (run_body (language e) (meaning_at (language e) d kind) lines s)
+  unfolding run_body finish_at language with_rest Kept
+  body_keeps d kind a done_keeps lines s l h =
+      let m = meaning_at (language e) d kind in
+      let from : At (Budgeted R) = record { place = first_place; state = s } in
+      let after = run_lines m (λ t. t) lines from in
+      k.finish after.place.region after.place.levels.in_loop after.state.gave_up after.state.rest
+      (run_keeps T m Kept (parts_keep d kind a done_keeps) leaves (lines_keep d kind a) lines from l h)
+
+  all_keep : (d : ℕ) → DoneKeeps d
+  unfolding DoneKeeps done_at done_by meaning_at
+  all_keep zero kind (gives s) a h = h
+  all_keep zero kind (calls lines args s) a h = h.2
+  all_keep zero kind (repeats condition lines s) a h = h.2
+  all_keep (suc d) kind (gives s) a h = h
+  all_keep (suc d) kind (calls lines args s) a h = body_keeps d (body (Some args)) h.1 (all_keep d) lines s h.0 h.2
+  all_keep (suc d) kind (repeats condition lines s) a h =
+      let b = k.inner kind a in
+      turns_keep (language e) Kept (inner kind) condition (λ s p. turn_keeps (inner kind) condition s b h.0 p)
+      (run_body (language e) (meaning_at (language e) d (inner kind)) lines) (λ s p. body_keeps d (inner kind) b (all_keep d) lines s h.1 p) TURNS s h.2
 
   pub page_keeps : K page → (lines : List (List ℕ)) (a : At (Budgeted R)) → AreSuch T lines → P a.state.rest → P (run_page (language e) lines a).state.rest
   unfolding run_page Kept
   page_keeps a lines at t h =
-      run_keeps T (meaning_at (language e) CALLS page) Kept (parts_keep CALLS page (gives_keeps CALLS page a)) leaves (lines_keep CALLS page a) lines at t h
+      run_keeps T (meaning_at (language e) CALLS page) Kept (parts_keep CALLS page a (all_keep CALLS)) leaves (lines_keep CALLS page a) lines at t h

@@ -1,8 +1,12 @@
+pub mod BodyLemmas
 pub mod BudgetLemmas
+pub mod CreditLemmas
 pub mod FrontLemmas
 pub mod KeepEffects
 pub mod KeepLemmas
 pub mod MachineLemmas
 pub mod MeasureLemmas
+pub mod OnLineLemmas
 pub mod SpendLemmas
+pub mod TurnLemmas
 pub mod DepthLemmas

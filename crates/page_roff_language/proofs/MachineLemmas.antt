@@ -1,164 +1,252 @@
 -- What is still to come, step by step: helpers of proofs.
 use Rattle.std.proofs.Common.{◌≡◌, ℕ, zero, suc, ◌-◌, Bool, true, false, List, [], ◌∷◌, ◌++◌, length, Option, Some, None, refl, sym, ap, ◌∙◌, arith}
+use Rattle.page_roff_heads.specs.declared.loops.LoopHead.{LoopHead}
 use Rattle.page_roff_blocks.specs.declared.atoms.Atom.{Atom}
-use Rattle.page_roff_blocks.specs.declared.atoms.Atom.TheVariants.{Leaf, Guard, Block, End, Region}
+use Rattle.page_roff_blocks.specs.declared.atoms.Atom.TheVariants.{Leaf, Guard, Block, Loop, End, Region}
+use Rattle.page_roff_blocks.specs.declared.levels.Ended.{Ended}
+use Rattle.page_roff_blocks.specs.declared.levels.Ended.TheVariants as endings
 use Rattle.page_roff_blocks.specs.Regions.{is_ending}
-use Rattle.page_roff_blocks.specs.Levels.{Opened, Spot, at_line, after_part, first_place}
-use Rattle.page_roff_blocks.specs.Run.{Meaning, At, run_lines, headed}
+use Rattle.page_roff_blocks.specs.Levels.{Opened, Spot, at_line, after_part, leave, what_ends, first_place}
+use Rattle.page_roff_blocks.specs.Run.{Meaning, At, end_by, run_lines, headed}
 use Rattle.page_roff_blocks.specs.Run as blocks
-use Rattle.page_roff_blocks.specs.Steps.{met, step_leaf, step_region, step_parts, step_inside, step_from, step, step_lines}
+use Rattle.page_roff_blocks.specs.Steps.{met, step_leaf, step_loop, step_end, step_region, step_parts, step_inside, step_from, step, step_lines}
 use Rattle.page_roff_blocks.proofs.FoldLemmas.{run_is_steps, run_lines-append}
 use Rattle.page_core_limits.specs.declared.TheConstants.{CALLS}
-use Rattle.page_roff_language.specs.Languages.{Kind, page, body, Done, gives, calls, Language, finish_at, call_with, gives_at, meaning_at, run_page, run_page_lines}
-use Rattle.page_roff_language.specs.Machine.{Frame, Running, entered, at_part, at_page, depth, is_some, stands_at, line_in, line_rest, after_line, rest, rest_of, leaf_next, leaf_if, part_next, region_next, line_next, source_next, next_in, next}
+use Rattle.page_roff_language.specs.Languages.{Kind, page, body, inner, Done, gives, calls, repeats, state_of, TURNS, Language, is_some, run_if, finish_at, run_body, turns, done_by, meaning_by, done_at, meaning_at, run_page, run_page_lines}
+use Rattle.page_roff_language.specs.Machine.{Turning, Frame, Running, entered, looped, turned, at_part, between, at_page, depth, stands_at, line_in, line_rest, finish_if, ended, after_line, rest, rest_of, leaf_next, leaf_if, loop_next, loop_if, end_next, part_next, region_next, line_next, turn_if, turn_next, body_next, source_next, next_in, next}
 
 module _ {S : Type 0} (l : Language S) where
-  frame : Kind → Option Opened → List (Atom (List ℕ)) → Spot → List (List ℕ) → Frame
-  frame kind region parts spot lines = record { kind = kind; region = region; parts = parts; spot = spot; lines = lines }
+  frame : Kind → Option Opened → List (Atom (List ℕ)) → Spot → List (List ℕ) → Option Turning → Frame
+  frame kind region parts spot lines turning =
+      record { kind = kind; region = region; parts = parts; spot = spot; lines = lines; turning = turning }
 
   one_less : (n k d : ℕ) → n - k ≡ suc d → n - suc k ≡ d
   one_less n k d e = omega arith
 
-  -- what a leaf gives, where so many more macros may run
-  done_law : (d : ℕ) (under : List Frame) (kind : Kind) (more : List (Atom (List ℕ))) (spot : Spot) (lines : List (List ℕ)) (done : Done S) → depth under ≡ suc d
-      → after_line l kind lines under (step_parts (meaning_at l (depth under) kind) more spot
-      (call_with l (λ ls args s. finish_at l (run_lines (meaning_at l d (body args)) (λ t. t) ls (record { place = first_place; state = s }))) done))
-      ≡ rest_of l (leaf_next l true (frame kind None more spot lines) under done)
-  unfolding call_with rest_of rest after_line leaf_next line_rest line_in entered frame step_parts at_line first_place depth
-  done_law d under kind more spot lines (gives s) e = refl
-  done_law d under kind more spot lines (calls ls args s) e =
+  -- what comes of a leaf or a loop, where so many more sources may run
+  done_law : (d : ℕ) (under : List Frame) (kind : Kind) (more : List (Atom (List ℕ))) (spot : Spot) (lines : List (List ℕ)) (turning : Option Turning) (done : Done S)
+      → depth under ≡ suc d
+      → after_line l kind turning lines under (step_parts (meaning_at l (depth under) kind) more spot (done_by l (meaning_at l d) kind done))
+      ≡ rest_of l (leaf_next l true (frame kind None more spot lines turning) under done)
+  unfolding done_by run_body rest_of rest after_line ended finish_if leaf_next line_rest line_in entered looped frame step_parts step_lines at_line first_place depth
+  done_law d under kind more spot lines turning (gives s) e = refl
+  done_law d under kind more spot lines turning (calls ls args s) e =
       let a : At S = record { place = first_place; state = s } in
+      let k = body (Some args) in
       let fewer : d ≡ CALLS - suc (length under) = sym (one_less CALLS (length under) d e) in
-      ap (λ a. after_line l kind lines under (step_parts (meaning_at l (CALLS - length under) kind) more spot (finish_at l a)))
-      (run_is_steps (meaning_at l d (body args)) (λ t. t) ls a ∙ ap (λ d. step_lines (meaning_at l d (body args)) (λ t. t) ls a) fewer)
+      ap (λ a. after_line l kind turning lines under (step_parts (meaning_at l (CALLS - length under) kind) more spot (finish_at l a)))
+      (run_is_steps (meaning_at l d k) (λ t. t) ls a ∙ ap (λ d. step_lines (meaning_at l d k) (λ t. t) ls a) fewer)
+  done_law d under kind more spot lines turning (repeats condition ls s) e =
+      let k = inner kind in
+      let fewer : d ≡ CALLS - suc (length under) = sym (one_less CALLS (length under) d e) in
+      ap (λ d. after_line l kind turning lines under (step_parts (meaning_at l (CALLS - length under) kind) more spot
+      (turns l TURNS (run_body l (meaning_at l d k) ls) k condition s))) fewer
 
-  last_law : (under : List Frame) (kind : Kind) (more : List (Atom (List ℕ))) (spot : Spot) (lines : List (List ℕ)) (done : Done S)
-      → after_line l kind lines under (step_parts (meaning_at l (depth under) kind) more spot (call_with l (λ ls args s. s) done))
-      ≡ rest_of l (leaf_next l false (frame kind None more spot lines) under done)
-  unfolding call_with rest_of rest leaf_next line_rest line_in frame
-  last_law under kind more spot lines (gives s) = refl
-  last_law under kind more spot lines (calls ls args s) = refl
+  last_law : (under : List Frame) (kind : Kind) (more : List (Atom (List ℕ))) (spot : Spot) (lines : List (List ℕ)) (turning : Option Turning) (done : Done S)
+      → after_line l kind turning lines under (step_parts (meaning_at l (depth under) kind) more spot (state_of done))
+      ≡ rest_of l (leaf_next l false (frame kind None more spot lines turning) under done)
+  unfolding rest_of rest leaf_next line_rest line_in frame
+  last_law under kind more spot lines turning (gives s) = refl
+  last_law under kind more spot lines turning (calls ls args s) = refl
+  last_law under kind more spot lines turning (repeats condition ls s) = refl
 
-  call_law : (d : ℕ) (under : List Frame) (kind : Kind) (more : List (Atom (List ℕ))) (spot : Spot) (lines : List (List ℕ)) (text : List ℕ) (s : S) → depth under ≡ d
-      → after_line l kind lines under (step_parts (meaning_at l (depth under) kind) more spot (gives_at l d kind text s))
-      ≡ rest_of l (leaf_next l (is_some d) (frame kind None more spot lines) under (l.leaf (is_some d) kind text s))
-  unfolding gives_at is_some meaning_at
-  call_law zero under kind more spot lines text s e = last_law under kind more spot lines (l.leaf false kind text s)
-  call_law (suc d) under kind more spot lines text s e = done_law d under kind more spot lines (l.leaf true kind text s) e
+  come_law : (d : ℕ) (under : List Frame) (kind : Kind) (more : List (Atom (List ℕ))) (spot : Spot) (lines : List (List ℕ)) (turning : Option Turning) (done : Done S)
+      → depth under ≡ d
+      → after_line l kind turning lines under (step_parts (meaning_at l (depth under) kind) more spot (done_at l d kind done))
+      ≡ rest_of l (leaf_next l (is_some d) (frame kind None more spot lines turning) under done)
+  unfolding done_at is_some meaning_at
+  come_law zero under kind more spot lines turning done e = last_law under kind more spot lines turning done
+  come_law (suc d) under kind more spot lines turning done e = done_law d under kind more spot lines turning done e
 
-  leaf_law : (is_met : Bool) (under : List Frame) (kind : Kind) (more : List (Atom (List ℕ))) (spot : Spot) (lines : List (List ℕ)) (text : List ℕ) (s : S)
-      → after_line l kind lines under (step_parts (meaning_at l (depth under) kind) more spot (blocks.leaf_if (meaning_at l (depth under) kind) is_met text s))
-      ≡ rest_of l (leaf_if l is_met text (frame kind None more spot lines) under s)
-  unfolding blocks.leaf_if leaf_if meaning_at rest_of rest line_rest line_in frame
-  leaf_law true under kind more spot lines text s = call_law (depth under) under kind more spot lines text s refl
-  leaf_law false under kind more spot lines text s = refl
+  leaf_law : (is_met : Bool) (under : List Frame) (kind : Kind) (more : List (Atom (List ℕ))) (spot : Spot) (lines : List (List ℕ)) (turning : Option Turning) (text : List ℕ) (s : S)
+      → after_line l kind turning lines under (step_parts (meaning_at l (depth under) kind) more spot (blocks.leaf_if (meaning_at l (depth under) kind) is_met text s))
+      ≡ rest_of l (leaf_if l is_met text (frame kind None more spot lines turning) under s)
+  unfolding blocks.leaf_if leaf_if meaning_at meaning_by rest_of rest line_rest line_in frame
+  leaf_law true under kind more spot lines turning text s =
+      come_law (depth under) under kind more spot lines turning (l.leaf (is_some (depth under)) kind text s) refl
+  leaf_law false under kind more spot lines turning text s = refl
 
-  part_law : (part : Atom (List ℕ)) (under : List Frame) (kind : Kind) (more : List (Atom (List ℕ))) (spot : Spot) (lines : List (List ℕ)) (s : S)
-      → let f = frame kind None (part ∷ more) spot lines in
+  -- a loop is whole
+  whole_law : (under : List Frame) (kind : Kind) (more : List (Atom (List ℕ))) (spot : Spot) (lines : List (List ℕ)) (turning : Option Turning) (s : S)
+      → after_line l kind turning lines under (step_parts (meaning_at l (depth under) kind) more spot ((meaning_at l (depth under) kind).closes_loop s))
+      ≡ rest_of l (loop_next l (frame kind None more spot lines turning) under s)
+  unfolding loop_next meaning_at meaning_by
+  whole_law under kind more spot lines turning s = come_law (depth under) under kind more spot lines turning (l.closes (is_some (depth under)) s) refl
+
+  loop_law : (is_met : Bool) (h : LoopHead (List ℕ)) (under : List Frame) (kind : Kind) (more : List (Atom (List ℕ))) (spot : Spot) (lines : List (List ℕ)) (turning : Option Turning) (s : S)
+      → let m = meaning_at l (depth under) kind in
+      after_line l kind turning lines under (step_parts m more spot (blocks.loop_if m is_met h s))
+      ≡ rest_of l (loop_if l m is_met h (frame kind None more spot lines turning) under s)
+  unfolding blocks.loop_if loop_if rest_of rest line_rest line_in frame
+  loop_law true h under kind more spot lines turning s = whole_law under kind more spot lines turning ((meaning_at l (depth under) kind).opens_loop h s)
+  loop_law false h under kind more spot lines turning s = refl
+
+  ending_law : (ending : Ended) (under : List Frame) (kind : Kind) (more : List (Atom (List ℕ))) (spot : Spot) (lines : List (List ℕ)) (turning : Option Turning) (s : S)
+      → let m = meaning_at l (depth under) kind in
+      after_line l kind turning lines under (step_parts m more spot (end_by m ending s))
+      ≡ rest_of l (end_next l m ending (frame kind None more spot lines turning) under s)
+  unfolding end_by end_next rest_of rest line_rest line_in frame
+  ending_law endings.Block under kind more spot lines turning s = refl
+  ending_law endings.Loop under kind more spot lines turning s = whole_law under kind more spot lines turning s
+  ending_law endings.Nothing under kind more spot lines turning s = refl
+
+  part_law : (part : Atom (List ℕ)) (under : List Frame) (kind : Kind) (more : List (Atom (List ℕ))) (spot : Spot) (lines : List (List ℕ)) (turning : Option Turning) (s : S)
+      → let f = frame kind None (part ∷ more) spot lines turning in
       rest l f under s ≡ rest_of l (part_next l (meaning_at l (depth under) kind) part more f under s)
-  unfolding rest_of rest line_rest line_in part_next at_part step_parts step_leaf step_region at_line frame
-  part_law (Leaf text) under kind more spot lines s =
+  unfolding rest_of rest line_rest line_in part_next at_part between step_parts step_leaf step_loop step_end step_region at_line frame
+  part_law (Leaf text) under kind more spot lines turning s =
       let q = met (meaning_at l (depth under) kind) spot s in
-      leaf_law q.0 under kind more (after_part spot.levels) lines text q.1
-  part_law (Guard h) under kind more spot lines s = refl
-  part_law (Block h) under kind more spot lines s = refl
-  part_law End under kind more spot lines s = refl
-  part_law (Region head) under kind more spot lines s = refl
+      leaf_law q.0 under kind more (after_part spot.levels) lines turning text q.1
+  part_law (Guard h) under kind more spot lines turning s = refl
+  part_law (Block h) under kind more spot lines turning s = refl
+  part_law (Loop h) under kind more spot lines turning s =
+      let q = met (meaning_at l (depth under) kind) spot s in
+      loop_law q.0 h under kind more (after_part spot.levels) lines turning q.1
+  part_law End under kind more spot lines turning s =
+      ending_law (what_ends spot.levels) under kind more (after_part (leave spot.levels)) lines turning s
+  part_law (Region head) under kind more spot lines turning s = refl
 
-  after_cons : (kind : Kind) (line : List ℕ) (more : List (List ℕ)) (under : List Frame) (a : At S)
-      → after_line l kind (line ∷ more) under a ≡ after_line l kind more under (step (meaning_at l (depth under) kind) (λ t. t) line a)
+  after_cons : (kind : Kind) (turning : Option Turning) (line : List ℕ) (more : List (List ℕ)) (under : List Frame) (a : At S)
+      → after_line l kind turning (line ∷ more) under a ≡ after_line l kind turning more under (step (meaning_at l (depth under) kind) (λ t. t) line a)
   unfolding after_line step_lines
-  after_cons kind line more [] a = refl
-  after_cons kind line more (g ∷ gs) a = refl
+  after_cons kind turning line more [] a = refl
+  after_cons kind turning line more (g ∷ gs) a = refl
 
   inside_law : (is_end : Bool) (o : Opened) (line : List ℕ) (more : List (List ℕ)) (f : Frame) (under : List Frame) (s : S)
       → let m = meaning_at l (depth under) f.kind in
-      after_line l f.kind more under (step_inside m is_end o line f.spot.levels s) ≡ rest_of l (region_next l m is_end o line more f under s)
-  unfolding rest_of rest line_rest line_in region_next step_inside step_parts at_line
+      after_line l f.kind f.turning more under (step_inside m is_end o line f.spot.levels s) ≡ rest_of l (region_next l m is_end o line more f under s)
+  unfolding rest_of rest line_rest line_in region_next between step_inside step_parts at_line
   inside_law true o line more f under s = refl
   inside_law false o line more f under s = refl
 
-  region_law : (o : Opened) (line : List ℕ) (more : List (List ℕ)) (kind : Kind) (parts : List (Atom (List ℕ))) (spot : Spot) (under : List Frame) (s : S)
-      → let f = frame kind (Some o) parts spot (line ∷ more) in
+  region_law : (o : Opened) (line : List ℕ) (more : List (List ℕ)) (kind : Kind) (parts : List (Atom (List ℕ))) (spot : Spot) (turning : Option Turning) (under : List Frame) (s : S)
+      → let f = frame kind (Some o) parts spot (line ∷ more) turning in
       rest l f under s ≡ rest_of l (region_next l (meaning_at l (depth under) kind) (is_ending o.ending line) o line more f under s)
   unfolding rest line_rest line_in step step_from frame
-  region_law o line more kind parts spot under s =
-      after_cons kind line more under (record { place = record { region = Some o; levels = spot.levels }; state = s })
-      ∙ inside_law (is_ending o.ending line) o line more (frame kind (Some o) parts spot (line ∷ more)) under s
+  region_law o line more kind parts spot turning under s =
+      after_cons kind turning line more under (record { place = record { region = Some o; levels = spot.levels }; state = s })
+      ∙ inside_law (is_ending o.ending line) o line more (frame kind (Some o) parts spot (line ∷ more) turning) under s
 
-  line_law : (line : List ℕ) (more : List (List ℕ)) (kind : Kind) (spot : Spot) (under : List Frame) (s : S)
-      → let f = frame kind None [] spot (line ∷ more) in rest l f under s ≡ rest_of l (line_next l (meaning_at l (depth under) kind) line more f under s)
+  line_law : (line : List ℕ) (more : List (List ℕ)) (kind : Kind) (spot : Spot) (turning : Option Turning) (under : List Frame) (s : S)
+      → let f = frame kind None [] spot (line ∷ more) turning in rest l f under s ≡ rest_of l (line_next l (meaning_at l (depth under) kind) line more f under s)
   unfolding rest_of rest line_rest line_in line_next step step_from step_parts frame
-  line_law line more kind spot under s = after_cons kind line more under (record { place = record { region = None; levels = spot.levels }; state = s })
+  line_law line more kind spot turning under s =
+      after_cons kind turning line more under (record { place = record { region = None; levels = spot.levels }; state = s })
 
   same_next : (r : S → At S) (p q : Running S) (s : S) → r s ≡ rest_of l p → Some p ≡ Some q → r s ≡ rest_of l q
   same_next r p q s e h = let k : p ≡ q = cc in e ∙ ap (rest_of l) k
 
-  ends_none : (kind : Kind) (spot : Spot) (under : List Frame) (s : S)
-      → rest l (frame kind None [] spot []) under s ≡ after_line l kind [] under (record { place = record { region = None; levels = spot.levels }; state = s })
+  ends_none : (kind : Kind) (spot : Spot) (turning : Option Turning) (under : List Frame) (s : S)
+      → rest l (frame kind None [] spot [] turning) under s
+      ≡ after_line l kind turning [] under (record { place = record { region = None; levels = spot.levels }; state = s })
   unfolding rest line_rest line_in step_parts frame
-  ends_none kind spot under s = refl
+  ends_none kind spot turning under s = refl
 
-  ends_some : (o : Opened) (parts : List (Atom (List ℕ))) (kind : Kind) (spot : Spot) (under : List Frame) (s : S)
-      → rest l (frame kind (Some o) parts spot []) under s ≡ after_line l kind [] under (record { place = record { region = Some o; levels = spot.levels }; state = s })
+  ends_some : (o : Opened) (parts : List (Atom (List ℕ))) (kind : Kind) (spot : Spot) (turning : Option Turning) (under : List Frame) (s : S)
+      → rest l (frame kind (Some o) parts spot [] turning) under s
+      ≡ after_line l kind turning [] under (record { place = record { region = Some o; levels = spot.levels }; state = s })
   unfolding rest line_rest line_in frame
-  ends_some o parts kind spot under s = refl
+  ends_some o parts kind spot turning under s = refl
 
-  source_law : (region : Option Opened) (under : List Frame) (kind : Kind) (spot : Spot) (s : S) (q : Running S)
-      → source_next l region under s ≡ Some q
-      → after_line l kind [] under (record { place = record { region = region; levels = spot.levels }; state = s }) ≡ rest_of l q
-  unfolding source_next after_line step_lines rest_of rest finish_at
-  source_law region [] kind spot s q e = absurd (cc)
-  source_law region (g ∷ gs) kind spot s q e =
-      same_next (λ s. rest l g gs (l.finish region s)) (record { top = g; under = gs; state = l.finish region s }) q s refl e
+  -- ---- turns of loops
 
-  step_law : (region : Option Opened) (parts : List (Atom (List ℕ))) (lines : List (List ℕ)) (kind : Kind) (spot : Spot) (under : List Frame) (s : S) (q : Running S)
-      → let f = frame kind region parts spot lines in
+  same_rest : (g : Frame) (gs : List Frame) (s : S) → rest l g gs s ≡ rest_of l (record { top = g; under = gs; state = s })
+  unfolding rest_of
+  same_rest g gs s = refl
+
+  -- a turn begins with all lines of the body
+  begun_law : (left : ℕ) (kind : Kind) (t : Turning) (g : Frame) (gs : List Frame) (s : S)
+      → rest l g gs (turns l left (run_body l (meaning_at l (depth (g ∷ gs)) kind) t.lines) kind t.condition (run_body l (meaning_at l (depth (g ∷ gs)) kind) t.lines s))
+      ≡ rest_of l (record { top = turned kind t left; under = g ∷ gs; state = s })
+  unfolding rest_of rest after_line ended finish_if line_rest line_in turned step_parts at_line first_place run_body
+  begun_law left kind t g gs s =
+      let m = meaning_at l (depth (g ∷ gs)) kind in
+      let a : At S = record { place = first_place; state = s } in
+      ap (λ a. after_line l g.kind g.turning g.lines gs (line_in l (meaning_at l (depth gs) g.kind) g.region g (turns l left (run_body l m t.lines) kind t.condition (finish_at l a))))
+      (run_is_steps m (λ t. t) t.lines a)
+
+  runs_law : (runs : Bool) (left : ℕ) (kind : Kind) (t : Turning) (g : Frame) (gs : List Frame) (s : S)
+      → let run = run_body l (meaning_at l (depth (g ∷ gs)) kind) t.lines in
+      rest l g gs (run_if runs (λ s. turns l left run kind t.condition (run s)) s) ≡ rest_of l (turn_if l runs kind t left g gs s)
+  unfolding run_if turn_if
+  runs_law true left kind t g gs s = begun_law left kind t g gs s
+  runs_law false left kind t g gs s = same_rest g gs s
+
+  turn_law : (left : ℕ) (kind : Kind) (t : Turning) (g : Frame) (gs : List Frame) (s : S)
+      → rest l g gs (turns l left (run_body l (meaning_at l (depth (g ∷ gs)) kind) t.lines) kind t.condition s) ≡ rest_of l (turn_next l left kind t g gs s)
+  unfolding turns turn_next
+  turn_law zero kind t g gs s = same_rest g gs s
+  turn_law (suc left) kind t g gs s = let v = l.turn kind t.condition s in runs_law v.0 left kind t g gs v.1
+
+  body_law : (turning : Option Turning) (kind : Kind) (g : Frame) (gs : List Frame) (a : At S)
+      → rest l g gs (ended l turning (meaning_at l (depth (g ∷ gs)) kind) kind a) ≡ rest_of l (body_next l turning kind g gs a)
+  unfolding ended body_next
+  body_law None kind g gs a = same_rest g gs (finish_at l a)
+  body_law (Some t) kind g gs a = turn_law t.left kind t g gs (finish_if l t.begun a)
+
+  over_law : (turning : Option Turning) (kind : Kind) (g : Frame) (gs : List Frame) (a : At S)
+      → after_line l kind turning [] (g ∷ gs) a ≡ rest l g gs (ended l turning (meaning_at l (depth (g ∷ gs)) kind) kind a)
+  unfolding after_line rest step_lines
+  over_law turning kind g gs a = refl
+
+  source_law : (turning : Option Turning) (under : List Frame) (kind : Kind) (a : At S) (q : Running S)
+      → source_next l turning kind under a ≡ Some q → after_line l kind turning [] under a ≡ rest_of l q
+  unfolding source_next
+  source_law turning [] kind a q e = absurd (cc)
+  source_law turning (g ∷ gs) kind a q e =
+      let k : body_next l turning kind g gs a ≡ q = cc in over_law turning kind g gs a ∙ body_law turning kind g gs a ∙ ap (rest_of l) k
+
+  step_law : (region : Option Opened) (parts : List (Atom (List ℕ))) (lines : List (List ℕ)) (kind : Kind) (spot : Spot) (turning : Option Turning) (under : List Frame) (s : S) (q : Running S)
+      → let f = frame kind region parts spot lines turning in
       next_in l (meaning_at l (depth under) kind) region parts lines f under s ≡ Some q → rest l f under s ≡ rest_of l q
-  unfolding next_in
-  step_law None (part ∷ more) lines kind spot under s q e =
-      let f = frame kind None (part ∷ more) spot lines in
-      same_next (rest l f under) (part_next l (meaning_at l (depth under) kind) part more f under s) q s (part_law part under kind more spot lines s) e
-  step_law None [] (line ∷ more) kind spot under s q e =
-      let f = frame kind None [] spot (line ∷ more) in
-      same_next (rest l f under) (line_next l (meaning_at l (depth under) kind) line more f under s) q s (line_law line more kind spot under s) e
-  step_law None [] [] kind spot under s q e = ends_none kind spot under s ∙ source_law None under kind spot s q e
-  step_law (Some o) parts (line ∷ more) kind spot under s q e =
-      let f = frame kind (Some o) parts spot (line ∷ more) in
+  unfolding next_in frame
+  step_law None (part ∷ more) lines kind spot turning under s q e =
+      let f = frame kind None (part ∷ more) spot lines turning in
+      same_next (rest l f under) (part_next l (meaning_at l (depth under) kind) part more f under s) q s (part_law part under kind more spot lines turning s) e
+  step_law None [] (line ∷ more) kind spot turning under s q e =
+      let f = frame kind None [] spot (line ∷ more) turning in
+      same_next (rest l f under) (line_next l (meaning_at l (depth under) kind) line more f under s) q s (line_law line more kind spot turning under s) e
+  step_law None [] [] kind spot turning under s q e =
+      ends_none kind spot turning under s ∙ source_law turning under kind (record { place = record { region = None; levels = spot.levels }; state = s }) q e
+  step_law (Some o) parts (line ∷ more) kind spot turning under s q e =
+      let f = frame kind (Some o) parts spot (line ∷ more) turning in
       same_next (rest l f under) (region_next l (meaning_at l (depth under) kind) (is_ending o.ending line) o line more f under s) q s
-      (region_law o line more kind parts spot under s) e
-  step_law (Some o) parts [] kind spot under s q e = ends_some o parts kind spot under s ∙ source_law (Some o) under kind spot s q e
+      (region_law o line more kind parts spot turning under s) e
+  step_law (Some o) parts [] kind spot turning under s q e =
+      ends_some o parts kind spot turning under s ∙ source_law turning under kind (record { place = record { region = Some o; levels = spot.levels }; state = s }) q e
 
   pub next_law : (r q : Running S) → next l r ≡ Some q → rest_of l r ≡ rest_of l q
   unfolding next rest_of frame
-  next_law r q e = step_law r.top.region r.top.parts r.top.lines r.top.kind r.top.spot r.under r.state q e
+  next_law r q e = step_law r.top.region r.top.parts r.top.lines r.top.kind r.top.spot r.top.turning r.under r.state q e
 
-  stays : (region : Option Opened) (under : List Frame) (s : S) → source_next l region under s ≡ None → under ≡ []
+  stays : (turning : Option Turning) (kind : Kind) (under : List Frame) (a : At S) → source_next l turning kind under a ≡ None → under ≡ []
   unfolding source_next
-  stays region [] s e = refl
-  stays region (g ∷ gs) s e = absurd (cc)
+  stays turning kind [] a e = refl
+  stays turning kind (g ∷ gs) a e = absurd (cc)
 
-  last : (kind : Kind) (under : List Frame) (a : At S) → under ≡ [] → after_line l kind [] under a ≡ a
+  last : (kind : Kind) (turning : Option Turning) (under : List Frame) (a : At S) → under ≡ [] → after_line l kind turning [] under a ≡ a
   unfolding after_line step_lines
-  last kind [] a e = refl
-  last kind (g ∷ gs) a e = absurd (cc)
+  last kind turning [] a e = refl
+  last kind turning (g ∷ gs) a e = absurd (cc)
 
-  end_of : (region : Option Opened) (parts : List (Atom (List ℕ))) (lines : List (List ℕ)) (kind : Kind) (spot : Spot) (under : List Frame) (s : S)
-      → let f = frame kind region parts spot lines in
+  end_of : (region : Option Opened) (parts : List (Atom (List ℕ))) (lines : List (List ℕ)) (kind : Kind) (spot : Spot) (turning : Option Turning) (under : List Frame) (s : S)
+      → let f = frame kind region parts spot lines turning in
       next_in l (meaning_at l (depth under) kind) region parts lines f under s ≡ None
       → rest l f under s ≡ record { place = record { region = region; levels = spot.levels }; state = s }
-  unfolding next_in
-  end_of None (part ∷ more) lines kind spot under s e = absurd (cc)
-  end_of None [] (line ∷ more) kind spot under s e = absurd (cc)
-  end_of None [] [] kind spot under s e =
-      ends_none kind spot under s ∙ last kind under (record { place = record { region = None; levels = spot.levels }; state = s }) (stays None under s e)
-  end_of (Some o) parts (line ∷ more) kind spot under s e = absurd (cc)
-  end_of (Some o) parts [] kind spot under s e =
-      ends_some o parts kind spot under s ∙ last kind under (record { place = record { region = Some o; levels = spot.levels }; state = s }) (stays (Some o) under s e)
+  unfolding next_in frame
+  end_of None (part ∷ more) lines kind spot turning under s e = absurd (cc)
+  end_of None [] (line ∷ more) kind spot turning under s e = absurd (cc)
+  end_of None [] [] kind spot turning under s e =
+      let a : At S = record { place = record { region = None; levels = spot.levels }; state = s } in
+      ends_none kind spot turning under s ∙ last kind turning under a (stays turning kind under a e)
+  end_of (Some o) parts (line ∷ more) kind spot turning under s e = absurd (cc)
+  end_of (Some o) parts [] kind spot turning under s e =
+      let a : At S = record { place = record { region = Some o; levels = spot.levels }; state = s } in
+      ends_some o parts kind spot turning under s ∙ last kind turning under a (stays turning kind under a e)
 
   pub end_law : (r : Running S) → next l r ≡ None → rest_of l r ≡ stands_at r
   unfolding next rest_of stands_at frame
-  end_law r e = end_of r.top.region r.top.parts r.top.lines r.top.kind r.top.spot r.under r.state e
+  end_law r e = end_of r.top.region r.top.parts r.top.lines r.top.kind r.top.spot r.top.turning r.under r.state e
 
   pub run_page-append : (above below : List (List ℕ)) (a : At S) → run_page l (above ++ below) a ≡ run_page l below (run_page l above a)
   unfolding run_page

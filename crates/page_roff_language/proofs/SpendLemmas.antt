@@ -1,35 +1,48 @@
 -- Each line taken spends so much at most: helpers of proofs.
 use Rattle.std.proofs.Common.{◌≡◌, ℕ, zero, suc, ◌+◌, ◌*◌, ◌≤◌, Bool, true, false, ◌&&◌, not, List, [], ◌∷◌, length, Option, Some, None, refl, sym, subst, arith}
 use Rattle.page_roff_blocks.specs.declared.atoms.Atom.{Atom}
-use Rattle.page_roff_blocks.specs.declared.atoms.Atom.TheVariants.{Leaf, Guard, Block, End, Region}
+use Rattle.page_roff_blocks.specs.declared.atoms.Atom.TheVariants.{Leaf, Guard, Block, Loop, End, Region}
 use Rattle.page_roff_blocks.specs.declared.atoms.Branch.{Branch}
 use Rattle.page_roff_blocks.specs.declared.atoms.Branch.TheVariants.{If, IfElse, Else}
 use Rattle.page_roff_blocks.specs.declared.atoms.Head.{Head}
+use Rattle.page_roff_blocks.specs.declared.atoms.Opening.{Opening}
+use Rattle.page_roff_blocks.specs.declared.atoms.Opening.TheVariants as openings
+use Rattle.page_roff_heads.specs.declared.loops.LoopHead.{LoopHead}
+use Rattle.page_roff_blocks.specs.declared.levels.Ended.{Ended}
+use Rattle.page_roff_blocks.specs.declared.levels.Ended.TheVariants as endings
 use Rattle.page_roff_blocks.specs.declared.regions.RegionHead.{RegionHead}
 use Rattle.page_roff_blocks.specs.declared.levels.Way.{Way}
 use Rattle.page_roff_blocks.specs.declared.levels.Way.TheVariants.{Runs, Skips, Exceeds}
 use Rattle.page_roff_blocks.specs.Atoms.{atoms}
 use Rattle.page_roff_blocks.specs.Regions.{is_ending}
-use Rattle.page_roff_blocks.specs.Levels.{Levels, way_of, has_block, Spot, at_line, after_part, guarded_by, reached, reached_from, reached_if, Opened, first_place}
-use Rattle.page_roff_blocks.specs.Run.{Meaning, At, meet_as, value, leaf_if, refuse_if, unopened_if, run_lines}
-use Rattle.page_roff_blocks.specs.Steps.{met, step_leaf, guard_with, guard_met, step_guard, block_with, block_met, step_block, step_end, step_region, step_parts, step_inside, step_from, step, step_lines}
+use Rattle.page_roff_blocks.specs.Levels.{Levels, way_of, leave, what_ends, Spot, at_line, after_part, guarded_by, reached, reached_in, reached_from, reached_if, Opened, first_place}
+use Rattle.page_roff_blocks.specs.Loops.{loop_text}
+use Rattle.page_roff_blocks.specs.Run.{Meaning, At, meet_as, value, keep_if, leaf_if, loop_if, refuse_if, end_by, run_lines}
+use Rattle.page_roff_blocks.specs.Steps.{met, step_leaf, guard_with, guard_met, step_guard, block_with, opening_met, block_met, step_block, step_loop, step_end, step_region, step_parts, step_inside, collect_if, step_from, step, step_lines}
+use Rattle.page_roff_blocks.specs.Steps as steps
 use Rattle.page_roff_blocks.proofs.FoldLemmas.{run_is_steps}
 use Rattle.page_core_limits.specs.declared.TheConstants.{CALLS}
-use Rattle.page_roff_language.specs.Languages.{Kind, page, body, Done, gives, calls, finish_at, call_with, gives_at, meaning_at, run_page}
-use Rattle.page_roff_language.specs.Budgets.{Budgeted, Effects, with_rest, charge_by, charge, begin_line, whether_run, meet, test, unopened_by, read_line, end_line, meaning, done_with, language}
-use Rattle.page_roff_language.specs.Machine.{Frame, Running, entered, at_part, depth, is_some, next, next_in, leaf_next, part_next, region_next, line_next, source_next}
+use Rattle.page_roff_language.specs.Languages.{Kind, page, body, inner, Done, gives, calls, repeats, state_of, TURNS, is_some, finish_at, run_body, done_by, meaning_by, done_at, meaning_at, run_page}
+use Rattle.page_roff_language.specs.Budgets.{Budgeted, Effects, with_rest, charge_by, charge, begin_line, whether_run, meet, test, unopened_by, read_line, end_line, collect_some, meaning, done_with, closed_with, turn_by, turn, language}
+use Rattle.page_roff_language.specs.Machine.{Turning, Frame, Running, entered, looped, turned, at_part, between, depth, next, next_in, finish_if, leaf_next, loop_next, end_next, part_next, region_next, line_next, turn_if, turn_next, body_next, source_next}
 use Rattle.page_roff_language.specs.Machine as machine
-use Rattle.page_roff_language.specs.Spending.{after_leaf, Spends, unspent_if, unspent_at, unspent, AreMet, LeadsIn, Leads}
+use Rattle.page_roff_language.specs.Spending.{Spends, unspent_if, unspent_at, unspent, AreMet, LeadsIn, Leads}
+use Rattle.page_roff_language.proofs.KeepLemmas.{turns_keep}
 
 guard_past : {S : Type 0} (m : Meaning (List ℕ) S) (is_met : Bool) (h : Head (List ℕ)) (spot : Spot) (s : S) → (guard_met m is_met h spot s).0.begun ≡ true
 unfolding guard_met guard_with guarded_by
 guard_past m true h spot s = refl
 guard_past m false h spot s = refl
 
-block_past : {S : Type 0} (m : Meaning (List ℕ) S) (is_met : Bool) (h : Head (List ℕ)) (spot : Spot) (s : S) → (block_met m is_met h spot s).0.begun ≡ true
-unfolding block_met block_with after_part
-block_past m true h spot s = refl
-block_past m false h spot s = refl
+opening_past : {S : Type 0} (m : Meaning (List ℕ) S) (opening : Opening (List ℕ)) (spot : Spot) (s : S) → (opening_met m opening spot s).0.begun ≡ true
+unfolding opening_met block_with after_part
+opening_past m (openings.Conditional h) spot s = refl
+opening_past m (openings.Loop h) spot s = refl
+
+block_past : {S : Type 0} (m : Meaning (List ℕ) S) (is_met : Bool) (opening : Opening (List ℕ)) (spot : Spot) (s : S) → (block_met m is_met opening spot s).0.begun ≡ true
+unfolding block_met after_part
+block_past m true opening spot s = opening_past m opening spot s
+block_past m false opening spot s = refl
 
 -- nothing is left to spend past the first part of a line, and where no part is left
 past_none : (region : Option Opened) (parts : List (Atom (List ℕ))) (begun gave_up : Bool) (most : ℕ) → begun ≡ true → unspent_at region parts begun gave_up most ≡ 0
@@ -114,24 +127,70 @@ module _ {R : Type 0} (spent : R → ℕ) (most : ℕ) (e : Effects R) (p : Spen
   unfolding Line
   past_line spot s begun h = subst (λ (b : Bool). Line b s) (sym begun) h
 
+  turned_base : (kind : Kind) (condition : List ℕ) (gave_up : Bool) (s : Budgeted R) → Ready (not gave_up) s → Base (turn_by e gave_up kind condition s).1
+  unfolding turn_by with_rest Ready Full Base
+  turned_base kind condition true s h = h
+  turned_base kind condition false s h = omega (arith, h, p.turns kind condition s.rest)
+
+  turn_base : (kind : Kind) (condition : List ℕ) (s : Budgeted R) → Base s → Base ((language e).turn kind condition s).1
+  unfolding language turn
+  turn_base kind condition s h = let t = charge e s in turned_base kind condition t.gave_up t (fresh_ready t (charge_fresh s h))
+
+  some_base : (text : Option (List ℕ)) (s : Budgeted R) → Base s → Base (collect_some e text s)
+  unfolding collect_some with_rest Base
+  some_base None s h = h
+  some_base (Some text) s h = omega (arith, h, p.collects (not s.gave_up) text s.rest)
+
+  some_ready : (is_run : Bool) (text : Option (List ℕ)) (s : Budgeted R) → Ready is_run s → Ready is_run (collect_some e text s)
+  unfolding collect_some with_rest Ready Full Base
+  some_ready is_run None s h = h
+  some_ready true (Some text) s h = omega (arith, h, p.collects (not s.gave_up) text s.rest)
+  some_ready false (Some text) s h = omega (arith, h, p.collects (not s.gave_up) text s.rest)
+
+  some_fresh : (text : Option (List ℕ)) (s : Budgeted R) → Fresh s → Fresh (collect_some e text s)
+  unfolding collect_some with_rest Fresh
+  some_fresh None s h = h
+  some_fresh (Some text) s h = some_ready (not s.gave_up) (Some text) s h
+
+  leaf_state : (s : Budgeted R) (done : Done R) → Full s → spent (state_of done) ≤ spent s.rest + most → Base (state_of (done_with e s done))
+  unfolding done_with with_rest Full Base
+  leaf_state s (gives r) h k = omega (arith, h, k)
+  leaf_state s (calls ls args r) h k = omega (arith, h, k)
+  leaf_state s (repeats condition ls r) h k = omega (arith, h, k)
+
+  loop_state : (s : Budgeted R) (done : Done R) → Base s → spent (state_of done) ≡ spent s.rest → Base (state_of (closed_with e s done))
+  unfolding closed_with with_rest Base
+  loop_state s (gives r) h k = omega (arith, h, k)
+  loop_state s (calls ls args r) h k = omega (arith, h, k)
+  loop_state s (repeats condition ls r) h k = omega (arith, h, k)
+
+  leaf_paid : (may_run : Bool) (kind : Kind) (text : List ℕ) (s : Budgeted R) → Full s → Base (state_of ((language e).leaf may_run kind text s))
+  unfolding language
+  leaf_paid may_run kind text s h = leaf_state s (e.leaf may_run kind text s.rest) h (p.leaf may_run kind text s.rest)
+
+  loop_paid : (may_run : Bool) (s : Budgeted R) → Base s → Base (state_of ((language e).closes may_run s))
+  unfolding language
+  loop_paid may_run s h = loop_state s (e.closes (not s.gave_up) may_run s.rest) h (p.closes (not s.gave_up) may_run s.rest)
+
   module _ (d : ℕ) (kind : Kind) where
     how : Meaning (List ℕ) (Budgeted R)
     how = meaning_at (language e) d kind
 
-    met_of : (n : ℕ) (passing begun : Bool) (s : Budgeted R) → Line begun s
-        → Ready (meet_as how (reached_from n passing begun) s).0 (meet_as how (reached_from n passing begun) s).1
-    unfolding how meaning_at language meaning meet_as reached_from reached_if meet whether_run Line Fresh Ready
-    met_of (suc n) passing begun s h = line_base begun s h
-    met_of zero true begun s h = line_base begun s h
-    met_of zero false false s h = h
-    met_of zero false true s h = charge_fresh s h
+    met_of : (in_loop : Bool) (n : ℕ) (passing begun : Bool) (s : Budgeted R) → Line begun s
+        → Ready (meet_as how (reached_in in_loop n passing begun) s).0 (meet_as how (reached_in in_loop n passing begun) s).1
+    unfolding how meaning_at meaning_by language meaning meet_as reached_in reached_from reached_if meet whether_run Line Fresh Ready
+    met_of true n passing begun s h = line_base begun s h
+    met_of false (suc n) passing begun s h = line_base begun s h
+    met_of false zero true begun s h = line_base begun s h
+    met_of false zero false false s h = h
+    met_of false zero false true s h = charge_fresh s h
 
     met_ready : (spot : Spot) (s : Budgeted R) → Line spot.begun s → Ready (met how spot s).0 (met how spot s).1
     unfolding met reached
-    met_ready spot s h = met_of spot.levels.skipped spot.passing spot.begun s h
+    met_ready spot s h = met_of spot.levels.in_loop spot.levels.skipped spot.passing spot.begun s h
 
     value_base : (branch : Branch (List ℕ)) (bit : Bool) (s : Budgeted R) → Full s → Base (value how branch bit s).1
-    unfolding how meaning_at language meaning value test with_rest Full Base
+    unfolding how meaning_at meaning_by language meaning value test with_rest Full Base
     value_base (If condition) bit s h = omega (arith, h, p.tests kind condition s.rest)
     value_base (IfElse condition) bit s h = omega (arith, h, p.tests kind condition s.rest)
     value_base Else bit s h = omega (arith, h)
@@ -142,17 +201,26 @@ module _ {R : Type 0} (spent : R → ℕ) (most : ℕ) (e : Effects R) (p : Spen
     guard_base false h spot s r = r
 
     refuse_base : (way : Way) (h : Head (List ℕ)) (s : Budgeted R) → Base s → Base (refuse_if how way h s)
-    unfolding how meaning_at language meaning refuse_if with_rest Base
+    unfolding how meaning_at meaning_by language meaning refuse_if with_rest Base
     refuse_base Runs h s r = r
     refuse_base Skips h s r = r
     refuse_base Exceeds h s r = omega (arith, r, p.refuses h s.rest)
 
-    block_base : (is_met : Bool) (h : Head (List ℕ)) (spot : Spot) (s : Budgeted R) → Ready is_met s → Base (block_met how is_met h spot s).1
-    unfolding block_met block_with Ready
-    block_base true h spot s r =
+    opens_loop_base : (h : LoopHead (List ℕ)) (s : Budgeted R) → Base s → Base (how.opens_loop h s)
+    unfolding how meaning_at meaning_by language meaning with_rest Base
+    opens_loop_base h s r = omega (arith, r, p.opens_loop h s.rest)
+
+    opening_base : (opening : Opening (List ℕ)) (spot : Spot) (s : Budgeted R) → Full s → Base (opening_met how opening spot s).1
+    unfolding opening_met block_with
+    opening_base (openings.Conditional h) spot s r =
         let v = value how h.branch spot.levels.bit s in
         refuse_base (way_of v.0 (length spot.levels.outer)) h v.1 (value_base h.branch spot.levels.bit s r)
-    block_base false h spot s r = r
+    opening_base (openings.Loop h) spot s r = opens_loop_base h s (full_base s r)
+
+    block_base : (is_met : Bool) (opening : Opening (List ℕ)) (spot : Spot) (s : Budgeted R) → Ready is_met s → Base (block_met how is_met opening spot s).1
+    unfolding block_met Ready
+    block_base true opening spot s r = opening_base opening spot s r
+    block_base false opening spot s r = r
 
     unopened_base : (kind : Kind) (gave_up : Bool) (s : Budgeted R) → Base s → Base (unopened_by e kind gave_up s)
     unfolding unopened_by with_rest Base
@@ -160,13 +228,8 @@ module _ {R : Type 0} (spent : R → ℕ) (most : ℕ) (e : Effects R) (p : Spen
     unopened_base (body args) true s h = h
     unopened_base (body args) false s h = omega (arith, h, p.unopened s.rest)
 
-    end_base : (is_open : Bool) (s : Budgeted R) → Base s → Base (unopened_if how is_open s)
-    unfolding how meaning_at language meaning unopened_if
-    end_base true s h = h
-    end_base false s h = unopened_base kind s.gave_up s h
-
     opens_base : (head : RegionHead (List ℕ)) (is_run : Bool) (s : Budgeted R) → Base s → Base (how.opens_region head is_run s)
-    unfolding how meaning_at language meaning with_rest Base
+    unfolding how meaning_at meaning_by language meaning with_rest Base
     opens_base head is_run s h = omega (arith, h, p.opens_region kind head is_run s.rest)
 
     flag_base : (is_run gave_up : Bool) (o : Opened) (line : List ℕ) (s : Budgeted R) → Ready (not gave_up) s
@@ -188,14 +251,55 @@ module _ {R : Type 0} (spent : R → ℕ) (most : ℕ) (e : Effects R) (p : Spen
         let r : Base t = ready_base (not t.gave_up) t (fresh_ready t (begin_fresh kind s h)) in
         omega (arith, r, p.ends_region kind o (o.is_run && not t.gave_up) line t.rest)
 
-    module _ (gives_base : (text : List ℕ) (s : Budgeted R) → Full s → Base (gives_at (language e) d kind text s)) where
+    within_base : (o : Opened) (line : List ℕ) (s : Budgeted R) → Base s → Base (how.reads o line s)
+    unfolding how meaning_at meaning_by language meaning
+    within_base o line s h = reads_base o line s h
+
+    over_base : (o : Opened) (line : List ℕ) (s : Budgeted R) → Base s → Base (how.ends_region o line s)
+    unfolding how meaning_at meaning_by language meaning
+    over_base o line s h = ends_base o line s h
+
+    nothing_base : (s : Budgeted R) → Base s → Base (how.unopened s)
+    unfolding how meaning_at meaning_by language meaning
+    nothing_base s h = unopened_base kind s.gave_up s h
+
+    keeps_base : (in_loop : Bool) (line : List ℕ) (s : Budgeted R) → Base s → Base (keep_if how in_loop line s)
+    unfolding how meaning_at meaning_by language meaning keep_if
+    keeps_base true line s h = some_base (Some line) s h
+    keeps_base false line s h = h
+
+    collects_fresh : (in_loop : Bool) (open_blocks : ℕ) (line : List ℕ) (s : Budgeted R) → Fresh s → Fresh (collect_if how in_loop open_blocks line s)
+    unfolding how meaning_at meaning_by language meaning collect_if
+    collects_fresh true open_blocks line s h = some_fresh (loop_text open_blocks line) s h
+    collects_fresh false open_blocks line s h = h
+
+    begins_fresh : (line : List ℕ) (l : Levels) (s : Budgeted R) → Base s → Fresh (steps.begin_line how line l s)
+    unfolding how meaning_at meaning_by language meaning steps.begin_line
+    begins_fresh line l s h = collects_fresh l.in_loop l.skipped line (begin_line e kind s) (begin_fresh kind s h)
+
+    module _ (done_base : (kind : Kind) (done : Done (Budgeted R)) → Base (state_of done) → Base (done_at (language e) d kind done)) where
       leaf_base : (is_met : Bool) (text : List ℕ) (s : Budgeted R) → Ready is_met s → Base (leaf_if how is_met text s)
-      unfolding how meaning_at leaf_if Ready
-      leaf_base true text s h = gives_base text s h
+      unfolding how meaning_at meaning_by leaf_if Ready
+      leaf_base true text s h = done_base kind ((language e).leaf (is_some d) kind text s) (leaf_paid (is_some d) kind text s h)
       leaf_base false text s h = h
 
+      closes_base : (s : Budgeted R) → Base s → Base (how.closes_loop s)
+      unfolding how meaning_at meaning_by
+      closes_base s h = done_base kind ((language e).closes (is_some d) s) (loop_paid (is_some d) s h)
+
+      loop_base : (is_met : Bool) (h : LoopHead (List ℕ)) (s : Budgeted R) → Base s → Base (loop_if how is_met h s)
+      unfolding loop_if
+      loop_base true h s r = closes_base (how.opens_loop h s) (opens_loop_base h s r)
+      loop_base false h s r = r
+
+      end_base : (ending : Ended) (s : Budgeted R) → Base s → Base (end_by how ending s)
+      unfolding end_by
+      end_base endings.Block s h = h
+      end_base endings.Loop s h = closes_base s h
+      end_base endings.Nothing s h = nothing_base s h
+
       parts_base : (parts : List (Atom (List ℕ))) (spot : Spot) (s : Budgeted R) → Line spot.begun s → Base (step_parts how parts spot s).state
-      unfolding step_parts step_leaf step_guard step_block step_end step_region after_part Line
+      unfolding step_parts step_leaf step_guard step_block step_loop step_end step_region after_part Line
       parts_base [] spot s h = line_base spot.begun s h
       parts_base (Leaf text ∷ rest) spot s h =
           let q = met how spot s in
@@ -209,21 +313,25 @@ module _ {R : Type 0} (spent : R → ℕ) (most : ℕ) (e : Effects R) (p : Spen
           let q = met how spot s in
           let r = step_block how head spot s in
           parts_base rest r.0 r.1 (past_line r.0 r.1 (block_past how q.0 head spot q.1) (block_base q.0 head spot q.1 (met_ready spot s h)))
+      parts_base (Loop head ∷ rest) spot s h =
+          let q = met how spot s in
+          let r = step_loop how head spot s in
+          parts_base rest r.0 r.1 (loop_base q.0 head q.1 (ready_base q.0 q.1 (met_ready spot s h)))
       parts_base (End ∷ rest) spot s h =
           let r = step_end how spot s in
-          parts_base rest r.0 r.1 (end_base (has_block spot.levels) s (line_base spot.begun s h))
+          parts_base rest r.0 r.1 (end_base (what_ends spot.levels) s (line_base spot.begun s h))
       parts_base (Region head ∷ rest) spot s h =
           let q = met how spot s in
           opens_base head q.0 q.1 (ready_base q.0 q.1 (met_ready spot s h))
 
       inside_base : (is_end : Bool) (o : Opened) (line : List ℕ) (l : Levels) (s : Budgeted R) → Base s → Base (step_inside how is_end o line l s).state
-      unfolding how meaning_at language meaning step_inside
-      inside_base true o line l s h = ends_base o line s h
-      inside_base false o line l s h = reads_base o line s h
+      unfolding step_inside
+      inside_base true o line l s h = keeps_base l.in_loop line (how.ends_region o line s) (over_base o line s h)
+      inside_base false o line l s h = keeps_base l.in_loop line (how.reads o line s) (within_base o line s h)
 
       from_base : (o : Option Opened) (line : List ℕ) (l : Levels) (s : Budgeted R) → Base s → Base (step_from how (λ t. t) o line l s).state
-      unfolding how meaning_at language meaning step_from at_line Line
-      from_base None line l s h = parts_base (atoms line) (at_line l) (begin_line e kind s) (begin_fresh kind s h)
+      unfolding step_from at_line Line
+      from_base None line l s h = parts_base (atoms line) (at_line l) (steps.begin_line how line l s) (begins_fresh line l s h)
       from_base (Some o) line l s h = inside_base (is_ending o.ending line) o line l s h
 
       lines_base : (lines : List (List ℕ)) (x : At (Budgeted R)) → Base x.state → Base (step_lines how (λ t. t) lines x).state
@@ -237,23 +345,25 @@ module _ {R : Type 0} (spent : R → ℕ) (most : ℕ) (e : Effects R) (p : Spen
 
   finish_base : (x : At (Budgeted R)) → Base x.state → Base (finish_at (language e) x)
   unfolding finish_at language with_rest Base
-  finish_base x h = omega (arith, h, p.finish x.place.region x.state.gave_up x.state.rest)
+  finish_base x h = omega (arith, h, p.finish x.place.region x.place.levels.in_loop x.state.gave_up x.state.rest)
 
-  done_base : (call : List (List ℕ) → List (List ℕ) → Budgeted R → Budgeted R) → ((ls args : List (List ℕ)) (s : Budgeted R) → Base s → Base (call ls args s))
-      → (s : Budgeted R) (done : Done R) → Full s → spent (after_leaf done) ≤ spent s.rest + most → Base (call_with (language e) call (done_with e s done))
-  unfolding call_with done_with with_rest Full Base
-  done_base call keep s (gives r) h k = omega (arith, h, k)
-  done_base call keep s (calls ls args r) h k = keep ls args (with_rest e s r) (omega (arith, h, k))
+  DoneBase : ℕ → Type 0
+  DoneBase d = (kind : Kind) (done : Done (Budgeted R)) → Base (state_of done) → Base (done_at (language e) d kind done)
 
-  gives_base : (d : ℕ) (kind : Kind) (text : List ℕ) (s : Budgeted R) → Full s → Base (gives_at (language e) d kind text s)
-  unfolding gives_at meaning_at language
-  gives_base zero kind text s h = done_base (λ ls args s. s) (λ ls args s h. h) s (e.leaf false kind text s.rest) h (p.leaf false kind text s.rest)
-  gives_base (suc d) kind text s h =
-      done_base (λ ls args s. finish_at (language e) (run_lines (meaning_at (language e) d (body args)) (λ t. t) ls (record { place = first_place; state = s })))
-      (λ ls args s h.
+  body_base : (d : ℕ) (kind : Kind) → DoneBase d → (ls : List (List ℕ)) (s : Budgeted R) → Base s → Base (run_body (language e) (meaning_at (language e) d kind) ls s)
+  unfolding run_body DoneBase
+  body_base d kind h ls s b =
       let x : At (Budgeted R) = record { place = first_place; state = s } in
-      finish_base (run_lines (meaning_at (language e) d (body args)) (λ t. t) ls x) (run_base d (body args) (gives_base d (body args)) ls x h))
-      s (e.leaf true kind text s.rest) h (p.leaf true kind text s.rest)
+      finish_base (run_lines (meaning_at (language e) d kind) (λ t. t) ls x) (run_base d kind h ls x b)
+
+  all_base : (d : ℕ) → DoneBase d
+  unfolding DoneBase done_at done_by meaning_at
+  all_base zero kind done h = h
+  all_base (suc d) kind (gives s) h = h
+  all_base (suc d) kind (calls ls args s) h = body_base d (body (Some args)) (all_base d) ls s h
+  all_base (suc d) kind (repeats condition ls s) h =
+      turns_keep (language e) Base (inner kind) condition (turn_base (inner kind) condition)
+      (run_body (language e) (meaning_at (language e) d (inner kind)) ls) (body_base d (inner kind) (all_base d) ls) TURNS s h
 
   -- ---- step by step
 
@@ -291,25 +401,45 @@ module _ {R : Type 0} (spent : R → ℕ) (most : ℕ) (e : Effects R) (p : Spen
   fresh_due true left taken rest h (part ∷ more) = omega (arith, h)
   fresh_due false left taken rest h (part ∷ more) = omega (arith, h)
 
-  done_kept : (may_call : Bool) (f : Frame) (under : List Frame) (s : Budgeted R) (done : Done R) → f.spot.begun ≡ true → AreMet under → Full s
-      → spent (after_leaf done) ≤ spent s.rest + most → Kept (leaf_next (language e) may_call f under (done_with e s done))
-  unfolding leaf_next done_with with_rest entered Full Base AreMet
-  done_kept may_call f under s (gives r) t u h k = kept_past f under (with_rest e s r) t u (omega (arith, h, k))
-  done_kept false f under s (calls ls args r) t u h k = kept_past f under (with_rest e s r) t u (omega (arith, h, k))
-  done_kept true f under s (calls ls args r) t u h k = kept_empty (entered ls args) (f ∷ under) (with_rest e s r) refl (t, u) (omega (arith, h, k))
+  done_kept : (may_run : Bool) (f : Frame) (under : List Frame) (done : Done (Budgeted R)) → f.spot.begun ≡ true → AreMet under → Base (state_of done)
+      → Kept (leaf_next (language e) may_run f under done)
+  unfolding leaf_next entered looped AreMet
+  done_kept may_run f under (gives s) t u h = kept_past f under s t u h
+  done_kept false f under (calls ls args s) t u h = kept_past f under s t u h
+  done_kept true f under (calls ls args s) t u h = kept_empty (entered ls args) (f ∷ under) s refl (t, u) h
+  done_kept false f under (repeats condition ls s) t u h = kept_past f under s t u h
+  done_kept true f under (repeats condition ls s) t u h = kept_empty (looped f.kind condition ls) (f ∷ under) s refl (t, u) h
 
   leaf_kept : (is_met : Bool) (text : List ℕ) (f : Frame) (under : List Frame) (s : Budgeted R) → f.spot.begun ≡ true → AreMet under → Ready is_met s
       → Kept (machine.leaf_if (language e) is_met text f under s)
-  unfolding machine.leaf_if language Ready
+  unfolding machine.leaf_if Ready
   leaf_kept true text f under s t u h =
-      let may_call = is_some (depth under) in
-      done_kept may_call f under s (e.leaf may_call f.kind text s.rest) t u h (p.leaf may_call f.kind text s.rest)
+      let may_run = is_some (depth under) in
+      done_kept may_run f under ((language e).leaf may_run f.kind text s) t u (leaf_paid may_run f.kind text s h)
   leaf_kept false text f under s t u h = kept_past f under s t u h
 
+  whole_kept : (f : Frame) (under : List Frame) (s : Budgeted R) → f.spot.begun ≡ true → AreMet under → Base s → Kept (loop_next (language e) f under s)
+  unfolding loop_next
+  whole_kept f under s t u h =
+      let may_run = is_some (depth under) in done_kept may_run f under ((language e).closes may_run s) t u (loop_paid may_run s h)
+
   module _ (d : ℕ) (kind : Kind) where
+    loop_kept : (is_met : Bool) (h : LoopHead (List ℕ)) (f : Frame) (under : List Frame) (s : Budgeted R) → f.spot.begun ≡ true → AreMet under → Base s
+        → Kept (machine.loop_if (language e) (how d kind) is_met h f under s)
+    unfolding machine.loop_if
+    loop_kept true h f under s t u b = whole_kept f under ((how d kind).opens_loop h s) t u (opens_loop_base d kind h s b)
+    loop_kept false h f under s t u b = kept_past f under s t u b
+
+    end_kept : (ending : Ended) (f : Frame) (under : List Frame) (s : Budgeted R) → f.spot.begun ≡ true → AreMet under → Base s
+        → Kept (end_next (language e) (how d kind) ending f under s)
+    unfolding end_next
+    end_kept endings.Block f under s t u h = kept_past f under s t u h
+    end_kept endings.Loop f under s t u h = whole_kept f under s t u h
+    end_kept endings.Nothing f under s t u h = kept_past f under ((how d kind).unopened s) t u (nothing_base d kind s h)
+
     part_kept : (part : Atom (List ℕ)) (more : List (Atom (List ℕ))) (f : Frame) (under : List Frame) (s : Budgeted R) → AreMet under → Line f.spot.begun s
         → Kept (part_next (language e) (how d kind) part more f under s)
-    unfolding part_next step_guard step_block step_end step_region at_part after_part
+    unfolding part_next step_guard step_block step_region at_part between after_part
     part_kept (Leaf text) more f under s u h =
         let q = met (how d kind) f.spot s in
         leaf_kept q.0 text (at_part f more (after_part f.spot.levels)) under q.1 refl u (met_ready d kind f.spot s h)
@@ -321,43 +451,67 @@ module _ {R : Type 0} (spent : R → ℕ) (most : ℕ) (e : Effects R) (p : Spen
         let q = met (how d kind) f.spot s in
         let r = step_block (how d kind) head f.spot s in
         kept_past (at_part f more r.0) under r.1 (block_past (how d kind) q.0 head f.spot q.1) u (block_base d kind q.0 head f.spot q.1 (met_ready d kind f.spot s h))
+    part_kept (Loop head) more f under s u h =
+        let q = met (how d kind) f.spot s in
+        loop_kept q.0 head (at_part f more (after_part f.spot.levels)) under q.1 refl u (ready_base q.0 q.1 (met_ready d kind f.spot s h))
     part_kept End more f under s u h =
-        let r = step_end (how d kind) f.spot s in
-        kept_past (at_part f more r.0) under r.1 refl u (end_base d kind (has_block f.spot.levels) s (line_base f.spot.begun s h))
+        end_kept (what_ends f.spot.levels) (at_part f more (after_part (leave f.spot.levels))) under s refl u (line_base f.spot.begun s h)
     part_kept (Region head) more f under s u h =
         let q = met (how d kind) f.spot s in
         let x = step_region (how d kind) head f.spot s in
-        kept_empty (record { kind = f.kind; region = x.place.region; parts = []; spot = at_line x.place.levels; lines = f.lines }) under x.state refl u
-        (opens_base d kind head q.0 q.1 (ready_base q.0 q.1 (met_ready d kind f.spot s h)))
+        kept_empty (between f x.place.region f.lines) under x.state refl u (opens_base d kind head q.0 q.1 (ready_base q.0 q.1 (met_ready d kind f.spot s h)))
 
     region_kept : (is_end : Bool) (o : Opened) (line : List ℕ) (more : List (List ℕ)) (f : Frame) (under : List Frame) (s : Budgeted R) → AreMet under → Base s
         → Kept (region_next (language e) (how d kind) is_end o line more f under s)
-    unfolding region_next how meaning_at language meaning
+    unfolding region_next between
     region_kept true o line more f under s u h =
-        kept_empty (record { kind = f.kind; region = None; parts = []; spot = at_line f.spot.levels; lines = more }) under (end_line e kind o line s) refl u
-        (ends_base d kind o line s h)
+        let m = how d kind in
+        kept_empty (between f None more) under (keep_if m f.spot.levels.in_loop line (m.ends_region o line s)) refl u
+        (keeps_base d kind f.spot.levels.in_loop line (m.ends_region o line s) (over_base d kind o line s h))
     region_kept false o line more f under s u h =
-        kept_empty (record { kind = f.kind; region = Some o; parts = []; spot = at_line f.spot.levels; lines = more }) under (read_line e kind o line s) refl u
-        (reads_base d kind o line s h)
+        let m = how d kind in
+        kept_empty (between f (Some o) more) under (keep_if m f.spot.levels.in_loop line (m.reads o line s)) refl u
+        (keeps_base d kind f.spot.levels.in_loop line (m.reads o line s) (within_base d kind o line s h))
 
     line_kept : (line : List ℕ) (more : List (List ℕ)) (f : Frame) (under : List Frame) (s : Budgeted R) → AreMet under → Base s
         → Kept (line_next (language e) (how d kind) line more f under s)
-    unfolding line_next how meaning_at language meaning at_line Kept Due unspent
+    unfolding line_next at_line Kept Due unspent
     line_kept line more f under s u h =
-        let t = begin_line e kind s in
-        (u, fresh_due t.gave_up t.left t.taken t.rest (begin_fresh kind s h) (atoms line))
+        let t = steps.begin_line (how d kind) line f.spot.levels s in
+        (u, fresh_due t.gave_up t.left t.taken t.rest (begins_fresh d kind line f.spot.levels s h) (atoms line))
 
     same_kept : (x y : Running (Budgeted R)) → Kept x → Some x ≡ Some y → Kept y
     same_kept x y h k = let l : x ≡ y = cc in subst Kept l h
 
-    source_kept : (region : Option Opened) (under : List Frame) (s : Budgeted R) (q : Running (Budgeted R)) → AreMet under → Base s
-        → source_next (language e) region under s ≡ Some q → Kept q
-    unfolding source_next language AreMet with_rest Base
-    source_kept region [] s q u h x = absurd (cc)
-    source_kept region (g ∷ gs) s q u h x =
-        let t = with_rest e s (e.finish region s.gave_up s.rest) in
-        same_kept (record { top = g; under = gs; state = t }) q
-        (kept_past g gs t u.0 u.1 (omega (arith, h, p.finish region s.gave_up s.rest))) x
+    turned_kept : (runs : Bool) (kind : Kind) (t : Turning) (left : ℕ) (g : Frame) (gs : List Frame) (s : Budgeted R) → AreMet (g ∷ gs) → Base s
+        → Kept (turn_if (language e) runs kind t left g gs s)
+    unfolding turn_if turned AreMet
+    turned_kept true kind t left g gs s u h = kept_empty (turned kind t left) (g ∷ gs) s refl u h
+    turned_kept false kind t left g gs s u h = kept_past g gs s u.0 u.1 h
+
+    turn_kept : (left : ℕ) (kind : Kind) (t : Turning) (g : Frame) (gs : List Frame) (s : Budgeted R) → AreMet (g ∷ gs) → Base s
+        → Kept (turn_next (language e) left kind t g gs s)
+    unfolding turn_next AreMet
+    turn_kept zero kind t g gs s u h = kept_past g gs s u.0 u.1 h
+    turn_kept (suc left) kind t g gs s u h =
+        let v = (language e).turn kind t.condition s in turned_kept v.0 kind t left g gs v.1 u (turn_base kind t.condition s h)
+
+    last_base : (begun : Bool) (x : At (Budgeted R)) → Base x.state → Base (finish_if (language e) begun x)
+    unfolding finish_if
+    last_base true x h = finish_base x h
+    last_base false x h = h
+
+    body_kept : (turning : Option Turning) (kind : Kind) (g : Frame) (gs : List Frame) (x : At (Budgeted R)) → AreMet (g ∷ gs) → Base x.state
+        → Kept (body_next (language e) turning kind g gs x)
+    unfolding body_next AreMet
+    body_kept None kind g gs x u h = kept_past g gs (finish_at (language e) x) u.0 u.1 (finish_base x h)
+    body_kept (Some t) kind g gs x u h = turn_kept t.left kind t g gs (finish_if (language e) t.begun x) u (last_base t.begun x h)
+
+    source_kept : (turning : Option Turning) (kind : Kind) (under : List Frame) (x : At (Budgeted R)) (q : Running (Budgeted R)) → AreMet under → Base x.state
+        → source_next (language e) turning kind under x ≡ Some q → Kept q
+    unfolding source_next
+    source_kept turning kind [] x q u h k = absurd (cc)
+    source_kept turning kind (g ∷ gs) x q u h k = same_kept (body_next (language e) turning kind g gs x) q (body_kept turning kind g gs x u h) k
 
     next_kept : (region : Option Opened) (parts : List (Atom (List ℕ))) (lines : List (List ℕ)) (f : Frame) (under : List Frame) (s : Budgeted R) (q : Running (Budgeted R))
         → AreMet under → spent s.rest + unspent_at region parts f.spot.begun s.gave_up most + a ≤ most * s.taken + b
@@ -368,11 +522,13 @@ module _ {R : Type 0} (spent : R → ℕ) (most : ℕ) (e : Effects R) (p : Spen
         (part_kept part more f under s u (due_if f.spot.begun s.gave_up s.left s.taken s.rest h)) x
     next_kept None [] (line ∷ more) f under s q u h x =
         same_kept (line_next (language e) (how d kind) line more f under s) q (line_kept line more f under s u (omega (arith, h))) x
-    next_kept None [] [] f under s q u h x = source_kept None under s q u (omega (arith, h)) x
+    next_kept None [] [] f under s q u h x =
+        source_kept f.turning f.kind under (record { place = record { region = None; levels = f.spot.levels }; state = s }) q u (omega (arith, h)) x
     next_kept (Some o) parts (line ∷ more) f under s q u h x =
         same_kept (region_next (language e) (how d kind) (is_ending o.ending line) o line more f under s) q
         (region_kept (is_ending o.ending line) o line more f under s u (omega (arith, h))) x
-    next_kept (Some o) parts [] f under s q u h x = source_kept (Some o) under s q u (omega (arith, h)) x
+    next_kept (Some o) parts [] f under s q u h x =
+        source_kept f.turning f.kind under (record { place = record { region = Some o; levels = f.spot.levels }; state = s }) q u (omega (arith, h)) x
 
   pub step_due : (r q : Running (Budgeted R)) → AreMet r.under → spent r.state.rest + unspent most r + a ≤ most * r.state.taken + b
       → next (language e) r ≡ Some q → AreMet q.under × (spent q.state.rest + unspent most q + a ≤ most * q.state.taken + b)
@@ -391,8 +547,8 @@ module _ {R : Type 0} (spent : R → ℕ) (most : ℕ) (e : Effects R) (p : Spen
 
   pub page_base : (lines : List (List ℕ)) (x : At (Budgeted R)) → spent x.state.rest + a ≤ most * x.state.taken + b
       → spent (run_page (language e) lines x).state.rest + a ≤ most * (run_page (language e) lines x).state.taken + b
-  unfolding run_page Base
-  page_base lines x h = run_base CALLS page (gives_base CALLS page) lines x h
+  unfolding run_page Base DoneBase
+  page_base lines x h = run_base CALLS page (all_base CALLS) lines x h
 
 -- what was spent more lies within the lines that were taken more
 pub page_spends : {R : Type 0} (spent : R → ℕ) (most : ℕ) (e : Effects R) → Spends spent most e → (lines : List (List ℕ)) (x : At (Budgeted R))

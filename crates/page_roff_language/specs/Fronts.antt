@@ -2,11 +2,12 @@
 -- Source: roff(7), "Macros".
 use Rattle.std.specs.Prelude.{◌≡◌, ℕ, Bool, List, Option}
 use Rattle.page_roff_heads.specs.declared.conditions.Condition.{Condition}
+use Rattle.page_roff_heads.specs.declared.loops.LoopHead.{LoopHead}
 use Rattle.page_roff_blocks.specs.declared.atoms.Head.{Head}
 use Rattle.page_roff_blocks.specs.declared.regions.RegionHead.{RegionHead}
 use Rattle.page_roff_blocks.specs.Levels.{Opened}
 use Rattle.page_roff_blocks.specs.Run.{Meaning, At}
-use Rattle.page_roff_language.specs.Languages.{Kind, Done, gives, calls, Language}
+use Rattle.page_roff_language.specs.Languages.{Kind, Done, gives, calls, repeats, Language}
 use Rattle.page_roff_language.specs.Machine.{Running}
 
 module _ {S : Type 0} (front : S → S) where
@@ -23,6 +24,7 @@ module _ {S : Type 0} (front : S → S) where
   abbrev pub over_done : Done S → Done S
   over_done (gives s) = gives (front s)
   over_done (calls lines args s) = calls lines args (front s)
+  over_done (repeats condition lines s) = repeats condition lines (front s)
 
   -- the parts of a source do the same after it
   pub record IsFrontOfParts (m : Meaning (List ℕ) S) : Type 0 where
@@ -35,9 +37,14 @@ module _ {S : Type 0} (front : S → S) where
         → m.opens_region head is_run (front s) ≡ front (m.opens_region head is_run s)
     pub reads : (o : Opened) (line : List ℕ) (s : S) → m.reads o line (front s) ≡ front (m.reads o line s)
     pub ends_region : (o : Opened) (line : List ℕ) (s : S) → m.ends_region o line (front s) ≡ front (m.ends_region o line s)
+    pub opens_loop : (h : LoopHead (List ℕ)) (s : S) → m.opens_loop h (front s) ≡ front (m.opens_loop h s)
+    pub collects : (open_blocks : ℕ) (line : List ℕ) (s : S) → m.collects open_blocks line (front s) ≡ front (m.collects open_blocks line s)
+    pub keeps : (line : List ℕ) (s : S) → m.keeps line (front s) ≡ front (m.keeps line s)
 
   pub record IsFront (l : Language S) : Type 0 where
     pub parts : (kind : Kind) → IsFrontOfParts (l.parts kind)
     pub leaf : (may_call : Bool) (kind : Kind) (text : List ℕ) (s : S)
         → l.leaf may_call kind text (front s) ≡ over_done (l.leaf may_call kind text s)
-    pub finish : (region : Option Opened) (s : S) → l.finish region (front s) ≡ front (l.finish region s)
+    pub closes : (may_run : Bool) (s : S) → l.closes may_run (front s) ≡ over_done (l.closes may_run s)
+    pub turn : (kind : Kind) (condition : List ℕ) (s : S) → l.turn kind condition (front s) ≡ over_pair (l.turn kind condition s)
+    pub finish : (region : Option Opened) (in_loop : Bool) (s : S) → l.finish region in_loop (front s) ≡ front (l.finish region in_loop s)

@@ -1,11 +1,11 @@
-//! Laws of macros that run.
+//! Laws of macros and loops that run.
 
-ghost use Rattle.std.specs.Prelude.{◌≡◌, ◌≤◌, ℕ, suc, ◌+◌, ◌*◌, List, [], ◌∷◌, ◌++◌, length, Some, None};
+ghost use Rattle.std.specs.Prelude.{◌≡◌, ◌≤◌, ℕ, suc, ◌+◌, ◌*◌, List, [], ◌∷◌, ◌++◌, length, Option, Some, None};
 ghost use Rattle.page_roff_blocks.specs.Run.{At};
 ghost use Rattle.page_core_limits.specs.declared.TheConstants.{CALLS, REREAD};
 ghost use Rattle.page_roff_language.specs.Budgets.{Budgeted, Effects, language};
 ghost use Rattle.page_roff_language.specs.Fronts.{over, over_running, IsFront};
-ghost use Rattle.page_roff_language.specs.Languages.{Language, run_page, run_page_lines};
+ghost use Rattle.page_roff_language.specs.Languages.{body, TURNS, Language, run_body, turns, meaning_at, run_page, run_page_lines};
 ghost use Rattle.page_roff_language.specs.Measures.{measure, HasMeasure, HasBodyWithin, IsFirst};
 ghost use Rattle.page_roff_language.specs.Spending.{Spends, unspent, AreMet, Leads};
 ghost use Rattle.page_roff_language.specs.Machine.{Running, at_page, rest_of, next, stands_at};
@@ -27,7 +27,7 @@ pub fn page_cut_law<X, S>()
         ≡ run_page_lines l text head below (run_page_lines l text head above at) }
 {}
 
-/// A source line takes no more than itself and its budget, whatever its macros and remainders do.
+/// A source line takes no more than itself and its budget, whatever its macros, loops and remainders do.
 pub fn budget_law<R>()
     ensures { (e : Effects R) (line : List ℕ) (at : At (Budgeted R))
         → (run_page (language e) (line ∷ []) at).state.taken ≤ at.state.taken + 1 + REREAD }
@@ -39,14 +39,23 @@ pub fn front_law<S>()
         → rest_of l (over_running front r) ≡ over front (rest_of l r) }
 {}
 
-/// Sources that are run end: each step leaves less work, where the bodies that it calls are bounded. It holds from the first step of
+/// Sources that are run end: each step leaves less work, where the bodies that it begins are bounded. It holds from the first step of
 /// a line on.
 pub fn measure_law<R>()
     ensures falls { (e : Effects R) (huge : ℕ) (r q : Running (Budgeted R)) → HasMeasure r →
-        HasBodyWithin huge r.under q
+        HasBodyWithin huge r q
         → next (language e) r ≡ Some q → (suc (measure huge q) ≤ measure huge r) × HasMeasure q }
     ensures first { (e : Effects R) (r q : Running (Budgeted R)) → IsFirst r →
         next (language e) r ≡ Some q → HasMeasure q }
+{}
+
+/// The number of turns that a loop may have is no limit of its own: one with more of them does the same, since each turn that runs
+/// takes one of the re-read lines that are left.
+pub fn turns_law<R>()
+    ensures { (e : Effects R) (more depth : ℕ) (args : Option (List (List ℕ))) (condition : List ℕ)
+        (lines : List (List ℕ)) (s : Budgeted R) → s.left ≤ REREAD
+        → let run = run_body (language e) (meaning_at (language e) depth (body args)) lines in
+        turns (language e) (more + TURNS) run (body args) condition s ≡ turns (language e) TURNS run (body args) condition s }
 {}
 
 /// What lines spend, as interpolations, is at most the same number for each line that they take.
@@ -69,7 +78,7 @@ pub fn each_line_law<R>()
         → q.state.taken ≡ r.state.taken → spent q.state.rest ≤ spent r.state.rest + most }
 {}
 
-/// No more than `CALLS` macros run inside one another.
+/// No more than `CALLS` macros and loops run inside one another.
 pub fn calls_law<S>()
     ensures { (l : Language S) (r q : Running S) → length r.under ≤ CALLS → next l r ≡ Some q
         → length q.under ≤ CALLS }

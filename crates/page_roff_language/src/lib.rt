@@ -1,5 +1,5 @@
-//! How lines run with calls of macros (roff(7)): the definition, over any meaning of the parts of lines, with its laws, and the count of a
-//! budget.
+//! How lines run with calls of macros and with loops (roff(7)): the definition, over any meaning of the parts of lines, with its laws,
+//! and the count of a budget.
 //!
 //! It stands between the forest of lines (`page_roff_blocks`) and what their parts do (`page_roff_effects`). It runs nothing:
 //! `page_roff_machine` does. Read `specs/Languages.antt` first, then `Budgets.antt`, and the laws in `laws.rt`.
@@ -11,5 +11,5 @@ mod laws;
 pub use budgets::Budget;
 pub use laws::{
     budget_law, calls_law, each_line_law, front_law, machine_law, measure_law, page_cut_law,
-    spending_law,
+    spending_law, turns_law,
 };

@@ -1,4 +1,5 @@
-use Rattle.page_roff_language.proofs.MeasureLemmas.{next_falls, first_falls}
+use Rattle.page_roff_language.proofs.MeasureLemmas.{next_falls}
+use Rattle.page_roff_language.proofs.OnLineLemmas.{first_falls}
 use Rattle.page_roff_language.proofs.laws.measure_law.Goals as goal
 
 pub returns-clause-falls : goal.returns-clause-falls
