@@ -12,12 +12,13 @@ use Rattle.page_roff_effects.specs.declared.commands.ProductKind.{ProductKind}
 use Rattle.page_roff_effects.specs.Acting.{Acting, kind_of, Lends, IsCallable, IfCalled}
 use Rattle.page_roff_effects.specs.Commands.{within_limit, command_of}
 use Rattle.page_roff_effects.specs.Leaves.{ControlLine, call_if, does, command_outcome, control_outcome, control_line, form_outcome, leaf_outcome}
-use Rattle.page_roff_effects.specs.States.{Memory, Outcome, Product, no_product, line_product, call_product, Setting, nothing}
+use Rattle.page_roff_effects.specs.States.{Memory, Outcome, Product, no_product, line_product, call_product, loop_product, Setting, nothing}
 
 IsWithin : Bool → Product → Type 0
 IsWithin may_call no_product = Unit {0}
 IsWithin may_call (line_product line) = Unit {0}
 IsWithin may_call (call_product call) = IsCallable may_call call
+IsWithin may_call (loop_product text) = ⊥
 
 within_by : (fits : Bool) (body : List ℕ) → nat_le (length body) BODY ≡ fits → length (unwrap_or (if fits then Some body else None) []) ≤ BODY
 within_by true body e = grind (arith, nat_tests)
@@ -80,6 +81,7 @@ unfolding IsWithin
 if_called no_product may_call a lends within = tt
 if_called (line_product line) may_call a lends within = tt
 if_called (call_product call) may_call a lends within = rw lends within
+if_called (loop_product text) may_call a lends within = within
 
 -- what is lent as a call can be called
 pub leaf_callable : (setting : Setting) (may_call : Bool) (raw : List ℕ) (m : Memory) (result : ProductKind) (a : Acting)

@@ -1,5 +1,5 @@
 -- How many interpolations a part makes: helpers of proofs.
-use Rattle.std.proofs.Common.{◌≡◌, ℕ, ◌+◌, ◌-◌, ◌≤◌, ◌==◌, Bool, true, false, is_some, List, length, Option, Some, None, refl, ap, arith, if◌then◌else◌}
+use Rattle.std.proofs.Common.{◌≡◌, ℕ, ◌+◌, ◌-◌, ◌≤◌, ◌==◌, Bool, true, false, is_some, List, [], length, Option, Some, None, refl, ap, ◌∙◌, arith, if◌then◌else◌}
 use Rattle.page_core_base.specs.declared.page_settings.Output.{Output}
 use Rattle.page_core_base.specs.declared.places.Place.{Place}
 use Rattle.page_roff_blocks.specs.Levels.{Opened}
@@ -12,21 +12,23 @@ use Rattle.page_roff_forms.specs.declared.line_forms.LineForm.TheVariants.{Comme
 use Rattle.page_roff_heads.specs.declared.conditions.Condition.{Condition}
 use Rattle.page_roff_heads.specs.declared.conditions.Test.{Test}
 use Rattle.page_roff_heads.specs.declared.conditions.Test.TheVariants.{Always, Unknown, IsDefined, IsRegister, Expression, Texts, Missing}
+use Rattle.page_roff_heads.specs.declared.loops.LoopHead.{LoopHead}
 use Rattle.page_core_limits.specs.declared.TheConstants.{EXPAND}
 use Rattle.page_roff_values.specs.Environments.{Surroundings}
 use Rattle.page_roff_values.specs.Values.{Spot, Laid, IsWithin, start, expanded, NEST}
 use Rattle.page_roff_values.proofs.LineLemmas.{value_within}
 use Rattle.page_roff_conditions.specs.Answers.{Answer, condition_answer, test_answer, unless_cut, expands, bytes_between}
-use Rattle.page_roff_language.specs.Languages.{Kind}
-use Rattle.page_roff_language.specs.Spending.{after_leaf, Spends}
+use Rattle.page_roff_language.specs.Languages.{Kind, state_of}
+use Rattle.page_roff_language.specs.Spending.{Spends}
 use Rattle.page_roff_effects.specs.declared.commands.Command.{Command}
 use Rattle.page_roff_effects.specs.declared.commands.Command.TheVariants as commands
 use Rattle.page_roff_effects.specs.Commands.{command_of, copies}
-use Rattle.page_roff_effects.specs.States.{Memory, State, Outcome, Product, no_product, line_product, call_product, sum_of_counts, Setting, surroundings, nothing}
+use Rattle.page_roff_effects.specs.States.{Memory, State, Outcome, Product, no_product, line_product, call_product, loop_product, sum_of_counts, Setting, surroundings, nothing}
 use Rattle.page_roff_effects.specs.States as states
 use Rattle.page_roff_effects.specs.Leaves.{call_if, ControlLine, does, command_outcome, control_outcome, form_outcome, leaf_outcome}
-use Rattle.page_roff_effects.specs.RegionLines.{head_outcome, longer, longer_if, body_outcome, kind_outcome, line_outcome, end_outcome, finish_outcome}
-use Rattle.page_roff_effects.specs.Effects.{effects, setting_of, answer_of, tested_after, done_by, done_after, budget_outcome, block_outcome, end_of_block_outcome, expansions_of}
+use Rattle.page_roff_effects.specs.RegionLines.{head_outcome, longer, longer_if, body_outcome, kind_outcome, line_outcome, end_outcome, body_freed, finish_region, finish_outcome}
+use Rattle.page_roff_effects.specs.LoopLines.{longer_if_some, loop_outcome, collect_outcome, repeats_text, close_outcome}
+use Rattle.page_roff_effects.specs.Effects.{effects, setting_of, answer_of, turn_answer, tested_after, done_by, done_after, budget_outcome, block_outcome, end_of_block_outcome, expansions_of}
 
 -- so many more than before, at most
 abbrev IsFew : ℕ → ℕ → Type 0
@@ -115,11 +117,12 @@ leaf_few : (setting : Setting) (may_call : Bool) (raw : List ℕ) (m : Memory) �
 unfolding leaf_outcome
 leaf_few setting may_call raw m = form_few setting may_call raw (form_of raw) m
 
-done_memory : (p : Product) (s : State) → (after_leaf (done_by p s)).memory ≡ s.memory
+done_memory : (p : Product) (s : State) → (state_of (done_by p s)).memory ≡ s.memory
 unfolding done_by
 done_memory no_product s = refl
 done_memory (line_product line) s = refl
 done_memory (call_product call) s = refl
+done_memory (loop_product text) s = refl
 
 -- ---- regions
 
@@ -154,19 +157,52 @@ unfolding head_outcome
 head_keeps head true m = refl
 head_keeps head false m = refl
 
+freed_keeps : (is_run : Bool) (m : Memory) → (body_freed is_run m).expansions ≡ m.expansions
+freed_keeps true m = refl
+freed_keeps false m = refl
+
 end_keeps : (o : Opened) (is_run : Bool) (m : Memory) → (end_outcome o is_run m).memory.expansions ≡ m.expansions
 unfolding end_outcome
-end_keeps o true m = refl
-end_keeps o false m = refl
+end_keeps o true m = freed_keeps o.is_run m
+end_keeps o false m = freed_keeps o.is_run m
 
-finish_keeps : (region : Option Opened) (gave_up : Bool) (m : Memory) → (finish_outcome region gave_up m).memory.expansions ≡ m.expansions
+region_keeps : (region : Option Opened) (gave_up : Bool) (m : Memory) → (finish_region region gave_up m).memory.expansions ≡ m.expansions
+region_keeps None gave_up m = refl
+region_keeps (Some o) gave_up m = freed_keeps o.is_run m
+
+finish_keeps : (region : Option Opened) (in_loop gave_up : Bool) (m : Memory) → (finish_outcome region in_loop gave_up m).memory.expansions ≡ m.expansions
 unfolding finish_outcome
-finish_keeps None gave_up m = refl
-finish_keeps (Some o) gave_up m = refl
+finish_keeps region true gave_up m = refl
+finish_keeps region false gave_up m = region_keeps region gave_up m
+
+-- ---- loops
+
+more_keeps : (line : Option (List ℕ)) (m : Memory) → (longer_if_some line m).memory.expansions ≡ m.expansions
+more_keeps None m = refl
+more_keeps (Some line) m = longer_keeps m.body line m
+
+loop_keeps : (head : LoopHead (List ℕ)) (m : Memory) → (loop_outcome head m).memory.expansions ≡ m.expansions
+unfolding loop_outcome
+loop_keeps head m = more_keeps head.body (longer (Some []) head.condition m).memory ∙ longer_keeps (Some []) head.condition m
+
+collect_keeps : (is_run : Bool) (line : List ℕ) (m : Memory) → (collect_outcome is_run line m).memory.expansions ≡ m.expansions
+unfolding collect_outcome
+collect_keeps true line m = longer_keeps m.body line m
+collect_keeps false line m = refl
+
+repeats_keeps : (may_call : Bool) (text : Option (List ℕ)) (m : Memory) → (repeats_text may_call text m).memory.expansions ≡ m.expansions
+repeats_keeps may_call None m = refl
+repeats_keeps true (Some text) m = refl
+repeats_keeps false (Some text) m = refl
+
+close_keeps : (is_run may_call : Bool) (m : Memory) → (close_outcome is_run may_call m).memory.expansions ≡ m.expansions
+unfolding close_outcome
+close_keeps true may_call m = repeats_keeps may_call m.body _
+close_keeps false may_call m = refl
 
 module _ (output : Output) where
   leaf_spends : (may_call : Bool) (kind : Kind) (text : List ℕ) (s : State)
-      → expansions_of (after_leaf ((effects output).leaf may_call kind text s)) ≤ expansions_of s + EXPAND
+      → expansions_of (state_of ((effects output).leaf may_call kind text s)) ≤ expansions_of s + EXPAND
   unfolding effects done_after
   leaf_spends may_call kind text s =
       let o = leaf_outcome (setting_of output kind) may_call text s.memory in
@@ -179,6 +215,18 @@ module _ (output : Output) where
   tests_spends kind condition s =
       few_counts s.memory.expansions (answer_of (setting_of output kind) condition s.memory).edge.count
       (condition_few (setting_of output kind) condition s.memory)
+
+  turns_spends : (kind : Kind) (condition : List ℕ) (s : State) → expansions_of ((effects output).turns kind condition s).1 ≤ expansions_of s + EXPAND
+  unfolding effects tested_after
+  turns_spends kind condition s =
+      few_counts s.memory.expansions (turn_answer (setting_of output kind) condition s.memory).edge.count
+      (condition_few (setting_of output kind) _ s.memory)
+
+  closes_spends : (is_run may_call : Bool) (s : State) → expansions_of (state_of ((effects output).closes is_run may_call s)) ≡ expansions_of s
+  unfolding effects done_after
+  closes_spends is_run may_call s =
+      let o = close_outcome is_run may_call s.memory in
+      ap (λ (m : Memory). m.expansions) (done_memory o.product (states.after s o)) ∙ close_keeps is_run may_call s.memory
 
   reads_spends : (kind : Kind) (o : Opened) (line : List ℕ) (s : State)
       → expansions_of ((effects output).reads kind o true line s) ≤ expansions_of s + EXPAND
@@ -197,5 +245,9 @@ module _ (output : Output) where
     reads = reads_spends;
     passes = λ kind o line s. refl;
     ends_region = λ kind o is_run line s. end_keeps o is_run s.memory;
-    finish = λ region gave_up s. finish_keeps region gave_up s.memory;
+    opens_loop = λ head s. loop_keeps head s.memory;
+    collects = λ is_run line s. collect_keeps is_run line s.memory;
+    closes = closes_spends;
+    turns = turns_spends;
+    finish = λ region in_loop gave_up s. finish_keeps region in_loop gave_up s.memory;
   }

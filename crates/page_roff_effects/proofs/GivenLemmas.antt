@@ -1,16 +1,18 @@
 -- What was given before stays in front: helpers of proofs.
-use Rattle.std.proofs.Common.{◌≡◌, ℕ, zero, suc, Bool, true, false, not, ◌&&◌, List, refl, ap, ◌∙◌, append_assoc}
+use Rattle.std.proofs.Common.{◌≡◌, ℕ, zero, suc, Bool, true, false, not, ◌&&◌, List, Option, Some, None, refl, ap, ◌∙◌, append_assoc}
 use Rattle.page_core_base.specs.declared.page_settings.Output.{Output}
 use Rattle.page_roff_heads.specs.declared.conditions.Condition.{Condition}
 use Rattle.page_roff_blocks.specs.Levels.{Opened}
+use Rattle.page_roff_blocks.specs.Loops.{loop_text}
 use Rattle.page_roff_conditions.specs.Answers.{Answer}
-use Rattle.page_roff_language.specs.Languages.{Kind, page, body, Done, gives, calls}
-use Rattle.page_roff_language.specs.Budgets.{Budgeted, with_rest, charge_by, charge, begin_line, whether_run, meet, test, unopened_by, read_line, end_line, meaning, done_with, language}
+use Rattle.page_roff_language.specs.Languages.{Kind, page, body, Done, gives, calls, repeats}
+use Rattle.page_roff_language.specs.Budgets.{Budgeted, with_rest, charge_by, charge, begin_line, whether_run, meet, test, unopened_by, read_line, end_line, collect_some, meaning, done_with, closed_with, turn_by, turn, language}
 use Rattle.page_roff_language.specs.Fronts.{over_pair, over_done, IsFrontOfParts, IsFront}
-use Rattle.page_roff_effects.specs.States.{State, Outcome, Product, no_product, line_product, call_product, Given, after}
+use Rattle.page_roff_effects.specs.States.{State, Outcome, Product, no_product, line_product, call_product, loop_product, Given, after}
 use Rattle.page_roff_effects.specs.Leaves.{leaf_outcome}
 use Rattle.page_roff_effects.specs.RegionLines.{head_outcome, line_outcome, end_outcome, finish_outcome}
-use Rattle.page_roff_effects.specs.Effects.{effects, setting_of, answer_of, test_outcome, tested_after, done_by, done_after, budget_outcome, block_outcome, end_of_block_outcome, given_before, in_front}
+use Rattle.page_roff_effects.specs.LoopLines.{loop_outcome, collect_outcome, close_outcome}
+use Rattle.page_roff_effects.specs.Effects.{effects, setting_of, answer_of, turn_answer, test_outcome, tested_after, done_by, done_after, budget_outcome, block_outcome, end_of_block_outcome, given_before, in_front}
 
 after_front : (g : List Given) (s : State) (o : Outcome) → after (given_before g s) o ≡ given_before g (after s o)
 after_front g s o = rw append_assoc
@@ -24,6 +26,7 @@ unfolding done_by
 done_front g no_product t = refl
 done_front g (line_product line) t = refl
 done_front g (call_product call) t = refl
+done_front g (loop_product text) t = refl
 
 done_after_front : (g : List Given) (s : State) (o : Outcome) → done_after (given_before g s) o ≡ over_done (given_before g) (done_after s o)
 unfolding done_after
@@ -35,10 +38,18 @@ module _ (output : Output) (g : List Given) where
   unfolding done_with with_rest
   done_with_front s (gives t) = refl
   done_with_front s (calls lines args t) = refl
+  done_with_front s (repeats condition lines t) = refl
 
   with_rest_front : (s : Budgeted State) (t u : State) → t ≡ given_before g u → with_rest (effects output) (in_front g s) t ≡ in_front g (with_rest (effects output) s u)
   unfolding with_rest
   with_rest_front s t u e = ap (λ (r : State). record { left = s.left; gave_up = s.gave_up; taken = s.taken; rest = r }) e
+
+  closed_with_front : (s : Budgeted State) (d : Done State)
+      → closed_with (effects output) (in_front g s) (over_done (given_before g) d) ≡ over_done (in_front g) (closed_with (effects output) s d)
+  unfolding closed_with with_rest
+  closed_with_front s (gives t) = refl
+  closed_with_front s (calls lines args t) = refl
+  closed_with_front s (repeats condition lines t) = refl
 
   charge_front_by : (gave_up : Bool) (left : ℕ) (s : Budgeted State)
       → charge_by (effects output) gave_up left (in_front g s) ≡ in_front g (charge_by (effects output) gave_up left s)
@@ -96,6 +107,34 @@ module _ (output : Output) (g : List Given) where
       ap f (begin_front kind s)
       ∙ with_rest_front t _ _ (after_front g t.rest (end_outcome o (o.is_run && not t.gave_up) t.rest.memory))
 
+  collect_front : (text : Option (List ℕ)) (s : Budgeted State)
+      → collect_some (effects output) text (in_front g s) ≡ in_front g (collect_some (effects output) text s)
+  unfolding collect_some effects
+  collect_front None s = refl
+  collect_front (Some text) s = with_rest_front s _ _ (after_front g s.rest (collect_outcome (not s.gave_up) text s.rest.memory))
+
+  closes_front : (may_run : Bool) (s : Budgeted State)
+      → (language (effects output)).closes may_run (in_front g s) ≡ over_done (in_front g) ((language (effects output)).closes may_run s)
+  unfolding language effects
+  closes_front may_run s =
+      let o = close_outcome (not s.gave_up) may_run s.rest.memory in
+      ap (closed_with (effects output) (in_front g s)) (done_after_front g s.rest o) ∙ closed_with_front s (done_after s.rest o)
+
+  turn_front_by : (gave_up : Bool) (kind : Kind) (condition : List ℕ) (s : Budgeted State)
+      → turn_by (effects output) gave_up kind condition (in_front g s) ≡ over_pair (in_front g) (turn_by (effects output) gave_up kind condition s)
+  unfolding turn_by effects with_rest
+  turn_front_by true kind condition s = refl
+  turn_front_by false kind condition s =
+      ap (λ (v : Bool × State). (v.0, record { left = s.left; gave_up = s.gave_up; taken = s.taken; rest = v.1 }))
+      (tested_front g s.rest (turn_answer (setting_of output kind) condition s.rest.memory))
+
+  turn_front : (kind : Kind) (condition : List ℕ) (s : Budgeted State)
+      → turn (effects output) kind condition (in_front g s) ≡ over_pair (in_front g) (turn (effects output) kind condition s)
+  unfolding turn
+  turn_front kind condition s =
+      let t = charge (effects output) s in
+      ap (λ (u : Budgeted State). turn_by (effects output) u.gave_up kind condition u) (charge_front s) ∙ turn_front_by t.gave_up kind condition t
+
   leaf_front : (may_call : Bool) (kind : Kind) (text : List ℕ) (s : Budgeted State)
       → (language (effects output)).leaf may_call kind text (in_front g s) ≡ over_done (in_front g) ((language (effects output)).leaf may_call kind text s)
   unfolding language effects
@@ -114,6 +153,9 @@ module _ (output : Output) (g : List Given) where
     opens_region = λ head is_run s. with_rest_front s _ _ (after_front g s.rest (head_outcome head is_run s.rest.memory));
     reads = λ o line s. read_front kind o line s;
     ends_region = λ o line s. end_front kind o line s;
+    opens_loop = λ head s. with_rest_front s _ _ (after_front g s.rest (loop_outcome head s.rest.memory));
+    collects = λ open_blocks line s. collect_front (loop_text open_blocks line) s;
+    keeps = λ line s. collect_front (Some line) s;
   }
 
   pub is_front : IsFront (in_front g) (language (effects output))
@@ -121,5 +163,7 @@ module _ (output : Output) (g : List Given) where
   is_front = record {
     parts = parts_front;
     leaf = leaf_front;
-    finish = λ region s. with_rest_front s _ _ (after_front g s.rest (finish_outcome region s.gave_up s.rest.memory));
+    closes = closes_front;
+    turn = turn_front;
+    finish = λ region in_loop s. with_rest_front s _ _ (after_front g s.rest (finish_outcome region in_loop s.gave_up s.rest.memory));
   }

@@ -8,13 +8,12 @@ use Rattle.page_core_base.specs.declared.lines_taken.Form.{Form}
 use Rattle.page_core_base.specs.declared.lines_taken.Form.TheVariants.{Text, Blank}
 use Rattle.page_core_base.specs.declared.page_settings.Output.{Output}
 use Rattle.page_roff_forms.specs.LineForms.{has_word}
-use Rattle.page_roff_names.specs.Names.{definitions}
 use Rattle.page_roff_values.specs.Latches.{Came}
 use Rattle.page_roff_values.specs.Values.{Spot, Laid, expanded}
 use Rattle.page_roff_conditions.specs.Answers.{Answer}
 use Rattle.page_roff_effects.specs.declared.commands.ProductKind.{ProductKind}
 use Rattle.page_roff_effects.specs.declared.commands.ProductKind.TheVariants as kinds
-use Rattle.page_roff_effects.specs.States.{Memory, first_memory, Call, Product, no_product, line_product, call_product, Outcome, Setting, surroundings, counted}
+use Rattle.page_roff_effects.specs.States.{Memory, first_memory, Call, Product, no_product, line_product, call_product, loop_product, Outcome, Setting, surroundings, counted}
 use Rattle.page_roff_effects.specs.Effects.{test_outcome}
 use Rattle.page_roff_effects.specs.RegionLines.{with_line}
 use Rattle.page_roff_effects.specs.Leaves as leaves
@@ -36,12 +35,14 @@ abbrev pub kind_of : Product → ProductKind
 kind_of no_product = kinds.Nothing
 kind_of (line_product line) = kinds.Line
 kind_of (call_product call) = kinds.Call
+kind_of (loop_product text) = kinds.Loop
 
 -- what came of a part is what is lent
 abbrev pub Lends : Product → Acting → Type 0
 Lends no_product a = Unit {0}
 Lends (line_product line) a = a.line ≡ line
 Lends (call_product call) a = a.call ≡ call
+Lends (loop_product text) a = a.call.body ≡ text
 
 -- one more macro may run, and this one is within the limits
 pub record IsCallable (may_call : Bool) (call : Call) : Type 0 where
@@ -49,10 +50,24 @@ pub record IsCallable (may_call : Bool) (call : Call) : Type 0 where
   pub body : length call.body ≤ BODY
   pub packed : length call.packed ≤ ARGS
 
+-- what comes of a leaf: it may be a call, of which something is true, and is no loop
 abbrev pub IfCalled : ProductKind → Type 0 → Type 0
 IfCalled kinds.Nothing P = Unit {0}
 IfCalled kinds.Line P = Unit {0}
 IfCalled kinds.Call P = P
+IfCalled kinds.Loop P = ⊥
+
+-- one more loop may run, and the text of this one is within its limit
+pub record IsRepeatable (may_call : Bool) (text : List ℕ) : Type 0 where
+  pub room : may_call ≡ true
+  pub short : length text ≤ BODY
+
+-- what comes of a loop that is whole: nothing, or the loop, of which something is true
+abbrev pub IfRepeated : ProductKind → Type 0 → Type 0
+IfRepeated kinds.Nothing P = Unit {0}
+IfRepeated kinds.Line P = ⊥
+IfRepeated kinds.Call P = ⊥
+IfRepeated kinds.Loop P = P
 
 -- a call did what an outcome says: its messages came, and this is remembered
 pub record Does {P S : Type 0} (left : P → S → List Message → Type 0) (old : Acting) (out : S) (o : Outcome) (new : Acting) (out_new : S) : Type 0 where

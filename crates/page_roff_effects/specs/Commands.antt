@@ -18,13 +18,13 @@ abbrev pub called_body : List ℕ → Definitions → Option (List ℕ)
 called_body name d = within_limit (body_of name d)
 
 -- What is left to the set of macros are the requests that change rows, macros of the language, and unknown ones.
--- The head of a conditional or a region is a part of a line by itself.
+-- The head of a conditional, a loop or a region is a part of a line by itself.
 abbrev pub request_command : Option Request → Command
 request_command None = Pass
 request_command (Some requests.If) = Pass
 request_command (Some requests.IfElse) = Pass
 request_command (Some requests.Else) = Pass
-request_command (Some requests.While) = Refuse
+request_command (Some requests.While) = Pass
 request_command (Some (requests.Region kind)) = Pass
 request_command (Some (requests.Definition request)) = Define request
 request_command (Some (requests.Layout request)) = Pass

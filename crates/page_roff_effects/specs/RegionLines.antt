@@ -1,5 +1,5 @@
 -- What the heads and the lines of regions do. Source: roff(7), "de", "am", "ig"; mandoc(1), "unsupported".
-use Rattle.std.specs.Prelude.{ℕ, ◌||◌, ◌&&◌, not, Bool, true, false, nat_le, is_some, List, [], ◌∷◌, ◌++◌, length, if◌then◌else◌, Option, Some, None, unwrap_or}
+use Rattle.std.specs.Prelude.{ℕ, ◌||◌, ◌&&◌, not, Bool, true, false, nat_le, is_some, List, [], ◌∷◌, ◌++◌, length, codes, if◌then◌else◌, Option, Some, None, unwrap_or}
 use Rattle.page_core_limits.specs.declared.TheConstants.{BODY}
 use Rattle.page_core_limits.specs.declared.Limit.TheVariants as limits
 use Rattle.page_core_limits.specs.Limits.{name_of}
@@ -56,12 +56,12 @@ table_notes Table column number = message_about kinds.Table (record { line = num
 table_notes Equation column number = message_about kinds.Table (record { line = number; column = column }) [] ∷ []
 table_notes Picture column number = message_about kinds.Table (record { line = number; column = column }) [] ∷ []
 
--- a head that is run, or passed over
+-- a head that is run, or passed over: then the body is left alone, which may be the text of a loop around it
 unfoldable pub head_outcome : RegionHead (List ℕ) → Bool → Memory → Outcome
 head_outcome head true m =
     reports (name_notes head m.number ++ table_notes head.kind head.column m.number)
     (with_body (body_begun head.kind (within_limit head.name) m.definitions) m)
-head_outcome head false m = nothing (with_body None m)
+head_outcome head false m = nothing m
 
 -- ---- lines
 
@@ -110,16 +110,28 @@ macro_definition None body place d = defining.outcome d []
 macro_definition (Some name) None place d = defining.outcome d []
 macro_definition (Some name) (Some body) place d = defines_macro name body place d
 
+-- a region that was run drops its body, one that was passed over had none
+abbrev pub body_freed : Bool → Memory → Memory
+body_freed true m = with_body None m
+body_freed false m = m
+
 -- the end line of a region that is run, or passed over
 unfoldable pub end_outcome : Opened → Bool → Memory → Outcome
-end_outcome o true m = defines (macro_definition o.name m.body (at m 1) m.definitions) (with_body None m)
-end_outcome o false m = nothing (with_body None m)
+end_outcome o true m = defines (macro_definition o.name m.body (at m 1) m.definitions) (body_freed o.is_run m)
+end_outcome o false m = nothing (body_freed o.is_run m)
 
--- A source ends. A region that is open is dropped with a message, unless all was given up.
-abbrev pub missing_notes : RegionKind → Bool → Memory → List Message
-missing_notes kind true m = []
-missing_notes kind false m = note_at kinds.MissingEnd 1 (region_name kind) m
+-- ---- the end of a source
 
-unfoldable pub finish_outcome : Option Opened → Bool → Memory → Outcome
-finish_outcome None gave_up m = nothing m
-finish_outcome (Some o) gave_up m = reports (missing_notes o.kind gave_up m) (with_body None m)
+-- what is open there is dropped with a message, unless all was given up
+abbrev pub missing_notes : List ℕ → Bool → Memory → List Message
+missing_notes name true m = []
+missing_notes name false m = note_at kinds.MissingEnd 1 name m
+
+abbrev pub finish_region : Option Opened → Bool → Memory → Outcome
+finish_region None gave_up m = nothing m
+finish_region (Some o) gave_up m = reports (missing_notes (region_name o.kind) gave_up m) (body_freed o.is_run m)
+
+-- A source ends, in a region or not, in a loop that is collected or not. A region inside such a loop is dropped with it.
+unfoldable pub finish_outcome : Option Opened → Bool → Bool → Memory → Outcome
+finish_outcome region true gave_up m = reports (missing_notes (codes "while") gave_up m) (with_body None m)
+finish_outcome region false gave_up m = finish_region region gave_up m

@@ -15,7 +15,7 @@ pub record Call : Type 0 where
   pub packed : List ℕ
 
 -- What is remembered from part to part: what names stand for; the body that the open region has so far, where it defines a macro and
--- no limit was passed; the number of the source line; how many interpolations were made.
+-- no limit was passed, or the text of the loop that is collected; the number of the source line; how many interpolations were made.
 pub record Memory : Type 0 where
   pub definitions : Definitions
   pub body : Option (List ℕ)
@@ -36,6 +36,8 @@ pub data Product : Type 0 where
   no_product : Product
   line_product : Line → Product
   call_product : Call → Product
+  -- a loop that is whole: its condition and the lines of its body, each with a line feed after it
+  loop_product : List ℕ → Product
 
 -- what a part of a source does: its messages, then what comes of it, and what is remembered after it
 pub record Outcome : Type 0 where
@@ -59,6 +61,7 @@ abbrev pub lines_of : Product → List Given
 lines_of no_product = []
 lines_of (line_product line) = takes line ∷ []
 lines_of (call_product call) = []
+lines_of (loop_product text) = []
 
 -- after a part: its messages come before its line
 abbrev pub after : State → Outcome → State
@@ -80,6 +83,10 @@ gives_line form text name_end m =
       product = line_product (record { form = form; text = text; number = m.number; name_end = name_end });
       memory = m;
     }
+
+-- a loop begins, of which this was collected
+abbrev pub gives_loop : List ℕ → Memory → Outcome
+gives_loop text m = record { notes = []; product = loop_product text; memory = m }
 
 -- these messages come first
 abbrev pub after_notes : List Message → Outcome → Outcome

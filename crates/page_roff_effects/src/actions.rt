@@ -10,7 +10,7 @@ ghost use Rattle.page_roff_values.specs.Values as laying;
 ghost use Rattle.page_roff_effects.specs.Acting as acting;
 ghost use Rattle.page_roff_effects.specs.Caps.{MemoryFits};
 ghost use Rattle.page_roff_effects.specs.Acting.{Does, Tests, Expands, ExpandsOrKeeps};
-ghost use Rattle.page_roff_effects.specs.Effects.{answer_of, budget_outcome, block_outcome, end_of_block_outcome};
+ghost use Rattle.page_roff_effects.specs.Effects.{answer_of, turn_answer, budget_outcome, block_outcome, end_of_block_outcome};
 ghost use Rattle.page_core_base.specs.Messages.{message_about};
 ghost use Rattle.page_roff_values.specs.Latches.{Came};
 
@@ -19,13 +19,13 @@ use crate::calls::CallBuffer;
 use page_core_base::{Note, NoteKind, Output, Place, Taken};
 use page_core_limits::{ARGS, Limit};
 use page_roff_conditions::holds;
-use page_roff_heads::Condition;
+use page_roff_heads::{Condition, read_condition};
 use page_roff_names::Names;
 use page_roff_values::{CallArguments, Environment, Expansion, NoteOut};
 use std::alloc::{AllocError, Global};
 use std::marker::Model;
 
-/// What the parts of a source do: definitions, the body of the open region, and the line and the call that were taken last. All memory is
+/// What the parts of a source do: definitions, the body of the open region or loop, and the line and the call that were taken last. All memory is
 /// reserved by [`Actions::new`].
 #[derive(Drop)]
 pub struct Actions {
@@ -140,7 +140,8 @@ impl Actions {
         self.line.taken()
     }
 
-    /// Lends the body of the macro that was called last, at most `BODY` bytes after [`ProductKind::Call`].
+    /// Lends the body of the macro that was called last, at most `BODY` bytes after [`ProductKind::Call`], or the text of the loop that came
+    /// last, at most as many after [`ProductKind::Loop`].
     pub fn called_body(&self) -> &[u8]
         ensures { result.now ≡ self.now.call.body }
     {
@@ -206,6 +207,16 @@ impl Actions {
         let count = self.expansion.count();
         self.expansions = self.expansions.saturating_add(count as u64);
         answer
+    }
+
+    /// Whether the condition of a turn of a loop holds, of which the first byte stands in column 1.
+    pub fn turn<O: NoteOut>(&mut self, condition: &[u8], out: &mut O) -> bool
+        requires { length condition.now ≤ LINE }
+        ensures { Tests O.left self.old out.old
+            (turn_answer self.old.setting condition.now self.old.memory) result self.new out.new }
+    {
+        let (condition, _) = read_condition(condition, 1);
+        self.test(&condition, out)
     }
 
     /// A re-read line comes beyond the budget.

@@ -1,4 +1,4 @@
-//! What was taken last, in memory that is reserved once: a line, a call, the body of a region.
+//! What was taken last, in memory that is reserved once: a line, a call, the body of a region or a loop.
 
 ghost use Rattle.std.specs.Prelude.{◌≡◌, ◌≤◌, ◌+◌, [], ◌∷◌, ◌++◌, length, IfOk, IfSome, None, Some};
 ghost use Rattle.std.specs.Vec.{vec_len, vec_capacity};
@@ -94,7 +94,7 @@ impl LineBuffer {
     }
 }
 
-/// The body that an open region has so far, where it defines a macro and no limit was passed.
+/// The body that an open region has so far, where it defines a macro and no limit was passed, or the text of the loop that is collected.
 #[derive(Drop)]
 pub(crate) struct BodyBuffer {
     is_open: bool,
@@ -142,7 +142,8 @@ impl BodyBuffer {
 
     /// What the body has so far, if there is one.
     pub(crate) fn text(&self) -> Option<&[u8]>
-        ensures { text_seen result ≡ self.now }
+        ensures text { text_seen result ≡ self.now }
+        ensures short { IfSome result (λ body. length body.now ≤ BODY) }
     {
         if self.is_open {
             Some(self.text.as_slice())

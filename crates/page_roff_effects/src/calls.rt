@@ -119,7 +119,7 @@ impl CallBuffer {
         append_arguments(&mut self.packed, &mut Arguments::new(rest, column))
     }
 
-    /// Takes the body of a call.
+    /// Takes the body of a call, or the text of a loop.
     pub(crate) fn set_body(&mut self, body: &[u8])
         requires { length body.now ≤ BODY }
         ensures { self.new ≡ record { body = body.now; packed = self.old.packed } }

@@ -34,6 +34,8 @@ pub enum ProductKind {
     Line,
     /// The call of a macro.
     Call,
+    /// A loop that is whole.
+    Loop,
 }
 
 // The body of a macro of the page.
@@ -65,7 +67,7 @@ fn request_command(request: Option<Request>) -> Command
     match request {
         Some(Request::Definition(request)) => Command::Define(request),
         Some(Request::Ignored) => Command::Ignore,
-        Some(Request::While | Request::Unsupported) => Command::Refuse,
+        Some(Request::Unsupported) => Command::Refuse,
         _ => Command::Pass,
     }
 }

@@ -1,8 +1,8 @@
 //! What the parts of a source do (roff(7)): lines are expanded and taken, conditions are tested, requests define names, macros are
-//! called, and regions define macros.
+//! called, regions define macros, and loops are collected.
 //!
 //! It gives `page_roff_language` the meaning of parts, and the machine of `page_roff_machine` calls `Actions` for each of them. Read
-//! `specs/Effects.antt` first, then `Leaves.antt` and `RegionLines.antt`; the code begins in `actions.rt`.
+//! `specs/Effects.antt` first, then `Leaves.antt`, `RegionLines.antt` and `LoopLines.antt`; the code begins in `actions.rt`.
 #![tactic(auto)]
 
 mod actions;
@@ -11,6 +11,7 @@ mod calls;
 mod commands;
 mod laws;
 mod leaves;
+mod loops;
 mod regions;
 
 pub use actions::Actions;

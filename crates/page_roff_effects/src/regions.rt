@@ -1,6 +1,10 @@
 //! Heads and lines of regions (roff(7), "de", "am", "ig").
 
-ghost use Rattle.std.specs.Prelude.{◌≡◌, ◌≤◌, ◌∷◌, [], length};
+ghost use Rattle.std.specs.Prelude.{◌≡◌, ◌≤◌, ◌∷◌, [], codes, length, None, Some};
+ghost use Rattle.page_core_base.specs.Messages.{message_about};
+ghost use Rattle.page_core_base.specs.declared.note_kinds.NoteKind.TheVariants as kinds;
+ghost use Rattle.page_core_limits.specs.Limits.{name_of};
+ghost use Rattle.page_core_limits.specs.declared.Limit.TheVariants as limits;
 ghost use Rattle.page_core_limits.specs.declared.TheConstants.{BODY, LINE};
 ghost use Rattle.page_roff_blocks.specs.Levels.{within_limit, opened_seen};
 ghost use Rattle.page_roff_blocks.specs.Regions.{region_seen, text_seen};
@@ -8,7 +12,7 @@ ghost use Rattle.page_roff_definitions.specs.Definitions as defining;
 ghost use Rattle.page_roff_values.specs.Latches.{Came};
 ghost use Rattle.page_roff_effects.specs.Acting.{Does, Gives};
 ghost use Rattle.page_roff_effects.specs.RegionLines as regions;
-ghost use Rattle.page_roff_effects.specs.States.{Memory};
+ghost use Rattle.page_roff_effects.specs.States.{Memory, reports, with_body};
 
 use crate::actions::{Actions, report_at};
 use crate::buffers::BodyBuffer;
@@ -110,6 +114,22 @@ fn define_body<O: NoteOut>(
     }
 }
 
+/// Reports the line that passes the limit of bodies.
+pub(crate) fn report_long_body<O: NoteOut>(line: u32, out: &mut O)
+    ensures { Came O.left out.old (message_about kinds.Limit
+        (record { line = line; column = 1 }) (name_of limits.Body) ∷ []) out.new }
+{
+    report_at(NoteKind::Limit, line, 1, Limit::Body.name().as_bytes(), out);
+}
+
+// Reports that what is open at the end of a source lacks its end.
+fn report_missing<O: NoteOut>(name: &[u8], line: u32, out: &mut O)
+    ensures { Came O.left out.old (message_about kinds.MissingEnd
+        (record { line = line; column = 1 }) name.now ∷ []) out.new }
+{
+    report_at(NoteKind::MissingEnd, line, 1, name, out);
+}
+
 impl Actions {
     /// A region begins, which is run or passed over.
     #[tactic(auto, unfolding(crate::specs::RegionLines::head_outcome))]
@@ -117,13 +137,11 @@ impl Actions {
         ensures { Does O.left self.old out.old
             (regions.head_outcome (region_seen head.now) is_run self.old.memory) self.new out.new }
     {
-        if !is_run {
-            self.body.clear();
-            return;
+        if is_run {
+            report_name(head, self.number, out);
+            report_table(head.kind, head.column, self.number, out);
+            begin_body(head.kind, head.name, &self.names, &mut self.body);
         }
-        report_name(head, self.number, out);
-        report_table(head.kind, head.column, self.number, out);
-        begin_body(head.kind, head.name, &self.names, &mut self.body);
     }
 
     // Adds the line that is finished to the body.
@@ -132,13 +150,7 @@ impl Actions {
             (regions.longer self.old.memory.body self.old.finished.text self.old.memory) self.new out.new }
     {
         if self.body.text().is_some() && !self.body.add_line(self.expansion.text()) {
-            report_at(
-                NoteKind::Limit,
-                self.number,
-                1,
-                Limit::Body.name().as_bytes(),
-                out,
-            );
+            report_long_body(self.number, out);
         }
     }
 
@@ -195,26 +207,52 @@ impl Actions {
             };
             define_body(region.name(), self.body.text(), place, &mut self.names, out);
         }
+        if region.is_run() {
+            self.body.clear();
+        }
+    }
+
+    // A source ends in a region, with whether all was given up.
+    fn finish_region<O: NoteOut>(&mut self, region: &OpenRegion, gave_up: bool, out: &mut O)
+        ensures { Does O.left self.old out.old
+            (regions.finish_region (Some region.now) gave_up self.old.memory) self.new out.new }
+    {
+        if !gave_up {
+            report_missing(region.kind().name(), self.number, out);
+        }
+        if region.is_run() {
+            self.body.clear();
+        }
+    }
+
+    // A source ends in a loop that is collected, with whether all was given up.
+    fn finish_loop<O: NoteOut>(&mut self, gave_up: bool, out: &mut O)
+        ensures { Does O.left self.old out.old
+            (reports (regions.missing_notes (codes "while") gave_up self.old.memory) (with_body None self.old.memory))
+            self.new out.new }
+    {
+        if !gave_up {
+            report_missing(b"while", self.number, out);
+        }
         self.body.clear();
     }
 
-    /// A source ends, in an open region or not, with whether all was given up.
+    /// A source ends, in an open region or not, in a loop that is collected or not, with whether all was given up.
     #[tactic(auto, unfolding(crate::specs::RegionLines::finish_outcome))]
-    pub fn finish<O: NoteOut>(&mut self, region: Option<&OpenRegion>, gave_up: bool, out: &mut O)
+    pub fn finish<O: NoteOut>(
+        &mut self,
+        region: Option<&OpenRegion>,
+        in_loop: bool,
+        gave_up: bool,
+        out: &mut O,
+    )
         ensures { Does O.left self.old out.old
-            (regions.finish_outcome (opened_seen region.entry) gave_up self.old.memory) self.new out.new }
+            (regions.finish_outcome (opened_seen region.entry) in_loop gave_up self.old.memory) self.new out.new }
     {
-        if let Some(region) = region {
-            if !gave_up {
-                report_at(
-                    NoteKind::MissingEnd,
-                    self.number,
-                    1,
-                    region.kind().name(),
-                    out,
-                );
-            }
-            self.body.clear();
+        if in_loop {
+            self.finish_loop(gave_up, out);
+        } else if let Some(region) = region {
+            self.finish_region(region, gave_up, out);
         }
     }
 }

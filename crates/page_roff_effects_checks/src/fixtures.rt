@@ -2,7 +2,7 @@
 
 use page_core_base::{Form, Note, NoteKind, Output};
 use page_core_writers::KeptNotes;
-use page_roff_blocks::{Atom, LinePlace, OpenRegion};
+use page_roff_blocks::{Atom, LinePlace, OpenRegion, Opening};
 use page_roff_effects::{Actions, ProductKind};
 use page_roff_values::NoteLatch;
 use std::process::Abort;
@@ -11,13 +11,14 @@ use std::test::Fail;
 /// A message: its kind, its column and its detail.
 pub type Message = (NoteKind, u32, &'static str);
 
-/// What comes of a part: nothing, a line with the end of its name, or a call with its body and arguments, where each line and each
-/// argument has a line feed after it.
+/// What comes of a part: nothing, a line with the end of its name, a call with its body and arguments, or a loop with its condition and
+/// its body, where each line and each argument has a line feed after it.
 #[derive(Clone, Copy)]
 pub enum Product {
     Nothing,
     Line(Form, &'static str, u32),
     Call(&'static str, &'static str),
+    Loop(&'static str),
 }
 
 /// What a test works on.
@@ -81,6 +82,9 @@ fn check_product(rt: &impl Abort, actions: &Actions, got: ProductKind, want: Pro
         (ProductKind::Call, Product::Call(body, packed)) => {
             assert!(rt; actions.called_body() == body.as_bytes(), "{text}");
             assert!(rt; actions.called_arguments() == packed.as_bytes(), "{text}");
+        }
+        (ProductKind::Loop, Product::Loop(lines)) => {
+            assert!(rt; actions.called_body() == lines.as_bytes(), "{text}");
         }
         _ => assert!(rt; false, "{text}"),
     }
@@ -153,16 +157,73 @@ pub fn close(rt: &(impl Abort + AllocGlobal), fixture: &mut Fixture, region: &Op
     fixture.notes = notes;
 }
 
-/// Ends a source in a region.
+/// Ends a source in a region, where a loop is collected or not.
 pub fn finish(
     rt: &(impl Abort + AllocGlobal),
     fixture: &mut Fixture,
-    region: &OpenRegion,
+    region: Option<&OpenRegion>,
+    in_loop: bool,
     gave_up: bool,
 ) {
     let mut notes = KeptNotes::new(rt.alloc());
     let mut latch = NoteLatch::new(&mut notes);
-    fixture.actions.finish(Some(region), gave_up, &mut latch);
+    fixture.actions.finish(region, in_loop, gave_up, &mut latch);
     assert!(rt; latch.done().is_ok());
+    fixture.notes = notes;
+}
+
+/// Opens the loop of a head, of which the line is given.
+pub fn open_loop(rt: &(impl Abort + AllocGlobal), fixture: &mut Fixture, line: &str) {
+    assert!(rt; line.len() <= 65_000);
+    let mut notes = KeptNotes::new(rt.alloc());
+    let mut latch = NoteLatch::new(&mut notes);
+    match LinePlace::start(line.as_bytes()).next_atom(line.as_bytes()) {
+        Some(Atom::Loop(head) | Atom::Block(Opening::Loop(head))) => {
+            fixture.actions.open_loop(&head, &mut latch)
+        }
+        _ => assert!(rt; false, "{line}"),
+    }
+    assert!(rt; latch.done().is_ok());
+    fixture.notes = notes;
+}
+
+/// A line of a loop comes.
+pub fn collect(rt: &(impl Abort + AllocGlobal), fixture: &mut Fixture, is_run: bool, line: &[u8]) {
+    let mut notes = KeptNotes::new(rt.alloc());
+    let mut latch = NoteLatch::new(&mut notes);
+    fixture.actions.collect_line(is_run, line, &mut latch);
+    assert!(rt; latch.done().is_ok());
+    fixture.notes = notes;
+}
+
+/// Checks what comes of a loop that is whole.
+pub fn check_whole(
+    rt: &(impl Abort + AllocGlobal),
+    fixture: &mut Fixture,
+    may_call: bool,
+    is_run: bool,
+    want: Product,
+    text: &str,
+) {
+    let mut notes = KeptNotes::new(rt.alloc());
+    let mut latch = NoteLatch::new(&mut notes);
+    let got = fixture.actions.close_loop(may_call, is_run, &mut latch);
+    assert!(rt; latch.done().is_ok());
+    check_product(rt, &fixture.actions, got, want, text);
+    fixture.notes = notes;
+}
+
+/// Checks whether the condition of a turn holds.
+pub fn check_turn(
+    rt: &(impl Abort + AllocGlobal),
+    fixture: &mut Fixture,
+    condition: &str,
+    want: bool,
+) {
+    assert!(rt; condition.len() <= 65_000);
+    let mut notes = KeptNotes::new(rt.alloc());
+    let mut latch = NoteLatch::new(&mut notes);
+    let got = fixture.actions.turn(condition.as_bytes(), &mut latch);
+    assert!(rt; latch.done().is_ok() && got == want, "{condition}");
     fixture.notes = notes;
 }

@@ -6,4 +6,6 @@ mod fixtures;
 #[cfg(test)]
 mod leaves;
 #[cfg(test)]
+mod loops;
+#[cfg(test)]
 mod regions;

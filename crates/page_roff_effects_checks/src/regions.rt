@@ -103,9 +103,9 @@ fn appended(rt: HostRuntime) -> Result<(), Fail> {
 fn dropped(rt: HostRuntime) -> Result<(), Fail> {
     let mut fixture = Fixture::new(&rt)?;
     if let Some(region) = open(&rt, &mut fixture, ".am m", false) {
-        finish(&rt, &mut fixture, &region, false);
+        finish(&rt, &mut fixture, Some(&region), false, false);
         check_notes(&rt, &fixture, &[(NoteKind::MissingEnd, 1, "am")], "am");
-        finish(&rt, &mut fixture, &region, true);
+        finish(&rt, &mut fixture, Some(&region), false, true);
         check_notes(&rt, &fixture, &[], "gave up");
     }
     Ok(())

@@ -1,5 +1,5 @@
 -- Texts with a line feed after each: helpers of proofs.
-use Rattle.std.proofs.Common.{◌≡◌, ℕ, ◌==◌, Bool, true, false, List, [], ◌∷◌, ◌++◌, refl, sym, ap, ◌∙◌, subst, append_assoc}
+use Rattle.std.proofs.Common.{◌≡◌, ℕ, ◌==◌, Bool, true, false, List, [], ◌∷◌, ◌++◌, drop, refl, sym, ap, ◌∙◌, subst, append_assoc}
 use Rattle.std.proofs.lemmas.Bool.{and_parts, eqb-true}
 use Rattle.page_core_base.specs.Texts.{IsLine, is_no_control, has_no_control}
 use Rattle.page_roff_forms.specs.declared.quotes.Argument.{Argument}
@@ -7,9 +7,11 @@ use Rattle.page_roff_language.proofs.KeepLemmas.{AreSuch}
 use Rattle.page_roff_values.specs.Arguments.{arguments_in, lines_in}
 use Rattle.page_roff_values.specs.Texts.{AreTexts}
 use Rattle.page_roff_effects.specs.Leaves.{argument_value, packed}
+use Rattle.page_roff_effects.specs.LoopLines.{first_line, condition_in, body_in}
 use Rattle.page_roff_effects.specs.RegionLines.{with_line}
 use Rattle.page_roff_texts.specs.Texts.{ended, AreLines, IsBody, IsPacked}
 use Rattle.page_roff_texts.proofs.ArgumentTexts.{AreArguments, argument_text}
+use Rattle.page_roff_texts.proofs.Cuts.{nil_line}
 
 no_feed : (before b : ℕ) → is_no_control before b ≡ true → (b == 10) ≡ false
 no_feed before b h = by (b == 10) refl
@@ -45,6 +47,21 @@ such (line ∷ lines) h = (h.0, such lines h.1)
 
 pub body_lines : (bytes : List ℕ) → IsBody bytes → AreSuch IsLine (lines_in bytes)
 body_lines bytes h = subst (λ (l : List (List ℕ)). AreSuch IsLine l) (sym (ap arguments_in h.is ∙ lines_are h.lines h.are)) (such h.lines h.are)
+
+-- the first line of a loop's text, and the others
+first_is : (lines : List (List ℕ)) → AreSuch IsLine lines → IsLine (first_line lines)
+first_is [] h = nil_line
+first_is (line ∷ lines) h = h.0
+
+others_are : (lines : List (List ℕ)) → AreSuch IsLine lines → AreSuch IsLine (drop 1 lines)
+others_are [] h = tt
+others_are (line ∷ lines) h = h.1
+
+pub loop_condition : (text : List ℕ) → IsBody text → IsLine (condition_in text)
+loop_condition text h = first_is (lines_in text) (body_lines text h)
+
+pub loop_lines : (text : List ℕ) → IsBody text → AreSuch IsLine (body_in text)
+loop_lines text h = others_are (lines_in text) (body_lines text h)
 
 pub packed_texts : (bytes : List ℕ) → IsPacked bytes → AreTexts (arguments_in bytes)
 packed_texts bytes h = subst (λ (l : List (List ℕ)). AreTexts l) (sym (ap arguments_in h.is ∙ texts_in h.texts h.are)) h.are

@@ -12,7 +12,7 @@ pub use Rattle.page_core_escapes.proofs.Characters.{CutsAt, CutsAt-boundary, Cut
 use Rattle.page_roff_forms.specs.Arguments.{is_blank}
 use Rattle.page_roff_forms.specs.LineForms.{is_white, is_name}
 use Rattle.page_roff_values.specs.Texts.{IsText}
-use Rattle.page_roff_values.proofs.PlainTexts.{text_cut}
+use Rattle.page_roff_values.proofs.PlainTexts.{nil_text, text_cut}
 
 pub start_cut : (t : List ℕ) → IsUtf8 t → CutsAt t 0
 start_cut t u = record { within = omega arith; utf8 = u }
@@ -91,6 +91,9 @@ text_of t h = record { utf8 = h.utf8; plain = h.plain }
 
 pub line_of : (t : List ℕ) → IsText t → length t ≤ LINE → IsLine t
 line_of t h short = record { utf8 = h.utf8; bounded = short; plain = h.plain }
+
+pub nil_line : IsLine []
+nil_line = line_of [] nil_text (omega arith)
 
 pub line_cut : (t : List ℕ) (n : ℕ) → IsLine t → CutsAt t n → IsLine (take n t) × IsLine (drop n t)
 line_cut t n h cut =

@@ -10,6 +10,7 @@ use Rattle.page_roff_blocks.specs.Levels.{Opened, within_limit}
 use Rattle.page_roff_blocks.specs.Run.{At}
 use Rattle.page_roff_blocks.specs.declared.regions.RegionHead.{RegionHead}
 use Rattle.page_roff_forms.specs.Arguments.{arguments}
+use Rattle.page_roff_heads.specs.declared.loops.LoopHead.{LoopHead}
 use Rattle.page_roff_forms.specs.LineForms.{is_control, has_word, without_comment, control_line as control_form, uncommented_form, form_of}
 use Rattle.page_roff_forms.specs.declared.line_forms.LineForm.{LineForm}
 use Rattle.page_roff_forms.specs.declared.line_forms.LineForm.TheVariants.{Comment, BlankLine, Text, Control}
@@ -29,17 +30,19 @@ use Rattle.page_roff_values.proofs.LineLemmas.{value_within}
 use Rattle.page_roff_values.proofs.PlainTexts.{nil_text, text_cut, text_at}
 use Rattle.page_roff_values.proofs.ValueTexts.{value_text}
 use Rattle.page_roff_language.specs.Budgets.{Budgeted, language}
-use Rattle.page_roff_language.specs.Languages.{Kind, page, body, run_page}
+use Rattle.page_roff_language.specs.Languages.{Kind, page, body, inner, run_page}
 use Rattle.page_roff_language.proofs.KeepEffects.{IsKeptAfter, KeepsEffects, page_keeps}
+use Rattle.page_roff_language.proofs.KeepLemmas.{IsIfSome, IsLoopHead}
 use Rattle.page_roff_effects.specs.Commands.{called_body, request_command, command_or, command_of, copies}
-use Rattle.page_roff_effects.specs.Effects.{effects, setting_of, answer_of, test_outcome, tested_after, done_by, done_after, budget_outcome, block_outcome, end_of_block_outcome}
+use Rattle.page_roff_effects.specs.Effects.{effects, setting_of, answer_of, turn_answer, test_outcome, tested_after, done_by, done_after, budget_outcome, block_outcome, end_of_block_outcome}
 use Rattle.page_roff_effects.specs.Leaves.{packed, call_if, ControlLine, rest_of, rest_column, does, command_outcome, control_outcome, control_line, form_outcome, leaf_outcome}
-use Rattle.page_roff_effects.specs.RegionLines.{first_body, body_begun, head_outcome, with_line, longer_if, longer, body_outcome, kind_outcome, line_outcome, macro_definition, end_outcome, finish_outcome}
-use Rattle.page_roff_effects.specs.States.{Memory, first_memory, Setting, surroundings, counted, Product, no_product, line_product, call_product, lines_of, Given, says, takes, State, Outcome, nothing, after}
+use Rattle.page_roff_effects.specs.RegionLines.{first_body, body_begun, head_outcome, with_line, longer_if, longer, body_outcome, kind_outcome, line_outcome, macro_definition, body_freed, end_outcome, finish_region, finish_outcome}
+use Rattle.page_roff_effects.specs.LoopLines.{longer_if_some, loop_outcome, collect_outcome, repeats_text, close_outcome}
+use Rattle.page_roff_effects.specs.States.{Memory, first_memory, Setting, surroundings, counted, Product, no_product, line_product, call_product, loop_product, lines_of, Given, says, takes, State, Outcome, nothing, after}
 use Rattle.page_roff_texts.specs.Texts.{AreLines, IsBody, IsPacked, AreEntries, IsBodyIfSome, HoldsTexts, AreGiven}
 use Rattle.page_roff_texts.proofs.ArgumentTexts.{arguments_texts}
-use Rattle.page_roff_texts.proofs.AtomTexts.{line_leaves}
-use Rattle.page_roff_texts.proofs.BodyTexts.{such, body_lines, packed_texts, no_body, body_more, packed_is}
+use Rattle.page_roff_texts.proofs.AtomTexts.{line_leaves, loop_texts}
+use Rattle.page_roff_texts.proofs.BodyTexts.{such, body_lines, loop_condition, loop_lines, packed_texts, no_body, body_more, packed_is}
 use Rattle.page_roff_texts.proofs.Cuts.{text_of, line_of}
 use Rattle.page_roff_texts.proofs.DefinitionTexts.{IsTextIfSome, string_text, called_is, defines_holds, request_holds}
 use Rattle.page_roff_texts.proofs.LineCuts.{IsRestAt, uncommented_line, control_rest}
@@ -75,6 +78,7 @@ IsProduct : Product → Type 0
 IsProduct no_product = Unit {0}
 IsProduct (line_product line) = IsLine line.text
 IsProduct (call_product call) = IsBody call.body × IsPacked call.packed
+IsProduct (loop_product text) = IsBody text
 
 record IsOutcome (o : Outcome) : Type 0 where
   pub memory : HoldsTexts o.memory
@@ -113,7 +117,7 @@ request_is may_call None line text m t r h = pass_is line text m t h
 request_is may_call (Some requests.If) line text m t r h = pass_is line text m t h
 request_is may_call (Some requests.IfElse) line text m t r h = pass_is line text m t h
 request_is may_call (Some requests.Else) line text m t r h = pass_is line text m t h
-request_is may_call (Some requests.While) line text m t r h = record { memory = h; product = tt }
+request_is may_call (Some requests.While) line text m t r h = pass_is line text m t h
 request_is may_call (Some (requests.Region kind)) line text m t r h = pass_is line text m t h
 request_is may_call (Some (requests.Definition request)) line text m t r h =
     record { memory = record { names = request_holds request _ (rest_column line) (rest_of line text) m.definitions r h.names; body = h.body }; product = tt }
@@ -129,6 +133,48 @@ does_is may_call (Some macro) line text m t r h =
     let o = call_is _ (unwrap_or (called_body line.name m.definitions) []) (packed args) m (called_is line.name m.definitions h.names)
     (packed_is args (arguments_texts (rest_column line) (rest_of line text) r)) h in
     record { memory = o.memory; product = o.product }
+
+-- ---- bodies
+
+longer_is : (text : Option (List ℕ)) (line : List ℕ) (m : Memory) → IsBodyIfSome text → IsLine line → HoldsTexts m → IsOutcome (longer text line m)
+longer_is None line m b l h = quiet [] m h
+longer_is (Some text) line m b l h = by (nat_le (length (with_line text line)) BODY)
+  where
+    by : (c : Bool) → IsOutcome (longer_if c (with_line text line) m)
+    by true = quiet [] _ (record { names = h.names; body = body_more text line b l })
+    by false = quiet _ _ (record { names = h.names; body = tt })
+
+freed_holds : (is_run : Bool) (m : Memory) → HoldsTexts m → HoldsTexts (body_freed is_run m)
+freed_holds true m h = record { names = h.names; body = tt }
+freed_holds false m h = h
+
+-- ---- loops
+
+more_is : (line : Option (List ℕ)) (m : Memory) → IsIfSome IsLine line → HoldsTexts m → IsOutcome (longer_if_some line m)
+more_is None m l h = quiet [] m h
+more_is (Some line) m l h = longer_is m.body line m h.body l h
+
+loop_is : (head : LoopHead (List ℕ)) (m : Memory) → IsLoopHead IsLine head → HoldsTexts m → IsOutcome (loop_outcome head m)
+unfolding loop_outcome
+loop_is head m l h =
+    let first = longer (Some []) head.condition m in
+    noted _ (longer_if_some head.body first.memory) (more_is head.body first.memory l.1 (longer_is (Some []) head.condition m no_body l.0 h).memory)
+
+collect_is : (is_run : Bool) (line : List ℕ) (m : Memory) → IsLine line → HoldsTexts m → IsOutcome (collect_outcome is_run line m)
+unfolding collect_outcome
+collect_is true line m l h = longer_is m.body line m h.body l h
+collect_is false line m l h = quiet [] m h
+
+repeats_is : (may_call : Bool) (text : Option (List ℕ)) (m : Memory) → IsBodyIfSome text → HoldsTexts m → IsOutcome (repeats_text may_call text m)
+unfolding IsProduct
+repeats_is may_call None m t h = quiet [] m h
+repeats_is true (Some text) m t h = record { memory = h; product = t }
+repeats_is false (Some text) m t h = record { memory = h; product = tt }
+
+close_is : (is_run may_call : Bool) (m : Memory) → HoldsTexts m → IsOutcome (close_outcome is_run may_call m)
+unfolding close_outcome
+close_is true may_call m h = repeats_is may_call m.body _ h.body (record { names = h.names; body = tt })
+close_is false may_call m h = quiet [] _ (record { names = h.names; body = tt })
 
 module _ (setting : Setting) (a : AreArgumentTexts setting.arguments) where
   control_is : (may_call : Bool) (line : ControlLine) (m : Memory) → IsLine line.text → IsRestAt line.text line.name_end → HoldsTexts m
@@ -184,14 +230,6 @@ module _ (setting : Setting) (a : AreArgumentTexts setting.arguments) where
 
   -- ---- regions
 
-  longer_is : (text : Option (List ℕ)) (line : List ℕ) (m : Memory) → IsBodyIfSome text → IsLine line → HoldsTexts m → IsOutcome (longer text line m)
-  longer_is None line m b l h = quiet [] m h
-  longer_is (Some text) line m b l h = by (nat_le (length (with_line text line)) BODY)
-    where
-      by : (c : Bool) → IsOutcome (longer_if c (with_line text line) m)
-      by true = quiet [] _ (record { names = h.names; body = body_more text line b l })
-      by false = quiet _ _ (record { names = h.names; body = tt })
-
   body_is : (line : List ℕ) (m : Memory) → IsLine line → HoldsTexts m → IsOutcome (body_outcome setting line m)
   body_is line m r h =
       let env = surroundings true setting m in
@@ -231,7 +269,7 @@ begun_is kind (Some name) d h = first_is kind name d h
 head_is : (head : RegionHead (List ℕ)) (is_run : Bool) (m : Memory) → HoldsTexts m → IsOutcome (head_outcome head is_run m)
 unfolding head_outcome
 head_is head true m h = quiet _ _ (record { names = h.names; body = begun_is head.kind (within_limit head.name) m.definitions h.names })
-head_is head false m h = quiet [] _ (record { names = h.names; body = tt })
+head_is head false m h = quiet [] m h
 
 macro_holds : (name text : Option (List ℕ)) (m : Memory) → IsBodyIfSome text → HoldsTexts m → AreEntries (macro_definition name text (record { line = m.number; column = 1 }) m.definitions).definitions.texts
 macro_holds None text m b h = h.names
@@ -240,17 +278,22 @@ macro_holds (Some name) (Some text) m b h = defines_holds Macro name text (recor
 
 end_is : (o : Opened) (is_run : Bool) (m : Memory) → HoldsTexts m → IsOutcome (end_outcome o is_run m)
 unfolding end_outcome
-end_is o true m h = quiet _ _ (record { names = macro_holds o.name m.body m h.body h; body = tt })
-end_is o false m h = quiet [] _ (record { names = h.names; body = tt })
+end_is o true m h =
+    quiet _ _ (record { names = macro_holds o.name m.body m h.body h; body = (freed_holds o.is_run m h).body })
+end_is o false m h = quiet [] (body_freed o.is_run m) (freed_holds o.is_run m h)
 
-finish_is : (region : Option Opened) (gave_up : Bool) (m : Memory) → HoldsTexts m → IsOutcome (finish_outcome region gave_up m)
+region_is : (region : Option Opened) (gave_up : Bool) (m : Memory) → HoldsTexts m → IsOutcome (finish_region region gave_up m)
+region_is None gave_up m h = quiet [] m h
+region_is (Some o) gave_up m h = quiet _ (body_freed o.is_run m) (freed_holds o.is_run m h)
+
+finish_is : (region : Option Opened) (in_loop gave_up : Bool) (m : Memory) → HoldsTexts m → IsOutcome (finish_outcome region in_loop gave_up m)
 unfolding finish_outcome
-finish_is None gave_up m h = quiet [] m h
-finish_is (Some o) gave_up m h = quiet _ _ (record { names = h.names; body = tt })
+finish_is region true gave_up m h = quiet _ _ (record { names = h.names; body = tt })
+finish_is region false gave_up m h = region_is region gave_up m h
 
 -- the end of a source, a page too
-pub finish_holds : (region : Option Opened) (gave_up : Bool) (m : Memory) → HoldsTexts m → HoldsTexts (finish_outcome region gave_up m).memory
-finish_holds region gave_up m h = (finish_is region gave_up m h).memory
+pub finish_holds : (region : Option Opened) (in_loop gave_up : Bool) (m : Memory) → HoldsTexts m → HoldsTexts (finish_outcome region in_loop gave_up m).memory
+finish_holds region in_loop gave_up m h = (finish_is region in_loop gave_up m h).memory
 
 -- ---- states
 
@@ -274,6 +317,7 @@ unfolding AreGiven IsProduct
 product_given no_product h = tt
 product_given (line_product line) h = (h, tt)
 product_given (call_product call) h = tt
+product_given (loop_product text) h = tt
 
 after_is : (s : State) (o : Outcome) → HoldsState s → IsOutcome o → HoldsState (after s o)
 after_is s o h k = record {
@@ -283,13 +327,19 @@ after_is s o h k = record {
 
 abbrev pub IsKindText : Kind → Type 0
 IsKindText page = Unit {0}
-IsKindText (body args) = AreTexts args
+IsKindText (body args) = AreArgumentTexts args
+
+inner_is : (kind : Kind) → IsKindText kind → IsKindText (inner kind)
+unfolding inner
+inner_is page h = tt
+inner_is (body args) h = h
 
 kept_by : (p : Product) (s : State) → IsProduct p → HoldsState s → IsKeptAfter IsLine IsKindText HoldsState (done_by p s)
 unfolding done_by IsProduct
 kept_by no_product s p h = h
 kept_by (line_product line) s p h = h
 kept_by (call_product call) s p h = (body_lines call.body p.0, packed_texts call.packed p.1, h)
+kept_by (loop_product text) s p h = (loop_condition text p, loop_lines text p, h)
 
 arguments_of : (output : Output) (kind : Kind) → IsKindText kind → AreArgumentTexts (setting_of output kind).arguments
 arguments_of output page h = tt
@@ -304,9 +354,23 @@ module _ (output : Output) where
       let is = leaf_is (setting_of output kind) (arguments_of output kind a) may_call text s.memory t h.memory in
       kept_by o.product (after s o) is.product (after_is s o h is)
 
+  closes_keeps : (is_run may_call : Bool) (s : State) → HoldsState s → IsKeptAfter IsLine IsKindText HoldsState ((effects output).closes is_run may_call s)
+  unfolding effects done_after
+  closes_keeps is_run may_call s h =
+      let o = close_outcome is_run may_call s.memory in
+      let is = close_is is_run may_call s.memory h.memory in
+      kept_by o.product (after s o) is.product (after_is s o h is)
+
+  turns_keep : (kind : Kind) (condition : List ℕ) (s : State) → HoldsState s → HoldsState ((effects output).turns kind condition s).1
+  unfolding effects tested_after
+  turns_keep kind condition s h =
+      let answer = turn_answer (setting_of output kind) condition s.memory in
+      after_is s (test_outcome answer s.memory) h (quiet answer.notes (counted answer.edge.count s.memory) (counted_holds answer.edge.count s.memory h.memory))
+
   pub texts_kept : KeepsEffects IsLine IsKindText HoldsState (effects output)
   unfolding effects budget_outcome block_outcome end_of_block_outcome tested_after
   texts_kept = record {
+    inner = inner_is;
     exhausts = λ s h. after_is s (budget_outcome s.memory) h (quiet _ s.memory h.memory);
     tests = λ kind condition s h.
         let answer = answer_of (setting_of output kind) condition s.memory in
@@ -319,7 +383,11 @@ module _ (output : Output) where
         after_is s (line_outcome (setting_of output kind) o is_run line s.memory) h
         (line_is (setting_of output kind) (arguments_of output kind a) o is_run line s.memory t h.memory);
     ends_region = λ kind o is_run line s h. after_is s (end_outcome o is_run s.memory) h (end_is o is_run s.memory h.memory);
-    finish = λ region gave_up s h. after_is s (finish_outcome region gave_up s.memory) h (finish_is region gave_up s.memory h.memory);
+    opens_loop = λ head s l h. after_is s (loop_outcome head s.memory) h (loop_is head s.memory l h.memory);
+    collects = λ is_run line s l h. after_is s (collect_outcome is_run line s.memory) h (collect_is is_run line s.memory l h.memory);
+    closes = closes_keeps;
+    turns = λ kind condition s a l h. turns_keep kind condition s h;
+    finish = λ region in_loop gave_up s h. after_is s (finish_outcome region in_loop gave_up s.memory) h (finish_is region in_loop gave_up s.memory h.memory);
   }
 
 pub first_holds : HoldsTexts first_memory
@@ -329,4 +397,4 @@ first_holds = record { names = tt; body = tt }
 
 pub page_texts : (output : Output) (lines : List (List ℕ)) (at : At (Budgeted State)) → AreLines lines → HoldsState at.state.rest
     → HoldsState (run_page (language (effects output)) lines at).state.rest
-page_texts output lines at t h = page_keeps IsLine IsKindText HoldsState (effects output) line_leaves (texts_kept output) tt lines at (such lines t) h
+page_texts output lines at t h = page_keeps IsLine IsKindText HoldsState (effects output) line_leaves loop_texts (texts_kept output) tt lines at (such lines t) h

@@ -1,10 +1,10 @@
 -- What is read of a line is a line: its comment, remainders, blocks' ends and control lines. Helpers of proofs.
-use Rattle.std.proofs.Common.{◌≡◌, ℕ, zero, suc, ◌+◌, ◌-◌, ◌<◌, ◌==◌, nat_lt, Bool, true, false, List, [], ◌∷◌, length, drop, get_or, if◌then◌else◌, Option, Some, None, refl, sym, ap, ◌∙◌, subst, inl, inr, arith}
+use Rattle.std.proofs.Common.{◌≡◌, ℕ, zero, suc, ◌+◌, ◌-◌, ◌<◌, ◌==◌, nat_lt, Bool, true, false, List, [], ◌∷◌, length, take, drop, get_or, if◌then◌else◌, Option, Some, None, refl, sym, ap, ◌∙◌, subst, inl, inr, arith}
 use Rattle.std.specs.Prelude.{IsUtf8}
 use Rattle.std.specs.List.{prefix_len}
 use Rattle.std.proofs.Math.Nat.{eq-or-lt_of_le}
 use Rattle.std.proofs.lemmas.Bool.{and_parts, or_cases, eqb-true, ltb-true}
-use Rattle.std.proofs.lemmas.List.{get_or-take}
+use Rattle.std.proofs.lemmas.List.{get_or-take, length-take}
 use Rattle.std.proofs.lemmas.List.Sums.{prefix_len_passes}
 use Rattle.std.proofs.lemmas.Str.{IsUtf8-drop}
 use Rattle.page_core_base.specs.Texts.{IsLine}
@@ -14,11 +14,13 @@ use Rattle.page_roff_forms.specs.declared.line_forms.LineForm.TheVariants.{Blank
 use Rattle.page_roff_heads.specs.declared.texts.Placed.{Placed}
 use Rattle.page_roff_heads.specs.declared.heads.BlockEnd.{BlockEnd}
 use Rattle.page_roff_heads.specs.Conditions.{condition_len}
+use Rattle.page_roff_heads.specs.declared.loops.LoopRead.{LoopRead}
 use Rattle.page_roff_heads.specs.Heads.{guards, guarded_of, conditional_of, end_place, block_end_of}
+use Rattle.page_roff_heads.specs.Loops.{first_of, loop_of}
 use Rattle.page_roff_heads.specs.Texts.{placed, blank_len, after_blanks, begins_pair, is_some_line, remainder_of}
 use Rattle.page_roff_values.proofs.GrowLemmas.{HasNoneBefore}
 use Rattle.page_roff_effects.proofs.ControlLemmas.{uncommented_front, uncommented_short}
-use Rattle.page_roff_texts.proofs.Cuts.{CutsAt, CutsAt-boundary, CutsAt-add, start_cut, past_ascii, IsStop, stop_cut, after_ascii, prefix_cut, prefix_stop, byte_low, blank_low, white_low, name_low, line_cut}
+use Rattle.page_roff_texts.proofs.Cuts.{CutsAt, CutsAt-boundary, CutsAt-add, start_cut, past_ascii, IsStop, stop_cut, after_ascii, prefix_cut, prefix_stop, byte_low, blank_low, white_low, name_low, nil_line, line_cut}
 use Rattle.page_roff_texts.proofs.HeadCuts.{condition_cut}
 
 -- ---- comments
@@ -118,6 +120,36 @@ conditional_line column rest h =
     let cut = commented_cut t len after.utf8 (condition_cut at (without_comment t) (uncommented_line t after).utf8) in
     guarded_line (at + len) (drop len t) (line_cut t len after cut).1
 
+-- ---- the head of a loop
+
+pub record IsLoopRead (read : LoopRead (List ℕ)) : Type 0 where
+  pub condition : IsLine read.condition
+  pub remainder : IsLineIfSome read.guarded.remainder
+  pub first : IsLine read.first
+
+first_if : (c : Bool) (x : List ℕ) → (c ≡ true → IsLine x) → IsLine (if c then x else [])
+first_if true x h = h refl
+first_if false x h = nil_line
+
+first_line : (t : List ℕ) → IsLine t → IsLine (first_of t)
+unfolding first_of
+first_line t h =
+    let after = after_blanks_line t h in
+    first_if (begins_pair 123 (after_blanks t)) (after_blanks (drop 2 (after_blanks t)))
+    (λ e.
+    after_blanks_line (drop 2 (after_blanks t)) (line_cut (after_blanks t) 2 after (pair_cut 123 (after_blanks t) (omega arith) e after.utf8)).1)
+
+pub loop_line : (column : ℕ) (rest : List ℕ) → IsLine rest → IsLoopRead (loop_of column rest)
+unfolding loop_of
+loop_line column rest h =
+    let t = after_blanks rest in
+    let after = after_blanks_line rest h in
+    let at = column + blank_len rest in
+    let len = condition_len at (without_comment t) in
+    let cut = commented_cut t len after.utf8 (condition_cut at (without_comment t) (uncommented_line t after).utf8) in
+    let both = line_cut t len after cut in
+    record { condition = both.0; remainder = guarded_line (at + len) (drop len t) both.1; first = first_line (drop len t) both.1 }
+
 -- ---- the end of a block
 
 -- the pair of a backslash and a closing brace (125)
@@ -160,27 +192,30 @@ end_stops [] = λ lt. absurd (omega arith)
 end_stops (b ∷ []) = λ lt. absurd (omega arith)
 end_stops (b ∷ n ∷ bs) = ends_if (b == 92) (n == 125) (begins_comment n) b n bs (end_place bs) (end_place (n ∷ bs)) refl refl (end_stops bs) (end_stops (n ∷ bs))
 
-abbrev pub AreLinesIfSome : Option (BlockEnd (List ℕ)) → Type 0
-AreLinesIfSome None = Unit {0}
-AreLinesIfSome (Some end) = IsLine end.before × IsLineIfSome end.remainder
+-- what stands before it and after it, and where it stands
+abbrev pub AreLinesIfSome : List ℕ → Option (BlockEnd (List ℕ)) → Type 0
+AreLinesIfSome t None = Unit {0}
+AreLinesIfSome t (Some end) = IsLine end.before × IsLineIfSome end.remainder × CutsAt t (length end.before)
 
-end_if : (c : Bool) (end : BlockEnd (List ℕ)) → (c ≡ true → AreLinesIfSome (Some end)) → AreLinesIfSome (if c then Some end else None)
-end_if true end h = h refl
-end_if false end h = tt
+end_if : (c : Bool) (t : List ℕ) (end : BlockEnd (List ℕ)) → (c ≡ true → AreLinesIfSome t (Some end)) → AreLinesIfSome t (if c then Some end else None)
+end_if true t end h = h refl
+end_if false t end h = tt
 
-pub block_end_lines : (t : List ℕ) → IsLine t → AreLinesIfSome (block_end_of t)
+pub block_end_lines : (t : List ℕ) → IsLine t → AreLinesIfSome t (block_end_of t)
 unfolding block_end_of EndsAt
 block_end_lines t h =
     let n = end_place t in
-    end_if (nat_lt n (length t)) _ (λ e.
+    end_if (nat_lt n (length t)) t _ (λ e.
     let lt = ltb-true n (length t) e in
     let end = end_stops t lt in
     let slash = end.slash in
     let brace = end.brace in
-    let before = line_cut t n h (stop_cut t n h.utf8 (record { within = omega arith; ascii = λ l. omega arith })) in
+    let cut = stop_cut t n h.utf8 (record { within = omega arith; ascii = λ l. omega arith }) in
+    let before = line_cut t n h cut in
+    let len : n ≡ length (take n t) = let k = length-take n t in omega arith in
     let two : n + 1 + 1 ≡ n + 2 = omega arith in
     let after = line_cut t (n + 2) h (subst (CutsAt t) two (after_ascii t (n + 1) h.utf8 end.within (omega arith))) in
-    (before.0, remainder_line (n + 3) (drop (n + 2) t) after.1))
+    (before.0, remainder_line (n + 3) (drop (n + 2) t) after.1, subst (CutsAt t) len cut))
 
 -- ---- control lines
 
