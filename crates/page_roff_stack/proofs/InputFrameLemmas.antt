@@ -1,5 +1,5 @@
 -- A source as its parts and lines are passed: helpers of proofs.
-use Rattle.std.proofs.Common.{◌≡◌, ℕ, ◌+◌, ◌-◌, ◌<◌, ◌≤◌, Bool, true, false, not, ◌&&◌, ◌==◌, nat_lt, is_none, is_some, List, [], ◌∷◌, length, take, drop, Option, Some, None, refl, sym, ap, ◌∙◌, arith, length-drop}
+use Rattle.std.proofs.Common.{◌≡◌, ℕ, ◌+◌, ◌-◌, ◌*◌, ◌<◌, ◌≤◌, Bool, true, false, not, ◌&&◌, ◌==◌, nat_lt, is_none, is_some, List, [], ◌∷◌, length, take, drop, Option, Some, None, refl, sym, ap, ◌∙◌, arith, length-drop}
 use Rattle.std.proofs.lemmas.Bool.Decides.{nat_tests}
 use Rattle.std.specs.Borrow.{Bor}
 use Rattle.page_core_limits.specs.declared.TheConstants.{LINE}
@@ -13,6 +13,8 @@ use Rattle.page_roff_blocks.proofs.RoomLemmas.{atoms_room}
 use Rattle.page_roff_language.specs.Machine.{Frame, at_part}
 use Rattle.page_roff_language.specs.Measures.{weight, work_in}
 use Rattle.page_roff_stack.specs.declared.input_frames.InputFrame.{InputFrame}
+use Rattle.page_roff_stack.specs.declared.source_kinds.SourceKind.{SourceKind}
+use Rattle.page_roff_stack.specs.declared.source_kinds.SourceKind.TheVariants as sources
 use Rattle.page_roff_stack.specs.declared.spans.Span.{Span}
 use Rattle.page_roff_values.specs.Arguments.{lines_in}
 use Rattle.page_roff_stack.specs.Changes.{past, first_branch, first_region, in_region, next_line, first_atoms, begins_next, begins_line, ends_with, is_over, AreShort, IsBounded}
@@ -55,24 +57,34 @@ pub record IsRead (a : InputFrame) (all text : List ℕ) (part : Option (Atom (B
   pub next : ReadsNext (parts_at text a.place) part (parts_at text place)
   pub within : IsPlaceIn text place
 
+-- the same, whatever the part is
+pub record IsPast (a : InputFrame) (all text : List ℕ) (place : LinePlace) : Type 0 where
+  pub text_is : text ≡ span_text a.line all
+  pub next : parts_at text place ≡ drop 1 (parts_at text a.place)
+  pub within : IsPlaceIn text place
+
+pub read_past : (a : InputFrame) (all text : List ℕ) (part : Option (Atom (Bor (List ℕ)))) (place : LinePlace) → IsRead a all text part place → IsPast a all text place
+read_past a all text part place h =
+    record { text_is = h.text_is; next = reads_rest (parts_at text a.place) part (parts_at text place) h.next; within = h.within }
+
 abbrev pub passed : InputFrame → LinePlace → Spot → InputFrame
 passed a place spot = record a { place = place; spot = spot }
 
-pub past_view : (a : InputFrame) (all text : List ℕ) (part : Option (Atom (Bor (List ℕ)))) (place : LinePlace) (spot : Spot) → IsRead a all text part place
+pub past_view : (a : InputFrame) (all text : List ℕ) (place : LinePlace) (spot : Spot) → IsPast a all text place
     → frame_of (passed a place spot) all ≡ past spot (frame_of a all)
 unfolding at_part
-past_view a all text part place spot h =
-    let e = rw h.text_is at (reads_rest (parts_at text a.place) part (parts_at text place) h.next) in
-    ap (λ parts. let f : Frame = record { kind = (frame_of a all).kind; region = a.region; parts = parts; spot = spot; lines = (frame_of a all).lines } in f) e
+past_view a all text place spot h =
+    let e = rw h.text_is at h.next in
+    ap (λ parts. let f : Frame = record { kind = (frame_of a all).kind; region = a.region; parts = parts; spot = spot; lines = (frame_of a all).lines; turning = (frame_of a all).turning } in f) e
 
-past_bounded : (f : Frame) (spot : Spot) → spot.levels.skipped + length (drop 1 f.parts) ≤ f.spot.levels.skipped + length f.parts → IsBounded f → IsBounded (past spot f)
+past_bounded : (f : Frame) (spot : Spot) → spot.levels.skipped + 2 * length (drop 1 f.parts) ≤ f.spot.levels.skipped + 2 * length f.parts → IsBounded f → IsBounded (past spot f)
 unfolding at_part work_in
 past_bounded f spot p h = record { short = h.short; skips = omega (arith, p, h.skips) }
 
-past_held_by : (a : InputFrame) (all text : List ℕ) (part : Option (Atom (Bor (List ℕ)))) (place : LinePlace) (spot : Spot) → IsHeld a all → IsRead a all text part place
-    → spot.levels.skipped + length (drop 1 (frame_of a all).parts) ≤ a.spot.levels.skipped + length (frame_of a all).parts
+past_held_by : (a : InputFrame) (all text : List ℕ) (place : LinePlace) (spot : Spot) → IsHeld a all → IsPast a all text place
+    → spot.levels.skipped + 2 * length (drop 1 (frame_of a all).parts) ≤ a.spot.levels.skipped + 2 * length (frame_of a all).parts
     → IsHeld (passed a place spot) all
-past_held_by a all text part place spot h r p =
+past_held_by a all text place spot h r p =
     record {
       line = h.line;
       short = h.short;
@@ -80,20 +92,20 @@ past_held_by a all text part place spot h r p =
       lines = h.lines;
       only = h.only;
       arguments = h.arguments;
-      bounds = rw (past_view a all text part place spot r) (past_bounded (frame_of a all) spot p h.bounds);
+      turns = h.turns;
+      bounds = rw (past_view a all text place spot r) (past_bounded (frame_of a all) spot p h.bounds);
     }
 
 -- no block more is skipped
-pub past_held : (a : InputFrame) (all text : List ℕ) (part : Option (Atom (Bor (List ℕ)))) (place : LinePlace) (spot : Spot) → IsHeld a all → IsRead a all text part place
+pub past_held : (a : InputFrame) (all text : List ℕ) (place : LinePlace) (spot : Spot) → IsHeld a all → IsPast a all text place
     → spot.levels.skipped ≤ a.spot.levels.skipped → IsHeld (passed a place spot) all
-past_held a all text part place spot h r p =
-    past_held_by a all text part place spot h r (omega (arith, p, length-drop 1 (frame_of a all).parts))
+past_held a all text place spot h r p = past_held_by a all text place spot h r (omega (arith, p, length-drop 1 (frame_of a all).parts))
 
 -- one block more is skipped
-pub deeper_held : (a : InputFrame) (all text : List ℕ) (part : Option (Atom (Bor (List ℕ)))) (place : LinePlace) (spot : Spot) → IsHeld a all → IsRead a all text part place
+pub deeper_held : (a : InputFrame) (all text : List ℕ) (place : LinePlace) (spot : Spot) → IsHeld a all → IsPast a all text place
     → spot.levels.skipped ≤ a.spot.levels.skipped + 1 → 0 < length (frame_of a all).parts → IsHeld (passed a place spot) all
-deeper_held a all text part place spot h r p q =
-    past_held_by a all text part place spot h r (omega (arith, p, q, length-drop 1 (frame_of a all).parts))
+deeper_held a all text place spot h r p q =
+    past_held_by a all text place spot h r (omega (arith, p, q, length-drop 1 (frame_of a all).parts))
 
 pub read_branch : (a : InputFrame) (all text : List ℕ) (part : Option (Atom (Bor (List ℕ)))) (place : LinePlace) → IsRead a all text part place
     → first_branch (parts_seen part) ≡ first_branch (frame_of a all).parts
@@ -128,6 +140,7 @@ closed_held a all place region spot e g h =
       lines = h.lines;
       only = h.only;
       arguments = h.arguments;
+      turns = h.turns;
       bounds = rw (closed_view a all place region spot e g) (closed_bounded region (frame_of a all) h.bounds);
     }
 
@@ -151,7 +164,7 @@ first_short : (lines : List (List ℕ)) (text : List ℕ) → 0 < length lines �
 first_short [] text p h s = absurd (omega arith)
 first_short (line ∷ lines) text p h s = rw h s.0
 
-first_weight : (lines : List (List ℕ)) → length (first_atoms lines) + weight (drop 1 lines) ≤ weight lines
+first_weight : (lines : List (List ℕ)) → 2 * length (first_atoms lines) + weight (drop 1 lines) ≤ weight lines
 unfolding weight
 first_weight [] = omega arith
 first_weight (line ∷ lines) = omega (arith, atoms_room line)
@@ -165,7 +178,7 @@ rest_short : (lines : List (List ℕ)) → AreShort lines → AreShort (drop 1 l
 rest_short [] h = tt
 rest_short (line ∷ lines) h = h.1
 
-next_bounded : (region : Option Opened) (parts : List (Atom (List ℕ))) (f : Frame) → length parts + weight (drop 1 f.lines) ≤ weight f.lines → IsBounded f
+next_bounded : (region : Option Opened) (parts : List (Atom (List ℕ))) (f : Frame) → 2 * length parts + weight (drop 1 f.lines) ≤ weight f.lines → IsBounded f
     → IsBounded (next_line region parts f)
 unfolding work_in at_line
 next_bounded region parts f p h = record { short = rest_short f.lines h.short; skips = omega (arith, p, h.skips) }
@@ -176,8 +189,8 @@ pub record IsStart (text : List ℕ) (place : LinePlace) : Type 0 where
   pub within : IsPlaceIn text place
 
 -- after the only line of the page nothing is left
-only_rest : (arguments : Option ℕ) (old new : List ℕ) → AreLinesOf arguments old → lines_in new ≡ drop 1 (lines_in old) → AreLinesOf arguments new
-only_rest None old new h e = none_left new (e ∙ ap (drop 1) h ∙ drop_only old)
+only_rest : (kind : SourceKind) (old new : List ℕ) → AreLinesOf kind old → lines_in new ≡ drop 1 (lines_in old) → AreLinesOf kind new
+only_rest sources.Page old new h e = none_left new (e ∙ ap (drop 1) h ∙ drop_only old)
   where
     drop_only : (text : List ℕ) → drop 1 (only_line text) ≡ []
     drop_only [] = refl
@@ -189,7 +202,7 @@ only_rest None old new h e = none_left new (e ∙ ap (drop 1) h ∙ drop_only ol
         let n : 0 < length (byte ∷ bytes) = omega arith in
         let p = some_line (byte ∷ bytes) (grind (arith, nat_tests)) in
         absurd (omega (arith, p, ap length e))
-only_rest (Some start) old new h e = tt
+only_rest (sources.Body arguments) old new h e = tt
 
 -- a line begins outside of regions
 pub outside_regions : (region : Option Opened) (parts : List (Atom (List ℕ))) (lines : List (List ℕ)) → begins_next region parts lines ≡ true
@@ -207,7 +220,7 @@ begun_view a all line place lines spot h b e g =
     let outside = outside_regions a.region (frame_of a all).parts (frame_of a all).lines b in
     let p = outside.1 in
     rw (e.parts, g, h.rest, outside.0) (
-    ap (λ parts. let f : Frame = record { kind = (frame_of a all).kind; region = None; parts = parts; spot = at_line a.spot.levels; lines = drop 1 (frame_of a all).lines } in f)
+    ap (λ parts. let f : Frame = record { kind = (frame_of a all).kind; region = None; parts = parts; spot = at_line a.spot.levels; lines = drop 1 (frame_of a all).lines; turning = (frame_of a all).turning } in f)
     (first_parts (frame_of a all).lines (span_text line all) p h.first)
     )
 
@@ -223,8 +236,9 @@ begun_held a all line place lines spot h b e g held =
       short = omega (arith, l, s, h.line_within.0);
       place = e.within;
       lines = h.lines_within;
-      only = only_rest a.arguments (span_text a.lines all) (span_text lines all) held.only h.rest;
+      only = only_rest a.kind (span_text a.lines all) (span_text lines all) held.only h.rest;
       arguments = held.arguments;
+      turns = held.turns;
       bounds = rw (begun_view a all line place lines spot h b e g) (next_bounded None (first_atoms f.lines) f (first_weight f.lines) held.bounds);
     }
 
@@ -245,8 +259,9 @@ skipped_held a all line place lines spot h e g held =
       short = held.short;
       place = rw e tt;
       lines = h.lines_within;
-      only = only_rest a.arguments (span_text a.lines all) (span_text lines all) held.only h.rest;
+      only = only_rest a.kind (span_text a.lines all) (span_text lines all) held.only h.rest;
       arguments = held.arguments;
+      turns = held.turns;
       bounds = rw (skipped_view a all line place lines spot h e g) (next_bounded a.region [] f (omega (arith, rest_weight f.lines)) held.bounds);
     }
 
@@ -261,6 +276,7 @@ ended_held a all h =
       lines = h.lines;
       only = h.only;
       arguments = h.arguments;
+      turns = h.turns;
       bounds = record { short = h.bounds.short; skips = h.bounds.skips };
     }
 

@@ -1,5 +1,5 @@
 -- The input stack as its innermost source changes: helpers of proofs.
-use Rattle.std.proofs.Common.{◌≡◌, ℕ, suc, ◌+◌, ◌-◌, ◌<◌, ◌≤◌, nat_lt, ◌==◌, true, false, inl, inr, List, [], ◌∷◌, ◌++◌, length, take, reverse, refl, ap, sym, ◌∙◌, arith, length-append}
+use Rattle.std.proofs.Common.{◌≡◌, ℕ, suc, ◌+◌, ◌-◌, ◌<◌, ◌≤◌, nat_lt, ◌==◌, true, false, inl, inr, List, Option, Some, None, [], ◌∷◌, ◌++◌, length, take, reverse, refl, ap, sym, ◌∙◌, arith, length-append}
 use Rattle.std.specs.Vec.{vec_capacity}
 use Rattle.std.specs.Prelude.{◌*◌, drop, sum_by, All}
 use Rattle.std.proofs.Math.Seq.{take-append_seam, drop-append_seam}
@@ -10,19 +10,29 @@ use Rattle.std.proofs.lemmas.List.Elements.{All-nil, All-cons}
 use Rattle.std.proofs.lemmas.List.Sums.{sum_by-le}
 use Rattle.page_roff_blocks.specs.Levels.{Spot}
 use Rattle.page_core_limits.specs.declared.TheConstants.{ARGS, BODY, CALLS, LINE}
-use Rattle.page_roff_language.specs.Machine.{Frame, at_part, depth, entered, is_some}
+use Rattle.page_roff_language.specs.Languages.{body, is_some}
+use Rattle.page_roff_language.specs.Machine.{Frame, Turning, at_part, depth, entered, looped, turned}
 use Rattle.page_roff_values.specs.Arguments.{arguments_in, lines_in}
 use Rattle.page_roff_stack.specs.declared.input_stacks.Caller.{Caller}
 use Rattle.page_roff_stack.specs.declared.input_stacks.InputStack.TheInside.{Inside}
 use Rattle.page_roff_stack.specs.declared.input_frames.InputFrame.{InputFrame}
-use Rattle.page_roff_stack.specs.Changes.{past, page_line, is_page}
+use Rattle.page_roff_stack.specs.Changes.{past, page_line, in_turn_of, in_turn, is_page}
 use Rattle.page_roff_stack.specs.InputStacks.{frames_in, stack_of, room_for, texts_in, AreHeld, IsStack}
 use Rattle.page_roff_stack.specs.InputFrames.{frame_of, IsHeld}
-use Rattle.page_roff_stack.specs.Stacks.{Stack, call_of}
+use Rattle.page_roff_stack.specs.Stacks.{Stack, first_text, call_of, loop_of}
+use Rattle.page_roff_stack.specs.Views.{packed_text, unpacked}
 
 pub past_kind : (spot : Spot) (f : Frame) → (past spot f).kind ≡ f.kind
 unfolding at_part
 past_kind spot f = refl
+
+turn_kind_of : (turning : Option Turning) (f : Frame) → (in_turn_of turning f).kind ≡ f.kind
+unfolding turned
+turn_kind_of None f = refl
+turn_kind_of (Some t) f = refl
+
+pub turn_kind : (f : Frame) → (in_turn f).kind ≡ f.kind
+turn_kind f = turn_kind_of f.turning f
 
 -- the innermost source changes, but not what it is
 pub top_held : (a : Inside) (top : InputFrame) (text : List ℕ) → text ≡ a.text.items → IsHeld top text → (frame_of top text).kind ≡ (frame_of a.top text).kind → IsStack a
@@ -188,9 +198,15 @@ called_under a b caller more c =
 called_texts : (a b : Inside) (caller : Caller) (more : List ℕ) → IsCalled a b caller more → (stack_of b).texts ≡ more ∷ (stack_of a).texts
 called_texts a b caller more c = rw (c.callers, c.text) (deeper_texts a.callers.items caller a.text.items more c.end)
 
-pub called_stack : (a b : Inside) (caller : Caller) (body packed : List ℕ) → IsCalled a b caller (body ++ packed)
-    → frame_of b.top b.text.items ≡ entered (lines_in body) (arguments_in packed) → stack_of b ≡ call_of body packed (stack_of a)
-called_stack a b caller body packed c frame = rw (frame, called_under a b caller (body ++ packed) c, called_texts a b caller (body ++ packed) c) refl
+pub called_stack : (a b : Inside) (caller : Caller) (text packed : List ℕ) → IsCalled a b caller (text ++ packed)
+    → frame_of b.top b.text.items ≡ entered (lines_in text) (arguments_in packed) → stack_of b ≡ call_of text packed (stack_of a)
+called_stack a b caller text packed c frame = rw (frame, called_under a b caller (text ++ packed) c, called_texts a b caller (text ++ packed) c) refl
+
+pub looped_stack : (a b : Inside) (caller : Caller) (text : List ℕ) (packed : Option (List ℕ)) → IsCalled a b caller (text ++ packed_text packed)
+    → frame_of b.top b.text.items ≡ looped (body (unpacked packed)) (first_text (lines_in text)) (drop 1 (lines_in text))
+    → stack_of b ≡ loop_of text packed (stack_of a)
+looped_stack a b caller text packed c frame =
+    rw (frame, called_under a b caller (text ++ packed_text packed) c, called_texts a b caller (text ++ packed_text packed) c) refl
 
 pub called_held : (a b : Inside) (caller : Caller) (more : List ℕ) → IsCalled a b caller more → length a.callers.items < CALLS → IsStack a → IsStack b
 called_held a b caller more c p h =

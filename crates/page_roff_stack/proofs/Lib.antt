@@ -3,3 +3,4 @@ pub mod LineLemmas
 pub mod NewLemmas
 pub mod InputFrameLemmas
 pub mod StackLemmas
+pub mod TurnLemmas

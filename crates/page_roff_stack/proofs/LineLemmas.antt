@@ -24,7 +24,7 @@ one_line (byte ∷ bytes) n =
     let none = drop_all (length text + 1) text (omega arith) in
     (rw l (take-length text), rw (none, l) refl)
 
-no_text : lines_in [] ≡ []
+pub no_text : lines_in [] ≡ []
 unfolding arguments_in
 no_text = refl
 
@@ -71,17 +71,17 @@ short_within n (line ∷ lines) p h = (omega (arith, h.0), short_within n lines 
 pub lines_short : (text : List ℕ) → length text ≤ LINE → AreShort (lines_in text)
 lines_short text p = short_within (length text) (lines_in text) p (lines_within text)
 
-begun_weight : (byte : ℕ) (lines : List (List ℕ)) → weight (begin_first byte lines) ≤ weight lines + 5
+begun_weight : (byte : ℕ) (lines : List (List ℕ)) → weight (begin_first byte lines) ≤ weight lines + 9
 unfolding weight
 begun_weight byte [] = omega arith
 begun_weight byte (line ∷ lines) = omega arith
 
-pub lines_weight : (text : List ℕ) → weight (lines_in text) ≤ 5 * length text
+pub lines_weight : (text : List ℕ) → weight (lines_in text) ≤ 9 * length text
 unfolding weight arguments_in
 lines_weight [] = omega arith
 lines_weight (byte ∷ bytes) = either (byte == 10) (arguments_in bytes) (lines_weight bytes)
   where
-    either : (b : Bool) (lines : List (List ℕ)) → weight lines ≤ 5 * length bytes → weight (if b then [] ∷ lines else begin_first byte lines) ≤ 5 * suc (length bytes)
+    either : (b : Bool) (lines : List (List ℕ)) → weight lines ≤ 9 * length bytes → weight (if b then [] ∷ lines else begin_first byte lines) ≤ 9 * suc (length bytes)
     either true lines h = omega arith
     either false lines h = omega (arith, begun_weight byte lines)
 

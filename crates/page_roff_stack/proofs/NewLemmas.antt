@@ -1,26 +1,28 @@
 -- A source that begins: helpers of proofs.
-use Rattle.std.proofs.Common.{◌≡◌, ℕ, suc, ◌-◌, ◌<◌, ◌≤◌, ◌^◌, List, [], ◌∷◌, ◌++◌, length, take, drop, Option, Some, None, refl, sym, ap, ◌∙◌, append_assoc, arith, length-append}
+use Rattle.std.proofs.Common.{◌≡◌, ℕ, false, suc, ◌-◌, ◌<◌, ◌≤◌, ◌^◌, List, [], ◌∷◌, ◌++◌, length, take, drop, Option, Some, None, refl, sym, ap, ◌∙◌, append_assoc, arith, length-append}
 use Rattle.std.proofs.Math.Seq.{take-append_seam, drop-append_seam}
 use Rattle.page_core_base.specs.Texts.{IsLine}
 use Rattle.page_core_limits.specs.declared.TheConstants.{BODY, LINE}
 use Rattle.page_roff_blocks.specs.Levels.{Opened, Spot, at_line, outside}
 use Rattle.page_roff_blocks.specs.LinePlaces.{line_end}
-use Rattle.page_roff_language.specs.Languages.{Kind, page, body}
-use Rattle.page_roff_language.specs.Machine.{Frame, entered}
+use Rattle.page_roff_language.specs.Languages.{Kind, page, body, inner, TURNS}
+use Rattle.page_roff_language.specs.Machine.{Frame, Turning, entered, looped}
 use Rattle.page_roff_language.specs.Measures.{weight, work_in}
 use Rattle.page_roff_values.specs.Arguments.{arguments_in, lines_in}
 use Rattle.page_roff_stack.specs.declared.input_frames.InputFrame.{InputFrame}
+use Rattle.page_roff_stack.specs.declared.source_kinds.SourceKind.{SourceKind}
+use Rattle.page_roff_stack.specs.declared.source_kinds.SourceKind.TheVariants as sources
 use Rattle.page_roff_stack.specs.declared.spans.Span.{Span}
 use Rattle.page_roff_stack.specs.Changes.{IsBounded}
-use Rattle.page_roff_stack.specs.Held.{kind_in, only_line, AreArgumentsIn, AreLinesOf}
+use Rattle.page_roff_stack.specs.Held.{kind_in, only_line, turning_in, AreArgumentsIn, AreLinesOf, AreTurnsIn}
 use Rattle.page_roff_stack.specs.InputFrames.{frame_of, IsHeld}
-use Rattle.page_roff_stack.proofs.LineLemmas.{lines_short, lines_weight, page_line_in}
+use Rattle.page_roff_stack.proofs.LineLemmas.{lines_short, lines_weight, no_text, page_line_in}
 
 abbrev pub span : ℕ → ℕ → Span
 span start end = record { start = start; end = end }
 
-abbrev pub frame : Kind → Option Opened → Spot → List (List ℕ) → Frame
-frame kind region spot lines = record { kind = kind; region = region; parts = []; spot = spot; lines = lines }
+abbrev pub frame : Kind → Option Opened → Spot → List (List ℕ) → Option Turning → Frame
+frame kind region spot lines turning = record { kind = kind; region = region; parts = []; spot = spot; lines = lines; turning = turning }
 
 -- no line has begun, and these lines are to come, after what comes before them in the text
 pub record IsNew (a : InputFrame) (all before lines : List ℕ) : Type 0 where
@@ -29,18 +31,19 @@ pub record IsNew (a : InputFrame) (all before lines : List ℕ) : Type 0 where
   pub lines_are : a.lines ≡ span (length before) (length (before ++ lines))
   pub front : take (length lines) (drop (length before) all) ≡ lines
   pub within : length (before ++ lines) ≤ length all
-  pub arguments : AreArgumentsIn a.arguments all
+  pub arguments : AreArgumentsIn a.kind all
+  pub turns : AreTurnsIn a.kind a.turning all
 
 length_after : (before lines : List ℕ) → length (before ++ lines) - length before ≡ length lines
 length_after before lines = omega (arith, length-append before lines)
 
-new_view : (a : InputFrame) (all before lines : List ℕ) → IsNew a all before lines → frame_of a all ≡ frame (kind_in a.arguments all) a.region a.spot (lines_in lines)
+new_view : (a : InputFrame) (all before lines : List ℕ) → IsNew a all before lines → frame_of a all ≡ frame (kind_in a.kind all) a.region a.spot (lines_in lines) (turning_in a.turning all)
 new_view a all before lines h =
     rw (h.place, h.lines_are) (
-    ap (λ text. frame (kind_in a.arguments all) a.region a.spot (lines_in text)) (ap (λ n. take n (drop (length before) all)) (length_after before lines) ∙ h.front)
+    ap (λ text. frame (kind_in a.kind all) a.region a.spot (lines_in text) (turning_in a.turning all)) (ap (λ n. take n (drop (length before) all)) (length_after before lines) ∙ h.front)
     )
 
-new_held : (a : InputFrame) (all before lines : List ℕ) → IsNew a all before lines → AreLinesOf a.arguments lines → IsBounded (frame_of a all) → IsHeld a all
+new_held : (a : InputFrame) (all before lines : List ℕ) → IsNew a all before lines → AreLinesOf a.kind lines → IsBounded (frame_of a all) → IsHeld a all
 new_held a all before lines h o b =
     record {
       line = rw h.line (omega arith, omega arith);
@@ -49,12 +52,13 @@ new_held a all before lines h o b =
       lines = rw h.lines_are (omega (arith, length-append before lines), h.within);
       only = rw (h.lines_are, length_after before lines, h.front) o;
       arguments = h.arguments;
+      turns = h.turns;
       bounds = b;
     }
 
 pub new_of : (a : InputFrame) (all before lines more : List ℕ) → all ≡ (before ++ lines) ++ more → a.line ≡ span 0 0 → a.place ≡ line_end
-    → a.lines ≡ span (length before) (length (before ++ lines)) → AreArgumentsIn a.arguments all → IsNew a all before lines
-new_of a all before lines more e l p n h =
+    → a.lines ≡ span (length before) (length (before ++ lines)) → AreArgumentsIn a.kind all → AreTurnsIn a.kind a.turning all → IsNew a all before lines
+new_of a all before lines more e l p n h t =
     record {
       line = l;
       place = p;
@@ -63,19 +67,19 @@ new_of a all before lines more e l p n h =
           ∙ ap (λ text. take (length lines) text) (drop-append_seam before (lines ++ more)) ∙ take-append_seam lines more;
       within = omega (arith, ap length e, length-append (before ++ lines) more);
       arguments = h;
+      turns = t;
     }
 
 -- ---- a line of the page
 
-line_bounded : (region : Option Opened) (spot : Spot) (line : List ℕ) → length line ≤ LINE → spot.levels.skipped < 2 ^ 62 → IsBounded (frame page region spot (line ∷ []))
+line_bounded : (region : Option Opened) (spot : Spot) (line : List ℕ) → length line ≤ LINE → spot.levels.skipped < 2 ^ 62 → IsBounded (frame page region spot (line ∷ []) None)
 unfolding work_in weight
 line_bounded region spot line p s = record { short = (p, tt); skips = omega arith }
 
-line_view : (a : InputFrame) (all line : List ℕ) → IsLine line → IsNew a all [] (line ++ (10 ∷ [])) → a.arguments ≡ None → frame_of a all ≡ frame page a.region a.spot (line ∷ [])
-line_view a all line h n e =
+line_view : (a : InputFrame) (all line : List ℕ) → IsLine line → IsNew a all [] (line ++ (10 ∷ [])) → a.kind ≡ sources.Page → a.turning ≡ None → frame_of a all ≡ frame page a.region a.spot (line ∷ []) None
+line_view a all line h n e t =
     new_view a all [] (line ++ (10 ∷ [])) n
-    ∙ ap (λ arguments. frame (kind_in arguments all) a.region a.spot (lines_in (line ++ (10 ∷ [])))) e
-    ∙ ap (λ lines. frame page a.region a.spot lines) (page_line_in 0 line h.plain)
+    ∙ rw (e, t) (ap (λ lines. frame page a.region a.spot lines None) (page_line_in 0 line h.plain))
 
 line_only : (line : List ℕ) → only_line (line ++ (10 ∷ [])) ≡ line ∷ []
 line_only [] = refl
@@ -84,52 +88,70 @@ line_only (byte ∷ bytes) =
     rw n (ap (λ text. text ∷ []) (take-append_seam (byte ∷ bytes) (10 ∷ [])))
 
 -- a line of the page is to come
-pub page_set : (a : InputFrame) (all line : List ℕ) → IsLine line → IsNew a all [] (line ++ (10 ∷ [])) → a.arguments ≡ None → a.spot.levels.skipped < 2 ^ 62
-    → IsHeld a all × (frame_of a all ≡ frame page a.region a.spot (line ∷ []))
-page_set a all line h n e s =
-    let view = line_view a all line h n e in
-    let only : AreLinesOf a.arguments (line ++ (10 ∷ [])) = rw e (page_line_in 0 line h.plain ∙ sym (line_only line)) in
+pub page_set : (a : InputFrame) (all line : List ℕ) → IsLine line → IsNew a all [] (line ++ (10 ∷ [])) → a.kind ≡ sources.Page → a.turning ≡ None → a.spot.levels.skipped < 2 ^ 62
+    → IsHeld a all × (frame_of a all ≡ frame page a.region a.spot (line ∷ []) None)
+page_set a all line h n e t s =
+    let view = line_view a all line h n e t in
+    let only : AreLinesOf a.kind (line ++ (10 ∷ [])) = rw e (page_line_in 0 line h.plain ∙ sym (line_only line)) in
     (new_held a all [] (line ++ (10 ∷ [])) n only (rw view (line_bounded a.region a.spot line h.bounded s)), view)
 
 -- ---- a macro
 
-body_bounded : (kind : Kind) (region : Option Opened) (text : List ℕ) → length text ≤ BODY → IsBounded (frame kind region (at_line outside) (lines_in text))
+body_bounded : (kind : Kind) (region : Option Opened) (text : List ℕ) → length text ≤ BODY → (turning : Option Turning) → IsBounded (frame kind region (at_line outside) (lines_in text) turning)
 unfolding work_in at_line outside
-body_bounded kind region text p = record { short = lines_short text (omega (arith, p)); skips = omega (arith, lines_weight text, p) }
+body_bounded kind region text p turning = record { short = lines_short text (omega (arith, p)); skips = omega (arith, lines_weight text, p) }
 
-body_view : (a : InputFrame) (all before text args : List ℕ) → IsNew a all before text → a.arguments ≡ Some (length (before ++ text)) → drop (length (before ++ text)) all ≡ args
-    → a.region ≡ None → a.spot ≡ at_line outside → frame_of a all ≡ entered (lines_in text) (arguments_in args)
+body_view : (a : InputFrame) (all before text args : List ℕ) → IsNew a all before text → a.kind ≡ sources.Body (Some (length (before ++ text)))
+    → drop (length (before ++ text)) all ≡ args → a.region ≡ None → a.spot ≡ at_line outside → a.turning ≡ None
+    → frame_of a all ≡ entered (lines_in text) (arguments_in args)
 unfolding entered
-body_view a all before text args n e d r s =
+body_view a all before text args n e d r s t =
     new_view a all before text n
-    ∙ rw (e, d, r, s) refl
+    ∙ rw (e, d, r, s, t) refl
 
 -- a macro begins
-pub body_set : (a : InputFrame) (all before text args : List ℕ) → IsNew a all before text → a.arguments ≡ Some (length (before ++ text)) → drop (length (before ++ text)) all ≡ args
-    → a.region ≡ None → a.spot ≡ at_line outside → length text ≤ BODY → IsHeld a all × (frame_of a all ≡ entered (lines_in text) (arguments_in args))
+pub body_set : (a : InputFrame) (all before text args : List ℕ) → IsNew a all before text → a.kind ≡ sources.Body (Some (length (before ++ text)))
+    → drop (length (before ++ text)) all ≡ args → a.region ≡ None → a.spot ≡ at_line outside → a.turning ≡ None → length text ≤ BODY
+    → IsHeld a all × (frame_of a all ≡ entered (lines_in text) (arguments_in args))
 unfolding entered
-body_set a all before text args n e d r s p =
-    let view = body_view a all before text args n e d r s in
-    (new_held a all before text n (rw e tt) (rw view (body_bounded (body (arguments_in args)) None text p)), view)
+body_set a all before text args n e d r s t p =
+    let view = body_view a all before text args n e d r s t in
+    (new_held a all before text n (rw e tt) (rw view (body_bounded (body (Some (arguments_in args))) None text p None)), view)
 
 -- nothing has come
-empty_bounded : (kind : Kind) → IsBounded (frame kind None (at_line outside) [])
+empty_bounded : (kind : Kind) (turning : Option Turning) → IsBounded (frame kind None (at_line outside) [] turning)
 unfolding work_in weight at_line outside
-empty_bounded kind = record { short = tt; skips = omega arith }
+empty_bounded kind turning = record { short = tt; skips = omega arith }
 
 empty_only : lines_in [] ≡ only_line []
 unfolding arguments_in
 empty_only = refl
 
 -- the page, before its first line
-pub empty_set : (a : InputFrame) → a.arguments ≡ None → a.line ≡ span 0 0 → a.place ≡ line_end → a.lines ≡ span 0 0 → a.region ≡ None → a.spot ≡ at_line outside
-    → IsHeld a [] × (frame_of a [] ≡ frame page None (at_line outside) [])
+pub empty_set : (a : InputFrame) → a.kind ≡ sources.Page → a.line ≡ span 0 0 → a.place ≡ line_end → a.lines ≡ span 0 0 → a.region ≡ None → a.spot ≡ at_line outside
+    → a.turning ≡ None → IsHeld a [] × (frame_of a [] ≡ frame page None (at_line outside) [] None)
 unfolding arguments_in
-empty_set a e l p n r s =
-    let new = new_of a [] [] [] [] refl l p n (rw e tt) in
-    let view : frame_of a [] ≡ frame page None (at_line outside) [] = new_view a [] [] [] new ∙ rw (e, r, s) refl in
-    (new_held a [] [] [] new (rw e empty_only) (rw view (empty_bounded page)), view)
+empty_set a e l p n r s t =
+    let new = new_of a [] [] [] [] refl l p n (rw e tt) (rw t tt) in
+    let view : frame_of a [] ≡ frame page None (at_line outside) [] None = new_view a [] [] [] new ∙ rw (e, r, s, t) refl in
+    (new_held a [] [] [] new (rw e empty_only) (rw view (empty_bounded page None)), view)
 
-pub page_none : (arguments : Option ℕ) (text : List ℕ) → kind_in arguments text ≡ page → arguments ≡ None
-page_none None text e = refl
-page_none (Some start) text e = cc
+pub page_none : (kind : SourceKind) (text : List ℕ) → kind_in kind text ≡ page → kind ≡ sources.Page
+page_none sources.Page text e = refl
+page_none (sources.Body arguments) text e = cc
+
+-- ---- a loop
+
+abbrev pub unturned : List ℕ → List (List ℕ) → Turning
+unturned condition lines = record { condition = condition; lines = lines; left = TURNS; begun = false }
+
+-- a loop begins: nothing of it is to come before its first turn
+pub loop_set : (a : InputFrame) (all condition : List ℕ) (lines : List (List ℕ)) (args : Option (List (List ℕ))) → IsNew a all [] []
+    → kind_in a.kind all ≡ body args → AreLinesOf a.kind [] → a.region ≡ None → a.spot ≡ at_line outside
+    → turning_in a.turning all ≡ Some (unturned condition lines) → IsHeld a all × (frame_of a all ≡ looped (body args) condition lines)
+unfolding looped inner
+loop_set a all condition lines args n e o r s t =
+    let view : frame_of a all ≡ frame (body args) None (at_line outside) [] (Some (unturned condition lines)) =
+    new_view a all [] [] n ∙ rw (e, r, s, t) (ap (λ texts. frame (body args) None (at_line outside) texts (Some (unturned condition lines))) no_text)
+    in
+    (new_held a all [] [] n o (rw view (empty_bounded (body args) (Some (unturned condition lines)))), view)

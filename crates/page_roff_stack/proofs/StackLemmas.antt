@@ -1,23 +1,44 @@
 -- What comes next in the sources that run: helpers of proofs.
-use Rattle.std.proofs.Common.{◌≡◌, ℕ, ◌<◌, Bool, true, false, List, [], ◌∷◌, length, Option, Some, None, refl, arith}
+use Rattle.std.proofs.Common.{◌≡◌, ℕ, zero, suc, ◌-◌, ◌<◌, Bool, true, false, List, [], ◌∷◌, length, Option, Some, None, refl, arith}
 use Rattle.page_roff_blocks.specs.declared.atoms.Atom.{Atom}
 use Rattle.page_roff_blocks.specs.Levels.{Opened}
 use Rattle.page_roff_blocks.specs.Run.{Meaning}
-use Rattle.page_roff_language.specs.Languages.{Kind, Language, meaning_at}
+use Rattle.page_roff_language.specs.Languages.{Kind, page, body, inner, Language, meaning_at}
 use Rattle.page_roff_language.specs.Machine as machine
-use Rattle.page_roff_language.specs.Machine.{Frame, depth}
-use Rattle.page_roff_stack.specs.declared.next.Next.TheVariants.{SourceEnd}
-use Rattle.page_roff_stack.specs.Changes.{first_branch, first_region, is_page, begins_next, ends_with}
-use Rattle.page_roff_stack.specs.Stacks.{Stack, running, next_around, next_in, next_of, is_part, is_line, is_source_end, is_nothing, branch_in, region_in, AreStacked, step_in, step_of}
+use Rattle.page_roff_language.specs.Machine.{Frame, Turning, depth, looped}
+use Rattle.page_roff_stack.specs.Changes.{first_branch, first_region, is_page, arguments_of, begins_next, ends_with}
+use Rattle.page_roff_stack.specs.Stacks.{Stack, running, has_begun, turn_left, turn_in, turn_or_end, next_around, next_in, next_of, is_part, is_line, may_end, is_nothing, branch_in, region_in, AreStacked, end_of, turn_if, step_in, step_of}
+use Rattle.page_roff_stack.specs.Views.{unpacked}
+
+turn_step : {S : Type 0} (l : Language S) (t : Turning) (n : ℕ) (b : Bool) (f g : Frame) (gs : List Frame) (s : S) → f.turning ≡ Some t → t.left ≡ suc n
+    → Some (machine.turn_if l b f.kind t n g gs s) ≡ turn_if b f (g ∷ gs) s
+unfolding machine.turn_if
+turn_step l t n true f g gs s e h = let k : t.left - 1 ≡ n = omega arith in rw (e, k) refl
+turn_step l t n false f g gs s e h = refl
+
+turns_step : {S : Type 0} (l : Language S) (m : Meaning (List ℕ) S) (t : Turning) (left : ℕ) (region : Option Opened) (parts : List (Atom (List ℕ))) (lines : List (List ℕ)) (f g : Frame) (gs : List Frame) (s : S)
+    → f.turning ≡ Some t → t.left ≡ left
+    → Some (machine.turn_next l left f.kind t g gs (machine.finish_if l t.begun (end_of region f s))) ≡ step_in l m (turn_or_end (turn_left left t.condition) region t.begun) parts lines f (g ∷ gs) s
+unfolding step_in machine.turn_next
+turns_step l m t zero region parts lines f g gs s e h = refl
+turns_step l m t (suc n) region parts lines f g gs s e h =
+    let v = l.turn f.kind t.condition (machine.finish_if l t.begun (end_of region f s)) in turn_step l t n v.0 f g gs v.1 e h
+
+end_step : {S : Type 0} (l : Language S) (m : Meaning (List ℕ) S) (turning : Option Turning) (region : Option Opened) (parts : List (Atom (List ℕ))) (lines : List (List ℕ)) (f g : Frame) (gs : List Frame) (s : S)
+    → f.turning ≡ turning
+    → Some (machine.body_next l turning f.kind g gs (end_of region f s)) ≡ step_in l m (turn_or_end (turn_in turning) region (has_begun turning)) parts lines f (g ∷ gs) s
+unfolding step_in machine.body_next machine.finish_if
+end_step l m None region parts lines f g gs s e = refl
+end_step l m (Some t) region parts lines f g gs s e = turns_step l m t t.left region parts lines f g gs s e refl
 
 step_around : {S : Type 0} (l : Language S) (m : Meaning (List ℕ) S) (region : Option Opened) (parts : List (Atom (List ℕ))) (lines : List (List ℕ)) (f : Frame) (under : List Frame) (s : S)
-    → machine.source_next l region under s ≡ step_in l m (next_around region under) parts lines f under s
+    → machine.source_next l f.turning f.kind under (end_of region f s) ≡ step_in l m (next_around f.turning region under) parts lines f under s
 unfolding step_in machine.source_next
 step_around l m region parts lines f [] s = refl
-step_around l m region parts lines f (g ∷ gs) s = refl
+step_around l m region parts lines f (g ∷ gs) s = end_step l m f.turning region parts lines f g gs s refl
 
 steps : {S : Type 0} (l : Language S) (m : Meaning (List ℕ) S) (region : Option Opened) (parts : List (Atom (List ℕ))) (lines : List (List ℕ)) (f : Frame) (under : List Frame) (s : S)
-    → machine.next_in l m region parts lines f under s ≡ step_in l m (next_in region parts lines under) parts lines f under s
+    → machine.next_in l m region parts lines f under s ≡ step_in l m (next_in f.turning region parts lines under) parts lines f under s
 unfolding step_in machine.next_in
 steps l m None (part ∷ more) lines f under s = refl
 steps l m None [] (line ∷ more) f under s = refl
@@ -31,90 +52,107 @@ next_steps l s state = steps l (meaning_at l (depth s.under) s.top.kind) s.top.r
 
 -- ---- what is there, as what comes next tells
 
-around_part : (region : Option Opened) (under : List Frame) → is_part (next_around region under) ≡ true → ⊥
-around_part region [] e = cc
-around_part region (f ∷ fs) e = cc
+around_part : (turning : Option Turning) (region : Option Opened) (under : List Frame) → is_part (next_around turning region under) ≡ true → ⊥
+around_part turning region [] e = cc
+around_part turning region (f ∷ fs) e = end_part (turn_in turning) e
+  where
+    end_part : (turn : Option (List ℕ)) → is_part (turn_or_end turn region (has_begun turning)) ≡ true → ⊥
+    end_part None e = cc
+    end_part (Some condition) e = cc
 
-around_line : (region : Option Opened) (under : List Frame) → is_line (next_around region under) ≡ true → ⊥
-around_line region [] e = cc
-around_line region (f ∷ fs) e = cc
+around_line : (turning : Option Turning) (region : Option Opened) (under : List Frame) → is_line (next_around turning region under) ≡ true → ⊥
+around_line turning region [] e = cc
+around_line turning region (f ∷ fs) e = end_line (turn_in turning) e
+  where
+    end_line : (turn : Option (List ℕ)) → is_line (turn_or_end turn region (has_begun turning)) ≡ true → ⊥
+    end_line None e = cc
+    end_line (Some condition) e = cc
 
 -- a part comes next: it is the first of those that are left
-pub part_there : (region : Option Opened) (parts : List (Atom (List ℕ))) (lines : List (List ℕ)) (under : List Frame)
-    → let next = next_in region parts lines under in
+pub part_there : (turning : Option Turning) (region : Option Opened) (parts : List (Atom (List ℕ))) (lines : List (List ℕ)) (under : List Frame)
+    → let next = next_in turning region parts lines under in
     is_part next ≡ true
     → (0 < length parts) × (branch_in next ≡ first_branch parts) × ((is_run : Bool) → region_in is_run next ≡ first_region is_run parts)
-part_there None (part ∷ more) lines under e = (omega arith, refl, λ is_run. refl)
-part_there None [] (line ∷ more) under e = cc
-part_there None [] [] under e = absurd (around_part None under e)
-part_there (Some o) parts (line ∷ more) under e = cc
-part_there (Some o) parts [] under e = absurd (around_part (Some o) under e)
+part_there turning None (part ∷ more) lines under e = (omega arith, refl, λ is_run. refl)
+part_there turning None [] (line ∷ more) under e = cc
+part_there turning None [] [] under e = absurd (around_part turning None under e)
+part_there turning (Some o) parts (line ∷ more) under e = cc
+part_there turning (Some o) parts [] under e = absurd (around_part turning (Some o) under e)
 
-pub line_there : (region : Option Opened) (parts : List (Atom (List ℕ))) (lines : List (List ℕ)) (under : List Frame)
-    → is_line (next_in region parts lines under) ≡ true → 0 < length lines
-line_there None (part ∷ more) lines under e = cc
-line_there None [] (line ∷ more) under e = omega arith
-line_there None [] [] under e = absurd (around_line None under e)
-line_there (Some o) parts (line ∷ more) under e = cc
-line_there (Some o) parts [] under e = absurd (around_line (Some o) under e)
+-- nothing is left of the innermost source, and another is around it
+around_end : (turning : Option Turning) (region : Option Opened) (under : List Frame) → may_end (next_around turning region under) ≡ true → 0 < length under
+around_end turning region [] e = cc
+around_end turning region (f ∷ fs) e = omega arith
 
-around_end : (region : Option Opened) (under : List Frame) → is_source_end (next_around region under) ≡ true → 0 < length under
-around_end region [] e = cc
-around_end region (f ∷ fs) e = omega arith
+pub end_there : (turning : Option Turning) (region : Option Opened) (parts : List (Atom (List ℕ))) (lines : List (List ℕ)) (under : List Frame)
+    → may_end (next_in turning region parts lines under) ≡ true → 0 < length under
+end_there turning None (part ∷ more) lines under e = cc
+end_there turning None [] (line ∷ more) under e = cc
+end_there turning None [] [] under e = around_end turning None under e
+end_there turning (Some o) parts (line ∷ more) under e = cc
+end_there turning (Some o) parts [] under e = around_end turning (Some o) under e
 
-pub end_there : (region : Option Opened) (parts : List (Atom (List ℕ))) (lines : List (List ℕ)) (under : List Frame)
-    → is_source_end (next_in region parts lines under) ≡ true → 0 < length under
-end_there None (part ∷ more) lines under e = cc
-end_there None [] (line ∷ more) under e = cc
-end_there None [] [] under e = around_end None under e
-end_there (Some o) parts (line ∷ more) under e = cc
-end_there (Some o) parts [] under e = around_end (Some o) under e
+not_nothing : (turn : Option (List ℕ)) (region : Option Opened) (begun : Bool) → false ≡ is_nothing (turn_or_end turn region begun)
+not_nothing None region begun = refl
+not_nothing (Some condition) region begun = refl
 
-around_nothing : (region : Option Opened) (under : List Frame) → is_nothing (next_around region under) ≡ true → under ≡ []
-around_nothing region [] e = refl
-around_nothing region (f ∷ fs) e = cc
+around_nothing : (turning : Option Turning) (region : Option Opened) (under : List Frame) → is_nothing (next_around turning region under) ≡ true → under ≡ []
+around_nothing turning region [] e = refl
+around_nothing turning region (f ∷ fs) e = let n = not_nothing (turn_in turning) region (has_begun turning) in cc
 
-pub nothing_there : (region : Option Opened) (parts : List (Atom (List ℕ))) (lines : List (List ℕ)) (under : List Frame)
-    → is_nothing (next_in region parts lines under) ≡ true → under ≡ []
-nothing_there None (part ∷ more) lines under e = cc
-nothing_there None [] (line ∷ more) under e = cc
-nothing_there None [] [] under e = around_nothing None under e
-nothing_there (Some o) parts (line ∷ more) under e = cc
-nothing_there (Some o) parts [] under e = around_nothing (Some o) under e
+pub nothing_there : (turning : Option Turning) (region : Option Opened) (parts : List (Atom (List ℕ))) (lines : List (List ℕ)) (under : List Frame)
+    → is_nothing (next_in turning region parts lines under) ≡ true → under ≡ []
+nothing_there turning None (part ∷ more) lines under e = cc
+nothing_there turning None [] (line ∷ more) under e = cc
+nothing_there turning None [] [] under e = around_nothing turning None under e
+nothing_there turning (Some o) parts (line ∷ more) under e = cc
+nothing_there turning (Some o) parts [] under e = around_nothing turning (Some o) under e
 
 -- where no source is around the innermost one, the page's line is done once nothing is left of it
-pub alone_over : (region : Option Opened) (parts : List (Atom (List ℕ))) (lines : List (List ℕ)) (under : List Frame) → under ≡ []
-    → ends_with region parts lines ≡ is_nothing (next_in region parts lines under)
-alone_over None [] [] under e = rw e refl
-alone_over None [] (line ∷ more) under e = refl
-alone_over None (part ∷ more) lines under e = refl
-alone_over (Some o) parts [] under e = rw e refl
-alone_over (Some o) parts (line ∷ more) under e = refl
+pub alone_over : (turning : Option Turning) (region : Option Opened) (parts : List (Atom (List ℕ))) (lines : List (List ℕ)) (under : List Frame) → under ≡ []
+    → ends_with region parts lines ≡ is_nothing (next_in turning region parts lines under)
+alone_over turning None [] [] under e = rw e refl
+alone_over turning None [] (line ∷ more) under e = refl
+alone_over turning None (part ∷ more) lines under e = refl
+alone_over turning (Some o) parts [] under e = rw e refl
+alone_over turning (Some o) parts (line ∷ more) under e = refl
 
-pub something_around : (region : Option Opened) (parts : List (Atom (List ℕ))) (lines : List (List ℕ)) (under : List Frame) → 0 < length under
-    → false ≡ is_nothing (next_in region parts lines under)
-something_around region parts lines [] h = absurd (omega arith)
-something_around None [] [] (f ∷ fs) h = refl
-something_around None [] (line ∷ more) (f ∷ fs) h = refl
-something_around None (part ∷ more) lines (f ∷ fs) h = refl
-something_around (Some o) parts [] (f ∷ fs) h = refl
-something_around (Some o) parts (line ∷ more) (f ∷ fs) h = refl
+pub something_around : (turning : Option Turning) (region : Option Opened) (parts : List (Atom (List ℕ))) (lines : List (List ℕ)) (under : List Frame) → 0 < length under
+    → false ≡ is_nothing (next_in turning region parts lines under)
+something_around turning region parts lines [] h = absurd (omega arith)
+something_around turning None [] [] (f ∷ fs) h = not_nothing (turn_in turning) None (has_begun turning)
+something_around turning None [] (line ∷ more) (f ∷ fs) h = refl
+something_around turning None (part ∷ more) lines (f ∷ fs) h = refl
+something_around turning (Some o) parts [] (f ∷ fs) h = not_nothing (turn_in turning) (Some o) (has_begun turning)
+something_around turning (Some o) parts (line ∷ more) (f ∷ fs) h = refl
 
-pub end_around : (region : Option Opened) (under : List Frame) → 0 < length under → SourceEnd region ≡ next_around region under
-end_around region [] h = absurd (omega arith)
-end_around region (f ∷ fs) h = refl
+pub end_around : (turning : Option Turning) (turn : Option (List ℕ)) (region : Option Opened) (under : List Frame) → 0 < length under → turn ≡ turn_in turning
+    → turn_or_end turn region (has_begun turning) ≡ next_around turning region under
+end_around turning turn region [] h e = absurd (omega arith)
+end_around turning turn region (f ∷ fs) h e = rw e refl
 
--- all macros stand on the page
+-- all macros and loops stand on the page
 pub page_alone : (kind : Kind) (under : List Frame) → under ≡ [] → AreStacked kind under → is_page kind ≡ true
 page_alone kind under e h = rw e at h
 
 -- whether a line begins next does not depend on the sources around
-pub line_next : (region : Option Opened) (parts : List (Atom (List ℕ))) (lines : List (List ℕ)) (under : List Frame)
-    → begins_next region parts lines ≡ is_line (next_in region parts lines under)
-line_next None (part ∷ more) lines under = refl
-line_next None [] (line ∷ more) under = refl
-line_next None [] [] [] = refl
-line_next None [] [] (f ∷ fs) = refl
-line_next (Some o) parts (line ∷ more) under = refl
-line_next (Some o) parts [] [] = refl
-line_next (Some o) parts [] (f ∷ fs) = refl
+not_line : (turn : Option (List ℕ)) (region : Option Opened) (begun : Bool) → false ≡ is_line (turn_or_end turn region begun)
+not_line None region begun = refl
+not_line (Some condition) region begun = refl
+
+pub line_next : (turning : Option Turning) (region : Option Opened) (parts : List (Atom (List ℕ))) (lines : List (List ℕ)) (under : List Frame)
+    → begins_next region parts lines ≡ is_line (next_in turning region parts lines under)
+line_next turning None (part ∷ more) lines under = refl
+line_next turning None [] (line ∷ more) under = refl
+line_next turning None [] [] [] = refl
+line_next turning None [] [] (f ∷ fs) = not_line (turn_in turning) None (has_begun turning)
+line_next turning (Some o) parts (line ∷ more) under = refl
+line_next turning (Some o) parts [] [] = refl
+line_next turning (Some o) parts [] (f ∷ fs) = not_line (turn_in turning) (Some o) (has_begun turning)
+
+-- the arguments of a loop are those of the source in which it stands
+pub looped_in : (kind : Kind) (packed : Option (List ℕ)) (condition : List ℕ) (lines : List (List ℕ)) → unpacked packed ≡ arguments_of kind
+    → looped (body (unpacked packed)) condition lines ≡ looped kind condition lines
+unfolding looped inner
+looped_in page packed condition lines e = rw e refl
+looped_in (body args) packed condition lines e = rw e refl

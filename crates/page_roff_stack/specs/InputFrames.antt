@@ -7,15 +7,16 @@ use Rattle.page_roff_language.specs.Machine.{Frame}
 use Rattle.page_roff_stack.specs.declared.input_frames.InputFrame.{InputFrame}
 use Rattle.page_roff_stack.specs.Changes.{IsBounded}
 use Rattle.page_roff_values.specs.Arguments.{lines_in}
-use Rattle.page_roff_stack.specs.Held.{span_text, IsSpanIn, kind_in, AreArgumentsIn, AreLinesOf}
+use Rattle.page_roff_stack.specs.Held.{span_text, IsSpanIn, kind_in, AreArgumentsIn, AreLinesOf, turning_in, AreTurnsIn}
 
 abbrev pub frame_of : InputFrame → List ℕ → Frame
 frame_of a text = record {
-  kind = kind_in a.arguments text;
+  kind = kind_in a.kind text;
   region = a.region;
   parts = parts_at (span_text a.line text) a.place;
   spot = a.spot;
   lines = lines_in (span_text a.lines text);
+  turning = turning_in a.turning text;
 }
 
 -- the places of a source lie in this text
@@ -24,6 +25,7 @@ pub record IsHeld (a : InputFrame) (text : List ℕ) : Type 0 where
   pub short : a.line.end ≤ a.line.start + LINE
   pub place : IsPlaceIn (span_text a.line text) a.place
   pub lines : IsSpanIn a.lines text
-  pub only : AreLinesOf a.arguments (span_text a.lines text)
-  pub arguments : AreArgumentsIn a.arguments text
+  pub only : AreLinesOf a.kind (span_text a.lines text)
+  pub arguments : AreArgumentsIn a.kind text
+  pub turns : AreTurnsIn a.kind a.turning text
   pub bounds : IsBounded (frame_of a text)

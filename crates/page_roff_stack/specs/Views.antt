@@ -5,15 +5,19 @@ use Rattle.page_core_limits.specs.declared.TheConstants.{LINE}
 use Rattle.page_roff_blocks.specs.declared.atoms.Atom.{Atom}
 use Rattle.page_roff_blocks.specs.Atoms.{atom_seen, FitsAtom}
 use Rattle.page_roff_blocks.specs.Levels.{Opened, opened_seen}
-use Rattle.page_roff_language.specs.Languages.{Kind, page, body}
 use Rattle.page_roff_values.specs.Arguments.{arguments_in}
 use Rattle.page_roff_stack.specs.declared.next.Next.{Next}
-use Rattle.page_roff_stack.specs.declared.next.Next.TheVariants.{Part, Line, RegionLine, SourceEnd, Nothing}
+use Rattle.page_roff_stack.specs.declared.next.Next.TheVariants.{Part, Line, RegionLine, Turn, SourceEnd, Nothing}
 
--- the arguments of a macro; the page has none
-abbrev pub kind_of : Option (List ℕ) → Kind
-kind_of None = page
-kind_of (Some packed) = body (arguments_in packed)
+-- arguments as they are packed, each with a line feed at its end, where there are some
+abbrev pub unpacked : Option (List ℕ) → Option (List (List ℕ))
+unpacked None = None
+unpacked (Some packed) = Some (arguments_in packed)
+
+-- what is held of them
+abbrev pub packed_text : Option (List ℕ) → List ℕ
+packed_text None = []
+packed_text (Some packed) = packed
 
 -- a part as a list of one
 abbrev pub parts_seen : Option (Atom (Bor (List ℕ))) → List (Atom (List ℕ))
@@ -30,7 +34,8 @@ abbrev pub next_seen : Next (Bor (List ℕ)) (Bor Opened) → Next (List ℕ) Op
 next_seen (Part part) = Part (atom_seen part)
 next_seen (Line line) = Line line.now
 next_seen (RegionLine region line is_end) = RegionLine region.now line.now is_end
-next_seen (SourceEnd region) = SourceEnd (opened_seen region)
+next_seen (Turn region begun condition) = Turn (opened_seen region) begun condition.now
+next_seen (SourceEnd region begun) = SourceEnd (opened_seen region) begun
 next_seen Nothing = Nothing
 
 -- texts lie within a line
@@ -38,5 +43,6 @@ abbrev pub FitsNext : Next (List ℕ) Opened → Type 0
 FitsNext (Part part) = FitsAtom part
 FitsNext (Line line) = length line ≤ LINE
 FitsNext (RegionLine region line is_end) = length line ≤ LINE
-FitsNext (SourceEnd region) = Unit {0}
+FitsNext (Turn region begun condition) = length condition ≤ LINE
+FitsNext (SourceEnd region begun) = Unit {0}
 FitsNext Nothing = Unit {0}

@@ -1,4 +1,4 @@
-//! A source that is being run: a line of the page, or the body of a macro.
+//! A source that is being run: a line of the page, or the body of a macro or of a loop.
 
 ghost use Rattle.std.specs.Prelude.{◌≡◌, ℕ, List, [], ◌+◌, ◌≤◌, ◌<◌, ◌^◌, ◌++◌, true, length, take, drop, IfSome, None};
 ghost use Rattle.std.specs.Vec.{vec_len, vec_capacity};
@@ -6,27 +6,33 @@ ghost use Rattle.page_core_base.specs.Texts.{IsLine};
 ghost use Rattle.page_core_limits.specs.declared.TheConstants.{ARGS, BODY, LINE};
 ghost use Rattle.page_roff_blocks.specs.Atoms.{atom_seen, branch_seen, FitsAtom};
 ghost use Rattle.page_roff_blocks.specs.Caps.{PlaceFits};
-ghost use Rattle.page_roff_blocks.specs.Levels.{after_part, guarded_by, way_of, enter, bit_after, skip, leave, has_block, reached, opened_seen};
+ghost use Rattle.page_roff_blocks.specs.LinePlaces.{opens_block};
+ghost use Rattle.page_roff_blocks.specs.Levels.{after_part, guarded_by, way_of, enter, bit_after, open_loop, skip, leave, what_ends, reached, opened_seen};
 ghost use Rattle.page_roff_blocks.specs.Regions.{text_seen};
-ghost use Rattle.page_roff_language.specs.Languages.{page};
-ghost use Rattle.page_roff_language.specs.Machine.{entered};
+ghost use Rattle.page_roff_language.specs.Languages.{page, body};
+ghost use Rattle.page_roff_language.specs.Machine.{entered, looped};
 ghost use Rattle.page_roff_values.specs.Arguments.{arguments_in, lines_in};
-ghost use Rattle.page_roff_stack.specs.Changes.{first_frame, page_line, past, first_branch, first_region, in_region, next_line, first_atoms, is_page, begins_line, is_over, HasPart};
-ghost use Rattle.page_roff_stack.specs.Held.{span_text, kind_in, AreLinesOf, IsSpanIn, IsFirstLine};
+ghost use Rattle.page_roff_stack.specs.Changes.{first_frame, page_line, past, first_branch, first_region, in_region, next_line, in_turn, first_atoms, is_page, arguments_of, begins_line, is_over, HasPart};
+ghost use Rattle.page_roff_stack.specs.Held.{span_text, kind_in, arguments_at, turning_in, AreArgumentsAt, AreLinesOf, IsSpanIn, IsFirstLine, IsCut};
 ghost use Rattle.page_roff_stack.specs.InputFrames.{frame_of, IsHeld};
-ghost use Rattle.page_roff_stack.specs.Views.{parts_seen, kind_of, IsNextLine};
+ghost use Rattle.page_roff_stack.specs.Stacks.{first_text, turn_in, has_begun};
+ghost use Rattle.page_roff_stack.specs.Views.{parts_seen, packed_text, unpacked, IsNextLine};
 
+use crate::source_kinds::SourceKind;
 use crate::spans::{NOWHERE, Span};
+use crate::turns::Turns;
 use memchr::memchr;
-use page_core_limits::{ARGS, BODY, LINE};
-use page_roff_blocks::{Atom, Branch, LinePlace, OpenRegion, Reached, Spot, Way};
+use page_core_limits::{ARGS, BODY, LINE, REREAD};
+use page_roff_blocks::{Atom, Branch, Ended, LinePlace, OpenRegion, Opening, Reached, Spot, Way};
+
+// The turns that a loop has at most, and one more: each takes a line, or is given up.
+const TURNS: usize = REREAD + 2;
 
 /// A source that is being run, as places in a text, which each of its functions is given. The text holds its lines, each with a line feed at
 /// its end, and after them the arguments of a macro.
 #[derive(Drop)]
 pub(crate) struct InputFrame {
-    // Where the arguments begin, in a macro.
-    arguments: Option<usize>,
+    kind: SourceKind,
     // The present line, and the place in it.
     line: Span,
     place: LinePlace,
@@ -34,6 +40,8 @@ pub(crate) struct InputFrame {
     lines: Span,
     region: Option<OpenRegion>,
     spot: Spot,
+    // The turns of a loop.
+    turning: Option<Turns>,
 }
 
 // Puts bytes at the end, within what is reserved.
@@ -45,6 +53,25 @@ fn append(text: &mut Vec<u8>, more: &[u8])
     match text.extend_from_slice(more) {
         Ok(()) => (),
         Err(_) => unreachable!(),
+    }
+}
+
+// Puts the arguments of the macro in which a loop stands at the end, if it stands in one: where they begin.
+fn append_arguments(text: &mut Vec<u8>, arguments: Option<&[u8]>) -> Option<usize>
+    requires short { length (packed_text (text_seen arguments)) ≤ ARGS }
+    requires room { length text.old.items + ARGS ≤ vec_capacity text.old }
+    ensures items { text.new.items ≡ text.old.items ++ packed_text (text_seen arguments.entry) }
+    ensures arguments { arguments_at result text.new.items ≡ unpacked (text_seen arguments.entry) }
+    ensures within { AreArgumentsAt result text.new.items }
+    ensures capacity { vec_capacity text.old ≤ vec_capacity text.new }
+{
+    match arguments {
+        Some(packed) => {
+            let start = text.len();
+            append(text, packed);
+            Some(start)
+        }
+        None => None,
     }
 }
 
@@ -61,30 +88,31 @@ fn body_line_len(lines: &[u8]) -> usize
 }
 
 // The bytes of the first line of a source, without the line feed at its end. A line of the page is the only one.
-fn line_len(arguments: Option<usize>, lines: &[u8]) -> usize
-    requires { AreLinesOf arguments lines.now }
+fn line_len(kind: SourceKind, lines: &[u8]) -> usize
+    requires { AreLinesOf kind lines.now }
     ensures first { IsFirstLine (lines_in lines.now) (take result lines.now) }
     ensures rest { lines_in (drop (result + 1) lines.now) ≡ drop 1 (lines_in lines.now) }
     ensures bound { result ≤ length lines.now }
 {
-    match arguments {
-        None => lines.len().saturating_sub(1),
-        Some(_) => body_line_len(lines),
+    match kind {
+        SourceKind::Page => lines.len().saturating_sub(1),
+        SourceKind::Body(_) => body_line_len(lines),
     }
 }
 
 // Goes past the first of these lines of a source, and answers where it is.
-fn pass_line(arguments: Option<usize>, text: &[u8], lines: &mut Span) -> Span
+fn pass_line(kind: SourceKind, text: &[u8], lines: &mut Span) -> Span
     requires within { IsSpanIn lines.old text.now }
-    requires lines { AreLinesOf arguments (span_text lines.old text.now) }
+    requires lines { AreLinesOf kind (span_text lines.old text.now) }
     ensures first { IsFirstLine (lines_in (span_text lines.old text.now)) (span_text result text.now) }
     ensures rest { lines_in (span_text lines.new text.now)
         ≡ drop 1 (lines_in (span_text lines.old text.now)) }
     ensures spans { IsSpanIn result text.now × IsSpanIn lines.new text.now }
+    ensures cut { IsCut lines.old result lines.new }
 {
     let line = Span {
         start: lines.start,
-        end: lines.start + line_len(arguments, lines.of(text)),
+        end: lines.start + line_len(kind, lines.of(text)),
     };
     lines.start = if line.end < lines.end {
         line.end + 1
@@ -100,7 +128,7 @@ fn branch_of<'a>(part: &Option<Atom<&'a [u8]>>) -> Branch<&'a [u8]>
 {
     match part {
         Some(Atom::Guard(head)) => head.branch,
-        Some(Atom::Block(head)) => head.branch,
+        Some(Atom::Block(Opening::Conditional(head))) => head.branch,
         _ => Branch::Else,
     }
 }
@@ -123,18 +151,19 @@ impl InputFrame {
         ensures frame { frame_of result [] ≡ first_frame }
     {
         InputFrame {
-            arguments: None,
+            kind: SourceKind::Page,
             line: NOWHERE,
             place: LinePlace::end(),
             lines: NOWHERE,
             region: None,
             spot: Spot::new(),
+            turning: None,
         }
     }
 
     /// A line of the page is to come, and is all of the text.
     pub(crate) fn set_line(&mut self, text: &mut Vec<u8>, line: &[u8])
-        requires page { kind_in self.old.arguments text.old.items ≡ page }
+        requires page { kind_in self.old.kind text.old.items ≡ page }
         requires line { IsLine line.now }
         requires skips { self.old.spot.levels.skipped < 2 ^ 62 }
         requires room { LINE + 1 ≤ vec_capacity text.old }
@@ -153,6 +182,7 @@ impl InputFrame {
             end: text.len(),
         };
         self.spot.begin_line();
+        self.turning = None;
     }
 
     /// A macro begins: its body and its arguments come to the end of the text.
@@ -170,12 +200,49 @@ impl InputFrame {
         let end = text.len();
         append(text, arguments);
         InputFrame {
-            arguments: Some(end),
+            kind: SourceKind::Body(Some(end)),
             line: NOWHERE,
             place: LinePlace::end(),
             lines: Span { start, end },
             region: None,
             spot: Spot::new(),
+            turning: None,
+        }
+    }
+
+    /// A loop begins: its condition, which is the first line of the text that is given, and the lines of its body, which are the others, come to
+    /// the end of the text, and then the arguments of the macro in which it stands. No line of it is to come before its first turn.
+    pub(crate) fn repeat(text: &mut Vec<u8>, more: &[u8], arguments: Option<&[u8]>) -> InputFrame
+        requires text { length more.now ≤ BODY }
+        requires arguments { length (packed_text (text_seen arguments)) ≤ ARGS }
+        requires room { length text.old.items + BODY + ARGS ≤ vec_capacity text.old }
+        ensures held { IsHeld result text.new.items }
+        ensures frame { frame_of result text.new.items ≡ looped (body (unpacked (text_seen arguments.entry))) (first_text (lines_in more.now)) (drop 1 (lines_in more.now)) }
+        ensures text { text.new.items ≡ text.old.items ++ (more.now ++ packed_text (text_seen arguments.entry)) }
+        ensures capacity { vec_capacity text.old ≤ vec_capacity text.new }
+    {
+        let start = text.len();
+        append(text, more);
+        let mut lines = Span {
+            start,
+            end: text.len(),
+        };
+        let arguments = append_arguments(text, arguments);
+        let kind = SourceKind::Body(arguments);
+        let condition = pass_line(kind, text, &mut lines);
+        InputFrame {
+            kind,
+            line: NOWHERE,
+            place: LinePlace::end(),
+            lines: NOWHERE,
+            region: None,
+            spot: Spot::new(),
+            turning: Some(Turns {
+                condition,
+                lines,
+                left: TURNS,
+                begun: false,
+            }),
         }
     }
 
@@ -191,6 +258,14 @@ impl InputFrame {
         }
         let mut place = self.place;
         place.next_atom(self.line.of(text))
+    }
+
+    /// Whether the part that comes next in the present line opens a block.
+    pub(crate) fn opens_block(&self, text: &[u8]) -> bool
+        requires { IsHeld self.now text.now }
+        ensures { result ≡ opens_block (frame_of self.now text.now).parts }
+    {
+        self.place.opens_block(self.line.of(text))
     }
 
     /// Whether a line begins next, outside of regions.
@@ -228,7 +303,7 @@ impl InputFrame {
         if lines.is_empty() {
             return None;
         }
-        Some(&lines[..line_len(self.arguments, lines)])
+        Some(&lines[..line_len(self.kind, lines)])
     }
 
     /// The open region.
@@ -243,20 +318,42 @@ impl InputFrame {
 
     /// Whether it is the page.
     pub(crate) fn is_page(&self) -> bool
-        ensures { (text : List ℕ) → result ≡ is_page (kind_in self.now.arguments text) }
+        ensures { (text : List ℕ) → result ≡ is_page (kind_in self.now.kind text) }
     {
-        self.arguments.is_none()
+        matches!(self.kind, SourceKind::Page)
     }
 
-    /// The arguments of a macro, each with a line feed at its end.
+    /// The arguments of a macro, or of the one in which a loop stands, each with a line feed at its end.
     pub(crate) fn arguments<'a>(&self, text: &'a [u8]) -> Option<&'a [u8]>
         requires { IsHeld self.now text.now }
-        ensures value { kind_of (text_seen result) ≡ kind_in self.now.arguments text.now }
+        ensures value { unpacked (text_seen result) ≡ arguments_of (kind_in self.now.kind text.now) }
         ensures short { IfSome result (λ packed. length packed.now ≤ ARGS) }
     {
-        match self.arguments {
-            Some(start) => Some(&text[start..]),
-            None => None,
+        match self.kind {
+            SourceKind::Body(Some(start)) => Some(&text[start..]),
+            SourceKind::Body(None) | SourceKind::Page => None,
+        }
+    }
+
+    /// The condition of a loop that may have one more turn.
+    pub(crate) fn turn<'a>(&self, text: &'a [u8]) -> Option<&'a [u8]>
+        requires { IsHeld self.now text.now }
+        ensures value { text_seen result ≡ turn_in (turning_in self.now.turning text.now) }
+        ensures short { IfSome result (λ condition. length condition.now ≤ LINE) }
+    {
+        match self.turning {
+            Some(turns) if turns.left > 0 => Some(turns.condition.of(text)),
+            _ => None,
+        }
+    }
+
+    /// Whether it was begun: a loop is by its first turn.
+    pub(crate) fn has_begun(&self) -> bool
+        ensures { (text : List ℕ) → result ≡ has_begun (turning_in self.now.turning text) }
+    {
+        match self.turning {
+            Some(turns) => turns.begun,
+            None => true,
         }
     }
 
@@ -274,6 +371,13 @@ impl InputFrame {
         self.spot.bit()
     }
 
+    /// Whether a loop is being collected here.
+    pub(crate) fn in_loop(&self) -> bool
+        ensures { result ≡ self.now.spot.levels.in_loop }
+    {
+        self.spot.in_loop()
+    }
+
     /// The number of skipped blocks that are open here.
     pub(crate) fn skipped(&self) -> u64
         ensures { result ≡ self.now.spot.levels.skipped }
@@ -287,7 +391,7 @@ impl InputFrame {
         ensures held { IsHeld self.new text.now }
         ensures frame { frame_of self.new text.now ≡ past (after_part self.old.spot.levels) (frame_of self.old text.now) }
     {
-        let _part = self.place.next_atom(self.line.of(text));
+        self.place.pass_atom(self.line.of(text));
         self.spot.pass();
     }
 
@@ -297,7 +401,7 @@ impl InputFrame {
         ensures held { IsHeld self.new text.now }
         ensures frame { frame_of self.new text.now ≡ past (record self.old.spot { begun = true }) (frame_of self.old text.now) }
     {
-        let _part = self.place.next_atom(self.line.of(text));
+        self.place.pass_atom(self.line.of(text));
         self.spot.pass_guard();
     }
 
@@ -333,18 +437,28 @@ impl InputFrame {
         ensures held { IsHeld self.new text.now }
         ensures frame { frame_of self.new text.now ≡ past (after_part (skip self.old.spot.levels)) (frame_of self.old text.now) }
     {
-        let _part = self.place.next_atom(self.line.of(text));
+        self.place.pass_atom(self.line.of(text));
         self.spot.skip();
     }
 
-    /// The innermost block ends: whether there was one.
-    pub(crate) fn leave_block(&mut self, text: &[u8]) -> bool
+    /// Goes past the head of a loop with a block, which is collected from here on.
+    pub(crate) fn open_loop(&mut self, text: &[u8])
+        requires { IsHeld self.old text.now }
+        ensures held { IsHeld self.new text.now }
+        ensures frame { frame_of self.new text.now ≡ past (after_part (open_loop self.old.spot.levels)) (frame_of self.old text.now) }
+    {
+        self.place.pass_atom(self.line.of(text));
+        self.spot.open_loop();
+    }
+
+    /// The innermost block ends, or the loop that is collected: which of them.
+    pub(crate) fn leave_block(&mut self, text: &[u8]) -> Ended
         requires { IsHeld self.old text.now }
         ensures held { IsHeld self.new text.now }
         ensures frame { frame_of self.new text.now ≡ past (after_part (leave self.old.spot.levels)) (frame_of self.old text.now) }
-        ensures block { result ≡ has_block self.old.spot.levels }
+        ensures ended { result ≡ what_ends self.old.spot.levels }
     {
-        let _part = self.place.next_atom(self.line.of(text));
+        self.place.pass_atom(self.line.of(text));
         self.spot.leave()
     }
 
@@ -369,7 +483,7 @@ impl InputFrame {
         ensures frame { frame_of self.new text.now ≡ next_line None
             (first_atoms (frame_of self.old text.now).lines) (frame_of self.old text.now) }
     {
-        self.line = pass_line(self.arguments, text, &mut self.lines);
+        self.line = pass_line(self.kind, text, &mut self.lines);
         self.place = LinePlace::start(self.line.of(text));
         self.spot.begin_line();
     }
@@ -380,7 +494,7 @@ impl InputFrame {
         ensures held { IsHeld self.new text.now }
         ensures frame { frame_of self.new text.now ≡ next_line self.old.region [] (frame_of self.old text.now) }
     {
-        let _line = pass_line(self.arguments, text, &mut self.lines);
+        let _line = pass_line(self.kind, text, &mut self.lines);
         self.place = LinePlace::end();
         self.spot.begin_line();
     }
@@ -394,6 +508,20 @@ impl InputFrame {
     {
         self.region = None;
         self.pass_region_line(text);
+    }
+
+    /// A turn of a loop begins: all lines of its body are to come.
+    pub(crate) fn begin_turn(&mut self)
+        ensures { (text : List ℕ) → IsHeld self.old text →
+            IsHeld self.new text × (frame_of self.new text ≡ in_turn (frame_of self.old text)) }
+    {
+        if let Some(turns) = self.turning {
+            self.place = LinePlace::end();
+            self.lines = turns.lines;
+            self.region = None;
+            self.spot = Spot::new();
+            self.turning = Some(turns.begin());
+        }
     }
 
     /// Where it stands is within its limits. Nothing is done: the region and the levels tell it.

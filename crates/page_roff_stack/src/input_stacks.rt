@@ -5,17 +5,18 @@ ghost use Rattle.page_core_base.specs.Texts.{IsLine};
 ghost use Rattle.page_core_limits.specs.declared.TheConstants.{ARGS, BODY, CALLS};
 ghost use Rattle.page_roff_blocks.specs.Atoms.{atom_seen, FitsAtom};
 ghost use Rattle.page_roff_blocks.specs.Caps.{PlaceFits};
-ghost use Rattle.page_roff_blocks.specs.Levels.{after_part, guarded_by, way_of, enter, bit_after, skip, leave, has_block, reached, opened_seen};
+ghost use Rattle.page_roff_blocks.specs.Levels.{after_part, guarded_by, way_of, enter, bit_after, open_loop, skip, leave, what_ends, reached, opened_seen};
 ghost use Rattle.page_roff_blocks.specs.Regions.{text_seen};
-ghost use Rattle.page_roff_language.specs.Machine.{depth, is_some};
-ghost use Rattle.page_roff_stack.specs.Changes.{page_line, past, in_region, next_line, first_atoms, is_page};
-ghost use Rattle.page_roff_stack.specs.Stacks.{first_stack, with_top, call_of, next_around, next_of, part_in, is_part, is_line, is_source_end, is_nothing, branch_in, region_in};
-ghost use Rattle.page_roff_stack.specs.Views.{kind_of, next_seen, FitsNext};
+ghost use Rattle.page_roff_language.specs.Languages.{is_some};
+ghost use Rattle.page_roff_language.specs.Machine.{depth};
+ghost use Rattle.page_roff_stack.specs.Changes.{page_line, past, in_region, next_line, in_turn, first_atoms, is_page, arguments_of};
+ghost use Rattle.page_roff_stack.specs.Stacks.{first_stack, with_top, call_of, loop_of, next_around, next_of, part_in, is_part, opens_block, is_line, is_turn, may_end, is_nothing, branch_in, region_in};
+ghost use Rattle.page_roff_stack.specs.Views.{packed_text, unpacked, next_seen, FitsNext};
 
 use crate::input_frames::InputFrame;
 use crate::next::Next;
 use page_core_limits::{ARGS, BODY, CALLS, LINE};
-use page_roff_blocks::{Atom, OpenRegion, Reached, Way};
+use page_roff_blocks::{Atom, Ended, OpenRegion, Reached, Way};
 use std::alloc::{AllocError, Global};
 use std::marker::Model;
 use std::mem;
@@ -27,7 +28,7 @@ struct Caller {
     end: usize,
 }
 
-/// The sources that run, one inside another: the page, and the macros that it calls. Contracts see them without their state.
+/// The sources that run, one inside another: the page, and the macros and loops in it. Contracts see them without their state.
 ///
 /// [`InputStack::peek`] lends what comes next, and one of the changes then goes past it.
 #[derive(Drop)]
@@ -39,7 +40,7 @@ pub struct InputStack {
     callers: Vec<Caller>,
 }
 
-// The bytes of a line of the page with its end, and of a body and its arguments in each macro.
+// The bytes of a line of the page with its end, and of a body and its arguments in each macro or loop.
 const TEXT: usize = LINE + 1 + (BODY + ARGS) * CALLS;
 
 impl Model for InputStack {
@@ -74,13 +75,23 @@ impl InputStack {
     }
 
     // What comes next where nothing is left of the innermost source.
-    fn next_around<'a>(&self, region: Option<&'a OpenRegion>) -> Next<&'a [u8], &'a OpenRegion>
-        ensures { next_seen result ≡ next_around (opened_seen region.entry) self.now.under }
+    fn next_around<'a>(&'a self, region: Option<&'a OpenRegion>) -> Next<&'a [u8], &'a OpenRegion>
+        ensures value { next_seen result ≡ next_around self.now.top.turning (opened_seen region.entry) self.now.under }
+        ensures fits { FitsNext (next_seen result) }
     {
         if self.callers.is_empty() {
-            Next::Nothing
-        } else {
-            Next::SourceEnd(region)
+            return Next::Nothing;
+        }
+        match self.top.turn(&self.text) {
+            Some(condition) => Next::Turn {
+                region,
+                has_begun: self.top.has_begun(),
+                condition,
+            },
+            None => Next::SourceEnd {
+                region,
+                has_begun: self.top.has_begun(),
+            },
         }
     }
 
@@ -138,6 +149,16 @@ impl InputStack {
         self.top.part(&self.text)
     }
 
+    /// Whether the part of a line that comes next, if one does, opens a block. What of a line belongs to a loop is not looked for.
+    pub fn opens_block(&self) -> bool
+        ensures { result ≡ opens_block (next_of self.now) }
+    {
+        if self.top.region().is_some() {
+            return false;
+        }
+        self.top.opens_block(&self.text)
+    }
+
     /// Whether a line begins next, outside of regions.
     pub fn begins_line(&self) -> bool
         ensures { result ≡ is_line (next_of self.now) }
@@ -159,14 +180,22 @@ impl InputStack {
         self.top.bit()
     }
 
-    /// The number of skipped blocks that are open here.
+    /// Whether a loop is being collected here.
+    pub fn in_loop(&self) -> bool
+        ensures { result ≡ self.now.top.spot.levels.in_loop }
+    {
+        self.top.in_loop()
+    }
+
+    /// The number of skipped blocks that are open here: those in the loop, where one is collected.
     pub fn skipped(&self) -> u64
-        ensures { result ≡ self.now.top.spot.levels.skipped }
+        ensures value { result ≡ self.now.top.spot.levels.skipped }
+        ensures room { result < 2 ^ 63 }
     {
         self.top.skipped()
     }
 
-    /// Whether one more macro may run inside the innermost source.
+    /// Whether one more macro or loop may run inside the innermost source.
     pub fn may_call(&self) -> bool
         ensures { result ≡ is_some (depth self.now.under) }
     {
@@ -180,9 +209,9 @@ impl InputStack {
         self.top.is_page()
     }
 
-    /// The arguments of the innermost macro, each with a line feed at its end; none on the page.
+    /// The arguments of the innermost macro, each with a line feed at its end; none on the page, and in its loops.
     pub fn arguments(&self) -> Option<&[u8]>
-        ensures value { kind_of (text_seen result) ≡ self.now.top.kind }
+        ensures value { unpacked (text_seen result) ≡ arguments_of self.now.top.kind }
         ensures short { IfSome result (λ packed. length packed.now ≤ ARGS) }
     {
         self.top.arguments(&self.text)
@@ -248,11 +277,19 @@ impl InputStack {
         self.top.skip_block(&self.text);
     }
 
-    /// The innermost block ends: whether there was one.
-    pub fn leave_block(&mut self) -> bool
+    /// Goes past the head of a loop with a block, which is collected from here on.
+    pub fn open_loop(&mut self)
+        ensures { self.new ≡ with_top (past
+            (after_part (open_loop self.old.top.spot.levels)) self.old.top) self.old }
+    {
+        self.top.open_loop(&self.text);
+    }
+
+    /// The innermost block ends, or the loop that is collected: which of them.
+    pub fn leave_block(&mut self) -> Ended
         ensures spot { self.new ≡ with_top (past
             (after_part (leave self.old.top.spot.levels)) self.old.top) self.old }
-        ensures block { result ≡ has_block self.old.top.spot.levels }
+        ensures ended { result ≡ what_ends self.old.top.spot.levels }
     {
         self.top.leave_block(&self.text)
     }
@@ -302,9 +339,31 @@ impl InputStack {
         self.callers.push_reserved(Caller { source, end });
     }
 
-    /// The innermost macro ends.
+    /// Runs a loop: a copy of its text, which is its condition and the lines of its body, each with a line feed at its end, and of the arguments
+    /// of the macro in which it stands, if it stands in one. A turn of it comes next.
+    pub fn repeat(&mut self, text: &[u8], arguments: Option<&[u8]>)
+        requires room { is_some (depth self.old.under) ≡ true }
+        requires text { length text.now ≤ BODY }
+        requires arguments { length (packed_text (text_seen arguments)) ≤ ARGS }
+        ensures { self.new ≡ loop_of text.now (text_seen arguments.entry) self.old }
+    {
+        let end = self.text.len();
+        let body = InputFrame::repeat(&mut self.text, text, arguments);
+        let source = mem::replace(&mut self.top, body);
+        self.callers.push_reserved(Caller { source, end });
+    }
+
+    /// A turn of the loop begins that is the innermost source: all lines of its body are to come.
+    pub fn begin_turn(&mut self)
+        requires { is_turn (next_of self.old) ≡ true }
+        ensures { self.new ≡ with_top (in_turn self.old.top) self.old }
+    {
+        self.top.begin_turn();
+    }
+
+    /// The innermost source ends: a macro, or a loop of which no turn begins.
     pub fn end_source(&mut self)
-        requires { is_source_end (next_of self.old) ≡ true }
+        requires { may_end (next_of self.old) ≡ true }
         ensures sources { self.old.under ≡ self.new.top ∷ self.new.under }
         ensures texts { self.new.texts ≡ drop 1 self.old.texts }
     {
@@ -313,7 +372,7 @@ impl InputStack {
         self.top = source;
     }
 
-    /// Where the innermost source stands, and what is held of the macros that run, their bodies and arguments, is within its limits. Nothing
+    /// Where the innermost source stands, and what is held of the macros and loops that run, their bodies and arguments, is within its limits. Nothing
     /// is done: the source and those around it tell it.
     pub fn caps_law(&self)
         ensures place { PlaceFits (record { region = self.now.top.region; levels = self.now.top.spot.levels }) }

@@ -1,5 +1,5 @@
-//! The input stack (mandoc(1), "input stack limit exceeded, infinite loop?"): a line of the page, and the bodies of the macros that run, one
-//! inside another, each read part by part in memory that is reserved once.
+//! The input stack (mandoc(1), "input stack limit exceeded, infinite loop?"): a line of the page, and the bodies of the macros and loops that
+//! run, one inside another, each read part by part in memory that is reserved once.
 //!
 //! `page_roff_machine` asks it what comes next, and moves it on. Read `specs/Stacks.antt` first, then `input_stacks.rt`.
 #![tactic(auto)]
@@ -8,7 +8,9 @@ mod input_frames;
 mod input_stacks;
 mod laws;
 mod next;
+mod source_kinds;
 mod spans;
+mod turns;
 
 pub use input_stacks::InputStack;
 pub use laws::stack_law;

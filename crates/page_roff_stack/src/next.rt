@@ -18,8 +18,21 @@ pub enum Next<W, R> {
         /// Whether it ends the region.
         is_end: bool,
     },
-    /// The innermost macro ends, inside a region or not.
-    SourceEnd(Option<R>),
+    /// A turn of the loop comes that is the innermost source, after the turn before it ended.
+    Turn {
+        /// The region in which that ended.
+        region: Option<R>,
+        /// Whether there was one.
+        has_begun: bool,
+        condition: W,
+    },
+    /// The innermost source ends: a macro, or a loop that has no more turns.
+    SourceEnd {
+        /// The region in which it ends.
+        region: Option<R>,
+        /// Whether it was begun: a macro is, and a loop by its first turn.
+        has_begun: bool,
+    },
     /// The page's line is done.
     Nothing,
 }

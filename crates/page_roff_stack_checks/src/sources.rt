@@ -1,10 +1,11 @@
-//! Sources: what is run of them, where `n` is true and every other condition false, and a line `.NAME ARGUMENT` calls a macro of the table.
+//! Sources: what is run of them, where `n` is true and every other condition false, and a line `.NAME ARGUMENT` calls a macro of the table. A
+//! loop has as many turns as its condition, a digit, says.
 
 use arrayvec::ArrayVec;
 use page_core_base::is_line;
 use page_core_limits::{ARGS, BODY};
-use page_roff_blocks::{Atom, Branch, Head, Reached};
-use page_roff_heads::{Condition, Test};
+use page_roff_blocks::{Atom, Branch, Ended, Head, Opening, Reached, loop_text};
+use page_roff_heads::{Condition, LoopHead, Test};
 use page_roff_stack::{InputStack, Next};
 use std::process::Abort;
 use std::test::Fail;
@@ -15,6 +16,14 @@ type Packed = ArrayVec<u8, 40>;
 
 // A macro's name, and its body.
 type Macro = (u8, &'static str);
+
+// What was shown, the text of the loop that is collected, and the turns so far of each loop that runs.
+#[derive(Drop)]
+struct Trace {
+    shown: Shown,
+    text: Shown,
+    turns: ArrayVec<u8, 16>,
+}
 
 fn show(shown: &mut Shown, text: &[u8]) {
     let _ = shown.try_extend_from_slice(text);
@@ -56,12 +65,12 @@ fn is_passed_over(stack: &InputStack) -> bool {
 }
 
 // A leaf: it is shown if it is run, and then called if it is a macro.
-fn leaf(stack: &mut InputStack, macros: &[Macro], shown: &mut Shown) {
+fn leaf(stack: &mut InputStack, macros: &[Macro], trace: &mut Trace) {
     let is_run = !is_passed_over(stack);
     let call = match stack.peek() {
         Next::Part(Atom::Leaf(text)) if is_run => {
-            show(shown, text);
-            show(shown, b"|");
+            show(&mut trace.shown, text);
+            show(&mut trace.shown, b"|");
             call_of(macros, text)
         }
         _ => None,
@@ -70,16 +79,91 @@ fn leaf(stack: &mut InputStack, macros: &[Macro], shown: &mut Shown) {
     if let Some((body, packed)) = call {
         if stack.may_call() && body.len() <= BODY && packed.len() <= ARGS {
             stack.call(body, packed.as_slice());
-            show(shown, b"(");
+            show(&mut trace.shown, b"(");
         }
     }
 }
 
+// A line of the loop that is collected.
+fn collect(trace: &mut Trace, line: &[u8]) {
+    show(&mut trace.text, line);
+    show(&mut trace.text, b"\n");
+}
+
+// A loop begins to be collected.
+fn open_loop(trace: &mut Trace, head: LoopHead<&[u8]>) {
+    trace.text.clear();
+    collect(trace, head.condition);
+    if let Some(body) = head.body {
+        collect(trace, body);
+    }
+}
+
+// A copy of the arguments of the innermost source.
+fn arguments_of(stack: &InputStack) -> Option<Packed> {
+    let arguments = stack.arguments()?;
+    let mut packed = Packed::new();
+    let _ = packed.try_extend_from_slice(arguments);
+    Some(packed)
+}
+
+// The loop that was collected runs, if it may.
+fn repeat(stack: &mut InputStack, trace: &mut Trace) {
+    let packed = arguments_of(stack);
+    if !stack.may_call() || trace.text.len() > BODY {
+        show(&mut trace.shown, b"X");
+        return;
+    }
+    match packed {
+        Some(packed) => {
+            if packed.len() <= ARGS {
+                stack.repeat(trace.text.as_slice(), Some(packed.as_slice()));
+            }
+        }
+        None => stack.repeat(trace.text.as_slice(), None),
+    }
+}
+
+// The head of a block that is run.
+fn block(stack: &mut InputStack, trace: &mut Trace) {
+    match stack.peek() {
+        Next::Part(Atom::Block(Opening::Conditional(head))) => {
+            let value = value(head, stack.bit());
+            stack.enter_block(value);
+        }
+        Next::Part(Atom::Block(Opening::Loop(head))) => {
+            open_loop(trace, head);
+            stack.open_loop();
+        }
+        _ => (),
+    }
+}
+
+// A loop without a block.
+fn line_loop(stack: &mut InputStack, trace: &mut Trace) {
+    let is_run = !is_passed_over(stack);
+    if let Next::Part(Atom::Loop(head)) = stack.peek() {
+        open_loop(trace, head);
+    }
+    stack.pass();
+    if is_run {
+        repeat(stack, trace);
+    }
+}
+
+fn block_end(stack: &mut InputStack, trace: &mut Trace) {
+    match stack.leave_block() {
+        Ended::Block => (),
+        Ended::Loop => repeat(stack, trace),
+        Ended::Nothing => show(&mut trace.shown, b"!"),
+    }
+}
+
 // A part of a line.
-fn part(stack: &mut InputStack, macros: &[Macro], shown: &mut Shown) {
+fn part(stack: &mut InputStack, macros: &[Macro], trace: &mut Trace) {
     let is_run = !is_passed_over(stack);
     match stack.peek() {
-        Next::Part(Atom::Leaf(_)) => leaf(stack, macros, shown),
+        Next::Part(Atom::Leaf(_)) => leaf(stack, macros, trace),
         Next::Part(Atom::Guard(head)) => {
             if is_run {
                 let value = value(head, stack.bit());
@@ -88,51 +172,104 @@ fn part(stack: &mut InputStack, macros: &[Macro], shown: &mut Shown) {
                 stack.pass_guard();
             }
         }
-        Next::Part(Atom::Block(head)) => {
+        Next::Part(Atom::Block(_)) => {
             if is_run {
-                let value = value(head, stack.bit());
-                stack.enter_block(value);
+                block(stack, trace);
             } else {
                 stack.skip_block();
             }
         }
-        Next::Part(Atom::End) => {
-            if !stack.leave_block() {
-                show(shown, b"!");
-            }
-        }
+        Next::Part(Atom::Loop(_)) => line_loop(stack, trace),
+        Next::Part(Atom::End) => block_end(stack, trace),
         Next::Part(Atom::Region(_)) => {
-            show(shown, if is_run { b"[" } else { b"{" });
+            show(&mut trace.shown, if is_run { b"[" } else { b"{" });
             stack.open_region(is_run);
         }
         _ => (),
     }
 }
 
+// A line begins, in a loop that is collected or not.
+fn line(stack: &mut InputStack, trace: &mut Trace) {
+    if let Next::Line(line) = stack.peek() {
+        if stack.in_loop() {
+            if let Some(text) = loop_text(line, stack.skipped()) {
+                collect(trace, text);
+            }
+        }
+        stack.begin_line();
+    }
+}
+
 // A line in a region.
-fn region_line(stack: &mut InputStack, shown: &mut Shown) {
+fn region_line(stack: &mut InputStack, trace: &mut Trace) {
     if let Next::RegionLine { line, is_end, .. } = stack.peek() {
+        if stack.in_loop() {
+            collect(trace, line);
+        }
         if is_end {
-            show(shown, b"]");
+            show(&mut trace.shown, b"]");
             stack.end_region();
         } else {
-            show(shown, line);
+            show(&mut trace.shown, line);
             stack.pass_region_line();
         }
     }
 }
 
+// How many turns a loop has.
+fn turns_of(condition: &[u8]) -> u8 {
+    match condition {
+        [digit @ b'0'..=b'9'] => *digit - b'0',
+        _ => 0,
+    }
+}
+
+// A source ends: its arguments are shown.
+fn end(stack: &InputStack, trace: &mut Trace, mark: &[u8]) {
+    if let Some(packed) = stack.arguments() {
+        show(&mut trace.shown, packed);
+    }
+    show(&mut trace.shown, mark);
+}
+
+// A turn of a loop comes, and begins where the loop has one more. A region that the one before it left open is shown.
+fn turn(stack: &mut InputStack, trace: &mut Trace) {
+    if let Next::Turn {
+        region,
+        has_begun,
+        condition,
+    } = stack.peek()
+    {
+        if region.is_some() {
+            show(&mut trace.shown, b"?");
+        }
+        let turns = turns_of(condition);
+        let done = if has_begun {
+            trace.turns.pop().unwrap_or(turns)
+        } else {
+            0
+        };
+        if done < turns {
+            let _ = trace.turns.try_push(done + 1);
+            show(&mut trace.shown, if has_begun { b"," } else { b"<" });
+            stack.begin_turn();
+        } else {
+            end(stack, trace, b">");
+            stack.end_source();
+        }
+    }
+}
+
 // What comes next; whether there was anything.
-fn step(stack: &mut InputStack, macros: &[Macro], shown: &mut Shown) -> bool {
+fn step(stack: &mut InputStack, macros: &[Macro], trace: &mut Trace) -> bool {
     match stack.peek() {
-        Next::Part(_) => part(stack, macros, shown),
-        Next::Line(_) => stack.begin_line(),
-        Next::RegionLine { .. } => region_line(stack, shown),
-        Next::SourceEnd(_) => {
-            if let Some(packed) = stack.arguments() {
-                show(shown, packed);
-            }
-            show(shown, b")");
+        Next::Part(_) => part(stack, macros, trace),
+        Next::Line(_) => line(stack, trace),
+        Next::RegionLine { .. } => region_line(stack, trace),
+        Next::Turn { .. } => turn(stack, trace),
+        Next::SourceEnd { .. } => {
+            end(stack, trace, b")");
             stack.end_source();
         }
         Next::Nothing => return false,
@@ -142,20 +279,24 @@ fn step(stack: &mut InputStack, macros: &[Macro], shown: &mut Shown) -> bool {
 
 // Runs lines of the page, one after another, and answers what was shown.
 fn run(rt: &impl Abort, stack: &mut InputStack, macros: &[Macro], lines: &[&str]) -> Shown {
-    let mut shown = Shown::new();
+    let mut trace = Trace {
+        shown: Shown::new(),
+        text: Shown::new(),
+        turns: ArrayVec::new(),
+    };
     for line in lines {
         assert!(rt; stack.is_idle());
         assert!(rt; is_line(line.as_bytes()));
         assert!(rt; stack.skipped() < 1000);
         stack.set_line(line.as_bytes());
-        'steps: for _ in 0..200 {
-            if !step(stack, macros, &mut shown) {
+        'steps: for _ in 0..400 {
+            if !step(stack, macros, &mut trace) {
                 break 'steps;
             }
         }
     }
     assert!(rt; stack.is_idle());
-    shown
+    trace.shown
 }
 
 const MACROS: &[Macro] = &[
@@ -165,6 +306,9 @@ const MACROS: &[Macro] = &[
     (b'd', ".ig\nq\n"),
     (b'e', ".e\nz\n"),
     (b'f', "\\}\n"),
+    (b'g', ".while 2 \\{\nx\n.b y\n\\}z\n"),
+    (b'h', ".h\n.while 1 x\n"),
+    (b'i', ".while 2 \\{\n.ig\n"),
 ];
 
 fn check<R: Abort + AllocGlobal>(rt: &R, lines: &[&str], want: &str) -> Result<(), Fail> {
@@ -224,5 +368,101 @@ fn full_stack(rt: HostRuntime) -> Result<(), Fail> {
     assert_eq!(rt; shown.as_slice(), want.as_slice());
     let again = run(&rt, &mut stack, MACROS, &[".e"]);
     assert_eq!(rt; again.as_slice(), want.as_slice());
+    Ok(())
+}
+
+#[test]
+fn loops_of_the_page(rt: HostRuntime) -> Result<(), Fail> {
+    check(&rt, &[".while 2 x"], "<x|,x|>")?;
+    check(&rt, &[".while 0 x", "y"], ">y|")?;
+    check(
+        &rt,
+        &[".while 2 \\{a", "b", "c\\}d", "e"],
+        "<a|b|c|,a|b|c|>d|e|",
+    )?;
+    check(&rt, &[".while 2 \\{\\}", "z"], "<,>z|")?;
+    check(&rt, &[".if t .while 2 x", "z"], "z|")?;
+    check(&rt, &[".if t \\{.while 2 \\{", "\\}", "\\}", "z"], "z|")
+}
+
+#[test]
+fn loops_of_macros(rt: HostRuntime) -> Result<(), Fail> {
+    check(
+        &rt,
+        &[".g w"],
+        ".g w|(<x|.b y|(in|ner|last|y),x|.b y|(in|ner|last|y)w>z|w)",
+    )?;
+    check(
+        &rt,
+        &[".while 2 .b y"],
+        "<.b y|(in|ner|last|y),.b y|(in|ner|last|y)>",
+    )?;
+    check(&rt, &[".i w", "z"], ".i w|({w)z|")
+}
+
+#[test]
+fn loops_inside_one_another(rt: HostRuntime) -> Result<(), Fail> {
+    check(&rt, &[".while 2 .while 2 x"], "<<x|,x|>,<x|,x|>>")?;
+    check(
+        &rt,
+        &[".while 2 \\{a", ".while 1 \\{b", "\\}", "c", "\\}"],
+        "<a|<b|>c|,a|<b|>c|>",
+    )
+}
+
+#[test]
+fn turns_begin_outside_all_blocks_and_regions(rt: HostRuntime) -> Result<(), Fail> {
+    check(&rt, &[".while 2 .if n \\{a", "\\}"], "<a|,a|>!")?;
+    check(&rt, &[".while 2 .if t \\{a", "z"], "<,>z|")?;
+    check(&rt, &[".while 2 .ig", "z"], "<[?,[?>z|")?;
+    check(
+        &rt,
+        &[".while 2 \\{", ".ig", "\\}", "..", "x", "\\}"],
+        "{\\}]<[\\}]x|,[\\}]x|>",
+    )
+}
+
+#[test]
+fn full_stack_of_loops(rt: HostRuntime) -> Result<(), Fail> {
+    let calls = ".h|(.h|(.h|(.h|(.h|(.h|(.h|(.h|(.h|(.h|(.h|(.h|(.h|(.h|(.h|(.h|(.h|X)";
+    let ends = "<x|>)<x|>)<x|>)<x|>)<x|>)<x|>)<x|>)<x|>)<x|>)<x|>)<x|>)<x|>)<x|>)<x|>)<x|>)";
+    let mut want = Shown::new();
+    show(&mut want, calls.as_bytes());
+    show(&mut want, ends.as_bytes());
+    let mut stack = InputStack::new(rt.alloc())?;
+    let shown = run(&rt, &mut stack, MACROS, &[".h"]);
+    assert_eq!(rt; shown.as_slice(), want.as_slice());
+    let again = run(&rt, &mut stack, MACROS, &[".h"]);
+    assert_eq!(rt; again.as_slice(), want.as_slice());
+    Ok(())
+}
+
+// Runs a loop whose turns all begin, and answers how many there were.
+fn all_turns(stack: &mut InputStack) -> u32 {
+    if stack.may_call() {
+        stack.repeat(b"1\n", None);
+    }
+    for turns in 0..2000u32 {
+        if !matches!(stack.peek(), Next::Turn { .. }) {
+            return turns;
+        }
+        stack.begin_turn();
+    }
+    2000
+}
+
+#[test]
+fn turns_of_a_loop_end(rt: HostRuntime) -> Result<(), Fail> {
+    let mut stack = InputStack::new(rt.alloc())?;
+    let turns = all_turns(&mut stack);
+    assert_eq!(rt; turns, 1002);
+    let is_end = matches!(
+        stack.peek(),
+        Next::SourceEnd {
+            has_begun: true,
+            ..
+        }
+    );
+    assert!(rt; is_end);
     Ok(())
 }

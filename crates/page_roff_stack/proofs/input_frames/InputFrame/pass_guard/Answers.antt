@@ -1,27 +1,27 @@
 use Rattle.std.proofs.Common.{ap, ◌∙◌, arith}
 use Rattle.page_roff_stack.specs.Changes.{past}
 use Rattle.page_roff_stack.specs.InputFrames.{frame_of}
-use Rattle.page_roff_stack.proofs.InputFrameLemmas.{IsRead, past_view, past_held}
+use Rattle.page_roff_stack.proofs.InputFrameLemmas.{IsPast, past_view, past_held}
 use Rattle.page_roff_stack.proofs.input_frames.InputFrame.pass_guard.Goals as goal
 
 pub returns-clause-held : goal.returns-clause-held
 returns-clause-held c =
     let a = c.args.self.now in
-    let read : IsRead a c.args.text.now c.of.result.now c.next_atom-part.result c.next_atom-part.new.self = record {
+    let past_it : IsPast a c.args.text.now c.of.result.now c.pass_atom.new.self = record {
       text_is = c.of.ensures;
-      next = c.next_atom-part.ensures.next;
-      within = c.next_atom-part.ensures.within;
+      next = c.pass_atom.ensures.next;
+      within = c.pass_atom.ensures.within;
     } in
     let e = ap (λ spot. spot.levels.skipped) c.pass_guard.ensures in
-    past_held a c.args.text.now c.of.result.now c.next_atom-part.result c.next_atom-part.new.self c.pass_guard.new.self c.requires read (omega (arith, e))
+    past_held a c.args.text.now c.of.result.now c.pass_atom.new.self c.pass_guard.new.self c.requires past_it (omega (arith, e))
 
 pub returns-clause-frame : goal.returns-clause-frame
 returns-clause-frame c =
     let a = c.args.self.now in
-    let read : IsRead a c.args.text.now c.of.result.now c.next_atom-part.result c.next_atom-part.new.self = record {
+    let past_it : IsPast a c.args.text.now c.of.result.now c.pass_atom.new.self = record {
       text_is = c.of.ensures;
-      next = c.next_atom-part.ensures.next;
-      within = c.next_atom-part.ensures.within;
+      next = c.pass_atom.ensures.next;
+      within = c.pass_atom.ensures.within;
     } in
-    past_view a c.args.text.now c.of.result.now c.next_atom-part.result c.next_atom-part.new.self c.pass_guard.new.self read
+    past_view a c.args.text.now c.of.result.now c.pass_atom.new.self c.pass_guard.new.self past_it
     ∙ ap (λ spot. past spot (frame_of a c.args.text.now)) (c.pass_guard.ensures)

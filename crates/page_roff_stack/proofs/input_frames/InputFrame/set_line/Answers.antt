@@ -1,4 +1,4 @@
-use Rattle.std.proofs.Common.{◌≡◌, ◌<◌, ◌^◌, ◌++◌, [], ◌∷◌, length, refl, ap, sym, ◌∙◌, arith, append-nil, length-append}
+use Rattle.std.proofs.Common.{◌≡◌, ◌<◌, ◌^◌, ◌++◌, [], ◌∷◌, None, length, refl, ap, sym, ◌∙◌, arith, append-nil, length-append}
 use Rattle.page_roff_blocks.specs.Levels.{at_line}
 use Rattle.page_roff_language.specs.Languages.{page}
 use Rattle.page_roff_stack.specs.declared.input_frames.InputFrame.{InputFrame}
@@ -12,25 +12,26 @@ returns c =
     let all = c.append-2.new.text.items in
     let old = c.args.self.now in
     let a : InputFrame = record {
-      arguments = old.arguments;
+      kind = old.kind;
       line = span 0 0;
       place = c.end-self.result;
       lines = span 0 c.len.result;
       region = old.region;
       spot = c.begin_line.new.self;
+      turning = None;
     } in
     let e : all ≡ line ++ (10 ∷ []) =
     c.append-2.ensures.items ∙ ap (λ bytes. bytes ++ (10 ∷ [])) (c.append.ensures.items ∙ ap (λ bytes. bytes ++ line) c.clear.ensures.items) in
-    let none = page_none old.arguments c.args.text.now.items c.requires.page in
+    let none = page_none old.kind c.args.text.now.items c.requires.page in
     let lines : a.lines ≡ span 0 (length (line ++ (10 ∷ []))) = ap (λ end. span 0 end) (c.len.ensures ∙ c.append-2.new.text.ok.0 ∙ ap length e) in
     let new : IsNew a all [] (line ++ (10 ∷ [])) =
-    new_of a all [] (line ++ (10 ∷ [])) [] (e ∙ sym (append-nil (line ++ (10 ∷ [])))) refl c.end-self.ensures lines (rw none tt) in
+    new_of a all [] (line ++ (10 ∷ [])) [] (e ∙ sym (append-nil (line ++ (10 ∷ [])))) refl c.end-self.ensures lines (rw none tt) tt in
     let same = ap (λ spot. spot.levels.skipped) c.begin_line.ensures in
     let skips : a.spot.levels.skipped < 2 ^ 62 = omega (arith, same, c.requires.skips) in
-    let set = page_set a all line c.requires.line new none skips in
+    let set = page_set a all line c.requires.line new none refl skips in
     record {
       held = set.0;
-      frame = set.1 ∙ ap (λ spot. frame page old.region spot (line ∷ [])) c.begin_line.ensures;
+      frame = set.1 ∙ ap (λ spot. frame page old.region spot (line ∷ []) None) c.begin_line.ensures;
       fits = omega (arith, ap length e, length-append line (10 ∷ []), c.requires.line.bounded);
       capacity = omega (arith, c.clear.ensures.capacity, c.append.ensures.capacity, c.append-2.ensures.capacity);
     }

@@ -21,5 +21,5 @@ returns c =
 pub begin_line-requires : goal.begin_line-requires
 begin_line-requires c =
     let s = stack_of c.self.inside in
-    let line = line_next s.top.region s.top.parts s.top.lines s.under ∙ ap (λ s. is_line (next_of s)) c.self.view_is ∙ c.requires in
+    let line = line_next s.top.turning s.top.region s.top.parts s.top.lines s.under ∙ ap (λ s. is_line (next_of s)) c.self.view_is ∙ c.requires in
     rw c.deref.ensures.value (record { held = c.self.invariant.top; line = line })

@@ -8,4 +8,4 @@ pub returns : goal.returns
 returns c =
     let a = c.self.inside in
     let s = stack_of a in
-    c.begins_line.ensures a.text.items c.self.invariant.top ∙ line_next s.top.region s.top.parts s.top.lines s.under ∙ ap (λ s. is_line (next_of s)) c.self.view_is
+    c.begins_line.ensures a.text.items c.self.invariant.top ∙ line_next s.top.turning s.top.region s.top.parts s.top.lines s.under ∙ ap (λ s. is_line (next_of s)) c.self.view_is

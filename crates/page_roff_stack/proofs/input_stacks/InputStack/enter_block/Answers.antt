@@ -16,12 +16,12 @@ pub returns-clause-spot : goal.returns-clause-spot
 returns-clause-spot c =
     let a = c.self.inside in
     let s = stack_of a in
-    let there = part_there s.top.region s.top.parts s.top.lines s.under (rw (← c.self.view_is) at c.requires) in
+    let there = part_there s.top.turning s.top.region s.top.parts s.top.lines s.under (rw (← c.self.view_is) at c.requires) in
     ap (λ f. with_top f (stack_of a)) ((rw c.deref.ensures.value at c.enter_block.ensures.frame) ∙ ap (λ branch. past (after_part (enter c.enter_block.result (bit_after branch c.args.value a.top.spot.levels.bit) a.top.spot.levels)) s.top) (sym there.1))
     ∙ ap (λ s. with_top (past (after_part (enter c.enter_block.result (bit_after (branch_in (next_of s)) c.args.value s.top.spot.levels.bit) s.top.spot.levels)) s.top) s) c.self.view_is
 
 pub enter_block-requires : goal.enter_block-requires
 enter_block-requires c =
     let s = stack_of c.self.inside in
-    let there = part_there s.top.region s.top.parts s.top.lines s.under (rw (← c.self.view_is) at c.requires) in
+    let there = part_there s.top.turning s.top.region s.top.parts s.top.lines s.under (rw (← c.self.view_is) at c.requires) in
     rw c.deref.ensures.value (record { held = c.self.invariant.top; part = there.0 })

@@ -16,7 +16,7 @@ pub returns : goal.returns
 returns c =
     let a = c.self.inside in
     let s = stack_of a in
-    let there = part_there s.top.region s.top.parts s.top.lines s.under (rw (← c.self.view_is) at c.requires) in
+    let there = part_there s.top.turning s.top.region s.top.parts s.top.lines s.under (rw (← c.self.view_is) at c.requires) in
     ap (λ f. with_top f (stack_of a)) ((rw c.deref.ensures.value at c.guard.ensures.frame) ∙ ap (λ branch. past (guarded_by branch c.args.value a.top.spot.levels) s.top) (sym there.1))
     ∙ ap (λ s. with_top (past (guarded_by (branch_in (next_of s)) c.args.value s.top.spot.levels) s.top) s) c.self.view_is
 

@@ -15,7 +15,7 @@ pub returns : goal.returns
 returns c =
     let a = c.self.inside in
     let s = stack_of a in
-    let there = part_there s.top.region s.top.parts s.top.lines s.under (rw (← c.self.view_is) at c.requires) in
+    let there = part_there s.top.turning s.top.region s.top.parts s.top.lines s.under (rw (← c.self.view_is) at c.requires) in
     ap (λ f. with_top f (stack_of a)) ((rw c.deref.ensures.value at c.open_region.ensures.frame) ∙ ap (λ region. in_region region s.top) (sym (there.2 c.args.is_run)))
     ∙ ap (λ s. with_top (in_region (region_in c.args.is_run (next_of s)) s.top) s) c.self.view_is
 

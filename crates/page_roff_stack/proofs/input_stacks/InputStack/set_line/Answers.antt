@@ -12,7 +12,7 @@ invariant_of-self c =
     let a = c.self.inside in
     let b : Inside = record { text = c.set_line.new.text; top = c.set_line.new.self; callers = a.callers } in
     let s = stack_of a in
-    let none = callers_none a (nothing_there s.top.region s.top.parts s.top.lines s.under (ap (λ s. is_nothing (next_of s)) c.self.view_is ∙ c.requires.idle)) in
+    let none = callers_none a (nothing_there s.top.turning s.top.region s.top.parts s.top.lines s.under (ap (λ s. is_nothing (next_of s)) c.self.view_is ∙ c.requires.idle)) in
     let set = c.set_line.ensures in
     (line_set a b c.args.line.now none c.self.invariant.calls set.held set.frame set.fits (omega (arith, set.capacity, c.self.invariant.room))).0
 
@@ -21,7 +21,7 @@ returns c =
     let a = c.self.inside in
     let b : Inside = record { text = c.set_line.new.text; top = c.set_line.new.self; callers = a.callers } in
     let s = stack_of a in
-    let none = callers_none a (nothing_there s.top.region s.top.parts s.top.lines s.under (ap (λ s. is_nothing (next_of s)) c.self.view_is ∙ c.requires.idle)) in
+    let none = callers_none a (nothing_there s.top.turning s.top.region s.top.parts s.top.lines s.under (ap (λ s. is_nothing (next_of s)) c.self.view_is ∙ c.requires.idle)) in
     let set = c.set_line.ensures in
     (line_set a b c.args.line.now none c.self.invariant.calls set.held set.frame set.fits (omega (arith, set.capacity, c.self.invariant.room))).1
     ∙ ap (λ s. let t : Stack = record { top = page_line c.args.line.now s.top; under = []; texts = [] } in t) c.self.view_is

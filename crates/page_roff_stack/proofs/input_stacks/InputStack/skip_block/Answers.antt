@@ -21,5 +21,5 @@ returns c =
 pub skip_block-requires : goal.skip_block-requires
 skip_block-requires c =
     let s = stack_of c.self.inside in
-    let there = part_there s.top.region s.top.parts s.top.lines s.under (rw (← c.self.view_is) at c.requires) in
+    let there = part_there s.top.turning s.top.region s.top.parts s.top.lines s.under (rw (← c.self.view_is) at c.requires) in
     rw c.deref.ensures.value (record { held = c.self.invariant.top; part = there.0 })
