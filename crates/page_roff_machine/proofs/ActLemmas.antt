@@ -2,46 +2,52 @@
 use Rattle.std.proofs.Common.{◌≡◌, ℕ, ◌<◌, ◌≤◌, ◌^◌, inl, inr, Bool, true, false, List, [], ◌∷◌, ◌++◌, map, drop, length, Option, Some, None, refl, sym, ap, ◌∙◌, arith}
 use Rattle.page_core_base.specs.Messages.{Message}
 use Rattle.page_core_base.specs.declared.page_settings.Output.{Output}
+use Rattle.page_roff_heads.specs.declared.loops.LoopHead.{LoopHead}
 use Rattle.page_roff_blocks.specs.declared.atoms.Atom.{Atom}
-use Rattle.page_roff_blocks.specs.declared.atoms.Atom.TheVariants.{Leaf, Guard, Block, End, Region}
+use Rattle.page_roff_blocks.specs.declared.atoms.Atom.TheVariants.{Leaf, Guard, Block, Loop, End, Region}
 use Rattle.page_roff_blocks.specs.declared.atoms.Branch.{Branch}
 use Rattle.page_roff_blocks.specs.declared.atoms.Branch.TheVariants.{If, IfElse, Else}
 use Rattle.page_roff_blocks.specs.declared.atoms.Head.{Head}
+use Rattle.page_roff_blocks.specs.declared.atoms.Opening.{Opening}
+use Rattle.page_roff_blocks.specs.declared.atoms.Opening.TheVariants as openings
+use Rattle.page_roff_blocks.specs.declared.levels.Ended.{Ended}
+use Rattle.page_roff_blocks.specs.declared.levels.Ended.TheVariants as endings
 use Rattle.page_roff_blocks.specs.declared.levels.Way.{Way}
 use Rattle.page_roff_blocks.specs.declared.levels.Way.TheVariants.{Runs, Skips, Exceeds}
 use Rattle.page_roff_blocks.specs.declared.regions.RegionHead.{RegionHead}
 use Rattle.page_roff_blocks.specs.declared.spots.Reached.{Reached}
 use Rattle.page_roff_blocks.specs.declared.spots.Reached.TheVariants.{PassedOver, First, Remainder}
 use Rattle.page_roff_blocks.specs.Atoms.{atoms}
-use Rattle.page_roff_blocks.specs.Levels.{Opened, opened, Spot, after_part, way_of, reached, has_block, at_line, leave}
-use Rattle.page_roff_blocks.specs.Run.{Meaning, meet_as, value, refuse_if, unopened_if}
-use Rattle.page_roff_blocks.specs.Steps.{met, guard_with, guard_met, step_guard, block_with, block_met, step_block, step_end, step_region}
-use Rattle.page_roff_language.specs.Languages.{Kind, page, body, Language, meaning_at}
+use Rattle.page_roff_blocks.specs.Levels.{Levels, Opened, opened, Spot, after_part, way_of, reached, reached_in, skip, what_ends, at_line, leave}
+use Rattle.page_roff_blocks.specs.Run.{Meaning, meet_as, value, refuse_if, keep_if}
+use Rattle.page_roff_blocks.specs.Steps as steps
+use Rattle.page_roff_blocks.specs.Steps.{met, guard_with, guard_met, step_guard, block_with, opening_met, block_met, step_block, step_region, collect_if}
+use Rattle.page_roff_language.specs.Languages.{Kind, page, body, Language, is_some, meaning_by, meaning_at, finish_at}
 use Rattle.page_roff_language.specs.Machine as machine
-use Rattle.page_roff_language.specs.Machine.{Frame, Running, depth, is_some, at_part, leaf_next, part_next, line_next, region_next, source_next, next}
+use Rattle.page_roff_language.specs.Machine.{Frame, Running, Turning, depth, at_part, between, leaf_next, loop_next, end_next, finish_if, part_next, line_next, region_next, next}
 use Rattle.page_roff_language.specs.Counting.{Budget}
 use Rattle.page_roff_language.specs.Measures.{HasMeasure, IsOnLine}
 use Rattle.page_roff_language.specs.Budgets.{Budgeted, meaning, language, end_line}
 use Rattle.page_roff_effects.specs.declared.commands.ProductKind.{ProductKind}
-use Rattle.page_roff_effects.specs.Acting.{IfCalled, IsCallable}
+use Rattle.page_roff_effects.specs.declared.commands.ProductKind.TheVariants as kinds
+use Rattle.page_roff_effects.specs.Acting.{IfCalled, IsCallable, IfRepeated, IsRepeatable}
 use Rattle.page_roff_effects.specs.Effects.{effects}
 use Rattle.page_roff_effects.specs.States.{State, says}
 use Rattle.page_roff_stack.specs.declared.next.Next.{Next}
-use Rattle.page_roff_stack.specs.declared.next.Next.TheVariants.{Part, Line, RegionLine, SourceEnd, Nothing}
+use Rattle.page_roff_stack.specs.declared.next.Next.TheVariants.{Part, Line, RegionLine, Turn, SourceEnd, Nothing}
 use Rattle.page_roff_stack.specs.Changes.{is_page, next_line, first_atoms, past}
 use Rattle.page_roff_stack.specs.Stacks as stacks
-use Rattle.page_roff_stack.specs.Stacks.{Stack, running, with_top, next_around, next_in, next_of, part_in, is_part, is_line, is_source_end, is_nothing, step_in, step_of}
+use Rattle.page_roff_stack.specs.Stacks.{Stack, running, with_top, has_begun, turn_in, turn_or_end, next_around, next_in, next_of, part_in, is_part, is_line, is_turn, may_end, is_nothing, end_of, turn_if, step_in, step_of}
 use Rattle.page_roff_stack.proofs.StackLemmas.{next_steps}
-use Rattle.page_roff_stack.proofs.StackLemmas.{line_there as stack_line_there}
 use Rattle.page_roff_machine.specs.declared.budgeted_actions.BudgetedActions.{BudgetedActions}
 use Rattle.page_roff_machine.specs.declared.movements.Movement.TheVariants as moves
 use Rattle.page_roff_machine.specs.declared.movements.Progress.TheVariants.{More}
 use Rattle.page_roff_machine.specs.declared.runners.Runner.{Runner}
-use Rattle.page_roff_machine.specs.Doing.{HasRoom, output_of, state_in, state_after, line_after, IsIn, IsAt, Makes, Does, Answers, parts_of, begun_in, answer_if, answer_after, answer_in, region_after, region_in, leaf_if, leaf_after, leaf_in, line_of, done_as, read_in, ended_in, finished_in}
-use Rattle.page_roff_machine.specs.Moving.{guard_spot, block_spot, refused, moved, ended, reached_with, Decides}
+use Rattle.page_roff_machine.specs.Doing.{HasRoom, output_of, state_in, state_after, answer_with, line_after, IsIn, IsAt, Makes, Does, Answers, parts_of, begun_in, answer_if, answer_after, answer_in, region_after, region_in, opens_if, opens_after, opened_in, collected_in, closes_after, passed_in, turned_in, leaf_if, leaf_after, leaf_in, line_of, done_as, read_kept_in, ended_kept_in, finished_in}
+use Rattle.page_roff_machine.specs.Moving.{guard_spot, block_spot, loop_spot, refused, moved, reached_with, CanBegin, passes_block, line_in, Collects, Decides}
 use Rattle.page_roff_machine.specs.Stepping.{IsSound, Steps}
-use Rattle.page_roff_machine.proofs.DoingLemmas.{came_none}
-use Rattle.page_roff_machine.proofs.GoLemmas.{same_depth}
+use Rattle.page_roff_machine.proofs.DoingLemmas.{came_none, stays, both, kind_after}
+use Rattle.page_roff_machine.proofs.FrameLemmas.{same_source}
 
 -- ---- the meaning of parts, however many macros may run
 
@@ -53,13 +59,13 @@ module _ (output : Output) (d : ℕ) (kind : Kind) where
   p = meaning (effects output) kind
 
   met_same : (r : Reached) (s : Budgeted State) → meet_as m r s ≡ meet_as p r s
-  unfolding m p meaning_at language meet_as
+  unfolding m p meaning_at meaning_by language meet_as
   met_same PassedOver s = refl
   met_same First s = refl
   met_same Remainder s = refl
 
   value_same : (branch : Branch (List ℕ)) (bit : Bool) (s : Budgeted State) → value m branch bit s ≡ value p branch bit s
-  unfolding m p meaning_at language value
+  unfolding m p meaning_at meaning_by language value
   value_same (If condition) bit s = refl
   value_same (IfElse condition) bit s = refl
   value_same Else bit s = refl
@@ -75,15 +81,10 @@ module _ (output : Output) (d : ℕ) (kind : Kind) where
 
   refuse_same : (way : Way) (h : Head (List ℕ)) (s : Budgeted State)
       → refuse_if m way h s ≡ refuse_if (meaning (effects output) page) way (record { column = h.column; branch = Else }) s
-  unfolding m meaning_at language meaning effects refuse_if
+  unfolding m meaning_at meaning_by language meaning effects refuse_if
   refuse_same Runs h s = refl
   refuse_same Skips h s = refl
   refuse_same Exceeds h s = refl
-
-  unopened_same : (has : Bool) (s : Budgeted State) → unopened_if m has s ≡ unopened_if p has s
-  unfolding m p meaning_at language unopened_if
-  unopened_same true s = refl
-  unopened_same false s = refl
 
   -- heads of conditionals
   guard_same_if : (h : Head (List ℕ)) (is_run : Bool) (spot : Spot) (s : Budgeted State)
@@ -101,20 +102,75 @@ module _ (output : Output) (d : ℕ) (kind : Kind) where
       ∙ ap (λ (a : Option Bool × Budgeted State). (guard_spot h.branch a.0 spot, a.1)) (answer_same h.branch spot.levels.bit (reached spot) s)
 
   block_same_if : (h : Head (List ℕ)) (is_run : Bool) (spot : Spot) (s : Budgeted State)
-      → block_met m is_run h spot s ≡ (let a = answer_if m h.branch spot.levels.bit is_run s in (block_spot h.branch a.0 spot, refused output a.0 h.column spot a.1))
-  unfolding block_met block_with
+      → block_met m is_run (openings.Conditional h) spot s
+      ≡ (let a = answer_if m h.branch spot.levels.bit is_run s in (block_spot h.branch a.0 spot, refused output a.0 h.column spot a.1))
+  unfolding block_met opening_met block_with
   block_same_if h true spot s =
       let v = value m h.branch spot.levels.bit s in
       ap (λ (t : Budgeted State). (block_spot h.branch (Some v.0) spot, t)) (refuse_same (way_of v.0 (length spot.levels.outer)) h v.1)
   block_same_if h false spot s = refl
 
   block_same : (h : Head (List ℕ)) (spot : Spot) (s : Budgeted State)
-      → step_block m h spot s ≡ (let a = answer_after p h.branch spot.levels.bit (meet_as p (reached spot) s) in (block_spot h.branch a.0 spot, refused output a.0 h.column spot a.1))
+      → step_block m (openings.Conditional h) spot s
+      ≡ (let a = answer_after p h.branch spot.levels.bit (meet_as p (reached spot) s) in (block_spot h.branch a.0 spot, refused output a.0 h.column spot a.1))
   unfolding step_block met
   block_same h spot s =
       let q = meet_as m (reached spot) s in
       block_same_if h q.0 spot q.1
       ∙ ap (λ (a : Option Bool × Budgeted State). (block_spot h.branch a.0 spot, refused output a.0 h.column spot a.1)) (answer_same h.branch spot.levels.bit (reached spot) s)
+
+  passed_same : (h : Opening (List ℕ)) (spot : Spot) (s : Budgeted State) → reached spot ≡ PassedOver → step_block m h spot s ≡ (after_part (skip spot.levels), s)
+  unfolding step_block met meet_as block_met
+  passed_same h spot s e = rw e refl
+
+  -- heads of loops
+  opening_same_if : (h : LoopHead (List ℕ)) (is_run : Bool) (spot : Spot) (s : Budgeted State)
+      → block_met m is_run (openings.Loop h) spot s ≡ (let q = opens_if p h is_run s in (loop_spot q.0 spot, q.1))
+  unfolding block_met opening_met m p meaning_at meaning_by language
+  opening_same_if h true spot s = refl
+  opening_same_if h false spot s = refl
+
+  opening_same : (h : LoopHead (List ℕ)) (spot : Spot) (s : Budgeted State)
+      → step_block m (openings.Loop h) spot s ≡ (let q = opens_after p h (meet_as p (reached spot) s) in (loop_spot q.0 spot, q.1))
+  unfolding step_block met
+  opening_same h spot s =
+      let q = meet_as m (reached spot) s in
+      opening_same_if h q.0 spot q.1
+      ∙ ap (λ (q : Bool × Budgeted State). let a = opens_after p h q in (loop_spot a.0 spot, a.1)) (met_same (reached spot) s)
+
+  loop_same_if : (may_run is_run : Bool) (h : LoopHead (List ℕ)) (f : Frame) (under : List Frame) (s : Budgeted State) → is_some (depth under) ≡ may_run
+      → machine.loop_if (language (effects output)) m is_run h f under s
+      ≡ leaf_next (language (effects output)) may_run f under (closes_after (language (effects output)) may_run (opens_if p h is_run s))
+  unfolding machine.loop_if loop_next leaf_next m p meaning_at meaning_by language
+  loop_same_if true true h f under s e = rw e refl
+  loop_same_if false true h f under s e = rw e refl
+  loop_same_if true false h f under s e = refl
+  loop_same_if false false h f under s e = refl
+
+  -- the end of a block
+  end_same : (ended : Ended) (f : Frame) (under : List Frame) (s : Budgeted State)
+      → end_next (language (effects output)) m ended f under s ≡ end_next (language (effects output)) p ended f under s
+  unfolding end_next m p meaning_at meaning_by language
+  end_same endings.Block f under s = refl
+  end_same endings.Loop f under s = refl
+  end_same endings.Nothing f under s = refl
+
+  -- lines in a loop that is collected
+  keep_same : (in_loop : Bool) (line : List ℕ) (s : Budgeted State) → keep_if m in_loop line s ≡ keep_if p in_loop line s
+  unfolding keep_if m p meaning_at meaning_by language
+  keep_same true line s = refl
+  keep_same false line s = refl
+
+  begin_same_if : (in_loop : Bool) (skipped : ℕ) (line : List ℕ) (s : Budgeted State)
+      → collect_if m in_loop skipped line (m.begins line s) ≡ collect_if p in_loop skipped line (p.begins line s)
+  unfolding collect_if m p meaning_at meaning_by language
+  begin_same_if true skipped line s = refl
+  begin_same_if false skipped line s = refl
+
+  begin_same : (line : List ℕ) (l : Levels) (s : Budgeted State)
+      → steps.begin_line m line l s ≡ collect_if p l.in_loop l.skipped line (p.begins line s)
+  unfolding steps.begin_line
+  begin_same line l s = begin_same_if l.in_loop l.skipped line s
 
 -- a leaf, passed over or run
 leaf_same : (l : Language (Budgeted State)) (may_call is_run : Bool) (text : List ℕ) (f : Frame) (under : List Frame) (s : Budgeted State) → is_some (depth under) ≡ may_call
@@ -137,19 +193,12 @@ step_next output s x state e =
     next_steps l s state
     ∙ ap (λ x. step_in l (meaning_at l (depth s.under) s.top.kind) x s.top.parts s.top.lines s.top s.under state) (sym e)
 
--- the line that begins next
-abbrev pub the_line : Next (List ℕ) Opened → List ℕ
-the_line (Part part) = []
-the_line (Line line) = line
-the_line (RegionLine o line is_end) = []
-the_line (SourceEnd region) = []
-the_line Nothing = []
-
-pub is_the_line : (x : Next (List ℕ) Opened) → is_line x ≡ true → Line (the_line x) ≡ x
+pub is_the_line : (x : Next (List ℕ) Opened) → is_line x ≡ true → Line (line_in x) ≡ x
 is_the_line (Part part) e = absurd (cc)
 is_the_line (Line line) e = refl
 is_the_line (RegionLine o line is_end) e = absurd (cc)
-is_the_line (SourceEnd region) e = absurd (cc)
+is_the_line (Turn region begun condition) e = absurd (cc)
+is_the_line (SourceEnd region begun) e = absurd (cc)
 is_the_line Nothing e = absurd (cc)
 
 -- the part that comes next
@@ -157,41 +206,70 @@ pub is_the_part : (x : Next (List ℕ) Opened) (part : Atom (List ℕ)) → Some
 is_the_part (Part first) part e = let k : part ≡ first = cc in ap (λ part. Part part) k
 is_the_part (Line line) part e = absurd (cc)
 is_the_part (RegionLine o line is_end) part e = absurd (cc)
-is_the_part (SourceEnd region) part e = absurd (cc)
+is_the_part (Turn region begun condition) part e = absurd (cc)
+is_the_part (SourceEnd region begun) part e = absurd (cc)
 is_the_part Nothing part e = absurd (cc)
 
 pub is_nothing_next : (x : Next (List ℕ) Opened) → is_nothing x ≡ true → Nothing ≡ x
 is_nothing_next (Part part) e = absurd (cc)
 is_nothing_next (Line line) e = absurd (cc)
 is_nothing_next (RegionLine o line is_end) e = absurd (cc)
-is_nothing_next (SourceEnd region) e = absurd (cc)
+is_nothing_next (Turn region begun condition) e = absurd (cc)
+is_nothing_next (SourceEnd region begun) e = absurd (cc)
 is_nothing_next Nothing e = refl
 
+-- where nothing is left of a source no line comes
+abbrev is_around : Next (List ℕ) Opened → Bool
+is_around (Part part) = false
+is_around (Line line) = false
+is_around (RegionLine o line is_last) = false
+is_around (Turn region begun condition) = true
+is_around (SourceEnd region begun) = true
+is_around Nothing = true
+
+end_or_turn : (turn : Option (List ℕ)) (region : Option Opened) (begun : Bool) → is_around (turn_or_end turn region begun) ≡ true
+end_or_turn None region begun = refl
+end_or_turn (Some condition) region begun = refl
+
+end_around : (turning : Option Turning) (region : Option Opened) (under : List Frame) → is_around (next_around turning region under) ≡ true
+end_around turning region [] = refl
+end_around turning region (f ∷ fs) = end_or_turn (turn_in turning) region (has_begun turning)
+
+no_line : (turning : Option Turning) (region : Option Opened) (under : List Frame) (line : List ℕ) → Line line ≡ next_around turning region under → ⊥
+no_line turning region under line e = let k : is_around (Line line) ≡ true = ap is_around e ∙ end_around turning region under in cc
+
+no_region_line : (turning : Option Turning) (region : Option Opened) (under : List Frame) (o : Opened) (line : List ℕ) (is_last : Bool)
+    → RegionLine o line is_last ≡ next_around turning region under → ⊥
+no_region_line turning region under o line is_last e = let k : is_around (RegionLine o line is_last) ≡ true = ap is_around e ∙ end_around turning region under in cc
+
+line_first : (turning : Option Turning) (region : Option Opened) (parts : List (Atom (List ℕ))) (lines : List (List ℕ)) (under : List Frame) (line : List ℕ)
+    → Line line ≡ next_in turning region parts lines under → (first_atoms lines ≡ atoms line) × (region ≡ None) × (0 < length lines)
+line_first turning None (part ∷ more) lines under line e = absurd (cc)
+line_first turning None [] (first ∷ more) under line e = let k : first ≡ line = cc in (ap atoms k, refl, omega arith)
+line_first turning None [] [] under line e = absurd (no_line turning None under line e)
+line_first turning (Some o) parts (first ∷ more) under line e = absurd (cc)
+line_first turning (Some o) parts [] under line e = absurd (no_line turning (Some o) under line e)
+
 pub line_there : (s : Stack) (line : List ℕ) → Line line ≡ next_of s → 0 < length s.top.lines
-line_there s line e = stack_line_there s.top.region s.top.parts s.top.lines s.under (ap is_line (sym e))
+line_there s line e = (line_first s.top.turning s.top.region s.top.parts s.top.lines s.under line e).2
 
-line_first : (region : Option Opened) (parts : List (Atom (List ℕ))) (lines : List (List ℕ)) (under : List Frame) (line : List ℕ)
-    → Line line ≡ next_in region parts lines under → (first_atoms lines ≡ atoms line) × (region ≡ None)
-line_first None (part ∷ more) lines under line e = absurd (cc)
-line_first None [] (first ∷ more) under line e = let k : first ≡ line = cc in (ap atoms k, refl)
-line_first None [] [] [] line e = absurd (cc)
-line_first None [] [] (f ∷ fs) line e = absurd (cc)
-line_first (Some o) parts (first ∷ more) under line e = absurd (cc)
-line_first (Some o) parts [] [] line e = absurd (cc)
-line_first (Some o) parts [] (f ∷ fs) line e = absurd (cc)
+region_first : (turning : Option Turning) (region : Option Opened) (parts : List (Atom (List ℕ))) (lines : List (List ℕ)) (under : List Frame) (o : Opened) (line : List ℕ) (is_last : Bool)
+    → RegionLine o line is_last ≡ next_in turning region parts lines under → (region ≡ Some o) × (0 < length lines)
+region_first turning None (part ∷ more) lines under o line is_last e = absurd (cc)
+region_first turning None [] (first ∷ more) under o line is_last e = absurd (cc)
+region_first turning None [] [] under o line is_last e = absurd (no_region_line turning None under o line is_last e)
+region_first turning (Some p) parts (first ∷ more) under o line is_last e = let k : p ≡ o = cc in (ap (λ o. Some o) k, omega arith)
+region_first turning (Some p) parts [] under o line is_last e = absurd (no_region_line turning (Some p) under o line is_last e)
 
-region_first : (region : Option Opened) (parts : List (Atom (List ℕ))) (lines : List (List ℕ)) (under : List Frame) (o : Opened) (line : List ℕ) (is_end : Bool)
-    → RegionLine o line is_end ≡ next_in region parts lines under → (region ≡ Some o) × (0 < length lines)
-region_first None (part ∷ more) lines under o line is_end e = absurd (cc)
-region_first None [] (first ∷ more) under o line is_end e = absurd (cc)
-region_first None [] [] [] o line is_end e = absurd (cc)
-region_first None [] [] (f ∷ fs) o line is_end e = absurd (cc)
-region_first (Some p) parts (first ∷ more) under o line is_end e = let k : p ≡ o = cc in (ap (λ o. Some o) k, omega arith)
-region_first (Some p) parts [] [] o line is_end e = absurd (cc)
-region_first (Some p) parts [] (f ∷ fs) o line is_end e = absurd (cc)
+pub region_line_there : (s : Stack) (o : Opened) (line : List ℕ) (is_last : Bool) → RegionLine o line is_last ≡ next_of s → 0 < length s.top.lines
+region_line_there s o line is_last e = (region_first s.top.turning s.top.region s.top.parts s.top.lines s.under o line is_last e).1
 
-pub region_line_there : (s : Stack) (o : Opened) (line : List ℕ) (is_end : Bool) → RegionLine o line is_end ≡ next_of s → 0 < length s.top.lines
-region_line_there s o line is_end e = (region_first s.top.region s.top.parts s.top.lines s.under o line is_end e).1
+-- in a loop that is collected a region is passed over
+pub region_passed : (r : Runner) (o : Opened) (line : List ℕ) (is_last in_loop : Bool) → RegionLine o line is_last ≡ next_of r.stack → in_loop ≡ r.stack.top.spot.levels.in_loop
+    → IsSound r → in_loop ≡ true → o.is_run ≡ false
+region_passed r o line is_last in_loop e el sound h =
+    let s = r.stack in
+    rw (region_first s.top.turning s.top.region s.top.parts s.top.lines s.under o line is_last e).0 at (sound.frames.0.region (sym el ∙ h))
 
 -- ---- room for the count of lines
 
@@ -209,10 +287,36 @@ unfolding HasMeasure IsOnLine
 room r sound h =
     elim sound.way [
       | inl first ↦ room_of (is_page r.stack.top.kind) r.doing.budget first.1
-      | inr measured ↦ no_room r.stack.top.kind r.doing.budget (λ e. let none = ap length (measured.0 e) in omega arith)
+      | inr measured ↦ no_room r.stack.top.kind r.doing.budget (λ e. let none = ap length (measured.0 e).0 in omega arith)
     ]
 
 -- ---- deciding
+
+-- what was taken can run
+can_call : (product : ProductKind) (may_call : Bool) (s : Stack) (b : BudgetedActions) → may_call ≡ is_some (depth s.under)
+    → IfCalled product (IsCallable may_call b.actions.call) → CanBegin product s b
+can_call kinds.Nothing may_call s b e h = tt
+can_call kinds.Line may_call s b e h = tt
+can_call kinds.Call may_call s b e h = rw (← e) h
+can_call kinds.Loop may_call s b e h = absurd h
+
+can_repeat : (product : ProductKind) (may_run : Bool) (s : Stack) (b : BudgetedActions) → may_run ≡ is_some (depth s.under)
+    → IfRepeated product (IsRepeatable may_run b.actions.call.body) → CanBegin product s b
+can_repeat kinds.Nothing may_run s b e h = tt
+can_repeat kinds.Line may_run s b e h = absurd h
+can_repeat kinds.Call may_run s b e h = absurd h
+can_repeat kinds.Loop may_run s b e h = rw (← e) h
+
+reached_in_loop : (spot : Spot) → spot.levels.in_loop ≡ true → reached spot ≡ PassedOver
+unfolding reached reached_in
+reached_in_loop spot e = rw e refl
+
+-- a source that was begun ends
+finish_same : (b : BudgetedActions) (begun : Bool) (region : Option Opened) (f : Frame) (s : Budgeted State)
+    → finish_if (language (effects (output_of b))) begun (end_of region f s) ≡ finished_in b begun region f.spot.levels.in_loop f.kind s
+unfolding finish_if finish_at
+finish_same b true region f s = refl
+finish_same b false region f s = refl
 
 module _ {P S : Type 0} (left : P → S → List Message → Type 0) (old : Runner) (new : BudgetedActions) (out out_new : S) where
   pub decides_leaf : (text : List ℕ) (r : Reached) (may_call : Bool) (result : ProductKind)
@@ -221,7 +325,7 @@ module _ {P S : Type 0} (left : P → S → List Message → Type 0) (old : Runn
       → Makes left old.doing out (λ kind. IsIn kind old.doing) (leaf_in old.doing may_call text r) new (done_as result) out_new
       → IfCalled result (IsCallable may_call new.actions.call)
       → Decides left old out (moves.Leaf result) (record { stack = old.stack; doing = new }) out_new
-  unfolding moved step_in part_next met at_part p meaning meet_as leaf_next language meaning_at m
+  unfolding moved step_in part_next met at_part p meaning meet_as leaf_next language meaning_at meaning_by m
   decides_leaf text r may_call result e er em k a callable =
       let output = output_of old.doing in
       let l = language (effects output) in
@@ -242,7 +346,37 @@ module _ {P S : Type 0} (left : P → S → List Message → Type 0) (old : Runn
             (met_same output d s.top.kind (reached s.top.spot) state ∙ ap (λ r. meet_as (meaning (effects output) s.top.kind) r state) (sym er))
             ∙ ap (λ done. Some (leaf_next l may_call f s.under done)) (a.state s.top.kind k [])
             ∙ ap (λ may_call. Some (leaf_next l may_call f s.under (done_as result new (map says a.notes)))) em;
-        suits = rw (← em) callable;
+        suits = can_call result may_call s new em callable;
+      }
+
+  pub decides_loop : (head : LoopHead (List ℕ)) (r : Reached) (may_run : Bool) (result : ProductKind)
+      → Part (Loop head) ≡ next_of old.stack → r ≡ reached old.stack.top.spot → may_run ≡ is_some (depth old.stack.under)
+      → IsIn old.stack.top.kind old.doing
+      → Makes left old.doing out (λ kind. IsIn kind old.doing) (passed_in old.doing may_run head r) new (done_as result) out_new
+      → IfRepeated result (IsRepeatable may_run new.actions.call.body)
+      → Decides left old out (moves.Leaf result) (record { stack = old.stack; doing = new }) out_new
+  unfolding moved step_in part_next met at_part p meaning meet_as language meaning_at meaning_by m
+  decides_loop head r may_run result e er em k a repeatable =
+      let output = output_of old.doing in
+      let l = language (effects output) in
+      let s = old.stack in
+      let d = depth s.under in
+      let f = past (after_part s.top.spot.levels) s.top in
+      let state = state_in [] old.doing in
+      let q = meet_as (meaning_at l d s.top.kind) (reached s.top.spot) state in
+      record {
+        stack = refl;
+        setting = a.setting;
+        notes = a.notes;
+        came = a.came;
+        step =
+            step_next output s (Part (Loop head)) state e
+            ∙ ap (λ next. Some next) (loop_same_if output d s.top.kind may_run q.0 head f s.under q.1 (sym em))
+            ∙ ap (λ (q : Bool × Budgeted State). Some (leaf_next l may_run f s.under (closes_after l may_run (opens_after (parts_of old.doing s.top.kind) head q))))
+            (met_same output d s.top.kind (reached s.top.spot) state ∙ ap (λ r. meet_as (meaning (effects output) s.top.kind) r state) (sym er))
+            ∙ ap (λ done. Some (leaf_next l may_run f s.under done)) (a.state s.top.kind k [])
+            ∙ ap (λ may_run. Some (leaf_next l may_run f s.under (done_as result new (map says a.notes)))) em;
+        suits = can_repeat result may_run s new em repeatable;
       }
 
   pub decides_guard : (h : Head (List ℕ)) (r : Reached) (bit : Bool) (result : Option Bool)
@@ -250,7 +384,7 @@ module _ {P S : Type 0} (left : P → S → List Message → Type 0) (old : Runn
       → IsIn old.stack.top.kind old.doing
       → Answers left old.doing out (answer_in old.doing h.branch bit r) result new out_new
       → Decides left old out (moves.Guard result) (record { stack = old.stack; doing = new }) out_new
-  unfolding moved step_in part_next p meet_as at_part meaning_at m
+  unfolding moved step_in part_next p meet_as at_part meaning_at meaning_by m
   decides_guard h r bit result e er eb k a =
       let output = output_of old.doing in
       let s = old.stack in
@@ -274,11 +408,11 @@ module _ {P S : Type 0} (left : P → S → List Message → Type 0) (old : Runn
       }
 
   pub decides_block : (h : Head (List ℕ)) (r : Reached) (bit : Bool) (result : Option Bool)
-      → Part (Block h) ≡ next_of old.stack → r ≡ reached old.stack.top.spot → bit ≡ old.stack.top.spot.levels.bit
+      → Part (Block (openings.Conditional h)) ≡ next_of old.stack → r ≡ reached old.stack.top.spot → bit ≡ old.stack.top.spot.levels.bit
       → IsIn old.stack.top.kind old.doing
       → Answers left old.doing out (answer_in old.doing h.branch bit r) result new out_new
       → Decides left old out (moves.Block result h.column) (record { stack = old.stack; doing = new }) out_new
-  unfolding moved step_in part_next p meet_as at_part meaning_at m
+  unfolding moved step_in part_next p meet_as at_part meaning_at meaning_by m
   decides_block h r bit result e er eb k a =
       let output = output_of old.doing in
       let s = old.stack in
@@ -291,7 +425,7 @@ module _ {P S : Type 0} (left : P → S → List Message → Type 0) (old : Runn
         notes = a.notes;
         came = a.came;
         step =
-            step_next output s (Part (Block h)) state e
+            step_next output s (Part (Block (openings.Conditional h))) state e
             ∙ ap to (block_same output d s.top.kind h s.top.spot state)
             ∙ ap (λ (a : Option Bool × Budgeted State). to (block_spot h.branch a.0 s.top.spot, refused output a.0 h.column s.top.spot a.1))
             (ap (λ r. answer_in old.doing h.branch s.top.spot.levels.bit r s.top.kind state) (sym er)
@@ -301,19 +435,45 @@ module _ {P S : Type 0} (left : P → S → List Message → Type 0) (old : Runn
         suits = ap is_part (sym e);
       }
 
+  pub decides_open_loop : (head : LoopHead (List ℕ)) (r : Reached) (result : Bool)
+      → Part (Block (openings.Loop head)) ≡ next_of old.stack → r ≡ reached old.stack.top.spot
+      → IsIn old.stack.top.kind old.doing
+      → Answers left old.doing out (opened_in old.doing head r) result new out_new
+      → Decides left old out (moves.Loop result) (record { stack = old.stack; doing = new }) out_new
+  unfolding moved step_in part_next p meet_as at_part meaning_at meaning_by m
+  decides_open_loop head r result e er k a =
+      let output = output_of old.doing in
+      let s = old.stack in
+      let d = depth s.under in
+      let state = state_in [] old.doing in
+      let to : Spot × Budgeted State → Option (Running (Budgeted State)) = λ t. Some (running (with_top (past t.0 s.top) s) t.1) in
+      record {
+        stack = refl;
+        setting = a.setting;
+        notes = a.notes;
+        came = a.came;
+        step =
+            step_next output s (Part (Block (openings.Loop head))) state e
+            ∙ ap to (opening_same output d s.top.kind head s.top.spot state)
+            ∙ ap (λ (q : Bool × Budgeted State). to (loop_spot q.0 s.top.spot, q.1))
+            (ap (λ r. opened_in old.doing head r s.top.kind state) (sym er) ∙ a.state s.top.kind k []);
+        suits = ap is_part (sym e);
+      }
+
   pub decides_region : (head : RegionHead (List ℕ)) (r : Reached) (result : Bool)
       → Part (Region head) ≡ next_of old.stack → r ≡ reached old.stack.top.spot
       → IsIn old.stack.top.kind old.doing
       → Answers left old.doing out (region_in old.doing head r) result new out_new
       → Decides left old out (moves.Region result) (record { stack = old.stack; doing = new }) out_new
-  unfolding moved step_in part_next step_region met meaning_at language p meet_as reached at_line opened m
+  unfolding moved step_in part_next step_region met meaning_at meaning_by language p meet_as at_line between opened m
   decides_region head r result e er k a =
       let output = output_of old.doing in
       let s = old.stack in
       let d = depth s.under in
       let state = state_in [] old.doing in
-      let to : Bool × Budgeted State → Option (Running (Budgeted State)) =
-      λ t. Some (running (with_top (record { kind = s.top.kind; region = Some (opened head t.0); parts = []; spot = at_line s.top.spot.levels; lines = s.top.lines }) s) t.1) in
+      let frame : Option Opened → Frame =
+      λ region. record { kind = s.top.kind; region = region; parts = []; spot = at_line s.top.spot.levels; lines = s.top.lines; turning = s.top.turning } in
+      let to : Bool × Budgeted State → Option (Running (Budgeted State)) = λ t. Some (running (with_top (frame (Some (opened head t.0))) s) t.1) in
       record {
         stack = refl;
         setting = a.setting;
@@ -324,50 +484,29 @@ module _ {P S : Type 0} (left : P → S → List Message → Type 0) (old : Runn
             ∙ ap (λ (q : Bool × Budgeted State). to (region_after (parts_of old.doing s.top.kind) head q))
             (met_same output d s.top.kind (reached s.top.spot) state ∙ ap (λ r. meet_as (parts_of old.doing s.top.kind) r state) (sym er))
             ∙ ap to (a.state s.top.kind k [])
-            ∙ ap (λ x. Some (running (with_top (record { kind = s.top.kind; region = stacks.region_in result x; parts = []; spot = at_line s.top.spot.levels; lines = s.top.lines }) s) (state_in (map says a.notes) new))) e;
-        suits = ap is_part (sym e);
+            ∙ ap (λ x. Some (running (with_top (frame (stacks.region_in result x)) s) (state_in (map says a.notes) new))) e;
+        suits = (
+          ap is_part (sym e),
+          λ h.
+              sym (ap (λ (q : Bool × Budgeted State). q.0) (a.state s.top.kind k []))
+              ∙ ap (λ r. (meet_as (parts_of old.doing s.top.kind) r state).0) (er ∙ reached_in_loop s.top.spot h),
+        );
       }
 
-  pub begins : (line : List ℕ) (is_page_now : Bool) (stack : Stack)
-      → Line line ≡ next_of old.stack → is_page_now ≡ is_page old.stack.top.kind
+  pub decides_region_line : (o : Opened) (line : List ℕ) (is_page_now in_loop : Bool) (result : ProductKind)
+      → RegionLine o line false ≡ next_of old.stack → is_page_now ≡ is_page old.stack.top.kind → in_loop ≡ old.stack.top.spot.levels.in_loop
       → IsIn old.stack.top.kind old.doing
-      → Makes left old.doing out (IsAt is_page_now old.doing) (begun_in old.doing) new state_after out_new
-      → stack ≡ with_top (next_line None (first_atoms old.stack.top.lines) old.stack.top) old.stack
-      → Steps left old out More (record { stack = stack; doing = new }) out_new
-  unfolding reached_with step_in line_next meaning_at language meaning
-  begins line is_page_now stack e ep k a es =
-      let output = output_of old.doing in
-      let s = old.stack in
-      let state = state_in [] old.doing in
-      let frame : List (Atom (List ℕ)) → Frame =
-      λ parts. record { kind = s.top.kind; region = None; parts = parts; spot = at_line s.top.spot.levels; lines = drop 1 s.top.lines } in
-      record {
-        output = ap (λ setting. setting.output) a.setting;
-        setting = rw (es, a.setting) k;
-        notes = a.notes;
-        came = a.came;
-        step =
-            step_next output s (Line line) state e
-            ∙ ap (λ state. Some (running (with_top (frame (atoms line)) s) state)) (a.state s.top.kind (record { page = sym ep; setting = k }) [])
-            ∙ ap (λ parts. Some (running (with_top (frame parts) s) (state_in (map says a.notes) new)))
-            (sym (line_first s.top.region s.top.parts s.top.lines s.under line e).0)
-            ∙ ap (λ (stack : Stack). Some (running stack (state_in (map says a.notes) new))) (sym es);
-        body = same_depth s.under stack (ap (λ (stack : Stack). stack.under) es);
-        done = tt;
-      }
-
-  pub decides_region_line : (o : Opened) (line : List ℕ) (is_page_now : Bool) (result : ProductKind)
-      → RegionLine o line false ≡ next_of old.stack → is_page_now ≡ is_page old.stack.top.kind
-      → IsIn old.stack.top.kind old.doing
-      → Makes left old.doing out (IsAt is_page_now old.doing) (read_in old.doing o line) new (line_after result) out_new
+      → Makes left old.doing out (IsAt is_page_now old.doing) (read_kept_in old.doing in_loop o line) new (line_after result) out_new
       → Decides left old out (moves.RegionLine result) (record { stack = old.stack; doing = new }) out_new
-  unfolding moved step_in region_next meaning_at language
-  decides_region_line o line is_page_now result e ep k a =
+  unfolding moved step_in region_next between m p meaning_at meaning_by language
+  decides_region_line o line is_page_now in_loop result e ep el k a =
       let output = output_of old.doing in
       let s = old.stack in
+      let d = depth s.under in
       let state = state_in [] old.doing in
       let to : Option Opened → Budgeted State → Option (Running (Budgeted State)) =
-      λ region state. Some (running (with_top (record { kind = s.top.kind; region = region; parts = []; spot = at_line s.top.spot.levels; lines = drop 1 s.top.lines }) s) state) in
+      λ region state.
+      Some (running (with_top (record { kind = s.top.kind; region = region; parts = []; spot = at_line s.top.spot.levels; lines = drop 1 s.top.lines; turning = s.top.turning }) s) state) in
       record {
         stack = refl;
         setting = a.setting;
@@ -375,24 +514,28 @@ module _ {P S : Type 0} (left : P → S → List Message → Type 0) (old : Runn
         came = a.came;
         step =
             step_next output s (RegionLine o line false) state e
-            ∙ ap (to (Some o)) (a.state s.top.kind (record { page = sym ep; setting = k }) [])
+            ∙ ap (to (Some o))
+            (keep_same output d s.top.kind s.top.spot.levels.in_loop line ((parts_of old.doing s.top.kind).reads o line state)
+            ∙ ap (λ in_loop. read_kept_in old.doing in_loop o line s.top.kind state) (sym el)
+            ∙ a.state s.top.kind (record { page = sym ep; setting = k }) [])
             ∙ ap (λ region. to region (state_in (map says a.notes ++ line_of result new.actions) new))
-            (sym (region_first s.top.region s.top.parts s.top.lines s.under o line false e).0);
+            (sym (region_first s.top.turning s.top.region s.top.parts s.top.lines s.under o line false e).0);
         suits = tt;
       }
 
-  pub decides_region_end : (o : Opened) (line : List ℕ) (is_page_now : Bool)
-      → RegionLine o line true ≡ next_of old.stack → is_page_now ≡ is_page old.stack.top.kind
+  pub decides_region_end : (o : Opened) (line : List ℕ) (is_page_now in_loop : Bool)
+      → RegionLine o line true ≡ next_of old.stack → is_page_now ≡ is_page old.stack.top.kind → in_loop ≡ old.stack.top.spot.levels.in_loop
       → IsIn old.stack.top.kind old.doing
-      → Makes left old.doing out (IsAt is_page_now old.doing) (ended_in old.doing o) new state_after out_new
+      → Makes left old.doing out (IsAt is_page_now old.doing) (ended_kept_in old.doing in_loop o line) new state_after out_new
       → Decides left old out moves.RegionEnd (record { stack = old.stack; doing = new }) out_new
-  unfolding moved step_in region_next meaning_at language meaning end_line effects
-  decides_region_end o line is_page_now e ep k a =
+  unfolding moved step_in region_next between m p meaning_at meaning_by language meaning end_line effects
+  decides_region_end o line is_page_now in_loop e ep el k a =
       let output = output_of old.doing in
       let s = old.stack in
+      let d = depth s.under in
       let state = state_in [] old.doing in
       let to : Budgeted State → Option (Running (Budgeted State)) =
-      λ state. Some (running (with_top (record { kind = s.top.kind; region = None; parts = []; spot = at_line s.top.spot.levels; lines = drop 1 s.top.lines }) s) state) in
+      λ state. Some (running (with_top (record { kind = s.top.kind; region = None; parts = []; spot = at_line s.top.spot.levels; lines = drop 1 s.top.lines; turning = s.top.turning }) s) state) in
       record {
         stack = refl;
         setting = a.setting;
@@ -400,23 +543,20 @@ module _ {P S : Type 0} (left : P → S → List Message → Type 0) (old : Runn
         came = a.came;
         step =
             step_next output s (RegionLine o line true) state e
-            ∙ ap to (a.state s.top.kind (record { page = sym ep; setting = k }) []);
+            ∙ ap to
+            (keep_same output d s.top.kind s.top.spot.levels.in_loop line ((parts_of old.doing s.top.kind).ends_region o line state)
+            ∙ ap (λ in_loop. ended_kept_in old.doing in_loop o line s.top.kind state) (sym el)
+            ∙ a.state s.top.kind (record { page = sym ep; setting = k }) []);
         suits = tt;
       }
 
-  source_ended : (l : Language (Budgeted State)) (region : Option Opened) (under : List Frame) (s t : Budgeted State)
-      → l.finish region s ≡ t → source_next l region under s ≡ ended under t
-  unfolding source_next
-  source_ended l region [] s t e = refl
-  source_ended l region (g ∷ gs) s t e = ap (λ (state : Budgeted State). Some (record { top = g; under = gs; state = state })) e
-
-  pub decides_source_end : (region : Option Opened)
-      → SourceEnd region ≡ next_of old.stack
+  pub decides_source_end : (region : Option Opened) (begun in_loop : Bool)
+      → SourceEnd region begun ≡ next_of old.stack → in_loop ≡ old.stack.top.spot.levels.in_loop
       → IsIn old.stack.top.kind old.doing
-      → Does left old.doing out (finished_in old.doing region) new out_new
+      → Does left old.doing out (finished_in old.doing begun region in_loop) new out_new
       → Decides left old out moves.SourceEnd (record { stack = old.stack; doing = new }) out_new
   unfolding moved step_in
-  decides_source_end region e k a =
+  decides_source_end region begun in_loop e el k a =
       let output = output_of old.doing in
       let s = old.stack in
       let state = state_in [] old.doing in
@@ -426,18 +566,220 @@ module _ {P S : Type 0} (left : P → S → List Message → Type 0) (old : Runn
         notes = a.notes;
         came = a.came;
         step =
-            step_next output s (SourceEnd region) state e
-            ∙ source_ended (language (effects output)) region s.under state (state_in (map says a.notes) new) (a.state s.top.kind k []);
-        suits = ap is_source_end (sym e);
+            step_next output s (SourceEnd region begun) state e
+            ∙ ap (λ state. stacks.left s.under state)
+            (finish_same old.doing begun region s.top state
+            ∙ ap (λ in_loop. finished_in old.doing begun region in_loop s.top.kind state) (sym el)
+            ∙ a.state s.top.kind k []);
+        suits = ap may_end (sym e);
       }
 
+-- ---- turns of loops
+
+module _ {P S : Type 0} (left : P → S → List Message → Type 0) (old : Runner) (mid new : BudgetedActions) (out out_mid out_new : S) where
+  -- the turn before it ends, and it comes
+  turns_after : (region : Option Opened) (begun in_loop : Bool) (condition : List ℕ) (result : Bool)
+      → Does left old.doing out (finished_in old.doing begun region in_loop) mid out_mid
+      → Answers left mid out_mid (turned_in mid condition) result new out_new
+      → Answers left old.doing out (λ kind s. turned_in old.doing condition kind (finished_in old.doing begun region in_loop kind s)) result new out_new
+  turns_after region begun in_loop condition result a t =
+      both left old.doing mid new out out_mid out_new (λ kind. IsIn kind old.doing) (λ kind. IsIn kind mid)
+      (finished_in old.doing begun region in_loop) (turned_in old.doing condition) (turned_in mid condition)
+      state_after (answer_with result) a t
+      (kind_after left old.doing mid a.setting)
+      (λ kind k given.
+      ap (λ (output : Output). (language (effects output)).turn kind condition (state_in given mid))
+      (sym (ap (λ setting. setting.output) a.setting)))
+
+  turn_step : (region : Option Opened) (begun in_loop : Bool) (condition : List ℕ) (result : Bool)
+      → Turn region begun condition ≡ next_of old.stack → in_loop ≡ old.stack.top.spot.levels.in_loop
+      → IsIn old.stack.top.kind old.doing
+      → (a : Answers left old.doing out (λ kind s. turned_in old.doing condition kind (finished_in old.doing begun region in_loop kind s)) result new out_new)
+      → next (language (effects (output_of old.doing))) (running old.stack (state_in [] old.doing))
+      ≡ turn_if result old.stack.top old.stack.under (state_in (map says a.notes) new)
+  unfolding step_in
+  turn_step region begun in_loop condition result e el k a =
+      let output = output_of old.doing in
+      let s = old.stack in
+      let state = state_in [] old.doing in
+      step_next output s (Turn region begun condition) state e
+      ∙ ap (λ (t : Budgeted State). let v = turned_in old.doing condition s.top.kind t in turn_if v.0 s.top s.under v.1)
+      (finish_same old.doing begun region s.top state ∙ ap (λ in_loop. finished_in old.doing begun region in_loop s.top.kind state) (sym el))
+      ∙ ap (λ (v : Bool × Budgeted State). turn_if v.0 s.top s.under v.1) (a.state s.top.kind k [])
+
+  pub decides_turn : (region : Option Opened) (begun in_loop : Bool) (condition : List ℕ)
+      → Turn region begun condition ≡ next_of old.stack → in_loop ≡ old.stack.top.spot.levels.in_loop
+      → IsSound old
+      → Does left old.doing out (finished_in old.doing begun region in_loop) mid out_mid
+      → Answers left mid out_mid (turned_in mid condition) true new out_new
+      → Decides left old out moves.Turn (record { stack = old.stack; doing = new }) out_new
+  unfolding moved
+  decides_turn region begun in_loop condition e el sound f t =
+      let a = turns_after region begun in_loop condition true f t in
+      record {
+        stack = refl;
+        setting = a.setting;
+        notes = a.notes;
+        came = a.came;
+        step = turn_step region begun in_loop condition true e el sound.setting a;
+        suits = (ap is_turn (sym e), sound.frames.0.turning);
+      }
+
+  pub decides_last_turn : (region : Option Opened) (begun in_loop : Bool) (condition : List ℕ)
+      → Turn region begun condition ≡ next_of old.stack → in_loop ≡ old.stack.top.spot.levels.in_loop
+      → IsSound old
+      → Does left old.doing out (finished_in old.doing begun region in_loop) mid out_mid
+      → Answers left mid out_mid (turned_in mid condition) false new out_new
+      → Decides left old out moves.SourceEnd (record { stack = old.stack; doing = new }) out_new
+  unfolding moved
+  decides_last_turn region begun in_loop condition e el sound f t =
+      let a = turns_after region begun in_loop condition false f t in
+      record {
+        stack = refl;
+        setting = a.setting;
+        notes = a.notes;
+        came = a.came;
+        step = turn_step region begun in_loop condition false e el sound.setting a;
+        suits = ap may_end (sym e);
+      }
+
+-- ---- a line begins
+
+module _ {P S : Type 0} (left : P → S → List Message → Type 0) (old : Runner) where
+  -- a line outside of loops
+  pub collects_nothing : (out : S) → old.stack.top.spot.levels.in_loop ≡ false → Collects left old out old out
+  unfolding collect_if
+  collects_nothing out e =
+      let l = old.stack.top.spot.levels in
+      let line = line_in (next_of old.stack) in
+      record {
+        stack = refl;
+        does =
+            stays left old.doing out (λ kind. IsIn kind old.doing) (λ kind s. collect_if (parts_of old.doing kind) l.in_loop l.skipped line s) state_after
+            (λ kind k given. ap (λ in_loop. collect_if (parts_of old.doing kind) in_loop l.skipped line (state_in given old.doing)) e);
+      }
+
+  -- a line in the loop that is collected
+  pub collects_here : (doing : BudgetedActions) (out out_new : S) (line : List ℕ) (open_blocks : ℕ) → old.stack.top.spot.levels.in_loop ≡ true
+      → open_blocks ≡ old.stack.top.spot.levels.skipped → Line line ≡ next_of old.stack
+      → Does left old.doing out (collected_in old.doing open_blocks line) doing out_new
+      → Collects left old out (record { stack = old.stack; doing = doing }) out_new
+  unfolding collect_if
+  collects_here doing out out_new line open_blocks e eb el d =
+      let l = old.stack.top.spot.levels in
+      record {
+        stack = refl;
+        does = record {
+          setting = d.setting;
+          notes = d.notes;
+          came = d.came;
+          state = λ kind k given.
+              ap (λ in_loop. collect_if (parts_of old.doing kind) in_loop l.skipped (line_in (next_of old.stack)) (state_in given old.doing)) e
+              ∙ ap (λ line. collected_in old.doing l.skipped line kind (state_in given old.doing)) (sym (ap line_in el))
+              ∙ ap (λ open_blocks. collected_in old.doing open_blocks line kind (state_in given old.doing)) (sym eb)
+              ∙ d.state kind k given;
+        };
+      }
+
+module _ {P S : Type 0} (left : P → S → List Message → Type 0) (old collected : Runner) (mid : BudgetedActions) (out out_mid out_new : S) where
+  -- its line feed comes first, and then what of it belongs to the loop
+  begins_in : (is_page_now : Bool)
+      → Makes left old.doing out (IsAt is_page_now old.doing) (begun_in old.doing) mid state_after out_mid
+      → Collects left (record { stack = old.stack; doing = mid }) out_mid collected out_new
+      → Makes left old.doing out (IsAt is_page_now old.doing)
+      (λ kind s. let l = old.stack.top.spot.levels in
+      collect_if (parts_of old.doing kind) l.in_loop l.skipped (line_in (next_of old.stack)) (begun_in old.doing kind s))
+      collected.doing state_after out_new
+  begins_in is_page_now a c =
+      let l = old.stack.top.spot.levels in
+      let line = line_in (next_of old.stack) in
+      both left old.doing mid collected.doing out out_mid out_new (IsAt is_page_now old.doing) (λ kind. IsIn kind mid)
+      (begun_in old.doing) (λ kind s. collect_if (parts_of old.doing kind) l.in_loop l.skipped line s)
+      (λ kind s. collect_if (parts_of mid kind) l.in_loop l.skipped line s)
+      state_after state_after a c.does
+      (λ kind k. kind_after left old.doing mid a.setting kind k.setting)
+      (λ kind k given.
+      ap (λ (output : Output). collect_if (meaning (effects output) kind) l.in_loop l.skipped line (state_in given mid))
+      (sym (ap (λ setting. setting.output) a.setting)))
+
+  pub begins : (is_page_now : Bool) (stack : Stack)
+      → is_line (next_of old.stack) ≡ true → is_page_now ≡ is_page old.stack.top.kind
+      → IsIn old.stack.top.kind old.doing
+      → Makes left old.doing out (IsAt is_page_now old.doing) (begun_in old.doing) mid state_after out_mid
+      → Collects left (record { stack = old.stack; doing = mid }) out_mid collected out_new
+      → stack ≡ with_top (next_line None (first_atoms collected.stack.top.lines) collected.stack.top) collected.stack
+      → Steps left old out More (record { stack = stack; doing = collected.doing }) out_new
+  unfolding reached_with step_in line_next meaning_at meaning_by language meaning m p
+  begins is_page_now stack h ep k a c es =
+      let output = output_of old.doing in
+      let s = old.stack in
+      let state = state_in [] old.doing in
+      let line = line_in (next_of s) in
+      let e = is_the_line (next_of s) h in
+      let b = begins_in is_page_now a c in
+      let same : stack ≡ with_top (next_line None (first_atoms s.top.lines) s.top) s =
+      es ∙ ap (λ (s : Stack). with_top (next_line None (first_atoms s.top.lines) s.top) s) c.stack in
+      let frame : List (Atom (List ℕ)) → Frame =
+      λ parts. record { kind = s.top.kind; region = None; parts = parts; spot = at_line s.top.spot.levels; lines = drop 1 s.top.lines; turning = s.top.turning } in
+      record {
+        output = ap (λ setting. setting.output) b.setting;
+        setting = rw (same, b.setting) k;
+        notes = b.notes;
+        came = b.came;
+        step =
+            step_next output s (Line line) state e
+            ∙ ap (λ state. Some (running (with_top (frame (atoms line)) s) state))
+            (begin_same output (depth s.under) s.top.kind line s.top.spot.levels state
+            ∙ b.state s.top.kind (record { page = sym ep; setting = k }) [])
+            ∙ ap (λ parts. Some (running (with_top (frame parts) s) (state_in (map says b.notes) collected.doing)))
+            (sym (line_first s.top.turning s.top.region s.top.parts s.top.lines s.under line e).0)
+            ∙ ap (λ (stack : Stack). Some (running stack (state_in (map says b.notes) collected.doing))) (sym same);
+        body = same_source s stack (ap (λ (stack : Stack). stack.under) same) (ap (λ (stack : Stack). stack.top.turning) same);
+        frames = λ kept. rw same (record { turning = kept.0.turning; region = λ h. tt }, kept.1);
+        done = tt;
+      }
+
+-- a block that comes and is passed over
+passed_block : (r : Reached) (x : Next (List ℕ) Opened) → passes_block r x ≡ true → (r ≡ PassedOver) × ((h : Opening (List ℕ)) × (Part (Block h) ≡ x))
+passed_block First x e = absurd (cc)
+passed_block Remainder x e = absurd (cc)
+passed_block PassedOver (Part (Leaf text)) e = absurd (cc)
+passed_block PassedOver (Part (Guard head)) e = absurd (cc)
+passed_block PassedOver (Part (Block h)) e = (refl, (h, refl))
+passed_block PassedOver (Part (Loop head)) e = absurd (cc)
+passed_block PassedOver (Part End) e = absurd (cc)
+passed_block PassedOver (Part (Region head)) e = absurd (cc)
+passed_block PassedOver (Line line) e = absurd (cc)
+passed_block PassedOver (RegionLine o line is_last) e = absurd (cc)
+passed_block PassedOver (Turn region begun condition) e = absurd (cc)
+passed_block PassedOver (SourceEnd region begun) e = absurd (cc)
+passed_block PassedOver Nothing e = absurd (cc)
+
 module _ {P S : Type 0} (left : P → S → List Message → Type 0) (old : Runner) (out : S) where
+  pub decides_passed : (r : Reached) → r ≡ reached old.stack.top.spot → passes_block r (next_of old.stack) ≡ true → Decides left old out (moves.Block None 0) old out
+  unfolding moved step_in part_next at_part meaning_at m
+  decides_passed r er e =
+      let output = output_of old.doing in
+      let s = old.stack in
+      let state = state_in [] old.doing in
+      let k = passed_block r (next_of s) e in
+      record {
+        stack = refl;
+        setting = refl;
+        notes = [];
+        came = came_none left out;
+        step =
+            step_next output s (Part (Block k.1.0)) state k.1.1
+            ∙ ap (λ (t : Spot × Budgeted State). Some (running (with_top (past t.0 s.top) s) t.1))
+            (passed_same output (depth s.under) s.top.kind k.1.0 s.top.spot state (sym er ∙ k.0));
+        suits = ap is_part (sym k.1.1);
+      }
+
   pub decides_block_end : Part End ≡ next_of old.stack → Decides left old out moves.BlockEnd old out
-  unfolding moved step_in part_next step_end meaning_at m meaning p
+  unfolding moved step_in part_next at_part m p
   decides_block_end e =
       let output = output_of old.doing in
       let s = old.stack in
-      let d = depth s.under in
       let state = state_in [] old.doing in
       record {
         stack = refl;
@@ -446,7 +788,7 @@ module _ {P S : Type 0} (left : P → S → List Message → Type 0) (old : Runn
         came = came_none left out;
         step =
             step_next output s (Part End) state e
-            ∙ ap (λ (state : Budgeted State). Some (running (with_top (past (after_part (leave s.top.spot.levels)) s.top) s) state))
-            (unopened_same output d s.top.kind (has_block s.top.spot.levels) state);
+            ∙ ap (λ next. Some next)
+            (end_same output (depth s.under) s.top.kind (what_ends s.top.spot.levels) (past (after_part (leave s.top.spot.levels)) s.top) s.under state);
         suits = tt;
       }

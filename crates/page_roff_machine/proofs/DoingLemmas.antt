@@ -1,33 +1,37 @@
 -- What the parts of sources do under the budget, call by call: helpers of proofs.
-use Rattle.std.proofs.Common.{◌≡◌, ℕ, zero, suc, Bool, true, false, not, ◌&&◌, List, [], ◌∷◌, ◌++◌, map, Option, Some, None, refl, sym, ap, ◌∙◌, append_assoc}
+use Rattle.std.proofs.Common.{◌≡◌, ℕ, zero, suc, Bool, true, false, not, ◌&&◌, nat_le, List, [], ◌∷◌, ◌++◌, length, map, Option, Some, None, refl, sym, ap, ◌∙◌, append_assoc}
 use Rattle.std.proofs.lemmas.List.{append-nil, map-append}
 use Rattle.page_core_base.specs.Messages.{Message}
 use Rattle.page_core_base.specs.declared.page_settings.Output.{Output}
+use Rattle.page_core_limits.specs.declared.TheConstants.{BODY}
 use Rattle.page_roff_heads.specs.declared.conditions.Condition.{Condition}
+use Rattle.page_roff_heads.specs.declared.loops.LoopHead.{LoopHead}
 use Rattle.page_roff_blocks.specs.declared.atoms.Branch.{Branch}
 use Rattle.page_roff_blocks.specs.declared.atoms.Branch.TheVariants.{If, IfElse, Else}
 use Rattle.page_roff_blocks.specs.declared.regions.RegionHead.{RegionHead}
 use Rattle.page_roff_blocks.specs.declared.spots.Reached.{Reached}
 use Rattle.page_roff_blocks.specs.declared.spots.Reached.TheVariants.{PassedOver, First, Remainder}
 use Rattle.page_roff_blocks.specs.Levels.{Opened}
-use Rattle.page_roff_blocks.specs.Run.{meet_as, value}
+use Rattle.page_roff_blocks.specs.Loops.{loop_text}
+use Rattle.page_roff_blocks.specs.Run.{meet_as, value, keep_if}
 use Rattle.page_roff_values.specs.Arguments.{arguments_in, lines_in}
 use Rattle.page_roff_values.specs.Latches.{Came}
-use Rattle.page_roff_language.specs.Languages.{Kind, page, body, gives, calls}
-use Rattle.page_roff_language.specs.Budgets.{Budgeted, Effects, with_rest, charge_by, charge, begin_line, whether_run, meet, test, unopened_by, read_line, end_line, meaning, done_with, language}
+use Rattle.page_roff_language.specs.Languages.{Kind, page, body, gives, calls, repeats}
+use Rattle.page_roff_language.specs.Budgets.{Budgeted, Effects, with_rest, charge_by, charge, begin_line, whether_run, meet, test, unopened_by, read_line, end_line, collect_some, meaning, done_with, closed_with, turn_by, turn, language}
 use Rattle.page_roff_language.specs.Counting.{Budget, budgeted, begun, charged_by, charged, exhausts_by, exhausts}
 use Rattle.page_roff_effects.specs.declared.commands.ProductKind.{ProductKind}
 use Rattle.page_roff_effects.specs.declared.commands.ProductKind.TheVariants as kinds
 use Rattle.page_roff_effects.specs.Acting as acting
-use Rattle.page_roff_effects.specs.Acting.{Acting, kind_of, Lends}
-use Rattle.page_roff_effects.specs.Effects.{effects, setting_of, answer_of, test_outcome, tested_after, done_by, done_after, budget_outcome, end_of_block_outcome}
+use Rattle.page_roff_effects.specs.Acting.{Acting, kind_of, Lends, IfRepeated}
+use Rattle.page_roff_effects.specs.Effects.{effects, setting_of, answer_of, turn_answer, test_outcome, tested_after, done_by, done_after, budget_outcome, end_of_block_outcome}
 use Rattle.page_roff_effects.specs.Leaves.{leaf_outcome}
-use Rattle.page_roff_effects.specs.RegionLines.{head_outcome, line_outcome, end_outcome, finish_outcome}
+use Rattle.page_roff_effects.specs.LoopLines.{longer_if_some, loop_outcome, collect_outcome, close_outcome, condition_in, body_in}
+use Rattle.page_roff_effects.specs.RegionLines.{head_outcome, with_line, longer_if, longer, line_outcome, end_outcome, finish_region, finish_outcome}
 use Rattle.page_roff_conditions.specs.Answers.{Answer}
-use Rattle.page_roff_effects.specs.States.{Setting, Call, Memory, State, Outcome, Product, no_product, line_product, call_product, Given, says, takes, after, lines_of}
+use Rattle.page_roff_effects.specs.States.{Setting, Call, Memory, State, Outcome, Product, no_product, line_product, call_product, loop_product, Given, says, takes, after, lines_of}
 use Rattle.page_roff_stack.specs.Changes.{is_page}
 use Rattle.page_roff_machine.specs.declared.budgeted_actions.BudgetedActions.{BudgetedActions}
-use Rattle.page_roff_machine.specs.Doing.{output_of, state_in, state_after, answer_with, line_after, IsIn, IsAt, Makes, Does, Answers, parts_of, charged_in, begun_in, met_in, value_in, answer_after, answer_in, region_after, region_in, leaf_after, leaf_in, line_of, done_as, read_in, ended_in, unopened_in, finished_in}
+use Rattle.page_roff_machine.specs.Doing.{output_of, state_in, state_after, answer_with, line_after, IsIn, IsAt, Makes, Does, Answers, parts_of, charged_in, begun_in, met_in, value_in, answer_after, answer_in, region_after, region_in, opens_after, opened_in, closed_in, closes_after, passed_in, kept_in, collected_in, turned_in, leaf_after, leaf_in, line_of, done_as, read_in, read_kept_in, ended_in, ended_kept_in, unopened_in, finished_in}
 
 -- ---- lists
 
@@ -98,20 +102,45 @@ plain_to : (b : Budget) (m : Memory) (new : BudgetedActions) (given : List Given
 plain_to b m new given notes eb em =
     ap (λ (more : List Given). budgeted b (record { memory = m; out = given ++ more })) (append-nil (map says notes)) ∙ state_to b m new (given ++ map says notes) eb em
 
-head_plain : (head : RegionHead (List ℕ)) (is_run : Bool) (m : Memory) → (head_outcome head is_run m).product ≡ no_product
+pub head_plain : (head : RegionHead (List ℕ)) (is_run : Bool) (m : Memory) → (head_outcome head is_run m).product ≡ no_product
 unfolding head_outcome
 head_plain head true m = refl
 head_plain head false m = refl
 
-end_plain : (o : Opened) (is_run : Bool) (m : Memory) → (end_outcome o is_run m).product ≡ no_product
+pub end_plain : (o : Opened) (is_run : Bool) (m : Memory) → (end_outcome o is_run m).product ≡ no_product
 unfolding end_outcome
 end_plain o true m = refl
 end_plain o false m = refl
 
-finish_plain : (region : Option Opened) (gave_up : Bool) (m : Memory) → (finish_outcome region gave_up m).product ≡ no_product
+region_plain : (region : Option Opened) (gave_up : Bool) (m : Memory) → (finish_region region gave_up m).product ≡ no_product
+region_plain None gave_up m = refl
+region_plain (Some o) gave_up m = refl
+
+pub finish_plain : (region : Option Opened) (in_loop gave_up : Bool) (m : Memory) → (finish_outcome region in_loop gave_up m).product ≡ no_product
 unfolding finish_outcome
-finish_plain None gave_up m = refl
-finish_plain (Some o) gave_up m = refl
+finish_plain region true gave_up m = refl
+finish_plain region false gave_up m = region_plain region gave_up m
+
+fits_plain : (fits : Bool) (text : List ℕ) (m : Memory) → (longer_if fits text m).product ≡ no_product
+fits_plain true text m = refl
+fits_plain false text m = refl
+
+longer_plain : (text : Option (List ℕ)) (line : List ℕ) (m : Memory) → (longer text line m).product ≡ no_product
+longer_plain None line m = refl
+longer_plain (Some text) line m = fits_plain (nat_le (length (with_line text line)) BODY) (with_line text line) m
+
+longer_some_plain : (line : Option (List ℕ)) (m : Memory) → (longer_if_some line m).product ≡ no_product
+longer_some_plain None m = refl
+longer_some_plain (Some line) m = longer_plain m.body line m
+
+pub loop_plain : (head : LoopHead (List ℕ)) (m : Memory) → (loop_outcome head m).product ≡ no_product
+unfolding loop_outcome
+loop_plain head m = longer_some_plain head.body (longer (Some []) head.condition m).memory
+
+pub collect_plain : (is_run : Bool) (line : List ℕ) (m : Memory) → (collect_outcome is_run line m).product ≡ no_product
+unfolding collect_outcome
+collect_plain true line m = longer_plain m.body line m
+collect_plain false line m = refl
 
 -- after a part without a product
 pub acted : (b : Budget) (m : Memory) (new : BudgetedActions) (given : List Given) (o : Outcome)
@@ -202,11 +231,19 @@ module _ {P S : Type 0} (left : P → S → List Message → Type 0) where
     state = λ kind k given. ap (λ (s : Budgeted State). (not s.gave_up, s)) (d.state kind k given);
   }
 
+-- nothing comes of a line of a region that is not run
+pub passed_nothing : (setting : Setting) (o : Opened) (is_run : Bool) (line : List ℕ) (m : Memory) → is_run ≡ false
+    → kind_of (line_outcome setting o is_run line m).product ≡ kinds.Nothing
+unfolding line_outcome
+passed_nothing setting o true line m e = absurd (cc)
+passed_nothing setting o false line m e = refl
+
 -- the line that was taken is lent
 lent_line : (p : Product) (a : Acting) → Lends p a → lines_of p ≡ line_of (kind_of p) a
 lent_line no_product a lends = refl
 lent_line (line_product line) a lends = ap (λ line. takes line ∷ []) (sym lends)
 lent_line (call_product call) a lends = refl
+lent_line (loop_product text) a lends = refl
 
 -- ---- the heads of conditionals
 
@@ -261,7 +298,7 @@ module _ {P S : Type 0} (left : P → S → List Message → Type 0) where
   value_else old out bit = stays left old out (λ kind. IsIn kind old) (value_in old Else bit) (answer_with bit) (λ kind k given. refl)
 
   -- where the same output is written
-  kind_after : (old mid : BudgetedActions) → mid.actions.setting ≡ old.actions.setting → (kind : Kind) → IsIn kind old → IsIn kind mid
+  pub kind_after : (old mid : BudgetedActions) → mid.actions.setting ≡ old.actions.setting → (kind : Kind) → IsIn kind old → IsIn kind mid
   kind_after old mid e kind k = rw e k
 
   pub answer_met : (old mid new : BudgetedActions) (out out_mid out_new : S) (reached : Reached) (branch : Branch (List ℕ)) (bit result : Bool)
@@ -379,16 +416,256 @@ module _ {P S : Type 0} (left : P → S → List Message → Type 0) where
       (run_after old mid a.setting is_page_now)
       (λ kind k given. refl)
 
-  pub finished : (old new : BudgetedActions) (out out_new : S) (region : Option Opened)
+  -- both in a loop that is collected
+  kept_after : (old mid new : BudgetedActions) (out out_mid out_new : S) (is_page_now : Bool) (line : List ℕ)
+      (f : Kind → Budgeted State → Budgeted State)
+      → Makes left old out (IsAt is_page_now old) f mid state_after out_mid
+      → Does left mid out_mid (kept_in mid line) new out_new
+      → Makes left old out (IsAt is_page_now old) (λ kind s. kept_in old line kind (f kind s)) new state_after out_new
+  unfolding meaning collect_some effects with_rest
+  kept_after old mid new out out_mid out_new is_page_now line f a d =
+      both left old mid new out out_mid out_new (IsAt is_page_now old) (λ kind. IsIn kind mid)
+      f (kept_in old line) (kept_in mid line) state_after state_after a d
+      (λ kind k. kind_after old mid a.setting kind k.setting)
+      (λ kind k given. refl)
+
+  -- nothing comes of a line
+  no_line : (old new : BudgetedActions) (out out_new : S) (suits : Kind → Type 0) (f : Kind → Budgeted State → Budgeted State) (product : ProductKind) → product ≡ kinds.Nothing
+      → Makes left old out suits f new (line_after product) out_new → Makes left old out suits f new state_after out_new
+  no_line old new out out_new suits f product e m = record {
+    setting = m.setting;
+    notes = m.notes;
+    came = m.came;
+    state = λ kind k given.
+        m.state kind k given ∙ ap (λ product. line_after product new (given ++ map says m.notes)) e
+        ∙ ap (λ given. state_in given new) (append-nil (given ++ map says m.notes));
+  }
+
+  as_line : (old new : BudgetedActions) (out out_new : S) (suits : Kind → Type 0) (f : Kind → Budgeted State → Budgeted State)
+      → Makes left old out suits f new state_after out_new → Makes left old out suits f new (line_after kinds.Nothing) out_new
+  as_line old new out out_new suits f m = record {
+    setting = m.setting;
+    notes = m.notes;
+    came = m.came;
+    state = λ kind k given. m.state kind k given ∙ ap (λ given. state_in given new) (sym (append-nil (given ++ map says m.notes)));
+  }
+
+  pub read_kept : (old mid new : BudgetedActions) (out out_mid out_new : S) (is_page_now : Bool) (o : Opened) (line : List ℕ) (product : ProductKind) → product ≡ kinds.Nothing
+      → Makes left old out (IsAt is_page_now old) (read_in old o line) mid (line_after product) out_mid
+      → Does left mid out_mid (kept_in mid line) new out_new
+      → Makes left old out (IsAt is_page_now old) (read_kept_in old true o line) new (line_after kinds.Nothing) out_new
+  unfolding keep_if
+  read_kept old mid new out out_mid out_new is_page_now o line product e a d =
+      as_line old new out out_new (IsAt is_page_now old) (read_kept_in old true o line)
+      (kept_after old mid new out out_mid out_new is_page_now line (read_in old o line)
+      (no_line old mid out out_mid (IsAt is_page_now old) (read_in old o line) product e a) d)
+
+  pub read_outside : (old new : BudgetedActions) (out out_new : S) (is_page_now : Bool) (o : Opened) (line : List ℕ) (product : ProductKind)
+      → Makes left old out (IsAt is_page_now old) (read_in old o line) new (line_after product) out_new
+      → Makes left old out (IsAt is_page_now old) (read_kept_in old false o line) new (line_after product) out_new
+  unfolding keep_if
+  read_outside old new out out_new is_page_now o line product a = a
+
+  pub end_kept : (old mid new : BudgetedActions) (out out_mid out_new : S) (is_page_now : Bool) (o : Opened) (line : List ℕ)
+      → Makes left old out (IsAt is_page_now old) (ended_in old o) mid state_after out_mid
+      → Does left mid out_mid (kept_in mid line) new out_new
+      → Makes left old out (IsAt is_page_now old) (ended_kept_in old true o line) new state_after out_new
+  unfolding keep_if
+  end_kept old mid new out out_mid out_new is_page_now o line a d = kept_after old mid new out out_mid out_new is_page_now line (ended_in old o) a d
+
+  pub end_outside : (old new : BudgetedActions) (out out_new : S) (is_page_now : Bool) (o : Opened) (line : List ℕ)
+      → Makes left old out (IsAt is_page_now old) (ended_in old o) new state_after out_new
+      → Makes left old out (IsAt is_page_now old) (ended_kept_in old false o line) new state_after out_new
+  unfolding keep_if
+  end_outside old new out out_new is_page_now o line a = a
+
+  pub finished : (old new : BudgetedActions) (out out_new : S) (region : Option Opened) (in_loop : Bool)
       → new.budget ≡ old.budget
-      → acting.Does left old.actions out (finish_outcome region old.budget.gave_up old.actions.memory) new.actions out_new
-      → Does left old out (finished_in old region) new out_new
+      → acting.Does left old.actions out (finish_outcome region in_loop old.budget.gave_up old.actions.memory) new.actions out_new
+      → Does left old out (finished_in old true region in_loop) new out_new
   unfolding language effects with_rest
-  finished old new out out_new region eb d = record {
+  finished old new out out_new region in_loop eb d =
+      let outcome = finish_outcome region in_loop old.budget.gave_up old.actions.memory in
+      record {
+        setting = d.setting;
+        notes = outcome.notes;
+        came = d.came;
+        state = λ kind k given. acted old.budget old.actions.memory new given outcome eb d.memory (finish_plain region in_loop old.budget.gave_up old.actions.memory);
+      }
+
+  pub not_begun : (old : BudgetedActions) (out : S) (region : Option Opened) (in_loop : Bool) → Does left old out (finished_in old false region in_loop) old out
+  not_begun old out region in_loop = stays left old out (λ kind. IsIn kind old) (finished_in old false region in_loop) state_after (λ kind k given. refl)
+
+  -- ---- loops
+
+  pub loop_met : (old mid new : BudgetedActions) (out out_mid out_new : S) (reached : Reached) (head : LoopHead (List ℕ))
+      → Answers left old out (met_in old reached) true mid out_mid
+      → new.budget ≡ mid.budget
+      → acting.Does left mid.actions out_mid (loop_outcome head mid.actions.memory) new.actions out_new
+      → Answers left old out (opened_in old head reached) true new out_new
+  unfolding meaning effects with_rest
+  loop_met old mid new out out_mid out_new reached head a eb d =
+      let outcome = loop_outcome head mid.actions.memory in
+      both left old mid new out out_mid out_new (λ kind. IsIn kind old) (λ kind. IsIn kind mid)
+      (met_in old reached) (λ kind q. opens_after (parts_of old kind) head q)
+      (λ kind s. opens_after (parts_of mid kind) head (true, s))
+      (answer_with true) (answer_with true) a
+      (record {
+        setting = d.setting;
+        notes = outcome.notes;
+        came = d.came;
+        state = λ kind k given. ap (λ (s : Budgeted State). (true, s)) (acted mid.budget mid.actions.memory new given outcome eb d.memory (loop_plain head mid.actions.memory));
+      })
+      (kind_after old mid a.setting)
+      (λ kind k given. refl)
+
+  pub loop_passed : (old new : BudgetedActions) (out out_new : S) (reached : Reached) (head : LoopHead (List ℕ))
+      → Answers left old out (met_in old reached) false new out_new
+      → Answers left old out (opened_in old head reached) false new out_new
+  loop_passed old new out out_new reached head a = record {
+    setting = a.setting;
+    notes = a.notes;
+    came = a.came;
+    state = λ kind k given. ap (opens_after (parts_of old kind) head) (a.state kind k given);
+  }
+
+  -- what comes of a loop that is whole
+  loop_done : (e : Effects State) (b : Budget) (s : State) (m : Memory) (new : BudgetedActions) (given : List Given) (notes : List Message) (p : Product) (result : ProductKind) (repeated : Type 0)
+      → new.budget ≡ b → new.actions.memory ≡ m → result ≡ kind_of p → IfRepeated result repeated → Lends p new.actions
+      → closed_with e (budgeted b s) (done_by p (record { memory = m; out = given ++ (map says notes ++ lines_of p) }))
+      ≡ done_as result new (given ++ map says notes)
+  unfolding closed_with done_by with_rest
+  loop_done e b s m new given notes no_product result repeated eb em er h lends =
+      ap (λ (t : Budgeted State). gives t) (plain_to b m new given notes eb em) ∙ ap (λ product. done_as product new (given ++ map says notes)) (sym er)
+  loop_done e b s m new given notes (line_product line) result repeated eb em er h lends = absurd (rw er at h)
+  loop_done e b s m new given notes (call_product call) result repeated eb em er h lends = absurd (rw er at h)
+  loop_done e b s m new given notes (loop_product text) result repeated eb em er h lends =
+      ap (λ (t : Budgeted State). repeats (condition_in text) (body_in text) t) (plain_to b m new given notes eb em)
+      ∙ ap (λ (text : List ℕ). repeats (condition_in text) (body_in text) (state_in (given ++ map says notes) new)) (sym lends)
+      ∙ ap (λ product. done_as product new (given ++ map says notes)) (sym er)
+
+  pub loop_closed : (old new : BudgetedActions) (out out_new : S) (may_run : Bool) (result : ProductKind) (repeated : Type 0)
+      → new.budget ≡ old.budget
+      → acting.Gives left old.actions out (close_outcome (not old.budget.gave_up) may_run old.actions.memory) result new.actions out_new
+      → IfRepeated result repeated
+      → Makes left old out (λ kind. IsIn kind old) (closed_in old may_run) new (done_as result) out_new
+  unfolding language effects done_after
+  loop_closed old new out out_new may_run result repeated eb g h =
+      let outcome = close_outcome (not old.budget.gave_up) may_run old.actions.memory in
+      record {
+        setting = g.does.setting;
+        notes = outcome.notes;
+        came = g.does.came;
+        state = λ kind k given.
+            loop_done (effects (output_of old)) old.budget (record { memory = old.actions.memory; out = given }) outcome.memory new given outcome.notes outcome.product result repeated
+            eb g.does.memory g.kind h g.lends;
+      }
+
+  pub loop_whole : (old mid new : BudgetedActions) (out out_mid out_new : S) (reached : Reached) (may_run : Bool) (head : LoopHead (List ℕ)) (result : ProductKind)
+      → Answers left old out (opened_in old head reached) true mid out_mid
+      → Makes left mid out_mid (λ kind. IsIn kind mid) (closed_in mid may_run) new (done_as result) out_new
+      → Makes left old out (λ kind. IsIn kind old) (passed_in old may_run head reached) new (done_as result) out_new
+  loop_whole old mid new out out_mid out_new reached may_run head result a c =
+      both left old mid new out out_mid out_new (λ kind. IsIn kind old) (λ kind. IsIn kind mid)
+      (opened_in old head reached) (λ kind q. closes_after (language (effects (output_of old))) may_run q)
+      (closed_in mid may_run) (answer_with true) (done_as result) a c
+      (kind_after old mid a.setting)
+      (λ kind k given.
+      ap (λ (output : Output). (language (effects output)).closes may_run (state_in given mid))
+      (sym (ap (λ setting. setting.output) a.setting)))
+
+  pub loop_not_met : (old new : BudgetedActions) (out out_new : S) (reached : Reached) (may_run : Bool) (head : LoopHead (List ℕ))
+      → Answers left old out (opened_in old head reached) false new out_new
+      → Makes left old out (λ kind. IsIn kind old) (passed_in old may_run head reached) new (done_as kinds.Nothing) out_new
+  loop_not_met old new out out_new reached may_run head a = record {
+    setting = a.setting;
+    notes = a.notes;
+    came = a.came;
+    state = λ kind k given. ap (closes_after (language (effects (output_of old))) may_run) (a.state kind k given);
+  }
+
+  -- what is collected
+  pub keeps : (old new : BudgetedActions) (out out_new : S) (text : List ℕ)
+      → new.budget ≡ old.budget
+      → acting.Does left old.actions out (collect_outcome (not old.budget.gave_up) text old.actions.memory) new.actions out_new
+      → Does left old out (kept_in old text) new out_new
+  unfolding meaning collect_some effects with_rest
+  keeps old new out out_new text eb d =
+      let outcome = collect_outcome (not old.budget.gave_up) text old.actions.memory in
+      record {
+        setting = d.setting;
+        notes = outcome.notes;
+        came = d.came;
+        state = λ kind k given. acted old.budget old.actions.memory new given outcome eb d.memory (collect_plain (not old.budget.gave_up) text old.actions.memory);
+      }
+
+  pub collects_some : (old new : BudgetedActions) (out out_new : S) (open_blocks : ℕ) (line text : List ℕ)
+      → Some text ≡ loop_text open_blocks line
+      → Does left old out (kept_in old text) new out_new
+      → Does left old out (collected_in old open_blocks line) new out_new
+  unfolding meaning
+  collects_some old new out out_new open_blocks line text e d = record {
     setting = d.setting;
-    notes = (finish_outcome region old.budget.gave_up old.actions.memory).notes;
+    notes = d.notes;
     came = d.came;
-    state = λ kind k given. acted old.budget old.actions.memory new given (finish_outcome region old.budget.gave_up old.actions.memory) eb d.memory (finish_plain region old.budget.gave_up old.actions.memory);
+    state = λ kind k given. ap (λ text. collect_some (effects (output_of old)) text (state_in given old)) (sym e) ∙ d.state kind k given;
+  }
+
+  pub collects_none : (old : BudgetedActions) (out : S) (open_blocks : ℕ) (line : List ℕ)
+      → None ≡ loop_text open_blocks line
+      → Does left old out (collected_in old open_blocks line) old out
+  unfolding meaning collect_some
+  collects_none old out open_blocks line e =
+      stays left old out (λ kind. IsIn kind old) (collected_in old open_blocks line) state_after
+      (λ kind k given. ap (λ text. collect_some (effects (output_of old)) text (state_in given old)) (sym e))
+
+  -- a turn
+  turn_tests : (mid new : BudgetedActions) (out_mid out_new : S) (condition : List ℕ) (result : Bool)
+      → mid.budget.gave_up ≡ false → new.budget ≡ mid.budget
+      → acting.Tests left mid.actions out_mid (turn_answer mid.actions.setting condition mid.actions.memory) result new.actions out_new
+      → Answers left mid out_mid (λ kind t. turn_by (effects (output_of mid)) t.gave_up kind condition t) result new out_new
+  unfolding turn_by effects with_rest
+  turn_tests mid new out_mid out_new condition result h eb t =
+      let a = turn_answer mid.actions.setting condition mid.actions.memory in
+      record {
+        setting = t.does.setting;
+        notes = a.notes;
+        came = t.does.came;
+        state = λ kind k given.
+            ap (λ gave_up. turn_by (effects (output_of mid)) gave_up kind condition (state_in given mid)) h
+            ∙ ap (λ (setting : Setting).
+            answered mid.budget (tested_after (record { memory = mid.actions.memory; out = given }) (turn_answer setting condition mid.actions.memory))) (sym k)
+            ∙ tested_as mid.budget mid.actions.memory new given a result eb t.does.memory t.holds;
+      }
+
+  pub turn_given : (old mid new : BudgetedActions) (out out_mid out_new : S) (condition : List ℕ) (result : Bool)
+      → Does left old out (charged_in old) mid out_mid
+      → mid.budget.gave_up ≡ false → new.budget ≡ mid.budget
+      → acting.Tests left mid.actions out_mid (turn_answer mid.actions.setting condition mid.actions.memory) result new.actions out_new
+      → Answers left old out (turned_in old condition) result new out_new
+  unfolding language turn
+  turn_given old mid new out out_mid out_new condition result a h eb t =
+      both left old mid new out out_mid out_new (λ kind. IsIn kind old) (λ kind. IsIn kind mid)
+      (charged_in old) (λ kind t. turn_by (effects (output_of old)) t.gave_up kind condition t)
+      (λ kind t. turn_by (effects (output_of mid)) t.gave_up kind condition t)
+      state_after (answer_with result) a (turn_tests mid new out_mid out_new condition result h eb t)
+      (kind_after old mid a.setting)
+      (λ kind k given.
+      ap (λ (output : Output). turn_by (effects output) mid.budget.gave_up kind condition (state_in given mid))
+      (sym (ap (λ setting. setting.output) a.setting)))
+
+  pub turn_given_up : (old new : BudgetedActions) (out out_new : S) (condition : List ℕ)
+      → Does left old out (charged_in old) new out_new
+      → new.budget.gave_up ≡ true
+      → Answers left old out (turned_in old condition) false new out_new
+  unfolding language turn turn_by
+  turn_given_up old new out out_new condition a h = record {
+    setting = a.setting;
+    notes = a.notes;
+    came = a.came;
+    state = λ kind k given.
+        ap (λ (t : Budgeted State). turn_by (effects (output_of old)) t.gave_up kind condition t) (a.state kind k given)
+        ∙ ap (λ gave_up. turn_by (effects (output_of old)) gave_up kind condition (state_in (given ++ map says a.notes) new)) h;
   }
 
   -- ---- lines that head nothing
@@ -418,6 +695,10 @@ module _ {P S : Type 0} (left : P → S → List Message → Type 0) where
   leaf_done e b s m new given notes (call_product call) result eb em er lends =
       ap (λ (t : Budgeted State). calls (lines_in call.body) (arguments_in call.packed) t) (plain_to b m new given notes eb em)
       ∙ ap (λ (call : Call). calls (lines_in call.body) (arguments_in call.packed) (state_in (given ++ map says notes) new)) (sym lends)
+      ∙ ap (λ product. done_as product new (given ++ map says notes)) (sym er)
+  leaf_done e b s m new given notes (loop_product text) result eb em er lends =
+      ap (λ (t : Budgeted State). repeats (condition_in text) (body_in text) t) (plain_to b m new given notes eb em)
+      ∙ ap (λ (text : List ℕ). repeats (condition_in text) (body_in text) (state_in (given ++ map says notes) new)) (sym lends)
       ∙ ap (λ product. done_as product new (given ++ map says notes)) (sym er)
 
   pub leaf_met : (old mid new : BudgetedActions) (out out_mid out_new : S) (reached : Reached) (may_call : Bool) (text : List ℕ) (result : ProductKind)

@@ -1,5 +1,7 @@
 pub mod ActLemmas
 pub mod DoingLemmas
+pub mod FrameLemmas
 pub mod GoLemmas
+pub mod LoopLemmas
 pub mod MachineLemmas
 pub mod StepLemmas

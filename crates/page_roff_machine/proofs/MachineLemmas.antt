@@ -4,7 +4,7 @@ use Rattle.std.proofs.lemmas.List.{append-nil}
 use Rattle.page_core_base.specs.Messages.{Message}
 use Rattle.page_core_base.specs.declared.page_settings.Output.{Output}
 use Rattle.page_roff_blocks.specs.declared.atoms.Atom.{Atom}
-use Rattle.page_roff_blocks.specs.Levels.{Opened}
+use Rattle.page_roff_blocks.specs.Levels.{Opened, at_line}
 use Rattle.page_roff_blocks.specs.Run.{Meaning, At}
 use Rattle.page_roff_language.specs.Languages.{Language, meaning_at, run_page}
 use Rattle.page_roff_language.specs.Machine.{Frame, depth, at_page, rest_of, next, stands_at}
@@ -69,7 +69,8 @@ unfolding step_in
 none_next l m (things.Part part) parts lines f under s e = absurd (cc)
 none_next l m (things.Line line) parts lines f under s e = absurd (cc)
 none_next l m (things.RegionLine o line is_end) parts lines f under s e = absurd (cc)
-none_next l m (things.SourceEnd region) parts lines f under s e = absurd (cc)
+none_next l m (things.Turn region begun condition) parts lines f under s e = absurd (cc)
+none_next l m (things.SourceEnd region begun) parts lines f under s e = absurd (cc)
 none_next l m things.Nothing parts lines f under s e = refl
 
 pub idle_stands : (m : Machine) → is_idle m ≡ true → outcome_of m ≡ stands m
@@ -98,16 +99,18 @@ pub new_sound : (output : Output) (r : Runner) → r.stack ≡ first_stack → a
 unfolding HasMeasure AreOnLine IsOnLine
 new_sound output r e h = record {
   setting = rw (e, h.setting) refl;
-  way = inr (λ k. ap (λ (s : Stack). s.top.lines) e, rw e tt);
+  frames = rw e (record { turning = tt; region = λ h. tt }, tt);
+  way = inr (λ k. (ap (λ (s : Stack). s.top.lines) e, ap (λ (s : Stack). s.top.turning) e), rw e tt);
 }
 
 pub begun_sound : (old new : Runner) (line : List ℕ) (number : ℕ) → new.stack ≡ record { top = page_line line old.stack.top; under = []; texts = [] }
     → new.doing.actions ≡ with_number number (with_arguments None old.doing.actions) → new.doing.budget ≡ renewed old.doing.budget
-    → old.doing.budget.taken ≤ 2 ^ 62 → IsSound new
-unfolding IsFirst
-begun_sound old new line number es ea eb h = record {
+    → old.doing.budget.taken ≤ 2 ^ 62 → IsSound old → IsSound new
+unfolding IsFirst at_line
+begun_sound old new line number es ea eb h sound = record {
   setting = rw (ea, es) refl;
-  way = inl ((line, ap (λ (s : Stack). s.top.lines) es, ap (λ (s : Stack). s.top.parts) es, ap (λ (s : Stack). s.under) es), rw eb h);
+  frames = rw es (record { turning = tt; region = sound.frames.0.region }, tt);
+  way = inl ((line, ap (λ (s : Stack). s.top.lines) es, ap (λ (s : Stack). s.top.parts) es, ap (λ (s : Stack). s.under) es, ap (λ (s : Stack). s.top.turning) es), rw eb h);
 }
 
 pub begins : (old new : Runner) (line : List ℕ) (number : ℕ) → new.stack ≡ record { top = page_line line old.stack.top; under = []; texts = [] }
@@ -126,5 +129,6 @@ pub ended_sound : (r : Runner) (actions : Acting) → actions.setting ≡ r.doin
 unfolding IsFirst HasMeasure
 ended_sound r actions e h = record {
   setting = rw e h.setting;
+  frames = h.frames;
   way = elim h.way [ inl first ↦ inl first | inr measured ↦ inr measured ];
 }

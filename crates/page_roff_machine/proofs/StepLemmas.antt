@@ -1,5 +1,5 @@
 -- Steps of the machine, one after another: helpers of proofs.
-use Rattle.std.proofs.Common.{◌≡◌, ℕ, suc, ◌≤◌, inl, inr, Bool, true, false, List, [], ◌∷◌, ◌++◌, map, length, Some, refl, sym, ap, ◌∙◌, append_assoc}
+use Rattle.std.proofs.Common.{◌≡◌, ℕ, suc, ◌≤◌, inl, inr, Bool, true, false, List, [], ◌∷◌, ◌++◌, map, Some, refl, sym, ap, ◌∙◌, append_assoc}
 use Rattle.std.proofs.lemmas.List.{append-nil}
 use Rattle.page_core_base.specs.Messages.{Message}
 use Rattle.page_core_base.specs.declared.page_settings.Output.{Output}
@@ -9,7 +9,8 @@ use Rattle.page_roff_language.specs.Machine.{next}
 use Rattle.page_roff_language.specs.Measures.{measure, HasMeasure, HasBodyWithin, IsFirst, credit}
 use Rattle.page_roff_language.specs.Budgets.{Budgeted, language}
 use Rattle.page_roff_language.specs.Fronts.{over}
-use Rattle.page_roff_language.proofs.MeasureLemmas.{next_falls, first_falls}
+use Rattle.page_roff_language.proofs.MeasureLemmas.{next_falls}
+use Rattle.page_roff_language.proofs.OnLineLemmas.{first_falls}
 use Rattle.page_roff_effects.specs.Effects.{effects, in_front}
 use Rattle.page_roff_effects.specs.States.{State, Given, says, takes}
 use Rattle.page_roff_stack.specs.declared.next.Next.TheVariants.{Nothing}
@@ -21,11 +22,11 @@ use Rattle.page_roff_machine.specs.declared.runners.Runner.{Runner}
 use Rattle.page_roff_machine.specs.Doing.{IsIn, output_of, state_in}
 use Rattle.page_roff_machine.specs.Giving.{notes_before, next_line, after_line}
 use Rattle.page_roff_machine.specs.Machines.{Machine, outcome_of, to_come, end_of, hushed, Advances}
-use Rattle.page_roff_machine.specs.Moving.{moved, reached_with, IsBodyWithin, IfDone, Suits, HUGE, Decides, Moves}
+use Rattle.page_roff_machine.specs.Moving.{moved, reached_with, AreKept, frames_of, IsBodyWithin, IfDone, Suits, HUGE, Decides, Moves}
 use Rattle.page_roff_machine.specs.Stepping.{machine_of, IsMeasured, IsSound, Steps, Leads}
 use Rattle.page_roff_machine.proofs.ActLemmas.{step_next, is_nothing_next}
 use Rattle.page_roff_machine.proofs.DoingLemmas.{came_none, came_both, said}
-use Rattle.page_roff_machine.proofs.GoLemmas.{same_depth}
+use Rattle.page_roff_machine.proofs.FrameLemmas.{same_source}
 use Rattle.page_roff_machine.proofs.MachineLemmas.{notes_after, line_after, rest_after, outcome_step, outcome_end}
 
 -- what is left of a line, in steps
@@ -34,32 +35,35 @@ work_of r = measure HUGE (running r.stack (state_in [] r.doing))
 
 -- ---- steps end
 
-pub falls : (old new : Runner) (given : List Given) → IsMeasured old → IsIn new.stack.top.kind new.doing → IsBodyWithin old.stack.under new.stack
+pub falls : (old new : Runner) (given : List Given) → IsMeasured old → IsIn new.stack.top.kind new.doing → AreKept (frames_of new.stack) → IsBodyWithin old.stack new.stack
     → next (language (effects (output_of old.doing))) (running old.stack (state_in [] old.doing)) ≡ Some (running new.stack (state_in given new.doing))
     → (suc (work_of new) ≤ work_of old) × IsMeasured new
-unfolding measure HasMeasure HasBodyWithin credit
-falls old new given h k b e =
-    let f = next_falls (effects (output_of old.doing)) HUGE (running old.stack (state_in [] old.doing)) (running new.stack (state_in given new.doing)) h.way b e in
-    (f.0, record { setting = k; way = f.1 })
+unfolding measure HasMeasure credit
+falls old new given h k kept b e =
+    let r = running old.stack (state_in [] old.doing) in
+    let q = running new.stack (state_in given new.doing) in
+    let within : HasBodyWithin HUGE r q = record { begins = b.begins; turns = b.turns } in
+    let f = next_falls (effects (output_of old.doing)) HUGE r q h.way within e in
+    (f.0, record { setting = k; frames = kept; way = f.1 })
 
-first_measured : (old new : Runner) (given : List Given) → IsFirst (running old.stack (state_in [] old.doing)) → IsIn new.stack.top.kind new.doing
+first_measured : (old new : Runner) (given : List Given) → IsFirst (running old.stack (state_in [] old.doing)) → IsIn new.stack.top.kind new.doing → AreKept (frames_of new.stack)
     → next (language (effects (output_of old.doing))) (running old.stack (state_in [] old.doing)) ≡ Some (running new.stack (state_in given new.doing))
     → IsMeasured new
 unfolding HasMeasure
-first_measured old new given h k e =
-    record { setting = k; way = first_falls (effects (output_of old.doing)) (running old.stack (state_in [] old.doing)) (running new.stack (state_in given new.doing)) h e }
+first_measured old new given h k kept e =
+    record { setting = k; frames = kept; way = first_falls (effects (output_of old.doing)) (running old.stack (state_in [] old.doing)) (running new.stack (state_in given new.doing)) h e }
 
-measured_from : (old new : Runner) (given : List Given) → IsSound old → IsIn new.stack.top.kind new.doing → IsBodyWithin old.stack.under new.stack
+measured_from : (old new : Runner) (given : List Given) → IsSound old → IsIn new.stack.top.kind new.doing → (AreKept (frames_of old.stack) → AreKept (frames_of new.stack)) → IsBodyWithin old.stack new.stack
     → next (language (effects (output_of old.doing))) (running old.stack (state_in [] old.doing)) ≡ Some (running new.stack (state_in given new.doing))
     → IsMeasured new
-measured_from old new given h k b e =
+measured_from old new given h k kept b e =
     elim h.way [
-      | inl first ↦ first_measured old new given first.0 k e
-      | inr measured ↦ (falls old new given (record { setting = h.setting; way = measured }) k b e).1
+      | inl first ↦ first_measured old new given first.0 k (kept h.frames) e
+      | inr measured ↦ (falls old new given (record { setting = h.setting; frames = h.frames; way = measured }) k (kept h.frames) b e).1
     ]
 
 pub sound_of : (r : Runner) → IsMeasured r → IsSound r
-sound_of r h = record { setting = h.setting; way = inr h.way }
+sound_of r h = record { setting = h.setting; frames = h.frames; way = inr h.way }
 
 if_done : (progress : Progress) (A B : Type 0) → (A → B) → IfDone progress A → IfDone progress B
 if_done More A B f h = tt
@@ -83,7 +87,8 @@ module _ {P S : Type 0} (left : P → S → List Message → Type 0) where
         ∙ ap (λ (s : Stack). moved (output_of mid.doing) movement s (map says a.notes) mid.doing) (sym a.stack)
         ∙ b.step (map says a.notes)
         ∙ ap (λ (given : List Given). reached_with progress given new) (said [] a.notes b.notes);
-    body = λ h. b.body (h ∙ ap (λ (s : Stack). suc (length s.under)) (sym a.stack));
+    body = rw a.stack at b.body;
+    frames = rw a.stack at b.frames;
     done = if_done progress ⊥ ((new ≡ old) × (a.notes ++ b.notes ≡ []) × (is_nothing (next_of old.stack) ≡ true)) (λ none. absurd none) b.not_done;
   }
 
@@ -96,7 +101,8 @@ module _ {P S : Type 0} (left : P → S → List Message → Type 0) where
     notes = [];
     came = came_none left out;
     step = step_next (output_of old.doing) old.stack Nothing (state_in [] old.doing) (is_nothing_next (next_of old.stack) e);
-    body = same_depth old.stack.under old.stack refl;
+    body = same_source old.stack old.stack refl refl;
+    frames = λ h. h;
     done = (refl, refl, e);
   }
 
@@ -192,16 +198,16 @@ module _ {P S : Type 0} (left : P → S → List Message → Type 0) where
 
   pub measured_more : (old new : Runner) (out out_new : S) → IsMeasured old → Steps left old out More new out_new → (suc (work_of new) ≤ work_of old) × IsMeasured new
   unfolding reached_with
-  measured_more old new out out_new h s = falls old new (map says s.notes) h s.setting s.body s.step
+  measured_more old new out out_new h s = falls old new (map says s.notes) h s.setting (s.frames h.frames) s.body s.step
 
   pub sound_more : (old new : Runner) (out out_new : S) → IsSound old → Steps left old out More new out_new → IsMeasured new
   unfolding reached_with
-  sound_more old new out out_new h s = measured_from old new (map says s.notes) h s.setting s.body s.step
+  sound_more old new out out_new h s = measured_from old new (map says s.notes) h s.setting s.frames s.body s.step
 
   pub sound_line : (old new : Runner) (out out_new : S) → IsSound old → Steps left old out Line new out_new → IsSound new
   unfolding reached_with
   sound_line old new out out_new h s =
-      sound_of new (measured_from old new (map says s.notes ++ (takes new.doing.actions.line ∷ [])) h s.setting s.body s.step)
+      sound_of new (measured_from old new (map says s.notes ++ (takes new.doing.actions.line ∷ [])) h s.setting s.frames s.body s.step)
 
   pub sound_done : (old new : Runner) (out out_new : S) → IsSound old → Steps left old out Done new out_new → IsSound new
   sound_done old new out out_new h s = rw s.done.0 h

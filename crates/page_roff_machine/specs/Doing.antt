@@ -2,20 +2,22 @@
 use Rattle.std.specs.Prelude.{◌≡◌, ℕ, ◌≤◌, ◌^◌, Bool, true, false, List, [], ◌∷◌, ◌++◌, map, Option, Some, None}
 use Rattle.page_core_base.specs.Messages.{Message}
 use Rattle.page_core_base.specs.declared.page_settings.Output.{Output}
+use Rattle.page_roff_heads.specs.declared.loops.LoopHead.{LoopHead}
 use Rattle.page_roff_blocks.specs.declared.atoms.Branch.{Branch}
 use Rattle.page_roff_blocks.specs.declared.regions.RegionHead.{RegionHead}
 use Rattle.page_roff_blocks.specs.declared.spots.Reached.{Reached}
 use Rattle.page_roff_blocks.specs.Levels.{Opened}
-use Rattle.page_roff_blocks.specs.Run.{Meaning, meet_as, value}
+use Rattle.page_roff_blocks.specs.Run.{Meaning, meet_as, value, keep_if}
 use Rattle.page_roff_values.specs.Arguments.{arguments_in, lines_in}
 use Rattle.page_roff_values.specs.Latches.{Came}
-use Rattle.page_roff_language.specs.Languages.{Kind, Done, gives, calls, Language}
+use Rattle.page_roff_language.specs.Languages.{Kind, Done, gives, calls, repeats, Language}
 use Rattle.page_roff_language.specs.Budgets.{Budgeted, charge, begin_line, meaning, language}
 use Rattle.page_roff_language.specs.Counting.{Budget, budgeted}
 use Rattle.page_roff_effects.specs.declared.commands.ProductKind.{ProductKind}
 use Rattle.page_roff_effects.specs.declared.commands.ProductKind.TheVariants as kinds
 use Rattle.page_roff_effects.specs.Acting.{Acting}
 use Rattle.page_roff_effects.specs.Effects.{effects, setting_of}
+use Rattle.page_roff_effects.specs.LoopLines.{condition_in, body_in}
 use Rattle.page_roff_effects.specs.States.{State, Given, says, takes}
 use Rattle.page_roff_stack.specs.Changes.{is_page}
 use Rattle.page_roff_machine.specs.declared.budgeted_actions.BudgetedActions.{BudgetedActions}
@@ -106,6 +108,43 @@ abbrev pub region_in : BudgetedActions → RegionHead (List ℕ) → Reached →
     → Bool × Budgeted State
 region_in b head reached kind s = region_after (parts_of b kind) head (met_in b reached kind s)
 
+-- the head of a loop, where it is run
+abbrev pub opens_if : {S : Type 0} → Meaning (List ℕ) S → LoopHead (List ℕ) → Bool → S → Bool × S
+opens_if m head true s = (true, m.opens_loop head s)
+opens_if m head false s = (false, s)
+
+abbrev pub opens_after : {S : Type 0} → Meaning (List ℕ) S → LoopHead (List ℕ) → Bool × S → Bool × S
+opens_after m head q = opens_if m head q.0 q.1
+
+abbrev pub opened_in : BudgetedActions → LoopHead (List ℕ) → Reached → Kind → Budgeted State → Bool × Budgeted State
+opened_in b head reached kind s = opens_after (parts_of b kind) head (met_in b reached kind s)
+
+-- a loop that is collected is whole
+abbrev pub closed_in : BudgetedActions → Bool → Kind → Budgeted State → Done (Budgeted State)
+closed_in b may_run kind s = (language (effects (output_of b))).closes may_run s
+
+-- a loop without a block, where it is run
+abbrev pub closes_if : {S : Type 0} → Language S → Bool → Bool → S → Done S
+closes_if l may_run true s = l.closes may_run s
+closes_if l may_run false s = gives s
+
+abbrev pub closes_after : {S : Type 0} → Language S → Bool → Bool × S → Done S
+closes_after l may_run q = closes_if l may_run q.0 q.1
+
+abbrev pub passed_in : BudgetedActions → Bool → LoopHead (List ℕ) → Reached → Kind → Budgeted State → Done (Budgeted State)
+passed_in b may_run head reached kind s = closes_after (language (effects (output_of b))) may_run (opened_in b head reached kind s)
+
+-- a text, and what of a line, belongs to a loop that is collected
+abbrev pub kept_in : BudgetedActions → List ℕ → Kind → Budgeted State → Budgeted State
+kept_in b text kind s = (parts_of b kind).keeps text s
+
+abbrev pub collected_in : BudgetedActions → ℕ → List ℕ → Kind → Budgeted State → Budgeted State
+collected_in b open_blocks line kind s = (parts_of b kind).collects open_blocks line s
+
+-- a turn of a loop
+abbrev pub turned_in : BudgetedActions → List ℕ → Kind → Budgeted State → Bool × Budgeted State
+turned_in b condition kind s = (language (effects (output_of b))).turn kind condition s
+
 -- a line that heads nothing, where it is run
 abbrev pub leaf_if : {S : Type 0} → Language S → Bool → Kind → List ℕ → Bool → S → Done S
 leaf_if l may_call kind text true s = l.leaf may_call kind text s
@@ -118,11 +157,12 @@ abbrev pub leaf_in : BudgetedActions → Bool → List ℕ → Reached → Kind 
 leaf_in b may_call text reached kind s =
     leaf_after (language (effects (output_of b))) may_call kind text (met_in b reached kind s)
 
--- what came of it: a line that was taken is given, and a call is lent
+-- what came of it: a line that was taken is given, and a call or a loop is lent
 abbrev pub line_of : ProductKind → Acting → List Given
 line_of kinds.Nothing a = []
 line_of kinds.Line a = takes a.line ∷ []
 line_of kinds.Call a = []
+line_of kinds.Loop a = []
 
 abbrev pub line_after : ProductKind → BudgetedActions → List Given → Budgeted State
 line_after product b given = state_in (given ++ line_of product b.actions) b
@@ -132,6 +172,8 @@ done_as kinds.Nothing b given = gives (state_in given b)
 done_as kinds.Line b given = gives (state_in (given ++ (takes b.actions.line ∷ [])) b)
 done_as kinds.Call b given =
     calls (lines_in b.actions.call.body) (arguments_in b.actions.call.packed) (state_in given b)
+done_as kinds.Loop b given =
+    repeats (condition_in b.actions.call.body) (body_in b.actions.call.body) (state_in given b)
 
 -- a line of a region; and its end line, whose text decides nothing more
 abbrev pub read_in : BudgetedActions → Opened → List ℕ → Kind → Budgeted State → Budgeted State
@@ -140,8 +182,17 @@ read_in b o line kind s = (parts_of b kind).reads o line s
 abbrev pub ended_in : BudgetedActions → Opened → Kind → Budgeted State → Budgeted State
 ended_in b o kind s = (parts_of b kind).ends_region o [] s
 
-abbrev pub finished_in : BudgetedActions → Option Opened → Kind → Budgeted State → Budgeted State
-finished_in b region kind s = (language (effects (output_of b))).finish region s
+-- both belong to the loop around the region, if one is collected
+abbrev pub read_kept_in : BudgetedActions → Bool → Opened → List ℕ → Kind → Budgeted State → Budgeted State
+read_kept_in b in_loop o line kind s = keep_if (parts_of b kind) in_loop line (read_in b o line kind s)
+
+abbrev pub ended_kept_in : BudgetedActions → Bool → Opened → List ℕ → Kind → Budgeted State → Budgeted State
+ended_kept_in b in_loop o line kind s = keep_if (parts_of b kind) in_loop line (ended_in b o kind s)
+
+-- a source that was begun, or a turn of it, ends
+abbrev pub finished_in : BudgetedActions → Bool → Option Opened → Bool → Kind → Budgeted State → Budgeted State
+finished_in b true region in_loop kind s = (language (effects (output_of b))).finish region in_loop s
+finished_in b false region in_loop kind s = s
 
 -- the end of a block where none is open
 abbrev pub unopened_in : BudgetedActions → Kind → Budgeted State → Budgeted State

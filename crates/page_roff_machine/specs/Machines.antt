@@ -118,9 +118,9 @@ pub record IsNew (output : Output) (m : Machine) : Type 0 where
   pub actions : acting.IsNew output m.actions
   pub budget : m.budget ≡ first_budget
 
--- the page ends: a region that is open is dropped with a message
+-- the page ends: a region or a loop that is open is dropped with a message
 abbrev pub end_notes : Machine → List Message
-end_notes m = (finish_outcome m.stack.top.region false m.actions.memory).notes
+end_notes m = (finish_outcome m.stack.top.region m.stack.top.spot.levels.in_loop false m.actions.memory).notes
 
 abbrev pub end_memory : Machine → Memory
-end_memory m = (finish_outcome m.stack.top.region false m.actions.memory).memory
+end_memory m = (finish_outcome m.stack.top.region m.stack.top.spot.levels.in_loop false m.actions.memory).memory

@@ -1,38 +1,45 @@
 -- How the input stack moves on, once the part that comes next was done: the code's own form of a step. Trust needs no reading of it.
-use Rattle.std.specs.Prelude.{◌≡◌, ℕ, ◌≤◌, suc, Bool, true, List, [], ◌∷◌, ◌++◌, length, map, Option, Some, None}
+use Rattle.std.specs.Prelude.{◌≡◌, ℕ, ◌≤◌, suc, Bool, true, false, List, [], ◌∷◌, ◌++◌, length, map, Option, Some, None, IfSome}
 use Rattle.page_core_base.specs.Messages.{Message}
 use Rattle.page_core_base.specs.declared.page_settings.Output.{Output}
 use Rattle.page_roff_blocks.specs.declared.atoms.Branch.{Branch}
 use Rattle.page_roff_blocks.specs.declared.atoms.Branch.TheVariants.{Else}
-use Rattle.page_roff_blocks.specs.Levels.{Spot, after_part, guarded_by, bit_after, way_of, enter, skip, leave, has_block}
-use Rattle.page_roff_blocks.specs.Run.{refuse_if, unopened_if}
+use Rattle.page_roff_blocks.specs.declared.spots.Reached.{Reached}
+use Rattle.page_roff_blocks.specs.declared.spots.Reached.TheVariants.{PassedOver, First, Remainder}
+use Rattle.page_roff_blocks.specs.Levels.{Opened, Spot, after_part, guarded_by, bit_after, way_of, enter, open_loop, skip, leave, what_ends}
+use Rattle.page_roff_blocks.specs.Run.{refuse_if}
+use Rattle.page_roff_blocks.specs.Steps.{collect_if}
 use Rattle.page_roff_values.specs.Arguments.{arguments_in}
 use Rattle.page_roff_values.specs.Latches.{Came}
-use Rattle.page_roff_language.specs.Languages.{Kind, page, body}
-use Rattle.page_roff_language.specs.Machine.{Frame, Running, depth, is_some, leaf_next, next}
-use Rattle.page_roff_language.specs.Measures.{weight}
+use Rattle.page_roff_language.specs.Languages.{Kind, page, body, is_some}
+use Rattle.page_roff_language.specs.Machine.{Frame, Running, Turning, depth, leaf_next, loop_next, end_next, next}
+use Rattle.page_roff_language.specs.Measures.{weight, turns_of}
 use Rattle.page_roff_language.specs.Budgets.{Budgeted, meaning, language}
 use Rattle.page_roff_effects.specs.declared.commands.ProductKind.{ProductKind}
 use Rattle.page_roff_effects.specs.declared.commands.ProductKind.TheVariants as kinds
-use Rattle.page_roff_effects.specs.Acting.{with_arguments, IsCallable, IfCalled}
+use Rattle.page_roff_effects.specs.Acting.{with_arguments, IsCallable, IsRepeatable}
 use Rattle.page_roff_effects.specs.Effects.{effects}
 use Rattle.page_roff_effects.specs.States.{State, Given, says, takes}
-use Rattle.page_roff_stack.specs.Changes.{past, in_region, next_line}
-use Rattle.page_roff_stack.specs.Stacks.{Stack, running, with_top, call_of, next_of, is_part, is_source_end, branch_in, region_in}
+use Rattle.page_roff_stack.specs.declared.next.Next.{Next}
+use Rattle.page_roff_stack.specs.declared.next.Next.TheVariants as things
+use Rattle.page_roff_stack.specs.Changes.{past, in_region, next_line, in_turn, arguments_of}
+use Rattle.page_roff_stack.specs.Stacks as stacks
+use Rattle.page_roff_stack.specs.Stacks.{Stack, running, with_top, call_of, loop_of, next_of, is_part, opens_block, is_turn, may_end, branch_in, region_in}
+use Rattle.page_roff_stack.specs.Views.{unpacked}
 use Rattle.page_roff_machine.specs.declared.budgeted_actions.BudgetedActions.{BudgetedActions}
 use Rattle.page_roff_machine.specs.declared.movements.Movement.{Movement}
 use Rattle.page_roff_machine.specs.declared.movements.Movement.TheVariants as moves
 use Rattle.page_roff_machine.specs.declared.movements.Progress.{Progress}
 use Rattle.page_roff_machine.specs.declared.movements.Progress.TheVariants.{More, Line, Done}
 use Rattle.page_roff_machine.specs.declared.runners.Runner.{Runner}
-use Rattle.page_roff_machine.specs.Doing.{IsIn, output_of, state_in, line_of, done_as}
+use Rattle.page_roff_machine.specs.Doing.{Makes, IsIn, output_of, state_in, state_after, parts_of, line_of, done_as}
 
 -- after a head without a block: passed over, or run with a value
 abbrev pub guard_spot : Branch (List ℕ) → Option Bool → Spot → Spot
 guard_spot branch None spot = record spot { begun = true }
 guard_spot branch (Some value) spot = guarded_by branch value spot.levels
 
--- in a block: passed over, or entered with a value of its head
+-- in the block of a conditional: passed over, or entered with a value of its head
 abbrev pub block_spot : Branch (List ℕ) → Option Bool → Spot → Spot
 block_spot branch None spot = after_part (skip spot.levels)
 block_spot branch (Some value) spot =
@@ -44,15 +51,10 @@ refused output None column spot s = s
 refused output (Some value) column spot s =
     refuse_if (meaning (effects output) page) (way_of value (length spot.levels.outer)) (record { column = column; branch = Else }) s
 
--- the end of a block where none is open
-abbrev pub unopened : Output → Stack → Budgeted State → Budgeted State
-unopened output s state =
-    unopened_if (meaning (effects output) s.top.kind) (has_block s.top.spot.levels) state
-
--- the innermost source ends
-abbrev pub ended : List Frame → Budgeted State → Option (Running (Budgeted State))
-ended [] state = None
-ended (f ∷ fs) state = Some (record { top = f; under = fs; state = state })
+-- in the block of a loop: collected, or passed over
+abbrev pub loop_spot : Bool → Spot → Spot
+loop_spot true spot = after_part (open_loop spot.levels)
+loop_spot false spot = after_part (skip spot.levels)
 
 -- the stack moves on, and what was done is the state
 unfoldable pub moved : Output → Movement → Stack → List Given → BudgetedActions
@@ -64,27 +66,28 @@ moved output (moves.Guard value) s given b =
 moved output (moves.Block value column) s given b =
     Some (running (with_top (past (block_spot (branch_in (next_of s)) value s.top.spot) s.top) s)
     (refused output value column s.top.spot (state_in given b)))
+moved output (moves.Loop is_run) s given b =
+    Some (running (with_top (past (loop_spot is_run s.top.spot) s.top) s) (state_in given b))
 moved output moves.BlockEnd s given b =
-    Some (running (with_top (past (after_part (leave s.top.spot.levels)) s.top) s) (unopened output s (state_in given b)))
+    Some (end_next (language (effects output)) (meaning (effects output) s.top.kind) (what_ends s.top.spot.levels)
+    (past (after_part (leave s.top.spot.levels)) s.top) s.under (state_in given b))
 moved output (moves.Region is_run) s given b =
     Some (running (with_top (in_region (region_in is_run (next_of s)) s.top) s) (state_in given b))
 moved output (moves.RegionLine product) s given b =
     Some (running (with_top (next_line s.top.region [] s.top) s) (state_in (given ++ line_of product b.actions) b))
 moved output moves.RegionEnd s given b =
     Some (running (with_top (next_line None [] s.top) s) (state_in given b))
-moved output moves.SourceEnd s given b = ended s.under (state_in given b)
+moved output moves.Turn s given b = Some (running (with_top (in_turn s.top) s) (state_in given b))
+moved output moves.SourceEnd s given b = stacks.left s.under (state_in given b)
 
 -- what came of a part, as a step
 abbrev pub progress_as : ProductKind → Progress
 progress_as kinds.Nothing = More
 progress_as kinds.Line = Line
 progress_as kinds.Call = More
+progress_as kinds.Loop = More
 
 -- ---- the arguments of the innermost source
-
-abbrev pub arguments_of : Kind → Option (List (List ℕ))
-arguments_of page = None
-arguments_of (body arguments) = Some arguments
 
 abbrev pub with_arguments_of : Kind → Runner → Runner
 with_arguments_of kind r = record {
@@ -100,22 +103,89 @@ with_call r = record {
 }
 
 abbrev pub called : Runner → Runner
-called r = with_arguments_of (body (arguments_in r.doing.actions.call.packed)) (with_call r)
+called r = with_arguments_of (body (Some (arguments_in r.doing.actions.call.packed))) (with_call r)
 
--- a call that was taken can run
-abbrev pub CanCall : ProductKind → Stack → BudgetedActions → Type 0
-CanCall product s b = IfCalled product (IsCallable (is_some (depth s.under)) b.actions.call)
+-- the loop that came last runs, with these arguments as they are packed
+abbrev pub with_loop : Option (List ℕ) → Runner → Runner
+with_loop packed r = record { stack = loop_of r.doing.actions.call.body packed r.stack; doing = r.doing }
+
+-- they are those of the source in which it stands
+pub record Repeats (old new : Runner) : Type 0 where
+  pub packed : Option (List ℕ)
+  pub arguments : unpacked packed ≡ arguments_of old.stack.top.kind
+  pub loop : new ≡ with_loop packed old
+
+-- what was taken can run, if it is a macro or a loop
+abbrev pub CanBegin : ProductKind → Stack → BudgetedActions → Type 0
+CanBegin kinds.Nothing s b = Unit {0}
+CanBegin kinds.Line s b = Unit {0}
+CanBegin kinds.Call s b = IsCallable (is_some (depth s.under)) b.actions.call
+CanBegin kinds.Loop s b = IsRepeatable (is_some (depth s.under)) b.actions.call.body
+
+-- ---- what is so of each source that runs
+
+-- bodies have less than this weight: a byte of a line counts four times, and its end five times
+abbrev pub HUGE : ℕ
+HUGE = 100000
+
+abbrev pub IsTurningWithin : Option Turning → Type 0
+IsTurningWithin None = Unit {0}
+IsTurningWithin (Some t) = suc (weight t.lines) ≤ HUGE
+
+-- a region that is open is passed over
+abbrev pub IsPassed : Option Opened → Type 0
+IsPassed region = IfSome region (λ o. o.is_run ≡ false)
+
+-- in each turn of a loop its body has less, and in a loop that is collected no region is run
+pub record IsKept (f : Frame) : Type 0 where
+  pub turning : IsTurningWithin f.turning
+  pub region : f.spot.levels.in_loop ≡ true → IsPassed f.region
+
+abbrev pub AreKept : List Frame → Type 0
+AreKept [] = Unit {0}
+AreKept (f ∷ fs) = IsKept f × AreKept fs
+
+abbrev pub frames_of : Stack → List Frame
+frames_of s = s.top ∷ s.under
+
+-- ---- one step
+
+-- a block comes that is passed over
+abbrev pub passes_block : Reached → Next (List ℕ) Opened → Bool
+passes_block PassedOver x = opens_block x
+passes_block First x = false
+passes_block Remainder x = false
+
+-- the line that begins next
+abbrev pub line_in : Next (List ℕ) Opened → List ℕ
+line_in (things.Part part) = []
+line_in (things.Line line) = line
+line_in (things.RegionLine o line is_end) = []
+line_in (things.Turn region begun condition) = []
+line_in (things.SourceEnd region begun) = []
+line_in things.Nothing = []
+
+-- what of it belongs to the loop that is collected, if one is, was collected, without changing the stack
+pub record Collects {P S : Type 0} (left : P → S → List Message → Type 0) (old : Runner) (out : S)
+    (new : Runner) (out_new : S) : Type 0 where
+  pub stack : new.stack ≡ old.stack
+  pub does : Makes left old.doing out (λ kind. IsIn kind old.doing)
+      (λ kind s. let l = old.stack.top.spot.levels in collect_if (parts_of old.doing kind) l.in_loop l.skipped (line_in (next_of old.stack)) s)
+      new.doing state_after out_new
 
 -- it is the movement for what comes next
 abbrev pub Suits : Movement → Stack → BudgetedActions → Type 0
-Suits (moves.Leaf product) s b = CanCall product s b
+Suits (moves.Leaf product) s b = CanBegin product s b
 Suits (moves.Guard value) s b = is_part (next_of s) ≡ true
 Suits (moves.Block value column) s b = is_part (next_of s) ≡ true
+Suits (moves.Loop is_run) s b = is_part (next_of s) ≡ true
 Suits moves.BlockEnd s b = Unit {0}
-Suits (moves.Region is_run) s b = is_part (next_of s) ≡ true
+Suits (moves.Region is_run) s b =
+    (is_part (next_of s) ≡ true) × (s.top.spot.levels.in_loop ≡ true → is_run ≡ false)
 Suits (moves.RegionLine product) s b = Unit {0}
 Suits moves.RegionEnd s b = Unit {0}
-Suits moves.SourceEnd s b = is_source_end (next_of s) ≡ true
+Suits moves.Turn s b = (is_turn (next_of s) ≡ true) × IsTurningWithin s.top.turning
+Suits moves.SourceEnd s b = may_end (next_of s) ≡ true
 
 -- What comes next was done, without changing the stack: with this movement the step of the definition is made.
 pub record Decides {P S : Type 0} (left : P → S → List Message → Type 0) (old : Runner) (out : S)
@@ -137,13 +207,11 @@ reached_with Line given r =
     Some (running r.stack (state_in (given ++ (takes r.doing.actions.line ∷ [])) r.doing))
 reached_with Done given r = None
 
--- bodies have less than this weight: a byte of a line counts twice, and its end three times
-abbrev pub HUGE : ℕ
-HUGE = 50000
-
--- the body that was called has less
-abbrev pub IsBodyWithin : List Frame → Stack → Type 0
-IsBodyWithin under s = length s.under ≡ suc (length under) → suc (weight s.top.lines) ≤ HUGE
+-- where a macro, a loop or a turn of a loop was begun, what is left of its lines has less
+pub record IsBodyWithin (old new : Stack) : Type 0 where
+  pub begins : length new.under ≡ suc (length old.under) → suc (weight new.top.lines) ≤ HUGE
+  pub turns : length new.under ≡ length old.under → suc (turns_of new.top.turning) ≡ turns_of old.top.turning
+      → suc (weight new.top.lines) ≤ HUGE
 
 -- where nothing was left
 abbrev pub IfDone : Progress → Type 0 → Type 0
@@ -157,18 +225,29 @@ pub record Shifts (old : Runner) (movement : Movement) (result : Progress) (new 
   pub setting : IsIn new.stack.top.kind new.doing
   pub step : (given : List Given) → moved (output_of old.doing) movement old.stack given old.doing
       ≡ reached_with result given new
-  pub body : IsBodyWithin old.stack.under new.stack
+  pub body : IsBodyWithin old.stack new.stack
+  pub frames : AreKept (frames_of old.stack) → AreKept (frames_of new.stack)
 
--- The stack moved on: messages came, and perhaps a line was taken.
-pub record Moves {P S : Type 0} (left : P → S → List Message → Type 0) (old : Runner) (out : S)
-    (movement : Movement) (result : Progress) (new : Runner) (out_new : S) : Type 0 where
+-- It went on from here: messages came, and perhaps a line was taken.
+pub record Goes {P S : Type 0} (left : P → S → List Message → Type 0) (old : Runner) (out : S)
+    (from : List Given → Option (Running (Budgeted State))) (result : Progress) (new : Runner) (out_new : S) : Type 0 where
   pub output : output_of new.doing ≡ output_of old.doing
   pub setting : IsIn new.stack.top.kind new.doing
   pub notes : List Message
   pub came : Came left out notes out_new
-  pub step : (given : List Given)
-      → moved (output_of old.doing) movement old.stack given old.doing
-      ≡ reached_with result (given ++ map says notes) new
-  pub body : IsBodyWithin old.stack.under new.stack
+  pub step : (given : List Given) → from given ≡ reached_with result (given ++ map says notes) new
+  pub body : IsBodyWithin old.stack new.stack
+  pub frames : AreKept (frames_of old.stack) → AreKept (frames_of new.stack)
   -- a step never tells that the source line is done
   pub not_done : IfDone result ⊥
+
+-- the stack moved on
+abbrev pub Moves : {P S : Type 0} → (P → S → List Message → Type 0) → Runner → S → Movement → Progress → Runner → S → Type 0
+Moves left old out movement result new out_new =
+    Goes left old out (λ given. moved (output_of old.doing) movement old.stack given old.doing) result new out_new
+
+-- a loop that is collected was whole
+abbrev pub Closes : {P S : Type 0} → (P → S → List Message → Type 0) → Runner → S → Runner → S → Type 0
+Closes left old out new out_new =
+    Goes left old out (λ given. Some (loop_next (language (effects (output_of old.doing))) old.stack.top old.stack.under (state_in given old.doing)))
+    More new out_new

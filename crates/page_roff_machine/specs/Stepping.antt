@@ -13,7 +13,7 @@ use Rattle.page_roff_machine.specs.declared.runners.Runner.{Runner}
 use Rattle.page_roff_machine.specs.Giving.{notes_before, next_line, after_line}
 use Rattle.page_roff_machine.specs.Machines.{Machine, to_come, end_of}
 use Rattle.page_roff_machine.specs.Doing.{IsIn, output_of, state_in}
-use Rattle.page_roff_machine.specs.Moving.{reached_with, IsBodyWithin, IfDone}
+use Rattle.page_roff_machine.specs.Moving.{reached_with, IsBodyWithin, AreKept, frames_of, IfDone}
 
 abbrev pub machine_of : Runner → Machine
 machine_of r = record { stack = r.stack; actions = r.doing.actions; budget = r.doing.budget }
@@ -27,11 +27,13 @@ IsUnderWay r =
 -- after the first step, steps have a measure
 pub record IsMeasured (r : Runner) : Type 0 where
   pub setting : IsIn r.stack.top.kind r.doing
+  pub frames : AreKept (frames_of r.stack)
   pub way : HasMeasure (running r.stack (state_in [] r.doing))
 
 -- the arguments are those of the innermost source
 pub record IsSound (r : Runner) : Type 0 where
   pub setting : IsIn r.stack.top.kind r.doing
+  pub frames : AreKept (frames_of r.stack)
   pub way : IsUnderWay r
 
 -- One step was made: messages came, and perhaps a line was taken.
@@ -43,7 +45,8 @@ pub record Steps {P S : Type 0} (left : P → S → List Message → Type 0) (ol
   pub came : Came left out notes out_new
   pub step : next (language (effects (output_of old.doing))) (running old.stack (state_in [] old.doing))
       ≡ reached_with result (map says notes) new
-  pub body : IsBodyWithin old.stack.under new.stack
+  pub body : IsBodyWithin old.stack new.stack
+  pub frames : AreKept (frames_of old.stack) → AreKept (frames_of new.stack)
   pub done : IfDone result ((new ≡ old) × (notes ≡ []) × (is_nothing (next_of old.stack) ≡ true))
 
 -- Steps were made without a line: what is to come is the same but for the messages that came.

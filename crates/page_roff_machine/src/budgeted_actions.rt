@@ -1,17 +1,20 @@
 //! What the parts of sources do, under the budget of re-read lines (mandoc(1), "input stack limit exceeded, infinite loop?").
 
-ghost use Rattle.std.specs.Prelude.{◌≡◌, ◌≤◌, ◌&&◌, not, length};
+ghost use Rattle.std.specs.Prelude.{◌≡◌, ◌≤◌, ◌<◌, ◌^◌, ◌&&◌, true, false, not, length};
 ghost use Rattle.page_core_limits.specs.declared.TheConstants.{LINE};
-ghost use Rattle.page_roff_blocks.specs.Atoms.{branch_seen, FitsBranch};
+ghost use Rattle.page_roff_blocks.specs.Atoms.{branch_seen, loop_head_seen, FitsBranch};
 ghost use Rattle.page_roff_blocks.specs.Regions.{region_seen};
 ghost use Rattle.page_roff_blocks.specs.Levels.{opened_seen};
 ghost use Rattle.page_roff_machine.specs.Doing.{Does, Answers, Makes, IsAt, IsIn, HasRoom, state_after, line_after, done_as};
 ghost use Rattle.page_roff_machine.specs.Doing.{charged_in, begun_in, met_in, value_in, answer_in, region_in, leaf_in};
-ghost use Rattle.page_roff_machine.specs.Doing.{read_in, ended_in, unopened_in, finished_in};
-ghost use Rattle.page_roff_effects.specs.Acting.{IfCalled, IsCallable};
+ghost use Rattle.page_roff_machine.specs.Doing.{opened_in, closed_in, passed_in, kept_in, collected_in, turned_in};
+ghost use Rattle.page_roff_machine.specs.Doing.{read_in, read_kept_in, ended_in, ended_kept_in, unopened_in, finished_in};
+ghost use Rattle.page_roff_effects.specs.Acting.{IfCalled, IsCallable, IfRepeated, IsRepeatable};
+ghost use Rattle.page_roff_effects.specs.declared.commands.ProductKind.TheVariants as kinds;
 
-use page_roff_blocks::{Branch, OpenRegion, Reached, RegionHead};
+use page_roff_blocks::{Branch, OpenRegion, Reached, RegionHead, loop_text};
 use page_roff_effects::{Actions, ProductKind};
+use page_roff_heads::LoopHead;
 use page_roff_language::Budget;
 use page_roff_values::NoteOut;
 
@@ -32,7 +35,7 @@ impl BudgetedActions {
         }
     }
 
-    /// A raw line begins, of the page or of a running macro.
+    /// A raw line begins, of the page or of a body that runs.
     pub(crate) fn begin_line<O: NoteOut>(&mut self, is_page: bool, out: &mut O)
         requires { HasRoom is_page self.old.budget }
         ensures { Makes O.left self.old out.old (IsAt is_page self.old) (begun_in self.old) self.new
@@ -107,6 +110,88 @@ impl BudgetedActions {
         is_run
     }
 
+    /// The head of a loop comes, reached like this. Answers whether the loop is run: then it is collected from here on.
+    pub(crate) fn open_loop<O: NoteOut>(
+        &mut self,
+        reached: Reached,
+        head: &LoopHead<&[u8]>,
+        out: &mut O,
+    ) -> bool
+        ensures { Answers O.left self.old out.old (opened_in self.old (loop_head_seen head.now) reached) result
+            self.new out.new }
+    {
+        if self.meet(reached, out) {
+            self.actions.open_loop(head, out);
+            true
+        } else {
+            false
+        }
+    }
+
+    /// The loop that is collected is whole; `may_run` says whether one more source may run. Answers which kind of thing comes of it, and lends
+    /// that thing from then on.
+    pub(crate) fn close_loop<O: NoteOut>(&mut self, may_run: bool, out: &mut O) -> ProductKind
+        ensures done { Makes O.left self.old out.old (λ kind. IsIn kind self.old)
+            (closed_in self.old may_run) self.new (done_as result) out.new }
+        ensures repeats { IfRepeated result (IsRepeatable may_run self.new.actions.call.body) }
+    {
+        let is_run = !self.budget.gave_up();
+        self.actions.close_loop(may_run, is_run, out)
+    }
+
+    /// A loop without a block comes, reached like this; `may_run` says whether one more source may run. Answers which kind of thing comes of
+    /// it, and lends that thing from then on.
+    pub(crate) fn pass_loop<O: NoteOut>(
+        &mut self,
+        reached: Reached,
+        may_run: bool,
+        head: &LoopHead<&[u8]>,
+        out: &mut O,
+    ) -> ProductKind
+        ensures done { Makes O.left self.old out.old (λ kind. IsIn kind self.old)
+            (passed_in self.old may_run (loop_head_seen head.now) reached) self.new (done_as result) out.new }
+        ensures repeats { IfRepeated result (IsRepeatable may_run self.new.actions.call.body) }
+    {
+        if self.open_loop(reached, head, out) {
+            self.close_loop(may_run, out)
+        } else {
+            ProductKind::Nothing
+        }
+    }
+
+    // A text belongs to the loop that is collected.
+    fn keep<O: NoteOut>(&mut self, text: &[u8], out: &mut O)
+        ensures { Does O.left self.old out.old (kept_in self.old text.now) self.new out.new }
+    {
+        let is_run = !self.budget.gave_up();
+        self.actions.collect_line(is_run, text, out);
+    }
+
+    /// A line begins in the loop that is collected, in which this many blocks are open.
+    pub(crate) fn collect<O: NoteOut>(&mut self, open_blocks: u64, line: &[u8], out: &mut O)
+        requires room { open_blocks < 2 ^ 63 }
+        requires short { length line.now ≤ LINE }
+        ensures { Does O.left self.old out.old (collected_in self.old open_blocks line.now) self.new out.new }
+    {
+        match loop_text(line, open_blocks) {
+            Some(text) => self.keep(text, out),
+            None => {}
+        }
+    }
+
+    /// A turn of a loop comes, with its condition. Answers whether it runs.
+    pub(crate) fn turn<O: NoteOut>(&mut self, condition: &[u8], out: &mut O) -> bool
+        requires { length condition.now ≤ LINE }
+        ensures { Answers O.left self.old out.old (turned_in self.old condition.now) result self.new out.new }
+    {
+        self.charge(out);
+        if self.budget.gave_up() {
+            false
+        } else {
+            self.actions.turn(condition, out)
+        }
+    }
+
     /// A line that heads nothing comes, reached like this; `may_call` says whether one more macro may run. Answers which kind of thing comes of
     /// it, and lends that thing from then on.
     pub(crate) fn leaf<O: NoteOut>(
@@ -135,8 +220,8 @@ impl BudgetedActions {
         region.is_run() && !self.budget.gave_up()
     }
 
-    /// A line of a region comes. Answers which kind of thing comes of it, and lends that thing from then on.
-    pub(crate) fn read_line<O: NoteOut>(
+    // A line of a region comes. Answers which kind of thing comes of it, and lends that thing from then on.
+    fn read<O: NoteOut>(
         &mut self,
         is_page: bool,
         region: &OpenRegion,
@@ -145,16 +230,41 @@ impl BudgetedActions {
     ) -> ProductKind
         requires room { HasRoom is_page self.old.budget }
         requires short { length line.now ≤ LINE }
-        ensures { Makes O.left self.old out.old (IsAt is_page self.old) (read_in self.old region.now line.now)
+        ensures done { Makes O.left self.old out.old (IsAt is_page self.old) (read_in self.old region.now line.now)
             self.new (line_after result) out.new }
+        ensures none { region.now.is_run ≡ false → result ≡ kinds.Nothing }
     {
         self.begin_line(is_page, out);
         let is_run = self.runs(region);
         self.actions.read_line(region, is_run, line, out)
     }
 
-    /// The line that ends a region comes.
-    pub(crate) fn end_region<O: NoteOut>(&mut self, is_page: bool, region: &OpenRegion, out: &mut O)
+    /// A line of a region comes, in a loop that is collected or not. Answers which kind of thing comes of it, and lends that thing from then on.
+    pub(crate) fn read_line<O: NoteOut>(
+        &mut self,
+        is_page: bool,
+        in_loop: bool,
+        region: &OpenRegion,
+        line: &[u8],
+        out: &mut O,
+    ) -> ProductKind
+        requires room { HasRoom is_page self.old.budget }
+        requires short { length line.now ≤ LINE }
+        requires passed { in_loop ≡ true → region.now.is_run ≡ false }
+        ensures { Makes O.left self.old out.old (IsAt is_page self.old)
+            (read_kept_in self.old in_loop region.now line.now) self.new (line_after result) out.new }
+    {
+        let product = self.read(is_page, region, line, out);
+        if in_loop {
+            self.keep(line, out);
+            ProductKind::Nothing
+        } else {
+            product
+        }
+    }
+
+    // The line that ends a region comes.
+    fn end<O: NoteOut>(&mut self, is_page: bool, region: &OpenRegion, out: &mut O)
         requires { HasRoom is_page self.old.budget }
         ensures { Makes O.left self.old out.old (IsAt is_page self.old)
             (ended_in self.old region.now) self.new
@@ -163,6 +273,26 @@ impl BudgetedActions {
         self.begin_line(is_page, out);
         let is_run = self.runs(region);
         self.actions.end_region(region, is_run, out);
+    }
+
+    /// The line that ends a region comes, in a loop that is collected or not.
+    pub(crate) fn end_region<O: NoteOut>(
+        &mut self,
+        is_page: bool,
+        in_loop: bool,
+        region: &OpenRegion,
+        line: &[u8],
+        out: &mut O,
+    )
+        requires { HasRoom is_page self.old.budget }
+        ensures { Makes O.left self.old out.old (IsAt is_page self.old)
+            (ended_kept_in self.old in_loop region.now line.now) self.new
+            state_after out.new }
+    {
+        self.end(is_page, region, out);
+        if in_loop {
+            self.keep(line, out);
+        }
     }
 
     // Whether a source was given up, with what it leaves open.
@@ -182,12 +312,20 @@ impl BudgetedActions {
         }
     }
 
-    /// The innermost source ends, in an open region or not.
-    pub(crate) fn finish<O: NoteOut>(&mut self, region: Option<&OpenRegion>, out: &mut O)
+    /// The innermost source, or a turn of it, ends, if it was begun: in an open region or not, in a loop that is collected or not.
+    pub(crate) fn finish<O: NoteOut>(
+        &mut self,
+        has_begun: bool,
+        region: Option<&OpenRegion>,
+        in_loop: bool,
+        out: &mut O,
+    )
         ensures { Does O.left self.old out.old
-            (finished_in self.old (opened_seen region.entry)) self.new out.new }
+            (finished_in self.old has_begun (opened_seen region.entry) in_loop) self.new out.new }
     {
-        let gave_up = self.budget.gave_up();
-        self.actions.finish(region, gave_up, out);
+        if has_begun {
+            let gave_up = self.budget.gave_up();
+            self.actions.finish(region, in_loop, gave_up, out);
+        }
     }
 }

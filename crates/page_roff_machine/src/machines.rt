@@ -1,4 +1,4 @@
-//! The machine that runs the lines of a page (roff(7), "LANGUAGE SYNTAX"): its macros, conditionals and regions.
+//! The machine that runs the lines of a page (roff(7), "LANGUAGE SYNTAX"): its macros, conditionals, loops and regions.
 
 ghost use Rattle.std.specs.Prelude.{◌≡◌, ◌+◌, ◌*◌, ◌<◌, ◌≤◌, ◌^◌, true, IfOk, length, sum_by};
 ghost use Rattle.page_core_base.specs.LinesTaken.{line_seen};
@@ -91,7 +91,7 @@ impl Machine {
         self.runner.doing.actions.line()
     }
 
-    /// The page ends: an open region is reported.
+    /// The page ends: an open region, or an open loop, is reported.
     pub fn end<O: NoteOut>(&mut self, out: &mut O)
         ensures came { Came O.left out.old (end_notes self.old) out.new }
         ensures stack { self.new.stack ≡ self.old.stack }
@@ -100,7 +100,11 @@ impl Machine {
         ensures memory { self.new.actions.memory ≡ end_memory self.old }
     {
         let region = self.runner.stack.region();
-        self.runner.doing.actions.finish(region, false, out);
+        let in_loop = self.runner.stack.in_loop();
+        self.runner
+            .doing
+            .actions
+            .finish(region, in_loop, false, out);
     }
 
     /// The number of lines that were taken: source lines, and those that were read again.
@@ -117,8 +121,8 @@ impl Machine {
         self.runner.doing.actions.expansions()
     }
 
-    /// Where the innermost source stands, what is remembered, and what is held of the macros that run are within their limits. Nothing is
-    /// done: the input stack and the actions tell it.
+    /// Where the innermost source stands, what is remembered, and what is held of the macros and loops that run are within their limits. Nothing
+    /// is done: the input stack and the actions tell it.
     pub fn caps_law(&self)
         ensures place { PlaceFits (place_of self.now) }
         ensures memory { MemoryFits self.now.actions.memory }

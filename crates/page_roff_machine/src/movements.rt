@@ -5,13 +5,15 @@ use page_roff_effects::ProductKind;
 /// How the input stack moves on, after what comes next was done.
 #[derive(Clone, Copy)]
 pub(crate) enum Movement {
-    /// Past a line that heads nothing; this came of it.
+    /// Past a line that heads nothing, or past a loop without a block; this came of it.
     Leaf(ProductKind),
     /// Past a head without a block; its value, if it was run.
     Guard(Option<bool>),
-    /// Into a block; the value of its head, if it was run, and the column of the head.
+    /// Into a block; the value of its head, if it is one of a conditional that was run, and the column of the head.
     Block(Option<bool>, u32),
-    /// Out of a block.
+    /// Into the block of a loop, which is collected or passed over.
+    Loop(bool),
+    /// Out of a block, or of the loop that is collected.
     BlockEnd,
     /// Into a region, which is run or not.
     Region(bool),
@@ -19,7 +21,9 @@ pub(crate) enum Movement {
     RegionLine(ProductKind),
     /// Out of a region.
     RegionEnd,
-    /// Back to the caller of the macro that ends.
+    /// Into a turn of the loop that is the innermost source.
+    Turn,
+    /// Back to the source around the innermost one.
     SourceEnd,
 }
 

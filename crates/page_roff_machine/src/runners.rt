@@ -1,16 +1,20 @@
 //! The steps of the machine: what comes next is done, and the input stack moves on.
 
-ghost use Rattle.std.specs.Prelude.{◌≡◌, true, false, None};
-ghost use Rattle.page_roff_stack.specs.Stacks.{next_of, part_in, is_part, is_line, is_source_end, is_nothing};
+ghost use Rattle.std.specs.Prelude.{◌≡◌, ◌≤◌, true, false, None, length};
+ghost use Rattle.page_core_limits.specs.declared.TheConstants.{ARGS};
+ghost use Rattle.page_roff_effects.specs.declared.commands.ProductKind.TheVariants as kinds;
+ghost use Rattle.page_roff_stack.specs.Stacks.{next_of, part_in, is_part, is_line, may_end, is_nothing};
 ghost use Rattle.page_roff_machine.specs.Doing.{IsIn};
 ghost use Rattle.page_roff_machine.specs.Machines.{Advances};
-ghost use Rattle.page_roff_machine.specs.Moving.{Decides, Moves, Shifts, Suits, CanCall};
-ghost use Rattle.page_roff_machine.specs.Moving.{called, progress_as, with_arguments_of};
+ghost use Rattle.page_roff_machine.specs.Moving.{Collects, Decides, Moves, Closes, Shifts, Repeats, Suits, CanBegin};
+ghost use Rattle.page_roff_machine.specs.Moving.{called, passes_block, progress_as, with_arguments_of};
 ghost use Rattle.page_roff_machine.specs.Stepping.{IsSound, IsMeasured, Steps, machine_of};
 
 use crate::budgeted_actions::BudgetedActions;
 use crate::movements::{Movement, Progress};
-use page_roff_blocks::{Atom, Way};
+use arrayvec::ArrayVec;
+use page_core_limits::ARGS;
+use page_roff_blocks::{Atom, Ended, Opening, Reached, Way};
 use page_roff_effects::ProductKind;
 use page_roff_stack::{InputStack, Next};
 use page_roff_values::NoteOut;
@@ -28,11 +32,36 @@ fn progress_of(product: ProductKind) -> Progress
 {
     match product {
         ProductKind::Line => Progress::Line,
-        ProductKind::Nothing | ProductKind::Call => Progress::More,
+        ProductKind::Nothing | ProductKind::Call | ProductKind::Loop => Progress::More,
     }
 }
 
+// Arguments that are packed, in memory of their own.
+fn copy_of(packed: &[u8]) -> ArrayVec<u8, ARGS>
+    requires { length packed.now ≤ ARGS }
+    ensures { result.items ≡ packed.now }
+{
+    let mut copy = ArrayVec::new();
+    let _ = copy.try_extend_from_slice(packed);
+    copy
+}
+
 impl Runner {
+    // What of a line that begins belongs to the loop that is collected, if one is.
+    fn collect_line<O: NoteOut>(&mut self, out: &mut O)
+        requires { is_line (next_of self.old.stack) ≡ true }
+        ensures { Collects O.left self.old out.old self.new out.new }
+    {
+        if !self.stack.in_loop() {
+            return;
+        }
+        let open_blocks = self.stack.skipped();
+        let Next::Line(line) = self.stack.peek() else {
+            unreachable!()
+        };
+        self.doing.collect(open_blocks, line, out);
+    }
+
     // A line begins.
     fn begin_line<O: NoteOut>(&mut self, out: &mut O)
         requires sound { IsSound self.old }
@@ -41,7 +70,18 @@ impl Runner {
     {
         let is_page = self.stack.is_page();
         self.doing.begin_line(is_page, out);
+        self.collect_line(out);
         self.stack.begin_line();
+    }
+
+    // Whether a block comes that is passed over. What of its line belongs to a loop is not looked for.
+    fn passes_block(&self, reached: Reached) -> bool
+        ensures { result ≡ passes_block reached (next_of self.now.stack) }
+    {
+        match reached {
+            Reached::PassedOver => self.stack.opens_block(),
+            Reached::First | Reached::Remainder => false,
+        }
     }
 
     // Does what comes next after the beginning of a line, without changing the stack: it answers how the stack then moves.
@@ -52,19 +92,26 @@ impl Runner {
         ensures { Decides O.left self.old out.old result self.new out.new }
     {
         let reached = self.stack.reached();
+        if self.passes_block(reached) {
+            return Movement::Block(None, 0);
+        }
         let bit = self.stack.bit();
-        let may_call = self.stack.may_call();
+        let may_run = self.stack.may_call();
         match self.stack.part() {
             None => self.act_between_lines(out),
-            Some(Atom::Leaf(text)) => {
-                Movement::Leaf(self.doing.leaf(reached, may_call, text, out))
-            }
+            Some(Atom::Leaf(text)) => Movement::Leaf(self.doing.leaf(reached, may_run, text, out)),
             Some(Atom::Guard(head)) => {
                 Movement::Guard(self.doing.answer(reached, &head.branch, bit, out))
             }
-            Some(Atom::Block(head)) => {
+            Some(Atom::Block(Opening::Conditional(head))) => {
                 let value = self.doing.answer(reached, &head.branch, bit, out);
                 Movement::Block(value, head.column)
+            }
+            Some(Atom::Block(Opening::Loop(head))) => {
+                Movement::Loop(self.doing.open_loop(reached, &head, out))
+            }
+            Some(Atom::Loop(head)) => {
+                Movement::Leaf(self.doing.pass_loop(reached, may_run, &head, out))
             }
             Some(Atom::End) => Movement::BlockEnd,
             Some(Atom::Region(head)) => {
@@ -82,23 +129,36 @@ impl Runner {
         ensures { Decides O.left self.old out.old result self.new out.new }
     {
         let is_page = self.stack.is_page();
+        let in_loop = self.stack.in_loop();
         match self.stack.peek() {
             Next::Part(_) | Next::Line(_) | Next::Nothing => unreachable!(),
             Next::RegionLine {
                 region,
-                line: _,
+                line,
                 is_end: true,
             } => {
-                self.doing.end_region(is_page, region, out);
+                self.doing.end_region(is_page, in_loop, region, line, out);
                 Movement::RegionEnd
             }
             Next::RegionLine {
                 region,
                 line,
                 is_end: false,
-            } => Movement::RegionLine(self.doing.read_line(is_page, region, line, out)),
-            Next::SourceEnd(region) => {
-                self.doing.finish(region, out);
+            } => Movement::RegionLine(self.doing.read_line(is_page, in_loop, region, line, out)),
+            Next::Turn {
+                region,
+                has_begun,
+                condition,
+            } => {
+                self.doing.finish(has_begun, region, in_loop, out);
+                if self.doing.turn(condition, out) {
+                    Movement::Turn
+                } else {
+                    Movement::SourceEnd
+                }
+            }
+            Next::SourceEnd { region, has_begun } => {
+                self.doing.finish(has_begun, region, in_loop, out);
                 Movement::SourceEnd
             }
         }
@@ -117,7 +177,7 @@ impl Runner {
     // Calls the macro that was taken last.
     #[inline(never)]
     fn call(&mut self)
-        requires { CanCall ProductKind.Call self.old.stack self.old.doing }
+        requires { CanBegin kinds.Call self.old.stack self.old.doing }
         ensures { self.new ≡ called self.old }
     {
         let actions = &self.doing.actions;
@@ -126,15 +186,32 @@ impl Runner {
         self.take_arguments();
     }
 
-    // Goes past a line that heads nothing, into the macro that it calls.
+    // Runs the loop that came last, with the arguments of the source in which it stands.
+    #[inline(never)]
+    fn repeat(&mut self)
+        requires { CanBegin kinds.Loop self.old.stack self.old.doing }
+        ensures { Repeats self.old self.new }
+    {
+        match self.stack.arguments() {
+            Some(packed) => {
+                let packed = copy_of(packed);
+                self.stack
+                    .repeat(self.doing.actions.called_body(), Some(packed.as_slice()));
+            }
+            None => self.stack.repeat(self.doing.actions.called_body(), None),
+        }
+    }
+
+    // Goes past a line that heads nothing or a loop without a block, into the macro that it calls or into the loop.
     fn pass_leaf(&mut self, product: ProductKind)
         requires setting { IsIn self.old.stack.top.kind self.old.doing }
-        requires suits { CanCall product self.old.stack self.old.doing }
+        requires suits { CanBegin product self.old.stack self.old.doing }
         ensures { Shifts self.old (Movement.Leaf product) (progress_as product) self.new }
     {
         self.stack.pass();
         match product {
             ProductKind::Call => self.call(),
+            ProductKind::Loop => self.repeat(),
             ProductKind::Nothing => {}
             ProductKind::Line => {}
         }
@@ -152,7 +229,7 @@ impl Runner {
         }
     }
 
-    // Goes into a block.
+    // Goes into the block of a conditional.
     fn pass_block<O: NoteOut>(&mut self, value: Option<bool>, column: u32, out: &mut O)
         requires setting { IsIn self.old.stack.top.kind self.old.doing }
         requires suits { is_part (next_of self.old.stack) ≡ true }
@@ -170,20 +247,48 @@ impl Runner {
         }
     }
 
-    // Goes out of a block. What a running macro leaves open is given up with it, without a message.
+    // Goes into the block of a loop.
+    fn enter_loop(&mut self, is_run: bool)
+        requires setting { IsIn self.old.stack.top.kind self.old.doing }
+        requires suits { is_part (next_of self.old.stack) ≡ true }
+        ensures { Shifts self.old (Movement.Loop is_run) Progress.More self.new }
+    {
+        if is_run {
+            self.stack.open_loop();
+        } else {
+            self.stack.skip_block();
+        }
+    }
+
+    // The loop that was collected is whole: it runs, if it can.
+    #[inline(never)]
+    fn close_loop<O: NoteOut>(&mut self, out: &mut O)
+        requires { IsIn self.old.stack.top.kind self.old.doing }
+        ensures { Closes O.left self.old out.old self.new out.new }
+    {
+        let may_run = self.stack.may_call();
+        match self.doing.close_loop(may_run, out) {
+            ProductKind::Loop => self.repeat(),
+            _ => {}
+        }
+    }
+
+    // Goes out of a block or of a loop. What a body that runs leaves open is given up with it, without a message.
     fn leave_block<O: NoteOut>(&mut self, out: &mut O)
         requires { IsIn self.old.stack.top.kind self.old.doing }
         ensures { Moves O.left self.old out.old Movement.BlockEnd Progress.More self.new out.new }
     {
         let is_page = self.stack.is_page();
-        if !self.stack.leave_block() {
-            self.doing.report_unopened(is_page, out);
+        match self.stack.leave_block() {
+            Ended::Block => {}
+            Ended::Loop => self.close_loop(out),
+            Ended::Nothing => self.doing.report_unopened(is_page, out),
         }
     }
 
     // Goes back to the source around the innermost one.
     fn end_source(&mut self)
-        requires { is_source_end (next_of self.old.stack) ≡ true }
+        requires { may_end (next_of self.old.stack) ≡ true }
         ensures { Shifts self.old Movement.SourceEnd Progress.More self.new }
     {
         self.stack.end_source();
@@ -203,6 +308,7 @@ impl Runner {
             }
             Movement::Guard(value) => self.pass_guard(value),
             Movement::Block(value, column) => self.pass_block(value, column, out),
+            Movement::Loop(is_run) => self.enter_loop(is_run),
             Movement::BlockEnd => self.leave_block(out),
             Movement::Region(is_run) => self.stack.open_region(is_run),
             Movement::RegionLine(product) => {
@@ -210,6 +316,7 @@ impl Runner {
                 return progress_of(product);
             }
             Movement::RegionEnd => self.stack.end_region(),
+            Movement::Turn => self.stack.begin_turn(),
             Movement::SourceEnd => self.end_source(),
         }
         Progress::More

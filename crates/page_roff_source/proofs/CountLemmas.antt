@@ -3,20 +3,21 @@ use Rattle.std.proofs.Common.{◌≡◌, ℕ, ◌+◌, ◌*◌, ◌≤◌, Bool,
 use Rattle.page_core_base.specs.Messages.{Message}
 use Rattle.page_core_base.specs.declared.page_settings.Output.{Output}
 use Rattle.page_roff_heads.specs.declared.conditions.Condition.{Condition}
-use Rattle.page_roff_blocks.specs.declared.regions.RegionHead.{RegionHead}
 use Rattle.page_roff_blocks.specs.Levels.{Opened}
 use Rattle.page_core_limits.specs.declared.TheConstants.{EXPAND, REREAD}
-use Rattle.page_roff_language.specs.Languages.{Kind}
-use Rattle.page_roff_language.specs.Spending.{after_leaf, Spends}
+use Rattle.page_roff_language.specs.Languages.{Kind, state_of}
+use Rattle.page_roff_language.specs.Spending.{Spends}
 use Rattle.page_roff_language.proofs.BudgetLemmas.{page_line_bound}
 use Rattle.page_roff_language.specs.Machine.{at_page}
 use Rattle.page_roff_language.specs.Spending.{AreMet}
 use Rattle.page_roff_language.proofs.SpendLemmas.{page_spends, leads_met, line_spends}
-use Rattle.page_roff_effects.specs.Effects.{effects, answer_of, test_outcome, expansions_of, tested_after, done_by, done_after, budget_outcome, block_outcome, end_of_block_outcome, setting_of}
+use Rattle.page_roff_effects.specs.Effects.{effects, answer_of, turn_answer, test_outcome, expansions_of, tested_after, done_by, done_after, budget_outcome, block_outcome, end_of_block_outcome, setting_of}
 use Rattle.page_roff_effects.specs.Leaves.{leaf_outcome}
+use Rattle.page_roff_effects.specs.LoopLines.{loop_outcome, collect_outcome, repeats_if, repeats_text, close_outcome}
 use Rattle.page_roff_effects.specs.RegionLines.{head_outcome, line_outcome, end_outcome, finish_outcome}
-use Rattle.page_roff_effects.specs.States.{Given, says, takes, State, Memory, Outcome, Product, no_product, line_product, call_product, lines_of, after}
+use Rattle.page_roff_effects.specs.States.{Given, says, takes, State, Memory, Outcome, Product, no_product, line_product, call_product, loop_product, lines_of, after, with_body}
 use Rattle.page_roff_effects.proofs.CountLemmas.{spends}
+use Rattle.page_roff_machine.proofs.DoingLemmas.{head_plain, end_plain, finish_plain, loop_plain, collect_plain}
 use Rattle.page_roff_source.specs.Edges.{Edge, SourceLine, line_count}
 use Rattle.page_roff_source.specs.Taking.{before_line, run_line, line_given, line_done}
 use Rattle.page_roff_source.specs.Given.{done}
@@ -40,6 +41,7 @@ unfolding line_count
 product_count no_product = omega arith
 product_count (line_product line) = omega arith
 product_count (call_product call) = omega arith
+product_count (loop_product text) = omega arith
 
 -- the lines that were given
 lines_out : State → ℕ
@@ -64,30 +66,32 @@ quiet s o e =
 few : (s : State) (o : Outcome) → lines_out (after s o) ≤ lines_out s + 1
 few s o = let a = after_count s o in let b = product_count o.product in omega (arith, a, b)
 
-done_out : (p : Product) (s : State) → lines_out (after_leaf (done_by p s)) ≡ lines_out s
+done_out : (p : Product) (s : State) → lines_out (state_of (done_by p s)) ≡ lines_out s
 unfolding done_by
 done_out no_product s = refl
 done_out (line_product line) s = refl
 done_out (call_product call) s = refl
+done_out (loop_product text) s = refl
 
-head_quiet : (head : RegionHead (List ℕ)) (is_run : Bool) (m : Memory) → (head_outcome head is_run m).product ≡ no_product
-unfolding head_outcome
-head_quiet head true m = refl
-head_quiet head false m = refl
+-- of a loop that is whole no line comes
+repeats_quiet : (may_run : Bool) (text : List ℕ) (m : Memory) → line_count (lines_of (repeats_if may_run text m).product) ≡ 0
+unfolding line_count
+repeats_quiet true text m = refl
+repeats_quiet false text m = refl
 
-end_quiet : (o : Opened) (is_run : Bool) (m : Memory) → (end_outcome o is_run m).product ≡ no_product
-unfolding end_outcome
-end_quiet o true m = refl
-end_quiet o false m = refl
+text_quiet : (may_run : Bool) (text : Option (List ℕ)) (m : Memory) → line_count (lines_of (repeats_text may_run text m).product) ≡ 0
+unfolding line_count
+text_quiet may_run None m = refl
+text_quiet may_run (Some text) m = repeats_quiet may_run text m
 
-finish_quiet : (region : Option Opened) (gave_up : Bool) (m : Memory) → (finish_outcome region gave_up m).product ≡ no_product
-unfolding finish_outcome
-finish_quiet None gave_up m = refl
-finish_quiet (Some o) gave_up m = refl
+close_quiet : (is_run may_run : Bool) (m : Memory) → line_count (lines_of (close_outcome is_run may_run m).product) ≡ 0
+unfolding close_outcome line_count
+close_quiet true may_run m = text_quiet may_run m.body (with_body None m)
+close_quiet false may_run m = refl
 
 module _ (output : Output) where
   leaf_lines : (may_call : Bool) (kind : Kind) (text : List ℕ) (s : State)
-      → lines_out (after_leaf ((effects output).leaf may_call kind text s)) ≤ lines_out s + 1
+      → lines_out (state_of ((effects output).leaf may_call kind text s)) ≤ lines_out s + 1
   unfolding effects done_after
   leaf_lines may_call kind text s =
       let o = leaf_outcome (setting_of output kind) may_call text s.memory in
@@ -105,6 +109,20 @@ module _ (output : Output) where
   unfolding effects
   reads_lines kind o line s = few s (line_outcome (setting_of output kind) o true line s.memory)
 
+  turns_lines : (kind : Kind) (condition : List ℕ) (s : State)
+      → lines_out ((effects output).turns kind condition s).1 ≤ lines_out s + 1
+  unfolding effects tested_after
+  turns_lines kind condition s = few s (test_outcome (turn_answer (setting_of output kind) condition s.memory) s.memory)
+
+  closes_lines : (is_run may_run : Bool) (s : State) → lines_out (state_of ((effects output).closes is_run may_run s)) ≡ lines_out s
+  unfolding effects done_after
+  closes_lines is_run may_run s =
+      let o = close_outcome is_run may_run s.memory in
+      let d = done_out o.product (after s o) in
+      let a = after_count s o in
+      let n = close_quiet is_run may_run s.memory in
+      omega (arith, d, a, n)
+
   -- a line that is taken gives one line for the set of macros at most
   lines_spend : Spends lines_out 1 (effects output)
   unfolding effects budget_outcome block_outcome end_of_block_outcome line_outcome
@@ -114,11 +132,15 @@ module _ (output : Output) where
     leaf = leaf_lines;
     refuses = λ h s. quiet s (block_outcome h.column s.memory) refl;
     unopened = λ s. quiet s (end_of_block_outcome s.memory) refl;
-    opens_region = λ kind head is_run s. quiet s (head_outcome head is_run s.memory) (head_quiet head is_run s.memory);
+    opens_region = λ kind head is_run s. quiet s (head_outcome head is_run s.memory) (head_plain head is_run s.memory);
     reads = reads_lines;
     passes = λ kind o line s. quiet s (line_outcome (setting_of output kind) o false line s.memory) refl;
-    ends_region = λ kind o is_run line s. quiet s (end_outcome o is_run s.memory) (end_quiet o is_run s.memory);
-    finish = λ region gave_up s. quiet s (finish_outcome region gave_up s.memory) (finish_quiet region gave_up s.memory);
+    ends_region = λ kind o is_run line s. quiet s (end_outcome o is_run s.memory) (end_plain o is_run s.memory);
+    opens_loop = λ h s. quiet s (loop_outcome h s.memory) (loop_plain h s.memory);
+    collects = λ is_run text s. quiet s (collect_outcome is_run text s.memory) (collect_plain is_run text s.memory);
+    closes = closes_lines;
+    turns = turns_lines;
+    finish = λ region in_loop gave_up s. quiet s (finish_outcome region in_loop gave_up s.memory) (finish_plain region in_loop gave_up s.memory);
   }
 
 pub taken_bound : (e : Edge) (line : SourceLine) → (line_done e line).taken ≤ e.taken + (REREAD + 1)

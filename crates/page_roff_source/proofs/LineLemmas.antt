@@ -4,12 +4,13 @@ use Rattle.page_core_base.specs.declared.page_settings.Output.{Output}
 use Rattle.page_roff_blocks.specs.Regions.{is_ending}
 use Rattle.page_roff_blocks.specs.Levels.{Levels, Place, Opened}
 use Rattle.page_roff_blocks.specs.Run.{Meaning, At, after_head, each_line}
+use Rattle.page_roff_blocks.specs.Steps as steps
 use Rattle.page_roff_blocks.specs.Steps.{step_inside, step_from, step, step_lines}
 use Rattle.page_roff_blocks.proofs.FoldLemmas.{run_is_steps}
 use Rattle.page_roff_blocks.proofs.HeadLemmas.{forest_is_each}
 use Rattle.page_core_limits.specs.declared.TheConstants.{CALLS, REREAD}
 use Rattle.page_roff_language.specs.Budgets.{Budgeted, Effects, language, meaning, begin_line, read_line, end_line}
-use Rattle.page_roff_language.specs.Languages.{page, Language, meaning_at, run_page, run_page_lines}
+use Rattle.page_roff_language.specs.Languages.{page, meaning_by, meaning_at, run_page, run_page_lines}
 use Rattle.page_roff_language.specs.Machine.{at_page}
 use Rattle.page_roff_language.specs.Fronts.{over}
 use Rattle.page_roff_language.proofs.FrontLemmas.{rest_front}
@@ -32,13 +33,13 @@ module _ {R : Type 0} (e : Effects R) where
 
   inside_reset : (is_end : Bool) (o : Opened) (t : List ℕ) (l : Levels) (left left' : ℕ) (g g' : Bool) (taken : ℕ) (r : R)
       → step_inside page_meaning is_end o t l (with_budget left g taken r) ≡ step_inside page_meaning is_end o t l (with_budget left' g' taken r)
-  unfolding step_inside meaning_at language meaning read_line end_line begin_line
+  unfolding step_inside meaning_by meaning_at language meaning read_line end_line begin_line
   inside_reset true o t l left left' g g' taken r = refl
   inside_reset false o t l left left' g g' taken r = refl
 
   from_reset : (o : Option Opened) (t : List ℕ) (l : Levels) (left left' : ℕ) (g g' : Bool) (taken : ℕ) (r : R)
       → step_from page_meaning (λ t. t) o t l (with_budget left g taken r) ≡ step_from page_meaning (λ t. t) o t l (with_budget left' g' taken r)
-  unfolding step_from meaning_at language meaning begin_line
+  unfolding step_from steps.begin_line meaning_by meaning_at language meaning begin_line
   from_reset None t l left left' g g' taken r = refl
   from_reset (Some o) t l left left' g g' taken r = inside_reset (is_ending o.ending t) o t l left left' g g' taken r
 

@@ -238,7 +238,7 @@ fits_at m source false p none f g = absurd (cc)
 pub end_notes_at : (m : Machine) (source : ℕ) (is_idle : Bool) → IsAtEdge m source is_idle → (edge_of m source is_idle).to_come ≡ None
     → end_notes (edge_of m source is_idle) ≡ machine.end_notes m
 end_notes_at m source true p none =
-    ap (λ (a : At (Budgeted State)). (finish_outcome a.place.region false a.state.rest.memory).notes) (idle_stands m (p.idle refl))
+    ap (λ (a : At (Budgeted State)). (finish_outcome a.place.region a.place.levels.in_loop false a.state.rest.memory).notes) (idle_stands m (p.idle refl))
 end_notes_at m source false p none = absurd (cc)
 
 ended_counted : (old new : Machine) (source : ℕ) → machine.is_idle old ≡ true → machine.is_idle new ≡ true → new.stack ≡ old.stack → new.budget ≡ old.budget
@@ -259,7 +259,7 @@ unfolding AreGiven
 end_invariant old new source true p none s b m =
     let i = ap (λ (x : stack.Stack). is_nothing (stack.next_of x)) s ∙ p.idle refl in
     let held : HoldsTexts old.actions.memory = subst (λ (a : At (Budgeted State)). HoldsTexts a.state.rest.memory) (idle_stands old (p.idle refl)) p.texts in
-    let left = finish_holds old.stack.top.region false old.actions.memory held in
+    let left = finish_holds old.stack.top.region old.stack.top.spot.levels.in_loop false old.actions.memory held in
     record {
       idle = λ _. i;
       counted = ended_counted old new source (p.idle refl) i s b p.counted;

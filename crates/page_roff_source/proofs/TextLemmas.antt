@@ -1,14 +1,14 @@
 -- Each line that roff gives is one: helpers of proofs.
-use Rattle.std.proofs.Common.{◌≡◌, ℕ, Bool, true, false, List, [], ◌∷◌, Option, Some, None, subst}
+use Rattle.std.proofs.Common.{◌≡◌, Bool, true, false, List, [], ◌∷◌, Option, Some, None, subst}
 use Rattle.page_core_base.specs.LinesTaken.{Line}
 use Rattle.page_core_base.specs.Texts.{IsLine}
-use Rattle.page_roff_effects.specs.States.{State, Given, says, takes}
+use Rattle.page_roff_effects.specs.States.{Given, says, takes}
 use Rattle.page_roff_machine.specs.Giving.{next_line, after_line}
 use Rattle.page_roff_machine.specs.Machines.{taken_if}
 use Rattle.page_roff_texts.specs.Texts.{HoldsTexts, AreGiven}
 use Rattle.page_roff_texts.proofs.EffectTexts.{HoldsState, page_texts}
 use Rattle.page_roff_source.specs.Edges.{Edge, SourceLine}
-use Rattle.page_roff_source.specs.Taking.{before_line, run_line, line_given, line_done, given_of, line_taken, left_if}
+use Rattle.page_roff_source.specs.Taking.{before_line, run_line, given_of, line_taken, left_if}
 
 -- of a line it gives lines, and what is remembered stays text
 pub line_texts : (e : Edge) (line : SourceLine) → HoldsTexts e.memory → IsLine line.text → HoldsState (run_line e line).state.rest

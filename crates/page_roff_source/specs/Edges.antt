@@ -36,9 +36,9 @@ first_edge output = record {
 
 -- ---- the end
 
--- the page ends: a region that is open is dropped with a message
+-- the page ends: a region or a loop that is open is dropped with a message
 abbrev pub end_notes : Edge → List Message
-end_notes e = (finish_outcome e.place.region false e.memory).notes
+end_notes e = (finish_outcome e.place.region e.place.levels.in_loop false e.memory).notes
 
 -- ---- counts
 

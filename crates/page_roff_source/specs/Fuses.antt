@@ -10,8 +10,8 @@ use Rattle.page_roff_source.specs.declared.counts.Counts.{Counts}
 use Rattle.page_roff_source.specs.Edges.{Edge, first_edge, counts_of}
 use Rattle.page_roff_source.specs.Taking.{is_idle}
 
--- What decides the rest, until a message is refused or the page ends; the body with the arguments of each macro that runs, from the inside
--- out; and what was counted up to the last line that is done.
+-- What decides the rest, until a message is refused or the page ends; the body with the arguments of each macro or loop that runs, from the
+-- inside out; and what was counted up to the last line that is done.
 pub record RoffState : Type 0 where
   pub edge : Option Edge
   pub running : List (List ℕ)

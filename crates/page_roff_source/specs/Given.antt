@@ -1,6 +1,6 @@
 -- What roff gives of a list of lines: the forest of all of them runs inside what is open before the first one.
 -- Source: roff(7), "LANGUAGE SYNTAX"; mandoc(1), "DIAGNOSTICS".
-use Rattle.std.specs.Prelude.{ℕ, ◌+◌, false, List, [], ◌++◌, length, map, None}
+use Rattle.std.specs.Prelude.{◌+◌, false, List, [], ◌++◌, length, map, None}
 use Rattle.page_roff_blocks.specs.Run.{At}
 use Rattle.page_roff_language.specs.Budgets.{Budgeted, language}
 use Rattle.page_roff_language.specs.Languages.{run_page_lines}

@@ -1,5 +1,5 @@
--- The moments of a source line's run: the one before it begins, and one after each step that its macros, blocks and regions make (`next` of
--- `Machine` in `page_roff_language`, whose `machine_law` says that the steps come to where the line leaves the page).
+-- The moments of a source line's run: the one before it begins, and one after each step that its macros, loops, blocks and regions make (`next`
+-- of `Machine` in `page_roff_language`, whose `machine_law` says that the steps come to where the line leaves the page).
 -- Source: mandoc(1), "input stack limit exceeded, infinite loop?".
 use Rattle.std.specs.Prelude.{ℕ}
 use Rattle.page_roff_language.specs.Budgets.{Budgeted, language}

@@ -28,7 +28,7 @@ pub record IsCounted (e : Edge) : Type 0 where
   pub taken : e.taken ≤ (REREAD + 1) * e.source
   pub skipped : e.place.levels.skipped ≤ (2 * LINE + 2) * e.source
 
--- with the finished line that was given last, and the macros that run
+-- with the finished line that was given last, and the macros and loops that run
 abbrev pub state_of : Machine → ℕ → Bool → LinesState
 state_of m source is_idle = record {
   edge = edge_of m source is_idle;

@@ -12,7 +12,7 @@ use Rattle.page_roff_machine.specs.Giving.{next_line, after_line}
 use Rattle.page_roff_source.specs.Edges.{Edge, SourceLine}
 
 -- The lines of a page as they run: what decides the rest; the finished line that was given last; and the body with the arguments of each
--- macro that runs, from the inside out, which say how much is held and decide nothing that comes.
+-- macro or loop that runs, from the inside out, which say how much is held and decide nothing that comes.
 pub record LinesState : Type 0 where
   pub edge : Edge
   pub line : Line
@@ -30,7 +30,7 @@ before_line e line = record {
   };
 }
 
--- the line is run, with the macros that it calls
+-- the line is run, with the macros that it calls and the loop that it ends
 unfoldable pub run_line : Edge → SourceLine → At (Budgeted State)
 run_line e line = run_page (language (effects e.output)) (line.text ∷ []) (before_line e line)
 

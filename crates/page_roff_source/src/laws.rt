@@ -15,7 +15,7 @@ pub fn forest_law()
     ensures edge { (e : Edge) (lines : List SourceLine) → e.to_come ≡ None → done e lines ≡ lines_done e lines }
 {}
 
-/// A page may be cut between any two lines: within a region, a block that is run or skipped, or after a skipped remainder, too.
+/// A page may be cut between any two lines: within a region, a block that is run or skipped, a loop, or after a skipped remainder, too.
 pub fn cut_law()
     ensures given { (e : Edge) (above below : List SourceLine)
         → given e (above ++ below) ≡ given e above ++ given (done e above) below }

@@ -20,7 +20,7 @@ use page_roff_values::NoteOut;
 use std::alloc::{AllocError, Global};
 use std::marker::Model;
 
-/// Runs the source lines of a page one after another, with the macros that they call, and lends the finished lines that they give.
+/// Runs the source lines of a page one after another, with their macros and loops, and lends the finished lines that they give.
 ///
 /// It reports to what never fails; [`Roff`](crate::Roff) reports to a sink. All memory is reserved by [`RoffLines::new`].
 #[derive(Drop)]
@@ -106,7 +106,7 @@ impl RoffLines {
         }
     }
 
-    /// The page ends after a line that is done: an open region is reported.
+    /// The page ends after a line that is done: an open region, or an open loop, is reported.
     pub fn end_into<O: NoteOut>(&mut self, out: &mut O)
         requires { self.old.edge.to_come ≡ None }
         ensures came { Came O.left out.old (end_notes self.old.edge) out.new }

@@ -150,7 +150,7 @@ impl Roff {
         }
     }
 
-    /// The page ends after a line that is done: an open region is reported. From then on nothing is taken.
+    /// The page ends after a line that is done: an open region, or an open loop, is reported. From then on nothing is taken.
     ///
     /// Its fault is [`Fault::WriteNotes`]; after it, and after an earlier end, it is [`Fault::Failed`].
     pub fn end<N: NoteSink>(&mut self, notes: &mut N) -> Result<(), Fault>

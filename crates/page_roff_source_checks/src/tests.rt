@@ -92,6 +92,58 @@ fn run_page<N: NoteSink>(roff: &mut Roff, notes: &mut N) -> Result<u64, Fault> {
     Ok(lines)
 }
 
+// Runs a line that gives this many finished lines.
+fn check_line<N: NoteSink>(
+    rt: &impl Abort,
+    roff: &mut Roff,
+    line: &str,
+    given: u64,
+    notes: &mut N,
+) -> Result<(), Fault> {
+    let lines = run_line(roff, line, 1, notes)?;
+    assert!(rt; lines == given, "{line}: {lines} finished lines");
+    Ok(())
+}
+
+// Begins a line, of which what it gives is then taken.
+fn begin_line(rt: &impl Abort, roff: &mut Roff, line: &str) {
+    assert!(rt; roff.idle() && is_line(line.as_bytes()));
+    if roff.counts().source <= 1_000_000 {
+        roff.source(line.as_bytes(), 1);
+    }
+}
+
+// Takes a finished line with this text.
+fn check_text<N: NoteSink>(
+    rt: &impl Abort,
+    roff: &mut Roff,
+    text: &str,
+    notes: &mut N,
+) -> Result<(), Fault> {
+    match roff.take(notes)? {
+        Some(taken) => assert!(rt; taken.text == text.as_bytes()),
+        None => panic!(rt; "no {text}"),
+    }
+    Ok(())
+}
+
+fn check_taken(rt: &impl Abort, roff: &Roff, taken: u64) {
+    let counts = roff.counts();
+    assert!(rt; counts.taken == taken, "{} lines taken", counts.taken);
+}
+
+fn check_calls(rt: &impl Abort, notes: &Notes, calls: u64) {
+    assert!(rt; notes.calls == calls, "{} messages", notes.calls);
+}
+
+fn all_notes() -> Notes {
+    Notes {
+        failing: 0,
+        calls: 0,
+        failures: 0,
+    }
+}
+
 fn check_fault(rt: &impl Abort, got: Result<u64, Fault>, want: Result<u64, Fault>) {
     assert!(rt; got == want, "{got:?} in place of {want:?}");
 }
@@ -161,5 +213,83 @@ fn counts_lines_and_interpolations(rt: HostRuntime) -> Result<(), Fail> {
         expansions: 3,
     };
     assert!(rt; roff.counts() == all);
+    Ok(())
+}
+
+// Begins a loop of three turns.
+fn begin_loop<N: NoteSink>(rt: &impl Abort, roff: &mut Roff, notes: &mut N) -> Result<(), Fault> {
+    check_line(rt, roff, ".nr i 0", 0, notes)?;
+    check_line(rt, roff, ".while \\ni<3 \\{.nr i +1", 0, notes)?;
+    check_line(rt, roff, "\\ni", 0, notes)?;
+    check_taken(rt, roff, 3);
+    Ok(())
+}
+
+// The condition is tested four times, and three lines run in each turn.
+#[test]
+fn counts_the_lines_of_loops(rt: HostRuntime) -> Result<(), Fail> {
+    let mut roff = Roff::new(rt.alloc(), &Settings::new())?;
+    let mut notes = all_notes();
+    begin_loop(&rt, &mut roff, &mut notes)?;
+    check_line(&rt, &mut roff, ".\\}", 3, &mut notes)?;
+    check_taken(&rt, &roff, 17);
+    check_calls(&rt, &notes, 0);
+    Ok(())
+}
+
+#[test]
+fn repeats_a_loop_until_its_condition_fails(rt: HostRuntime) -> Result<(), Fail> {
+    let mut roff = Roff::new(rt.alloc(), &Settings::new())?;
+    let mut notes = all_notes();
+    begin_loop(&rt, &mut roff, &mut notes)?;
+    begin_line(&rt, &mut roff, ".\\}");
+    check_text(&rt, &mut roff, "1", &mut notes)?;
+    check_text(&rt, &mut roff, "2", &mut notes)?;
+    check_text(&rt, &mut roff, "3", &mut notes)?;
+    Ok(())
+}
+
+// A loop that has no end takes all lines of its source line's budget, and the next line has its own.
+fn check_endless(
+    rt: &impl Abort,
+    roff: &mut Roff,
+    line: &str,
+    given: u64,
+    notes: &mut Notes,
+) -> Result<(), Fault> {
+    check_line(rt, roff, line, given, notes)?;
+    check_taken(rt, roff, 1_001);
+    check_calls(rt, notes, 1);
+    check_line(rt, roff, "a", 1, notes)?;
+    check_calls(rt, notes, 1);
+    Ok(())
+}
+
+#[test]
+fn gives_up_a_loop_of_one_line(rt: HostRuntime) -> Result<(), Fail> {
+    let mut roff = Roff::new(rt.alloc(), &Settings::new())?;
+    check_endless(&rt, &mut roff, ".while 1 x", 500, &mut all_notes())?;
+    Ok(())
+}
+
+#[test]
+fn gives_up_a_loop_without_lines(rt: HostRuntime) -> Result<(), Fail> {
+    let mut roff = Roff::new(rt.alloc(), &Settings::new())?;
+    check_endless(&rt, &mut roff, ".while 1 \\{\\}", 0, &mut all_notes())?;
+    Ok(())
+}
+
+// A region in it is not reported.
+#[test]
+fn reports_a_loop_that_is_open_at_the_end(rt: HostRuntime) -> Result<(), Fail> {
+    let mut roff = Roff::new(rt.alloc(), &Settings::new())?;
+    let mut notes = all_notes();
+    check_line(&rt, &mut roff, ".while 1 \\{", 0, &mut notes)?;
+    check_line(&rt, &mut roff, ".ig", 0, &mut notes)?;
+    check_calls(&rt, &notes, 0);
+    if roff.idle() {
+        roff.end(&mut notes)?;
+    }
+    check_calls(&rt, &notes, 1);
     Ok(())
 }

@@ -7,7 +7,7 @@ pub invariant_of-self : goal.invariant_of-self
 invariant_of-self c =
     begun_sound c.self.inside.runner (record { stack = c.set_line.new.self; doing = record { actions = c.begin_line.new.self; budget = c.renew.new.self } })
     c.args.line.now c.args.number c.set_line.ensures (c.begin_line.ensures ∙ ap (with_number c.args.number) c.leave.ensures) c.renew.ensures
-    (rw (← c.self.view_is) at c.requires.count)
+    (rw (← c.self.view_is) at c.requires.count) c.self.invariant
 
 pub returns : goal.returns
 returns c =

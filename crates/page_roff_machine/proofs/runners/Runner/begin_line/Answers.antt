@@ -1,15 +1,19 @@
-use Rattle.page_roff_stack.specs.Stacks.{next_of}
-use Rattle.page_roff_machine.proofs.ActLemmas.{room, the_line, is_the_line, line_there, begins}
+use Rattle.std.proofs.Common.{ap, ◌∙◌}
+use Rattle.page_roff_stack.specs.Stacks.{Stack, next_of, is_line}
+use Rattle.page_roff_machine.specs.Moving.{line_in}
+use Rattle.page_roff_machine.proofs.ActLemmas.{room, is_the_line, line_there, begins}
 use Rattle.page_roff_machine.proofs.runners.Runner.begin_line.Goals as goal
 
 pub begin_line-requires : goal.begin_line-requires
 begin_line-requires g c =
     let next = next_of c.args.self.now.stack in
     rw c.is_page-is_page.ensures
-    (room c.args.self.now c.requires.sound (line_there c.args.self.now.stack (the_line next) (is_the_line next c.requires.line)))
+    (room c.args.self.now c.requires.sound (line_there c.args.self.now.stack (line_in next) (is_the_line next c.requires.line)))
+
+pub begin_line-requires-2 : goal.begin_line-requires-2
+begin_line-requires-2 g c = ap (λ (s : Stack). is_line (next_of s)) c.collect_line.ensures.stack ∙ c.requires.line
 
 pub returns : goal.returns
 returns g c =
-    let next = next_of c.args.self.now.stack in
-    begins g.O.NoteOut.left c.args.self.now c.begin_line.new.self c.args.out.now c.begin_line.new.out (the_line next) c.is_page-is_page.result c.begin_line-2.new.self
-    (is_the_line next c.requires.line) c.is_page-is_page.ensures c.requires.sound.setting c.begin_line.ensures c.begin_line-2.ensures
+    begins g.O.NoteOut.left c.args.self.now c.collect_line.new.self c.begin_line.new.self c.args.out.now c.begin_line.new.out c.collect_line.new.out c.is_page-is_page.result c.begin_line-2.new.self
+    c.requires.line c.is_page-is_page.ensures c.requires.sound.setting c.begin_line.ensures c.collect_line.ensures c.begin_line-2.ensures

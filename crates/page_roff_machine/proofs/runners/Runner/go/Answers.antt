@@ -1,5 +1,5 @@
 use Rattle.std.proofs.Common.{ap}
-use Rattle.page_roff_machine.proofs.GoLemmas.{quiet, quiet_product, shifts_region, shifts_region_end, shifts_region_line}
+use Rattle.page_roff_machine.proofs.GoLemmas.{quiet, quiet_product, shifts_region, shifts_region_end, shifts_region_line, shifts_turn}
 use Rattle.page_roff_machine.proofs.runners.Runner.go.Goals as goal
 
 pub returns-in-Leaf : goal.returns-in-Leaf
@@ -23,10 +23,21 @@ pub returns-in-Region : goal.returns-in-Region
 returns-in-Region g c =
     rw c.in-Region.is
     (quiet g.O.NoteOut.left c.args.self.now (record { stack = c.open_region.new.self; doing = c.args.self.now.doing }) c.args.out.now _ _
-    (shifts_region c.args.self.now (record { stack = c.open_region.new.self; doing = c.args.self.now.doing }) c.in-Region.is_run (ap (λ stack. record { stack = stack; doing = c.args.self.now.doing }) c.open_region.ensures) c.requires.setting) tt)
+    (shifts_region c.args.self.now (record { stack = c.open_region.new.self; doing = c.args.self.now.doing }) c.in-Region.is_run
+    (ap (λ stack. record { stack = stack; doing = c.args.self.now.doing }) c.open_region.ensures) c.requires.setting (rw c.in-Region.is at c.requires.suits).1) tt)
 
 pub returns-in-RegionEnd : goal.returns-in-RegionEnd
 returns-in-RegionEnd g c =
     rw c.in-RegionEnd.is
     (quiet g.O.NoteOut.left c.args.self.now (record { stack = c.end_region.new.self; doing = c.args.self.now.doing }) c.args.out.now _ _
     (shifts_region_end c.args.self.now (record { stack = c.end_region.new.self; doing = c.args.self.now.doing }) (ap (λ stack. record { stack = stack; doing = c.args.self.now.doing }) c.end_region.ensures) c.requires.setting) tt)
+
+pub returns-in-Loop : goal.returns-in-Loop
+returns-in-Loop g c = rw c.in-Loop.is (quiet g.O.NoteOut.left c.args.self.now c.enter_loop.new.self c.args.out.now _ _ c.enter_loop.ensures tt)
+
+pub returns-in-Turn : goal.returns-in-Turn
+returns-in-Turn g c =
+    rw c.in-Turn.is
+    (quiet g.O.NoteOut.left c.args.self.now (record { stack = c.begin_turn.new.self; doing = c.args.self.now.doing }) c.args.out.now _ _
+    (shifts_turn c.args.self.now (record { stack = c.begin_turn.new.self; doing = c.args.self.now.doing }) (ap (λ stack. record { stack = stack; doing = c.args.self.now.doing }) c.begin_turn.ensures)
+    c.requires.setting (rw c.in-Turn.is at c.requires.suits).1) tt)

@@ -1,5 +1,6 @@
 use Rattle.std.proofs.Common.{ap}
 use Rattle.page_roff_machine.proofs.GoLemmas.{shifts_leaf, shifts_leaf_line, shifts_call}
+use Rattle.page_roff_machine.proofs.LoopLemmas.{shifts_loop}
 use Rattle.page_roff_machine.proofs.runners.Runner.pass_leaf.Goals as goal
 
 pub returns-in-Call : goal.returns-in-Call
@@ -7,6 +8,12 @@ returns-in-Call c =
     rw c.in-Call.is
     (shifts_call c.args.self.now (record { stack = c.pass.new.self; doing = c.args.self.now.doing }) c.call.new.self
     (ap (λ stack. record { stack = stack; doing = c.args.self.now.doing }) c.pass.ensures) c.call.ensures (rw c.in-Call.is at c.requires.suits))
+
+pub returns-in-Loop : goal.returns-in-Loop
+returns-in-Loop c =
+    rw c.in-Loop.is
+    (shifts_loop c.args.self.now (record { stack = c.pass.new.self; doing = c.args.self.now.doing }) c.repeat.new.self
+    (ap (λ stack. record { stack = stack; doing = c.args.self.now.doing }) c.pass.ensures) c.repeat.ensures (rw c.in-Loop.is at c.requires.suits) c.requires.setting)
 
 pub returns-in-Nothing : goal.returns-in-Nothing
 returns-in-Nothing c =

@@ -1,0 +1,176 @@
+-- What is so of each source that runs: helpers of proofs.
+use Rattle.std.proofs.Common.{◌≡◌, ℕ, zero, suc, ◌+◌, ◌*◌, ◌≤◌, ◌==◌, Bool, true, false, List, [], ◌∷◌, drop, length, Option, Some, None, refl, sym, ap, if◌then◌else◌, arith}
+use Rattle.page_core_limits.specs.declared.TheConstants.{BODY}
+use Rattle.page_roff_blocks.specs.declared.atoms.Atom.{Atom}
+use Rattle.page_roff_blocks.specs.declared.atoms.Atom.TheVariants.{Leaf, Guard, Block, Loop, End, Region}
+use Rattle.page_roff_blocks.specs.declared.levels.Way.{Way}
+use Rattle.page_roff_blocks.specs.declared.levels.Way.TheVariants.{Runs, Skips, Exceeds}
+use Rattle.page_roff_blocks.specs.Levels.{Levels, Opened, opened, Spot, at_line, after_part, enter, leave_level, leave_loop, leave_from, leave}
+use Rattle.page_roff_values.specs.Arguments.{begin_first, arguments_in, lines_in}
+use Rattle.page_roff_language.specs.Machine.{Frame, Turning, turned, at_part}
+use Rattle.page_roff_language.specs.Measures.{weight, turns_of}
+use Rattle.page_roff_stack.specs.declared.next.Next.{Next}
+use Rattle.page_roff_stack.specs.declared.next.Next.TheVariants as things
+use Rattle.page_roff_stack.specs.Changes.{past, in_region, next_line, in_turn_of, in_turn, region_of}
+use Rattle.page_roff_stack.specs.Stacks.{Stack, has_begun, turn_in, turn_or_end, next_around, next_in, next_of, is_part, region_in}
+use Rattle.page_roff_machine.specs.Moving.{HUGE, IsTurningWithin, IsPassed, IsKept, AreKept, frames_of, IsBodyWithin}
+
+-- ---- bodies
+
+begun_weight : (byte : ℕ) (texts : List (List ℕ)) (n : ℕ) → weight texts ≤ 5 * n + 5 → weight (begin_first byte texts) ≤ 5 * suc n + 5
+unfolding weight
+begun_weight byte [] n h = omega arith
+begun_weight byte (text ∷ texts) n h = omega arith
+
+byte_weight : (is_end : Bool) (byte : ℕ) (texts : List (List ℕ)) (n : ℕ) → weight texts ≤ 5 * n + 5
+    → weight (if is_end then [] ∷ texts else begin_first byte texts) ≤ 5 * suc n + 5
+unfolding weight
+byte_weight true byte texts n h = omega arith
+byte_weight false byte texts n h = begun_weight byte texts n h
+
+body_weight : (bytes : List ℕ) → weight (arguments_in bytes) ≤ 5 * length bytes + 5
+unfolding weight arguments_in
+body_weight [] = omega arith
+body_weight (byte ∷ bytes) = byte_weight (byte == 10) byte (arguments_in bytes) (length bytes) (body_weight bytes)
+
+pub within_huge : (bytes : List ℕ) → length bytes ≤ BODY → suc (weight (arguments_in bytes)) ≤ 100000
+within_huge bytes h = let w = body_weight bytes in omega arith
+
+-- those of a loop come after its condition
+rest_weight : (lines : List (List ℕ)) → weight (drop 1 lines) ≤ weight lines
+unfolding weight
+rest_weight [] = omega arith
+rest_weight (line ∷ lines) = omega arith
+
+pub rest_within : (bytes : List ℕ) → length bytes ≤ BODY → suc (weight (drop 1 (lines_in bytes))) ≤ 100000
+rest_within bytes h = let w = within_huge bytes h in let r = rest_weight (lines_in bytes) in omega arith
+
+-- ---- the sources that run
+
+-- nothing was begun
+pub same_source : (old new : Stack) → new.under ≡ old.under → new.top.turning ≡ old.top.turning → IsBodyWithin old new
+same_source old new eu et = record {
+  begins = λ h. let k : length new.under ≡ length old.under = ap length eu in absurd (omega arith);
+  turns = λ h t. let k : turns_of new.top.turning ≡ turns_of old.top.turning = ap turns_of et in absurd (omega arith);
+}
+
+pub same_frames : (old new : Stack) → new.under ≡ old.under → (IsKept old.top → IsKept new.top) → AreKept (frames_of old) → AreKept (frames_of new)
+same_frames old new eu f h = (f h.0, rw eu h.1)
+
+-- the turns of a loop and its open region stay as they are, where it is not collected from now on
+pub same_kept : (f : Frame) (spot : Spot) → (spot.levels.in_loop ≡ true → f.spot.levels.in_loop ≡ true) → IsKept f → IsKept (past spot f)
+unfolding at_part
+same_kept f spot h k = record { turning = k.turning; region = λ e. k.region (h e) }
+
+-- a loop is collected from now on, where no region is open
+pub open_kept : (f : Frame) (spot : Spot) → f.region ≡ None → IsKept f → IsKept (past spot f)
+unfolding at_part
+open_kept f spot h k = record { turning = k.turning; region = λ e. rw h tt }
+
+-- ---- the bit of a loop that is collected
+
+enter_out : (way : Way) (bit : Bool) (l : Levels) → (enter way bit l).in_loop ≡ false
+unfolding enter
+enter_out Runs bit l = refl
+enter_out Skips bit l = refl
+enter_out Exceeds bit l = refl
+
+pub enter_in : (way : Way) (bit : Bool) (l : Levels) → (after_part (enter way bit l)).levels.in_loop ≡ true → l.in_loop ≡ true
+unfolding after_part
+enter_in way bit l e = let k = enter_out way bit l in absurd (cc)
+
+level_in : (outer : List Bool) (l : Levels) → (leave_level outer l).in_loop ≡ true → l.in_loop ≡ true
+unfolding leave_level
+level_in [] l e = e
+level_in (bit ∷ outer) l e = absurd (cc)
+
+loop_in : (in_loop : Bool) (l : Levels) → in_loop ≡ l.in_loop → (leave_loop in_loop l).in_loop ≡ true → l.in_loop ≡ true
+unfolding leave_loop
+loop_in true l h e = sym h
+loop_in false l h e = level_in l.outer l e
+
+from_in : (skipped : ℕ) (l : Levels) → (leave_from skipped l).in_loop ≡ true → l.in_loop ≡ true
+unfolding leave_from
+from_in zero l e = loop_in l.in_loop l refl e
+from_in (suc skipped) l e = e
+
+pub leave_in : (l : Levels) → (after_part (leave l)).levels.in_loop ≡ true → l.in_loop ≡ true
+unfolding after_part leave
+leave_in l e = from_in l.skipped l e
+
+-- ---- regions
+
+not_part : (turn : Option (List ℕ)) (region : Option Opened) (begun : Bool) → is_part (turn_or_end turn region begun) ≡ true → ⊥
+not_part None region begun e = cc
+not_part (Some condition) region begun e = cc
+
+not_part_around : (turning : Option Turning) (region : Option Opened) (under : List Frame) → is_part (next_around turning region under) ≡ true → ⊥
+not_part_around turning region [] e = cc
+not_part_around turning region (f ∷ fs) e = not_part (turn_in turning) region (has_begun turning) e
+
+-- a part comes next where no region is open
+part_outside : (turning : Option Turning) (region : Option Opened) (parts : List (Atom (List ℕ))) (lines : List (List ℕ)) (under : List Frame)
+    → is_part (next_in turning region parts lines under) ≡ true → region ≡ None
+part_outside turning None parts lines under e = refl
+part_outside turning (Some o) parts (line ∷ more) under e = absurd (cc)
+part_outside turning (Some o) parts [] under e = absurd (not_part_around turning (Some o) under e)
+
+pub outside_regions : (s : Stack) → is_part (next_of s) ≡ true → s.top.region ≡ None
+outside_regions s e = part_outside s.top.turning s.top.region s.top.parts s.top.lines s.under e
+
+head_passed : (is_run : Bool) (part : Atom (List ℕ)) → is_run ≡ false → IsPassed (region_of is_run part)
+unfolding opened
+head_passed is_run (Leaf text) e = tt
+head_passed is_run (Guard head) e = tt
+head_passed is_run (Block opening) e = tt
+head_passed is_run (Loop head) e = tt
+head_passed is_run End e = tt
+head_passed is_run (Region head) e = e
+
+region_passed : (is_run : Bool) (x : Next (List ℕ) Opened) → is_run ≡ false → IsPassed (region_in is_run x)
+region_passed is_run (things.Part part) e = head_passed is_run part e
+region_passed is_run (things.Line line) e = tt
+region_passed is_run (things.RegionLine o line is_end) e = tt
+region_passed is_run (things.Turn region begun condition) e = tt
+region_passed is_run (things.SourceEnd region begun) e = tt
+region_passed is_run things.Nothing e = tt
+
+pub region_kept : (is_run : Bool) (x : Next (List ℕ) Opened) (f : Frame) → (f.spot.levels.in_loop ≡ true → is_run ≡ false)
+    → IsKept f → IsKept (in_region (region_in is_run x) f)
+unfolding at_line
+region_kept is_run x f h k = record { turning = k.turning; region = λ e. region_passed is_run x (h e) }
+
+-- a line of the open region, or its end line, is passed
+pub line_kept : (f : Frame) → IsKept f → IsKept (next_line f.region [] f)
+unfolding at_line
+line_kept f k = record { turning = k.turning; region = k.region }
+
+pub end_kept : (f : Frame) → IsKept f → IsKept (next_line None [] f)
+end_kept f k = record { turning = k.turning; region = λ e. tt }
+
+-- ---- turns
+
+pub turn_kind : (turning : Option Turning) (f : Frame) → (in_turn_of turning f).kind ≡ f.kind
+unfolding turned
+turn_kind None f = refl
+turn_kind (Some t) f = refl
+
+turn_kept : (turning : Option Turning) (f : Frame) → IsTurningWithin turning → IsKept f → IsKept (in_turn_of turning f)
+unfolding turned
+turn_kept None f h k = k
+turn_kept (Some t) f h k = record { turning = h; region = λ e. tt }
+
+turn_within : (turning : Option Turning) (f : Frame) → f.turning ≡ turning → IsTurningWithin turning
+    → suc (turns_of (in_turn_of turning f).turning) ≡ turns_of turning → suc (weight (in_turn_of turning f).lines) ≤ HUGE
+unfolding turned turns_of
+turn_within None f e h t = let k : turns_of f.turning ≡ 0 = ap turns_of e in absurd (omega arith)
+turn_within (Some turning) f e h t = h
+
+pub turn_frames : (s : Stack) → IsTurningWithin s.top.turning → AreKept (frames_of s) → AreKept (in_turn s.top ∷ s.under)
+turn_frames s h k = (turn_kept s.top.turning s.top h k.0, k.1)
+
+pub turn_source : (s t : Stack) → t.top ≡ in_turn s.top → t.under ≡ s.under → IsTurningWithin s.top.turning → IsBodyWithin s t
+turn_source s t et eu h = record {
+  begins = λ e. let k : length t.under ≡ length s.under = ap length eu in absurd (omega arith);
+  turns = λ e n. rw et (turn_within s.top.turning s.top refl h (rw et at n));
+}
