@@ -34,6 +34,31 @@ pub(crate) struct Layers {
     pub(crate) last: u32,
 }
 
+// Messages come to a sink by their level.
+macro_rules! level_filter {
+    ($layers:expr, $notes:expr) => {
+        LevelFilter {
+            notes: $notes,
+            least: $layers.least,
+            worst: $layers.worst,
+        }
+    };
+}
+
+// What the lines give goes to the filler, its rows and the messages to sinks.
+macro_rules! page_sink {
+    ($layers:expr, $rows:expr, $notes:expr) => {
+        PageSink {
+            filler: &mut $layers.filler,
+            rows: Shown {
+                rows: $rows,
+                is_silent: is_silent($layers.output),
+            },
+            notes: level_filter!($layers, $notes),
+        }
+    };
+}
+
 impl<R: RowSink, N: NoteSink> PageSink<'_, '_, '_, R, N> {
     // Ends the body after a line, gives the footer, and ends the filling.
     fn end(&mut self, lines: &mut PageLines, last: u32) -> Result<(), Fault>
@@ -101,20 +126,7 @@ impl Layers {
         ensures rows_same { R.loans rows.new ≡ R.loans rows.old }
         ensures notes_same { N.loans notes.new ≡ N.loans notes.old }
     {
-        let notes = LevelFilter {
-            notes,
-            least: self.least,
-            worst: self.worst,
-        };
-        let rows = Shown {
-            rows,
-            is_silent: is_silent(self.output),
-        };
-        let mut sink = PageSink {
-            filler: &mut self.filler,
-            rows,
-            notes,
-        };
+        let mut sink = page_sink!(self, rows, notes);
         let result = self.lines.line(&mut sink, number, text);
         self.worst = sink.notes.worst;
         self.last = number;
@@ -147,11 +159,7 @@ impl Layers {
         ensures rows_same { R.loans rows.new ≡ R.loans rows.old }
         ensures notes_same { N.loans notes.new ≡ N.loans notes.old }
     {
-        let mut filter = LevelFilter {
-            notes: &mut *notes,
-            least: self.least,
-            worst: self.worst,
-        };
+        let mut filter = level_filter!(self, &mut *notes);
         let line = cutter.line(&mut filter);
         self.worst = filter.worst;
         let (text, number) = line?;
@@ -175,20 +183,7 @@ impl Layers {
         ensures rows_same { R.loans rows.new ≡ R.loans rows.old }
         ensures notes_same { N.loans notes.new ≡ N.loans notes.old }
     {
-        let notes = LevelFilter {
-            notes,
-            least: self.least,
-            worst: self.worst,
-        };
-        let rows = Shown {
-            rows,
-            is_silent: is_silent(self.output),
-        };
-        let mut sink = PageSink {
-            filler: &mut self.filler,
-            rows,
-            notes,
-        };
+        let mut sink = page_sink!(self, rows, notes);
         let result = sink.end(&mut self.lines, self.last);
         self.worst = sink.notes.worst;
         result
