@@ -46,12 +46,21 @@ def repeated(text, per_line):
     return made
 
 
+NESTED = "\n".join([".while 1 \\{"] * 64 + ["x"] + [".\\}"] * 64)
+DEFINING = "\n".join([".while 1 \\{", ".de m", "x", "..", ".m", ".\\}"])
+
+# Each with the number of times that its text stands in the page.
 HOSTILE = [
-    (".if t \\{, a million", repeated(".if t \\{", 1)),
-    (".if n \\{, a million", repeated(".if n \\{", 1)),
-    (".de, a million", repeated(".de", 1)),
-    ("\\*[a, a million in lines of 1,000", repeated("\\*[a", 1000)),
-    ("\\*a, a million in lines of 1,000", repeated("\\*a", 1000)),
+    (".if t \\{, a million", repeated(".if t \\{", 1), 1_000_000),
+    (".if n \\{, a million", repeated(".if n \\{", 1), 1_000_000),
+    (".de, a million", repeated(".de", 1), 1_000_000),
+    ("\\*[a, a million in lines of 1,000", repeated("\\*[a", 1000), 1_000_000),
+    ("\\*a, a million in lines of 1,000", repeated("\\*a", 1000), 1_000_000),
+    (".while 0 \\{\\}, a million", repeated(".while 0 \\{\\}", 1), 1_000_000),
+    (".while t \\{, a million in lines of 1,000", repeated(".while t \\{", 1000), 1_000_000),
+    (".while 1 \\{\\}, ten thousand", repeated(".while 1 \\{\\}", 1), 10_000),
+    ("64 loops in each other, a thousand times", repeated(NESTED, 1), 1_000),
+    ("a loop that defines what it calls, a thousand", repeated(DEFINING, 1), 1_000),
 ]
 
 
@@ -72,14 +81,14 @@ def main():
             ours = least(["./mandoc"], name, runs)
             line = f"{kind:22} {written:8} {written / ours / 1e6:8.1f}"
             print(line + (f" {least([other, '-T', 'ascii'], name, runs) / ours:12.2f}" if other else ""))
-        print("page                                     seconds at a quarter, a half and all" + ("   of the other at all" if other else ""))
-        for kind, made in HOSTILE:
+        print("page                                             seconds at a quarter, a half and all" + ("   of the other at all" if other else ""))
+        for kind, made, most in HOSTILE:
             times = []
-            for count in (250_000, 500_000, 1_000_000):
+            for count in (most // 4, most // 2, most):
                 with open(name, "w") as file:
                     file.write(made(count))
                 times.append(least(["./mandoc"], name, 1))
-            line = f"{kind:38} " + " ".join(f"{seconds:8.3f}" for seconds in times)
+            line = f"{kind:46} " + " ".join(f"{seconds:8.3f}" for seconds in times)
             print(line + (f" {least([other, '-T', 'ascii'], name, 1):12.3f}" if other else ""))
 
 
