@@ -13,6 +13,7 @@ use definitions::{show_mode, show_request};
 use heads::{show_end, show_guarded, show_head};
 use names::{Roff, show_register, show_string};
 use sources::{Page, repeated};
+use std::alloc::Global;
 use std::io;
 use texts::{show_condition, show_text};
 
@@ -21,23 +22,34 @@ fn main(rt: HostRuntime) -> io::Result<()> {
     let Ok(mut page) = Page::new(rt.alloc()) else {
         return Ok(());
     };
+    show_lines(&rt, &mut roff, &mut page)
+}
+
+// The lines of the input.
+fn show_lines(rt: &HostRuntime, roff: &mut Roff, page: &mut Page) -> io::Result<()> {
     for line in rt.lines(rt.alloc()) {
         let line = line?;
-        if line.as_str() == "new" {
-            roff = Roff::new(rt.alloc())?;
-            let Ok(new_page) = Page::new(rt.alloc()) else {
-                return Ok(());
-            };
-            page = new_page;
+        if line.as_str() == "new" && !restart(rt.alloc(), roff, page) {
+            return Ok(());
         }
-        let _ = print!(rt; "{line}");
-        let (call, text) = line.split_once(' ').unwrap_or((line.as_str(), ""));
-        roff.change(call, text);
-        show(&rt, &mut roff, call, text);
-        show_source(&rt, &mut page, call, text);
-        let _ = println!(rt; "");
+        show_line(rt, roff, page, line.as_str());
     }
     Ok(())
+}
+
+// Begins with other names and another page. Answers whether there was memory for them.
+fn restart(alloc: Global, roff: &mut Roff, page: &mut Page) -> bool {
+    roff.restart(alloc).is_ok() && page.restart(alloc).is_ok()
+}
+
+// A line of the input, with what its call gives.
+fn show_line(rt: &HostRuntime, roff: &mut Roff, page: &mut Page, line: &str) {
+    let _ = print!(rt; "{line}");
+    let (call, text) = line.split_once(' ').unwrap_or((line, ""));
+    roff.change(call, text);
+    show(rt, roff, call, text);
+    show_source(rt, page, call, text);
+    let _ = println!(rt; "");
 }
 
 fn show(rt: &HostRuntime, roff: &mut Roff, call: &str, text: &str) {
