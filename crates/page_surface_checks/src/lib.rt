@@ -1,0 +1,23 @@
+//! Tests of the public surface, used as a stranger would use it: through its doors alone, over sinks of its own.
+//!
+//! A page is put together by hand here from all layers of the pipeline (bytes, lines, roff, macro set, scopes, filling, rows): `Cutter`,
+//! `Roff`, `Man` or `Mdoc`, `Scopes`, `Filler`. It has the rows that the engine's `Page` gives, but for the header and the footer, which
+//! the engine writes. Read `hands.rt` first (how a line goes through the layers), then `sheets.rt` (how pieces become rows).
+#![tactic(auto)]
+
+#[cfg(test)]
+mod checks;
+#[cfg(test)]
+mod hands;
+#[cfg(test)]
+mod lines;
+#[cfg(test)]
+mod page_tests;
+#[cfg(test)]
+mod roff_tests;
+#[cfg(test)]
+mod sheets;
+#[cfg(test)]
+mod sinks;
+#[cfg(test)]
+mod streams;

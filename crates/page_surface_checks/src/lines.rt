@@ -1,0 +1,71 @@
+//! The logical lines of a page, cut by hand.
+
+ghost use Rattle.std.specs.Prelude.{◌≡◌, ◌+◌, ◌^◌, ◌<◌, length, false, true, OnOk};
+
+use crate::sinks::Notes;
+use page_core::{Encoding, Fault};
+use page_roff::Cutter;
+use std::alloc::Global;
+
+/// The bytes of a page at most.
+const BYTES: usize = 1_000_000;
+
+/// What takes the lines of a page one by one, and its end.
+pub(crate) trait Feed {
+    /// A line comes, of a number.
+    fn line(&mut self, text: &[u8], number: u32) -> Result<(), Fault>;
+
+    /// No more lines come.
+    fn end(&mut self) -> Result<(), Fault>;
+}
+
+// Feeds the line that is whole.
+fn feed_line<F: Feed>(cutter: &mut Cutter, notes: &mut Notes, feed: &mut F) -> Result<(), Fault>
+    requires { cutter.old.ready ≡ true }
+    ensures ready { OnOk result (cutter.new.ready ≡ false) }
+    ensures point { OnOk result (cutter.new.point ≡ cutter.old.point) }
+{
+    let (text, number) = cutter.line(notes)?;
+    feed.line(text, number)
+}
+
+// Feeds all lines of a page, and its end.
+fn feed_all<F: Feed>(
+    cutter: &mut Cutter,
+    page: &[u8],
+    notes: &mut Notes,
+    feed: &mut F,
+) -> Result<(), Fault>
+    requires ready { cutter.old.ready ≡ false }
+    requires consumed { cutter.old.point.line.consumed + length page.now < 2 ^ 31 }
+{
+    let mut at = 0;
+    'parts: for _ in 0..page.len() {
+        if at < page.len() {
+            let (consumed, whole) = cutter.feed(&page[at..]);
+            at += consumed;
+            if whole {
+                feed_line(cutter, notes, feed)?;
+            }
+        }
+    }
+    if cutter.end() {
+        feed_line(cutter, notes, feed)?;
+    }
+    feed.end()
+}
+
+/// Cuts a page, and feeds its lines and its end. The messages of the cutting come apart.
+pub(crate) fn cut<F: Feed>(
+    alloc: Global,
+    encoding: Encoding,
+    page: &[u8],
+    notes: &mut Notes,
+    feed: &mut F,
+) -> Result<(), Fault> {
+    if page.len() > BYTES {
+        return Err(Fault::TooLong);
+    }
+    let mut cutter = Cutter::new(alloc, encoding)?;
+    feed_all(&mut cutter, page, notes, feed)
+}

@@ -1,0 +1,120 @@
+//! A sink of pieces that fills them: rows and messages go to sinks of this crate's own.
+
+ghost use Rattle.std.proofs.Common.{refl};
+
+use crate::sinks::{Notes, Rows};
+use page_core::{Fault, Font, Note, NoteSink, Piece, PieceSink, Place, Settings};
+use page_fill::Filler;
+use std::alloc::Global;
+
+/// A filler with its rows and messages. It takes all pieces: a fault of its sinks, which never fail here, is kept aside.
+#[derive(Drop)]
+pub(crate) struct Sheet {
+    filler: Filler,
+    pub(crate) rows: Rows,
+    pub(crate) notes: Notes,
+    pub(crate) has_failed: bool,
+}
+
+// Fills a piece, and says whether that went well.
+fn fill(filler: &mut Filler, rows: &mut Rows, notes: &mut Notes, piece: Piece<&[u8]>) -> bool {
+    filler.piece(piece, rows, notes).is_ok()
+}
+
+impl Sheet {
+    /// A sheet without a row.
+    pub(crate) fn new(alloc: Global, settings: &Settings) -> Result<Sheet, Fault> {
+        let filler = Filler::new(alloc, settings)?;
+        let rows = Rows::new(alloc);
+        let notes = Notes::new(alloc);
+        Ok(Sheet {
+            filler,
+            rows,
+            notes,
+            has_failed: false,
+        })
+    }
+
+    /// Ends the open row.
+    pub(crate) fn finish(&mut self) {
+        if self.filler.finish(&mut self.rows, &mut self.notes).is_err() {
+            self.has_failed = true;
+        }
+    }
+
+    /// How many cells the open row has.
+    pub(crate) fn pending(&self) -> usize {
+        self.filler.pending().len()
+    }
+}
+
+impl NoteSink for Sheet {
+    ghost gave = { λ _ _ _. Unit {0} };
+
+    ghost within = { λ _ _ _. Unit {0} };
+
+    ghost failed = { λ _. 0 };
+
+    ghost Loans = { Unit {0} };
+
+    ghost loans = { λ _. tt };
+
+    ghost laws = { record {
+      none = λ _. tt;
+      more = λ _ _ _ _ _ _ _. tt;
+      after = λ _ _ _ _ _ _ _. tt;
+      before = λ _ _ _ _ _. tt;
+    } };
+
+    ghost whole = { λ _ _ _ _. tt };
+
+    fn note(&mut self, note: &Note) -> Result<(), Fault> {
+        let _ = self.notes.note(note);
+        Ok(())
+    }
+
+    fn failures(&self) -> u64 {
+        0
+    }
+}
+
+impl PieceSink for Sheet {
+    ghost use Rattle.page_core_base.specs.Fails.{IsPieceFault};
+
+    ghost took = { λ _ _ _. Unit {0} };
+
+    ghost broke = { λ _ fault _ _. IsPieceFault fault 0 0 0 0 };
+
+    ghost row_failed = { λ _. 0 };
+
+    ghost items = { λ _. record {
+      none = λ _. tt;
+      more = λ _ _ _ _ _ _ _. tt;
+      after = λ _ _ _ _ _ _ broke. broke;
+      before = λ _ _ _ _ broke. broke;
+    } };
+
+    ghost messages = { λ _ _ _ _. tt };
+
+    ghost message_fault = { λ _ _ _ _ rose. rose };
+
+    ghost quiet = { λ _ _ _ _. (refl, refl) };
+
+    ghost causes = { λ _ _ _ _ broke. broke };
+
+    fn piece(&mut self, piece: Piece<&[u8]>) -> Result<(), Fault> {
+        if !fill(&mut self.filler, &mut self.rows, &mut self.notes, piece) {
+            self.has_failed = true;
+        }
+        Ok(())
+    }
+
+    // Words come one by one.
+    fn take_words(&mut self, _text: &[u8], _font: Font, _place: Place) -> usize {
+        0
+    }
+
+    fn row_failures(&self) -> u64 {
+        0
+    }
+}
