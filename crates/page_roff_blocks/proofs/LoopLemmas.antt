@@ -125,7 +125,7 @@ len_found around blocks n line part p e same ends =
     let w : before_end part.atom ≤ length rest = rw is (before_within rest) in
     let none : blocks_after (written_part rest).atom (written_part rest).is_end blocks ≡ None = rw is at ends in
     let left : left_of around line ≡ Some (drop (before_end part.atom) rest) =
-        rw is (same ∙ left_cons blocks rest ∙ ap (λ b. left_by b (λ b. left_rest b (written_part rest).rest) (drop (before_end (written_part rest).atom) rest)) none) in
+    rw is (same ∙ left_cons blocks rest ∙ ap (λ b. left_by b (λ b. left_rest b (written_part rest).rest) (drop (before_end (written_part rest).atom) rest)) none) in
     let k = length-drop n line in
     let j = length-drop (before_end part.atom) rest in
     let len : length line - length (drop (before_end part.atom) rest) ≡ n + before_end part.atom = omega (arith, k, j, w, p) in

@@ -106,10 +106,12 @@ fn whole_opening(opening: Opening<&[u8]>) -> Opening<&[u8]>
     ensures fits { FitsOpening (opening_seen result) }
 {
     match opening {
-        Opening::Loop(LoopHead {
-            condition,
-            body: Some(first),
-        }) => Opening::Loop(LoopHead {
+        Opening::Loop(
+            LoopHead {
+                condition,
+                body: Some(first),
+            },
+        ) => Opening::Loop(LoopHead {
             condition,
             body: first_text(first),
         }),

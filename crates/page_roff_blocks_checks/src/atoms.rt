@@ -148,7 +148,10 @@ fn heads_of_loops(rt: HostRuntime) {
             ".while n \\{.while t \\{a\\}\\}",
             "while(n).while t \\{a\\}{|while(t)a{|a|}|}|",
         ),
-        (".while n \\{.while t \\}", "while(n).while t \\}{|while(t)\\}|"),
+        (
+            ".while n \\{.while t \\}",
+            "while(n).while t \\}{|while(t)\\}|",
+        ),
         (".while n \\{.de x \\}", "while(n).de x \\}{|de(x)\\}|"),
         (".if t .while n x", "if|while(n)x|"),
         ("a\\} .while n x", "a|}|while(n)x|"),

@@ -286,7 +286,13 @@ fn loops(rt: HostRuntime) {
     );
     check(&rt, &[".while t a", ".while n", "b"], "<t:a><n>b|", 3, 0);
     check(&rt, &[".while n \\{\\}", "\\}"], "<n>", 2, 1);
-    check(&rt, &[".if t .while n x", ".if n .while n x"], "<n:x>", 3, 0);
+    check(
+        &rt,
+        &[".if t .while n x", ".if n .while n x"],
+        "<n:x>",
+        3,
+        0,
+    );
     check(
         &rt,
         &[".while n \\{", ".if n \\{", ".\\}", "a\\} b"],

@@ -8,7 +8,7 @@ returns-in-None c =
     let l = c.loop-left in
     let part = part_seen c.written_part-part.result in
     let f = len_found c.args.open_blocks _ l.start c.args.line.now part l.invariant.inside c.written_part-part.ensures.value l.invariant.same
-      (sym c.blocks_after.ensures ∙ c.in-None.is) in
+    (sym c.blocks_after.ensures ∙ c.in-None.is) in
     record { value = rw c.before_end.ensures (sym f.0); within = rw c.before_end.ensures f.1 }
 
 pub place_after-requires : goal.place_after-requires
@@ -22,7 +22,7 @@ returns-in-None-place_after c =
     let part = part_seen c.written_part-part.result in
     record {
       value = sym (len_none c.args.open_blocks _ c.in-Some.left l.start c.args.line.now part c.written_part-part.ensures.value l.invariant.same
-      (sym c.blocks_after.ensures ∙ c.in-Some.is) (sym c.place_after.ensures ∙ c.in-None-place_after.is));
+          (sym c.blocks_after.ensures ∙ c.in-Some.is) (sym c.place_after.ensures ∙ c.in-None-place_after.is));
       within = tt;
     }
 
@@ -31,7 +31,7 @@ loop-left-smaller c =
     let l = c.loop-left in
     let part = part_seen c.written_part-part.result in
     let f = next_further l.start c.in-Some-place_after.next c.args.line.now part l.invariant.inside c.written_part-part.ensures.value
-      (sym c.place_after.ensures ∙ c.in-Some-place_after.is) in
+    (sym c.place_after.ensures ∙ c.in-Some-place_after.is) in
     omega (arith, f.0, f.1)
 
 pub loop-left-preserved : goal.loop-left-preserved
@@ -46,5 +46,5 @@ loop-left-preserved c =
       inside = f.1;
       few = omega (arith, m, f.0, l.invariant.few);
       same = next_left c.args.open_blocks _ c.in-Some.left l.start c.in-Some-place_after.next c.args.line.now part l.invariant.inside
-      c.written_part-part.ensures.value l.invariant.same goes place;
+          c.written_part-part.ensures.value l.invariant.same goes place;
     }
