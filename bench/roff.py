@@ -49,7 +49,7 @@ def repeated(text, per_line):
 NESTED = "\n".join([".while 1 \\{"] * 64 + ["x"] + [".\\}"] * 64)
 DEFINING = "\n".join([".while 1 \\{", ".de m", "x", "..", ".m", ".\\}"])
 
-# Each with the number of times that its text stands in the page.
+# Each with the number of times that its text stands in the page. The other program is not run over loops that have no end.
 HOSTILE = [
     (".if t \\{, a million", repeated(".if t \\{", 1), 1_000_000),
     (".if n \\{, a million", repeated(".if n \\{", 1), 1_000_000),
@@ -62,6 +62,8 @@ HOSTILE = [
     ("64 loops in each other, a thousand times", repeated(NESTED, 1), 1_000),
     ("a loop that defines what it calls, a thousand", repeated(DEFINING, 1), 1_000),
 ]
+
+ENDLESS = [kind for kind, _, most in HOSTILE if most < 1_000_000]
 
 
 def least(words, name, runs):
@@ -89,7 +91,7 @@ def main():
                     file.write(made(count))
                 times.append(least(["./mandoc"], name, 1))
             line = f"{kind:46} " + " ".join(f"{seconds:8.3f}" for seconds in times)
-            print(line + (f" {least([other, '-T', 'ascii'], name, 1):12.3f}" if other else ""))
+            print(line + (f" {least([other, '-T', 'ascii'], name, 1):12.3f}" if other and kind not in ENDLESS else ""))
 
 
 if __name__ == "__main__":
