@@ -11,6 +11,7 @@ use page_core_base::{Font, Piece, PieceOut, Place, first_part_len};
 use page_core_escapes::Token;
 
 // Gives the first part of bytes that print themselves; what is left of them.
+#[inline(always)]
 fn give_first<'a, O: PieceOut>(out: &mut O, font: Font, place: Place, bytes: &'a [u8]) -> &'a [u8]
     requires { (length bytes.now == 0) ≡ false }
     ensures came { CameUpTo O.left out.old
@@ -22,6 +23,18 @@ fn give_first<'a, O: PieceOut>(out: &mut O, font: Font, place: Place, bytes: &'a
     rest
 }
 
+// Gives what is left of bytes that print themselves after one of their parts. It is a call, since few words have a second part.
+#[inline(never)]
+fn give_later<O: PieceOut>(out: &mut O, font: Font, place: Place, bytes: &[u8])
+    ensures { Came O.left out.old (later_items font place bytes.now) out.new }
+{
+    let mut rest = bytes;
+    while !rest.is_empty() {
+        out.give(Piece::Split);
+        rest = give_first(out, font, place, rest);
+    }
+}
+
 /// Gives bytes that print themselves, at whose hyphens a row may end.
 pub(crate) fn give_parts<O: PieceOut>(out: &mut O, font: Font, place: Place, bytes: &[u8])
     ensures { Came O.left out.old (words.parts_items font place bytes.now) out.new }
@@ -29,10 +42,9 @@ pub(crate) fn give_parts<O: PieceOut>(out: &mut O, font: Font, place: Place, byt
     if bytes.is_empty() {
         return;
     }
-    let mut rest = give_first(out, font, place, bytes);
-    while !rest.is_empty() {
-        out.give(Piece::Split);
-        rest = give_first(out, font, place, rest);
+    let rest = give_first(out, font, place, bytes);
+    if !rest.is_empty() {
+        give_later(out, font, place, rest);
     }
 }
 

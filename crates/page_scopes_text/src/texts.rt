@@ -111,7 +111,31 @@ fn give_plain_words<'a, O: PieceOut>(
     rest
 }
 
-// Gives what follows the word at a text's front.
+// Gives the words at a text's front, each with white space before it. It is a call, since most texts have only words that print themselves, with one
+// blank before each.
+#[inline(never)]
+fn give_spaced_words<O: PieceOut>(
+    out: &mut O,
+    style: TextStyle,
+    line: u32,
+    pen: &mut Pen,
+    text: &[u8],
+)
+    requires fits { Fits pen.old text.now }
+    requires word { begins_word text.now ≡ false }
+    ensures came { Came O.left out.old
+        (texts.others_items style line pen.old (words_of style.is_quoted text.now).others) out.new }
+    ensures pen { pen.new ≡ texts.others_after style pen.old (words_of style.is_quoted text.now).others }
+{
+    let mut rest = text;
+    while !rest.is_empty() {
+        let after = give_spaced(out, style, line, pen, rest);
+        rest = give_plain_words(out, style, line, pen, after);
+    }
+}
+
+// Gives what follows the word at a text's front. Many texts are one word, and most others go on with words that print themselves.
+#[inline(always)]
 fn give_others<O: PieceOut>(out: &mut O, style: TextStyle, line: u32, pen: &mut Pen, text: &[u8])
     requires fits { Fits pen.old text.now }
     requires word { begins_word text.now ≡ false }
@@ -119,10 +143,12 @@ fn give_others<O: PieceOut>(out: &mut O, style: TextStyle, line: u32, pen: &mut 
         (texts.others_items style line pen.old (words_of style.is_quoted text.now).others) out.new }
     ensures pen { pen.new ≡ texts.others_after style pen.old (words_of style.is_quoted text.now).others }
 {
-    let mut rest = give_plain_words(out, style, line, pen, text);
-    while !rest.is_empty() {
-        let after = give_spaced(out, style, line, pen, rest);
-        rest = give_plain_words(out, style, line, pen, after);
+    if text.is_empty() {
+        return;
+    }
+    let rest = give_plain_words(out, style, line, pen, text);
+    if !rest.is_empty() {
+        give_spaced_words(out, style, line, pen, rest);
     }
 }
 
@@ -155,7 +181,8 @@ fn give_indented<'a, O: PieceOut>(
     give_body(out, quoted, place, pen, rest)
 }
 
-// Gives the white space at a text's front, and the word after it; what is left of the text.
+// Gives the white space at a text's front, and the word after it; what is left of the text. It is a call, since few texts begin so.
+#[inline(never)]
 fn give_leading<'a, O: PieceOut>(
     out: &mut O,
     style: TextStyle,

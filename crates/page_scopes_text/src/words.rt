@@ -182,7 +182,8 @@ pub(crate) fn give_font_word<O: PieceOut>(
     give_font_body(out, place, pen, word);
 }
 
-// Gives the word at a text's front, its messages first; what is left of the text.
+// Gives the word at a text's front, its messages first; what is left of the text. It is a call, since most words print themselves.
+#[inline(never)]
 fn give_told_word<'a, O: PieceOut>(
     out: &mut O,
     style: TextStyle,

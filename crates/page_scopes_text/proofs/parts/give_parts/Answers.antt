@@ -1,6 +1,6 @@
-use Rattle.std.proofs.Common.{◌<◌, ◌≤◌, arith, length}
+use Rattle.std.proofs.Common.{◌≤◌, arith, length}
 use Rattle.std.proofs.lemmas.Bool.Decides.{nat_tests}
-use Rattle.page_scopes_text.proofs.PartLemmas.{later_more, no_later, no_parts}
+use Rattle.page_scopes_text.proofs.PartLemmas.{no_later, no_parts}
 use Rattle.page_scopes_text.proofs.parts.give_parts.Goals as goal
 
 pub returns-then-is_empty : goal.returns-then-is_empty
@@ -8,15 +8,8 @@ returns-then-is_empty g c = λ plan rest h.
     let none : length c.args.bytes.now ≤ 0 = grind (arith, nat_tests) in
     rw (no_parts c.args.font c.args.place c.args.bytes.now none) at h
 
-pub loop-rest-preserved : goal.loop-rest-preserved
-loop-rest-preserved g c = λ plan rest h.
-    let l = c.loop-rest in
-    let some : 0 < length l.rest.now = grind (arith, nat_tests) in
-    c.give_first-rest-in-loop-rest.ensures.came plan rest
-    (c.give.ensures plan _ (rw (later_more c.args.font c.args.place l.rest.now some) at (l.invariant plan rest h)))
-
-pub returns : goal.returns
-returns g c = λ plan rest h.
-    let l = c.loop-rest in
-    let none : length l.rest.now ≤ 0 = grind (arith, nat_tests) in
-    rw (no_later c.args.font c.args.place l.rest.now none) at (l.invariant plan rest h)
+pub returns-else-not-is_empty : goal.returns-else-not-is_empty
+returns-else-not-is_empty g c = λ plan rest h.
+    let w = c.give_first-rest in
+    let none : length w.result.now ≤ 0 = grind (arith, nat_tests) in
+    rw (no_later c.args.font c.args.place w.result.now none) at (w.ensures.came plan rest h)

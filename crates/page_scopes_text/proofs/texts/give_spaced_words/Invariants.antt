@@ -3,7 +3,7 @@ use Rattle.page_core_base.specs.Latches.{CameUpTo}
 use Rattle.page_core_escapes.specs.Tokens.{begins_word}
 use Rattle.page_scopes_text.specs.Parted.{words_of}
 use Rattle.page_scopes_text.specs.Texts.{others_items, others_after}
-use Rattle.page_scopes_text.proofs.texts.give_others.Given as goal
+use Rattle.page_scopes_text.proofs.texts.give_spaced_words.Given as goal
 
 abbrev pub invariant-loop-rest : goal.invariant-loop-rest
 invariant-loop-rest g l = record {
