@@ -97,6 +97,7 @@ fn splits(phrase: &Phrase<&[u8]>, context: &Context) -> bool
 }
 
 // What is known at a phrase's front.
+#[inline(always)]
 fn phrase_pen(phrase: &Phrase<&[u8]>, context: &Context, running: &Running) -> Pen
     ensures { result ≡ phrases.phrase_pen (phrase_seen phrase.now) context.now running.now }
 {
@@ -168,6 +169,7 @@ pub(crate) fn is_text(part: PagePart) -> bool
 }
 
 // What is known along the page goes on after a phrase.
+#[inline(always)]
 fn pass_running(running: &mut Running, phrase: &Phrase<&[u8]>, context: &Context, pen: &Pen)
     ensures { running.new
         ≡ phrases.running_after (phrase_seen phrase.now) pen.now context.now running.old }
