@@ -10,6 +10,7 @@ use page_roff_forms::Argument;
 use page_sets_mdoc_rows::{Delimiter, Inline, Pair, called, delimiter_of};
 
 /// The delimiter that a word is, if it is one; a word with quotes is none.
+#[inline(always)]
 #[tactic(auto, unfolding(crate::specs::LineWords::word_delimiter))]
 pub fn word_delimiter(word: Argument<&[u8]>) -> Option<Delimiter>
     ensures { result ≡ words.word_delimiter (argument_seen word.entry) }
@@ -32,6 +33,7 @@ pub fn word_call(name: Argument<&[u8]>) -> Option<Inline>
 }
 
 /// Whether a word is a closing delimiter.
+#[inline(always)]
 #[tactic(auto, unfolding(crate::specs::LineWords::is_closing))]
 pub fn is_closing(word: Argument<&[u8]>) -> bool
     ensures { result ≡ words.is_closing (argument_seen word.entry) }
@@ -40,6 +42,7 @@ pub fn is_closing(word: Argument<&[u8]>) -> bool
 }
 
 /// Whether a word is no delimiter.
+#[inline(always)]
 #[tactic(auto, unfolding(crate::specs::LineWords::is_real))]
 pub fn is_real(word: Argument<&[u8]>) -> bool
     ensures { result ≡ words.is_real (argument_seen word.entry) }
