@@ -58,16 +58,11 @@ impl MacroSet for Either {
     }
 
     #[inline(always)]
+    #[tactic(auto, using(crate::proofs::PlaceLemmas::man_fits, crate::proofs::PlaceLemmas::man_stays, crate::proofs::PlaceLemmas::mdoc_fits, crate::proofs::PlaceLemmas::mdoc_stays))]
     fn next<'a>(&self, line: Taken<'a>, place: &mut EitherPlace) -> Option<Event<&'a [u8]>> {
-        match self {
-            Either::Man => match place {
-                EitherPlace::Man(place) => Man.next(line, place),
-                EitherPlace::Mdoc(_) => None,
-            },
-            Either::Mdoc => match place {
-                EitherPlace::Mdoc(place) => Mdoc.next(line, place),
-                EitherPlace::Man(_) => None,
-            },
+        match place {
+            EitherPlace::Man(place) => Man.next(line, place),
+            EitherPlace::Mdoc(place) => Mdoc.next(line, place),
         }
     }
 }

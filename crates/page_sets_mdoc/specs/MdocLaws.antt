@@ -31,14 +31,10 @@ use Rattle.page_sets_mdoc_rows.specs.declared.blocks.Sentence.{Sentence}
 use Rattle.page_sets_lines.specs.declared.line_steps.SynopsisStep.TheVariants.{Break}
 use Rattle.page_sets_mdoc_lines.specs.LineWords.{arguments_after}
 use Rattle.page_sets_mdoc.specs.Mdoc.{field_font, include_words, words_events, refused_events, lacks_words, macro_events, request_events, named_events, control_events, line_events, mdoc_events}
-use Rattle.page_sets_mdoc.specs.Plans.{end_events, words_to_come, plan_events, line_plan_events, IsPlanOf}
+use Rattle.page_sets_mdoc.specs.Plans.{events_to_end, words_to_come, plan_events, line_plan_events, IsPlanOf}
 use Rattle.page_sets_mdoc.specs.RestLaws.{rest_prints, head_prints, phrase_prints}
 
 -- ---- slices
-
-end_slices : (line : List ℕ) (number : ℕ) (ends : Bool) → AreSlices line (end_events number ends)
-end_slices line number true = (tt, tt)
-end_slices line number false = tt
 
 words_slices : (line : Line) (words : MacroWords) → AreSlices line.text (words_to_come line words)
 words_slices line words =
@@ -48,16 +44,17 @@ words_slices line words =
     (framed_prints line.text (most_events words.step) line.number words.column words.before words.after _ _ (step_prints line words.column words.step _ own)).slices
     (rest_prints line _ (AreArguments-drop line.text words.left.count _ all)).slices
 
-plan_slices : (line : Line) (plan : Plan) → AreSlices line.text (plan_events line plan)
-plan_slices line plan =
+plan_slices : (line : Line) (plan : Plan) (ends : Bool) → AreSlices line.text (events_to_end line plan ends)
+plan_slices line plan true =
     AreSlices-append line.text _ _ (front_slices line plan.front)
-    (AreSlices-append line.text _ _ (words_slices line plan.words) (end_slices line.text line.number plan.ends))
+    (AreSlices-append line.text _ _ (words_slices line plan.words) (tt, tt))
+plan_slices line plan false = tt
 
 pub line_plan_slices : (line : Line) (plan : LinePlan) → IsPlanOf line plan → AreSlices line.text (line_plan_events line plan)
 line_plan_slices line (line_plans.Plain plain) fits = (line_slices plain line.text, (tt, tt))
 line_plan_slices line (line_plans.End filled) fits = (tt, tt)
 line_plan_slices line line_plans.Nothing fits = tt
-line_plan_slices line (line_plans.Control plan) fits = plan_slices line plan
+line_plan_slices line (line_plans.Control plan) fits = plan_slices line plan plan.ends
 
 -- ---- the words of a line
 

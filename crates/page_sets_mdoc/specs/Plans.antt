@@ -56,13 +56,14 @@ GoesOnWith line arguments result =
     × (words_to_come line words ≡ rest_events line.number (parts None true arguments))
     × (suc (length (parts_left line words).calls) ≡ length (parts None true arguments).calls))
 
-abbrev pub end_events : ℕ → Bool → List (Event (List ℕ))
-end_events number true = line_end number true ∷ []
-end_events number false = []
+-- the rest of a line up to its end, or nothing after that
+abbrev pub events_to_end : Line → Plan → Bool → List (Event (List ℕ))
+events_to_end line plan true = front_events line plan.front ++ (words_to_come line plan.words ++ (line_end line.number true ∷ []))
+events_to_end line plan false = []
 
 -- all that a plan of a control line gives
 abbrev pub plan_events : Line → Plan → List (Event (List ℕ))
-plan_events line plan = front_events line plan.front ++ (words_to_come line plan.words ++ end_events line.number plan.ends)
+plan_events line plan = events_to_end line plan plan.ends
 
 -- the same of any line
 abbrev pub line_plan_events : Line → LinePlan → List (Event (List ℕ))

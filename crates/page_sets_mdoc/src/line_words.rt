@@ -1,14 +1,17 @@
 //! The words of a line, macro after macro (mdoc(7), "MACRO SYNTAX").
 
-ghost use Rattle.std.specs.Prelude.{◌≡◌, ◌≤◌, ◌++◌, [], None, Some, true, false, length};
+ghost use Rattle.std.specs.Prelude.{◌≡◌, ◌≤◌, ◌++◌, [], ◌∷◌, None, Some, true, false, length};
 ghost use Rattle.page_core_base.specs.LinesTaken.{line_seen};
 ghost use Rattle.page_sets_lines.specs.Events.{TakesNext};
 ghost use Rattle.page_sets_lines.specs.ControlLines.{name_of};
 ghost use Rattle.page_sets_mdoc_rows.specs.Rows as rows;
-ghost use Rattle.page_sets_mdoc_lines.specs.LineWords.{arguments_after};
+ghost use Rattle.page_sets_mdoc_lines.specs.LineWords.{arguments_after, is_closing};
+ghost use Rattle.page_roff_forms.specs.Arguments.{argument_seen};
+ghost use Rattle.std.specs.List.{list_all};
 ghost use Rattle.page_sets_mdoc_lines.specs.Parts.{parts};
 ghost use Rattle.page_sets_mdoc_lines.specs.Cursors.{IsCursorOf};
 ghost use Rattle.page_sets_mdoc_words.specs.Printed.{printed};
+ghost use Rattle.page_sets_mdoc_words.specs.Steps.{macro_words_events};
 ghost use Rattle.page_sets_mdoc_words.specs.Sentences.{sentence_events};
 ghost use Rattle.page_sets_mdoc_blocks.specs.Fronts.{name_column, has_real_word, given_names, line_arguments};
 ghost use Rattle.page_sets_mdoc.specs.Mdoc as mdoc;
@@ -17,9 +20,10 @@ ghost use Rattle.page_sets_mdoc.specs.Plans.{words_to_come, StandsIn, GoesOnWith
 
 use page_core_base::{Font, Place, Taken};
 use page_core_limits::LINE;
+use page_roff_forms::Argument;
 use page_sets_lines::{Closer, Deed, Event, SynopsisStep, find_name};
 use page_sets_mdoc_blocks::{has_real_word, is_standard};
-use page_sets_mdoc_lines::{Cursor, find_extent, word_call};
+use page_sets_mdoc_lines::{Cursor, find_extent, is_closing, word_call};
 use page_sets_mdoc_rows::{Inline, LineMacro, Sentence, is_parsed};
 use page_sets_mdoc_words::{IncludeStep, MacroWords, SentenceStep, Step, WordsLeft};
 
@@ -72,9 +76,9 @@ fn line_is_parsed(line: Taken<'_>) -> bool
     is_parsed(&line.text[name.start..name.end])
 }
 
-// The words of a macro that can stand among words, and begins the line.
+/// The words of a macro that can stand among words, and begins the line.
 #[tactic(auto, using(crate::proofs::LineWordLemmas::begun_stands, crate::proofs::LineWordLemmas::head_comes))]
-fn head_words(line: Taken<'_>, inline: Inline) -> MacroWords
+pub(crate) fn head_words(line: Taken<'_>, inline: Inline) -> MacroWords
     requires { length line.text.now ≤ LINE }
     ensures stands { StandsIn (line_seen line.entry) result }
     ensures events { words_to_come (line_seen line.entry) result
@@ -208,6 +212,15 @@ pub(crate) fn words_of(begins: LineMacro, line: Taken<'_>) -> MacroWords
     }
 }
 
+// Whether a word is one of the closing delimiters at the line's end, of which the others begin at a cursor.
+fn is_last(line: Taken<'_>, word: Argument<&[u8]>, ahead: Cursor) -> bool
+    requires short { length line.text.now ≤ LINE }
+    requires within { IsCursorOf line.text.now ahead }
+    ensures { result ≡ list_all is_closing (argument_seen word.entry ∷ arguments_after ahead.rest line.entry.text.now) }
+{
+    is_closing(word) && ahead.is_in_tail(line.text)
+}
+
 // The macro that the next word of a line calls; none where only the delimiters at the line's end are left.
 fn next_call(line: Taken<'_>, cursor: Cursor) -> Option<MacroWords>
     requires short { length line.text.now ≤ LINE }
@@ -215,11 +228,11 @@ fn next_call(line: Taken<'_>, cursor: Cursor) -> Option<MacroWords>
     requires call { (parts None true (arguments_after cursor.rest line.text.now)).words ≡ [] }
     ensures { GoesOnWith (line_seen line.entry) (arguments_after cursor.rest line.entry.text.now) result }
 {
-    if cursor.is_in_tail() {
-        return None;
-    }
     let mut ahead = cursor;
     let name = ahead.read(line.text)?;
+    if is_last(line, name, ahead) {
+        return None;
+    }
     let inline = word_call(name)?;
     Some(MacroWords::begin(
         false,
@@ -268,9 +281,34 @@ pub(crate) fn next_of_words<'a>(line: Taken<'a>, words: &mut MacroWords) -> Opti
         if let Some(event) = words.next(line) {
             return Some(event);
         }
+        if words.left.cursor.is_at_end(line.text) {
+            return None;
+        }
         match next_call(line, words.left.cursor) {
             Some(next) => *words = next,
             None => return begin_tail(line, words.left.cursor, words),
         }
+    }
+}
+
+/// The next event of a line's words, if there is one more, once the words of the macro in work are over.
+#[inline(never)]
+#[tactic(auto, using(crate::proofs::LineWordLemmas::over_comes, crate::proofs::LineWordLemmas::over_calls, crate::specs::RestLaws::rest_in_tail))]
+pub(crate) fn next_after_words<'a>(
+    line: Taken<'a>,
+    words: &mut MacroWords,
+) -> Option<Event<&'a [u8]>>
+    requires short { length line.text.now ≤ LINE }
+    requires stands { StandsIn (line_seen line) words.old }
+    requires over { (macro_words_events (line_seen line) words.old ≡ []) × (words.old.left.count ≡ 0) }
+    ensures stands { StandsIn (line_seen line.entry) words.new }
+    ensures events { TakesNext (words_to_come (line_seen line.entry) words.old) result (words_to_come (line_seen line.entry) words.new) }
+{
+    match next_call(line, words.left.cursor) {
+        Some(next) => {
+            *words = next;
+            next_of_words(line, words)
+        }
+        None => begin_tail(line, words.left.cursor, words),
     }
 }

@@ -9,14 +9,14 @@ ghost use Rattle.page_sets_mdoc.specs.Plans.{plan_events, line_plan_events, Stan
 ghost use Rattle.page_sets_lines.specs.PlainLines.{line_end};
 ghost use Rattle.page_sets_mdoc_blocks.specs.FrontSteps.{front_events};
 
-use crate::line_words::{next_of_words, no_words, words_of};
+use crate::line_words::{head_words, next_after_words, next_of_words, no_words, words_of};
 use page_core_base::{NoteKind, Place, Taken};
 use page_core_limits::LINE;
 use page_roff_forms::has_arguments;
 use page_sets_lines::{Deed, Event, PlainLine, find_name, layout_request};
 use page_sets_mdoc_blocks::{Front, has_phrase};
 use page_sets_mdoc_rows::{LineMacro, line_macro};
-use page_sets_mdoc_words::MacroWords;
+use page_sets_mdoc_words::{MacroWords, printed_word};
 
 /// What is still to come of a control line's events, in the order of the fields.
 #[derive(Clone, Copy)]
@@ -24,7 +24,7 @@ pub struct Plan {
     pub(crate) front: Front,
     /// The words of the macro in work; the macros that follow are found as the line is read.
     pub(crate) words: MacroWords,
-    /// The line's end.
+    /// The line's end, after which nothing comes.
     pub(crate) ends: bool,
 }
 
@@ -80,6 +80,13 @@ fn macro_plan(begins: LineMacro, line: Taken<'_>) -> Plan
     ensures stands { StandsIn (line_seen line.entry) result.words }
     ensures events { plan_events (line_seen line.entry) result ≡ mdoc.macro_events begins (line_seen line.entry) }
 {
+    if let LineMacro::Inline(inline) = begins {
+        return Plan {
+            front: Front::nothing(),
+            words: head_words(line, inline),
+            ends: true,
+        };
+    }
     if lacks_words(begins, line) {
         return wordless_plan(Front::refused(NoteKind::EmptyMacro), line);
     }
@@ -134,7 +141,29 @@ pub(crate) fn plan_of(line: Taken<'_>) -> LinePlan
     }
 }
 
-// The next event of a control line.
+// The next event of a control line, whatever comes next.
+#[inline(never)]
+fn next_of_any<'a>(line: Taken<'a>, plan: &mut Plan) -> Option<Event<&'a [u8]>>
+    requires short { length line.text.now ≤ LINE }
+    requires stands { StandsIn (line_seen line) plan.old.words }
+    ensures stands { StandsIn (line_seen line.entry) plan.new.words }
+    ensures events { TakesNext (plan_events (line_seen line.entry) plan.old) result (plan_events (line_seen line.entry) plan.new) }
+{
+    if !plan.ends {
+        return None;
+    }
+    if let Some(event) = plan.front.next(line) {
+        return Some(event);
+    }
+    if let Some(event) = next_of_words(line, &mut plan.words) {
+        return Some(event);
+    }
+    plan.ends = false;
+    Some(event_at(line.line, 1, Deed::End { fills: true }))
+}
+
+// The next event of a control line: most are words that are printed as they are, before which nothing else comes, or the end
+// after these.
 #[inline(never)]
 fn next_of_control<'a>(line: Taken<'a>, plan: &mut Plan) -> Option<Event<&'a [u8]>>
     requires short { length line.text.now ≤ LINE }
@@ -142,17 +171,27 @@ fn next_of_control<'a>(line: Taken<'a>, plan: &mut Plan) -> Option<Event<&'a [u8
     ensures stands { StandsIn (line_seen line.entry) plan.new.words }
     ensures events { TakesNext (plan_events (line_seen line.entry) plan.old) result (plan_events (line_seen line.entry) plan.new) }
 {
-    if let Some(event) = plan.front.next(line) {
-        return Some(event);
+    if !plan.ends {
+        return None;
     }
-    if let Some(event) = next_of_words(line, &mut plan.words) {
-        return Some(event);
+    if !plan.front.is_over() {
+        return next_of_any(line, plan);
     }
-    if plan.ends {
+    if let Some(font) = plan.words.plain_font() {
+        if let Some(word) = plan.words.read_plain(line, font) {
+            return Some(printed_word(line.line, font, word));
+        }
+        if plan.words.left.cursor.is_at_end(line.text) {
+            plan.ends = false;
+            return Some(event_at(line.line, 1, Deed::End { fills: true }));
+        }
+        if let Some(event) = next_after_words(line, &mut plan.words) {
+            return Some(event);
+        }
         plan.ends = false;
         return Some(event_at(line.line, 1, Deed::End { fills: true }));
     }
-    None
+    next_of_any(line, plan)
 }
 
 /// The next event of a line.

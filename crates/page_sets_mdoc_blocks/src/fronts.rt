@@ -1,6 +1,6 @@
 //! What a macro that begins a line does before its words, event by event (mdoc(7), "MACRO REFERENCE").
 
-ghost use Rattle.std.specs.Prelude.{◌≡◌, ◌≤◌, [], ◌∷◌, length, true, option_map, unwrap_or};
+ghost use Rattle.std.specs.Prelude.{◌≡◌, ◌≤◌, [], ◌∷◌, length, true, option_map, unwrap_or, MatchBool};
 ghost use Rattle.page_core_base.specs.LinesTaken.{Line, line_seen};
 ghost use Rattle.page_sets_lines.specs.Events.{event_seen, deed_seen, block_opener_seen, block_closer_seen, TakesNext};
 ghost use Rattle.page_sets_lines.specs.declared.events.Deed.TheVariants as deeds;
@@ -353,6 +353,17 @@ impl Front {
             LineMacro::Target => Front::quoting(FrontDeed::Nothing, line),
             _ => Front::nothing(),
         }
+    }
+
+    /// Whether nothing more comes before the words. Most macros do nothing there.
+    #[inline(always)]
+    pub fn is_over(&self) -> bool
+        ensures { MatchBool result ((line : Line) → front_events line self.now ≡ []) (Unit {0}) }
+    {
+        self.quote.is_none()
+            && self.note.is_none()
+            && matches!(self.deed, FrontDeed::Nothing)
+            && self.scope.is_none()
     }
 
     /// The next event before the words of a line, if there is one more.

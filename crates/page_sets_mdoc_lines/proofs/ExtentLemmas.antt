@@ -1,12 +1,19 @@
 -- A macro's own words, found in one pass: helpers of proofs.
-use Rattle.std.proofs.Common.{◌≡◌, ℕ, ◌+◌, ◌-◌, ◌==◌, Bool, true, false, ◌&&◌, ◌||◌, List, [], ◌∷◌, Option, None, Some, length, refl, sym, ap, ◌∙◌, arith, inl, inr, if◌then◌else◌}
-use Rattle.std.specs.List.{list_all, list_any}
-use Rattle.std.proofs.lemmas.Bool.{cases_Bool}
+use Rattle.std.proofs.Common.{◌≡◌, ℕ, ◌+◌, ◌-◌, ◌==◌, Bool, true, false, ◌&&◌, ◌||◌, not, List, [], ◌∷◌, Option, None, Some, option_map, length, refl, sym, ap, ◌∙◌, arith, inl, inr, if◌then◌else◌}
+use Rattle.std.specs.List.{find, list_all, list_any}
+use Rattle.std.specs.Str.{bytes_eq}
+use Rattle.std.proofs.lemmas.Bool.{cases_Bool, and_parts, cond-false, both_ways}
+use Rattle.std.proofs.lemmas.Slice.Eq.{bytes_eq-Decides}
 use Rattle.std.proofs.lemmas.Bool.Decides.{nat_tests}
 use Rattle.page_roff_forms.specs.declared.quotes.Argument.{Argument}
+use Rattle.page_roff_forms.specs.Arguments.{is_quoted}
 use Rattle.page_sets_mdoc_rows.specs.declared.macros.Inline.{Inline}
 use Rattle.page_sets_mdoc_lines.specs.declared.extents.Extent.{Extent}
-use Rattle.page_sets_mdoc_lines.specs.LineWords.{word_call, is_closing, is_real}
+use Rattle.page_sets_mdoc_rows.specs.Rows.{called, called_of, looks_inline}
+use Rattle.page_sets_mdoc_rows.specs.Delimiters.{delimiters, delimiter_of}
+use Rattle.page_sets_mdoc_rows.specs.declared.delimiters.Delimiter.{Delimiter}
+use Rattle.page_sets_mdoc_rows.proofs.OtherNames.{no_inline_row}
+use Rattle.page_sets_mdoc_lines.specs.LineWords.{word_call, word_delimiter, closes, is_nothing, is_closing, is_real}
 use Rattle.page_sets_mdoc_lines.specs.Parts.{LineParts, parts, part_first, if_parsed, is_call, is_something, front_len, has_calls, extent_of}
 
 closing_by : (closing others : Bool) (n : ℕ) → others ≡ (n == 0) → (closing && others) ≡ ((if (n == 0) && closing then 0 else 1 + n) == 0)
@@ -173,40 +180,99 @@ pub follows_is : (closing call real : Argument (List ℕ) → Bool) (arguments :
     → (extent_from closing call real no_words arguments).follows ≡ calls_follow closing call arguments
 follows_is closing call real arguments = follows_from closing call real arguments no_words refl
 
+-- ---- one pass, which sees only at its end that the delimiters read last are those at the line's end
+
+-- without the closing delimiters at the end of its words
+abbrev pub cut_words : Extent → Extent
+cut_words extent = record extent { words = extent.inside }
+
+abbrev pub passed : (Argument (List ℕ) → Bool) → (Argument (List ℕ) → Bool) → (Argument (List ℕ) → Bool) → Extent → List (Argument (List ℕ)) → Extent
+passed closing call real extent [] = cut_words extent
+passed closing call real extent (argument ∷ arguments) =
+    if call argument then record extent { follows = true }
+    else passed closing call real (one_word extent (closing argument) (real argument)) arguments
+
+-- a closing delimiter calls nothing, and is no word of its own
+pub record AreApart (closing call real : Argument (List ℕ) → Bool) : Type 0 where
+  pub no_call : (argument : Argument (List ℕ)) → closing argument ≡ true → call argument ≡ false
+  pub no_real : (argument : Argument (List ℕ)) → closing argument ≡ true → real argument ≡ false
+
+stopped : (closing call real : Argument (List ℕ) → Bool) (arguments : List (Argument (List ℕ))) (extent : Extent)
+    → list_all closing arguments ≡ true → extent_from closing call real extent arguments ≡ extent
+stopped closing call real [] extent h = refl
+stopped closing call real (argument ∷ arguments) extent h = rw h refl
+
+cut_again : (extent : Extent) (real : Bool) → real ≡ false → cut_words (one_word extent true real) ≡ cut_words extent
+cut_again extent real r = rw (r, sym (or_none extent.has_real)) refl
+
+-- where all that is left closes
+passed_tail : (closing call real : Argument (List ℕ) → Bool) (arguments : List (Argument (List ℕ))) (extent : Extent) → AreApart closing call real
+    → list_all closing arguments ≡ true → passed closing call real extent arguments ≡ cut_words extent
+passed_tail closing call real [] extent apart h = refl
+passed_tail closing call real (argument ∷ arguments) extent apart h =
+    let parts = and_parts (closing argument) (list_all closing arguments) h in
+    let s : call argument ≡ false = apart.no_call argument parts.0 in
+    let r : real argument ≡ false = apart.no_real argument parts.0 in
+    let more = passed_tail closing call real arguments (one_word extent true (real argument)) apart parts.1 in
+    rw (s, parts.0) (more ∙ cut_again extent (real argument) r)
+
+and_false : (a b : Bool) → (a && b) ≡ false → b ≡ true → a ≡ false
+and_false true true h e = h
+and_false true false h e = sym e
+and_false false b h e = refl
+
+passed_word : (closing call real : Argument (List ℕ) → Bool) (argument : Argument (List ℕ)) (arguments : List (Argument (List ℕ))) (extent : Extent)
+    → AreApart closing call real → (closing argument && list_all closing arguments) ≡ false
+    → (list_all closing arguments ≡ false
+    → passed closing call real (one_word extent (closing argument) (real argument)) arguments
+    ≡ extent_from closing call real (one_word extent (closing argument) (real argument)) arguments)
+    → passed closing call real (one_word extent (closing argument) (real argument)) arguments
+    ≡ extent_from closing call real (one_word extent (closing argument) (real argument)) arguments
+passed_word closing call real argument arguments extent apart h more =
+    elim (cases_Bool (list_all closing arguments)) [
+      | inl t ↦
+          let c : closing argument ≡ false = and_false (closing argument) (list_all closing arguments) h t in
+          let last = one_word extent (closing argument) (real argument) in
+          let cut : cut_words last ≡ last = rw c refl in
+          passed_tail closing call real arguments last apart t ∙ cut ∙ sym (stopped closing call real arguments last t)
+      | inr t ↦ more t
+    ]
+
+passed_from : (closing call real : Argument (List ℕ) → Bool) (arguments : List (Argument (List ℕ))) (extent : Extent) → AreApart closing call real
+    → list_all closing arguments ≡ false → passed closing call real extent arguments ≡ extent_from closing call real extent arguments
+passed_from closing call real [] extent apart h = absurd (both_ways true h refl)
+passed_from closing call real (argument ∷ arguments) extent apart h =
+    elim (cases_Bool (call argument)) [
+      | inl s ↦ rw (h, s) refl
+      | inr s ↦
+          rw (h, s) (passed_word closing call real argument arguments extent apart h
+          (λ (t : list_all closing arguments ≡ false).
+          passed_from closing call real arguments (one_word extent (closing argument) (real argument)) apart t))
+    ]
+
+pub passed_is : (closing call real : Argument (List ℕ) → Bool) (arguments : List (Argument (List ℕ))) → AreApart closing call real
+    → passed closing call real no_words arguments ≡ extent_from closing call real no_words arguments
+passed_is closing call real arguments apart =
+    elim (cases_Bool (list_all closing arguments)) [
+      | inl t ↦ passed_tail closing call real arguments no_words apart t ∙ sym (stopped closing call real arguments no_words t)
+      | inr t ↦ passed_from closing call real arguments no_words apart t
+    ]
+
 -- ---- one step of the pass
 
-zero_test : (n : ℕ) → n ≡ 0 → (n == 0) ≡ true
-zero_test n h = grind (arith, nat_tests)
+pub call_passed : (closing call real : Argument (List ℕ) → Bool) (argument : Argument (List ℕ)) (arguments : List (Argument (List ℕ))) (extent : Extent)
+    → call argument ≡ true → passed closing call real extent (argument ∷ arguments) ≡ record extent { follows = true }
+call_passed closing call real argument arguments extent s = rw s refl
 
-some_test : (n : ℕ) → (n ≡ 0 → ⊥) → (n == 0) ≡ false
-some_test n h = grind (arith, nat_tests)
-
-pub stopped : (closing call real : Argument (List ℕ) → Bool) (arguments : List (Argument (List ℕ))) (extent : Extent)
-    → front_len closing arguments ≡ 0 → extent_from closing call real extent arguments ≡ extent
-stopped closing call real [] extent h = refl
-stopped closing call real (argument ∷ arguments) extent h =
-    let t : list_all closing (argument ∷ arguments) ≡ true = all_closing closing (argument ∷ arguments) ∙ zero_test (front_len closing (argument ∷ arguments)) h in
-    rw t refl
-
-pub call_found : (closing call real : Argument (List ℕ) → Bool) (argument : Argument (List ℕ)) (arguments : List (Argument (List ℕ))) (extent : Extent)
-    → (front_len closing (argument ∷ arguments) ≡ 0 → ⊥) → call argument ≡ true
-    → extent_from closing call real extent (argument ∷ arguments) ≡ record extent { follows = true }
-call_found closing call real argument arguments extent h s =
-    let t : list_all closing (argument ∷ arguments) ≡ false = all_closing closing (argument ∷ arguments) ∙ some_test (front_len closing (argument ∷ arguments)) h in
-    rw (t, s) refl
-
-pub went_on : (closing call real : Argument (List ℕ) → Bool) (argument : Argument (List ℕ)) (arguments : List (Argument (List ℕ))) (extent : Extent)
-    → (front_len closing (argument ∷ arguments) ≡ 0 → ⊥) → call argument ≡ false
-    → extent_from closing call real extent (argument ∷ arguments)
-    ≡ extent_from closing call real (one_word extent (closing argument) (real argument)) arguments
-went_on closing call real argument arguments extent h s =
-    let t : list_all closing (argument ∷ arguments) ≡ false = all_closing closing (argument ∷ arguments) ∙ some_test (front_len closing (argument ∷ arguments)) h in
-    rw (t, s) refl
+pub word_passed : (closing call real : Argument (List ℕ) → Bool) (argument : Argument (List ℕ)) (arguments : List (Argument (List ℕ))) (extent : Extent)
+    → call argument ≡ false
+    → passed closing call real extent (argument ∷ arguments) ≡ passed closing call real (one_word extent (closing argument) (real argument)) arguments
+word_passed closing call real argument arguments extent s = rw s refl
 
 -- what a turn makes of the numbers is one word more
 pub one_more : (closing real : Bool) (extent middle last : Extent)
-    → middle ≡ (if closing then record extent { words = extent.words + 1 } else record extent { words = extent.words + 1; inside = extent.words + 1 })
-    → last ≡ (if real then record middle { has_real = true } else middle) → last ≡ one_word extent closing real
+    → middle ≡ (if closing then extent else record extent { inside = extent.words + 1 })
+    → last ≡ (if real then record middle { has_real = true } else middle) → record last { words = last.words + 1 } ≡ one_word extent closing real
 one_more true true extent middle last e f = rw (f, e, or_some extent.has_real) refl
 one_more true false extent middle last e f = rw (f, e, sym (or_none extent.has_real)) refl
 one_more false true extent middle last e f = rw (f, e, or_some extent.has_real) refl
@@ -256,3 +322,53 @@ extent_is parsed arguments =
     (inside_is is_closing (is_call parsed) is_real arguments ∙ ap (λ words. front_len is_closing words) own.0)
     (real_is is_closing (is_call parsed) is_real arguments ∙ ap (λ words. list_any is_real words) own.0)
     (follows_is is_closing (is_call parsed) is_real arguments ∙ own.1)
+
+-- ---- closing delimiters call nothing
+
+not_found : {A : Type 0} (p : List ℕ → Bool) (rows : List (List ℕ × A)) (name : List ℕ)
+    → list_all (λ row. p row.0) rows ≡ true → p name ≡ false → find (λ row. bytes_eq name row.0) rows ≡ None
+not_found p [] name all other = refl
+not_found p (row ∷ rows) name all other =
+    let parts = and_parts (p row.0) (list_all (λ row. p row.0) rows) all in
+    elim (cases_Bool (bytes_eq name row.0)) [
+      | inl same ↦ absurd (both_ways _ other (ap p ((bytes_eq-Decides name row.0).0 same) ∙ parts.0))
+      | inr differs ↦ cond-false _ _ _ differs ∙ not_found p rows name parts.1 other
+    ]
+
+no_delimiter : (name : List ℕ) → looks_inline name ≡ true → delimiter_of name ≡ None
+unfolding delimiter_of
+no_delimiter name looks =
+    let other : not (looks_inline name) ≡ false = rw looks refl in
+    ap (option_map (λ row. row.1)) (not_found (λ n. not (looks_inline n)) delimiters name refl other)
+
+-- a delimiter that closes is no name of a macro
+no_name : (name : List ℕ) → closes (delimiter_of name) ≡ true → called name ≡ None
+no_name name h =
+    elim (cases_Bool (looks_inline name)) [
+      | inl t ↦ absurd (both_ways _ (ap closes (no_delimiter name t)) h)
+      | inr t ↦ ap called_of (no_inline_row name t)
+    ]
+
+no_call_by : (quoted : Bool) (text : List ℕ) → closes (if quoted then None else delimiter_of text) ≡ true
+    → (if quoted then None else called text) ≡ None
+no_call_by true text h = refl
+no_call_by false text h = no_name text h
+
+closing_calls : (parsed : Bool) (word : Argument (List ℕ)) → is_closing word ≡ true → is_call parsed word ≡ false
+unfolding is_closing word_delimiter word_call
+closing_calls true word h = ap is_something (no_call_by (is_quoted word.quoting) word.text h)
+closing_calls false word h = refl
+
+real_by : (delimiter : Option Delimiter) → closes delimiter ≡ true → is_nothing delimiter ≡ false
+real_by None h = sym h
+real_by (Some delimiter) h = refl
+
+closing_real : (word : Argument (List ℕ)) → is_closing word ≡ true → is_real word ≡ false
+unfolding is_closing is_real
+closing_real word h = real_by (word_delimiter word) h
+
+pub pass_is : (parsed : Bool) (arguments : List (Argument (List ℕ)))
+    → passed is_closing (is_call parsed) is_real no_words arguments ≡ extent_of (parts None parsed arguments)
+pass_is parsed arguments =
+    passed_is is_closing (is_call parsed) is_real arguments (record { no_call = closing_calls parsed; no_real = closing_real })
+    ∙ extent_is parsed arguments

@@ -4,13 +4,11 @@ use Rattle.std.specs.Borrow.{Bor}
 use Rattle.page_roff_forms.specs.declared.quotes.Argument.{Argument}
 use Rattle.page_roff_forms.specs.Arguments.{argument_seen}
 use Rattle.page_sets_mdoc_lines.specs.declared.cursors.Cursor.{Cursor}
-use Rattle.page_sets_mdoc_lines.specs.LineWords.{arguments_after, is_closing}
-use Rattle.page_sets_mdoc_lines.specs.Parts.{front_len}
+use Rattle.page_sets_mdoc_lines.specs.LineWords.{arguments_after}
 
--- it stands in the line, and knows how many of the arguments that are left come before the delimiters at the end
+-- it stands in the line
 abbrev pub IsCursorOf : List ℕ → Cursor → Type 0
-IsCursorOf text cursor =
-    (cursor.rest ≤ length text) × (cursor.front ≡ front_len is_closing (arguments_after cursor.rest text))
+IsCursorOf text cursor = cursor.rest ≤ length text
 
 -- the first argument that begins after this many bytes, if there is one, and after how many bytes the others begin
 abbrev pub ReadsAfter : ℕ → List ℕ → Option (Argument (Bor (List ℕ)) × ℕ) → Type 0

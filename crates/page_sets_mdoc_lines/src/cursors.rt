@@ -1,40 +1,19 @@
 //! How far a line has been read (mdoc(7), "MACRO SYNTAX").
 
-ghost use Rattle.std.specs.Prelude.{◌≡◌, ◌≤◌, ℕ, List, length};
+ghost use Rattle.std.specs.Prelude.{◌≡◌, ◌≤◌, [], length, MatchBool};
 ghost use Rattle.std.specs.List.{list_all};
 ghost use Rattle.page_roff_forms.specs.Arguments.{ReadsNext};
 ghost use Rattle.page_sets_mdoc_lines.specs.LineWords.{arguments_after, is_closing};
-ghost use Rattle.page_sets_mdoc_lines.specs.Parts.{front_len};
 ghost use Rattle.page_sets_mdoc_lines.specs.Cursors.{IsCursorOf, ReadsAfter};
 
 use crate::line_words::is_closing;
 use page_core_limits::LINE;
 use page_roff_forms::{Argument, Arguments, read_argument};
 
-/// Where the arguments of a line begin that are still to be read, in bytes, and how many of them come before the
-/// closing delimiters at its end.
+/// Where the arguments of a line begin that are still to be read, in bytes.
 #[derive(Clone, Copy)]
 pub struct Cursor {
     pub rest: usize,
-    pub front: u32,
-}
-
-// How many of the arguments after this many bytes come before the closing delimiters at the line's end.
-fn front_len(text: &[u8], start: usize) -> u32
-    requires short { length text.now ≤ LINE }
-    requires within { start ≤ length text.now }
-    ensures { result ≡ front_len is_closing (arguments_after start text.now) }
-{
-    let mut arguments = Arguments::new(&text[start..], start as u32 + 1);
-    let mut count = 0;
-    let mut front = 0;
-    while let Some(argument) = arguments.next_argument() {
-        count += 1;
-        if !is_closing(argument) {
-            front = count;
-        }
-    }
-    front
 }
 
 // Reads the first argument that begins after this many bytes, and says after how many the others begin.
@@ -56,34 +35,42 @@ impl Cursor {
         ensures stands { IsCursorOf text.now result }
         ensures start { result.rest ≡ start }
     {
-        Cursor {
-            rest: start,
-            front: front_len(text, start),
-        }
+        Cursor { rest: start }
     }
 
     /// A cursor at the line's end, for a macro whose arguments are no words.
-    #[tactic(auto, using(crate::proofs::CursorLemmas::at_end))]
     pub fn at_end(text: &[u8]) -> Cursor
         ensures stands { IsCursorOf text.now result }
         ensures start { result.rest ≡ length text.now }
     {
-        Cursor {
-            rest: text.len(),
-            front: 0,
-        }
+        Cursor { rest: text.len() }
     }
 
-    /// Whether all that is left are closing delimiters.
-    #[tactic(auto, using(crate::proofs::CursorLemmas::is_in_tail))]
-    pub fn is_in_tail(self) -> bool
-        ensures { (text : List ℕ) → IsCursorOf text self → result ≡ list_all is_closing (arguments_after self.rest text) }
+    /// Whether all that is left are closing delimiters. It reads up to the first that is none.
+    pub fn is_in_tail(self, text: &[u8]) -> bool
+        requires short { length text.now ≤ LINE }
+        requires within { IsCursorOf text.now self }
+        ensures { result ≡ list_all is_closing (arguments_after self.rest text.now) }
     {
-        self.front == 0
+        let mut arguments = Arguments::new(&text[self.rest..], self.rest as u32 + 1);
+        while let Some(argument) = arguments.next_argument() {
+            if !is_closing(argument) {
+                return false;
+            }
+        }
+        true
+    }
+
+    /// Whether it stands at the end of the line's text. Then no argument is left; where blanks end the text, none may be left before
+    /// its end either.
+    #[tactic(auto, using(crate::proofs::CursorLemmas::none_at))]
+    pub fn is_at_end(self, text: &[u8]) -> bool
+        ensures { MatchBool result (arguments_after self.rest text.now ≡ []) (Unit {0}) }
+    {
+        self.rest == text.len()
     }
 
     /// Reads the next argument, if there is one more. Nothing else moves a cursor.
-    #[tactic(auto, using(crate::proofs::CursorLemmas::one_further))]
     pub fn read<'a>(&mut self, text: &'a [u8]) -> Option<Argument<&'a [u8]>>
         requires short { length text.now ≤ LINE }
         requires within { IsCursorOf text.now self.old }
@@ -92,7 +79,6 @@ impl Cursor {
     {
         let (argument, rest) = read_after(text, self.rest)?;
         self.rest = rest;
-        self.front = self.front.saturating_sub(1);
         Some(argument)
     }
 }

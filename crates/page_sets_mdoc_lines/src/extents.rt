@@ -32,14 +32,13 @@ fn is_call(argument: Argument<&[u8]>, parsed: bool) -> bool
 }
 
 /// Finds the extent of the words that a macro has from where a line has been read on, in one pass over them. In a line
-/// that is not parsed no word calls.
+/// that is not parsed no word calls. Where none does, the closing delimiters at the end are the line's.
 pub fn find_extent(text: &[u8], cursor: Cursor, parsed: bool) -> Extent
     requires short { length text.now ≤ LINE }
     requires within { IsCursorOf text.now cursor }
     ensures { result ≡ extent_of (parts None parsed (arguments_after cursor.rest text.now)) }
 {
     let mut arguments = Arguments::new(&text[cursor.rest..], cursor.rest as u32 + 1);
-    let mut left = cursor.front;
     let mut extent = Extent {
         words: 0,
         inside: 0,
@@ -47,21 +46,18 @@ pub fn find_extent(text: &[u8], cursor: Cursor, parsed: bool) -> Extent
         follows: false,
     };
     while let Some(argument) = arguments.next_argument() {
-        if left == 0 {
-            return extent;
-        }
         if is_call(argument, parsed) {
             extent.follows = true;
             return extent;
         }
-        extent.words += 1;
         if !is_closing(argument) {
-            extent.inside = extent.words;
+            extent.inside = extent.words + 1;
         }
         if is_real(argument) {
             extent.has_real = true;
         }
-        left -= 1;
+        extent.words += 1;
     }
+    extent.words = extent.inside;
     extent
 }

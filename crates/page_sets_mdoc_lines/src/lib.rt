@@ -11,4 +11,4 @@ mod line_words;
 pub use cursors::Cursor;
 pub use extents::{Extent, find_extent};
 pub use laws::{few_law, front_law, parts_law};
-pub use line_words::{is_closing, is_real, takes_next, word_call, word_delimiter};
+pub use line_words::{is_closing, is_real, may_take, takes_next, word_call, word_delimiter};

@@ -1,7 +1,8 @@
 //! What a word of a line is: a delimiter, a call of a macro, or what a macro takes as it stands (mdoc(7), "MACRO
 //! SYNTAX").
 
-ghost use Rattle.std.specs.Prelude.{◌≡◌};
+ghost use Rattle.std.specs.Prelude.{◌≡◌, ℕ, List, false, MatchBool};
+ghost use Rattle.page_roff_forms.specs.declared.quotes.Argument.{Argument};
 ghost use Rattle.page_roff_forms.specs.Arguments.{argument_seen};
 ghost use Rattle.page_sets_mdoc_lines.specs.LineWords as words;
 
@@ -9,6 +10,7 @@ use page_roff_forms::Argument;
 use page_sets_mdoc_rows::{Delimiter, Inline, Pair, called, delimiter_of};
 
 /// The delimiter that a word is, if it is one; a word with quotes is none.
+#[inline(always)]
 #[tactic(auto, unfolding(crate::specs::LineWords::word_delimiter))]
 pub fn word_delimiter(word: Argument<&[u8]>) -> Option<Delimiter>
     ensures { result ≡ words.word_delimiter (argument_seen word.entry) }
@@ -31,6 +33,7 @@ pub fn word_call(name: Argument<&[u8]>) -> Option<Inline>
 }
 
 /// Whether a word is a closing delimiter.
+#[inline(always)]
 #[tactic(auto, unfolding(crate::specs::LineWords::is_closing))]
 pub fn is_closing(word: Argument<&[u8]>) -> bool
     ensures { result ≡ words.is_closing (argument_seen word.entry) }
@@ -39,6 +42,7 @@ pub fn is_closing(word: Argument<&[u8]>) -> bool
 }
 
 /// Whether a word is no delimiter.
+#[inline(always)]
 #[tactic(auto, unfolding(crate::specs::LineWords::is_real))]
 pub fn is_real(word: Argument<&[u8]>) -> bool
     ensures { result ≡ words.is_real (argument_seen word.entry) }
@@ -54,6 +58,17 @@ fn takes_mark(pair: Pair, word: Argument<&[u8]>) -> bool
         Pair::Custom => word_call(word).is_none(),
         Pair::Quotation(_) | Pair::Function | Pair::Extension => false,
     }
+}
+
+/// Whether a macro is one of those that may take the word after it as it stands. Few are.
+#[tactic(auto, unfolding(crate::specs::LineWords::takes_next))]
+pub fn may_take(inline: Inline) -> bool
+    ensures { MatchBool result (Unit {0}) ((word : Argument (List ℕ)) → words.takes_next inline word ≡ false) }
+{
+    matches!(
+        inline,
+        Inline::Prefix | Inline::Author | Inline::Opens(Pair::Custom) | Inline::Closes(Pair::Custom)
+    )
 }
 
 /// Whether a macro takes the word after it as it stands: `Pf` any word, `Eo` and `Ec` one that names no macro, `An`

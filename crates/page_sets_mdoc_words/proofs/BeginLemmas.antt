@@ -214,3 +214,9 @@ placed_right first line column len count inline parsed taken extent step before 
     (before_words first inline (list_any is_real (parts (Some inline) parsed arguments).words))
     (after_words first inline (list_any is_real (parts (Some inline) parsed arguments).words)) events)
     (begins_right line column len count inline parsed taken extent step arguments others t o e s n))
+
+-- a macro that takes no word as it stands
+pub takes_none : (inline : Inline) (arguments : List (Argument (List ℕ))) → ((word : Argument (List ℕ)) → takes_next inline word ≡ false)
+    → (false ≡ takes_first inline arguments) × (arguments ≡ after_first inline arguments)
+takes_none inline [] none = (refl, refl)
+takes_none inline (word ∷ words) none = rw (none word) (refl, refl)

@@ -6,6 +6,7 @@ use Rattle.page_core_base.specs.declared.cells.Font.{Font}
 use Rattle.page_core_base.specs.declared.cells.Font.TheVariants.{R, B, I}
 use Rattle.page_core_base.specs.LinesTaken.{Line, line_seen}
 use Rattle.page_roff_forms.specs.declared.quotes.Argument.{Argument}
+use Rattle.page_roff_forms.specs.Arguments.{argument_seen}
 use Rattle.page_sets_mdoc_words.specs.declared.fronts.WordBlock.{WordBlock}
 use Rattle.page_sets_mdoc_words.specs.declared.fronts.WordBlock.TheVariants as blocks
 use Rattle.page_sets_lines.specs.declared.blocks.BlockOpener.{BlockOpener}
@@ -277,6 +278,16 @@ TakesAfter line old result new =
 -- all words were read once no event is left
 abbrev pub EndsWith : Option (Event (Bor (List ℕ))) → MacroWords → Type 0
 EndsWith result new = MatchOption result (new.left.count ≡ 0) (λ event. Unit {0})
+
+-- words that are printed as they are, with nothing before them and nothing after them
+abbrev pub IsPlain : Option Font → MacroWords → Type 0
+IsPlain font words = (words.step ≡ steps.Printed font) × (words.before ≡ None) × (words.after ≡ None)
+
+-- the first of them is read, if there is one
+abbrev pub ReadsPlain : Line → Option Font → MacroWords → Option (Argument (Bor (List ℕ))) → MacroWords → Type 0
+ReadsPlain line font old result new =
+    MatchOption result ((macro_words_events line old ≡ []) × (macro_words_events line new ≡ []) × (new.left.count ≡ 0))
+    (λ word. macro_words_events line old ≡ printed_word line.number font (argument_seen word) ∷ macro_words_events line new)
 
 -- ---- the first step of a macro
 

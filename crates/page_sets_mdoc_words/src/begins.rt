@@ -23,7 +23,7 @@ use crate::taken_words::Taker;
 use crate::words_left::WordsLeft;
 use page_core_base::{Font, Taken};
 use page_core_limits::LINE;
-use page_sets_mdoc_lines::{Cursor, Extent, find_extent, takes_next};
+use page_sets_mdoc_lines::{Cursor, Extent, find_extent, may_take, takes_next};
 use page_sets_mdoc_rows::{Inline, Pair};
 
 // The step of a macro that is refused where all its words are delimiters.
@@ -138,11 +138,15 @@ fn count_of(words: u32, taken: bool) -> usize
 }
 
 // Whether a macro takes the word that comes next, and how far its line is then read.
+#[tactic(auto, using(crate::proofs::BeginLemmas::takes_none))]
 fn take_word(text: &[u8], inline: Inline, cursor: Cursor) -> (bool, Cursor)
     requires short { length text.now ≤ LINE }
     requires within { IsCursorOf text.now cursor }
     ensures { TakesWord text.now inline cursor result }
 {
+    if !may_take(inline) {
+        return (false, cursor);
+    }
     let mut ahead = cursor;
     match ahead.read(text) {
         Some(word) if takes_next(inline, word) => (true, ahead),

@@ -1,11 +1,11 @@
 //! The events of a macro's words, one after another (mdoc(7), "MACRO REFERENCE").
 
-ghost use Rattle.std.specs.Prelude.{◌≤◌, length};
+ghost use Rattle.std.specs.Prelude.{◌≤◌, length, MatchOption};
 ghost use Rattle.page_core_base.specs.LinesTaken.{line_seen};
 ghost use Rattle.page_sets_lines.specs.Events.{TakesNext};
 ghost use Rattle.page_sets_mdoc_lines.specs.Cursors.{IsCursorOf};
 ghost use Rattle.page_sets_mdoc_words.specs.declared.steps.Step.TheVariants as steps;
-ghost use Rattle.page_sets_mdoc_words.specs.Steps.{StepsOn, macro_words_events, EndsWith, TakesAfter};
+ghost use Rattle.page_sets_mdoc_words.specs.Steps.{StepsOn, macro_words_events, EndsWith, TakesAfter, IsPlain, ReadsPlain};
 ghost use Rattle.page_sets_mdoc_words.specs.WordsLeft.{GoesOn};
 
 use crate::arguments::{ArgumentStep, next_of_arguments};
@@ -23,6 +23,7 @@ use crate::taken_words::{Taker, next_option, next_taken};
 use crate::words_left::WordsLeft;
 use page_core_base::{Font, Taken};
 use page_core_limits::LINE;
+use page_roff_forms::Argument;
 use page_sets_lines::{Event, LineStep, SynopsisStep};
 use page_sets_mdoc_rows::Sentence;
 
@@ -146,7 +147,41 @@ impl MacroWords {
         Some(step_event(line.line, self.column, LineStep::Synopsis(step)))
     }
 
+    /// The font of words that are printed as they are, where the macro does nothing before them and nothing after them. Most
+    /// words are so.
+    #[inline(always)]
+    pub fn plain_font(&self) -> Option<Option<Font>>
+        ensures { MatchOption result (Unit {0}) (λ font. IsPlain font self.now) }
+    {
+        match self.step {
+            Step::Printed(font) if self.before.is_none() && self.after.is_none() => Some(font),
+            _ => None,
+        }
+    }
+
+    /// Reads the next of such words, if there is one more.
+    #[inline(always)]
+    #[tactic(auto, using(crate::proofs::WordLemmas::none_left, crate::proofs::WordLemmas::none_plain, crate::proofs::WordLemmas::some_plain))]
+    pub fn read_plain<'a>(
+        &mut self,
+        line: Taken<'a>,
+        font: Option<Font>,
+    ) -> Option<Argument<&'a [u8]>>
+        requires short { length line.text.now ≤ LINE }
+        requires within { IsCursorOf line.text.now self.old.left.cursor }
+        requires plain { IsPlain font self.old }
+        ensures goes { GoesOn line.entry.text.now self.old.left self.new.left }
+        ensures events { ReadsPlain (line_seen line.entry) font self.old result self.new }
+    {
+        if let Some(word) = self.left.read(line.text) {
+            return Some(word);
+        }
+        self.left.count = 0;
+        None
+    }
+
     /// The next event of a macro's words in their line, if there is one more.
+    #[inline(never)]
     #[tactic(auto, using(crate::proofs::WordLemmas::none_left, crate::proofs::WordLemmas::first_followed))]
     pub fn next<'a>(&mut self, line: Taken<'a>) -> Option<Event<&'a [u8]>>
         requires short { length line.text.now ≤ LINE }
