@@ -16,7 +16,6 @@ mod words;
 
 use endings::Ending;
 use failing::Whole;
-use page_core_base::Level;
 use page_engine::Outcome;
 use pages::run_lines;
 use roffs::run_roff;
@@ -91,7 +90,10 @@ fn show_ending(rt: &HostRuntime, ending: Ending) -> io::Result<()> {
 }
 
 fn show_outcome(rt: &HostRuntime, outcome: Outcome) -> io::Result<()> {
-    let worst = outcome.worst.map_or("none", Level::name);
+    let worst = match outcome.worst {
+        Some(level) => level.name(),
+        None => "none",
+    };
     let counts = outcome.counts;
     println!(rt;
         "-- source {} taken {} expansions {} worst {worst}",

@@ -83,8 +83,12 @@ pub(crate) fn end_roff<N: NoteSink>(roff: &mut Roff, notes: &mut N) -> Result<()
 
 // ---- what is below roff
 
-// The scopes before the first line; nothing is said of their state.
-fn new_scopes<S: MacroSet>(alloc: Global, settings: &Settings, set: &S) -> Result<Scopes, Fault> {
+/// The scopes before the first line; nothing is said of their state.
+pub(crate) fn new_scopes<S: MacroSet>(
+    alloc: Global,
+    settings: &Settings,
+    set: &S,
+) -> Result<Scopes, Fault> {
     Scopes::new(alloc, settings, set)
 }
 

@@ -1,16 +1,14 @@
 //! Whole pages: by hand from all layers, and line by line through the engine's page; and what each of them needs of memory.
 
 use crate::checks::{all_messages, check, check_answer, check_counts, check_text, counts_of};
-use crate::hands::ByHand;
+use crate::hands::{ByHand, new_roff, new_scopes};
 use crate::lines::{FedPage, cut};
+use crate::sheets::new_filler;
 use crate::sinks::Notes;
 use crate::steps::{Step, check_steps};
-use crate::streams::Streamed;
+use crate::streams::{Streamed, new_page};
 use page_core::{Encoding, Fault, Level, SettingFault, Settings};
-use page_engine::Page;
-use page_fill::Filler;
-use page_roff::{Cutter, Roff};
-use page_scopes::Scopes;
+use page_roff::Cutter;
 use page_sets::{Either, MacroSet, Man, Mdoc};
 use std::process::Abort;
 use std::test::Fail;
@@ -374,10 +372,10 @@ fn check_made<T: Drop>(rt: &impl Abort, made: Result<T, Fault>, want: Result<(),
 fn each_is_made(rt: HostRuntime) {
     let settings = all_messages();
     check_made(&rt, Cutter::new(rt.alloc(), Encoding::Auto), Ok(()));
-    check_made(&rt, Roff::new(rt.alloc(), &settings), Ok(()));
-    check_made(&rt, Scopes::new(rt.alloc(), &settings, &Man), Ok(()));
-    check_made(&rt, Filler::new(rt.alloc(), &settings), Ok(()));
-    check_made(&rt, Page::new(rt.alloc(), settings), Ok(()));
+    check_made(&rt, new_roff(rt.alloc(), &settings), Ok(()));
+    check_made(&rt, new_scopes(rt.alloc(), &settings, &Man), Ok(()));
+    check_made(&rt, new_filler(rt.alloc(), &settings), Ok(()));
+    check_made(&rt, new_page(rt.alloc(), settings), Ok(()));
 }
 
 const REFUSED: &[(u32, Option<u32>, SettingFault)] = &[
@@ -393,7 +391,7 @@ fn check_refused<R: Abort + AllocGlobal>(rt: &R, cases: &[(u32, Option<u32>, Set
             indent: *indent,
             ..all_messages()
         };
-        let page = Page::new(rt.alloc(), settings);
+        let page = new_page(rt.alloc(), settings);
         check_made(rt, page, Err(Fault::Settings(*fault)));
     }
 }

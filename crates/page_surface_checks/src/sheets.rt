@@ -16,8 +16,8 @@ pub(crate) struct Sheet {
     has_failed: bool,
 }
 
-// A filler before the first piece. No caller here has to know its state, so that this says nothing of it: their proofs stay short.
-fn new_filler(alloc: Global, settings: &Settings) -> Result<Filler, Fault> {
+/// A filler before the first piece. No caller here has to know its state, so that this says nothing of it: their proofs stay short.
+pub(crate) fn new_filler(alloc: Global, settings: &Settings) -> Result<Filler, Fault> {
     Filler::new(alloc, settings)
 }
 

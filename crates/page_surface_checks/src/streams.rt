@@ -14,8 +14,8 @@ pub(crate) struct Streamed {
     notes: Notes,
 }
 
-// A page before its first line. No caller here has to know its state, so that this says nothing of it: their proofs stay short.
-fn new_page(alloc: Global, settings: Settings) -> Result<Page, Fault> {
+/// A page before its first line. No caller here has to know its state, so that this says nothing of it: their proofs stay short.
+pub(crate) fn new_page(alloc: Global, settings: Settings) -> Result<Page, Fault> {
     Page::new(alloc, settings)
 }
 
