@@ -7,7 +7,8 @@ use page_roff::Counts;
 use std::process::Abort;
 use std::test::Fail;
 
-/// A line; the rows so far, after it; how many scopes are open then, and how many cells the open row has; how many lines were taken, and how many interpolations made.
+/// A line; the rows so far, after it; how many scopes are open then, and how many cells the open row has; how many lines were taken, and how many
+/// interpolations made.
 pub(crate) struct Step {
     pub(crate) line: &'static str,
     pub(crate) rows: &'static str,
