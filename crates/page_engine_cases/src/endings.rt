@@ -1,9 +1,12 @@
 //! How a page ends whose lines come one by one.
+//!
+//! What takes its lines is a parameter here, so that the state of a page, or of roff, which is large, stands in few proofs.
 
-use crate::lines::{BYTES, Lines, PageFeed, fault_after};
-use crate::streams::Streams;
-use page_core_base::{Fault, Settings};
-use page_engine::{Outcome, Page};
+ghost use Rattle.std.specs.Prelude.{◌≡◌, ◌≤◌, length, false};
+
+use crate::lines::{BYTES, Feed, Lines};
+use page_core_base::Fault;
+use page_engine::Outcome;
 use std::alloc::{AllocError, Global};
 
 /// How a page ended.
@@ -18,49 +21,38 @@ pub(crate) struct Ending {
     pub(crate) has_memory: bool,
 }
 
-/// Feeds a page line by line. What is not the page's has its memory before the page is made, and wants more only after its end: so where an
-/// allocation is refused between the two, it is one of the page. Nothing, where that memory is refused.
-pub(crate) fn run_lines(
-    alloc: Global,
-    bytes: &[u8],
-    settings: &Settings,
-    streams: &mut Streams,
-) -> Option<Ending> {
-    if bytes.len() > BYTES {
-        return None;
-    }
-    let mut lines = Lines::new(alloc, settings.encoding)?;
-    let mut page = match Page::new(alloc, *settings) {
-        Ok(page) => page,
-        Err(fault) => return Some(Ending::without_page(fault)),
-    };
-    let mut feed = PageFeed {
-        page: &mut page,
-        streams,
-    };
-    let result = lines.feed_all(&mut feed, bytes);
-    let outcome = Outcome {
-        worst: page.worst(),
-        counts: page.counts(),
-    };
-    let later = fault_after(&mut page, streams);
-    let own: Result<Vec<u8>, AllocError> = Vec::with_capacity(alloc, 1);
-    Some(Ending {
-        result: result.map(|()| outcome),
-        later,
-        is_plain: lines.are_plain(),
-        has_memory: own.is_ok(),
-    })
-}
-
 impl Ending {
-    // The end where there is no page.
-    fn without_page(fault: Fault) -> Ending {
+    /// The end where there is nothing that takes lines.
+    pub(crate) fn without_lines(fault: Fault) -> Ending {
         Ending {
             result: Err(fault),
             later: None,
             is_plain: false,
             has_memory: true,
         }
+    }
+}
+
+/// Feeds all lines and the end of a page. What takes them was made last, and memory is wanted only after the end: so where an allocation is refused
+/// between the two, it is one of what takes the lines.
+pub(crate) fn run<F: Feed + Drop>(
+    alloc: Global,
+    bytes: &[u8],
+    mut lines: Lines,
+    mut feed: F,
+) -> Ending
+    requires short { length bytes.now ≤ BYTES }
+    requires ready { lines.cutter.ready ≡ false }
+    requires consumed { lines.cutter.point.line.consumed ≡ 0 }
+{
+    let result = lines.feed_all(&mut feed, bytes);
+    let outcome = feed.outcome();
+    let later = feed.later();
+    let own: Result<Vec<u8>, AllocError> = Vec::with_capacity(alloc, 1);
+    Ending {
+        result: result.map(|()| outcome),
+        later,
+        is_plain: lines.are_plain(),
+        has_memory: own.is_ok(),
     }
 }

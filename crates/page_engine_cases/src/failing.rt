@@ -1,7 +1,8 @@
 //! A page at once, and with each of its writes failing in turn.
 
-use crate::endings::run_lines;
+use crate::endings::Ending;
 use crate::lines::FILE;
+use crate::pages::run_lines;
 use crate::stores::{Fails, Store};
 use crate::streams::{Shows, Streams};
 use page_core_base::{Fault, Settings};
@@ -19,13 +20,24 @@ pub(crate) struct Whole {
     result: Result<Outcome, Fault>,
 }
 
+// Runs a whole page at once. No caller here has to know what is proved of that, so that this says nothing of it: their proofs stay short.
+fn run_whole(
+    alloc: Global,
+    bytes: &[u8],
+    rows: &mut Store,
+    messages: &mut Store,
+    settings: &Settings,
+) -> Result<Outcome, Fault> {
+    let mut reader = bytes;
+    run_page(alloc, &mut reader, rows, messages, FILE, settings)
+}
+
 impl Whole {
     /// A run over a page.
     pub(crate) fn new(alloc: Global, bytes: &[u8], settings: &Settings) -> Option<Whole> {
-        let mut reader = bytes;
         let mut rows = Store::new(alloc, 0, Fails::Never).ok()?;
         let mut messages = Store::new(alloc, 0, Fails::Never).ok()?;
-        let result = run_page(alloc, &mut reader, &mut rows, &mut messages, FILE, settings);
+        let result = run_whole(alloc, bytes, &mut rows, &mut messages, settings);
         Some(Whole {
             rows,
             messages,
@@ -76,14 +88,20 @@ impl Whole {
         let Some(mut streams) = Streams::new(alloc, 0, fails, Shows::Nothing) else {
             return false;
         };
-        let Some(ending) = run_lines(alloc, bytes, settings, &mut streams) else {
-            return false;
-        };
+        let ending = run_lines(alloc, bytes, settings, &mut streams);
+        match ending {
+            Some(ending) => self.is_met(&streams, ending),
+            None => false,
+        }
+    }
+
+    // Whether the page ended by the fault of the stream that failed, or as the run did.
+    fn is_met(&self, streams: &Streams, ending: Ending) -> bool {
         match (streams.fault(), ending.result) {
             (Some(failed), Err(fault)) => {
-                fault == failed && ending.later == Some(Fault::Failed) && self.begins_with(&streams)
+                fault == failed && ending.later == Some(Fault::Failed) && self.begins_with(streams)
             }
-            (None, other) => self.is(&streams, other) && ending.later == Some(Fault::Ended),
+            (None, other) => self.is(streams, other) && ending.later == Some(Fault::Ended),
             _ => false,
         }
     }

@@ -1,12 +1,11 @@
-//! A page whose logical lines come one by one.
+//! The logical lines of a page, one by one, and what takes them.
 
 ghost use Rattle.std.specs.Prelude.{◌≡◌, ◌+◌, ◌^◌, ◌<◌, length, false, true, OnOk, IfSome};
 ghost use Rattle.page_core_base.specs.Texts.{IsLine};
 
-use crate::streams::Streams;
 use page_core_base::{Encoding, Fault};
-use page_core_writers::{KeptNotes, TextNotes, TextRows};
-use page_engine::Page;
+use page_core_writers::KeptNotes;
+use page_engine::Outcome;
 use page_roff_lines::Cutter;
 use std::alloc::Global;
 
@@ -24,45 +23,12 @@ pub(crate) trait Feed {
 
     /// No more lines come.
     fn end(&mut self) -> Result<(), Fault>;
-}
 
-/// A page, and where its rows and messages go.
-#[derive(Drop)]
-pub(crate) struct PageFeed<'a, 'b> {
-    pub(crate) page: &'a mut Page,
-    pub(crate) streams: &'a mut Streams<'b>,
-}
+    /// What came of the lines.
+    fn outcome(&self) -> Outcome;
 
-impl Feed for PageFeed<'_, '_> {
-    fn line(&mut self, text: &[u8], number: u32) -> Result<(), Fault> {
-        feed_page(self.page, self.streams, text, number)
-    }
-
-    fn end(&mut self) -> Result<(), Fault> {
-        end_page(self.page, self.streams)
-    }
-}
-
-// Feeds a line to a page.
-fn feed_page(page: &mut Page, streams: &mut Streams, text: &[u8], number: u32) -> Result<(), Fault>
-    requires { IsLine text.now }
-{
-    page.feed_line(
-        text,
-        number,
-        &mut TextRows::new(&mut streams.rows),
-        &mut TextNotes::new(&mut streams.messages, FILE),
-    )?;
-    streams.show_line(number);
-    Ok(())
-}
-
-// Ends a page.
-fn end_page(page: &mut Page, streams: &mut Streams) -> Result<(), Fault> {
-    page.end(
-        &mut TextRows::new(&mut streams.rows),
-        &mut TextNotes::new(&mut streams.messages, FILE),
-    )
+    /// The fault of a further line and of a further end, where both have the same and nothing is written.
+    fn later(&mut self) -> Option<Fault>;
 }
 
 /// Cuts the bytes of a page into lines, with the messages of the cutting.
@@ -119,17 +85,5 @@ impl Lines {
             self.feed_line(feed)?;
         }
         feed.end()
-    }
-}
-
-/// The fault of a further line and of a further end, where both have the same and nothing is written.
-pub(crate) fn fault_after(page: &mut Page, streams: &mut Streams) -> Option<Fault> {
-    let calls = streams.calls();
-    let of_line = feed_page(page, streams, b".ZZ", 1).err()?;
-    let of_end = end_page(page, streams).err()?;
-    if of_line == of_end && calls == streams.calls() {
-        Some(of_end)
-    } else {
-        None
     }
 }

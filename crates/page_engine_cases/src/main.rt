@@ -8,15 +8,16 @@
 mod endings;
 mod failing;
 mod lines;
+mod pages;
 mod roffs;
 mod stores;
 mod streams;
 mod words;
 
-use endings::{Ending, run_lines};
+use endings::Ending;
 use failing::Whole;
-use page_core_base::Level;
 use page_engine::Outcome;
+use pages::run_lines;
 use roffs::run_roff;
 use std::io;
 use streams::{Shows, Streams};
@@ -56,17 +57,21 @@ fn show(rt: &HostRuntime, page: &[u8], words: Words) {
         Shows::Text(rt)
     };
     let fails = (words.rows, words.messages);
-    let Some(mut streams) = Streams::new(rt.alloc(), ROOM, fails, shows) else {
-        return;
-    };
-    let Some(ending) = run_lines(rt.alloc(), page, &words.settings, &mut streams) else {
+    if let Some(mut streams) = Streams::new(rt.alloc(), ROOM, fails, shows) {
+        show_page(rt, page, &words, &mut streams);
+    }
+}
+
+// Shows what a page gives to streams, and how it ends.
+fn show_page(rt: &HostRuntime, page: &[u8], words: &Words, streams: &mut Streams) {
+    let Some(ending) = run_lines(rt.alloc(), page, &words.settings, streams) else {
         return;
     };
     streams.show();
     let _ = show_ending(rt, ending);
     if words.are_well() {
-        show_roff(rt, page, &words, ending);
-        show_differences(rt, page, &words, &streams, ending);
+        show_roff(rt, page, words, ending);
+        show_differences(rt, page, words, streams, ending);
     }
 }
 
@@ -85,7 +90,10 @@ fn show_ending(rt: &HostRuntime, ending: Ending) -> io::Result<()> {
 }
 
 fn show_outcome(rt: &HostRuntime, outcome: Outcome) -> io::Result<()> {
-    let worst = outcome.worst.map_or("none", Level::name);
+    let worst = match outcome.worst {
+        Some(level) => level.name(),
+        None => "none",
+    };
     let counts = outcome.counts;
     println!(rt;
         "-- source {} taken {} expansions {} worst {worst}",
@@ -95,19 +103,27 @@ fn show_outcome(rt: &HostRuntime, outcome: Outcome) -> io::Result<()> {
 
 // Shows where roff alone counts something else of the page, or lacks memory.
 fn show_roff(rt: &HostRuntime, page: &[u8], words: &Words, ending: Ending) {
-    let Some(roff) = run_roff(rt.alloc(), page, &words.settings, ROOM) else {
-        let _ = println!(rt; "-- not by roff alone");
-        return;
+    let roff = run_roff(rt.alloc(), page, &words.settings, ROOM);
+    let _ = match roff {
+        Some(roff) => compare_roff(rt, roff, ending),
+        None => println!(rt; "-- not by roff alone"),
+    };
+}
+
+fn compare_roff(rt: &HostRuntime, roff: Ending, ending: Ending) -> io::Result<()> {
+    let Ok(by_roff) = roff.result else {
+        return println!(rt; "-- not by roff alone");
     };
     if ending
         .result
-        .is_ok_and(|outcome| outcome.counts != roff.counts)
+        .is_ok_and(|outcome| outcome.counts != by_roff.counts)
     {
-        let _ = println!(rt; "-- not the counts of roff alone");
+        println!(rt; "-- not the counts of roff alone")?;
     }
     if !roff.has_memory {
-        let _ = println!(rt; "-- no memory after roff");
+        println!(rt; "-- no memory after roff")?;
     }
+    Ok(())
 }
 
 // Shows where the page gives something else at once, or does not stand a write that fails.
@@ -118,16 +134,15 @@ fn show_differences(
     streams: &Streams,
     ending: Ending,
 ) {
-    let Some(whole) = Whole::new(rt.alloc(), page, &words.settings) else {
-        return;
-    };
     if !ending.is_plain {
         return;
     }
-    if !whole.is(streams, ending.result) {
-        let _ = println!(rt; "-- not at once");
-    }
-    if !whole.stands_failures(rt.alloc(), page, &words.settings) {
-        let _ = println!(rt; "-- not where a write fails");
+    if let Some(whole) = Whole::new(rt.alloc(), page, &words.settings) {
+        if !whole.is(streams, ending.result) {
+            let _ = println!(rt; "-- not at once");
+        }
+        if !whole.stands_failures(rt.alloc(), page, &words.settings) {
+            let _ = println!(rt; "-- not where a write fails");
+        }
     }
 }

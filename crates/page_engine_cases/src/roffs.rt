@@ -1,49 +1,21 @@
 //! Roff alone over the lines of a page.
 
+ghost use Rattle.page_core_base.specs.Texts.{IsLine};
+
+use crate::endings::{Ending, run};
 use crate::lines::{BYTES, FILE, Feed, Lines};
 use crate::stores::{Fails, Store};
 use page_core_base::{Fault, Settings};
 use page_core_writers::TextNotes;
-use page_roff_source::{Counts, Roff};
-use std::alloc::{AllocError, Global};
+use page_engine::Outcome;
+use page_roff_source::Roff;
+use std::alloc::Global;
 
 /// What a source line may give at most: its finished lines, and that there are no more.
 const MOST: usize = 1_002;
 
 /// The source lines of a page at most.
 const LINES: u64 = 1_000_000;
-
-/// What roff counts of a page.
-#[derive(Clone, Copy)]
-pub(crate) struct RoffEnding {
-    pub(crate) counts: Counts,
-    /// Whether there was memory after the end.
-    pub(crate) has_memory: bool,
-}
-
-/// Runs roff alone over the lines of a page, and keeps its messages in memory for a count of bytes. What is not roff's has its memory before
-/// roff is made, and wants more only after its end: so where an allocation is refused between the two, it is one of roff. Nothing, where
-/// that memory is refused.
-pub(crate) fn run_roff(
-    alloc: Global,
-    bytes: &[u8],
-    settings: &Settings,
-    room: usize,
-) -> Option<RoffEnding> {
-    if bytes.len() > BYTES {
-        return None;
-    }
-    let mut lines = Lines::new(alloc, settings.encoding)?;
-    let messages = Store::new(alloc, room, Fails::Never).ok()?;
-    let roff = Roff::new(alloc, settings).ok()?;
-    let mut feed = RoffFeed { messages, roff };
-    lines.feed_all(&mut feed, bytes).ok()?;
-    let own: Result<Vec<u8>, AllocError> = Vec::with_capacity(alloc, 1);
-    Some(RoffEnding {
-        counts: feed.roff.counts(),
-        has_memory: own.is_ok(),
-    })
-}
 
 // Roff, and where its messages go.
 #[derive(Drop)]
@@ -52,25 +24,87 @@ struct RoffFeed {
     roff: Roff,
 }
 
+// Roff before the first line. No caller here has to know its state, so that this says nothing of it: their proofs stay short.
+fn new_roff(alloc: Global, settings: &Settings) -> Result<Roff, Fault> {
+    Roff::new(alloc, settings)
+}
+
+// Begins a source line, and says whether it did: the one before it has to be done.
+fn begin_line(roff: &mut Roff, text: &[u8], number: u32) -> bool
+    requires { IsLine text.now }
+{
+    if !roff.idle() || roff.counts().source > LINES {
+        return false;
+    }
+    roff.source(text, number);
+    true
+}
+
+// Takes the next finished line, and says whether there was one.
+fn take_line(roff: &mut Roff, messages: &mut Store) -> Result<bool, Fault> {
+    let mut notes = TextNotes::new(messages, FILE);
+    match roff.take(&mut notes)? {
+        Some(_) => Ok(true),
+        None => Ok(false),
+    }
+}
+
+// Takes all finished lines of a source line.
+fn take_lines(roff: &mut Roff, messages: &mut Store) -> Result<(), Fault> {
+    'takes: for _ in 0..MOST {
+        if !take_line(roff, messages)? {
+            return Ok(());
+        }
+    }
+    Err(Fault::TooLong)
+}
+
 impl Feed for RoffFeed {
     fn line(&mut self, text: &[u8], number: u32) -> Result<(), Fault> {
-        if !self.roff.idle() || self.roff.counts().source > LINES {
+        if !begin_line(&mut self.roff, text, number) {
             return Err(Fault::TooLong);
         }
-        self.roff.source(text, number);
-        'takes: for _ in 0..MOST {
-            let mut notes = TextNotes::new(&mut self.messages, FILE);
-            if self.roff.take(&mut notes)?.is_none() {
-                return Ok(());
-            }
-        }
-        Err(Fault::TooLong)
+        take_lines(&mut self.roff, &mut self.messages)
     }
 
     fn end(&mut self) -> Result<(), Fault> {
         if !self.roff.idle() {
             return Err(Fault::TooLong);
         }
-        self.roff.end(&mut TextNotes::new(&mut self.messages, FILE))
+        let mut notes = TextNotes::new(&mut self.messages, FILE);
+        self.roff.end(&mut notes)
     }
+
+    // Roff keeps no level.
+    fn outcome(&self) -> Outcome {
+        Outcome {
+            worst: None,
+            counts: self.roff.counts(),
+        }
+    }
+
+    // Only a page is asked for that.
+    fn later(&mut self) -> Option<Fault> {
+        None
+    }
+}
+
+/// Runs roff alone over the lines of a page, and keeps its messages in memory for a count of bytes. What is not roff's has its memory before
+/// roff is made. Nothing, where that memory is refused.
+pub(crate) fn run_roff(
+    alloc: Global,
+    bytes: &[u8],
+    settings: &Settings,
+    room: usize,
+) -> Option<Ending> {
+    if bytes.len() > BYTES {
+        return None;
+    }
+    let messages = Store::new(alloc, room, Fails::Never).ok()?;
+    let lines = Lines::new(alloc, settings.encoding)?;
+    let ending = match new_roff(alloc, settings) {
+        Ok(roff) => run(alloc, bytes, lines, RoffFeed { messages, roff }),
+        Err(fault) => Ending::without_lines(fault),
+    };
+    Some(ending)
 }

@@ -14,10 +14,6 @@ pub(crate) fn check_answer(rt: &impl Abort, got: Result<(), Fault>, want: Result
     assert_eq!(rt; got, want);
 }
 
-pub(crate) fn check_count(rt: &impl Abort, got: usize, want: usize) {
-    assert_eq!(rt; got, want);
-}
-
 pub(crate) fn check_counts(rt: &impl Abort, got: Counts, want: Counts) {
     assert_eq!(rt; got, want);
 }

@@ -2,10 +2,10 @@
 
 ghost use Rattle.std.specs.Prelude.{◌≤◌, length};
 
-use crate::lines::Feed;
+use crate::lines::FedPage;
 use crate::sheets::Sheet;
-use page_core::{Fault, LINE, PieceSink, Settings, Taken, is_line};
-use page_roff::Roff;
+use page_core::{Fault, LINE, Level, Note, NoteSink, PieceSink, Settings, Taken, is_line};
+use page_roff::{Counts, Roff};
 use page_scopes::Scopes;
 use page_sets::MacroSet;
 use std::alloc::Global;
@@ -16,22 +16,79 @@ const TAKES: usize = 1_002;
 // The source lines of a page here at most.
 const LINES: u64 = 1_000_000;
 
-/// A page of a macro set.
-#[derive(Drop)]
-pub(crate) struct ByHand<S> {
-    set: S,
-    pub(crate) roff: Roff,
-    pub(crate) scopes: Scopes,
-    pub(crate) sheet: Sheet,
+/// What takes the finished lines of roff, beside its messages.
+pub(crate) trait LineSink: NoteSink {
+    /// A finished line comes.
+    fn finished(&mut self, line: Taken<'_>) -> Result<(), Fault>
+        requires { length line.text.now ≤ LINE };
 }
+
+// ---- roff
 
 /// Roff before the first line. No caller here has to know its state, so that this says nothing of it: their proofs stay short.
 pub(crate) fn new_roff(alloc: Global, settings: &Settings) -> Result<Roff, Fault> {
     Roff::new(alloc, settings)
 }
 
-// The scopes before the first line; nothing is said of their state either.
-fn new_scopes<S: MacroSet>(alloc: Global, settings: &Settings, set: &S) -> Result<Scopes, Fault> {
+// Begins a source line, and says whether it did: it has to be a line, and the one before it has to be done.
+fn begin_line(roff: &mut Roff, text: &[u8], number: u32) -> bool {
+    if !roff.idle() || !is_line(text) || roff.counts().source > LINES {
+        return false;
+    }
+    roff.source(text, number);
+    true
+}
+
+// Takes the next finished line of roff, and says whether there was one.
+fn take_line<L: LineSink>(roff: &mut Roff, lines: &mut L) -> Result<bool, Fault> {
+    match roff.take(lines)? {
+        Some(line) => {
+            lines.finished(line)?;
+            Ok(true)
+        }
+        None => Ok(false),
+    }
+}
+
+/// Runs a source line to its end, up to which roff may not be idle.
+pub(crate) fn run_line<L: LineSink>(
+    roff: &mut Roff,
+    text: &[u8],
+    number: u32,
+    lines: &mut L,
+) -> Result<(), Fault> {
+    if !begin_line(roff, text, number) {
+        return Err(Fault::TooLong);
+    }
+    let was_idle = roff.idle();
+    'takes: for _ in 0..TAKES {
+        if !take_line(roff, lines)? {
+            break 'takes;
+        }
+    }
+    if was_idle {
+        return Err(Fault::TooLong);
+    }
+    Ok(())
+}
+
+/// Ends roff.
+pub(crate) fn end_roff<N: NoteSink>(roff: &mut Roff, notes: &mut N) -> Result<(), Fault> {
+    if roff.idle() {
+        roff.end(notes)
+    } else {
+        Err(Fault::TooLong)
+    }
+}
+
+// ---- what is below roff
+
+/// The scopes before the first line; nothing is said of their state.
+pub(crate) fn new_scopes<S: MacroSet>(
+    alloc: Global,
+    settings: &Settings,
+    set: &S,
+) -> Result<Scopes, Fault> {
     Scopes::new(alloc, settings, set)
 }
 
@@ -53,91 +110,116 @@ where
     Ok(())
 }
 
-// Takes the next finished line of roff, and says whether there was one.
-fn take_line<S: MacroSet, O: PieceSink>(
-    set: &S,
-    roff: &mut Roff,
-    scopes: &mut Scopes,
-    out: &mut O,
-) -> Result<bool, Fault>
+// A macro set, the scopes and a sheet: what takes the finished lines of a page.
+#[derive(Drop)]
+struct Body<S> {
+    set: S,
+    scopes: Scopes,
+    sheet: Sheet,
+}
+
+impl<S: MacroSet + Drop> Body<S> {
+    // Before the first line.
+    fn new(alloc: Global, settings: &Settings, set: S) -> Result<Body<S>, Fault> {
+        let scopes = new_scopes(alloc, settings, &set)?;
+        let sheet = Sheet::new(alloc, settings)?;
+        Ok(Body { set, scopes, sheet })
+    }
+
+    // Ends all scopes and the open row.
+    fn finish(&mut self) -> Result<(), Fault> {
+        self.scopes.finish(&mut self.sheet)?;
+        self.sheet.finish()
+    }
+}
+
+impl<S> NoteSink for Body<S> {
+    ghost gave = { λ _ _ _. Unit {0} };
+
+    ghost within = { λ _ _ _. Unit {0} };
+
+    ghost failed = { λ _. 0 };
+
+    ghost Loans = { Unit {0} };
+
+    ghost loans = { λ _. tt };
+
+    ghost laws = { record {
+      none = λ _. tt;
+      more = λ _ _ _ _ _ _ _. tt;
+      after = λ _ _ _ _ _ _ _. tt;
+      before = λ _ _ _ _ _. tt;
+    } };
+
+    ghost whole = { λ _ _ _ _. tt };
+
+    fn note(&mut self, note: &Note) -> Result<(), Fault> {
+        let _ = self.sheet.note(note);
+        Ok(())
+    }
+
+    fn failures(&self) -> u64 {
+        0
+    }
+}
+
+impl<S: MacroSet> LineSink for Body<S>
 where
     S::Place: Drop,
 {
-    match roff.take(out)? {
-        Some(line) => {
-            apply_line(set, line, scopes, out)?;
-            Ok(true)
-        }
-        None => Ok(false),
+    fn finished(&mut self, line: Taken<'_>) -> Result<(), Fault> {
+        apply_line(&self.set, line, &mut self.scopes, &mut self.sheet)
     }
 }
 
-/// Begins a source line, and says whether it did: a line has to be one, and the line before it has to be done.
-pub(crate) fn begin_line(roff: &mut Roff, text: &[u8], number: u32) -> bool {
-    if !roff.idle() || !is_line(text) || roff.counts().source > LINES {
-        return false;
-    }
-    roff.source(text, number);
-    true
-}
+// ---- the page
 
-// Runs a source line to its end.
-fn run_line<S: MacroSet, O: PieceSink>(
-    set: &S,
-    roff: &mut Roff,
-    scopes: &mut Scopes,
-    out: &mut O,
-) -> Result<(), Fault>
-where
-    S::Place: Drop,
-{
-    'takes: for _ in 0..TAKES {
-        if !take_line(set, roff, scopes, out)? {
-            break 'takes;
-        }
-    }
-    Ok(())
-}
-
-// Ends roff.
-fn end_roff<O: PieceSink>(roff: &mut Roff, out: &mut O) -> Result<(), Fault> {
-    if roff.idle() {
-        roff.end(out)
-    } else {
-        Err(Fault::Failed)
-    }
+/// A page of a macro set.
+#[derive(Drop)]
+pub(crate) struct ByHand<S> {
+    roff: Roff,
+    body: Body<S>,
 }
 
 impl<S: MacroSet + Drop> ByHand<S> {
     /// A page before its first line.
     pub(crate) fn new(alloc: Global, settings: &Settings, set: S) -> Result<ByHand<S>, Fault> {
         let roff = new_roff(alloc, settings)?;
-        let scopes = new_scopes(alloc, settings, &set)?;
-        let sheet = Sheet::new(alloc, settings)?;
-        Ok(ByHand {
-            set,
-            roff,
-            scopes,
-            sheet,
-        })
+        let body = Body::new(alloc, settings, set)?;
+        Ok(ByHand { roff, body })
     }
 }
 
-impl<S: MacroSet + Drop> Feed for ByHand<S>
+impl<S: MacroSet + Drop> FedPage for ByHand<S>
 where
     S::Place: Drop,
 {
     fn line(&mut self, text: &[u8], number: u32) -> Result<(), Fault> {
-        if !begin_line(&mut self.roff, text, number) {
-            return Err(Fault::Failed);
-        }
-        run_line(&self.set, &mut self.roff, &mut self.scopes, &mut self.sheet)
+        run_line(&mut self.roff, text, number, &mut self.body)
     }
 
     fn end(&mut self) -> Result<(), Fault> {
-        end_roff(&mut self.roff, &mut self.sheet)?;
-        self.scopes.finish(&mut self.sheet)?;
-        self.sheet.finish();
-        Ok(())
+        end_roff(&mut self.roff, &mut self.body)?;
+        self.body.finish()
+    }
+
+    fn rows(&self) -> &[u8] {
+        self.body.sheet.rows.text.as_slice()
+    }
+
+    fn messages(&self) -> &[u8] {
+        self.body.sheet.notes.text.as_slice()
+    }
+
+    fn worst(&self) -> Option<Level> {
+        self.body.sheet.notes.worst
+    }
+
+    fn counts(&self) -> Counts {
+        self.roff.counts()
+    }
+
+    fn open(&self) -> (usize, usize) {
+        (self.body.scopes.depth(), self.body.sheet.pending())
     }
 }

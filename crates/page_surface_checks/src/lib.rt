@@ -2,7 +2,8 @@
 //!
 //! A page is put together by hand here from all layers of the pipeline (bytes, lines, roff, macro set, scopes, filling, rows): `Cutter`,
 //! `Roff`, `Man` or `Mdoc`, `Scopes`, `Filler`. It has the rows that the engine's `Page` gives, but for the header and the footer, which
-//! the engine writes. Read `hands.rt` first (how a line goes through the layers), then `sheets.rt` (how pieces become rows).
+//! the engine writes. Read `hands.rt` first (how a line goes through the layers), then `sheets.rt` (how pieces become rows). The tests are written over
+//! one trait of pages (`FedPage` in `lines.rt`), so that few functions handle the layers' objects: each such function takes long to prove.
 #![tactic(auto)]
 
 #[cfg(test)]
@@ -19,5 +20,7 @@ mod roff_tests;
 mod sheets;
 #[cfg(test)]
 mod sinks;
+#[cfg(test)]
+mod steps;
 #[cfg(test)]
 mod streams;

@@ -3,24 +3,41 @@
 ghost use Rattle.std.specs.Prelude.{◌≡◌, ◌+◌, ◌^◌, ◌<◌, length, false, true, OnOk};
 
 use crate::sinks::Notes;
-use page_core::{Encoding, Fault};
-use page_roff::Cutter;
+use page_core::{Encoding, Fault, Level};
+use page_roff::{Counts, Cutter};
 use std::alloc::Global;
 
 /// The bytes of a page at most.
 const BYTES: usize = 1_000_000;
 
-/// What takes the lines of a page one by one, and its end.
-pub(crate) trait Feed {
+/// A page that takes lines one by one, and then its end, and keeps what comes of them.
+///
+/// The tests are written over this trait: so the states of the layers, which are large, stand in the proofs of these few methods alone.
+pub(crate) trait FedPage {
     /// A line comes, of a number.
     fn line(&mut self, text: &[u8], number: u32) -> Result<(), Fault>;
 
     /// No more lines come.
     fn end(&mut self) -> Result<(), Fault>;
+
+    /// The rows so far, as they are printed.
+    fn rows(&self) -> &[u8];
+
+    /// The messages so far, as they are printed.
+    fn messages(&self) -> &[u8];
+
+    /// The worst level of these.
+    fn worst(&self) -> Option<Level>;
+
+    /// What is counted.
+    fn counts(&self) -> Counts;
+
+    /// How many scopes are open, and how many cells the open row has, of a page that has these to show.
+    fn open(&self) -> (usize, usize);
 }
 
 // Feeds the line that is whole.
-fn feed_line<F: Feed>(cutter: &mut Cutter, notes: &mut Notes, feed: &mut F) -> Result<(), Fault>
+fn feed_line<F: FedPage>(cutter: &mut Cutter, notes: &mut Notes, feed: &mut F) -> Result<(), Fault>
     requires { cutter.old.ready ≡ true }
     ensures ready { OnOk result (cutter.new.ready ≡ false) }
     ensures point { OnOk result (cutter.new.point ≡ cutter.old.point) }
@@ -30,7 +47,7 @@ fn feed_line<F: Feed>(cutter: &mut Cutter, notes: &mut Notes, feed: &mut F) -> R
 }
 
 // Feeds all lines of a page, and its end.
-fn feed_all<F: Feed>(
+fn feed_all<F: FedPage>(
     cutter: &mut Cutter,
     page: &[u8],
     notes: &mut Notes,
@@ -56,7 +73,7 @@ fn feed_all<F: Feed>(
 }
 
 /// Cuts a page, and feeds its lines and its end. The messages of the cutting come apart.
-pub(crate) fn cut<F: Feed>(
+pub(crate) fn cut<F: FedPage>(
     alloc: Global,
     encoding: Encoding,
     page: &[u8],

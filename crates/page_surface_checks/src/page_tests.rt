@@ -1,18 +1,14 @@
 //! Whole pages: by hand from all layers, and line by line through the engine's page; and what each of them needs of memory.
 
-use crate::checks::{
-    all_messages, check, check_answer, check_count, check_counts, check_text, counts_of,
-};
-use crate::hands::ByHand;
-use crate::lines::{Feed, cut};
-use crate::sheets::Sheet;
+use crate::checks::{all_messages, check, check_answer, check_counts, check_text, counts_of};
+use crate::hands::{ByHand, new_roff, new_scopes};
+use crate::lines::{FedPage, cut};
+use crate::sheets::new_filler;
 use crate::sinks::Notes;
-use crate::streams::Streamed;
+use crate::steps::{Step, check_steps};
+use crate::streams::{Streamed, new_page};
 use page_core::{Encoding, Fault, Level, SettingFault, Settings};
-use page_engine::Page;
-use page_fill::Filler;
-use page_roff::{Cutter, Roff};
-use page_scopes::Scopes;
+use page_roff::Cutter;
 use page_sets::{Either, MacroSet, Man, Mdoc};
 use std::process::Abort;
 use std::test::Fail;
@@ -28,28 +24,43 @@ struct Case {
     worst: Option<Level>,
 }
 
+// The rows before and after those of a page's body.
+struct Frame {
+    header: &'static str,
+    footer: &'static str,
+}
+
 // Pages of a macro set: what each of them begins with, its header and footer, and the pages.
 struct Kind {
     prologue: &'static str,
-    header: &'static str,
-    footer: &'static str,
+    frame: Frame,
     cases: &'static [Case],
 }
+
+// A page by hand has neither header nor footer.
+const BARE: Frame = Frame {
+    header: "",
+    footer: "",
+};
 
 const HEADER: &str =
     "T(1)                       General Commands Manual                        T(1)\n\n";
 
 const OF_MAN: Kind = Kind {
     prologue: ".TH T 1 2020-01-01 S\n",
-    header: HEADER,
-    footer: "\nS                                 2020-01-01                              T(1)\n",
+    frame: Frame {
+        header: HEADER,
+        footer: "\nS                                 2020-01-01                              T(1)\n",
+    },
     cases: MAN_PAGES,
 };
 
 const OF_MDOC: Kind = Kind {
     prologue: ".Dd January 1, 2020\n.Dt T 1\n.Os S\n",
-    header: HEADER,
-    footer: "\nS                              January 1, 2020                            T(1)\n",
+    frame: Frame {
+        header: HEADER,
+        footer: "\nS                              January 1, 2020                            T(1)\n",
+    },
     cases: MDOC_PAGES,
 };
 
@@ -140,45 +151,47 @@ const MDOC_PAGES: &[Case] = &[
 ];
 
 // Cuts a page, and feeds its lines.
-fn feed_page<F: Feed, R: Abort + AllocGlobal>(
+fn feed_case<P: FedPage, R: Abort + AllocGlobal>(
     rt: &R,
-    feed: &mut F,
+    page: &mut P,
     kind: &Kind,
     case: &Case,
 ) -> Result<(), Fail> {
-    let page = format!(in rt.alloc(); "{}{}", kind.prologue, case.page)?;
-    let mut cuts = Notes::new(rt.alloc());
-    let bytes = page.as_bytes();
-    cut(rt.alloc(), Encoding::Auto, bytes, &mut cuts, feed)?;
+    let text = format!(in rt.alloc(); "{}{}", kind.prologue, case.page)?;
+    let mut cuts = Notes::new(rt.alloc(), 0);
+    let bytes = text.as_bytes();
+    cut(rt.alloc(), Encoding::Auto, bytes, &mut cuts, page)?;
     check_text(rt, cuts.text.as_slice(), case.cuts)
 }
 
-// Checks the rows and messages of a page by hand.
-fn check_sheet(rt: &impl Abort, sheet: &Sheet, case: &Case) -> Result<(), Fail> {
-    check_text(rt, sheet.rows.text.as_slice(), case.rows)?;
-    check_text(rt, sheet.notes.text.as_slice(), case.messages)?;
-    check(rt, !sheet.has_failed);
-    check_count(rt, sheet.pending(), 0);
-    Ok(())
+// Compares rows with those of a page within its header and footer.
+fn check_framed<R: Abort + AllocGlobal>(
+    rt: &R,
+    rows: &[u8],
+    frame: &Frame,
+    case: &Case,
+) -> Result<(), Fail> {
+    let framed = format!(in rt.alloc(); "{}{}{}", frame.header, case.rows, frame.footer)?;
+    check_text(rt, rows, framed.as_str())
 }
 
-// Checks a page by hand.
-fn check_by_hand<S: MacroSet + Drop, R: Abort + AllocGlobal>(
+// Feeds a page, and compares what comes of it.
+fn check_page<P: FedPage + Drop, R: Abort + AllocGlobal>(
     rt: &R,
-    mut hand: ByHand<S>,
+    mut page: P,
     kind: &Kind,
+    frame: &Frame,
     case: &Case,
-) -> Result<(), Fail>
-where
-    S::Place: Drop,
-{
-    feed_page(rt, &mut hand, kind, case)?;
-    check_counts(rt, hand.roff.counts(), counts_of(case.lines));
-    check_sheet(rt, &hand.sheet, case)
+) -> Result<(), Fail> {
+    feed_case(rt, &mut page, kind, case)?;
+    check_counts(rt, page.counts(), counts_of(case.lines));
+    check(rt, page.worst() == case.worst);
+    check_framed(rt, page.rows(), frame, case)?;
+    check_text(rt, page.messages(), case.messages)
 }
 
 // Checks pages by hand.
-fn check_all_by_hand<S: MacroSet + Copy, R: Abort + AllocGlobal>(
+fn check_by_hand<S: MacroSet + Copy, R: Abort + AllocGlobal>(
     rt: &R,
     set: S,
     kind: &Kind,
@@ -187,107 +200,91 @@ where
     S::Place: Drop,
 {
     for case in kind.cases {
-        let hand = ByHand::new(rt.alloc(), &all_messages(), set)?;
-        check_by_hand(rt, hand, kind, case)?;
+        let page = ByHand::new(rt.alloc(), &all_messages(), set)?;
+        check_page(rt, page, kind, &BARE, case)?;
     }
     Ok(())
 }
 
 #[test]
 fn pages_by_hand(rt: HostRuntime) -> Result<(), Fail> {
-    check_all_by_hand(&rt, Man, &OF_MAN)?;
-    check_all_by_hand(&rt, Mdoc, &OF_MDOC)?;
-    check_all_by_hand(&rt, Either::Man, &OF_MAN)?;
-    check_all_by_hand(&rt, Either::Mdoc, &OF_MDOC)
-}
-
-// A line of a page of man(7); then how many scopes are open, how many cells the open row has, and the rows so far.
-type Line = (&'static str, usize, usize, &'static str);
-
-const LINES: &[Line] = &[
-    (".SH A", 1, 0, "A\u{8}A\n"),
-    ("one two", 1, 7, "A\u{8}A\n"),
-    ("three", 1, 13, "A\u{8}A\n"),
-    (".RS", 2, 0, "A\u{8}A\n       one two three\n"),
-    (".B", 3, 0, "A\u{8}A\n       one two three\n"),
-    ("four", 2, 4, "A\u{8}A\n       one two three\n"),
-    (
-        ".RE",
-        1,
-        0,
-        "A\u{8}A\n       one two three\n              f\u{8}fo\u{8}ou\u{8}ur\u{8}r\n",
-    ),
-];
-
-// Takes a line, and compares what a page by hand holds then.
-fn check_line(
-    rt: &impl Abort,
-    hand: &mut ByHand<Man>,
-    number: u32,
-    line: &Line,
-) -> Result<(), Fail> {
-    let (text, depth, pending, rows) = *line;
-    check_answer(rt, hand.line(text.as_bytes(), number), Ok(()));
-    check_count(rt, hand.scopes.depth(), depth);
-    check_count(rt, hand.sheet.pending(), pending);
-    check_counts(rt, hand.roff.counts(), counts_of(u64::from(number)));
-    check_text(rt, hand.sheet.rows.text.as_slice(), rows)
-}
-
-fn check_lines(rt: &impl Abort, hand: &mut ByHand<Man>, lines: &[Line]) -> Result<(), Fail> {
-    let mut number = 0u32;
-    for line in lines {
-        number = number.saturating_add(1);
-        check_line(rt, hand, number, line)?;
-    }
-    check_answer(rt, hand.end(), Ok(()));
-    check_text(rt, hand.sheet.notes.text.as_slice(), "")
-}
-
-#[test]
-fn lines_by_hand(rt: HostRuntime) -> Result<(), Fail> {
-    let mut hand = ByHand::new(rt.alloc(), &all_messages(), Man)?;
-    check_lines(&rt, &mut hand, LINES)
-}
-
-// The rows of a page between its header and its footer.
-fn check_framed<R: Abort + AllocGlobal>(
-    rt: &R,
-    rows: &[u8],
-    kind: &Kind,
-    case: &Case,
-) -> Result<(), Fail> {
-    let framed = format!(in rt.alloc(); "{}{}{}", kind.header, case.rows, kind.footer)?;
-    check_text(rt, rows, framed.as_str())
-}
-
-// Checks a page of the engine.
-fn check_streamed<R: Abort + AllocGlobal>(
-    rt: &R,
-    mut streamed: Streamed,
-    kind: &Kind,
-    case: &Case,
-) -> Result<(), Fail> {
-    feed_page(rt, &mut streamed, kind, case)?;
-    check_counts(rt, streamed.page.counts(), counts_of(case.lines));
-    check(rt, streamed.page.worst() == case.worst);
-    check_framed(rt, streamed.rows.text.as_slice(), kind, case)?;
-    check_text(rt, streamed.notes.text.as_slice(), case.messages)
+    check_by_hand(&rt, Man, &OF_MAN)?;
+    check_by_hand(&rt, Mdoc, &OF_MDOC)?;
+    check_by_hand(&rt, Either::Man, &OF_MAN)?;
+    check_by_hand(&rt, Either::Mdoc, &OF_MDOC)
 }
 
 // Checks pages of the engine.
-fn check_all_streamed<R: Abort + AllocGlobal>(rt: &R, kind: &Kind) -> Result<(), Fail> {
+fn check_streamed<R: Abort + AllocGlobal>(rt: &R, kind: &Kind) -> Result<(), Fail> {
     for case in kind.cases {
-        let streamed = Streamed::new(rt.alloc(), all_messages())?;
-        check_streamed(rt, streamed, kind, case)?;
+        let page = Streamed::new(rt.alloc(), all_messages(), 0, 0)?;
+        check_page(rt, page, kind, &kind.frame, case)?;
     }
     Ok(())
 }
 
 #[test]
 fn pages_of_the_engine(rt: HostRuntime) -> Result<(), Fail> {
-    check_all_streamed(&rt, &OF_MAN)?;
-    check_all_streamed(&rt, &OF_MDOC)
+    check_streamed(&rt, &OF_MAN)?;
+    check_streamed(&rt, &OF_MDOC)
+}
+
+const STEPS: &[Step] = &[
+    Step {
+        line: ".SH A",
+        rows: "A\u{8}A\n",
+        open: (1, 0),
+        taken: 1,
+        expansions: 0,
+    },
+    Step {
+        line: "one two",
+        rows: "A\u{8}A\n",
+        open: (1, 7),
+        taken: 2,
+        expansions: 0,
+    },
+    Step {
+        line: "three",
+        rows: "A\u{8}A\n",
+        open: (1, 13),
+        taken: 3,
+        expansions: 0,
+    },
+    Step {
+        line: ".RS",
+        rows: "A\u{8}A\n       one two three\n",
+        open: (2, 0),
+        taken: 4,
+        expansions: 0,
+    },
+    Step {
+        line: ".B",
+        rows: "A\u{8}A\n       one two three\n",
+        open: (3, 0),
+        taken: 5,
+        expansions: 0,
+    },
+    Step {
+        line: "four",
+        rows: "A\u{8}A\n       one two three\n",
+        open: (2, 4),
+        taken: 6,
+        expansions: 0,
+    },
+    Step {
+        line: ".RE",
+        rows: "A\u{8}A\n       one two three\n              f\u{8}fo\u{8}ou\u{8}ur\u{8}r\n",
+        open: (1, 0),
+        taken: 7,
+        expansions: 0,
+    },
+];
+
+#[test]
+fn lines_by_hand(rt: HostRuntime) -> Result<(), Fail> {
+    let page = ByHand::new(rt.alloc(), &all_messages(), Man)?;
+    check_steps(&rt, page, STEPS)
 }
 
 // The row and the message that fails, 0 for none; how many lines come before the fault; and the faults of the next call, and of each one after it.
@@ -326,9 +323,9 @@ const STOPS: &[Stop] = &[
 const STOPPED: &[&str] = &[".TH T 1 2020-01-01 S", ".SH A", "a", ".ZZ", "b"];
 
 // Feeds the first lines of a page, and answers the line after them; the page ends where there is none.
-fn feed_first<'a>(
+fn feed_first<'a, P: FedPage>(
     rt: &impl Abort,
-    streamed: &mut Streamed,
+    page: &mut P,
     lines: &[&'a str],
     count: usize,
 ) -> &'a str {
@@ -338,26 +335,24 @@ fn feed_first<'a>(
             return line;
         }
         number = number.saturating_add(1);
-        check_answer(rt, streamed.line(line.as_bytes(), number), Ok(()));
+        check_answer(rt, page.line(line.as_bytes(), number), Ok(()));
     }
-    check_answer(rt, streamed.end(), Ok(()));
+    check_answer(rt, page.end(), Ok(()));
     "c"
 }
 
 // Checks the calls around a fault.
-fn check_stop(rt: &impl Abort, streamed: &mut Streamed, stop: &Stop) {
-    streamed.rows.failing = stop.rows;
-    streamed.notes.failing = stop.notes;
-    let line = feed_first(rt, streamed, STOPPED, stop.lines);
-    check_answer(rt, streamed.line(line.as_bytes(), 6), Err(stop.first));
-    check_answer(rt, streamed.line(b"d", 7), Err(stop.later));
-    check_answer(rt, streamed.end(), Err(stop.later));
+fn check_stop<P: FedPage + Drop>(rt: &impl Abort, mut page: P, stop: &Stop) {
+    let line = feed_first(rt, &mut page, STOPPED, stop.lines);
+    check_answer(rt, page.line(line.as_bytes(), 6), Err(stop.first));
+    check_answer(rt, page.line(b"d", 7), Err(stop.later));
+    check_answer(rt, page.end(), Err(stop.later));
 }
 
 fn check_stops<R: Abort + AllocGlobal>(rt: &R, stops: &[Stop]) -> Result<(), Fail> {
     for stop in stops {
-        let mut streamed = Streamed::new(rt.alloc(), all_messages())?;
-        check_stop(rt, &mut streamed, stop);
+        let page = Streamed::new(rt.alloc(), all_messages(), stop.rows, stop.notes)?;
+        check_stop(rt, page, stop);
     }
     Ok(())
 }
@@ -377,10 +372,10 @@ fn check_made<T: Drop>(rt: &impl Abort, made: Result<T, Fault>, want: Result<(),
 fn each_is_made(rt: HostRuntime) {
     let settings = all_messages();
     check_made(&rt, Cutter::new(rt.alloc(), Encoding::Auto), Ok(()));
-    check_made(&rt, Roff::new(rt.alloc(), &settings), Ok(()));
-    check_made(&rt, Scopes::new(rt.alloc(), &settings, &Man), Ok(()));
-    check_made(&rt, Filler::new(rt.alloc(), &settings), Ok(()));
-    check_made(&rt, Page::new(rt.alloc(), settings), Ok(()));
+    check_made(&rt, new_roff(rt.alloc(), &settings), Ok(()));
+    check_made(&rt, new_scopes(rt.alloc(), &settings, &Man), Ok(()));
+    check_made(&rt, new_filler(rt.alloc(), &settings), Ok(()));
+    check_made(&rt, new_page(rt.alloc(), settings), Ok(()));
 }
 
 const REFUSED: &[(u32, Option<u32>, SettingFault)] = &[
@@ -396,7 +391,7 @@ fn check_refused<R: Abort + AllocGlobal>(rt: &R, cases: &[(u32, Option<u32>, Set
             indent: *indent,
             ..all_messages()
         };
-        let page = Page::new(rt.alloc(), settings);
+        let page = new_page(rt.alloc(), settings);
         check_made(rt, page, Err(Fault::Settings(*fault)));
     }
 }

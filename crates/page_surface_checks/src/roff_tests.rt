@@ -1,105 +1,169 @@
 //! Roff by hand: the finished lines of source lines, and what is counted of them.
 
-use crate::checks::{all_messages, check, check_answer, check_counts, check_text};
-use crate::hands::{begin_line, new_roff};
+use crate::checks::all_messages;
+use crate::hands::{LineSink, end_roff, new_roff, run_line};
+use crate::lines::FedPage;
 use crate::sinks::Notes;
-use page_core::{Fault, NoteSink};
+use crate::steps::{Step, check_steps};
+use page_core::{Fault, Level, Note, NoteSink, Taken};
 use page_roff::{Counts, Roff};
-use std::process::Abort;
 use std::test::Fail;
 
-// Spells the next finished line of roff, and says whether there was one.
-fn spell_next<N: NoteSink>(
-    roff: &mut Roff,
-    notes: &mut N,
-    text: &mut Vec<u8>,
-) -> Result<bool, Fault> {
-    match roff.take(notes)? {
-        Some(line) => {
-            let _ = text.extend_from_slice(line.text);
-            let _ = text.push(b'|');
-            Ok(true)
-        }
-        None => Ok(false),
+// Keeps finished lines, each with a bar after it.
+#[derive(Drop)]
+struct Spelling {
+    lines: Vec<u8>,
+    notes: Notes,
+}
+
+impl NoteSink for Spelling {
+    ghost gave = { λ _ _ _. Unit {0} };
+
+    ghost within = { λ _ _ _. Unit {0} };
+
+    ghost failed = { λ _. 0 };
+
+    ghost Loans = { Unit {0} };
+
+    ghost loans = { λ _. tt };
+
+    ghost laws = { record {
+      none = λ _. tt;
+      more = λ _ _ _ _ _ _ _. tt;
+      after = λ _ _ _ _ _ _ _. tt;
+      before = λ _ _ _ _ _. tt;
+    } };
+
+    ghost whole = { λ _ _ _ _. tt };
+
+    fn note(&mut self, note: &Note) -> Result<(), Fault> {
+        let _ = self.notes.note(note);
+        Ok(())
+    }
+
+    fn failures(&self) -> u64 {
+        0
     }
 }
 
-// Spells all finished lines of a source line.
-fn spell_all<N: NoteSink>(roff: &mut Roff, notes: &mut N, text: &mut Vec<u8>) -> Result<(), Fault> {
-    'takes: for _ in 0..1_002 {
-        if !spell_next(roff, notes, text)? {
-            break 'takes;
-        }
+impl LineSink for Spelling {
+    fn finished(&mut self, line: Taken<'_>) -> Result<(), Fault> {
+        let _ = self.lines.extend_from_slice(line.text);
+        let _ = self.lines.push(b'|');
+        Ok(())
     }
-    Ok(())
 }
 
-// A source line; its finished lines; and what was counted so far of lines taken, and of interpolations.
-type Run = (&'static str, &'static str, u64, u64);
+// Roff alone, whose finished lines stand for rows.
+#[derive(Drop)]
+struct RoffAlone {
+    roff: Roff,
+    spelling: Spelling,
+}
 
-const RUNS: &[Run] = &[
-    ("", "|", 1, 0),
-    (".de m", "", 2, 0),
-    ("\\\\n(.$ \\\\$1", "", 3, 0),
-    (".br", "", 4, 0),
-    ("..", "", 5, 0),
-    (".m a", "1 a|.br|", 8, 2),
-    (".ds s x y", "", 9, 2),
-    ("a \\*s.", "a x y.|", 10, 3),
-    (".PP b", ".PP b|", 11, 3),
+impl FedPage for RoffAlone {
+    fn line(&mut self, text: &[u8], number: u32) -> Result<(), Fault> {
+        run_line(&mut self.roff, text, number, &mut self.spelling)
+    }
+
+    fn end(&mut self) -> Result<(), Fault> {
+        end_roff(&mut self.roff, &mut self.spelling)
+    }
+
+    fn rows(&self) -> &[u8] {
+        self.spelling.lines.as_slice()
+    }
+
+    fn messages(&self) -> &[u8] {
+        self.spelling.notes.text.as_slice()
+    }
+
+    fn worst(&self) -> Option<Level> {
+        self.spelling.notes.worst
+    }
+
+    fn counts(&self) -> Counts {
+        self.roff.counts()
+    }
+
+    // Roff shows neither.
+    fn open(&self) -> (usize, usize) {
+        (0, 0)
+    }
+}
+
+const STEPS: &[Step] = &[
+    Step {
+        line: "",
+        rows: "|",
+        open: (0, 0),
+        taken: 1,
+        expansions: 0,
+    },
+    Step {
+        line: ".de m",
+        rows: "|",
+        open: (0, 0),
+        taken: 2,
+        expansions: 0,
+    },
+    Step {
+        line: "\\\\n(.$ \\\\$1",
+        rows: "|",
+        open: (0, 0),
+        taken: 3,
+        expansions: 0,
+    },
+    Step {
+        line: ".br",
+        rows: "|",
+        open: (0, 0),
+        taken: 4,
+        expansions: 0,
+    },
+    Step {
+        line: "..",
+        rows: "|",
+        open: (0, 0),
+        taken: 5,
+        expansions: 0,
+    },
+    Step {
+        line: ".m a",
+        rows: "|1 a|.br|",
+        open: (0, 0),
+        taken: 8,
+        expansions: 2,
+    },
+    Step {
+        line: ".ds s x y",
+        rows: "|1 a|.br|",
+        open: (0, 0),
+        taken: 9,
+        expansions: 2,
+    },
+    Step {
+        line: "a \\*s.",
+        rows: "|1 a|.br|a x y.|",
+        open: (0, 0),
+        taken: 10,
+        expansions: 3,
+    },
+    Step {
+        line: ".PP b",
+        rows: "|1 a|.br|a x y.|.PP b|",
+        open: (0, 0),
+        taken: 11,
+        expansions: 3,
+    },
 ];
-
-// Runs a source line: roff is idle before and after it, and not within.
-fn check_run<R: Abort + AllocGlobal>(
-    rt: &R,
-    roff: &mut Roff,
-    notes: &mut Notes,
-    line: (&str, u32),
-    lines: &str,
-) -> Result<(), Fail> {
-    let mut text = Vec::new(rt.alloc());
-    check(rt, roff.idle());
-    check(rt, begin_line(roff, line.0.as_bytes(), line.1));
-    check(rt, !roff.idle());
-    spell_all(roff, notes, &mut text)?;
-    check(rt, roff.idle());
-    check_text(rt, text.as_slice(), lines)
-}
-
-// Runs source lines one by one, and compares what is counted after each.
-fn check_runs<R: Abort + AllocGlobal>(
-    rt: &R,
-    roff: &mut Roff,
-    notes: &mut Notes,
-    runs: &[Run],
-) -> Result<(), Fail> {
-    let mut source = 0u32;
-    for (line, lines, taken, expansions) in runs {
-        source = source.saturating_add(1);
-        check_run(rt, roff, notes, (line, source), lines)?;
-        let counts = Counts {
-            source: u64::from(source),
-            taken: *taken,
-            expansions: *expansions,
-        };
-        check_counts(rt, roff.counts(), counts);
-    }
-    Ok(())
-}
-
-// Runs them all, and the end, after which nothing more is taken.
-fn check_roff<R: Abort + AllocGlobal>(rt: &R, roff: &mut Roff) -> Result<(), Fail> {
-    let mut notes = Notes::new(rt.alloc());
-    check_runs(rt, roff, &mut notes, RUNS)?;
-    if roff.idle() {
-        check_answer(rt, roff.end(&mut notes), Ok(()));
-    }
-    check(rt, matches!(roff.take(&mut notes), Err(Fault::Failed)));
-    check_text(rt, notes.text.as_slice(), "")
-}
 
 #[test]
 fn runs_roff(rt: HostRuntime) -> Result<(), Fail> {
-    let mut roff = new_roff(rt.alloc(), &all_messages())?;
-    check_roff(&rt, &mut roff)
+    let roff = new_roff(rt.alloc(), &all_messages())?;
+    let spelling = Spelling {
+        lines: Vec::new(rt.alloc()),
+        notes: Notes::new(rt.alloc(), 0),
+    };
+    check_steps(&rt, RoffAlone { roff, spelling }, STEPS)
 }

@@ -13,7 +13,12 @@ pub(crate) struct Sheet {
     filler: Filler,
     pub(crate) rows: Rows,
     pub(crate) notes: Notes,
-    pub(crate) has_failed: bool,
+    has_failed: bool,
+}
+
+/// A filler before the first piece. No caller here has to know its state, so that this says nothing of it: their proofs stay short.
+pub(crate) fn new_filler(alloc: Global, settings: &Settings) -> Result<Filler, Fault> {
+    Filler::new(alloc, settings)
 }
 
 // Fills a piece, and says whether that went well.
@@ -24,9 +29,9 @@ fn fill(filler: &mut Filler, rows: &mut Rows, notes: &mut Notes, piece: Piece<&[
 impl Sheet {
     /// A sheet without a row.
     pub(crate) fn new(alloc: Global, settings: &Settings) -> Result<Sheet, Fault> {
-        let filler = Filler::new(alloc, settings)?;
-        let rows = Rows::new(alloc);
-        let notes = Notes::new(alloc);
+        let filler = new_filler(alloc, settings)?;
+        let rows = Rows::new(alloc, 0);
+        let notes = Notes::new(alloc, 0);
         Ok(Sheet {
             filler,
             rows,
@@ -35,11 +40,13 @@ impl Sheet {
         })
     }
 
-    /// Ends the open row.
-    pub(crate) fn finish(&mut self) {
-        if self.filler.finish(&mut self.rows, &mut self.notes).is_err() {
-            self.has_failed = true;
+    /// Ends the open row, and fails where the filler did or still has an open row.
+    pub(crate) fn finish(&mut self) -> Result<(), Fault> {
+        self.filler.finish(&mut self.rows, &mut self.notes)?;
+        if self.has_failed || self.pending() != 0 {
+            return Err(Fault::Failed);
         }
+        Ok(())
     }
 
     /// How many cells the open row has.

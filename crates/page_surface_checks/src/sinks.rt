@@ -1,34 +1,35 @@
 //! Sinks of rows and of messages: they keep what is printed of what they are given, and fail at the call of a number.
 
-use page_core::{Cell, Fault, Note, NoteSink, RowSink, cell_bytes, write_note};
+use page_core::{Cell, Fault, Level, Note, NoteSink, RowSink, cell_bytes, write_note};
 use std::alloc::Global;
 
 /// Keeps rows as they are printed.
 #[derive(Drop)]
 pub(crate) struct Rows {
     pub(crate) text: Vec<u8>,
-    /// The call that fails; 0: none.
-    pub(crate) failing: u64,
+    // The call that fails; 0: none.
+    failing: u64,
     calls: u64,
     failures: u64,
 }
 
-/// Keeps messages as they are printed.
+/// Keeps messages as they are printed, and their worst level.
 #[derive(Drop)]
 pub(crate) struct Notes {
     pub(crate) text: Vec<u8>,
-    /// The call that fails; 0: none.
-    pub(crate) failing: u64,
+    pub(crate) worst: Option<Level>,
+    // The call that fails; 0: none.
+    failing: u64,
     calls: u64,
     failures: u64,
 }
 
 impl Rows {
-    /// Nothing was given yet.
-    pub(crate) fn new(alloc: Global) -> Rows {
+    /// Nothing was given yet, and the call of a number fails; 0: none.
+    pub(crate) fn new(alloc: Global, failing: u64) -> Rows {
         Rows {
             text: Vec::new(alloc),
-            failing: 0,
+            failing,
             calls: 0,
             failures: 0,
         }
@@ -36,14 +37,23 @@ impl Rows {
 }
 
 impl Notes {
-    /// Nothing was given yet.
-    pub(crate) fn new(alloc: Global) -> Notes {
+    /// Nothing was given yet, and the call of a number fails; 0: none.
+    pub(crate) fn new(alloc: Global, failing: u64) -> Notes {
         Notes {
             text: Vec::new(alloc),
-            failing: 0,
+            worst: None,
+            failing,
             calls: 0,
             failures: 0,
         }
+    }
+}
+
+// The worse of the levels so far and one more.
+fn worse(worst: Option<Level>, level: Level) -> Option<Level> {
+    match worst {
+        Some(worst) if !worst.is_below(level) => Some(worst),
+        _ => Some(level),
     }
 }
 
@@ -127,6 +137,7 @@ impl NoteSink for Notes {
             return Err(Fault::WriteNotes);
         }
         let _ = write_note(&mut self.text, "x.1", note);
+        self.worst = worse(self.worst, note.kind.level());
         Ok(())
     }
 

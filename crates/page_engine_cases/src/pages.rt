@@ -1,0 +1,92 @@
+//! A page whose lines come one by one.
+
+ghost use Rattle.page_core_base.specs.Texts.{IsLine};
+
+use crate::endings::{Ending, run};
+use crate::lines::{BYTES, FILE, Feed, Lines};
+use crate::streams::Streams;
+use page_core_base::{Fault, Settings};
+use page_core_writers::{TextNotes, TextRows};
+use page_engine::{Outcome, Page};
+use std::alloc::Global;
+
+// A page, and where its rows and messages go.
+#[derive(Drop)]
+struct PageFeed<'a, 'b> {
+    page: Page,
+    streams: &'a mut Streams<'b>,
+}
+
+// A page before its first line. No caller here has to know its state, so that this says nothing of it: their proofs stay short.
+fn new_page(alloc: Global, settings: &Settings) -> Result<Page, Fault> {
+    Page::new(alloc, *settings)
+}
+
+// Feeds a line to a page.
+fn give_line(page: &mut Page, streams: &mut Streams, text: &[u8], number: u32) -> Result<(), Fault>
+    requires { IsLine text.now }
+{
+    let mut rows = TextRows::new(&mut streams.rows);
+    let mut notes = TextNotes::new(&mut streams.messages, FILE);
+    page.feed_line(text, number, &mut rows, &mut notes)
+}
+
+// Ends a page.
+fn give_end(page: &mut Page, streams: &mut Streams) -> Result<(), Fault> {
+    let mut rows = TextRows::new(&mut streams.rows);
+    let mut notes = TextNotes::new(&mut streams.messages, FILE);
+    page.end(&mut rows, &mut notes)
+}
+
+// The fault of a further line and of a further end, where both have the same and nothing is written.
+fn fault_after(page: &mut Page, streams: &mut Streams) -> Option<Fault> {
+    let calls = streams.calls();
+    let of_line = give_line(page, streams, b".ZZ", 1).err()?;
+    let of_end = give_end(page, streams).err()?;
+    if of_line == of_end && calls == streams.calls() {
+        Some(of_end)
+    } else {
+        None
+    }
+}
+
+impl Feed for PageFeed<'_, '_> {
+    fn line(&mut self, text: &[u8], number: u32) -> Result<(), Fault> {
+        give_line(&mut self.page, self.streams, text, number)?;
+        self.streams.show_line(number);
+        Ok(())
+    }
+
+    fn end(&mut self) -> Result<(), Fault> {
+        give_end(&mut self.page, self.streams)
+    }
+
+    fn outcome(&self) -> Outcome {
+        Outcome {
+            worst: self.page.worst(),
+            counts: self.page.counts(),
+        }
+    }
+
+    fn later(&mut self) -> Option<Fault> {
+        fault_after(&mut self.page, self.streams)
+    }
+}
+
+/// Feeds a page line by line. What is not the page's has its memory before the page is made. Nothing, where that memory is refused.
+pub(crate) fn run_lines(
+    alloc: Global,
+    bytes: &[u8],
+    settings: &Settings,
+    streams: &mut Streams,
+) -> Option<Ending> {
+    if bytes.len() > BYTES {
+        return None;
+    }
+    let lines = Lines::new(alloc, settings.encoding)?;
+    let ending = match new_page(alloc, settings) {
+        Ok(page) => run(alloc, bytes, lines, PageFeed { page, streams }),
+        Err(fault) => Ending::without_lines(fault),
+    };
+    Some(ending)
+}
