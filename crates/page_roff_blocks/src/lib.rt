@@ -21,5 +21,6 @@ pub use levels::{Ended, Levels, Way};
 pub use line_places::LinePlace;
 pub use loops::loop_text;
 pub use open_regions::OpenRegion;
+pub use parts::is_leaf;
 pub use regions::{RegionHead, is_ending};
 pub use spots::{Reached, Spot};

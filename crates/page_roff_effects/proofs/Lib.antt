@@ -1,3 +1,4 @@
+pub mod AtOnceLemmas
 pub mod CallLemmas
 pub mod CapLemmas
 pub mod ControlLemmas

@@ -31,7 +31,7 @@ text_form : (line : List ℕ) → has_word line ≡ true → begins_control line
 text_form [] w b = cc
 text_form (x ∷ xs) w b = rw b refl
 
-counted_none : (m : Memory) → counted 0 m ≡ m
+pub counted_none : (m : Memory) → counted 0 m ≡ m
 counted_none m = ap (λ n. let k : Memory = record { definitions = m.definitions; body = m.body; number = m.number; expansions = n } in k) (omega arith)
 
 -- a line without a control character at its front and without a backslash is taken as it is written

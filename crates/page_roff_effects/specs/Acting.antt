@@ -1,16 +1,21 @@
 -- What the code's object holds, and what its calls do, in terms of the effects of parts. Trust needs no reading of it.
 -- Source: roff(7), "LANGUAGE SYNTAX".
-use Rattle.std.specs.Prelude.{◌≡◌, ℕ, ◌≤◌, Bool, true, false, nat_le, List, [], length, Option, Some, None, if◌then◌else◌}
+use Rattle.std.specs.Prelude.{◌≡◌, ℕ, ◌≤◌, Bool, true, false, nat_le, List, [], ◌∷◌, length, Option, Some, None, if◌then◌else◌}
 use Rattle.page_core_limits.specs.declared.TheConstants.{ARGS, BODY}
 use Rattle.page_core_base.specs.Messages.{Message}
 use Rattle.page_core_base.specs.LinesTaken.{Line}
 use Rattle.page_core_base.specs.declared.lines_taken.Form.{Form}
 use Rattle.page_core_base.specs.declared.lines_taken.Form.TheVariants.{Text, Blank}
 use Rattle.page_core_base.specs.declared.page_settings.Output.{Output}
+use Rattle.page_roff_blocks.specs.declared.atoms.Atom.TheVariants.{Leaf}
+use Rattle.page_roff_blocks.specs.Atoms.{atoms}
 use Rattle.page_roff_forms.specs.LineForms.{has_word}
 use Rattle.page_roff_values.specs.Latches.{Came}
 use Rattle.page_roff_values.specs.Values.{Spot, Laid, expanded}
 use Rattle.page_roff_conditions.specs.Answers.{Answer}
+use Rattle.page_roff_names.specs.Names.{Definitions}
+use Rattle.page_roff_effects.specs.declared.commands.Command.TheVariants.{Pass}
+use Rattle.page_roff_effects.specs.Commands.{command_of}
 use Rattle.page_roff_effects.specs.declared.commands.ProductKind.{ProductKind}
 use Rattle.page_roff_effects.specs.declared.commands.ProductKind.TheVariants as kinds
 use Rattle.page_roff_effects.specs.States.{Memory, first_memory, Call, Product, no_product, line_product, call_product, loop_product, Outcome, Setting, surroundings, counted}
@@ -154,6 +159,22 @@ pub record Takes (old : Acting) (o : Outcome) (result : ProductKind) (new : Acti
   pub memory : new.memory ≡ o.memory
   pub kind : result ≡ kind_of o.product
   pub lends : Lends o.product new
+
+-- a name that is left to the set of macros, where a line has one
+abbrev pub IsPassed : Option (List ℕ) → Definitions → Type 0
+IsPassed None d = Unit {0}
+IsPassed (Some name) d = command_of name d ≡ Pass
+
+-- a raw line that is one part was taken without a message, whether one more macro may run or not; or nothing was done
+pub record IsTaken (old : Acting) (raw : List ℕ) (outcome : Bool → Outcome) (new : Acting) : Type 0 where
+  pub leaf : atoms raw ≡ Leaf raw ∷ []
+  pub setting : new.setting ≡ old.setting
+  pub memory : new.memory ≡ old.memory
+  pub given : (may_call : Bool) → outcome may_call ≡ record { notes = []; product = line_product new.line; memory = old.memory }
+
+abbrev pub TakesIf : Bool → Acting → List ℕ → (Bool → Outcome) → Acting → Type 0
+TakesIf true old raw outcome new = IsTaken old raw outcome new
+TakesIf false old raw outcome new = new ≡ old
 
 -- a new object remembers nothing
 pub record IsNew (output : Output) (a : Acting) : Type 0 where

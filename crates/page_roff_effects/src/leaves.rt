@@ -22,16 +22,16 @@ use page_roff_values::NoteOut;
 /// A control line with a name.
 #[derive(Clone, Copy)]
 pub(crate) struct ControlLine<'a> {
-    name: &'a [u8],
+    pub(crate) name: &'a [u8],
     column: u32,
     // How many bytes go up to the end of the name.
-    name_end: u32,
+    pub(crate) name_end: u32,
     // The line without its comment.
-    text: &'a [u8],
+    pub(crate) text: &'a [u8],
 }
 
-// A control line with its parts as they were read.
-fn control_line<'a>(
+/// A control line with its parts as they were read.
+pub(crate) fn control_line<'a>(
     text: &'a [u8],
     name: &'a [u8],
     column: u32,
@@ -42,6 +42,7 @@ fn control_line<'a>(
     requires short { length text.now ≤ LINE }
     ensures value { control_seen result ≡ leaves.control_line text.now name.now column rest_column }
     ensures fits { result.name_end ≤ LINE }
+    ensures short { length result.text.now ≤ LINE }
 {
     let name_end = rest_column - 1;
     ControlLine {
@@ -52,8 +53,8 @@ fn control_line<'a>(
     }
 }
 
-// The form of a line of plain text.
-fn plain_form(text: &[u8]) -> Form
+/// The form of a line of plain text.
+pub(crate) fn plain_form(text: &[u8]) -> Form
     ensures { result ≡ plain_form text.now }
 {
     if has_word(text) {

@@ -6,6 +6,7 @@
 #![tactic(auto)]
 
 mod actions;
+mod at_once;
 mod buffers;
 mod calls;
 mod commands;

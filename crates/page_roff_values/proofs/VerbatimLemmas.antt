@@ -15,7 +15,7 @@ use Rattle.page_roff_values.specs.declared.parts.Part.TheVariants.{Copied, Calle
 use Rattle.page_roff_values.specs.Environments.{Surroundings}
 use Rattle.page_roff_values.specs.Parts.{after_plain, call_cut, character_len, copies, parts, parts_up_to, plain, seen}
 use Rattle.page_roff_values.specs.Values.{NEST, Laid, Spot, adds, call_at, expanded, lay, nothing, start, value}
-use Rattle.page_roff_values.specs.Verbatim.{IsFree, IsFreeFrom, IsVerbatim, copied_bytes, is_backslash, may_call}
+use Rattle.page_roff_values.specs.Verbatim.{GivesItself, IsFree, IsFreeFrom, IsVerbatim, copied_bytes, is_backslash, may_call}
 use Rattle.page_roff_values.proofs.LayLemmas.{seq_nothing}
 use Rattle.page_roff_values.proofs.LineLemmas.{put_all}
 use Rattle.page_roff_values.proofs.ReadLemmas.{escape_alone, escape_pair, parts_more, plain_part}
@@ -192,3 +192,6 @@ pub verbatim_line : (env : Surroundings) (n : ℕ) (line : List ℕ) → IsVerba
     → expanded env n line ≡ nothing (adds line (start n))
 unfolding value
 verbatim_line env n line v h = lay_copied (call_at env NEST) (parts env.copy line) line (start n) v refl (omega arith)
+
+pub gives_itself : (line : List ℕ) → IsVerbatim false line → length line ≤ LINE → GivesItself line
+gives_itself line v h env n e = verbatim_line env n line (rw e v) h

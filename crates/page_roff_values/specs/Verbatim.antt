@@ -4,7 +4,9 @@
 use Rattle.std.specs.Prelude.{◌≡◌, ◌==◌, ◌||◌, ◌&&◌, ◌+◌, ◌<◌, ◌≤◌, ℕ, Bool, false, List, [], ◌∷◌, ◌++◌, length, get_or, Option, Some, None, option_map}
 use Rattle.page_roff_values.specs.declared.parts.Part.{Part}
 use Rattle.page_roff_values.specs.declared.parts.Part.TheVariants.{Copied, Called}
+use Rattle.page_roff_values.specs.Environments.{Surroundings}
 use Rattle.page_roff_values.specs.Parts.{parts}
+use Rattle.page_roff_values.specs.Values.{nothing, adds, start, expanded}
 
 -- the bytes of parts that are all copied
 abbrev pub copied_bytes : List (Part (List ℕ)) → Option (List ℕ)
@@ -34,3 +36,7 @@ IsFreeFrom at n text = (k : ℕ) → at ≤ k → k < at + n → may_call_at tex
 -- none begins in a text
 abbrev pub IsFree : List ℕ → Type 0
 IsFree text = (k : ℕ) → k + 1 < length text → may_call_at text k ≡ false
+
+-- a line is what it gives, without a message and without an interpolation, whatever names stand for
+abbrev pub GivesItself : List ℕ → Type 0
+GivesItself text = (env : Surroundings) (line : ℕ) → env.copy ≡ false → expanded env line text ≡ nothing (adds text (start line))

@@ -25,3 +25,4 @@ pub use expansions::Expansion;
 pub use laws::{is_bounded, keeps_texts};
 pub use note_latches::{NoteLatch, NoteOut};
 pub use numbers::expression;
+pub use verbatim::gives_itself;

@@ -1,8 +1,9 @@
 //! Texts that are their own value (roff(7), "Escape sequences").
 
-ghost use Rattle.std.specs.Prelude.{◌≡◌, ◌+◌, ◌<◌, length, map, false, IsTrue};
+ghost use Rattle.std.specs.Prelude.{◌≡◌, ◌+◌, ◌<◌, ◌≤◌, length, map, false, IsTrue};
 ghost use Rattle.std.specs.Simd.Lanes.{mask_l};
-ghost use Rattle.page_roff_values.specs.Verbatim.{IsFree, IsFreeFrom, IsVerbatim, is_backslash, may_call};
+ghost use Rattle.page_core_limits.specs.declared.TheConstants.{LINE};
+ghost use Rattle.page_roff_values.specs.Verbatim.{GivesItself, IsFree, IsFreeFrom, IsVerbatim, is_backslash, may_call};
 
 use memchr::memchr;
 use std::simd::prelude::*;
@@ -100,4 +101,13 @@ pub(crate) fn is_verbatim(text: &[u8], copy: bool) -> bool
     } else {
         is_free(text)
     }
+}
+
+/// Whether a line is seen to be what it gives: nothing in it is interpolated, and it has no message.
+#[tactic(auto, using(crate::proofs::VerbatimLemmas::gives_itself))]
+pub fn gives_itself(line: &[u8]) -> bool
+    requires { length line.now ≤ LINE }
+    ensures { IsTrue result → GivesItself line.now }
+{
+    is_verbatim(line, false)
 }

@@ -30,3 +30,8 @@ returns-clause-fits c =
     let s = uncommented_short c.args.text.now in
     let t = c.requires.short in
     omega arith
+
+pub returns-clause-short : goal.returns-clause-short
+returns-clause-short c =
+    let n = length-take (c.args.rest_column - 1 + length c.args.rest.now) c.args.text.now in
+    omega (arith, n, c.requires.short)
