@@ -1,4 +1,5 @@
 pub mod ActLemmas
+pub mod AtOnceLemmas
 pub mod DoingLemmas
 pub mod FrameLemmas
 pub mod GoLemmas

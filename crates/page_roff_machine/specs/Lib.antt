@@ -1,3 +1,4 @@
+pub mod AtOnce
 pub mod Doing
 pub mod Giving
 pub mod Machines

@@ -16,7 +16,7 @@ use Rattle.page_roff_effects.specs.Acting.{Acting}
 use Rattle.page_roff_effects.specs.Acting as acting
 use Rattle.page_roff_effects.specs.Effects.{effects}
 use Rattle.page_roff_effects.specs.RegionLines.{finish_outcome}
-use Rattle.page_roff_effects.specs.States.{Memory, State, Given, numbered}
+use Rattle.page_roff_effects.specs.States.{Memory, State, Given, takes, numbered}
 use Rattle.page_roff_stack.specs.Stacks.{Stack, first_stack, running, next_of, is_nothing}
 use Rattle.page_roff_machine.specs.Giving.{notes_before, next_line, after_line}
 
@@ -89,6 +89,20 @@ begun_at number m = record {
 pub record Begins (line : List ℕ) (number : ℕ) (old new : Machine) : Type 0 where
   pub output : output_of new ≡ output_of old
   pub outcome : outcome_of new ≡ run_page (language_of old) (line ∷ []) (begun_at number old)
+
+-- where the machine stands, and what was given
+abbrev pub stands_after : List Given → Machine → At (Budgeted State)
+stands_after given m = record { place = place_of m; state = (running_of given m).state }
+
+-- all of a line of the page was taken at once: that line is all that it gives, and it is done
+pub record Takes (line : List ℕ) (number : ℕ) (old new : Machine) : Type 0 where
+  pub output : output_of new ≡ output_of old
+  pub idle : is_idle new ≡ true
+  pub outcome : stands_after (takes new.actions.line ∷ []) new ≡ run_page (language_of old) (line ∷ []) (begun_at number old)
+
+abbrev pub BeginsOrTakes : Bool → List ℕ → ℕ → Machine → Machine → Type 0
+BeginsOrTakes true line number old new = Takes line number old new
+BeginsOrTakes false line number old new = Begins line number old new
 
 -- ---- running on
 

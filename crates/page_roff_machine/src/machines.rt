@@ -7,7 +7,7 @@ ghost use Rattle.page_core_limits.specs.declared.TheConstants.{ARGS, BODY, CALLS
 ghost use Rattle.page_roff_blocks.specs.Caps.{PlaceFits};
 ghost use Rattle.page_roff_values.specs.Latches.{Came};
 ghost use Rattle.page_roff_effects.specs.Caps.{MemoryFits};
-ghost use Rattle.page_roff_machine.specs.Machines.{Advances, Begins, IsNew, is_idle, end_memory, end_notes, place_of};
+ghost use Rattle.page_roff_machine.specs.Machines.{Advances, BeginsOrTakes, IsNew, is_idle, end_memory, end_notes, place_of};
 
 use crate::budgeted_actions::BudgetedActions;
 use crate::runners::Runner;
@@ -62,18 +62,23 @@ impl Machine {
         self.runner.stack.is_idle()
     }
 
-    /// A source line of this number comes, after the last one is done. It has a budget of its own.
-    pub fn begin(&mut self, line: &[u8], number: u32)
+    /// A source line of this number comes, after the last one is done. It has a budget of its own. Answers whether it is taken at once: then it is
+    /// done, and lent by [`Machine::line`]; else [`Machine::advance`] runs it.
+    pub fn begin(&mut self, line: &[u8], number: u32) -> bool
         requires idle { is_idle self.old ≡ true }
         requires line { IsLine line.now }
         requires skips { self.old.stack.top.spot.levels.skipped < 2 ^ 62 }
         requires count { self.old.budget.taken ≤ 2 ^ 62 }
-        ensures { Begins line.now number self.old self.new }
+        ensures { BeginsOrTakes result line.now number self.old self.new }
     {
+        if self.runner.take_at_once(line, number) {
+            return true;
+        }
         self.runner.stack.set_line(line);
         self.runner.doing.actions.leave();
         self.runner.doing.actions.begin_line(number);
         self.runner.doing.budget.renew();
+        false
     }
 
     /// Runs on until a line is taken, or until the source line is done: whether a line was taken.

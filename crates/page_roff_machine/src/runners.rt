@@ -1,6 +1,7 @@
 //! The steps of the machine: what comes next is done, and the input stack moves on.
 
-ghost use Rattle.std.specs.Prelude.{◌≡◌, ◌≤◌, true, false, None, length};
+ghost use Rattle.std.specs.Prelude.{◌≡◌, ◌≤◌, ◌^◌, true, false, None, length};
+ghost use Rattle.page_core_base.specs.Texts.{IsLine};
 ghost use Rattle.page_core_limits.specs.declared.TheConstants.{ARGS};
 ghost use Rattle.page_roff_effects.specs.declared.commands.ProductKind.TheVariants as kinds;
 ghost use Rattle.page_roff_stack.specs.Stacks.{next_of, part_in, is_part, is_line, may_end, is_nothing};
@@ -8,6 +9,7 @@ ghost use Rattle.page_roff_machine.specs.Doing.{IsIn};
 ghost use Rattle.page_roff_machine.specs.Machines.{Advances};
 ghost use Rattle.page_roff_machine.specs.Moving.{Collects, Decides, Moves, Closes, Shifts, Repeats, Suits, CanBegin};
 ghost use Rattle.page_roff_machine.specs.Moving.{called, passes_block, progress_as, with_arguments_of};
+ghost use Rattle.page_roff_machine.specs.AtOnce.{IsOutside, TakesAtOnceIf};
 ghost use Rattle.page_roff_machine.specs.Stepping.{IsSound, IsMeasured, Steps, machine_of};
 
 use crate::budgeted_actions::BudgetedActions;
@@ -347,6 +349,36 @@ impl Runner {
             return Progress::Done;
         }
         self.step_on(out)
+    }
+}
+
+impl Runner {
+    // Whether a line of the page would begin outside of macros, loops, regions and skipped blocks.
+    fn is_outside(&self) -> bool
+        ensures { result ≡ true → IsOutside self.now.stack }
+    {
+        self.stack.is_page()
+            && self.stack.region().is_none()
+            && !self.stack.in_loop()
+            && self.stack.skipped() == 0
+    }
+
+    /// Takes a source line of this number at once, after the last one is done, if it is left to the set of macros as it is written; says
+    /// whether it did. If it did not, the actions know the number.
+    pub(crate) fn take_at_once(&mut self, line: &[u8], number: u32) -> bool
+        requires line { IsLine line.now }
+        requires count { self.old.doing.budget.taken ≤ 2 ^ 62 }
+        ensures { TakesAtOnceIf result line.now number self.old self.new }
+    {
+        if !self.is_outside() {
+            return false;
+        }
+        self.doing.actions.begin_line(number);
+        if !self.doing.actions.take_at_once(line) {
+            return false;
+        }
+        self.doing.budget.begin();
+        true
     }
 }
 

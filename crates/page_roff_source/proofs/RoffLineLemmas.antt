@@ -1,5 +1,5 @@
 -- The machine that runs a page's lines stands at the page's edge: helpers of proofs.
-use Rattle.std.proofs.Common.{◌≡◌, ℕ, ◌+◌, ◌≤◌, ◌<◌, ◌^◌, Bool, true, false, not, if◌then◌else◌, List, [], ◌∷◌, length, Option, Some, None, refl, sym, ap, subst, ◌∙◌, arith}
+use Rattle.std.proofs.Common.{◌≡◌, ℕ, ◌+◌, ◌≤◌, ◌<◌, ◌^◌, Bool, true, false, List, [], ◌∷◌, length, Option, Some, None, refl, sym, ap, subst, ◌∙◌, arith}
 use Rattle.page_core_base.specs.Texts.{IsLine}
 use Rattle.page_core_limits.specs.declared.TheConstants.{LINE, REREAD}
 use Rattle.page_core_base.specs.LinesTaken.{Line}
@@ -16,9 +16,9 @@ use Rattle.page_roff_stack.specs.Stacks.{is_nothing}
 use Rattle.page_roff_stack.specs.Stacks as stack
 use Rattle.page_roff_effects.specs.Caps.{MemoryFits}
 use Rattle.page_roff_effects.specs.RegionLines.{finish_outcome}
-use Rattle.page_roff_effects.specs.States.{Given, State, Memory, Setting, first_memory, numbered}
+use Rattle.page_roff_effects.specs.States.{Given, State, Memory, Setting, takes, first_memory, numbered}
 use Rattle.page_roff_machine.specs.Giving.{next_line, after_line}
-use Rattle.page_roff_machine.specs.Machines.{Machine, output_of, language_of, running_of, outcome_of, to_come, end_of, place_of, stands, begun_at, Begins, Advances, taken_if, IsIdleUnless, IsNew}
+use Rattle.page_roff_machine.specs.Machines.{Machine, output_of, language_of, running_of, outcome_of, to_come, end_of, place_of, stands, stands_after, begun_at, Begins, Takes, BeginsOrTakes, Advances, taken_if, IsIdleUnless, IsNew}
 use Rattle.page_roff_machine.specs.Machines as machine
 use Rattle.page_roff_machine.proofs.MachineLemmas.{idle_stands, new_idle}
 use Rattle.page_roff_texts.specs.Texts.{HoldsTexts, AreGiven}
@@ -27,7 +27,9 @@ use Rattle.page_roff_source.specs.declared.counts.Counts.{Counts}
 use Rattle.page_roff_source.specs.Caps.{RoffFits}
 use Rattle.page_roff_source.specs.Edges.{Edge, SourceLine, first_edge, counts_of, end_notes}
 use Rattle.page_roff_source.specs.Taking.{LinesState, before_line, run_line, line_begun, given_of, line_taken, left_if}
-use Rattle.page_roff_source.specs.RoffLines.{edge_of, state_of, IsCounted, IsAtEdge, RunsOn}
+use Rattle.page_roff_source.specs.declared.roff_lines.Remaining.{Remaining}
+use Rattle.page_roff_source.specs.declared.roff_lines.Remaining.TheVariants as remaining
+use Rattle.page_roff_source.specs.RoffLines.{edge_of, state_of, given_by, begun_as, run_if, IsIdleAs, IsCounted, IsAtEdge, RunsOn}
 use Rattle.page_roff_source.proofs.CountLemmas.{taken_bound}
 use Rattle.page_roff_source.proofs.RoomLemmas.{done_room}
 use Rattle.page_roff_source.proofs.TextLemmas.{line_texts, taken_is, taken_line}
@@ -70,7 +72,7 @@ begun_from a number = record {
 
 -- ---- before the first line
 
-new_edge : (output : Output) (m : Machine) → IsNew output m → outcome_of m ≡ stands m → edge_of m 0 true ≡ first_edge output
+new_edge : (output : Output) (m : Machine) → IsNew output m → outcome_of m ≡ stands m → edge_of m 0 remaining.Nothing ≡ first_edge output
 unfolding at_line first_place
 new_edge output m n e =
     ap (λ (a : At (Budgeted State)). edge_with (output_of m) a 0 None) e
@@ -79,7 +81,7 @@ new_edge output m n e =
     ∙ ap (λ (k : Memory). at_stack output stack.first_stack k m.budget.taken) n.actions.memory
     ∙ ap (λ (b : Budget). at_stack output stack.first_stack first_memory b.taken) n.budget
 
-pub new_at : (output : Output) (m : Machine) → IsNew output m → edge_of m 0 true ≡ first_edge output
+pub new_at : (output : Output) (m : Machine) → IsNew output m → edge_of m 0 remaining.Nothing ≡ first_edge output
 new_at output m n = new_edge output m n (idle_stands m (new_idle output m n))
 
 pub new_counted : (output : Output) → IsCounted (first_edge output)
@@ -89,17 +91,29 @@ new_counted output = record { source = omega arith; taken = omega arith; skipped
 -- ---- a line begins
 
 before_at : (m : Machine) (source : ℕ) (line : SourceLine) → outcome_of m ≡ stands m
-    → before_line (edge_of m source true) line ≡ begun_at line.number m
+    → before_line (edge_of m source remaining.Nothing) line ≡ begun_at line.number m
 unfolding before_line
 before_at m source line e = ap (λ (a : At (Budgeted State)). begun_from a line.number) e
 
 pub begun : (old new : Machine) (source : ℕ) (line : SourceLine) → machine.is_idle old ≡ true → Begins line.text line.number old new
-    → edge_of new (source + 1) false ≡ line_begun (edge_of old source true) line
+    → edge_of new (source + 1) remaining.Run ≡ line_begun (edge_of old source remaining.Nothing) line
 unfolding run_line
 begun old new source line idle b =
     let e = before_at old source line (idle_stands old idle) in
     let outcome = b.outcome ∙ sym (ap (run_page (language_of old) (line.text ∷ [])) e) in
     ap (λ (o : Output). begun_with o (outcome_of new) (source + 1)) b.output
+    ∙ ap (λ (a : At (Budgeted State)). begun_with (output_of old) a (source + 1)) outcome
+
+-- a line that is taken at once, where it is all that the line gives
+pub taken : (old new : Machine) (source : ℕ) (line : SourceLine) → machine.is_idle old ≡ true → Takes line.text line.number old new
+    → edge_of new (source + 1) remaining.Line ≡ line_begun (edge_of old source remaining.Nothing) line
+unfolding run_line
+taken old new source line idle t =
+    let e = before_at old source line (idle_stands old idle) in
+    let given = takes new.actions.line ∷ [] in
+    let outcome = t.outcome ∙ sym (ap (run_page (language_of old) (line.text ∷ [])) e) in
+    ap (λ (a : At (Budgeted State)). edge_with (output_of new) a (source + 1) (Some given)) (idle_stands new t.idle)
+    ∙ ap (λ (o : Output). begun_with o (stands_after given new) (source + 1)) t.output
     ∙ ap (λ (a : At (Budgeted State)). begun_with (output_of old) a (source + 1)) outcome
 
 pub begun_counted : (e : Edge) (line : SourceLine) → IsCounted e → e.source < 2 ^ 31 → length line.text ≤ LINE → IsCounted (line_begun e line)
@@ -108,9 +122,9 @@ begun_counted e line c few short =
     let s = done_room e line in
     record { source = omega arith; taken = omega (arith, t, c.taken); skipped = omega (arith, s, c.skipped) }
 
-pub room_to_begin : (m : Machine) (source : ℕ) → IsAtEdge m source true → (m.budget.taken ≤ 2 ^ 62) × ((place_of m).levels.skipped < 2 ^ 62)
+pub room_to_begin : (m : Machine) (source : ℕ) → IsAtEdge m source remaining.Nothing → (m.budget.taken ≤ 2 ^ 62) × ((place_of m).levels.skipped < 2 ^ 62)
 room_to_begin m source p =
-    let e = idle_stands m (p.idle refl) in
+    let e = idle_stands m p.idle in
     let t : (outcome_of m).state.taken ≡ m.budget.taken = ap (λ (a : At (Budgeted State)). a.state.taken) e in
     let s : (outcome_of m).place.levels.skipped ≡ (place_of m).levels.skipped = ap (λ (a : At (Budgeted State)). a.place.levels.skipped) e in
     let c = p.counted in
@@ -118,99 +132,167 @@ room_to_begin m source p =
 
 -- ---- the next line
 
-left_by : (result : Bool) (line : Line) (next : Option Line) (given rest : List Given) → next ≡ taken_if result line → rest ≡ given
-    → (if not result then None else Some rest) ≡ left_if next given
-left_by true line next given rest e r = rw (e, r) refl
-left_by false line next given rest e r = rw e refl
+left_by : (result : Bool) (m : Machine) (next : Option Line) (given : List Given) → next ≡ taken_if result m.actions.line → to_come m ≡ given
+    → given_by (run_if result) m ≡ left_if next given
+left_by true m next given e r = rw (e, r) refl
+left_by false m next given e r = rw e refl
 
 pub advanced : {P S : Type 0} (left : P → S → List Message → Type 0) (old new : Machine) (source : ℕ) (s t : S) (result : Bool)
-    → Advances left old s result new t → edge_of new source (not result) ≡ line_taken (edge_of old source false)
+    → Advances left old s result new t → edge_of new source (run_if result) ≡ line_taken (edge_of old source remaining.Run)
 advanced left old new source s t result a =
-    ap (λ (o : Output). edge_with o (end_of new) source (if not result then None else Some (to_come new))) a.output
-    ∙ ap (λ (x : At (Budgeted State)). edge_with (output_of old) x source (if not result then None else Some (to_come new))) a.ends
+    ap (λ (o : Output). edge_with o (end_of new) source (given_by (run_if result) new)) a.output
+    ∙ ap (λ (x : At (Budgeted State)). edge_with (output_of old) x source (given_by (run_if result) new)) a.ends
     ∙ ap (λ (c : Option (List Given)). edge_with (output_of old) (end_of old) source c)
-    (left_by result new.actions.line (next_line (to_come old)) (after_line (to_come old)) (to_come new) a.line a.rest)
+    (left_by result new (next_line (to_come old)) (after_line (to_come old)) a.line a.rest)
 
 -- ---- the code's object
 
 abbrev counts : ℕ → ℕ → ℕ → Counts
 counts source taken expansions = record { source = source; taken = taken; expansions = expansions }
 
-pub none_in : (m : Machine) (source : ℕ) (is_idle : Bool) (r : LinesState) → state_of m source is_idle ≡ r
-    → r.edge.to_come ≡ None → (edge_of m source is_idle).to_come ≡ None
-none_in m source is_idle r e none = ap (λ (x : LinesState). x.edge.to_come) e ∙ none
+pub none_in : (m : Machine) (source : ℕ) (left : Remaining) (r : LinesState) → state_of m source left ≡ r
+    → r.edge.to_come ≡ None → (edge_of m source left).to_come ≡ None
+none_in m source left r e none = ap (λ (x : LinesState). x.edge.to_come) e ∙ none
 
-pub few_in : (m : Machine) (source : ℕ) (is_idle : Bool) (r : LinesState) → state_of m source is_idle ≡ r → r.edge.source < 2 ^ 31 → source < 2 ^ 31
-few_in m source is_idle r e few =
+pub few_in : (m : Machine) (source : ℕ) (left : Remaining) (r : LinesState) → state_of m source left ≡ r → r.edge.source < 2 ^ 31 → source < 2 ^ 31
+few_in m source left r e few =
     let h : source ≡ r.edge.source = ap (λ (x : LinesState). x.edge.source) e in
     omega (arith, h, few)
 
-idle_unless : (result : Bool) (m : Machine) → IsIdleUnless result m → not result ≡ true → machine.is_idle m ≡ true
-idle_unless true m h e = absurd (cc)
-idle_unless false m h e = h
+idle_unless : (result : Bool) (m : Machine) → IsIdleUnless result m → IsIdleAs (run_if result) m
+idle_unless true m h = tt
+idle_unless false m h = h
 
-is_idle_of : (m : Machine) (source : ℕ) (is_idle : Bool) → (edge_of m source is_idle).to_come ≡ None → is_idle ≡ true
-is_idle_of m source true e = refl
-is_idle_of m source false e = absurd (cc)
-
-pub new_invariant : (output : Output) (m : Machine) → IsNew output m → IsAtEdge m 0 true
+pub new_invariant : (output : Output) (m : Machine) → IsNew output m → IsAtEdge m 0 remaining.Nothing
 unfolding AreGiven
 new_invariant output m n = record {
-  idle = λ _. new_idle output m n;
+  idle = new_idle output m n;
   counted = subst IsCounted (sym (new_at output m n)) (new_counted output);
   texts = subst (λ (e : Edge). HoldsTexts e.memory) (sym (new_at output m n)) first_holds;
   given = tt;
 }
 
-pub begin_room : (m : Machine) (source : ℕ) (is_idle : Bool) → IsAtEdge m source is_idle → (edge_of m source is_idle).to_come ≡ None
+-- the machine has nothing to do where nothing is left of a line
+pub done_idle : (m : Machine) (source : ℕ) (left : Remaining) → IsAtEdge m source left → (edge_of m source left).to_come ≡ None → machine.is_idle m ≡ true
+done_idle m source remaining.Nothing p none = p.idle
+done_idle m source remaining.Line p none = absurd (cc)
+done_idle m source remaining.End p none = absurd (cc)
+done_idle m source remaining.Run p none = absurd (cc)
+
+pub begin_room : (m : Machine) (source : ℕ) (left : Remaining) → IsAtEdge m source left → (edge_of m source left).to_come ≡ None
     → (m.budget.taken ≤ 2 ^ 62) × (m.stack.top.spot.levels.skipped < 2 ^ 62)
-begin_room m source true p none = room_to_begin m source p
-begin_room m source false p none = absurd (cc)
+begin_room m source remaining.Nothing p none = room_to_begin m source p
+begin_room m source remaining.Line p none = absurd (cc)
+begin_room m source remaining.End p none = absurd (cc)
+begin_room m source remaining.Run p none = absurd (cc)
 
-pub begin_edge : (old new : Machine) (source : ℕ) (is_idle : Bool) (line : List ℕ) (number : ℕ) → IsAtEdge old source is_idle
-    → (edge_of old source is_idle).to_come ≡ None → Begins line number old new
-    → edge_of new (source + 1) false ≡ line_begun (edge_of old source is_idle) (record { text = line; number = number; notes = [] })
-begin_edge old new source true line number p none b = begun old new source (record { text = line; number = number; notes = [] }) (p.idle refl) b
-begin_edge old new source false line number p none b = absurd (cc)
+begin_at : (old new : Machine) (source : ℕ) (is_taken : Bool) (line : List ℕ) (number : ℕ) → machine.is_idle old ≡ true → BeginsOrTakes is_taken line number old new
+    → edge_of new (source + 1) (begun_as is_taken) ≡ line_begun (edge_of old source remaining.Nothing) (record { text = line; number = number; notes = [] })
+begin_at old new source true line number idle b = taken old new source (record { text = line; number = number; notes = [] }) idle b
+begin_at old new source false line number idle b = begun old new source (record { text = line; number = number; notes = [] }) idle b
 
-pub begin_invariant : (old new : Machine) (source : ℕ) (is_idle : Bool) (line : List ℕ) (number : ℕ) → IsAtEdge old source is_idle
-    → (edge_of old source is_idle).to_come ≡ None → Begins line number old new → source < 2 ^ 31 → IsLine line
-    → IsAtEdge new (source + 1) false
-begin_invariant old new source is_idle line number p none b few t =
+pub begin_edge : (old new : Machine) (source : ℕ) (left : Remaining) (is_taken : Bool) (line : List ℕ) (number : ℕ) → IsAtEdge old source left
+    → (edge_of old source left).to_come ≡ None → BeginsOrTakes is_taken line number old new
+    → edge_of new (source + 1) (begun_as is_taken) ≡ line_begun (edge_of old source left) (record { text = line; number = number; notes = [] })
+begin_edge old new source remaining.Nothing is_taken line number p none b = begin_at old new source is_taken line number p.idle b
+begin_edge old new source remaining.Line is_taken line number p none b = absurd (cc)
+begin_edge old new source remaining.End is_taken line number p none b = absurd (cc)
+begin_edge old new source remaining.Run is_taken line number p none b = absurd (cc)
+
+begun_idle : (old new : Machine) (is_taken : Bool) (line : List ℕ) (number : ℕ) → BeginsOrTakes is_taken line number old new → IsIdleAs (begun_as is_taken) new
+begun_idle old new true line number b = b.idle
+begun_idle old new false line number b = tt
+
+pub begin_invariant : (old new : Machine) (source : ℕ) (left : Remaining) (is_taken : Bool) (line : List ℕ) (number : ℕ) → IsAtEdge old source left
+    → (edge_of old source left).to_come ≡ None → BeginsOrTakes is_taken line number old new → source < 2 ^ 31 → IsLine line
+    → IsAtEdge new (source + 1) (begun_as is_taken)
+begin_invariant old new source left is_taken line number p none b few t =
     let l : SourceLine = record { text = line; number = number; notes = [] } in
-    let e = edge_of old source is_idle in
-    let same = sym (begin_edge old new source is_idle line number p none b) in
+    let e = edge_of old source left in
+    let same = sym (begin_edge old new source left is_taken line number p none b) in
     let h = line_texts e l p.texts t in
     record {
-      idle = λ h. absurd (cc);
+      idle = begun_idle old new is_taken line number b;
       counted = subst IsCounted same (begun_counted e l p.counted few t.bounded);
       texts = subst (λ (x : Edge). HoldsTexts x.memory) same h.memory;
       given = subst (λ (x : Edge). AreGiven (given_of x)) same h.out;
     }
 
+-- after the line that was taken at once
+pub line_invariant : (m : Machine) (source : ℕ) (left : Remaining) → IsAtEdge m source left → left ≡ remaining.Line → IsAtEdge m source remaining.End
+unfolding AreGiven
+line_invariant m source remaining.Nothing p e = absurd (cc)
+line_invariant m source remaining.End p e = absurd (cc)
+line_invariant m source remaining.Line p e = record {
+  idle = p.idle;
+  counted = record { source = p.counted.source; taken = p.counted.taken; skipped = p.counted.skipped };
+  texts = p.texts;
+  given = tt;
+}
+line_invariant m source remaining.Run p e = absurd (cc)
+
+pub line_runs_on : {P S : Type 0} (left : P → S → List Message → Type 0) (m : Machine) (source : ℕ) (r : Remaining) (old : LinesState) (s : S)
+    → IsAtEdge m source r → r ≡ remaining.Line → state_of m source r ≡ old
+    → RunsOn left old s true (state_of m source remaining.End) s
+line_runs_on left m source remaining.Nothing old s p e v = absurd (cc)
+line_runs_on left m source remaining.End old s p e v = absurd (cc)
+line_runs_on left m source remaining.Line old s p e v =
+    rw (← v) (record {
+      came = λ plan more h. h;
+      line = refl;
+      text = taken_line true m.actions.line (takes m.actions.line ∷ []) p.given refl;
+      edge = refl;
+    })
+line_runs_on left m source remaining.Run old s p e v = absurd (cc)
+
+-- after its end was told
+pub told_invariant : (m : Machine) (source : ℕ) (left : Remaining) → IsAtEdge m source left → left ≡ remaining.End → IsAtEdge m source remaining.Nothing
+unfolding AreGiven
+told_invariant m source remaining.Nothing p e = absurd (cc)
+told_invariant m source remaining.End p e = record {
+  idle = p.idle;
+  counted = record { source = p.counted.source; taken = p.counted.taken; skipped = p.counted.skipped };
+  texts = p.texts;
+  given = tt;
+}
+told_invariant m source remaining.Line p e = absurd (cc)
+told_invariant m source remaining.Run p e = absurd (cc)
+
+pub told_runs_on : {P S : Type 0} (left : P → S → List Message → Type 0) (m : Machine) (source : ℕ) (r : Remaining) (old : LinesState) (s : S)
+    → r ≡ remaining.End → state_of m source r ≡ old → RunsOn left old s false (state_of m source remaining.Nothing) s
+told_runs_on left m source remaining.Nothing old s e v = absurd (cc)
+told_runs_on left m source remaining.End old s e v =
+    rw (← v) (record { came = λ plan more h. h; line = refl; text = λ h. absurd (cc); edge = refl })
+told_runs_on left m source remaining.Line old s e v = absurd (cc)
+told_runs_on left m source remaining.Run old s e v = absurd (cc)
+
 -- after the next line, or at the end
-pub advance_invariant : {P S : Type 0} (left : P → S → List Message → Type 0) (old new : Machine) (source : ℕ) (s t : S) (result : Bool)
-    → IsAtEdge old source false → Advances left old s result new t → IsAtEdge new source (not result)
-advance_invariant left old new source s t result p a =
+advance_done : {P S : Type 0} (left : P → S → List Message → Type 0) (old new : Machine) (source : ℕ) (s t : S) (result : Bool)
+    → IsAtEdge old source remaining.Run → Advances left old s result new t → IsAtEdge new source (run_if result)
+advance_done left old new source s t result p a =
     let same = sym (advanced left old new source s t result a) in
     record {
       idle = idle_unless result new a.idle;
       counted = subst IsCounted same (record { source = p.counted.source; taken = p.counted.taken; skipped = p.counted.skipped });
       texts = subst (λ (x : Edge). HoldsTexts x.memory) same p.texts;
-      given = subst (λ (x : Edge). AreGiven (given_of x)) same (taken_is (edge_of old source false) p.given);
+      given = subst (λ (x : Edge). AreGiven (given_of x)) same (taken_is (edge_of old source remaining.Run) p.given);
     }
 
--- it runs on where not all was given
-pub advance_at : {P S : Type 0} (left : P → S → List Message → Type 0) (old new : Machine) (source : ℕ) (is_idle : Bool) (s t : S) (result : Bool)
-    → IsAtEdge old source is_idle → is_idle ≡ false → Advances left old s result new t → IsAtEdge new source (not result)
-advance_at left old new source true s t result p e a = absurd (cc)
-advance_at left old new source false s t result p e a = advance_invariant left old new source s t result p a
+-- it runs on where the machine has something to run
+pub advance_at : {P S : Type 0} (left : P → S → List Message → Type 0) (old new : Machine) (source : ℕ) (r : Remaining) (s t : S) (result : Bool)
+    → IsAtEdge old source r → r ≡ remaining.Run → Advances left old s result new t → IsAtEdge new source (run_if result)
+advance_at left old new source remaining.Nothing s t result p e a = absurd (cc)
+advance_at left old new source remaining.Line s t result p e a = absurd (cc)
+advance_at left old new source remaining.End s t result p e a = absurd (cc)
+advance_at left old new source remaining.Run s t result p e a = advance_done left old new source s t result p a
 
-pub runs_on : {P S : Type 0} (left : P → S → List Message → Type 0) (old new : Machine) (source : ℕ) (is_idle : Bool) (r : LinesState) (s t : S) (result : Bool)
-    → IsAtEdge old source is_idle → is_idle ≡ false → state_of old source is_idle ≡ r → Advances left old s result new t
-    → RunsOn left r s result (state_of new source (not result)) t
-runs_on left old new source true r s t result p e v a = absurd (cc)
-runs_on left old new source false r s t result p e v a =
+pub runs_on : {P S : Type 0} (left : P → S → List Message → Type 0) (old new : Machine) (source : ℕ) (r : Remaining) (x : LinesState) (s t : S) (result : Bool)
+    → IsAtEdge old source r → r ≡ remaining.Run → state_of old source r ≡ x → Advances left old s result new t
+    → RunsOn left x s result (state_of new source (run_if result)) t
+runs_on left old new source remaining.Nothing x s t result p e v a = absurd (cc)
+runs_on left old new source remaining.Line x s t result p e v a = absurd (cc)
+runs_on left old new source remaining.End x s t result p e v a = absurd (cc)
+runs_on left old new source remaining.Run x s t result p e v a =
     rw (← v) (record {
       came = a.came;
       line = a.line;
@@ -219,30 +301,36 @@ runs_on left old new source false r s t result p e v a =
     })
 
 -- where all was given, the machine stands at the page's edge
-pub counts_at : (m : Machine) (source : ℕ) (is_idle : Bool) → IsAtEdge m source is_idle → (edge_of m source is_idle).to_come ≡ None
-    → counts source m.budget.taken m.actions.memory.expansions ≡ counts_of (edge_of m source is_idle)
-counts_at m source true p none =
-    ap (λ (a : At (Budgeted State)). counts source a.state.taken a.state.rest.memory.expansions) (sym (idle_stands m (p.idle refl)))
-counts_at m source false p none = absurd (cc)
+pub counts_at : (m : Machine) (source : ℕ) (left : Remaining) → IsAtEdge m source left → (edge_of m source left).to_come ≡ None
+    → counts source m.budget.taken m.actions.memory.expansions ≡ counts_of (edge_of m source left)
+counts_at m source remaining.Nothing p none =
+    ap (λ (a : At (Budgeted State)). counts source a.state.taken a.state.rest.memory.expansions) (sym (idle_stands m p.idle))
+counts_at m source remaining.Line p none = absurd (cc)
+counts_at m source remaining.End p none = absurd (cc)
+counts_at m source remaining.Run p none = absurd (cc)
 
-pub fits_at : (m : Machine) (source : ℕ) (is_idle : Bool) → IsAtEdge m source is_idle → (edge_of m source is_idle).to_come ≡ None
-    → PlaceFits (place_of m) → MemoryFits m.actions.memory → RoffFits (edge_of m source is_idle)
-fits_at m source true p none f g =
-    let e = sym (idle_stands m (p.idle refl)) in
+pub fits_at : (m : Machine) (source : ℕ) (left : Remaining) → IsAtEdge m source left → (edge_of m source left).to_come ≡ None
+    → PlaceFits (place_of m) → MemoryFits m.actions.memory → RoffFits (edge_of m source left)
+fits_at m source remaining.Nothing p none f g =
+    let e = sym (idle_stands m p.idle) in
     record {
       memory = subst (λ (a : At (Budgeted State)). MemoryFits a.state.rest.memory) e g;
       place = subst (λ (a : At (Budgeted State)). PlaceFits a.place) e f;
     }
-fits_at m source false p none f g = absurd (cc)
+fits_at m source remaining.Line p none f g = absurd (cc)
+fits_at m source remaining.End p none f g = absurd (cc)
+fits_at m source remaining.Run p none f g = absurd (cc)
 
-pub end_notes_at : (m : Machine) (source : ℕ) (is_idle : Bool) → IsAtEdge m source is_idle → (edge_of m source is_idle).to_come ≡ None
-    → end_notes (edge_of m source is_idle) ≡ machine.end_notes m
-end_notes_at m source true p none =
-    ap (λ (a : At (Budgeted State)). (finish_outcome a.place.region a.place.levels.in_loop false a.state.rest.memory).notes) (idle_stands m (p.idle refl))
-end_notes_at m source false p none = absurd (cc)
+pub end_notes_at : (m : Machine) (source : ℕ) (left : Remaining) → IsAtEdge m source left → (edge_of m source left).to_come ≡ None
+    → end_notes (edge_of m source left) ≡ machine.end_notes m
+end_notes_at m source remaining.Nothing p none =
+    ap (λ (a : At (Budgeted State)). (finish_outcome a.place.region a.place.levels.in_loop false a.state.rest.memory).notes) (idle_stands m p.idle)
+end_notes_at m source remaining.Line p none = absurd (cc)
+end_notes_at m source remaining.End p none = absurd (cc)
+end_notes_at m source remaining.Run p none = absurd (cc)
 
 ended_counted : (old new : Machine) (source : ℕ) → machine.is_idle old ≡ true → machine.is_idle new ≡ true → new.stack ≡ old.stack → new.budget ≡ old.budget
-    → IsCounted (edge_of old source true) → IsCounted (edge_of new source true)
+    → IsCounted (edge_of old source remaining.Nothing) → IsCounted (edge_of new source remaining.Nothing)
 ended_counted old new source i j s b c =
     let o = idle_stands old i in
     let n = idle_stands new j in
@@ -253,17 +341,19 @@ ended_counted old new source i j s b c =
     ∙ sym (ap (λ (a : At (Budgeted State)). a.place.levels.skipped) o) in
     record { source = c.source; taken = omega (arith, t, c.taken); skipped = omega (arith, k, c.skipped) }
 
-pub end_invariant : (old new : Machine) (source : ℕ) (is_idle : Bool) → IsAtEdge old source is_idle → (edge_of old source is_idle).to_come ≡ None
-    → new.stack ≡ old.stack → new.budget ≡ old.budget → new.actions.memory ≡ machine.end_memory old → IsAtEdge new source is_idle
+pub end_invariant : (old new : Machine) (source : ℕ) (left : Remaining) → IsAtEdge old source left → (edge_of old source left).to_come ≡ None
+    → new.stack ≡ old.stack → new.budget ≡ old.budget → new.actions.memory ≡ machine.end_memory old → IsAtEdge new source left
 unfolding AreGiven
-end_invariant old new source true p none s b m =
-    let i = ap (λ (x : stack.Stack). is_nothing (stack.next_of x)) s ∙ p.idle refl in
-    let held : HoldsTexts old.actions.memory = subst (λ (a : At (Budgeted State)). HoldsTexts a.state.rest.memory) (idle_stands old (p.idle refl)) p.texts in
+end_invariant old new source remaining.Nothing p none s b m =
+    let i = ap (λ (x : stack.Stack). is_nothing (stack.next_of x)) s ∙ p.idle in
+    let held : HoldsTexts old.actions.memory = subst (λ (a : At (Budgeted State)). HoldsTexts a.state.rest.memory) (idle_stands old p.idle) p.texts in
     let left = finish_holds old.stack.top.region old.stack.top.spot.levels.in_loop false old.actions.memory held in
     record {
-      idle = λ _. i;
-      counted = ended_counted old new source (p.idle refl) i s b p.counted;
+      idle = i;
+      counted = ended_counted old new source p.idle i s b p.counted;
       texts = subst (λ (a : At (Budgeted State)). HoldsTexts a.state.rest.memory) (sym (idle_stands new i)) (subst HoldsTexts (sym m) left);
       given = tt;
     }
-end_invariant old new source false p none s b m = absurd (cc)
+end_invariant old new source remaining.Line p none s b m = absurd (cc)
+end_invariant old new source remaining.End p none s b m = absurd (cc)
+end_invariant old new source remaining.Run p none s b m = absurd (cc)

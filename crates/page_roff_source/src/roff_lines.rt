@@ -11,7 +11,7 @@ ghost use Rattle.page_roff_machine.specs.Giving.{notes_before, next_line};
 ghost use Rattle.page_roff_source.specs.Caps.{RoffFits, RunsWithin};
 ghost use Rattle.page_roff_source.specs.Edges.{first_edge, end_notes, counts_of};
 ghost use Rattle.page_roff_source.specs.Taking.{line_begun, given_of, line_taken, is_idle};
-ghost use Rattle.page_roff_source.specs.RoffLines.{RunsOn};
+ghost use Rattle.page_roff_source.specs.RoffLines.{RunsOn, begun_as, run_if};
 
 use crate::counts::Counts;
 use page_core_base::{Output, Taken};
@@ -20,6 +20,41 @@ use page_roff_values::NoteOut;
 use std::alloc::{AllocError, Global};
 use std::marker::Model;
 
+/// What of the present source line is still to be given.
+#[derive(Clone, Copy)]
+pub(crate) enum Remaining {
+    /// Nothing: it is done, or none came.
+    Nothing,
+    /// The line that was taken of it at once, and nothing else.
+    Line,
+    /// No line, but its end has not been told yet.
+    End,
+    /// What the machine runs.
+    Run,
+}
+
+// What remains of a source line that was taken at once, or not.
+fn begun_as(is_taken: bool) -> Remaining
+    ensures { result ≡ begun_as is_taken }
+{
+    if is_taken {
+        Remaining::Line
+    } else {
+        Remaining::Run
+    }
+}
+
+// What remains after the machine ran on up to a line, or up to the end.
+fn run_if(is_taken: bool) -> Remaining
+    ensures { result ≡ run_if is_taken }
+{
+    if is_taken {
+        Remaining::Run
+    } else {
+        Remaining::Nothing
+    }
+}
+
 /// Runs the source lines of a page one after another, with their macros and loops, and lends the finished lines that they give.
 ///
 /// It reports to what never fails; [`Roff`](crate::Roff) reports to a sink. All memory is reserved by [`RoffLines::new`].
@@ -27,7 +62,7 @@ use std::marker::Model;
 pub struct RoffLines {
     machine: Machine,
     source: u64,
-    is_idle: bool,
+    remaining: Remaining,
 }
 
 impl Model for RoffLines {
@@ -37,9 +72,9 @@ impl Model for RoffLines {
 
     ghost use Rattle.page_roff_source.specs.RoffLines.{state_of, IsAtEdge};
 
-    ghost view = { λ l. state_of l.machine l.source l.is_idle };
+    ghost view = { λ l. state_of l.machine l.source l.remaining };
 
-    ghost invariant = { λ l. IsAtEdge l.machine l.source l.is_idle };
+    ghost invariant = { λ l. IsAtEdge l.machine l.source l.remaining };
 }
 
 impl RoffLines {
@@ -53,7 +88,7 @@ impl RoffLines {
         Ok(RoffLines {
             machine: Machine::new(alloc, output)?,
             source: 0,
-            is_idle: true,
+            remaining: Remaining::Nothing,
         })
     }
 
@@ -66,20 +101,29 @@ impl RoffLines {
         ensures { self.new.edge ≡ line_begun self.old.edge (record { text = line.now; number = number; notes = [] }) }
     {
         self.source += 1;
-        self.is_idle = false;
-        self.machine.begin(line, number);
+        self.remaining = begun_as(self.machine.begin(line, number));
     }
 
     /// Runs on up to the next finished line; whether there is one.
     pub(crate) fn advance<O: NoteOut>(&mut self, out: &mut O) -> bool
         ensures { RunsOn O.left self.old out.old result self.new out.new }
     {
-        if self.is_idle {
-            return false;
+        match self.remaining {
+            Remaining::Nothing => false,
+            Remaining::End => {
+                self.remaining = Remaining::Nothing;
+                false
+            }
+            Remaining::Line => {
+                self.remaining = Remaining::End;
+                true
+            }
+            Remaining::Run => {
+                let is_taken = self.machine.advance(out);
+                self.remaining = run_if(is_taken);
+                is_taken
+            }
         }
-        let is_taken = self.machine.advance(out);
-        self.is_idle = !is_taken;
-        is_taken
     }
 
     /// The finished line that was given last.
@@ -119,7 +163,7 @@ impl RoffLines {
     pub(crate) fn is_idle(&self) -> bool
         ensures { result ≡ is_idle self.now.edge }
     {
-        self.is_idle
+        matches!(self.remaining, Remaining::Nothing)
     }
 
     /// What was counted up to the last line that is done.

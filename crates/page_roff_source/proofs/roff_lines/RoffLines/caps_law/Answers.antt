@@ -8,7 +8,7 @@ pub returns-clause-fits : goal.returns-clause-fits
 returns-clause-fits c = λ none.
     let a = c.self.inside in
     subst (λ (r : LinesState). RoffFits r.edge) c.self.view_is
-    (fits_at a.machine a.source a.is_idle c.self.invariant (none_in a.machine a.source a.is_idle _ c.self.view_is none)
+    (fits_at a.machine a.source a.remaining c.self.invariant (none_in a.machine a.source a.remaining _ c.self.view_is none)
     c.caps_law.ensures.place c.caps_law.ensures.memory)
 
 pub returns-clause-running : goal.returns-clause-running

@@ -8,5 +8,5 @@ pub returns : goal.returns
 returns c = λ none.
     let a = c.self.inside in
     rw (c.taken.ensures, c.expansions.ensures)
-    (counts_at a.machine a.source a.is_idle c.self.invariant (none_in a.machine a.source a.is_idle _ c.self.view_is none)
+    (counts_at a.machine a.source a.remaining c.self.invariant (none_in a.machine a.source a.remaining _ c.self.view_is none)
     ∙ ap (λ (r : LinesState). counts_of r.edge) c.self.view_is)

@@ -7,12 +7,12 @@ use Rattle.page_roff_source.proofs.roff_lines.RoffLines.end_into.Goals as goal
 pub invariant_of-self : goal.invariant_of-self
 invariant_of-self g c =
     let a = c.self.inside in
-    end_invariant a.machine c.end.new.self a.source a.is_idle c.self.invariant (none_in a.machine a.source a.is_idle _ c.self.view_is c.requires)
+    end_invariant a.machine c.end.new.self a.source a.remaining c.self.invariant (none_in a.machine a.source a.remaining _ c.self.view_is c.requires)
     c.end.ensures.stack c.end.ensures.budget c.end.ensures.memory
 
 pub returns-clause-came : goal.returns-clause-came
 returns-clause-came g c =
     let a = c.self.inside in
     rw (sym (ap (λ (r : LinesState). end_notes r.edge) c.self.view_is)
-    ∙ end_notes_at a.machine a.source a.is_idle c.self.invariant (none_in a.machine a.source a.is_idle _ c.self.view_is c.requires))
+    ∙ end_notes_at a.machine a.source a.remaining c.self.invariant (none_in a.machine a.source a.remaining _ c.self.view_is c.requires))
     c.end.ensures.came

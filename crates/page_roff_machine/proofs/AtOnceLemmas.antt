@@ -1,0 +1,181 @@
+-- A source line that is taken at once gives what its run gives: helpers of proofs.
+use Rattle.std.proofs.Common.{◌≡◌, ℕ, ◌+◌, ◌≤◌, ◌^◌, Bool, true, false, List, [], ◌∷◌, Option, Some, None, inl, inr, refl, sym, ap, ap₂, subst, ◌∙◌}
+use Rattle.page_core_base.specs.LinesTaken.{Line}
+use Rattle.page_core_base.specs.declared.page_settings.Output.{Output}
+use Rattle.page_core_limits.specs.declared.TheConstants.{REREAD}
+use Rattle.page_roff_blocks.specs.declared.atoms.Atom.{Atom}
+use Rattle.page_roff_blocks.specs.declared.atoms.Atom.TheVariants.{Leaf}
+use Rattle.page_roff_blocks.specs.Atoms.{atoms}
+use Rattle.page_roff_blocks.specs.Levels.{Levels, Opened, Spot, at_line, after_part, reached, reached_in, reached_from, reached_if}
+use Rattle.page_roff_blocks.specs.Run.{At, meet_as}
+use Rattle.page_roff_blocks.specs.Steps.{met, begin_line, collect_if}
+use Rattle.page_roff_language.specs.Languages.{Kind, page, body, Language, Done, gives, is_some, meaning_at, meaning_by, run_page}
+use Rattle.page_roff_language.specs.Machine.{Frame, Running, Turning, at_page, at_part, depth, next, next_in, line_next, part_next, leaf_if, leaf_next, source_next, stands_at}
+use Rattle.page_roff_language.proofs.MachineLemmas.{next_law, end_law, page_law}
+use Rattle.page_roff_language.specs.Budgets.{Budgeted, language, meaning, meet, whether_run, done_with, with_rest}
+use Rattle.page_roff_language.specs.Budgets as budgets
+use Rattle.page_roff_language.specs.Counting.{Budget, budgeted, begun, renewed}
+use Rattle.page_roff_language.specs.Measures.{HasMeasure, IsFirst}
+use Rattle.page_roff_effects.specs.Acting.{with_number, with_arguments}
+use Rattle.page_roff_effects.specs.Effects.{effects, setting_of, done_after, done_by}
+use Rattle.page_roff_effects.specs.Leaves.{leaf_outcome}
+use Rattle.page_roff_effects.specs.States.{Memory, State, Setting, Given, takes, line_product, numbered}
+use Rattle.page_roff_stack.specs.Changes.{is_page, page_line}
+use Rattle.page_roff_stack.specs.Stacks.{Stack, is_nothing, next_of}
+use Rattle.page_roff_stack.specs.Stacks as stacks
+use Rattle.page_roff_machine.specs.declared.runners.Runner.{Runner}
+use Rattle.page_roff_machine.specs.AtOnce.{TakesAtOnce, Keeps}
+use Rattle.page_roff_machine.specs.Machines.{Takes, Begins, is_idle, begun_at, stands_after}
+use Rattle.page_roff_machine.specs.Stepping.{machine_of, IsSound}
+use Rattle.page_roff_machine.specs.Moving.{AreKept, frames_of}
+use Rattle.page_roff_machine.proofs.MachineLemmas.{begins, begun_sound}
+
+-- ---- the run of a line that is one part, outside of regions, loops and skipped blocks
+
+abbrev level : Bool → List Bool → Bool → ℕ → Levels
+level bit outer in_loop skipped = record { bit = bit; outer = outer; in_loop = in_loop; skipped = skipped }
+
+abbrev state_with : ℕ → Memory → List Given → Budgeted State
+state_with taken m given = record { left = REREAD; gave_up = false; taken = taken; rest = record { memory = m; out = given } }
+
+abbrev at_levels : Option Opened → Levels → Budgeted State → At (Budgeted State)
+at_levels region levels s = record { place = record { region = region; levels = levels }; state = s }
+
+abbrev frame_at : List (Atom (List ℕ)) → Spot → Frame
+frame_at parts spot = record { kind = page; region = None; parts = parts; spot = spot; lines = []; turning = None }
+
+abbrev alone : Frame → Budgeted State → Running (Budgeted State)
+alone f s = record { top = f; under = []; state = s }
+
+line_begins : (output : Output) (line : List ℕ) (bit : Bool) (outer : List Bool) (m : Memory) (count : ℕ)
+    → next (language (effects output)) (at_page line (at_levels None (level bit outer false 0) (state_with count m [])))
+    ≡ Some (alone (frame_at (atoms line) (at_line (level bit outer false 0))) (state_with (count + 1) m []))
+unfolding next next_in line_next at_page at_line begin_line collect_if meaning_at meaning_by language meaning budgets.begin_line
+line_begins output line bit outer m count = refl
+
+given_next : (l : Language (Budgeted State)) (may_run : Bool) (f : Frame) (s : Budgeted State) → leaf_next l may_run f [] (gives s) ≡ alone f s
+unfolding leaf_next
+given_next l true f s = refl
+given_next l false f s = refl
+
+line_given : (output : Output) (line : List ℕ) (m : Memory) (count : ℕ) (taken : Line) (may_call : Bool)
+    → leaf_outcome (setting_of output page) may_call line m ≡ record { notes = []; product = line_product taken; memory = m }
+    → (language (effects output)).leaf may_call page line (state_with count m []) ≡ gives (state_with count m (takes taken ∷ []))
+unfolding language effects done_with done_after done_by with_rest
+line_given output line m count taken may_call e = rw e refl
+
+leaf_taken : (output : Output) (line : List ℕ) (bit : Bool) (outer : List Bool) (m : Memory) (count : ℕ) (taken : Line)
+    → ((may_call : Bool) → leaf_outcome (setting_of output page) may_call line m ≡ record { notes = []; product = line_product taken; memory = m })
+    → next (language (effects output)) (alone (frame_at (Leaf line ∷ []) (at_line (level bit outer false 0))) (state_with count m []))
+    ≡ Some (alone (frame_at [] (after_part (level bit outer false 0))) (state_with count m (takes taken ∷ [])))
+unfolding next next_in part_next met meet_as reached reached_in reached_from reached_if at_line at_part meaning_at meaning_by language meaning meet whether_run leaf_if
+leaf_taken output line bit outer m count taken e =
+    let l = language (effects output) in
+    let b = is_some (depth []) in
+    let f = frame_at [] (after_part (level bit outer false 0)) in
+    ap (λ (d : Done (Budgeted State)). Some (leaf_next l b f [] d)) (line_given output line m count taken b (e b))
+    ∙ ap (λ (r : Running (Budgeted State)). Some r) (given_next l b f (state_with count m (takes taken ∷ [])))
+
+nothing_left : (output : Output) (spot : Spot) (s : Budgeted State) → next (language (effects output)) (alone (frame_at [] spot) s) ≡ None
+unfolding next next_in source_next
+nothing_left output spot s = refl
+
+run_leaf : (output : Output) (line : List ℕ) (bit : Bool) (outer : List Bool) (m : Memory) (count : ℕ) (taken : Line)
+    → atoms line ≡ Leaf line ∷ []
+    → ((may_call : Bool) → leaf_outcome (setting_of output page) may_call line m ≡ record { notes = []; product = line_product taken; memory = m })
+    → run_page (language (effects output)) (line ∷ []) (at_levels None (level bit outer false 0) (state_with count m []))
+    ≡ at_levels None (level bit outer false 0) (state_with (count + 1) m (takes taken ∷ []))
+unfolding stands_at after_part
+run_leaf output line bit outer m count taken ea eo =
+    let l = language (effects output) in
+    let at = at_levels None (level bit outer false 0) (state_with count m []) in
+    let one = alone (frame_at (Leaf line ∷ []) (at_line (level bit outer false 0))) (state_with (count + 1) m []) in
+    let last = alone (frame_at [] (after_part (level bit outer false 0))) (state_with (count + 1) m (takes taken ∷ [])) in
+    let first : next l (at_page line at) ≡ Some one =
+    line_begins output line bit outer m count
+    ∙ ap (λ (parts : List (Atom (List ℕ))). Some (alone (frame_at parts (at_line (level bit outer false 0))) (state_with (count + 1) m []))) ea in
+    sym (page_law l line at)
+    ∙ next_law l (at_page line at) one first
+    ∙ next_law l one last (leaf_taken output line bit outer m (count + 1) taken eo)
+    ∙ end_law l last (nothing_left output (after_part (level bit outer false 0)) (state_with (count + 1) m (takes taken ∷ [])))
+
+-- ---- the code's object
+
+page_kind : (kind : Kind) → is_page kind ≡ true → kind ≡ page
+page_kind page e = refl
+page_kind (body args) e = absurd (cc)
+
+levels_are : (l : Levels) → l.in_loop ≡ false → l.skipped ≡ 0 → l ≡ level l.bit l.outer false 0
+levels_are l e s = ap₂ (λ (i : Bool) (k : ℕ). level l.bit l.outer i k) e s
+
+-- where a stack stands, with a budget and what is remembered and given
+abbrev standing : Stack → Budget → Memory → List Given → At (Budgeted State)
+standing s b m given = at_levels s.top.region s.top.spot.levels (budgeted b (record { memory = m; out = given }))
+
+pub takes_line : (old new : Runner) (line : List ℕ) (number : ℕ) → is_idle (machine_of old) ≡ true → IsSound old → TakesAtOnce line number old new
+    → Takes line number (machine_of old) (machine_of new)
+takes_line old new line number idle sound h =
+    let output = old.doing.actions.setting.output in
+    let m = numbered number old.doing.actions.memory in
+    let taken = new.doing.actions.line in
+    let levels = old.stack.top.spot.levels in
+    let count = old.doing.budget.taken in
+    let given = takes taken ∷ [] in
+    let es : old.doing.actions.setting ≡ setting_of output page =
+    sound.setting ∙ ap (setting_of output) (page_kind old.stack.top.kind h.outside.page) in
+    let el = levels_are levels h.outside.loop h.outside.skipped in
+    let eo : (may_call : Bool) → leaf_outcome (setting_of output page) may_call line m ≡ record { notes = []; product = line_product taken; memory = m } =
+    λ may_call. ap (λ (s : Setting). leaf_outcome s may_call line m) (sym es) ∙ h.taken.given may_call in
+    let after : stands_after given (machine_of new) ≡ at_levels None (level levels.bit levels.outer false 0) (state_with (count + 1) m given) =
+    ap (λ (s : Stack). standing s new.doing.budget new.doing.actions.memory given) h.stack
+    ∙ ap (λ (b : Budget). standing old.stack b new.doing.actions.memory given) h.budget
+    ∙ ap (λ (k : Memory). standing old.stack (begun old.doing.budget) k given) h.taken.memory
+    ∙ ap₂ (λ (region : Option Opened) (l : Levels). at_levels region l (state_with (count + 1) m given)) h.outside.region el in
+    let before : begun_at number (machine_of old) ≡ at_levels None (level levels.bit levels.outer false 0) (state_with count m []) =
+    ap₂ (λ (region : Option Opened) (l : Levels). at_levels region l (state_with count m [])) h.outside.region el in
+    record {
+      output = ap (λ (s : Setting). s.output) h.taken.setting;
+      idle = ap (λ (s : Stack). is_nothing (next_of s)) h.stack ∙ idle;
+      outcome = after ∙ sym (run_leaf output line levels.bit levels.outer m count taken h.taken.leaf eo)
+          ∙ sym (ap (run_page (language (effects output)) (line ∷ [])) before);
+    }
+
+-- a line that is to come is not nothing
+line_comes : (turning : Option Turning) (region : Option Opened) (parts : List (Atom (List ℕ))) (lines : List (List ℕ)) (under : List Frame) (line : List ℕ)
+    → region ≡ None → parts ≡ [] → lines ≡ line ∷ [] → is_nothing (stacks.next_in turning region parts lines under) ≡ true → ⊥
+line_comes turning region parts lines under line er ep el e =
+    let h : is_nothing (stacks.next_in turning None [] (line ∷ []) under) ≡ true = rw (er, ep, el) at e in
+    cc
+
+pub taken_sound : (old new : Runner) (line : List ℕ) (number : ℕ) → is_idle (machine_of old) ≡ true → IsSound old → TakesAtOnce line number old new → IsSound new
+unfolding IsFirst HasMeasure
+taken_sound old new line number idle sound h = record {
+  setting = rw (h.taken.setting, h.stack) sound.setting;
+  frames = subst (λ (s : Stack). AreKept (frames_of s)) (sym h.stack) sound.frames;
+  way = elim sound.way [
+    | inl first ↦ absurd (line_comes old.stack.top.turning old.stack.top.region old.stack.top.parts old.stack.top.lines old.stack.under first.0.0
+        h.outside.region first.0.2 first.0.1 idle)
+    | inr measured ↦ inr (rw h.stack measured)
+  ];
+}
+
+-- a line that is not taken at once begins
+pub kept_begins : (old mid new : Runner) (line : List ℕ) (number : ℕ) → Keeps number old mid
+    → new.stack ≡ record { top = page_line line mid.stack.top; under = []; texts = [] }
+    → new.doing.actions ≡ with_number number (with_arguments None mid.doing.actions) → new.doing.budget ≡ renewed mid.doing.budget
+    → Begins line number (machine_of old) (machine_of new)
+kept_begins old mid new line number h es ea eb =
+    begins old new line number
+    (es ∙ ap (λ (s : Stack). let k : Stack = record { top = page_line line s.top; under = []; texts = [] } in k) h.stack)
+    (ea ∙ ap (with_arguments None) h.actions)
+    (eb ∙ ap renewed h.budget)
+
+pub kept_sound : (old mid new : Runner) (line : List ℕ) (number : ℕ) → Keeps number old mid
+    → new.stack ≡ record { top = page_line line mid.stack.top; under = []; texts = [] }
+    → new.doing.actions ≡ with_number number (with_arguments None mid.doing.actions) → new.doing.budget ≡ renewed mid.doing.budget
+    → old.doing.budget.taken ≤ 2 ^ 62 → IsSound old → IsSound new
+kept_sound old mid new line number h es ea eb few sound =
+    begun_sound old new line number
+    (es ∙ ap (λ (s : Stack). let k : Stack = record { top = page_line line s.top; under = []; texts = [] } in k) h.stack)
+    (ea ∙ ap (with_arguments None) h.actions)
+    (eb ∙ ap renewed h.budget) few sound
