@@ -1,9 +1,7 @@
 //! What a sink of messages refuses, and what is known of a page after it.
 
 use page_core_base::{Fault, Note, NoteSink, Settings, is_line};
-use page_core_writers::KeptNotes;
 use page_roff_source::{Counts, Roff};
-use std::alloc::Global;
 use std::process::Abort;
 use std::test::Fail;
 
@@ -157,62 +155,44 @@ fn check_closed(rt: &impl Abort, roff: &mut Roff, notes: &mut Notes) {
     assert!(rt; notes.calls == calls);
 }
 
-#[test]
-fn fails_where_a_message_is_refused(rt: HostRuntime) -> Result<(), Fail> {
-    for failing in 1..MESSAGES + 1 {
-        let mut roff = Roff::new(rt.alloc(), &Settings::new())?;
-        let mut notes = Notes {
-            failing,
-            calls: 0,
-            failures: 0,
-        };
-        let result = run_page(&mut roff, &mut notes);
-        check_fault(&rt, result, Err(Fault::WriteNotes));
-        assert!(rt; notes.calls == failing);
-        check_closed(&rt, &mut roff, &mut notes);
-    }
-    Ok(())
+// A sink refuses the message of a number, and then roff is closed.
+fn check_refused(rt: &impl Abort, roff: &mut Roff, failing: u64) {
+    let mut notes = Notes {
+        failing,
+        calls: 0,
+        failures: 0,
+    };
+    let result = run_page(roff, &mut notes);
+    check_fault(rt, result, Err(Fault::WriteNotes));
+    assert!(rt; notes.calls == failing);
+    check_closed(rt, roff, &mut notes);
 }
 
-// Also where an allocation is refused: then there is no roff, and else all is well.
-#[test]
-fn runs_a_page_with_the_memory_of_its_start(rt: HostRuntime) {
-    match Roff::new(rt.alloc(), &Settings::new()) {
-        Err(fault) => assert!(rt; fault == Fault::Memory),
-        Ok(mut roff) => {
-            let mut notes = Notes {
-                failing: 0,
-                calls: 0,
-                failures: 0,
-            };
-            let result = run_page(&mut roff, &mut notes);
-            check_fault(&rt, result, Ok(1));
-            assert!(rt; notes.calls == MESSAGES);
-            check_closed(&rt, &mut roff, &mut notes);
-        }
-    }
+fn check_whole_page(rt: &impl Abort, roff: &mut Roff) {
+    let mut notes = all_notes();
+    let result = run_page(roff, &mut notes);
+    check_fault(rt, result, Ok(1));
+    assert!(rt; notes.calls == MESSAGES);
+    check_closed(rt, roff, &mut notes);
 }
 
-#[test]
-fn counts_lines_and_interpolations(rt: HostRuntime) -> Result<(), Fail> {
-    let mut roff = Roff::new(rt.alloc(), &Settings::new())?;
-    let mut notes = KeptNotes::new(rt.alloc());
-    let none = Counts {
-        source: 0,
-        taken: 0,
-        expansions: 0,
+fn check_counts(rt: &impl Abort, roff: &Roff, source: u64, taken: u64, expansions: u64) {
+    let want = Counts {
+        source,
+        taken,
+        expansions,
     };
-    assert!(rt; roff.counts() == none);
-    let _ = run_line(&mut roff, ".de m", 1, &mut notes)?;
-    let _ = run_line(&mut roff, "\\\\n(.$ \\\\$1", 2, &mut notes)?;
-    let _ = run_line(&mut roff, "..", 3, &mut notes)?;
-    let _ = run_line(&mut roff, ".m \\*(zz", 4, &mut notes)?;
-    let all = Counts {
-        source: 4,
-        taken: 5,
-        expansions: 3,
-    };
-    assert!(rt; roff.counts() == all);
+    assert!(rt; roff.counts() == want);
+}
+
+fn check_counts_of_calls(rt: &impl Abort, roff: &mut Roff) -> Result<(), Fault> {
+    let mut notes = all_notes();
+    check_counts(rt, roff, 0, 0, 0);
+    let _ = run_line(roff, ".de m", 1, &mut notes)?;
+    let _ = run_line(roff, "\\\\n(.$ \\\\$1", 2, &mut notes)?;
+    let _ = run_line(roff, "..", 3, &mut notes)?;
+    let _ = run_line(roff, ".m \\*(zz", 4, &mut notes)?;
+    check_counts(rt, roff, 4, 5, 3);
     Ok(())
 }
 
@@ -225,71 +205,132 @@ fn begin_loop<N: NoteSink>(rt: &impl Abort, roff: &mut Roff, notes: &mut N) -> R
     Ok(())
 }
 
+fn check_lines_of_a_loop(rt: &impl Abort, roff: &mut Roff) -> Result<(), Fault> {
+    let mut notes = all_notes();
+    begin_loop(rt, roff, &mut notes)?;
+    check_line(rt, roff, ".\\}", 3, &mut notes)?;
+    check_taken(rt, roff, 17);
+    check_calls(rt, &notes, 0);
+    Ok(())
+}
+
+fn check_turns_of_a_loop(rt: &impl Abort, roff: &mut Roff) -> Result<(), Fault> {
+    let mut notes = all_notes();
+    begin_loop(rt, roff, &mut notes)?;
+    begin_line(rt, roff, ".\\}");
+    check_text(rt, roff, "1", &mut notes)?;
+    check_text(rt, roff, "2", &mut notes)?;
+    check_text(rt, roff, "3", &mut notes)?;
+    Ok(())
+}
+
+// A loop that has no end takes all lines of its source line's budget, and the next line has its own.
+fn check_endless(rt: &impl Abort, roff: &mut Roff, line: &str, given: u64) -> Result<(), Fault> {
+    let mut notes = all_notes();
+    check_line(rt, roff, line, given, &mut notes)?;
+    check_taken(rt, roff, 1_001);
+    check_calls(rt, &notes, 1);
+    check_line(rt, roff, "a", 1, &mut notes)?;
+    check_calls(rt, &notes, 1);
+    Ok(())
+}
+
+fn check_open_loop(rt: &impl Abort, roff: &mut Roff) -> Result<(), Fault> {
+    let mut notes = all_notes();
+    check_line(rt, roff, ".while 1 \\{", 0, &mut notes)?;
+    check_line(rt, roff, ".ig", 0, &mut notes)?;
+    check_calls(rt, &notes, 0);
+    if roff.idle() {
+        roff.end(&mut notes)?;
+    }
+    check_calls(rt, &notes, 1);
+    Ok(())
+}
+
+// What is checked over roff from its first line on.
+#[derive(Clone, Copy)]
+enum Check {
+    // A sink refuses the message of this number.
+    Refused(u64),
+    WholePage,
+    CountsOfCalls,
+    LinesOfALoop,
+    TurnsOfALoop,
+    // This line, which has no end, gives so many finished lines.
+    Endless(&'static str, u64),
+    OpenLoop,
+}
+
+fn check_over(rt: &impl Abort, roff: &mut Roff, check: Check) -> Result<(), Fault> {
+    match check {
+        Check::Refused(failing) => check_refused(rt, roff, failing),
+        Check::WholePage => check_whole_page(rt, roff),
+        Check::CountsOfCalls => check_counts_of_calls(rt, roff)?,
+        Check::LinesOfALoop => check_lines_of_a_loop(rt, roff)?,
+        Check::TurnsOfALoop => check_turns_of_a_loop(rt, roff)?,
+        Check::Endless(line, given) => check_endless(rt, roff, line, given)?,
+        Check::OpenLoop => check_open_loop(rt, roff)?,
+    }
+    Ok(())
+}
+
+// Makes roff, and checks this over it. It stands once, since what makes and drops a roff takes most of the proof.
+fn run(rt: &(impl Abort + AllocGlobal), check: Check) -> Result<(), Fault> {
+    let mut roff = Roff::new(rt.alloc(), &Settings::new())?;
+    check_over(rt, &mut roff, check)
+}
+
+#[test]
+fn fails_where_a_message_is_refused(rt: HostRuntime) -> Result<(), Fail> {
+    for failing in 1..MESSAGES + 1 {
+        run(&rt, Check::Refused(failing))?;
+    }
+    Ok(())
+}
+
+// Also where an allocation is refused: then there is no roff, and else all is well.
+#[test]
+fn runs_a_page_with_the_memory_of_its_start(rt: HostRuntime) {
+    match run(&rt, Check::WholePage) {
+        Err(fault) => assert!(rt; fault == Fault::Memory),
+        Ok(()) => {}
+    }
+}
+
+#[test]
+fn counts_lines_and_interpolations(rt: HostRuntime) -> Result<(), Fail> {
+    run(&rt, Check::CountsOfCalls)?;
+    Ok(())
+}
+
 // The condition is tested four times, and three lines run in each turn.
 #[test]
 fn counts_the_lines_of_loops(rt: HostRuntime) -> Result<(), Fail> {
-    let mut roff = Roff::new(rt.alloc(), &Settings::new())?;
-    let mut notes = all_notes();
-    begin_loop(&rt, &mut roff, &mut notes)?;
-    check_line(&rt, &mut roff, ".\\}", 3, &mut notes)?;
-    check_taken(&rt, &roff, 17);
-    check_calls(&rt, &notes, 0);
+    run(&rt, Check::LinesOfALoop)?;
     Ok(())
 }
 
 #[test]
 fn repeats_a_loop_until_its_condition_fails(rt: HostRuntime) -> Result<(), Fail> {
-    let mut roff = Roff::new(rt.alloc(), &Settings::new())?;
-    let mut notes = all_notes();
-    begin_loop(&rt, &mut roff, &mut notes)?;
-    begin_line(&rt, &mut roff, ".\\}");
-    check_text(&rt, &mut roff, "1", &mut notes)?;
-    check_text(&rt, &mut roff, "2", &mut notes)?;
-    check_text(&rt, &mut roff, "3", &mut notes)?;
-    Ok(())
-}
-
-// A loop that has no end takes all lines of its source line's budget, and the next line has its own.
-fn check_endless(
-    rt: &impl Abort,
-    roff: &mut Roff,
-    line: &str,
-    given: u64,
-    notes: &mut Notes,
-) -> Result<(), Fault> {
-    check_line(rt, roff, line, given, notes)?;
-    check_taken(rt, roff, 1_001);
-    check_calls(rt, notes, 1);
-    check_line(rt, roff, "a", 1, notes)?;
-    check_calls(rt, notes, 1);
+    run(&rt, Check::TurnsOfALoop)?;
     Ok(())
 }
 
 #[test]
 fn gives_up_a_loop_of_one_line(rt: HostRuntime) -> Result<(), Fail> {
-    let mut roff = Roff::new(rt.alloc(), &Settings::new())?;
-    check_endless(&rt, &mut roff, ".while 1 x", 500, &mut all_notes())?;
+    run(&rt, Check::Endless(".while 1 x", 500))?;
     Ok(())
 }
 
 #[test]
 fn gives_up_a_loop_without_lines(rt: HostRuntime) -> Result<(), Fail> {
-    let mut roff = Roff::new(rt.alloc(), &Settings::new())?;
-    check_endless(&rt, &mut roff, ".while 1 \\{\\}", 0, &mut all_notes())?;
+    run(&rt, Check::Endless(".while 1 \\{\\}", 0))?;
     Ok(())
 }
 
 // A region in it is not reported.
 #[test]
 fn reports_a_loop_that_is_open_at_the_end(rt: HostRuntime) -> Result<(), Fail> {
-    let mut roff = Roff::new(rt.alloc(), &Settings::new())?;
-    let mut notes = all_notes();
-    check_line(&rt, &mut roff, ".while 1 \\{", 0, &mut notes)?;
-    check_line(&rt, &mut roff, ".ig", 0, &mut notes)?;
-    check_calls(&rt, &notes, 0);
-    if roff.idle() {
-        roff.end(&mut notes)?;
-    }
-    check_calls(&rt, &notes, 1);
+    run(&rt, Check::OpenLoop)?;
     Ok(())
 }
