@@ -48,11 +48,12 @@ def pages(folder, language):
 
 
 def body(program, page):
-    """Returns the rows of a page's body, without overstrikes: those between the first row that is not blank and the last one."""
+    """Returns the rows of a page's body, without overstrikes: those between the first blank row and the last one, as a header or a footer may take
+    several rows."""
     run = subprocess.run([program, *OPTIONS], input=page, stdout=subprocess.PIPE, stderr=subprocess.DEVNULL, check=False)
-    rows = [row.rstrip() for row in re.sub(rb".\x08", b"", run.stdout).split(b"\n")]
-    printed = [place for place, row in enumerate(rows) if row]
-    return trimmed(rows[printed[0] + 1 : printed[-1]]) if printed else []
+    rows = trimmed([row.rstrip() for row in re.sub(rb".\x08", b"", run.stdout).split(b"\n")])
+    blank = [place for place, row in enumerate(rows) if not row]
+    return trimmed(rows[blank[0] : blank[-1]]) if blank else []
 
 
 def trimmed(rows):
