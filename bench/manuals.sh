@@ -9,8 +9,8 @@ if [ $# -gt 0 ]; then
 fi
 room=$(mktemp -d) || exit 1
 trap 'rm -rf "$room"' EXIT
-(cd "$room" && chmod 755 . && apt-get download coreutils git-man bash util-linux findutils openssl manpages-dev mandoc openssh-client \
-    openssh-server tmux dash mksh libbsd-dev libarchive-dev libfido2-doc mblaze opensmtpd) > /dev/null || exit 1
+(cd "$room" && chmod 755 . && apt-get download coreutils git-man bash util-linux findutils openssl manpages manpages-dev curl perl-doc \
+    zsh-common mandoc openssh-client openssh-server tmux dash mksh libbsd-dev libarchive-dev libfido2-doc mblaze opensmtpd) > /dev/null || exit 1
 for package in "$room"/*.deb; do
     dpkg-deb -x "$package" "$room/pages"
 done
