@@ -552,7 +552,7 @@ impl InputFrame {
     {
         if let Some(turns) = self.turning {
             self.place = LinePlace::end();
-        self.ahead = None;
+            self.ahead = None;
             self.lines = turns.lines;
             self.region = None;
             self.spot = Spot::new();

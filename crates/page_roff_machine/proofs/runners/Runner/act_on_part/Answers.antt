@@ -66,7 +66,5 @@ returns-in-Some-Region g c =
     part c.requires.reached c.requires.sound.setting c.open_region.ensures
     )
 
-
-
 pub returns-in-None : goal.returns-in-None
 returns-in-None g c = rw c.read_part.follows.holds-at-none at c.act_between_lines.ensures
