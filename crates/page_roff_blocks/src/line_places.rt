@@ -1,8 +1,9 @@
 //! Places in a raw line, between its parts (roff(7), "if", "ie", "el", "while").
 
-ghost use Rattle.std.specs.Prelude.{◌≡◌, ◌≤◌, false, length, drop, IfSome};
+ghost use Rattle.std.specs.Prelude.{◌≡◌, ◌≤◌, ◌∷◌, false, length, drop, IfSome};
 ghost use Rattle.page_core_limits.specs.declared.TheConstants.{LINE};
 ghost use Rattle.page_roff_blocks.specs.Atoms.{atom_seen, atoms, FitsAtom, ReadsNext};
+ghost use Rattle.page_roff_blocks.specs.declared.atoms.Atom.TheVariants.{Leaf};
 ghost use Rattle.page_roff_blocks.specs.LinePlaces.{parts_at, line_end, is_at_end, is_block, opens_block, place_after, IsPlaceIn, IsEndOf};
 ghost use Rattle.page_roff_blocks.specs.Regions.{text_seen};
 
@@ -71,6 +72,13 @@ impl LinePlace {
         ensures { result ≡ is_at_end self.now }
     {
         !self.is_whole && !self.is_end && self.rest.is_none()
+    }
+
+    /// All of the line in which the place is, if that comes next as one part.
+    pub fn whole<'a>(&self, line: &'a [u8]) -> Option<&'a [u8]>
+        ensures { IfSome result (λ text. (text.now ≡ line.now) × (parts_at line.now self.now ≡ Leaf line.now ∷ drop 1 (parts_at line.now self.now))) }
+    {
+        if self.is_whole { Some(line) } else { None }
     }
 
     // Reads the next part of a line that is not one part, and goes past it.

@@ -1,16 +1,17 @@
 //! A call of a macro (roff(7), "MACRO SYNTAX"): its arguments, packed, and the body that it runs.
 
-ghost use Rattle.std.specs.Prelude.{◌≡◌, ◌≤◌, ◌+◌, [], ◌∷◌, ◌++◌, length, nat_le, IfOk};
+ghost use Rattle.std.specs.Prelude.{◌≡◌, ℕ, true, ◌≤◌, ◌+◌, [], ◌∷◌, ◌++◌, length, nat_le, IfOk};
 ghost use Rattle.std.specs.Vec.{vec_len, vec_capacity};
 ghost use Rattle.page_core_limits.specs.declared.TheConstants.{BODY, LINE};
 ghost use Rattle.page_roff_forms.specs.Arguments.{argument_seen, arguments};
+ghost use Rattle.page_roff_definitions.specs.Arguments.{closing_notes, closings_notes};
 ghost use Rattle.page_roff_effects.specs.Acting.{no_call, Packs};
 ghost use Rattle.page_roff_effects.specs.Leaves.{unpaired, argument_value, packed};
 
 use crate::buffers::{append, replace};
 use memchr::memchr;
 use page_core_limits::{ARGS, BODY, LINE};
-use page_roff_forms::{Argument, Arguments};
+use page_roff_forms::{Argument, Arguments, Quoting};
 use std::alloc::{AllocError, Global};
 use std::marker::Model;
 
@@ -61,19 +62,48 @@ fn append_argument(text: &mut Vec<u8>, argument: Argument<&[u8]>)
     append(text, b"\n");
 }
 
-// Puts arguments at the end, each with a line feed after it, as long as they are within the limit. Answers whether all are.
-fn append_arguments(text: &mut Vec<u8>, arguments: &mut Arguments<'_>) -> bool
+/// What is known of arguments that were packed.
+#[derive(Clone, Copy)]
+pub(crate) struct Packing {
+    /// Whether they are within the limit.
+    pub(crate) fits: bool,
+    /// Whether it is known that none of them lacks its last quote.
+    pub(crate) is_closed: bool,
+}
+
+// Whether an argument too is known not to lack its last quote.
+fn are_closed(is_closed: bool, argument: &Argument<&[u8]>) -> bool
+    ensures before { result ≡ true → is_closed ≡ true }
+    ensures none { result ≡ true → (line : ℕ) → closing_notes line (argument_seen argument.now) ≡ [] }
+{
+    match argument.quoting {
+        Quoting::Bare | Quoting::Closed => is_closed,
+        Quoting::Unclosed => false,
+    }
+}
+
+// Puts arguments at the end, each with a line feed after it, as long as they are within the limit.
+fn append_arguments(text: &mut Vec<u8>, arguments: &mut Arguments<'_>) -> Packing
     requires { (text.old.items ≡ []) × (ARGS + LINE + 1 ≤ vec_capacity text.old) }
-    ensures packed { Packs (packed arguments.old) result text.new.items }
+    ensures packed { Packs (packed arguments.old) result.fits text.new.items }
+    ensures closed { result.is_closed ≡ true → (line : ℕ) → closings_notes line arguments.old ≡ [] }
     ensures capacity { ARGS + LINE + 1 ≤ vec_capacity text.new }
 {
+    let mut is_closed = true;
     while let Some(argument) = arguments.next_argument() {
+        is_closed = are_closed(is_closed, &argument);
         append_argument(text, argument);
         if ARGS < text.len() {
-            return false;
+            return Packing {
+                fits: false,
+                is_closed: false,
+            };
         }
     }
-    true
+    Packing {
+        fits: true,
+        is_closed,
+    }
 }
 
 /// The call that was taken last.
@@ -108,12 +138,12 @@ impl CallBuffer {
         })
     }
 
-    /// Takes the arguments of a call from the rest of its line, of which the first byte stands at a column. Answers whether they are
-    /// within the limit.
-    pub(crate) fn pack(&mut self, rest: &[u8], column: u32) -> bool
+    /// Takes the arguments of a call from the rest of its line, of which the first byte stands at a column.
+    pub(crate) fn pack(&mut self, rest: &[u8], column: u32) -> Packing
         requires short { length rest.now ≤ LINE }
         requires room { column + length rest.now ≤ LINE + 1 }
-        ensures { Packs (packed (arguments column rest.now)) result self.new.packed }
+        ensures packed { Packs (packed (arguments column rest.now)) result.fits self.new.packed }
+        ensures closed { result.is_closed ≡ true → (line : ℕ) → closings_notes line (arguments column rest.now) ≡ [] }
     {
         self.packed.clear();
         append_arguments(&mut self.packed, &mut Arguments::new(rest, column))

@@ -141,10 +141,12 @@ impl Actions {
             line: self.number,
             column: line.name_end + 1,
         };
-        report_closings(out, rest_place, rest);
-        let fits = self.call.pack(rest, line.name_end + 1);
-        report_refusals(may_call, fits, place, out);
-        if !(may_call && fits) {
+        let packing = self.call.pack(rest, line.name_end + 1);
+        if !packing.is_closed {
+            report_closings(out, rest_place, rest);
+        }
+        report_refusals(may_call, packing.fits, place, out);
+        if !(may_call && packing.fits) {
             return ProductKind::Nothing;
         }
         self.call.set_body(body_or_nothing(line.name, &self.names));

@@ -3,6 +3,7 @@
 ghost use Rattle.std.specs.Prelude.{◌≡◌, ◌≤◌, ◌^◌, true, false, None, length};
 ghost use Rattle.page_core_base.specs.Texts.{IsLine};
 ghost use Rattle.page_core_limits.specs.declared.TheConstants.{ARGS};
+ghost use Rattle.page_roff_blocks.specs.Levels as levels;
 ghost use Rattle.page_roff_effects.specs.declared.commands.ProductKind.TheVariants as kinds;
 ghost use Rattle.page_roff_stack.specs.Stacks.{next_of, part_in, is_part, is_line, may_end, is_nothing};
 ghost use Rattle.page_roff_machine.specs.Doing.{IsIn};
@@ -97,9 +98,24 @@ impl Runner {
         if self.passes_block(reached) {
             return Movement::Block(None, 0);
         }
+        let may_run = self.stack.may_call();
+        match self.stack.whole_line() {
+            Some(text) => Movement::Leaf(self.doing.leaf(reached, may_run, text, out)),
+            None => self.act_on_part(reached, out),
+        }
+    }
+
+    // The same where it is not all of a line, and no block that is passed over.
+    fn act_on_part<O: NoteOut>(&mut self, reached: Reached, out: &mut O) -> Movement
+        requires sound { IsSound self.old }
+        requires begun { is_line (next_of self.old.stack) ≡ false }
+        requires left { is_nothing (next_of self.old.stack) ≡ false }
+        requires reached { reached ≡ levels.reached self.old.stack.top.spot }
+        ensures { Decides O.left self.old out.old result self.new out.new }
+    {
         let bit = self.stack.bit();
         let may_run = self.stack.may_call();
-        match self.stack.part() {
+        match self.stack.read_part() {
             None => self.act_between_lines(out),
             Some(Atom::Leaf(text)) => Movement::Leaf(self.doing.leaf(reached, may_run, text, out)),
             Some(Atom::Guard(head)) => {

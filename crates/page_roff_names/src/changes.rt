@@ -34,6 +34,17 @@ pub(crate) fn others(row: &Row) -> OtherSet
     }
 }
 
+/// The order of two names. Most of them differ in their first byte.
+fn order(name: &[u8], other: &[u8]) -> Ordering
+    ensures { result ≡ by_bytes name.now other.now }
+{
+    match (name, other) {
+        ([first, ..], [other_first, ..]) if *first < *other_first => Ordering::Less,
+        ([first, ..], [other_first, ..]) if *other_first < *first => Ordering::Greater,
+        _ => name.cmp(&other),
+    }
+}
+
 /// Where a name stands, or where it would.
 fn search(row: &Row, name: &[u8]) -> Result<usize, usize>
     requires { T (is_sorted by_bytes row.now) }
@@ -44,7 +55,7 @@ fn search(row: &Row, name: &[u8]) -> Result<usize, usize>
     let mut high = row.len();
     while low < high {
         let middle = low + (high - low) / 2;
-        match name.cmp(&row.name(middle)) {
+        match order(name, row.name(middle)) {
             Ordering::Less => high = middle,
             Ordering::Equal => return Ok(middle),
             Ordering::Greater => low = middle + 1,
@@ -68,7 +79,7 @@ pub(crate) fn find(row: &Row, name: &[u8]) -> Option<usize>
 fn stands_at(row: &Row, place: usize, name: &[u8]) -> bool
     ensures { IsTrue result → (place < length row.now) × FoundAt name.now row.now place }
 {
-    place < row.len() && matches!(name.cmp(&row.name(place)), Ordering::Equal)
+    place < row.len() && matches!(order(name, row.name(place)), Ordering::Equal)
 }
 
 /// Where a name stands. It is looked for at this place first.

@@ -6,7 +6,9 @@ use Rattle.page_core_limits.specs.declared.TheConstants.{LINE}
 use Rattle.page_roff_blocks.specs.declared.atoms.Atom.{Atom}
 use Rattle.page_roff_blocks.specs.declared.line_places.LinePlace.{LinePlace}
 use Rattle.page_roff_blocks.specs.Atoms.{atoms, ReadsNext}
-use Rattle.page_roff_blocks.specs.Levels.{Opened, Spot, at_line}
+use Rattle.page_roff_blocks.specs.declared.atoms.Branch.{Branch}
+use Rattle.page_roff_blocks.specs.declared.atoms.Branch.TheVariants.{If, IfElse, Else}
+use Rattle.page_roff_blocks.specs.Levels.{Opened, Spot, at_line, bit_after, guarded_by}
 use Rattle.page_roff_blocks.specs.LinePlaces.{parts_at, line_end, is_at_end, IsPlaceIn}
 use Rattle.page_roff_blocks.proofs.AtomLemmas.{atoms_cons}
 use Rattle.page_roff_blocks.proofs.RoomLemmas.{atoms_room}
@@ -17,6 +19,8 @@ use Rattle.page_roff_stack.specs.declared.source_kinds.SourceKind.{SourceKind}
 use Rattle.page_roff_stack.specs.declared.source_kinds.SourceKind.TheVariants as sources
 use Rattle.page_roff_stack.specs.declared.spans.Span.{Span}
 use Rattle.page_roff_values.specs.Arguments.{lines_in}
+use Rattle.page_roff_stack.specs.declared.ahead.Ahead.{Ahead}
+use Rattle.page_roff_stack.specs.Ahead.{kind_of, IsAhead}
 use Rattle.page_roff_stack.specs.Changes.{past, first_branch, first_region, in_region, next_line, first_atoms, begins_next, begins_line, ends_with, is_over, AreShort, IsBounded}
 use Rattle.page_roff_stack.specs.Held.{span_text, only_line, AreLinesOf, IsSpanIn, IsFirstLine}
 use Rattle.page_roff_stack.specs.InputFrames.{frame_of, IsHeld}
@@ -37,38 +41,23 @@ first_branch_of : (parts : List (Atom (List ℕ))) → first_branch (take 1 part
 first_branch_of [] = refl
 first_branch_of (part ∷ more) = refl
 
-first_region_of : (is_run : Bool) (parts : List (Atom (List ℕ))) → first_region is_run (take 1 parts) ≡ first_region is_run parts
-first_region_of is_run [] = refl
-first_region_of is_run (part ∷ more) = refl
-
 pub reads_branch : (old : List (Atom (List ℕ))) (part : Option (Atom (Bor (List ℕ)))) (new : List (Atom (List ℕ))) → ReadsNext old part new
     → first_branch (parts_seen part) ≡ first_branch old
 reads_branch old part new h = ap first_branch (reads_first old part new h) ∙ first_branch_of old
 
-pub reads_region : (is_run : Bool) (old : List (Atom (List ℕ))) (part : Option (Atom (Bor (List ℕ)))) (new : List (Atom (List ℕ))) → ReadsNext old part new
-    → first_region is_run (parts_seen part) ≡ first_region is_run old
-reads_region is_run old part new h = ap (first_region is_run) (reads_first old part new h) ∙ first_region_of is_run old
-
 -- ---- a part is passed
 
--- in the present line, which is this text, a part was read up to this place
-pub record IsRead (a : InputFrame) (all text : List ℕ) (part : Option (Atom (Bor (List ℕ)))) (place : LinePlace) : Type 0 where
-  pub text_is : text ≡ span_text a.line all
-  pub next : ReadsNext (parts_at text a.place) part (parts_at text place)
-  pub within : IsPlaceIn text place
-
--- the same, whatever the part is
+-- in the present line, which is this text, a part was passed up to this place
 pub record IsPast (a : InputFrame) (all text : List ℕ) (place : LinePlace) : Type 0 where
   pub text_is : text ≡ span_text a.line all
   pub next : parts_at text place ≡ drop 1 (parts_at text a.place)
   pub within : IsPlaceIn text place
 
-pub read_past : (a : InputFrame) (all text : List ℕ) (part : Option (Atom (Bor (List ℕ)))) (place : LinePlace) → IsRead a all text part place → IsPast a all text place
-read_past a all text part place h =
-    record { text_is = h.text_is; next = reads_rest (parts_at text a.place) part (parts_at text place) h.next; within = h.within }
+pub ahead_past : (a : InputFrame) (all text : List ℕ) (ahead : Ahead) → text ≡ span_text a.line all → IsAhead text a.place ahead → IsPast a all text ahead.place
+ahead_past a all text ahead e h = record { text_is = e; next = h.next; within = h.within }
 
 abbrev pub passed : InputFrame → LinePlace → Spot → InputFrame
-passed a place spot = record a { place = place; spot = spot }
+passed a place spot = record a { place = place; ahead = None; spot = spot }
 
 pub past_view : (a : InputFrame) (all text : List ℕ) (place : LinePlace) (spot : Spot) → IsPast a all text place
     → frame_of (passed a place spot) all ≡ past spot (frame_of a all)
@@ -89,6 +78,7 @@ past_held_by a all text place spot h r p =
       line = h.line;
       short = h.short;
       place = rw r.text_is at r.within;
+      ahead = tt;
       lines = h.lines;
       only = h.only;
       arguments = h.arguments;
@@ -107,20 +97,50 @@ pub deeper_held : (a : InputFrame) (all text : List ℕ) (place : LinePlace) (sp
 deeper_held a all text place spot h r p q =
     past_held_by a all text place spot h r (omega (arith, p, q, length-drop 1 (frame_of a all).parts))
 
-pub read_branch : (a : InputFrame) (all text : List ℕ) (part : Option (Atom (Bor (List ℕ)))) (place : LinePlace) → IsRead a all text part place
-    → first_branch (parts_seen part) ≡ first_branch (frame_of a all).parts
-read_branch a all text part place h =
-    reads_branch (parts_at text a.place) part (parts_at text place) h.next ∙ ap (λ line. first_branch (parts_at line a.place)) h.text_is
+-- the condition of a branch decides nothing of the bit after it
+bit_same : (b c : Branch (List ℕ)) (value bit : Bool) → kind_of b ≡ kind_of c → bit_after b value bit ≡ bit_after c value bit
+unfolding bit_after
+bit_same (If x) (If y) value bit e = refl
+bit_same (If x) (IfElse y) value bit e = absurd (cc)
+bit_same (If x) Else value bit e = absurd (cc)
+bit_same (IfElse x) (If y) value bit e = absurd (cc)
+bit_same (IfElse x) (IfElse y) value bit e = refl
+bit_same (IfElse x) Else value bit e = absurd (cc)
+bit_same Else (If y) value bit e = absurd (cc)
+bit_same Else (IfElse y) value bit e = absurd (cc)
+bit_same Else Else value bit e = refl
 
-pub read_region : (is_run : Bool) (a : InputFrame) (all text : List ℕ) (part : Option (Atom (Bor (List ℕ)))) (place : LinePlace) → IsRead a all text part place
-    → first_region is_run (parts_seen part) ≡ first_region is_run (frame_of a all).parts
-read_region is_run a all text part place h =
-    reads_region is_run (parts_at text a.place) part (parts_at text place) h.next ∙ ap (λ line. first_region is_run (parts_at line a.place)) h.text_is
+pub ahead_bit : (a : InputFrame) (all text : List ℕ) (ahead : Ahead) (branch : Branch (List ℕ)) (value bit : Bool) → text ≡ span_text a.line all → IsAhead text a.place ahead
+    → kind_of branch ≡ ahead.kind → bit_after branch value bit ≡ bit_after (first_branch (frame_of a all).parts) value bit
+ahead_bit a all text ahead branch value bit e h k =
+    bit_same branch (first_branch (frame_of a all).parts) value bit (k ∙ h.kind ∙ ap (λ line. kind_of (first_branch (parts_at line a.place))) e)
+
+pub ahead_guard : (a : InputFrame) (all text : List ℕ) (ahead : Ahead) (branch : Branch (List ℕ)) (value : Bool) → text ≡ span_text a.line all → IsAhead text a.place ahead
+    → kind_of branch ≡ ahead.kind → guarded_by branch value a.spot.levels ≡ guarded_by (first_branch (frame_of a all).parts) value a.spot.levels
+unfolding guarded_by
+ahead_guard a all text ahead branch value e h k =
+    ap (λ bit. let s : Spot = record { levels = record a.spot.levels { bit = bit }; begun = true; passing = not value } in s)
+    (ahead_bit a all text ahead branch value a.spot.levels.bit e h k)
+
+-- what was read changes nothing of what is seen
+pub ahead_held : (a : InputFrame) (all text : List ℕ) (ahead : Ahead) → text ≡ span_text a.line all → IsAhead text a.place ahead → IsHeld a all → IsHeld (record a { ahead = Some ahead }) all
+ahead_held a all text ahead e r h =
+    record {
+      line = h.line;
+      short = h.short;
+      place = h.place;
+      ahead = rw e at r;
+      lines = h.lines;
+      only = h.only;
+      arguments = h.arguments;
+      turns = h.turns;
+      bounds = h.bounds;
+    }
 
 -- ---- the rest of the present line is passed
 
 abbrev pub closed : InputFrame → LinePlace → Option Opened → Spot → InputFrame
-closed a place region spot = record a { place = place; region = region; spot = spot }
+closed a place region spot = record a { place = place; ahead = None; region = region; spot = spot }
 
 pub closed_view : (a : InputFrame) (all : List ℕ) (place : LinePlace) (region : Option Opened) (spot : Spot) → place ≡ line_end → spot ≡ at_line a.spot.levels
     → frame_of (closed a place region spot) all ≡ in_region region (frame_of a all)
@@ -137,6 +157,7 @@ closed_held a all place region spot e g h =
       line = h.line;
       short = h.short;
       place = rw e tt;
+      ahead = tt;
       lines = h.lines;
       only = h.only;
       arguments = h.arguments;
@@ -154,7 +175,7 @@ pub record IsPassed (a : InputFrame) (all : List ℕ) (line lines : Span) : Type
   pub lines_within : IsSpanIn lines all
 
 abbrev pub lined : InputFrame → Span → LinePlace → Span → Option Opened → Spot → InputFrame
-lined a line place lines region spot = record a { line = line; place = place; lines = lines; region = region; spot = spot }
+lined a line place lines region spot = record a { line = line; place = place; ahead = None; lines = lines; region = region; spot = spot }
 
 first_parts : (lines : List (List ℕ)) (text : List ℕ) → 0 < length lines → IsFirstLine lines text → atoms text ≡ first_atoms lines
 first_parts [] text p h = absurd (omega arith)
@@ -235,6 +256,7 @@ begun_held a all line place lines spot h b e g held =
       line = h.line_within;
       short = omega (arith, l, s, h.line_within.0);
       place = e.within;
+      ahead = tt;
       lines = h.lines_within;
       only = only_rest a.kind (span_text a.lines all) (span_text lines all) held.only h.rest;
       arguments = held.arguments;
@@ -244,7 +266,7 @@ begun_held a all line place lines spot h b e g held =
 
 -- a line in a region is passed
 abbrev pub skipped : InputFrame → LinePlace → Span → Spot → InputFrame
-skipped a place lines spot = record a { place = place; lines = lines; spot = spot }
+skipped a place lines spot = record a { place = place; ahead = None; lines = lines; spot = spot }
 
 pub skipped_view : (a : InputFrame) (all : List ℕ) (line : Span) (place : LinePlace) (lines : Span) (spot : Spot) → IsPassed a all line lines → place ≡ line_end → spot ≡ at_line a.spot.levels
     → frame_of (skipped a place lines spot) all ≡ next_line a.region [] (frame_of a all)
@@ -258,6 +280,7 @@ skipped_held a all line place lines spot h e g held =
       line = held.line;
       short = held.short;
       place = rw e tt;
+      ahead = tt;
       lines = h.lines_within;
       only = only_rest a.kind (span_text a.lines all) (span_text lines all) held.only h.rest;
       arguments = held.arguments;
@@ -273,6 +296,7 @@ ended_held a all h =
       line = h.line;
       short = h.short;
       place = h.place;
+      ahead = h.ahead;
       lines = h.lines;
       only = h.only;
       arguments = h.arguments;

@@ -28,6 +28,7 @@ frame kind region spot lines turning = record { kind = kind; region = region; pa
 pub record IsNew (a : InputFrame) (all before lines : List ℕ) : Type 0 where
   pub line : a.line ≡ span 0 0
   pub place : a.place ≡ line_end
+  pub ahead : a.ahead ≡ None
   pub lines_are : a.lines ≡ span (length before) (length (before ++ lines))
   pub front : take (length lines) (drop (length before) all) ≡ lines
   pub within : length (before ++ lines) ≤ length all
@@ -49,6 +50,7 @@ new_held a all before lines h o b =
       line = rw h.line (omega arith, omega arith);
       short = rw h.line (omega arith);
       place = rw h.place tt;
+      ahead = rw h.ahead tt;
       lines = rw h.lines_are (omega (arith, length-append before lines), h.within);
       only = rw (h.lines_are, length_after before lines, h.front) o;
       arguments = h.arguments;
@@ -56,12 +58,13 @@ new_held a all before lines h o b =
       bounds = b;
     }
 
-pub new_of : (a : InputFrame) (all before lines more : List ℕ) → all ≡ (before ++ lines) ++ more → a.line ≡ span 0 0 → a.place ≡ line_end
+pub new_of : (a : InputFrame) (all before lines more : List ℕ) → all ≡ (before ++ lines) ++ more → a.line ≡ span 0 0 → a.place ≡ line_end → a.ahead ≡ None
     → a.lines ≡ span (length before) (length (before ++ lines)) → AreArgumentsIn a.kind all → AreTurnsIn a.kind a.turning all → IsNew a all before lines
-new_of a all before lines more e l p n h t =
+new_of a all before lines more e l p k n h t =
     record {
       line = l;
       place = p;
+      ahead = k;
       lines_are = n;
       front = ap (λ text. take (length lines) (drop (length before) text)) (e ∙ append_assoc before lines more)
           ∙ ap (λ text. take (length lines) text) (drop-append_seam before (lines ++ more)) ∙ take-append_seam lines more;
@@ -128,11 +131,11 @@ unfolding arguments_in
 empty_only = refl
 
 -- the page, before its first line
-pub empty_set : (a : InputFrame) → a.kind ≡ sources.Page → a.line ≡ span 0 0 → a.place ≡ line_end → a.lines ≡ span 0 0 → a.region ≡ None → a.spot ≡ at_line outside
+pub empty_set : (a : InputFrame) → a.kind ≡ sources.Page → a.line ≡ span 0 0 → a.place ≡ line_end → a.ahead ≡ None → a.lines ≡ span 0 0 → a.region ≡ None → a.spot ≡ at_line outside
     → a.turning ≡ None → IsHeld a [] × (frame_of a [] ≡ frame page None (at_line outside) [] None)
 unfolding arguments_in
-empty_set a e l p n r s t =
-    let new = new_of a [] [] [] [] refl l p n (rw e tt) (rw t tt) in
+empty_set a e l p k n r s t =
+    let new = new_of a [] [] [] [] refl l p k n (rw e tt) (rw t tt) in
     let view : frame_of a [] ≡ frame page None (at_line outside) [] None = new_view a [] [] [] new ∙ rw (e, r, s, t) refl in
     (new_held a [] [] [] new (rw e empty_only) (rw view (empty_bounded page None)), view)
 

@@ -26,7 +26,7 @@ after_begin t = record t { left = t.left - 1; begun = true }
 
 -- a turn begins of a source with these turns, and leaves those
 abbrev pub begun : InputFrame → Turns → Turns → LinePlace → Spot → InputFrame
-begun a t after place spot = record a { place = place; lines = t.lines; region = None; spot = spot; turning = Some after }
+begun a t after place spot = record a { place = place; ahead = None; lines = t.lines; region = None; spot = spot; turning = Some after }
 
 pub begun_view : (a : InputFrame) (all : List ℕ) (t after : Turns) (place : LinePlace) (spot : Spot) → place ≡ line_end → spot ≡ at_line outside → a.turning ≡ Some t
     → after ≡ after_begin t → frame_of (begun a t after place spot) all ≡ in_turn (frame_of a all)
@@ -57,6 +57,7 @@ begun_held a all t after place spot e g i k h =
       line = h.line;
       short = h.short;
       place = rw e tt;
+      ahead = tt;
       lines = turns.lines;
       only = turns.only;
       arguments = h.arguments;

@@ -1,3 +1,4 @@
+pub mod Ahead
 pub mod Changes
 pub mod Held
 pub mod InputStacks

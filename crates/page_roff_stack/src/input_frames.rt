@@ -1,10 +1,11 @@
 //! A source that is being run: a line of the page, or the body of a macro or of a loop.
 
-ghost use Rattle.std.specs.Prelude.{◌≡◌, ℕ, List, [], ◌+◌, ◌≤◌, ◌<◌, ◌^◌, ◌++◌, true, length, take, drop, IfSome, None};
+ghost use Rattle.std.specs.Prelude.{◌≡◌, ℕ, List, [], ◌∷◌, ◌+◌, ◌≤◌, ◌<◌, ◌^◌, ◌++◌, true, length, take, drop, IfSome, None};
 ghost use Rattle.std.specs.Vec.{vec_len, vec_capacity};
 ghost use Rattle.page_core_base.specs.Texts.{IsLine};
 ghost use Rattle.page_core_limits.specs.declared.TheConstants.{ARGS, BODY, LINE};
-ghost use Rattle.page_roff_blocks.specs.Atoms.{atom_seen, branch_seen, FitsAtom};
+ghost use Rattle.page_roff_blocks.specs.declared.atoms.Atom.TheVariants.{Leaf};
+ghost use Rattle.page_roff_blocks.specs.Atoms.{atom_seen, FitsAtom};
 ghost use Rattle.page_roff_blocks.specs.Caps.{PlaceFits};
 ghost use Rattle.page_roff_blocks.specs.LinePlaces.{opens_block};
 ghost use Rattle.page_roff_blocks.specs.Levels.{after_part, guarded_by, way_of, enter, bit_after, open_loop, skip, leave, what_ends, reached, opened_seen};
@@ -18,12 +19,13 @@ ghost use Rattle.page_roff_stack.specs.InputFrames.{frame_of, IsHeld};
 ghost use Rattle.page_roff_stack.specs.Stacks.{first_text, turn_in, has_begun};
 ghost use Rattle.page_roff_stack.specs.Views.{parts_seen, packed_text, unpacked, IsNextLine};
 
+use crate::ahead::{Ahead, head_past, place_past, read_ahead};
 use crate::source_kinds::SourceKind;
 use crate::spans::{NOWHERE, Span};
 use crate::turns::Turns;
 use memchr::memchr;
 use page_core_limits::{ARGS, BODY, LINE, REREAD};
-use page_roff_blocks::{Atom, Branch, Ended, LinePlace, OpenRegion, Opening, Reached, Spot, Way};
+use page_roff_blocks::{Atom, Ended, LinePlace, OpenRegion, Reached, Spot, Way};
 
 // The turns that a loop has at most, and one more: each takes a line, or is given up.
 const TURNS: usize = REREAD + 2;
@@ -36,6 +38,8 @@ pub(crate) struct InputFrame {
     // The present line, and the place in it.
     line: Span,
     place: LinePlace,
+    // What was read of the part that comes next there, if it was.
+    ahead: Option<Ahead>,
     // The lines after it.
     lines: Span,
     region: Option<OpenRegion>,
@@ -122,17 +126,6 @@ fn pass_line(kind: SourceKind, text: &[u8], lines: &mut Span) -> Span
     line
 }
 
-// The branch of a part that is a head.
-fn branch_of<'a>(part: &Option<Atom<&'a [u8]>>) -> Branch<&'a [u8]>
-    ensures { branch_seen result ≡ first_branch (parts_seen part.now) }
-{
-    match part {
-        Some(Atom::Guard(head)) => head.branch,
-        Some(Atom::Block(Opening::Conditional(head))) => head.branch,
-        _ => Branch::Else,
-    }
-}
-
 // The region of a part that heads one.
 fn region_of(part: &Option<Atom<&[u8]>>, is_run: bool) -> Option<OpenRegion>
     requires { IfSome part.now (λ part. FitsAtom (atom_seen part)) }
@@ -154,6 +147,7 @@ impl InputFrame {
             kind: SourceKind::Page,
             line: NOWHERE,
             place: LinePlace::end(),
+            ahead: None,
             lines: NOWHERE,
             region: None,
             spot: Spot::new(),
@@ -177,6 +171,7 @@ impl InputFrame {
         append(text, b"\n");
         self.line = NOWHERE;
         self.place = LinePlace::end();
+        self.ahead = None;
         self.lines = Span {
             start: 0,
             end: text.len(),
@@ -203,6 +198,7 @@ impl InputFrame {
             kind: SourceKind::Body(Some(end)),
             line: NOWHERE,
             place: LinePlace::end(),
+            ahead: None,
             lines: Span { start, end },
             region: None,
             spot: Spot::new(),
@@ -234,6 +230,7 @@ impl InputFrame {
             kind,
             line: NOWHERE,
             place: LinePlace::end(),
+            ahead: None,
             lines: NOWHERE,
             region: None,
             spot: Spot::new(),
@@ -258,6 +255,32 @@ impl InputFrame {
         }
         let mut place = self.place;
         place.next_atom(self.line.of(text))
+    }
+
+    /// The present line, if all of it comes next as one part.
+    pub(crate) fn whole_line<'a>(&self, text: &'a [u8]) -> Option<&'a [u8]>
+        requires { IsHeld self.now text.now }
+        ensures value { IfSome result (λ line. take 1 (frame_of self.now text.now).parts ≡ Leaf line.now ∷ []) }
+        ensures short { IfSome result (λ line. length line.now ≤ LINE) }
+    {
+        self.place.whole(self.line.of(text))
+    }
+
+    /// The part that comes next in the present line. Remembers where the line goes on after it.
+    #[inline(always)]
+    pub(crate) fn read_part<'a>(&mut self, text: &'a [u8]) -> Option<Atom<&'a [u8]>>
+        requires { IsHeld self.old text.now }
+        ensures value { parts_seen result ≡ take 1 (frame_of self.old text.now).parts }
+        ensures fits { IfSome result (λ part. FitsAtom (atom_seen part)) }
+        ensures held { IsHeld self.new text.now }
+        ensures same { frame_of self.new text.now ≡ frame_of self.old text.now }
+    {
+        if self.place.is_at_end() {
+            return None;
+        }
+        let (part, ahead) = read_ahead(self.line.of(text), self.place);
+        self.ahead = Some(ahead);
+        part
     }
 
     /// Whether the part that comes next in the present line opens a block.
@@ -391,7 +414,8 @@ impl InputFrame {
         ensures held { IsHeld self.new text.now }
         ensures frame { frame_of self.new text.now ≡ past (after_part self.old.spot.levels) (frame_of self.old text.now) }
     {
-        self.place.pass_atom(self.line.of(text));
+        self.place = place_past(self.line.of(text), self.place, self.ahead);
+        self.ahead = None;
         self.spot.pass();
     }
 
@@ -401,7 +425,8 @@ impl InputFrame {
         ensures held { IsHeld self.new text.now }
         ensures frame { frame_of self.new text.now ≡ past (record self.old.spot { begun = true }) (frame_of self.old text.now) }
     {
-        self.place.pass_atom(self.line.of(text));
+        self.place = place_past(self.line.of(text), self.place, self.ahead);
+        self.ahead = None;
         self.spot.pass_guard();
     }
 
@@ -412,8 +437,10 @@ impl InputFrame {
         ensures frame { frame_of self.new text.now ≡ past (guarded_by
             (first_branch (frame_of self.old text.now).parts) value self.old.spot.levels) (frame_of self.old text.now) }
     {
-        let part = self.place.next_atom(self.line.of(text));
-        self.spot.guard(&branch_of(&part), value);
+        let head = head_past(self.line.of(text), self.place, self.ahead);
+        self.place = head.place;
+        self.ahead = None;
+        self.spot.guard(&head.kind.branch(), value);
     }
 
     /// Enters a block whose head is run, and has this value.
@@ -426,8 +453,10 @@ impl InputFrame {
             (bit_after (first_branch (frame_of self.old text.now).parts) value self.old.spot.levels.bit) self.old.spot.levels))
             (frame_of self.old text.now) }
     {
-        let part = self.place.next_atom(self.line.of(text));
-        self.spot.enter(&branch_of(&part), value)
+        let head = head_past(self.line.of(text), self.place, self.ahead);
+        self.place = head.place;
+        self.ahead = None;
+        self.spot.enter(&head.kind.branch(), value)
     }
 
     /// Enters a block that is passed over.
@@ -437,7 +466,8 @@ impl InputFrame {
         ensures held { IsHeld self.new text.now }
         ensures frame { frame_of self.new text.now ≡ past (after_part (skip self.old.spot.levels)) (frame_of self.old text.now) }
     {
-        self.place.pass_atom(self.line.of(text));
+        self.place = place_past(self.line.of(text), self.place, self.ahead);
+        self.ahead = None;
         self.spot.skip();
     }
 
@@ -447,7 +477,8 @@ impl InputFrame {
         ensures held { IsHeld self.new text.now }
         ensures frame { frame_of self.new text.now ≡ past (after_part (open_loop self.old.spot.levels)) (frame_of self.old text.now) }
     {
-        self.place.pass_atom(self.line.of(text));
+        self.place = place_past(self.line.of(text), self.place, self.ahead);
+        self.ahead = None;
         self.spot.open_loop();
     }
 
@@ -458,7 +489,8 @@ impl InputFrame {
         ensures frame { frame_of self.new text.now ≡ past (after_part (leave self.old.spot.levels)) (frame_of self.old text.now) }
         ensures ended { result ≡ what_ends self.old.spot.levels }
     {
-        self.place.pass_atom(self.line.of(text));
+        self.place = place_past(self.line.of(text), self.place, self.ahead);
+        self.ahead = None;
         self.spot.leave()
     }
 
@@ -472,6 +504,7 @@ impl InputFrame {
         let part = self.place.next_atom(self.line.of(text));
         self.region = region_of(&part, is_run);
         self.place = LinePlace::end();
+        self.ahead = None;
         self.spot.begin_line();
     }
 
@@ -485,6 +518,7 @@ impl InputFrame {
     {
         self.line = pass_line(self.kind, text, &mut self.lines);
         self.place = LinePlace::start(self.line.of(text));
+        self.ahead = None;
         self.spot.begin_line();
     }
 
@@ -496,6 +530,7 @@ impl InputFrame {
     {
         let _line = pass_line(self.kind, text, &mut self.lines);
         self.place = LinePlace::end();
+        self.ahead = None;
         self.spot.begin_line();
     }
 
@@ -517,6 +552,7 @@ impl InputFrame {
     {
         if let Some(turns) = self.turning {
             self.place = LinePlace::end();
+            self.ahead = None;
             self.lines = turns.lines;
             self.region = None;
             self.spot = Spot::new();

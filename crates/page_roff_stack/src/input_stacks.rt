@@ -1,8 +1,11 @@
 //! The input stack (mandoc(1), "input stack limit exceeded, infinite loop?").
 
-ghost use Rattle.std.specs.Prelude.{◌≡◌, [], ◌∷◌, ◌+◌, ◌*◌, ◌≤◌, ◌<◌, ◌^◌, true, length, drop, sum_by, IfOk, IfSome, None, Some, option_map};
+ghost use Rattle.std.specs.Prelude.{◌≡◌, ⊤, [], ◌∷◌, ◌+◌, ◌*◌, ◌≤◌, ◌<◌, ◌^◌, true, length, drop, sum_by, IfOk, IfSome, None, Some, option_map};
+ghost use mathlib.Core.Option.{none};
+ghost use Rattle.std.specs.Borrow.{sem, follows_so};
 ghost use Rattle.page_core_base.specs.Texts.{IsLine};
 ghost use Rattle.page_core_limits.specs.declared.TheConstants.{ARGS, BODY, CALLS};
+ghost use Rattle.page_roff_blocks.specs.declared.atoms.Atom.TheVariants.{Leaf};
 ghost use Rattle.page_roff_blocks.specs.Atoms.{atom_seen, FitsAtom};
 ghost use Rattle.page_roff_blocks.specs.Caps.{PlaceFits};
 ghost use Rattle.page_roff_blocks.specs.Levels.{after_part, guarded_by, way_of, enter, bit_after, open_loop, skip, leave, what_ends, reached, opened_seen};
@@ -56,6 +59,8 @@ impl Model for InputStack {
 }
 
 impl InputStack {
+    ghost use Rattle.page_roff_stack.specs.contracts.input_stacks.InputStack.{the_row};
+
     /// The page, before its first line. All memory is reserved here.
     pub fn new(alloc: Global) -> Result<InputStack, AllocError>
         ensures { IfOk result (λ stack. stack ≡ first_stack) }
@@ -147,6 +152,30 @@ impl InputStack {
             return None;
         }
         self.top.part(&self.text)
+    }
+
+    /// The line that comes next, if all of it is one part, a leaf.
+    pub fn whole_line(&self) -> Option<&[u8]>
+        ensures value { IfSome result (λ line. part_in (next_of self.now) ≡ Some (Leaf line.now)) }
+        ensures short { IfSome result (λ line. length line.now ≤ LINE) }
+    {
+        if self.top.region().is_some() {
+            return None;
+        }
+        self.top.whole_line(&self.text)
+    }
+
+    /// The part of a line that comes next, if one does. Remembers where the line goes on after it: to go past it then takes less.
+    #[inline(always)]
+    pub fn read_part(&mut self) -> Option<Atom<&[u8]>>
+        ensures value { option_map atom_seen result ≡ part_in (next_of self.old) }
+        ensures fits { IfSome result (λ part. FitsAtom (atom_seen part)) }
+        ensures* after { sem 𝓛 (follows_so the_row the_row self.entry.ghost_name none (λ _ _. ⊤) (λ v. v ≡ self.old)) }
+    {
+        if self.top.region().is_some() {
+            return None;
+        }
+        self.top.read_part(&self.text)
     }
 
     /// Whether the part of a line that comes next, if one does, opens a block. What of a line belongs to a loop is not looked for.

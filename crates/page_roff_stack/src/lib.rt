@@ -4,6 +4,7 @@
 //! `page_roff_machine` asks it what comes next, and moves it on. Read `specs/Stacks.antt` first, then `input_stacks.rt`.
 #![tactic(auto)]
 
+mod ahead;
 mod input_frames;
 mod input_stacks;
 mod laws;

@@ -162,6 +162,7 @@ impl Expansion {
     }
 
     // Copies bytes. Beyond `LINE` the line is cut at a character's end, and ends.
+    #[inline(always)]
     #[tactic(auto, unfolding(crate::specs::Values::put))]
     fn put<O: NoteOut>(&mut self, run: &[u8], out: &mut O)
         ensures { Goes O.left out.old (laying.put run.now self.old) out.new (laying.nothing self.new) }

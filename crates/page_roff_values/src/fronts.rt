@@ -29,6 +29,7 @@ fn copies_pair(text: &[u8], copy: bool) -> bool
 }
 
 /// How many bytes at a text's front are copied as they are, up to this many: runs without a backslash and pairs that are no interpolation.
+#[inline(always)]
 pub(crate) fn front_len(text: &[u8], copy: bool, fits: usize) -> usize
     ensures front { IsFront copy result text.now }
     ensures within { result ≤ length text.now }

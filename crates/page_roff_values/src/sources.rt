@@ -28,6 +28,7 @@ impl<'e> Sources<'e> {
 
     /// The next part of the innermost text that isn't at its end. Parts that are copied come as one as far as they have at most `fits` bytes,
     /// for which there must be room.
+    #[inline(always)]
     pub(crate) fn next(&mut self, copy: bool, fits: usize) -> Option<Part<&'e [u8]>>
         ensures reads { Reads copy fits (texts_of self.old) result (texts_of self.new) }
         ensures falls { MatchOption result ℕ (λ p. size (texts_of self.new) < size (texts_of self.old)) }

@@ -31,6 +31,7 @@ impl<'e> Unread<'e> {
     }
 
     /// Takes the bytes of the front that are copied as they are, up to this many.
+    #[inline(always)]
     pub(crate) fn take_front(&mut self, copy: bool, fits: usize) -> &'e [u8]
         ensures value { result.now ≡ take (length result.now) self.old.text.now }
         ensures rest { self.new.text.now ≡ drop (length result.now) self.old.text.now }

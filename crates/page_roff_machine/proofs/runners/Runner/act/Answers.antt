@@ -1,57 +1,14 @@
 use Rattle.std.proofs.Common.{sym, ◌∙◌}
-use Rattle.page_roff_blocks.specs.Atoms.{head_seen, loop_head_seen}
-use Rattle.page_roff_blocks.specs.declared.atoms.Atom.TheVariants.{Leaf, Guard, Block, Loop, End, Region}
-use Rattle.page_roff_blocks.specs.declared.atoms.Opening.TheVariants as openings
-use Rattle.page_roff_blocks.specs.Regions.{region_seen}
+use Rattle.page_roff_blocks.specs.declared.atoms.Atom.TheVariants.{Leaf}
 use Rattle.page_roff_stack.specs.Stacks.{next_of}
-use Rattle.page_roff_machine.proofs.ActLemmas.{is_the_part, decides_leaf, decides_guard, decides_block, decides_loop, decides_open_loop, decides_region, decides_passed, decides_block_end}
+use Rattle.page_roff_machine.proofs.ActLemmas.{is_the_part, decides_leaf, decides_passed}
 use Rattle.page_roff_machine.proofs.runners.Runner.act.Goals as goal
 
-pub returns-in-Some-Leaf : goal.returns-in-Some-Leaf
-returns-in-Some-Leaf g c =
-    let part = is_the_part (next_of c.args.self.now.stack) (Leaf c.in-Some-Leaf.text.now) (rw c.in-Some-Leaf.field-0-is at c.in-Some-Leaf.ensures.value) in
-    decides_leaf g.O.NoteOut.left c.args.self.now c.leaf.new.self c.args.out.now c.leaf.new.out c.in-Some-Leaf.text.now c.reached-reached.result c.may_call-may_run.result c.leaf.result
+pub returns-in-Some : goal.returns-in-Some
+returns-in-Some g c =
+    let part = is_the_part (next_of c.args.self.now.stack) (Leaf c.in-Some.text.now) (sym c.in-Some.ensures.value) in
+    decides_leaf g.O.NoteOut.left c.args.self.now c.leaf.new.self c.args.out.now c.leaf.new.out c.in-Some.text.now c.reached-reached.result c.may_call-may_run.result c.leaf.result
     part c.reached-reached.ensures c.may_call-may_run.ensures c.requires.sound.setting c.leaf.ensures.done c.leaf.ensures.call
-
-pub returns-in-Some-Guard : goal.returns-in-Some-Guard
-returns-in-Some-Guard g c =
-    let head = head_seen c.in-Some-Guard.head in
-    let part = is_the_part (next_of c.args.self.now.stack) (Guard head) (rw c.in-Some-Guard.field-0-is at c.in-Some-Guard.ensures.value) in
-    decides_guard g.O.NoteOut.left c.args.self.now c.answer.new.self c.args.out.now c.answer.new.out head c.reached-reached.result c.bit-bit.result c.answer.result
-    part c.reached-reached.ensures c.bit-bit.ensures c.requires.sound.setting c.answer.ensures
-
-pub returns-in-Some-Block-Conditional : goal.returns-in-Some-Block-Conditional
-returns-in-Some-Block-Conditional g c =
-    let head = head_seen c.in-Some-Block-Conditional.head in
-    let part = is_the_part (next_of c.args.self.now.stack) (Block (openings.Conditional head)) (rw (c.in-Some-Block-Conditional.field-0-is, c.in-Some-Block-Conditional.field-0-0-is) at c.in-Some-Block-Conditional.ensures.value) in
-    decides_block g.O.NoteOut.left c.args.self.now c.answer-value.new.self c.args.out.now c.answer-value.new.out head c.reached-reached.result c.bit-bit.result c.answer-value.result
-    part c.reached-reached.ensures c.bit-bit.ensures c.requires.sound.setting c.answer-value.ensures
-
-pub returns-in-Some-Block-Loop : goal.returns-in-Some-Block-Loop
-returns-in-Some-Block-Loop g c =
-    let head = loop_head_seen c.in-Some-Block-Loop.head in
-    let part = is_the_part (next_of c.args.self.now.stack) (Block (openings.Loop head)) (rw (c.in-Some-Block-Loop.field-0-is, c.in-Some-Block-Loop.field-0-0-is) at c.in-Some-Block-Loop.ensures.value) in
-    decides_open_loop g.O.NoteOut.left c.args.self.now c.open_loop.new.self c.args.out.now c.open_loop.new.out head c.reached-reached.result c.open_loop.result
-    part c.reached-reached.ensures c.requires.sound.setting c.open_loop.ensures
-
-pub returns-in-Some-Loop : goal.returns-in-Some-Loop
-returns-in-Some-Loop g c =
-    let head = loop_head_seen c.in-Some-Loop.head in
-    let part = is_the_part (next_of c.args.self.now.stack) (Loop head) (rw c.in-Some-Loop.field-0-is at c.in-Some-Loop.ensures.value) in
-    decides_loop g.O.NoteOut.left c.args.self.now c.pass_loop.new.self c.args.out.now c.pass_loop.new.out head c.reached-reached.result c.may_call-may_run.result c.pass_loop.result
-    part c.reached-reached.ensures c.may_call-may_run.ensures c.requires.sound.setting c.pass_loop.ensures.done c.pass_loop.ensures.repeats
-
-pub returns-in-Some-End : goal.returns-in-Some-End
-returns-in-Some-End g c =
-    let part = is_the_part (next_of c.args.self.now.stack) End (rw c.in-Some-End.field-0-is at c.in-Some-End.ensures.value) in
-    decides_block_end g.O.NoteOut.left c.args.self.now c.args.out.now part
-
-pub returns-in-Some-Region : goal.returns-in-Some-Region
-returns-in-Some-Region g c =
-    let head = region_seen c.in-Some-Region.head in
-    let part = is_the_part (next_of c.args.self.now.stack) (Region head) (rw c.in-Some-Region.field-0-is at c.in-Some-Region.ensures.value) in
-    decides_region g.O.NoteOut.left c.args.self.now c.open_region.new.self c.args.out.now c.open_region.new.out head c.reached-reached.result c.open_region.result
-    part c.reached-reached.ensures c.requires.sound.setting c.open_region.ensures
 
 pub returns-then-passes_block : goal.returns-then-passes_block
 returns-then-passes_block g c =

@@ -16,6 +16,7 @@ returns c =
       kind = sources.Body (Some c.len-end.result);
       line = span 0 0;
       place = c.end.result;
+      ahead = None;
       lines = span c.len-start.result c.len-end.result;
       region = None;
       spot = c.new.result;
@@ -25,7 +26,7 @@ returns c =
     let start : c.len-start.result ≡ length before = c.len-start.ensures ∙ c.args.text.now.ok.0 in
     let end : c.len-end.result ≡ length (before ++ text) = c.len-end.ensures ∙ c.append.new.text.ok.0 ∙ ap length c.append.ensures.items in
     let within : AreArgumentsIn a.kind all = (omega (arith, end, ap length e, length-append (before ++ text) args), omega (arith, end, ap length e, length-append (before ++ text) args, c.requires.arguments)) in
-    let new : IsNew a all before text = new_of a all before text args e refl c.end.ensures (rw (start, end) refl) within tt in
+    let new : IsNew a all before text = new_of a all before text args e refl c.end.ensures refl (rw (start, end) refl) within tt in
     let rest = ap (λ bytes. drop (length (before ++ text)) bytes) e ∙ drop-append_seam (before ++ text) args in
     let set = body_set a all before text args new (ap (λ start. sources.Body (Some start)) end) rest refl c.new.ensures refl c.requires.body in
     record {

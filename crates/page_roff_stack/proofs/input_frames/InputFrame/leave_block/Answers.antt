@@ -10,21 +10,21 @@ pub returns-clause-held : goal.returns-clause-held
 unfolding after_part
 returns-clause-held c =
     let a = c.args.self.now in
-    let past_it : IsPast a c.args.text.now c.of.result.now c.pass_atom.new.self = record {
+    let past_it : IsPast a c.args.text.now c.of.result.now c.place_past-self.result = record {
       text_is = c.of.ensures;
-      next = c.pass_atom.ensures.next;
-      within = c.pass_atom.ensures.within;
+      next = c.place_past-self.ensures.next;
+      within = c.place_past-self.ensures.within;
     } in
     let e = ap (λ spot. spot.levels.skipped) c.leave.ensures.spot in
-    past_held a c.args.text.now c.of.result.now c.pass_atom.new.self c.leave.new.self c.requires past_it (let l = a.spot.levels in omega (arith, e, leave_room l.bit l.outer l.in_loop l.skipped))
+    past_held a c.args.text.now c.of.result.now c.place_past-self.result c.leave.new.self c.requires past_it (let l = a.spot.levels in omega (arith, e, leave_room l.bit l.outer l.in_loop l.skipped))
 
 pub returns-clause-frame : goal.returns-clause-frame
 returns-clause-frame c =
     let a = c.args.self.now in
-    let past_it : IsPast a c.args.text.now c.of.result.now c.pass_atom.new.self = record {
+    let past_it : IsPast a c.args.text.now c.of.result.now c.place_past-self.result = record {
       text_is = c.of.ensures;
-      next = c.pass_atom.ensures.next;
-      within = c.pass_atom.ensures.within;
+      next = c.place_past-self.ensures.next;
+      within = c.place_past-self.ensures.within;
     } in
-    past_view a c.args.text.now c.of.result.now c.pass_atom.new.self c.leave.new.self past_it
+    past_view a c.args.text.now c.of.result.now c.place_past-self.result c.leave.new.self past_it
     ∙ ap (λ spot. past spot (frame_of a c.args.text.now)) (c.leave.ensures.spot)

@@ -10,10 +10,11 @@ returns c =
       kind = sources.Page;
       line = span 0 0;
       place = c.end.result;
+      ahead = None;
       lines = span 0 0;
       region = None;
       spot = c.new.result;
       turning = None;
     } in
-    let set = empty_set a refl refl c.end.ensures refl refl c.new.ensures refl in
+    let set = empty_set a refl refl c.end.ensures refl refl refl c.new.ensures refl in
     record { held = set.0; frame = set.1 }

@@ -7,21 +7,21 @@ use Rattle.page_roff_stack.proofs.input_frames.InputFrame.pass_guard.Goals as go
 pub returns-clause-held : goal.returns-clause-held
 returns-clause-held c =
     let a = c.args.self.now in
-    let past_it : IsPast a c.args.text.now c.of.result.now c.pass_atom.new.self = record {
+    let past_it : IsPast a c.args.text.now c.of.result.now c.place_past-self.result = record {
       text_is = c.of.ensures;
-      next = c.pass_atom.ensures.next;
-      within = c.pass_atom.ensures.within;
+      next = c.place_past-self.ensures.next;
+      within = c.place_past-self.ensures.within;
     } in
     let e = ap (λ spot. spot.levels.skipped) c.pass_guard.ensures in
-    past_held a c.args.text.now c.of.result.now c.pass_atom.new.self c.pass_guard.new.self c.requires past_it (omega (arith, e))
+    past_held a c.args.text.now c.of.result.now c.place_past-self.result c.pass_guard.new.self c.requires past_it (omega (arith, e))
 
 pub returns-clause-frame : goal.returns-clause-frame
 returns-clause-frame c =
     let a = c.args.self.now in
-    let past_it : IsPast a c.args.text.now c.of.result.now c.pass_atom.new.self = record {
+    let past_it : IsPast a c.args.text.now c.of.result.now c.place_past-self.result = record {
       text_is = c.of.ensures;
-      next = c.pass_atom.ensures.next;
-      within = c.pass_atom.ensures.within;
+      next = c.place_past-self.ensures.next;
+      within = c.place_past-self.ensures.within;
     } in
-    past_view a c.args.text.now c.of.result.now c.pass_atom.new.self c.pass_guard.new.self past_it
+    past_view a c.args.text.now c.of.result.now c.place_past-self.result c.pass_guard.new.self past_it
     ∙ ap (λ spot. past spot (frame_of a c.args.text.now)) (c.pass_guard.ensures)

@@ -24,6 +24,7 @@ returns c =
       kind = sources.Body c.append_arguments-arguments.result;
       line = span 0 0;
       place = c.end.result;
+      ahead = None;
       lines = span 0 0;
       region = None;
       spot = c.new.result;
@@ -43,7 +44,7 @@ returns c =
       cut = c.pass_line-condition.ensures.cut;
     } in
     let turns = loop_turns before more (packed_text packed) all lines first others cut c.append_arguments-arguments.result TURNS in
-    let new : IsNew a all [] [] = new_of a all [] [] all refl refl c.end.ensures refl c.append_arguments-arguments.ensures.within turns in
+    let new : IsNew a all [] [] = new_of a all [] [] all refl refl c.end.ensures refl refl c.append_arguments-arguments.ensures.within turns in
     let condition = loop_condition before more (packed_text packed) all lines first others cut in
     let body_lines = loop_lines before more (packed_text packed) all lines first others cut in
     let turning : turning_in a.turning all ≡ Some (unturned (first_text (lines_in more)) (drop 1 (lines_in more))) = rw (condition, body_lines) refl in

@@ -15,6 +15,7 @@ returns c =
       kind = old.kind;
       line = span 0 0;
       place = c.end-self.result;
+      ahead = None;
       lines = span 0 c.len.result;
       region = old.region;
       spot = c.begin_line.new.self;
@@ -25,7 +26,7 @@ returns c =
     let none = page_none old.kind c.args.text.now.items c.requires.page in
     let lines : a.lines ≡ span 0 (length (line ++ (10 ∷ []))) = ap (λ end. span 0 end) (c.len.ensures ∙ c.append-2.new.text.ok.0 ∙ ap length e) in
     let new : IsNew a all [] (line ++ (10 ∷ [])) =
-    new_of a all [] (line ++ (10 ∷ [])) [] (e ∙ sym (append-nil (line ++ (10 ∷ [])))) refl c.end-self.ensures lines (rw none tt) tt in
+    new_of a all [] (line ++ (10 ∷ [])) [] (e ∙ sym (append-nil (line ++ (10 ∷ [])))) refl c.end-self.ensures refl lines (rw none tt) tt in
     let same = ap (λ spot. spot.levels.skipped) c.begin_line.ensures in
     let skips : a.spot.levels.skipped < 2 ^ 62 = omega (arith, same, c.requires.skips) in
     let set = page_set a all line c.requires.line new none refl skips in
