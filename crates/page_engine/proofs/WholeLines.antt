@@ -16,7 +16,8 @@ use Rattle.page_fill.proofs.HeldSheets.{fresh-held}
 use Rattle.page_roff_lines.specs.Decoding.{Line}
 use Rattle.page_roff_source.specs.Edges.{SourceLine}
 use Rattle.page_engine_lines.specs.Acts.{lines_items, lines_after}
-use Rattle.page_engine_lines.specs.Lines.{LinesEdge, source_items, end_items, footer_items}
+use Rattle.page_engine_lines.specs.Edges.{LinesEdge, footer_items}
+use Rattle.page_engine_lines.specs.Lines.{source_items, end_items}
 use Rattle.page_engine_lines.proofs.TreeLemmas.{lines_items-append, lines_after-append, one_items, one_after, no_items, none_after, end_items_after}
 use Rattle.page_engine.specs.Levels.{given, worst_of, given-append, worst_of-append}
 use Rattle.page_engine.specs.Page.{Edge, IsReached, of_page, start, raw, raw_lines, last_number, after, settled, edge, page, page_items, footer_laid, counts_at, text_line}

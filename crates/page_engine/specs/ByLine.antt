@@ -3,7 +3,8 @@
 use Rattle.std.specs.Prelude.{ℕ, List, [], ◌∷◌}
 use Rattle.page_core_base.specs.Messages.{Message}
 use Rattle.page_core_base.specs.Laid.{Laid, nothing, seq}
-use Rattle.page_engine_lines.specs.Lines.{source_items, source_after, end_items, footer_items}
+use Rattle.page_engine_lines.specs.Edges.{footer_items}
+use Rattle.page_engine_lines.specs.Lines.{source_items, source_after, end_items}
 use Rattle.page_fill.specs.ByPiece.{laid_items}
 use Rattle.page_fill.specs.Filling.{row_end}
 use Rattle.page_fill_steps.specs.Edges as fill

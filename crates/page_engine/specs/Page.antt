@@ -12,7 +12,7 @@ use Rattle.page_engine_lines.specs.Acts as acts
 use Rattle.page_engine_lines.specs.Acts.{raw_line, lines_items, lines_after}
 use Rattle.page_fill_steps.specs.declared.edges.Edge.{Edge as FillEdge}
 use Rattle.page_fill_steps.specs.Edges as fill
-use Rattle.page_engine_lines.specs.Lines.{LinesEdge, footer_items, start_of}
+use Rattle.page_engine_lines.specs.Edges.{LinesEdge, footer_items, start_of}
 use Rattle.page_fill_steps.specs.Caps.{IsHeld, is_sound}
 use Rattle.page_fill.specs.Filling.{filled, row_end}
 use Rattle.page_roff_lines.specs.Decoding.{Line}

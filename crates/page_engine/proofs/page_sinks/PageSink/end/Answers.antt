@@ -1,5 +1,6 @@
 use Rattle.page_engine.proofs.Feeds.{same_header}
-use Rattle.page_engine_lines.specs.Lines.{end_items, footer_items}
+use Rattle.page_engine_lines.specs.Edges.{footer_items}
+use Rattle.page_engine_lines.specs.Lines.{end_items}
 use Rattle.page_fill.specs.ByPiece.{laid_items}
 use Rattle.page_fill.specs.Filling.{row_end}
 use Rattle.page_fill_steps.specs.Edges as fill

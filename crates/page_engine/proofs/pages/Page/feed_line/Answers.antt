@@ -1,7 +1,7 @@
 use Rattle.std.proofs.Common.{refl, ap, ◌∙◌}
 use Rattle.page_roff_source.specs.Edges.{counts_of}
 use Rattle.page_engine.specs.ByLine.{settled_text}
-use Rattle.page_engine_lines.specs.Lines.{LinesEdge}
+use Rattle.page_engine_lines.specs.Edges.{LinesEdge}
 use Rattle.page_engine.proofs.Phases.{at_edge, edge_at, open_layers, open_kept, edge_reached, failed_at, no_cause}
 use Rattle.page_engine.proofs.WholeLines.{text_reached, text_settled}
 use Rattle.page_engine.proofs.pages.Page.feed_line.Goals as goal
