@@ -12,7 +12,7 @@ use Rattle.page_engine.specs.Levels.{given, worst_of}
 use Rattle.page_engine.specs.Layers.{IsAt}
 use Rattle.page_engine.specs.Page.{Edge}
 use Rattle.page_engine.specs.ByLine.{laid_notes}
-use Rattle.page_engine.specs.Shown.{is_silent, shown_rows-nil}
+use Rattle.page_engine.specs.Shown.{shown_rows-nil}
 
 -- the messages of a cutting change the worst level alone
 pub cut_at : {here : Layers} {e : Edge} (worst' : Option Level) (m : List Message)

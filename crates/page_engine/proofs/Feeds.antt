@@ -8,12 +8,12 @@ use Rattle.page_core_base.specs.declared.page_settings.Output.{Output}
 use Rattle.page_core_base.specs.Laid.{Laid, Gets}
 use Rattle.page_core_base.specs.Fails.{FailsBySink, IsPieceFault}
 use Rattle.page_fill_steps.specs.declared.edges.Edge.{Edge as FillEdge}
-use Rattle.page_engine_lines.specs.Lines.{LinesEdge}
+use Rattle.page_engine_lines.specs.Edges.{LinesEdge}
 use Rattle.page_engine.specs.Levels.{FilterGave, FilterWithin}
 use Rattle.page_engine.specs.Shown.{is_silent, ShownGave, ShownWithin}
 use Rattle.page_engine.specs.PageSinks.{Passed, Broken, Ends, Quiet}
 use Rattle.page_engine.specs.Layers.{IsAt}
-use Rattle.page_engine.specs.Page.{Edge, of_page}
+use Rattle.page_engine.specs.Page.{Edge, lines_at, of_page}
 
 -- what a call did that passes items on
 abbrev pub Passes : {T R S N : Type 0} → Result (Unit {0}) Fault → (R → List LaidRow → R → Type 0) → (R → List LaidRow → R → Type 0) → (T → ℕ) → (T → R) → (T → Bool)
@@ -28,7 +28,7 @@ Passes res rg rw_ rf under silent ng nw nf below least worst f f' t t' s s' l =
 
 pub passes_gets : {T R S N : Type 0} (rg rw_ : R → List LaidRow → R → Type 0) (rf : T → ℕ) (under : T → R) (silent : T → Bool) (ng nw : N → List Message → N → Type 0) (nf : S → ℕ)
     (below : S → N) (least worst : S → Option Level) (res : Result (Unit {0}) Fault) (f f' : Option FillEdge) (t t' : T) (s s' : S) (l : FillEdge → Laid FillEdge) (e next : Edge)
-    → f ≡ Some e.fill → silent t ≡ is_silent e.output → least s ≡ e.least → Passes res rg rw_ rf under silent ng nw nf below least worst f f' t t' s s' l
+    → f ≡ Some e.fill → silent t ≡ is_silent e.fill.output → least s ≡ e.least → Passes res rg rw_ rf under silent ng nw nf below least worst f f' t t' s s' l
     → Gets res rg rw_ ng nw (under t) (under t') (below s) (below s') (of_page e next (l e.fill))
 passes_gets rg rw_ rf under silent ng nw nf below least worst (Ok x) f f' t t' s s' l e next q o k h =
     let p = h.0 e.fill q in record { rows = rw o at p.rows.0; notes = rw k at p.notes.0 }
@@ -37,9 +37,9 @@ passes_gets rg rw_ rf under silent ng nw nf below least worst (Err x) f f' t t' 
 
 pub passes_edge : {T R S N : Type 0} (rg rw_ : R → List LaidRow → R → Type 0) (rf : T → ℕ) (under : T → R) (silent : T → Bool) (ng nw : N → List Message → N → Type 0) (nf : S → ℕ)
     (below : S → N) (least worst : S → Option Level) (res : Result (Unit {0}) Fault) (f f' : Option FillEdge) (t t' : T) (s s' : S) (l : FillEdge → Laid FillEdge) (e next : Edge)
-    (lines : LinesEdge) (output : Output) (kept : Option Level) (last : ℕ)
+    (lines : LinesEdge) (output : Output) (kept : Option Level) (last : Option ℕ)
     → f ≡ Some e.fill → least s ≡ e.least → worst s ≡ e.worst → Passes res rg rw_ rf under silent ng nw nf below least worst f f' t t' s s' l
-    → lines ≡ next.lines → output ≡ next.output → kept ≡ next.least → last ≡ next.last
+    → lines ≡ lines_at (of_page e next (l e.fill)).edge → output ≡ (l e.fill).edge.output → kept ≡ next.least → last ≡ next.last
     → OnOk res (IsAt (record { filler = f'; lines = lines; output = output; least = kept; worst = worst s'; last = last }) (of_page e next (l e.fill)).edge)
 passes_edge rg rw_ rf under silent ng nw nf below least worst (Ok x) f f' t t' s s' l e next lines output kept last q k w h a o b c =
     let p = h.0 e.fill q in record { filled = p.filler; lines = a; output = o; levels = b; worst_level = rw (k, w) at p.notes.2; last_line = c }
@@ -54,7 +54,7 @@ passes_faults rg rw_ rf under silent ng nw nf below least worst (Err o) f f' t t
 -- the same of the end
 pub ends_gets : {T R S N : Type 0} (rg rw_ : R → List LaidRow → R → Type 0) (rf : T → ℕ) (under : T → R) (silent : T → Bool) (ng nw : N → List Message → N → Type 0) (nf : S → ℕ)
     (below : S → N) (least worst : S → Option Level) (res : Result (Unit {0}) Fault) (t t' : T) (s s' : S) (l : Laid FillEdge) (e next : Edge)
-    → silent t ≡ is_silent e.output → least s ≡ e.least
+    → silent t ≡ is_silent e.fill.output → least s ≡ e.least
     → Ends res (ShownGave rg under silent) (ShownWithin rw_ under silent) rf (FilterGave ng below least worst) (FilterWithin nw below least) nf t t' s s' l
     → Gets res rg rw_ ng nw (under t) (under t') (below s) (below s') (of_page e next l)
 ends_gets rg rw_ rf under silent ng nw nf below least worst (Ok x) t t' s s' l e next o k h = record { rows = rw o at h.0.rows.0; notes = rw k at h.0.notes.0 }

@@ -5,22 +5,23 @@ use Rattle.page_roff_lines.specs.Decoding.{Line}
 use Rattle.page_core_limits.specs.declared.TheConstants.{EXPAND, REREAD}
 use Rattle.page_roff_source.specs.Moments.{Moment, IsMomentOf, IsNoLater, taken_at, expansions_at}
 use Rattle.page_roff_source.proofs.CountLemmas.{lines_bound, lines_expansions, each_bound}
+use Rattle.page_engine.specs.Edges.{roff_at}
 use Rattle.page_engine.specs.Page.{Edge, counts_at, edge, raw, raw_lines, settled}
 
 pub source_more : (e : Edge) (lines : List Line) → (counts_at (edge e lines)).source ≡ (counts_at e).source + length lines
 unfolding settled
-source_more e lines = ap (λ n. e.lines.roff.source + n) (length-map lines raw)
+source_more e lines = ap (λ n. e.roff.counts.source + n) (length-map lines raw)
 
 pub taken_more : (e : Edge) (lines : List Line) → (counts_at (edge e lines)).taken ≤ (counts_at e).taken + (REREAD + 1) * length lines
 unfolding settled
-taken_more e lines = rw (length-map lines raw) at (lines_bound e.lines.roff (raw_lines lines))
+taken_more e lines = rw (length-map lines raw) at (lines_bound (roff_at e) (raw_lines lines))
 
 pub expansions_more : (e : Edge) (lines : List Line)
     → (counts_at (edge e lines)).expansions + EXPAND * (counts_at e).taken
     ≤ EXPAND * (counts_at (edge e lines)).taken + (counts_at e).expansions
 unfolding settled
-expansions_more e lines = lines_expansions e.lines.roff (raw_lines lines)
+expansions_more e lines = lines_expansions (roff_at e) (raw_lines lines)
 
-pub each_line : (e : Edge) (line : Line) (m n : Moment) → IsMomentOf e.lines.roff (raw line) m → IsNoLater e.lines.roff m n → taken_at n ≡ taken_at m
+pub each_line : (e : Edge) (line : Line) (m n : Moment) → IsMomentOf (roff_at e) (raw line) m → IsNoLater (roff_at e) m n → taken_at n ≡ taken_at m
     → expansions_at n ≤ expansions_at m + EXPAND
-each_line e line m n h k t = each_bound e.lines.roff (raw line) m n h k t
+each_line e line m n h k t = each_bound (roff_at e) (raw line) m n h k t

@@ -1,43 +1,22 @@
 -- What a call on the layers did, as it is said of the page.
-use Rattle.std.proofs.Common.{◌≡◌, ℕ, ◌<◌, ◌-◌, ◌^◌, Option, None, Some, refl, sym, ap, ◌∙◌, arith}
+use Rattle.std.proofs.Common.{◌≡◌, ℕ, ◌<◌, ◌-◌, ◌^◌, Some, refl, sym, ap, ◌∙◌, arith}
 use Rattle.std.proofs.Math.Path.{subst}
 use Rattle.page_core_base.specs.Fails.{IsSinkFault}
 use Rattle.page_core_base.specs.declared.faults.Fault.{Fault}
 use Rattle.page_core_base.specs.declared.faults.Fault.TheVariants as faults
-use Rattle.page_fill_steps.specs.declared.edges.Edge.{Edge as FillEdge}
 use Rattle.page_engine.specs.declared.pages.Phase.{Phase}
 use Rattle.page_engine.specs.declared.pages.Phase.TheVariants.{Open, Failed}
-use Rattle.page_core_base.specs.declared.note_kinds.Level.{Level}
 use Rattle.page_engine.specs.declared.layers.Layers.{Layers}
 use Rattle.page_engine.specs.States.{PageState, IsOpenAt, IsFailedAt}
 use Rattle.page_roff_source.specs.declared.counts.Counts.{Counts}
-use Rattle.page_engine.specs.Page.{Edge, IsReached, counts_at}
-use Rattle.page_engine.specs.Layers.{IsAt, with_fill, edge_of, IsKept}
+use Rattle.page_engine.specs.Edges.{Edge}
+use Rattle.page_engine.specs.Layers.{IsAt, edge_of, IsKept}
+use Rattle.page_engine.specs.Within.{IsWithin}
 
 -- ---- the edge that the layers are at
 
-fill_at : (p : Layers) (f : Option FillEdge) (e : Edge) → p.filler ≡ f → with_fill p f ≡ Some e → IsAt p e
-fill_at p None e is h = let no : ⊥ = cc in absurd no
-fill_at p (Some f) e is h =
-    let at : record { output = p.output; least = p.least; worst = p.worst; lines = p.lines; fill = f; last = p.last } ≡ e = cc in record {
-      filled = is ∙ ap (λ (x : Edge). Some x.fill) at;
-      lines = ap (λ (x : Edge). x.lines) at;
-      output = ap (λ (x : Edge). x.output) at;
-      levels = ap (λ (x : Edge). x.least) at;
-      worst_level = ap (λ (x : Edge). x.worst) at;
-      last_line = ap (λ (x : Edge). x.last) at;
-    }
-
-pub at_edge : (p : Layers) (e : Edge) → edge_of p ≡ Some e → IsAt p e
-at_edge p e h = fill_at p p.filler e refl h
-
 pub edge_at : (p : Layers) (e : Edge) → IsAt p e → edge_of p ≡ Some e
-edge_at p e h = rw (h.filled, h.lines, h.output, h.levels, h.worst_level, h.last_line) refl
-
--- the layers of a page that is open at an edge
-pub open_layers : {now : PageState} {phase : Phase} {counts : Counts} (layers : Layers) (e : Edge)
-    → record { phase = phase; edge = edge_of layers; worst = layers.worst; counts = counts } ≡ now → IsOpenAt now e → IsAt layers e
-open_layers layers e is h = at_edge layers e (ap (λ (p : PageState). p.edge) is ∙ h.edge)
+edge_at p e h = rw (h.filled, h.lines, h.levels, h.worst_level, h.last_line) refl
 
 -- what is kept of an open page
 pub open_kept : {phase : Phase} {counts : Counts} {layers : Layers} → phase ≡ Open → IsKept phase counts layers → IsKept Open counts layers
@@ -46,9 +25,19 @@ open_kept is kept = rw is at kept
 some_same : (f e : Edge) → Some f ≡ Some e → f ≡ e
 some_same f e is = cc
 
--- the edge that layers are at is one, so it is reached
-pub edge_reached : (p : Layers) (f e : Edge) → IsAt p f → IsReached f → edge_of p ≡ Some e → IsReached e
-edge_reached p f e at r h = subst (λ (x : Edge). IsReached x) (some_same f e (sym (edge_at p f at) ∙ h)) r
+-- the edge that layers are at is one
+edge_is : (p : Layers) (f e : Edge) → IsAt p f → edge_of p ≡ Some e → f ≡ e
+edge_is p f e at h = some_same f e (sym (edge_at p f at) ∙ h)
+
+pub within_is : (p : Layers) (f e : Edge) → IsAt p f → edge_of p ≡ Some e → IsWithin f → IsWithin e
+within_is p f e at h fits = subst (λ (x : Edge). IsWithin x) (edge_is p f e at h) fits
+
+-- the layers of a page that is open at an edge
+pub open_layers : {now : PageState} {phase : Phase} {counts : Counts} (layers : Layers) (e : Edge) → IsKept phase counts layers
+    → record { phase = phase; edge = edge_of layers; worst = layers.worst; counts = counts } ≡ now → IsOpenAt now e → IsAt layers e
+open_layers layers e kept is h =
+    let k = open_kept (ap (λ (p : PageState). p.phase) is ∙ h.phase) kept in
+    subst (λ (x : Edge). IsAt layers x) (edge_is layers k.0 e k.1 (ap (λ (p : PageState). p.edge) is ∙ h.edge)) k.1
 
 -- a page that has failed has the worst level and the counts from before
 pub failed_at : {now after : PageState} {phase : Phase} {counts : Counts} (layers : Layers) (e : Edge)

@@ -1,5 +1,5 @@
 -- Whole lists of lines: they may be cut anywhere, and settle what their lines settle one after another.
-use Rattle.std.proofs.Common.{◌≡◌, ℕ, ◌+◌, ◌*◌, ◌≤◌, true, List, [], ◌∷◌, ◌++◌, length, map, None, refl, sym, ap, ◌∙◌, append-nil}
+use Rattle.std.proofs.Common.{◌≡◌, ℕ, ◌+◌, List, [], ◌∷◌, ◌++◌, map, Option, Some, refl, sym, ap, ◌∙◌, append-nil}
 use Rattle.std.proofs.Math.Path.{subst}
 use Rattle.std.proofs.lemmas.List.{map-append}
 use Rattle.page_core_base.specs.Laid.{Laid, nothing, join, seq, join_assoc}
@@ -16,22 +16,30 @@ use Rattle.page_fill.proofs.HeldSheets.{fresh-held}
 use Rattle.page_roff_lines.specs.Decoding.{Line}
 use Rattle.page_roff_source.specs.Edges.{SourceLine}
 use Rattle.page_engine_lines.specs.Acts.{lines_items, lines_after}
-use Rattle.page_engine_lines.specs.Lines.{LinesEdge, source_items, end_items, footer_items}
+use Rattle.page_engine_lines.specs.Edges.{LinesEdge, footer_items}
+use Rattle.page_engine_lines.specs.Lines.{source_items, source_after, end_items}
 use Rattle.page_engine_lines.proofs.TreeLemmas.{lines_items-append, lines_after-append, one_items, one_after, no_items, none_after, end_items_after}
 use Rattle.page_engine.specs.Levels.{given, worst_of, given-append, worst_of-append}
-use Rattle.page_engine.specs.Page.{Edge, IsReached, of_page, start, raw, raw_lines, last_number, after, settled, edge, page, page_items, footer_laid, counts_at, text_line}
+use Rattle.page_engine.specs.Page.{Edge, IsReached, last_line, lines_at, moved, of_page, start, raw, raw_lines, last_number, after, settled, edge, page, footer_laid, counts_at, text_line}
 use Rattle.page_engine.specs.ByLine as by_line
-use Rattle.page_engine.specs.Shown.{is_silent, shown_rows-append, shown_rows-nil}
+use Rattle.page_engine.proofs.Fixed.{filled_fixed}
+use Rattle.page_engine.proofs.LayerEdges.{lines_after_at, lines_at_edge, output_kept}
+use Rattle.page_engine.specs.Shown.{shown_rows-append, shown_rows-nil}
 
 -- ---- one thing after another, by levels
 
-of_page-join : (e f g : Edge) (a b : Laid FillEdge) → f.output ≡ e.output → f.least ≡ e.least
+of_page-join : (e f g : Edge) (a b : Laid FillEdge) → a.edge.output ≡ e.fill.output → f.least ≡ e.least
     → of_page e g (join a b) ≡ join (of_page e f a) (of_page (of_page e f a).edge g b)
 of_page-join e f g a b o h = rw (o, h, shown_rows-append, given-append, worst_of-append) refl
 
--- of the edge beside the open row and the worst level, four fields count
-of_page-same : (e f g : Edge) (l : Laid FillEdge) → f.output ≡ g.output → f.least ≡ g.least → f.lines ≡ g.lines → f.last ≡ g.last → of_page e f l ≡ of_page e g l
-of_page-same e f g l output least lines last = rw (output, least, lines, last) refl
+-- of the edge beside the open row and the worst level, six fields count
+of_page-same : (e f g : Edge) (l : Laid FillEdge) → f.least ≡ g.least → f.indent ≡ g.indent → f.os ≡ g.os → f.last ≡ g.last → f.roff ≡ g.roff → f.body ≡ g.body
+    → of_page e f l ≡ of_page e g l
+of_page-same e f g l least indent os last roff body = rw (least, indent, os, last, roff, body) refl
+
+-- where lines move it to
+of_page-moved : (e f : Edge) (n m : Option ℕ) (a b : LinesEdge) (l : Laid FillEdge) → n ≡ m → a ≡ b → of_page e (moved f a n) l ≡ of_page e (moved f b m) l
+of_page-moved e f n m a b l h g = rw (h, g) refl
 
 no_messages : (e : Edge) → of_page e e (nothing e.fill) ≡ nothing e
 unfolding given worst_of
@@ -39,9 +47,9 @@ no_messages e = rw shown_rows-nil refl
 
 -- ---- lists of lines
 
-last_number-append : (n : ℕ) (xs ys : List Line) → last_number n (xs ++ ys) ≡ last_number (last_number n xs) ys
+last_number-append : (n : Option ℕ) (xs ys : List Line) → last_number n (xs ++ ys) ≡ last_number (last_number n xs) ys
 last_number-append n [] ys = refl
-last_number-append n (x ∷ xs) ys = last_number-append x.number xs ys
+last_number-append n (x ∷ xs) ys = last_number-append (Some x.number) xs ys
 
 after-append : (e : LinesEdge) (xs ys : List Line) → lines_after e (raw_lines (xs ++ ys)) ≡ lines_after (lines_after e (raw_lines xs)) (raw_lines ys)
 after-append e xs ys = ap (λ (l : List SourceLine). lines_after e l) (map-append raw xs ys) ∙ lines_after-append e (raw_lines xs) (raw_lines ys)
@@ -53,40 +61,43 @@ items-append e xs ys = ap (λ (l : List SourceLine). lines_items e l) (map-appen
 -- ---- the edges that a page comes to
 
 pub start_reached : (s : Settings) → IsReached (start s)
-start_reached s = record { idle = refl; row = fresh-held s.width; word = refl }
+start_reached s = record { row = fresh-held s.width; word = refl }
 
 pub reached : (e : Edge) (lines : List Line) → IsReached e → IsReached (edge e lines)
 unfolding settled
 reached e lines r =
-    let h = held-law e.fill (lines_items e.lines (raw_lines lines)) r.row r.word in
-    record { idle = refl; row = h.0; word = h.1 }
+    let h = held-law e.fill (lines_items (lines_at e) (raw_lines lines)) r.row r.word in
+    record { row = h.0; word = h.1 }
 
 -- ---- what lines settle
 
 pub settled_none : (e : Edge) → IsReached e → settled e [] ≡ nothing e
 unfolding settled laid_items
 settled_none e r =
-    let none : filled e.fill (lines_items e.lines []) ≡ nothing e.fill =
-    ap (λ (l : List Item). filled e.fill l) (no_items e.lines) ∙ sym (items-law e.fill [] r.row r.word) in
+    let none : filled e.fill (lines_items (lines_at e) []) ≡ nothing e.fill =
+    ap (λ (l : List Item). filled e.fill l) (no_items (lines_at e)) ∙ sym (items-law e.fill [] r.row r.word) in
     ap (λ (l : Laid FillEdge). of_page e (after e []) l) none
-    ∙ of_page-same e (after e []) e (nothing e.fill) refl refl (none_after e.lines r.idle) refl
+    ∙ of_page-moved e e e.last e.last _ (lines_at e) (nothing e.fill) refl (none_after (lines_at e) refl)
     ∙ no_messages e
 
 pub settled-append : (e : Edge) (xs ys : List Line) → IsReached e → settled e (xs ++ ys) ≡ join (settled e xs) (settled (edge e xs) ys)
 unfolding settled
 settled-append e xs ys r =
-    let above = lines_items e.lines (raw_lines xs) in
-    let next = lines_after e.lines (raw_lines xs) in
+    let lines = lines_at e in
+    let above = lines_items lines (raw_lines xs) in
+    let next = lines_after lines (raw_lines xs) in
     let below = lines_items next (raw_lines ys) in
     let a = filled e.fill above in
     let b = filled a.edge below in
-    let f = (of_page e (after e xs) a).edge in
-    let all = after e (xs ++ ys) in
-    ap (λ (l : List Item). of_page e all (filled e.fill l)) (items-append e.lines xs ys)
-    ∙ ap (λ (l : Laid FillEdge). of_page e all l) (cut-law e.fill above below r.row r.word)
-    ∙ of_page-join e (after e xs) all a b refl refl
+    let f = edge e xs in
+    let at = lines_at_edge e xs in
+    ap (λ (l : List Item). of_page e (after e (xs ++ ys)) (filled e.fill l)) (items-append lines xs ys)
+    ∙ ap (λ (l : Laid FillEdge). of_page e (after e (xs ++ ys)) l) (cut-law e.fill above below r.row r.word)
+    ∙ of_page-join e (after e xs) (after e (xs ++ ys)) a b (output_kept a.edge e.fill (filled_fixed e.fill above)) refl
     ∙ ap (λ (l : Laid Edge). join (of_page e (after e xs) a) l)
-    (of_page-same f all (after f ys) b refl refl (after-append e.lines xs ys) (last_number-append e.last xs ys))
+    (of_page-moved f f _ _ (lines_after lines (raw_lines (xs ++ ys))) (lines_after (lines_at f) (raw_lines ys)) b (last_number-append e.last xs ys)
+    (after-append lines xs ys ∙ ap (λ (l : LinesEdge). lines_after l (raw_lines ys)) (sym at))
+    ∙ ap (λ (l : LinesEdge). of_page f (after f ys) (filled a.edge (lines_items l (raw_lines ys)))) (sym at))
 
 -- ---- one line
 
@@ -98,18 +109,19 @@ told_notes f (m ∷ notes) = ap (λ (l : Laid FillEdge). record { rows = l.rows;
 pub one_line : (e : Edge) (line : Line) → IsReached e → settled e (line ∷ []) ≡ by_line.settled_line e line
 unfolding settled by_line.settled_text
 one_line e line r =
-    let items = source_items e.lines line.number line.text in
+    let lines = lines_at e in
+    let items = source_items lines line.number line.text in
     let notes : Laid FillEdge = record { rows = []; notes = line.notes; edge = e.fill } in
     let laid = laid_items e.fill items in
     let f = (by_line.laid_notes e line.notes).edge in
     let all = after e (line ∷ []) in
-    ap (λ (l : List Item). of_page e all (filled e.fill l)) (one_items e.lines line.number line.text line.notes)
+    ap (λ (l : List Item). of_page e all (filled e.fill l)) (one_items lines line.number line.text line.notes)
     ∙ ap (λ (l : Laid FillEdge). of_page e all l) (sym (items-law e.fill (map noted line.notes ++ items) r.row r.word))
     ∙ ap (λ (l : Laid FillEdge). of_page e all l) (laid_items-append e.fill (map noted line.notes) items)
     ∙ ap (λ (l : Laid FillEdge). of_page e all (join l (laid_items l.edge items))) (told_notes e.fill line.notes)
     ∙ of_page-join e e all notes laid refl refl
     ∙ ap (λ (l : Laid Edge). join (of_page e e notes) l)
-    (of_page-same f all (by_line.passed f line.text line.number) laid refl refl (one_after e.lines line.number line.text line.notes r.idle) refl)
+    (of_page-moved f f _ _ (lines_after lines (raw line ∷ [])) (source_after lines line.number line.text) laid refl (one_after lines line.number line.text line.notes refl))
 
 pub line_reached : (e : Edge) (line : Line) → IsReached e → IsReached (by_line.settled_line e line).edge
 line_reached e line r = subst (λ (l : Laid Edge). IsReached l.edge) (one_line e line r) (reached e (line ∷ []) r)
@@ -137,7 +149,11 @@ by_lines e (line ∷ lines) r =
 
 -- from an edge
 end_laid : Edge → Laid FillEdge
-end_laid e = seq (filled e.fill (end_items e.lines e.last)) (λ h. footer_laid e h)
+end_laid e = seq (filled e.fill (end_items (lines_at e) (last_line e))) (λ h. footer_laid e h)
+
+-- the footer, by what decides it
+abbrev footer_from : LinesEdge → ℕ → FillEdge → Laid FillEdge
+footer_from l n h = seq (filled h (footer_items l n (fill.blank_rows_at_end h))) row_end
 
 end_of : Edge → Laid Edge
 end_of e = of_page e e (end_laid e)
@@ -146,18 +162,22 @@ end_of e = of_page e e (end_laid e)
 page_is : (e : Edge) (lines : List Line) → IsReached e → page e lines ≡ join (settled e lines) (end_of (edge e lines))
 unfolding page settled end_of end_laid
 page_is e lines r =
-    let above = lines_items e.lines (raw_lines lines) in
     let f = after e lines in
-    let end = end_items f.lines f.last in
+    let g = edge e lines in
+    let n = last_line f in
+    let above = lines_items (lines_at e) (raw_lines lines) in
+    let end = end_items (lines_at g) n in
     let a = filled e.fill above in
     let z = filled a.edge end in
-    let w = footer_laid f z.edge in
-    let g = (of_page e f a).edge in
-    ap (λ (l : List Item). of_page e f (seq (filled e.fill l) (λ h. footer_laid f h))) (end_items_after e.lines (raw_lines lines) f.last)
-    ∙ ap (λ (l : Laid FillEdge). of_page e f (seq l (λ h. footer_laid f h))) (cut-law e.fill above end r.row r.word)
+    let w = footer_laid g z.edge in
+    let at = lines_at_edge e lines in
+    ap (λ (l : List Item). of_page e f (seq (filled e.fill l) (λ h. footer_laid f h)))
+    (end_items_after (lines_at e) (raw_lines lines) n ∙ ap (λ (l : LinesEdge). above ++ end_items l n) (sym at))
+    ∙ ap (λ (l : LinesEdge). of_page e f (seq (filled e.fill (above ++ end)) (λ h. footer_from l n h))) (lines_after_at e lines ∙ sym at)
+    ∙ ap (λ (l : Laid FillEdge). of_page e f (seq l (λ h. footer_laid g h))) (cut-law e.fill above end r.row r.word)
     ∙ ap (λ (l : Laid FillEdge). of_page e f l) (join_assoc a z w)
-    ∙ of_page-join e f f a (join z w) refl refl
-    ∙ ap (λ (l : Laid Edge). join (of_page e f a) l) (of_page-same g f g (join z w) refl refl refl refl)
+    ∙ of_page-join e f f a (join z w) (output_kept a.edge e.fill (filled_fixed e.fill above)) refl
+    ∙ ap (λ (l : Laid Edge). join (of_page e f a) l) (of_page-same g f g (join z w) refl refl refl refl refl refl)
 
 pub page-append : (e : Edge) (xs ys : List Line) → IsReached e → page e (xs ++ ys) ≡ join (settled e xs) (page (edge e xs) ys)
 page-append e xs ys r =
@@ -174,10 +194,10 @@ page_end e lines r = ap (page e) (sym (append-nil lines)) ∙ page-append e line
 end_by_line : (e : Edge) → IsReached e → end_of e ≡ by_line.ended e
 unfolding end_of end_laid by_line.ended
 end_by_line e r =
-    let end = end_items e.lines e.last in
+    let end = end_items (lines_at e) (last_line e) in
     let a = filled e.fill end in
     let held = held-law e.fill end r.row r.word in
-    let footer = footer_items e.lines e.last (fill.blank_rows_at_end a.edge) in
+    let footer = footer_items (lines_at e) (last_line e) (fill.blank_rows_at_end a.edge) in
     let rows : footer_laid e a.edge ≡ by_line.footer_laid e a.edge =
     ap (λ (l : Laid FillEdge). seq l row_end) (sym (items-law a.edge footer held.0 held.1)) in
     ap (λ (l : Laid FillEdge). of_page e e (join a l)) rows

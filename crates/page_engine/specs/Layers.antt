@@ -5,14 +5,14 @@ use Rattle.page_roff_source.specs.declared.counts.Counts.{Counts}
 use Rattle.page_engine.specs.declared.layers.Layers.{Layers}
 use Rattle.page_engine.specs.declared.pages.Phase.{Phase}
 use Rattle.page_engine.specs.declared.pages.Phase.TheVariants.{Open, Failed, Ended}
-use Rattle.page_engine.specs.Page.{Edge, IsReached}
+use Rattle.page_engine.specs.Edges.{Edge, IsReached, lines_at, roff_part, body_part}
 use Rattle.page_fill_steps.specs.declared.edges.Edge.{Edge as FillEdge}
 
 -- the layers are at an edge
 pub record IsAt (here : Layers) (e : Edge) : Type 0 where
   pub filled : here.filler ≡ Some e.fill
-  pub lines : here.lines ≡ e.lines
-  pub output : here.output ≡ e.output
+  pub lines : here.lines ≡ lines_at e
+  pub output : here.output ≡ e.fill.output
   pub levels : here.least ≡ e.least
   pub worst_level : here.worst ≡ e.worst
   pub last_line : here.last ≡ e.last
@@ -20,7 +20,16 @@ pub record IsAt (here : Layers) (e : Edge) : Type 0 where
 abbrev pub with_fill : Layers → Option FillEdge → Option Edge
 with_fill p None = None
 with_fill p (Some f) =
-    Some (record { output = p.output; least = p.least; worst = p.worst; lines = p.lines; fill = f; last = p.last })
+    Some (record {
+      least = p.least;
+      indent = p.lines.body.header.indent;
+      os = p.lines.body.header.os;
+      worst = p.worst;
+      last = p.last;
+      roff = roff_part p.lines.roff;
+      body = body_part p.lines.body;
+      fill = f;
+    })
 
 -- that edge, where the filler goes on
 abbrev pub edge_of : Layers → Option Edge

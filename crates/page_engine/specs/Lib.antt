@@ -1,4 +1,5 @@
 pub mod Levels
+pub mod Edges
 pub mod Page
 pub mod ByLine
 pub mod PageSinks

@@ -1,66 +1,25 @@
 -- A page: the rows and messages that its lines settle, and the page to its end. The forest of all lines (roff(7)) gives lines and messages, these are the
 -- acts of one block tree (man(7), mdoc(7)), after that of the lines that leave its language open; its pieces are filled (roff(7), "Filling and
 -- adjusting"), messages go by their levels, and lint has no rows. Source: mandoc(1).
-use Rattle.std.specs.Prelude.{◌≡◌, ℕ, true, Option, None, List, [], ◌∷◌, ◌++◌, map}
-use Rattle.page_core_base.specs.declared.note_kinds.Level.{Level}
-use Rattle.page_core_base.specs.declared.page_settings.Output.{Output}
-use Rattle.page_core_base.specs.declared.page_settings.Settings.{Settings}
-use Rattle.page_core_base.specs.Messages.{Message}
+use Rattle.std.specs.Prelude.{ℕ, Option, Some, List, [], ◌∷◌, map}
 use Rattle.page_core_base.specs.Laid.{Laid, seq}
 use Rattle.page_core_base.specs.Pieces.{Item}
 use Rattle.page_engine_lines.specs.Acts as acts
 use Rattle.page_engine_lines.specs.Acts.{raw_line, lines_items, lines_after}
+use Rattle.page_engine_lines.specs.Edges.{footer_items}
 use Rattle.page_fill_steps.specs.declared.edges.Edge.{Edge as FillEdge}
 use Rattle.page_fill_steps.specs.Edges as fill
-use Rattle.page_engine_lines.specs.Lines.{LinesEdge, footer_items, start_of}
-use Rattle.page_fill_steps.specs.Caps.{IsHeld, is_sound}
 use Rattle.page_fill.specs.Filling.{filled, row_end}
 use Rattle.page_roff_lines.specs.Decoding.{Line}
-use Rattle.page_roff_source.specs.Edges.{SourceLine, counts_of}
-use Rattle.page_roff_source.specs.declared.counts.Counts.{Counts}
+use Rattle.page_roff_source.specs.Edges.{SourceLine}
+pub use Rattle.page_engine.specs.Edges.{Edge, IsReached, counts_at, last_line, lines_at, moved, start}
 use Rattle.page_engine.specs.Levels.{given, worst_of}
 use Rattle.page_engine.specs.Shown.{is_silent, shown_rows}
-
--- What decides the rest of a page, and is all that is held of its lines.
-pub record Edge : Type 0 where
-  -- the output: lint has no rows
-  pub output : Output
-  -- the least level of messages that are given, and the worst that was
-  pub least : Option Level
-  pub worst : Option Level
-  -- where roff stands, with names, an open region, open blocks and counts; the fields of the title; and the
-  -- open scopes
-  pub lines : LinesEdge
-  -- the open row, and what waits before its next word
-  pub fill : FillEdge
-  -- the number of the last line, 1 where there was none
-  pub last : ℕ
-
--- the start of a page
-abbrev pub start : Settings → Edge
-start s = record {
-  output = s.output;
-  least = s.least;
-  worst = None;
-  lines = start_of s;
-  fill = fill.start s;
-  last = 1;
-}
-
--- source lines, lines taken of them, and interpolations
-abbrev pub counts_at : Edge → Counts
-counts_at e = counts_of e.lines.roff
-
--- what holds at each edge that a page comes to: nothing of a line is still to come, and the open row and the open word hold together
-pub record IsReached (e : Edge) : Type 0 where
-  pub idle : e.lines.roff.to_come ≡ None
-  pub row : IsHeld e.fill.sheet
-  pub word : is_sound e.fill.word ≡ true
 
 -- of what is filled, the rows unless the output is lint, the messages by their levels, and the worst of these
 abbrev pub of_page : Edge → Edge → Laid FillEdge → Laid Edge
 of_page e next l = record {
-  rows = shown_rows (is_silent e.output) l.rows;
+  rows = shown_rows (is_silent e.fill.output) l.rows;
   notes = given e.least l.notes;
   edge = record next { worst = worst_of e.worst (given e.least l.notes); fill = l.edge };
 }
@@ -74,17 +33,18 @@ raw line = raw_line line.number line.text line.notes
 abbrev pub raw_lines : List Line → List SourceLine
 raw_lines lines = map raw lines
 
-abbrev pub last_number : ℕ → List Line → ℕ
+-- the number of the last of them, or of the one before them
+abbrev pub last_number : Option ℕ → List Line → Option ℕ
 last_number number [] = number
-last_number number (line ∷ lines) = last_number line.number lines
+last_number number (line ∷ lines) = last_number (Some line.number) lines
 
 -- where the forest of lines and the block tree of their acts leave a page
 abbrev pub after : Edge → List Line → Edge
-after e lines = record e { lines = lines_after e.lines (raw_lines lines); last = last_number e.last lines }
+after e lines = moved e (lines_after (lines_at e) (raw_lines lines)) (last_number e.last lines)
 
 -- the rows and messages that lines settle, and the edge from which the rest goes on: the pieces of the block tree of all that roff gives, filled
 unfoldable pub settled : Edge → List Line → Laid Edge
-settled e lines = of_page e (after e lines) (filled e.fill (lines_items e.lines (raw_lines lines)))
+settled e lines = of_page e (after e lines) (filled e.fill (lines_items (lines_at e) (raw_lines lines)))
 
 abbrev pub edge : Edge → List Line → Edge
 edge e lines = (settled e lines).edge
@@ -97,11 +57,11 @@ text_line text number = record { number = number; text = text; notes = [] }
 
 -- the pieces and messages of lines and of the page's end after them: what roff left open, a missing header, the end of all scopes
 abbrev pub page_items : Edge → List Line → List Item
-page_items e lines = acts.page_items e.lines (raw_lines lines) (after e lines).last
+page_items e lines = acts.page_items (lines_at e) (raw_lines lines) (last_line (after e lines))
 
 -- the footer after a blank row, unless one stands there, and the end of the row
 abbrev pub footer_laid : Edge → FillEdge → Laid FillEdge
-footer_laid e f = seq (filled f (footer_items e.lines e.last (fill.blank_rows_at_end f))) row_end
+footer_laid e f = seq (filled f (footer_items (lines_at e) (last_line e) (fill.blank_rows_at_end f))) row_end
 
 -- a page from an edge, to its end: its rows and messages, and at its last edge the worst level and the counts
 unfoldable pub page : Edge → List Line → Laid Edge

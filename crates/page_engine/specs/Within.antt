@@ -7,16 +7,14 @@ use Rattle.page_roff_source.specs.Caps.{RoffFits}
 use Rattle.page_scopes.specs.declared.layouts.Kept.{Kept}
 use Rattle.page_scopes_laws.specs.declared.Scope.{Scope}
 use Rattle.page_scopes_tree.specs.declared.labels.Label.{Label}
-use Rattle.page_engine.specs.Page.{Edge}
+use Rattle.page_engine.specs.Edges.{Edge, lines_at}
 use Rattle.page_engine.specs.States.{PageState}
 
 pub record IsWithin (e : Edge) : Type 0 where
-  -- nothing of a line is still to come
-  pub idle : e.lines.roff.to_come ≡ None
   -- names and what they stand for, an open region, and open blocks
-  pub roff : RoffFits e.lines.roff
+  pub roff : RoffFits (lines_at e).roff
   -- the fields of header and footer, the name of the system, and the open scopes with the targets of links and the manual's name
-  pub body : BodyFits e.lines.body
+  pub body : BodyFits (lines_at e).body
   -- the cells of the open row, the columns of an open tag, and the blank rows at the end
   pub fill : FillFits e.fill
   -- the places of the row's last word lie within the row; what waits before the next word holds together
@@ -42,14 +40,12 @@ target_bytes scope = bytes_in scope.before.target (λ target. length target.text
 -- open, and of the manual's name; of the fields of header and footer, and of the system's name
 abbrev pub text_bytes : Edge → ℕ
 text_bytes e =
-    let roff = e.lines.roff in
-    let names = roff.memory.definitions in
-    let header = e.lines.body.header in
-    let fields = header.fields in
+    let names = e.roff.definitions in
+    let fields = e.body.fields in
     (size names.texts + size names.registers)
-    + (bytes_in roff.place.region (λ region. bytes_in region.name length + length region.ending)
-    + bytes_in roff.memory.body length)
-    + (sum_by target_bytes e.lines.body.scopes.scopes
-    + bytes_in e.lines.body.scopes.state.name (λ name. length name.text))
+    + (bytes_in e.roff.place.region (λ region. bytes_in region.name length + length region.ending)
+    + bytes_in e.roff.body length)
+    + (sum_by target_bytes e.body.scopes
+    + bytes_in e.body.name (λ name. length name.text))
     + (length fields.title + length fields.section + length fields.date + length fields.source
-    + length fields.volume + length header.os)
+    + length fields.volume + length e.os)

@@ -6,14 +6,20 @@ ghost use Rattle.page_core_base.specs.declared.page_settings.Settings.{Settings}
 ghost use Rattle.page_roff_lines.specs.Decoding.{Line};
 ghost use Rattle.page_roff_source.specs.Moments.{Moment, IsMomentOf, IsNoLater, taken_at, expansions_at};
 ghost use Rattle.page_core_limits.specs.declared.TheConstants.{EXPAND, REREAD};
+ghost use Rattle.page_engine_lines.specs.Acts.{lines_after};
+ghost use Rattle.page_engine_lines.specs.Edges.{start_of};
 ghost use Rattle.page_engine.specs.ByLine as by_line;
-ghost use Rattle.page_engine.specs.Page.{Edge, IsReached, settled, edge, page, counts_at, start, raw};
+ghost use Rattle.page_engine.specs.Edges.{lines_at, roff_at};
+ghost use Rattle.page_engine.specs.Page.{Edge, IsReached, settled, edge, page, counts_at, start, raw, raw_lines};
 ghost use Rattle.page_engine.specs.Within.{IsWithin, text_bytes};
 
-/// The edges that a page comes to: the one of its start, and from each such edge the one that lines leave.
+/// The edges that a page comes to: the one of its start, and from each such edge the one that lines leave. What the layers share stands once in it, and
+/// nothing is lost by that: the edges that it makes for roff and the body are those that the lines leave there.
 pub fn reached_law()
     ensures start { (s : Settings) → IsReached (start s) }
     ensures lines { (e : Edge) (lines : List Line) → IsReached e → IsReached (edge e lines) }
+    ensures layers { (s : Settings) → lines_at (start s) ≡ start_of s }
+    ensures layers_after { (e : Edge) (lines : List Line) → lines_at (edge e lines) ≡ lines_after (lines_at e) (raw_lines lines) }
 {}
 
 /// A page may be cut between any two lines: it is what the lines above settle, and then the page of the lines below,
@@ -44,7 +50,7 @@ pub fn count_law()
         → (counts_at (edge e lines)).expansions + EXPAND * (counts_at e).taken
         ≤ EXPAND * (counts_at (edge e lines)).taken + (counts_at e).expansions }
     ensures each { (e : Edge) (line : Line) (m n : Moment)
-        → IsMomentOf e.lines.roff (raw line) m → IsNoLater e.lines.roff m n → taken_at n ≡ taken_at m
+        → IsMomentOf (roff_at e) (raw line) m → IsNoLater (roff_at e) m n → taken_at n ≡ taken_at m
         → expansions_at n ≤ expansions_at m + EXPAND }
 {}
 

@@ -10,7 +10,7 @@ ghost use Rattle.page_fill_steps.specs.declared.edges.Edge.{Edge as FillEdge};
 ghost use Rattle.page_engine.specs.Layers.{IsAt};
 ghost use Rattle.page_engine.specs.Within.{IsWithin};
 ghost use Rattle.page_engine.specs.ByLine.{settled_text, settled_line, ended, end_laid};
-ghost use Rattle.page_engine.specs.Page.{Edge, IsReached, start};
+ghost use Rattle.page_engine.specs.Edges.{Edge, IsReached, last_line, lines_at, start};
 ghost use Rattle.page_engine.specs.PageSinks.{Ends};
 
 use crate::level_filters::LevelFilter;
@@ -31,7 +31,8 @@ pub(crate) struct Layers {
     pub(crate) output: Output,
     pub(crate) least: Option<Level>,
     pub(crate) worst: Option<Level>,
-    pub(crate) last: u32,
+    /// The number of the last line.
+    pub(crate) last: Option<u32>,
 }
 
 // Messages come to a sink by their level.
@@ -63,7 +64,7 @@ impl<R: RowSink, N: NoteSink> PageSink<'_, '_, '_, R, N> {
     // Ends the body after a line, gives the footer, and ends the filling.
     fn end(&mut self, lines: &mut PageLines, last: u32) -> Result<(), Fault>
         ensures ends { (f : FillEdge) (e : Edge) → self.old.filler.now ≡ Some f → f ≡ e.fill
-            → lines.old ≡ e.lines → last ≡ e.last →
+            → lines.old ≡ lines_at e → last ≡ last_line e →
             Ends result ⟦<Shown<'static, R> as RowSink>⟧.gave ⟦<Shown<'static, R> as RowSink>⟧.within
             ⟦<Shown<'static, R> as RowSink>⟧.failed ⟦<LevelFilter<'static, N> as NoteSink>⟧.gave
             ⟦<LevelFilter<'static, N> as NoteSink>⟧.within ⟦<LevelFilter<'static, N> as NoteSink>⟧.failed
@@ -99,7 +100,7 @@ impl Layers {
             output: settings.output,
             least: settings.least,
             worst: None,
-            last: 1,
+            last: None,
         })
     }
 
@@ -129,7 +130,7 @@ impl Layers {
         let mut sink = page_sink!(self, rows, notes);
         let result = self.lines.line(&mut sink, number, text);
         self.worst = sink.notes.worst;
-        self.last = number;
+        self.last = Some(number);
         result
     }
 }
@@ -183,8 +184,9 @@ impl Layers {
         ensures rows_same { R.loans rows.new ≡ R.loans rows.old }
         ensures notes_same { N.loans notes.new ≡ N.loans notes.old }
     {
+        let last = self.last.unwrap_or(1);
         let mut sink = page_sink!(self, rows, notes);
-        let result = sink.end(&mut self.lines, self.last);
+        let result = sink.end(&mut self.lines, last);
         self.worst = sink.notes.worst;
         result
     }

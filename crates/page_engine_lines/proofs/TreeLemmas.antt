@@ -25,9 +25,10 @@ use Rattle.page_scopes_words.specs.Words.{at}
 use Rattle.page_sets.specs.Either.{either_events}
 use Rattle.page_sets.specs.declared.either.Either.{Either}
 use Rattle.page_sets_lines.specs.declared.events.Event.{Event}
-use Rattle.page_engine_lines.specs.Acts.{given_steps, before_language, from_language, first_language, front, rest, front_steps, reader, rest_steps, given_then, trailing_messages, raw_line, lines_items, lines_after, end_steps, page_items}
+use Rattle.page_engine_lines.specs.Acts.{given_steps, before_language, from_language, first_language, front, rest, front_steps, reader, rest_steps, given_then, trailing_messages, raw_line, lines_items, lines_after, end_steps, ending_items, page_items}
 use Rattle.page_engine_lines.specs.Given.{set_events, line_items, line_after, given_items, body_after}
-use Rattle.page_engine_lines.specs.Lines.{LinesEdge, source_line, trailing_notes, source_items, source_after, end_items}
+use Rattle.page_engine_lines.specs.Edges.{LinesEdge}
+use Rattle.page_engine_lines.specs.Lines.{source_line, trailing_notes, source_items, source_after, end_items}
 
 language_cases : (o : Option Either) → (o ≡ None) ⊎ ((set : Either) × (o ≡ Some set))
 language_cases None = inl refl
@@ -343,6 +344,10 @@ told_items b (m ∷ notes) line =
     (aside_items_is b (tells m))
     ∙ ap (λ (c : BodyEdge). noted m ∷ tree_items c (map (λ m. aside (tells m)) notes ++ page_end_steps line)) (aside_after_is b (tells m))
     ∙ ap (λ (t : List Item). noted m ∷ t) (told_items b notes line)
+
+pub ending_is : (e : LinesEdge) (line : ℕ) → ending_items e line ≡ end_items e line
+unfolding end_items
+ending_is e line = told_items e.body (end_notes e.roff) line
 
 -- what lines give, and then the page's end
 pub end_items_after : (e : LinesEdge) (lines : List SourceLine) (line : ℕ)

@@ -12,7 +12,7 @@ use Rattle.page_roff_source.specs.Given.{given, done}
 use Rattle.page_engine_body.specs.Bodies.{BodyEdge, chosen_if}
 use Rattle.page_engine_body.specs.Languages.{language_of}
 use Rattle.page_engine_body.specs.Trees.{Aside, tells, events_steps, page_end_steps, tree_items, tree_after}
-use Rattle.page_engine_lines.specs.Lines.{LinesEdge}
+use Rattle.page_engine_lines.specs.Edges.{LinesEdge}
 use Rattle.page_scopes_laws.specs.Asides.{With, aside}
 use Rattle.page_scopes_tree.specs.Acts.{Step}
 use Rattle.page_scopes_words.specs.Words.{at}
@@ -94,6 +94,10 @@ lines_after e lines =
 abbrev pub end_steps : Edge → ℕ → List (With Aside Step)
 end_steps e line = map (λ m. aside (tells m)) (end_notes e) ++ page_end_steps line
 
--- the pieces and messages of lines, and of the page's end after them, on a line
+-- the pieces and messages of the page's end alone, on a line
+abbrev pub ending_items : LinesEdge → ℕ → List Item
+ending_items e line = tree_items e.body (end_steps e.roff line)
+
+-- of lines, and of the page's end after them
 abbrev pub page_items : LinesEdge → List SourceLine → ℕ → List Item
 page_items e lines line = given_then e.body (given e.roff lines) (end_steps (done e.roff lines) line)

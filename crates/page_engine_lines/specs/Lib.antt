@@ -1,3 +1,4 @@
 pub mod Acts
+pub mod Edges
 pub mod Given
 pub mod Lines

@@ -1,23 +1,17 @@
--- What is held between two source lines of a page, and its footer. The pieces of one source line are steps of the code (`tree_law`), of which trust
--- needs no reading. Source: roff(7), "LANGUAGE SYNTAX"; mandoc(1), "DIAGNOSTICS".
+-- A machine: what one source line of a page gives, and the page's end, as the code takes them. That all lines together give their block tree, and
+-- then this end, is the law `tree_law`, and trust needs no reading of this. Source: roff(7), "LANGUAGE SYNTAX"; mandoc(1), "DIAGNOSTICS".
 use Rattle.std.specs.Prelude.{ℕ, ◌+◌, nat_lt, List, [], ◌∷◌, ◌++◌, length, map, if◌then◌else◌}
 use Rattle.page_core_base.specs.Pieces.{Item, noted}
 use Rattle.page_core_base.specs.declared.note_kinds.NoteKind.TheVariants.{TrailingBlank}
-use Rattle.page_core_base.specs.declared.page_settings.Settings.{Settings}
 use Rattle.page_roff_forms.specs.Ends.{kept_len}
 use Rattle.page_roff_forms.specs.LineForms.{is_white}
 use Rattle.page_roff_source.specs.Edges as roff
 use Rattle.page_roff_source.specs.Taking as taking
-use Rattle.page_roff_source.specs.Edges.{Edge, SourceLine}
+use Rattle.page_roff_source.specs.Edges.{SourceLine}
 use Rattle.page_engine_body.specs.Bodies as bodies
-use Rattle.page_engine_body.specs.Bodies.{BodyEdge}
 use Rattle.page_scopes_words.specs.Words.{at, says}
+use Rattle.page_engine_lines.specs.Edges.{LinesEdge}
 use Rattle.page_engine_lines.specs.Given.{given_items, body_after}
-
--- what decides the pieces of the lines to come
-pub record LinesEdge : Type 0 where
-  pub roff : Edge
-  pub body : BodyEdge
 
 abbrev pub source_line : List ℕ → ℕ → SourceLine
 source_line text number = record { text = text; number = number; notes = [] }
@@ -40,10 +34,3 @@ source_after e number text = record {
 -- the end of a page, after the line of a number: what roff left open, and then the body's end
 unfoldable pub end_items : LinesEdge → ℕ → List Item
 end_items e line = map noted (roff.end_notes e.roff) ++ bodies.end_items e.body line
-
-abbrev pub footer_items : LinesEdge → ℕ → ℕ → List Item
-footer_items e line blank_rows = bodies.footer_items e.body.header line blank_rows
-
--- the start of a page
-abbrev pub start_of : Settings → LinesEdge
-start_of s = record { roff = roff.first_edge s.output; body = bodies.start_of s }

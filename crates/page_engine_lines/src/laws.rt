@@ -7,12 +7,14 @@ ghost use Rattle.page_roff_effects.specs.States.{Given};
 ghost use Rattle.page_roff_source.specs.Edges.{SourceLine};
 ghost use Rattle.page_engine_body.specs.Bodies.{BodyEdge};
 ghost use Rattle.page_engine_body.specs.Trees.{tree_after};
-ghost use Rattle.page_engine_lines.specs.Acts.{given_then, lines_after, lines_items, page_items, raw_line, reader, rest_steps};
+ghost use Rattle.page_engine_lines.specs.Acts.{ending_items, given_then, lines_after, lines_items, page_items, raw_line, reader, rest_steps};
 ghost use Rattle.page_engine_lines.specs.Given.{body_after, given_items};
-ghost use Rattle.page_engine_lines.specs.Lines.{LinesEdge, end_items, source_after, source_items};
+ghost use Rattle.page_engine_lines.specs.Edges.{LinesEdge};
+ghost use Rattle.page_engine_lines.specs.Lines.{end_items, source_after, source_items};
 
 /// The block trees of all that roff gives, messages and lines, up to the line that decides the page's language and from it on, are what these give one
-/// after another, and leave the same; one line gives the messages in front of it and what `source_items` says; and after all lines the page's end gives what `end_items` says.
+/// after another, and leave the same; one line gives the messages in front of it and what `source_items` says; and the page's end, alone or after all
+/// lines, gives what `end_items` says.
 pub fn tree_law()
     ensures items { (b : BodyEdge) (given : List Given) → given_then b given [] ≡ given_items b given }
     ensures after { (b : BodyEdge) (given : List Given) → tree_after (reader b given) (rest_steps b given) ≡ body_after b given }
@@ -20,6 +22,7 @@ pub fn tree_law()
         → lines_items e (raw_line number text notes ∷ []) ≡ map noted notes ++ source_items e number text }
     ensures line_after { (e : LinesEdge) (number : ℕ) (text : List ℕ) (notes : List Message) → e.roff.to_come ≡ None
         → lines_after e (raw_line number text notes ∷ []) ≡ source_after e number text }
+    ensures ending { (e : LinesEdge) (line : ℕ) → ending_items e line ≡ end_items e line }
     ensures end { (e : LinesEdge) (lines : List SourceLine) (line : ℕ)
         → page_items e lines line ≡ lines_items e lines ++ end_items (lines_after e lines) line }
 {}

@@ -3,7 +3,7 @@
 //! It stands above roff (`page_roff_source`) and the body of a page (`page_engine_body`), and below the page (`page_engine`), which fills what it
 //! gives.
 //!
-//! Read first: `PageLines` in `page_lines.rt`, with `specs/Lines.antt`; then the loop of `taking.rt`, with `specs/Given.antt`.
+//! Read first: `PageLines` in `page_lines.rt`, with `specs/Edges.antt` and `Lines.antt`; then the loop of `taking.rt`, with `specs/Given.antt`.
 #![tactic(auto)]
 
 mod item_outs;

@@ -6,6 +6,7 @@ ghost use Rattle.page_core_base.specs.Latches.{Came, Emits};
 ghost use Rattle.page_roff_source.specs.Caps.{RoffFits};
 ghost use Rattle.page_roff_source.specs.Edges.{counts_of};
 ghost use Rattle.page_engine_body.specs.Caps.{BodyFits};
+ghost use Rattle.page_engine_lines.specs.Edges as edges;
 ghost use Rattle.page_engine_lines.specs.Lines as lines;
 
 use crate::item_outs::ItemOut;
@@ -26,7 +27,7 @@ pub struct PageLines {
 
 impl Model for PageLines {
     ghost use Rattle.std.specs.Prelude.{◌≡◌, None};
-    ghost use Rattle.page_engine_lines.specs.Lines.{LinesEdge};
+    ghost use Rattle.page_engine_lines.specs.Edges.{LinesEdge};
 
     ghost Value = { LinesEdge };
 
@@ -38,7 +39,7 @@ impl Model for PageLines {
 impl PageLines {
     /// The start of a page of settings that pass their check. Its fault is [`Fault::Memory`].
     pub fn new(alloc: Global, settings: &Settings) -> Result<PageLines, Fault>
-        ensures ok { IfOk result (λ l. l ≡ lines.start_of settings.now) }
+        ensures ok { IfOk result (λ l. l ≡ edges.start_of settings.now) }
         ensures fault { IfErr result (λ fault. fault ≡ Fault.Memory) }
     {
         let Ok(roff) = RoffLines::new(alloc, settings.output) else {
@@ -75,7 +76,7 @@ impl PageLines {
 
     // Gives the footer.
     fn give_footer<L: PieceOut>(&self, out: &mut ItemOut<L>, number: u32, blank_rows: u32)
-        ensures { Came L.left out.old.latch (lines.footer_items self.now number blank_rows) out.new.latch }
+        ensures { Came L.left out.old.latch (edges.footer_items self.now number blank_rows) out.new.latch }
     {
         self.body.give_footer(number, blank_rows, out);
     }
@@ -120,7 +121,7 @@ impl PageLines {
         blank_rows: u32,
     ) -> Result<(), Fault>
         ensures gives { Emits result O.took O.broke out.old
-            (lines.footer_items self.now number blank_rows) out.new }
+            (edges.footer_items self.now number blank_rows) out.new }
         ensures same { O.loans out.new ≡ O.loans out.old }
     {
         let mut items = ItemOut {

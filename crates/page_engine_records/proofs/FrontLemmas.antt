@@ -3,12 +3,14 @@ use Rattle.std.proofs.Common.{◌≡◌, ℕ, Bool, true, false, List, [], ◌�
 use Rattle.std.specs.Prelude.{if◌then◌else◌}
 use Rattle.page_core_base.specs.Pieces.{Item, noted}
 use Rattle.page_engine_lines.specs.Acts.{lines_items}
-use Rattle.page_engine_lines.specs.Lines.{LinesEdge, source_after, source_items}
-use Rattle.page_engine_lines.proofs.TreeLemmas.{one_items, one_after}
+use Rattle.page_engine_lines.specs.Edges.{LinesEdge}
+use Rattle.page_engine_lines.specs.Lines.{source_after, source_items}
+use Rattle.page_engine_lines.proofs.TreeLemmas.{one_items, one_after, ending_is}
 use Rattle.page_roff_lines.specs.Decoding.{Line}
 use Rattle.page_engine_records.specs.Fronts.{Front, after_line, after_lines, ended, raw}
 use Rattle.page_engine_records.specs.NameTexts.{has_ended, read}
 use Rattle.page_engine_records.specs.ReaderSinks.{read-append, read_notes}
+use Rattle.page_engine_records.specs.Steps.{end_read}
 use Rattle.page_engine_records.specs.declared.name_readers.NameReader.{NameReader}
 
 -- a line's pieces, as the code takes them
@@ -49,5 +51,8 @@ one_line f lines b line e h = let z : lines ≡ line ∷ [] = rw h at e in rw z 
 
 -- ---- the page's end
 
-pub end_stays : (f : Front) → has_ended f.name ≡ true → f.name ≡ ended f
-end_stays f h = rw h refl
+end_is_read : (f : Front) → end_read f ≡ ended f
+end_is_read f = ap (λ (l : List Item). if has_ended f.name then f.name else read f.name l) (sym (ending_is f.lines 1))
+
+pub end_named : (f g : Front) (name : NameReader) → f ≡ g → name ≡ end_read f → name ≡ ended g
+end_named f g name same h = h ∙ (end_is_read f ∙ ap (λ (x : Front). ended x) same)

@@ -2,8 +2,8 @@
 use Rattle.std.specs.Prelude.{ℕ, if◌then◌else◌, List, [], ◌∷◌, Option}
 use Rattle.page_core_base.specs.declared.page_settings.Settings.{Settings}
 use Rattle.page_engine_index.specs.declared.records.Record.{Record}
-use Rattle.page_engine_lines.specs.Acts.{raw_line, lines_items, lines_after}
-use Rattle.page_engine_lines.specs.Lines.{LinesEdge, end_items, start_of}
+use Rattle.page_engine_lines.specs.Acts.{raw_line, lines_items, lines_after, ending_items}
+use Rattle.page_engine_lines.specs.Edges.{LinesEdge, start_of}
 use Rattle.page_roff_lines.specs.Decoding.{Line, lines}
 use Rattle.page_roff_source.specs.Edges.{SourceLine}
 use Rattle.page_engine_records.specs.NameTexts.{has_ended, read, reader_at}
@@ -35,7 +35,7 @@ after_lines f (line ∷ lines) = after_lines (after_line f line) lines
 
 -- at the page's end all scopes end, which may print text
 abbrev pub ended : Front → NameReader
-ended f = if has_ended f.name then f.name else read f.name (end_items f.lines 1)
+ended f = if has_ended f.name then f.name else read f.name (ending_items f.lines 1)
 
 abbrev pub front_record : Front → Option Record
 front_record f = record_by (ended f).side (ended f).text f.lines.body.header.fields.section

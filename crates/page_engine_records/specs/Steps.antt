@@ -1,22 +1,28 @@
 -- The steps of a run, as the code takes them: a machine of proofs, which no public clause cites.
-use Rattle.std.specs.Prelude.{◌≡◌, ◌<◌, ◌≤◌, ℕ, ◌+◌, ◌-◌, ◌^◌, false, List, [], None, length, take, Result, MatchResult}
+use Rattle.std.specs.Prelude.{◌≡◌, ◌<◌, ◌≤◌, ℕ, ◌+◌, ◌-◌, ◌^◌, false, List, [], None, length, take, Result, MatchResult, if◌then◌else◌}
 use Rattle.std.specs.Io.KnownBytes.{IsAtEnd}
 use Rattle.page_core_base.specs.Fails.{Rose}
 use Rattle.page_core_base.specs.declared.faults.Fault.{Fault}
 use Rattle.page_core_base.specs.declared.faults.Fault.TheVariants.{Memory, Read, WriteText, WriteNotes, TooLong, Settings, Failed, Ended, BadIndex}
 use Rattle.page_core_sources.specs.Sources.{SourceState, HasGiven, IsLean}
+use Rattle.page_engine_lines.specs.Lines.{end_items}
 use Rattle.page_roff_lines.specs.Cutting.{Point, first_point, last_line, lines_from, lines_within, point_after}
 use Rattle.page_core_base.specs.declared.page_settings.Settings.{Settings as PageSettings}
 use Rattle.page_engine_records.specs.Fronts.{Front, after_lines, ended, start}
-use Rattle.page_engine_records.specs.NameTexts.{has_ended, reader_at}
+use Rattle.page_engine_records.specs.NameTexts.{has_ended, read, reader_at}
 use Rattle.page_engine_records.specs.Runs.{IsTooLong}
 use Rattle.page_engine_records.specs.declared.fronts.PageFront.{PageFront}
+use Rattle.page_engine_records.specs.declared.name_readers.NameReader.{NameReader}
 use Rattle.page_engine_records.specs.declared.name_readers.Side.TheVariants.{Inside}
 use Rattle.page_engine_records.specs.declared.runs.RecordRoom.{RecordRoom}
 use Rattle.page_engine_records.specs.declared.runs.RecordRun.{RecordRun}
 
 abbrev pub front_of : PageFront → Front
 front_of page = record { lines = page.lines; name = page.name }
+
+-- what is read at the page's end
+abbrev pub end_read : Front → NameReader
+end_read f = if has_ended f.name then f.name else read f.name (end_items f.lines 1)
 
 -- until the section NAME has ended, the cutter is at this point; nothing of a line is still to come
 pub record IsAt (run : RecordRun) (p : Point) : Type 0 where

@@ -6,7 +6,7 @@ ghost use Rattle.page_roff_lines.specs.Cutting.{line_of};
 ghost use Rattle.page_engine_lines.specs.Lines.{source_after, source_items};
 ghost use Rattle.page_engine_records.specs.Fronts as fronts;
 ghost use Rattle.page_engine_records.specs.NameTexts.{read, has_ended};
-ghost use Rattle.page_engine_records.specs.Steps.{front_of};
+ghost use Rattle.page_engine_records.specs.Steps.{end_read, front_of};
 
 use crate::name_readers::{NameReader, Side};
 use page_core_base::{Fault, Settings};
@@ -63,7 +63,7 @@ impl PageFront {
 
     /// Ends the page.
     pub(crate) fn end(&mut self)
-        ensures name { self.new.name ≡ fronts.ended (front_of self.old) }
+        ensures name { self.new.name ≡ end_read (front_of self.old) }
         ensures header { self.new.lines.body.header ≡ self.old.lines.body.header }
     {
         if !self.name.has_ended() {

@@ -1,4 +1,5 @@
-use Rattle.std.proofs.Common.{rules, refl, ap, ◌∙◌}
+use Rattle.std.proofs.Common.{rules, ℕ, Option, refl, ap, ◌∙◌}
+use Rattle.std.specs.Prelude.{unwrap_or}
 use Rattle.page_core_base.specs.Laid.{Gets}
 use Rattle.page_core_base.specs.Fails.{FailsBySink}
 use Rattle.page_engine.specs.ByLine.{ended, end_laid}
@@ -9,7 +10,8 @@ use Rattle.page_engine.proofs.layers.Layers.end.Goals as goal
 pub returns-clause-gets : goal.returns-clause-gets
 unfolding ended
 returns-clause-gets g c = λ e h.
-    let x = c.end-result.ensures.ends e.fill e h.filled refl h.lines h.last_line in
+    let last = c.unwrap_or-last.ensures ∙ ap (λ (o : Option ℕ). unwrap_or o 1) h.last_line in
+    let x = c.end-result.ensures.ends e.fill e h.filled refl h.lines last in
     let y : Gets c.end-result.result g.R.RowSink.gave g.R.RowSink.within g.N.NoteSink.gave g.N.NoteSink.within c.args.rows.now c.end-result.new.self.rows.rows.now
     c.args.notes.now c.end-result.new.self.notes.notes.now (ended e) =
     ends_gets g.R.RowSink.gave g.R.RowSink.within (λ s. g.R.RowSink.failed s.rows.now) (λ s. s.rows.now) (λ s. s.is_silent) g.N.NoteSink.gave g.N.NoteSink.within (λ s. g.N.NoteSink.failed s.notes.now)
@@ -19,13 +21,15 @@ returns-clause-gets g c = λ e h.
 pub returns-clause-worst : goal.returns-clause-worst
 unfolding ended
 returns-clause-worst g c = λ e h.
-    let x = c.end-result.ensures.ends e.fill e h.filled refl h.lines h.last_line in
+    let last = c.unwrap_or-last.ensures ∙ ap (λ (o : Option ℕ). unwrap_or o 1) h.last_line in
+    let x = c.end-result.ensures.ends e.fill e h.filled refl h.lines last in
     ends_worst g.R.RowSink.gave g.R.RowSink.within (λ s. g.R.RowSink.failed s.rows.now) (λ s. s.rows.now) (λ s. s.is_silent) g.N.NoteSink.gave g.N.NoteSink.within (λ s. g.N.NoteSink.failed s.notes.now)
     (λ s. s.notes.now) (λ s. s.least) (λ s. s.worst) c.end-result.result _ _ _ _ (end_laid e) e e h.levels h.worst_level x
 
 pub returns-clause-faults : goal.returns-clause-faults
 returns-clause-faults g c = λ e h.
-    let x = c.end-result.ensures.ends e.fill e h.filled refl h.lines h.last_line in
+    let last = c.unwrap_or-last.ensures ∙ ap (λ (o : Option ℕ). unwrap_or o 1) h.last_line in
+    let x = c.end-result.ensures.ends e.fill e h.filled refl h.lines last in
     let y : FailsBySink c.end-result.result (g.R.RowSink.failed c.args.rows.now) (g.R.RowSink.failed c.end-result.new.self.rows.rows.now)
     (g.N.NoteSink.failed c.args.notes.now) (g.N.NoteSink.failed c.end-result.new.self.notes.notes.now) =
     ends_faults g.R.RowSink.gave g.R.RowSink.within (λ s. g.R.RowSink.failed s.rows.now) (λ s. s.rows.now) (λ s. s.is_silent) g.N.NoteSink.gave g.N.NoteSink.within (λ s. g.N.NoteSink.failed s.notes.now)

@@ -2,25 +2,25 @@ use Rattle.std.proofs.Common.{refl, ap, ◌∙◌}
 use Rattle.page_roff_lines.specs.Cutting.{line_of}
 use Rattle.page_roff_source.specs.Edges.{counts_of}
 use Rattle.page_engine.specs.ByLine.{settled_line}
-use Rattle.page_engine_lines.specs.Lines.{LinesEdge}
-use Rattle.page_engine.proofs.Phases.{at_edge, edge_at, open_layers, open_kept, edge_reached, failed_at, no_cause}
+use Rattle.page_engine_lines.specs.Edges.{LinesEdge}
+use Rattle.page_engine.proofs.Phases.{edge_at, open_layers, open_kept, within_is, failed_at, no_cause}
 use Rattle.page_engine.proofs.WholeLines.{line_reached, one_line}
 use Rattle.page_engine.proofs.pages.Page.take_line.Goals as goal
 
 pub returns-in-Err-clause-takes : goal.returns-in-Err-clause-takes
 returns-in-Err-clause-takes g c = λ e h free.
-    let i = open_layers c.self.inside.layers e c.self.view_is h in
+    let i = open_layers c.self.inside.layers e c.self.invariant c.self.view_is h in
     rw (one_line e (line_of c.args.cutter.now.point) h.reached)
     (record { gave = c.in-Err.ensures.gets e i; cause = c.in-Err.ensures.faults e i }, failed_at c.self.inside.layers e c.self.view_is h c.in_default.ensures.begins.2 refl refl)
 
 pub returns-in-Err-clause-works : goal.returns-in-Err-clause-works
 returns-in-Err-clause-works g c = λ e h free w.
-    let i = open_layers c.self.inside.layers e c.self.view_is h in
+    let i = open_layers c.self.inside.layers e c.self.invariant c.self.view_is h in
     no_cause c.in-Err.fault _ _ _ _ w.rows_room w.rows w.notes_room w.notes (c.in-Err.ensures.faults e i)
 
 pub returns-clause-takes : goal.returns-clause-takes
 returns-clause-takes g c = λ e h free.
-    let i = open_layers c.self.inside.layers e c.self.view_is h in
+    let i = open_layers c.self.inside.layers e c.self.invariant c.self.view_is h in
     let done = c.in_default-take_line.ensures in
     let f = done.faults e i in
     let at = done.edge e i in
@@ -41,7 +41,8 @@ pub returns-clause-within : goal.returns-clause-within
 returns-clause-within g c = λ e h.
     let k = open_kept c.in_default.ensures.begins.0 c.self.invariant in
     let at = c.in_default-take_line.ensures.edge k.0 k.1 in
-    c.caps_law.ensures e (at_edge _ e h) (edge_reached _ (settled_line k.0 (line_of c.args.cutter.now.point)).edge e at (line_reached k.0 (line_of c.args.cutter.now.point) k.2) h)
+    let f = (settled_line k.0 (line_of c.args.cutter.now.point)).edge in
+    within_is _ f e at h (c.caps_law.ensures f at (line_reached k.0 (line_of c.args.cutter.now.point) k.2))
 
 pub invariant_of-self-2 : goal.invariant_of-self-2
 invariant_of-self-2 g c =

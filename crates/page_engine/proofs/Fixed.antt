@@ -1,0 +1,81 @@
+-- What filling leaves as it was: the output and the width of rows.
+use Rattle.std.proofs.Common.{◌≡◌, ℕ, ◌==◌, Bool, true, false, List, [], ◌∷◌, length, Option, None, Some, refl, ◌∙◌}
+use Rattle.std.specs.Prelude.{if◌then◌else◌}
+use Rattle.page_core_base.specs.declared.page_settings.Output.{Output}
+use Rattle.page_core_base.specs.declared.pieces.Piece.{Piece}
+use Rattle.page_core_base.specs.declared.pieces.Piece.TheVariants.{Text, Glyph, Char, Tab, Blank, Glue, Split, Break, RowEnd, Para, Space, Indent, Literal, Tag, TagEnd, Heading, Column}
+use Rattle.page_core_base.specs.declared.pieces.TagForm.{TagForm}
+use Rattle.page_core_base.specs.declared.pieces.TagForm.TheVariants as forms
+use Rattle.page_core_base.specs.Laid.{Laid}
+use Rattle.page_core_base.specs.Pieces.{Item, shown, noted}
+use Rattle.page_fill_steps.specs.declared.edges.OpenTag.{OpenTag}
+use Rattle.page_fill_steps.specs.declared.edges.Edge.{Edge}
+use Rattle.page_fill.specs.ByPiece.{laid_item, laid_items}
+use Rattle.page_fill.specs.Filling.{Group, words, other, groups, after_tag, tag_ended, other_laid, group_laid, groups_laid, filled}
+use Rattle.page_fill.specs.PieceWords.{words_laid, content_laid}
+
+abbrev pub fixed : Edge → Output × ℕ
+fixed e = (e.output, e.sheet.width)
+
+either_fixed : (b : Bool) (k l : Laid Edge) (kept : Output × ℕ) → fixed k.edge ≡ kept → fixed l.edge ≡ kept → fixed (if b then k else l).edge ≡ kept
+either_fixed true k l kept h g = h
+either_fixed false k l kept h g = g
+
+heading_fixed : (b : Bool) (e : Edge) → fixed (if b then e else record e { sheet = record e.sheet { heading = true } }) ≡ fixed e
+heading_fixed true e = refl
+heading_fixed false e = refl
+
+after_tag_fixed : (e : Edge) (hang : ℕ) (form : TagForm) → fixed (after_tag e (record { hang = hang; form = form })).edge ≡ fixed e
+after_tag_fixed e hang forms.Row = either_fixed _ _ _ (fixed e) refl refl
+after_tag_fixed e hang forms.Hang = refl
+after_tag_fixed e hang (forms.Inset n) = refl
+
+tag_fixed : (e : Edge) (tag : Option OpenTag) → fixed (tag_ended e tag).edge ≡ fixed e
+tag_fixed e None = refl
+tag_fixed e (Some tag) = either_fixed e.sheet.tag_begun _ _ (fixed e) (after_tag_fixed e tag.hang tag.form) refl
+
+words_fixed : (e : Edge) (items : List Item) → fixed (words_laid e items).edge ≡ fixed e
+unfolding words_laid
+words_fixed e items = refl
+
+other_fixed : (e : Edge) (p : Piece (List ℕ)) → fixed (other_laid e p).edge ≡ fixed e
+unfolding other_laid words_laid content_laid
+other_fixed e (Text bytes font place) = refl
+other_fixed e (Glyph name font place) = refl
+other_fixed e (Char c font place) = refl
+other_fixed e (Tab font place) = either_fixed e.sheet.literal _ _ (fixed e) refl refl
+other_fixed e (Blank count has_tab) = refl
+other_fixed e Glue = refl
+other_fixed e Split = refl
+other_fixed e Break = refl
+other_fixed e RowEnd = either_fixed (length e.sheet.cells == 0) _ _ (fixed e) refl refl
+other_fixed e (Para n) = refl
+other_fixed e (Space n) = refl
+other_fixed e (Indent first rest) = refl
+other_fixed e (Literal literal) = refl
+other_fixed e (Tag hang form) = refl
+other_fixed e TagEnd = tag_fixed (record e { tag = None }) e.tag
+other_fixed e Heading = heading_fixed (length e.sheet.cells == 0) _
+other_fixed e (Column n) = refl
+
+group_fixed : (e : Edge) (group : Group) → fixed (group_laid e group).edge ≡ fixed e
+group_fixed e (words items) = words_fixed e items
+group_fixed e (other p) = other_fixed e p
+
+groups_fixed : (e : Edge) (all : List Group) → fixed (groups_laid e all).edge ≡ fixed e
+unfolding groups_laid
+groups_fixed e [] = refl
+groups_fixed e (group ∷ more) = groups_fixed (group_laid e group).edge more ∙ group_fixed e group
+
+pub filled_fixed : (e : Edge) (items : List Item) → fixed (filled e items).edge ≡ fixed e
+filled_fixed e items = groups_fixed e (groups items)
+
+-- piece by piece
+item_fixed : (e : Edge) (item : Item) → fixed (laid_item e item).edge ≡ fixed e
+item_fixed e (shown p) = filled_fixed e (shown p ∷ [])
+item_fixed e (noted m) = refl
+
+pub items_fixed : (e : Edge) (items : List Item) → fixed (laid_items e items).edge ≡ fixed e
+unfolding laid_items
+items_fixed e [] = refl
+items_fixed e (item ∷ items) = items_fixed (laid_item e item).edge items ∙ item_fixed e item

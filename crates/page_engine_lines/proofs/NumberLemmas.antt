@@ -1,0 +1,227 @@
+-- The number that roff remembers is the one of its last line, whatever that line does: helpers of proofs.
+use Rattle.std.proofs.Common.{◌≡◌, ℕ, ◌==◌, Bool, true, false, is_some, List, [], ◌∷◌, length, Option, Some, None, refl, ap, ◌∙◌}
+use Rattle.std.specs.Prelude.{if◌then◌else◌}
+use Rattle.page_core_base.specs.declared.page_settings.Output.{Output}
+use Rattle.page_roff_requests.specs.Requests.{request_of}
+use Rattle.page_roff_requests.specs.declared.requests.Request.{Request}
+use Rattle.page_roff_requests.specs.declared.requests.Request.TheVariants as requests
+use Rattle.page_roff_requests.specs.declared.regions.RegionKind.{RegionKind}
+use Rattle.page_roff_requests.specs.declared.regions.RegionKind.TheVariants.{Define, Append, Ignore, Table, Equation, Picture}
+use Rattle.page_roff_forms.specs.LineForms.{form_of}
+use Rattle.page_roff_forms.specs.declared.line_forms.LineForm.{LineForm}
+use Rattle.page_roff_forms.specs.declared.line_forms.LineForm.TheVariants.{Comment, BlankLine, Text, Control}
+use Rattle.page_roff_heads.specs.declared.loops.LoopHead.{LoopHead}
+use Rattle.page_roff_blocks.specs.Atoms.{atoms}
+use Rattle.page_roff_blocks.specs.Levels.{Opened}
+use Rattle.page_roff_blocks.specs.Loops.{loop_text}
+use Rattle.page_roff_blocks.specs.declared.regions.RegionHead.{RegionHead}
+use Rattle.page_roff_values.specs.Arguments.{lines_in}
+use Rattle.page_roff_values.specs.Values.{expanded}
+use Rattle.page_roff_language.specs.Languages.{Kind}
+use Rattle.page_roff_language.proofs.KeepLemmas.{IsIfSome, IsAny, HasLeaves, HasLoopTexts, any_leaves, any_lines}
+use Rattle.page_roff_language.proofs.KeepEffects.{IsKeptAfter, KeepsEffects, page_keeps}
+use Rattle.page_roff_effects.specs.Commands.{called_body, command_of, command_or, copies, request_command}
+use Rattle.page_roff_effects.specs.States.{Memory, State, Outcome, Product, no_product, line_product, call_product, loop_product, after, counted, Setting, surroundings, nothing}
+use Rattle.page_roff_effects.specs.Leaves.{call_if, ControlLine, does, command_outcome, control_line, control_outcome, form_outcome, leaf_outcome}
+use Rattle.page_roff_effects.specs.RegionLines.{head_outcome, longer, longer_if, body_outcome, kind_outcome, line_outcome, end_outcome, body_freed, finish_region, finish_outcome}
+use Rattle.page_roff_effects.specs.LoopLines.{longer_if_some, loop_outcome, collect_outcome, repeats_text, close_outcome, body_in}
+use Rattle.page_roff_effects.specs.Effects.{effects, setting_of, tested_after, done_by, done_after, budget_outcome, block_outcome, end_of_block_outcome}
+use Rattle.page_roff_source.specs.Edges.{Edge, SourceLine}
+use Rattle.page_roff_source.specs.Taking.{before_line, run_line, line_done}
+use Rattle.page_roff_source.specs.Given.{done}
+use Rattle.page_roff_source.specs.LineByLine.{lines_done}
+use Rattle.page_roff_source.proofs.LineLemmas.{done-by_line}
+
+either_number : (b : Bool) (o p : Outcome) (n : ℕ) → o.memory.number ≡ n → p.memory.number ≡ n → (if b then o else p).memory.number ≡ n
+either_number true o p n h g = h
+either_number false o p n h g = g
+
+-- ---- leaves
+
+call_number : (b : Bool) (text bytes : List ℕ) (m : Memory) → (call_if b text bytes m).memory.number ≡ m.number
+call_number true text bytes m = refl
+call_number false text bytes m = refl
+
+request_number : (may_call : Bool) (request : Option Request) (line : ControlLine) (text : List ℕ) (m : Memory)
+    → (does may_call (request_command request) line text m).memory.number ≡ m.number
+request_number may_call None line text m = refl
+request_number may_call (Some requests.If) line text m = refl
+request_number may_call (Some requests.IfElse) line text m = refl
+request_number may_call (Some requests.Else) line text m = refl
+request_number may_call (Some requests.While) line text m = refl
+request_number may_call (Some (requests.Region kind)) line text m = refl
+request_number may_call (Some (requests.Definition request)) line text m = refl
+request_number may_call (Some (requests.Layout request)) line text m = refl
+request_number may_call (Some requests.Ignored) line text m = refl
+request_number may_call (Some requests.Unsupported) line text m = refl
+
+does_number : (may_call : Bool) (called : Option (List ℕ)) (line : ControlLine) (text : List ℕ) (m : Memory)
+    → (does may_call (command_or line.name called) line text m).memory.number ≡ m.number
+does_number may_call None line text m = request_number may_call (request_of line.name) line text m
+does_number may_call (Some macro) line text m = call_number _ _ _ m
+
+-- a macro or a request, once its line is expanded
+control_number : (setting : Setting) (may_call : Bool) (line : ControlLine) (m : Memory) → (control_outcome setting may_call line m).memory.number ≡ m.number
+unfolding control_outcome command_outcome command_of
+control_number setting may_call line m =
+    let called = called_body line.name m.definitions in
+    let laid = expanded (surroundings (copies (command_or line.name called)) setting m) m.number line.text in
+    either_number (length line.name == 0) (nothing m) _ m.number refl (does_number may_call called line laid.edge.text (counted laid.edge.count m))
+
+form_number : (setting : Setting) (may_call : Bool) (raw : List ℕ) (form : LineForm (List ℕ)) (m : Memory)
+    → (form_outcome setting may_call raw form m).memory.number ≡ m.number
+form_number setting may_call raw Comment m = refl
+form_number setting may_call raw BlankLine m = refl
+form_number setting may_call raw (Text text) m = refl
+form_number setting may_call raw (Control name column rest rest_column) m =
+    control_number setting may_call (control_line raw name column rest_column) m
+
+leaf_number : (setting : Setting) (may_call : Bool) (raw : List ℕ) (m : Memory) → (leaf_outcome setting may_call raw m).memory.number ≡ m.number
+unfolding leaf_outcome
+leaf_number setting may_call raw m = form_number setting may_call raw (form_of raw) m
+
+-- ---- regions
+
+longer_if_number : (b : Bool) (text : List ℕ) (m : Memory) → (longer_if b text m).memory.number ≡ m.number
+longer_if_number true text m = refl
+longer_if_number false text m = refl
+
+longer_number : (text : Option (List ℕ)) (line : List ℕ) (m : Memory) → (longer text line m).memory.number ≡ m.number
+longer_number None line m = refl
+longer_number (Some text) line m = longer_if_number _ _ m
+
+body_number : (setting : Setting) (line : List ℕ) (m : Memory) → (body_outcome setting line m).memory.number ≡ m.number
+body_number setting line m =
+    let laid = expanded (surroundings true setting m) m.number line in
+    either_number (is_some m.body) _ _ m.number (longer_number m.body laid.edge.text (counted laid.edge.count m)) refl
+
+kind_number : (setting : Setting) (kind : RegionKind) (line : List ℕ) (m : Memory) → (kind_outcome setting kind line m).memory.number ≡ m.number
+kind_number setting Define line m = body_number setting line m
+kind_number setting Append line m = body_number setting line m
+kind_number setting Ignore line m = refl
+kind_number setting Table line m = refl
+kind_number setting Equation line m = refl
+kind_number setting Picture line m = refl
+
+line_number : (setting : Setting) (o : Opened) (is_run : Bool) (line : List ℕ) (m : Memory) → (line_outcome setting o is_run line m).memory.number ≡ m.number
+unfolding line_outcome
+line_number setting o true line m = kind_number setting o.kind line m
+line_number setting o false line m = refl
+
+head_number : (head : RegionHead (List ℕ)) (is_run : Bool) (m : Memory) → (head_outcome head is_run m).memory.number ≡ m.number
+unfolding head_outcome
+head_number head true m = refl
+head_number head false m = refl
+
+freed_number : (is_run : Bool) (m : Memory) → (body_freed is_run m).number ≡ m.number
+freed_number true m = refl
+freed_number false m = refl
+
+end_number : (o : Opened) (is_run : Bool) (m : Memory) → (end_outcome o is_run m).memory.number ≡ m.number
+unfolding end_outcome
+end_number o true m = freed_number o.is_run m
+end_number o false m = freed_number o.is_run m
+
+region_number : (region : Option Opened) (gave_up : Bool) (m : Memory) → (finish_region region gave_up m).memory.number ≡ m.number
+region_number None gave_up m = refl
+region_number (Some o) gave_up m = freed_number o.is_run m
+
+finish_number : (region : Option Opened) (in_loop gave_up : Bool) (m : Memory) → (finish_outcome region in_loop gave_up m).memory.number ≡ m.number
+unfolding finish_outcome
+finish_number region true gave_up m = refl
+finish_number region false gave_up m = region_number region gave_up m
+
+-- ---- loops
+
+more_number : (line : Option (List ℕ)) (m : Memory) → (longer_if_some line m).memory.number ≡ m.number
+more_number None m = refl
+more_number (Some line) m = longer_number m.body line m
+
+loop_number : (head : LoopHead (List ℕ)) (m : Memory) → (loop_outcome head m).memory.number ≡ m.number
+unfolding loop_outcome
+loop_number head m = more_number head.body (longer (Some []) head.condition m).memory ∙ longer_number (Some []) head.condition m
+
+collect_number : (is_run : Bool) (line : List ℕ) (m : Memory) → (collect_outcome is_run line m).memory.number ≡ m.number
+unfolding collect_outcome
+collect_number true line m = longer_number m.body line m
+collect_number false line m = refl
+
+repeats_number : (may_call : Bool) (text : Option (List ℕ)) (m : Memory) → (repeats_text may_call text m).memory.number ≡ m.number
+repeats_number may_call None m = refl
+repeats_number true (Some text) m = refl
+repeats_number false (Some text) m = refl
+
+close_number : (is_run may_call : Bool) (m : Memory) → (close_outcome is_run may_call m).memory.number ≡ m.number
+unfolding close_outcome
+close_number true may_call m = repeats_number may_call m.body _
+close_number false may_call m = refl
+
+-- ---- all effects
+
+any_kind : Kind → Type 0
+any_kind kind = Unit {0}
+
+abbrev IsAt : ℕ → State → Type 0
+IsAt n s = s.memory.number ≡ n
+
+module _ (output : Output) (n : ℕ) where
+  done_number : (p : Product) (s : State) → IsAt n s → IsKeptAfter IsAny any_kind (IsAt n) (done_by p s)
+  unfolding done_by any_kind
+  done_number no_product s h = h
+  done_number (line_product line) s h = h
+  done_number (call_product call) s h = (any_lines (lines_in call.body), tt, h)
+  done_number (loop_product text) s h = (tt, any_lines (body_in text), h)
+
+  keeps_number : KeepsEffects IsAny any_kind (IsAt n) (effects output)
+  unfolding effects done_after tested_after budget_outcome block_outcome end_of_block_outcome any_kind
+  keeps_number = record {
+    inner = λ kind k. tt;
+    exhausts = λ s h. h;
+    tests = λ kind condition s h. h;
+    leaf = λ may_call kind text s k t h.
+        let o = leaf_outcome (setting_of output kind) may_call text s.memory in
+        done_number o.product (after s o) (leaf_number (setting_of output kind) may_call text s.memory ∙ h);
+    refuses = λ head s h. h;
+    unopened = λ s h. h;
+    opens_region = λ kind head is_run s h. head_number head is_run s.memory ∙ h;
+    reads = λ kind o is_run line s k t h. line_number (setting_of output kind) o is_run line s.memory ∙ h;
+    ends_region = λ kind o is_run line s h. end_number o is_run s.memory ∙ h;
+    opens_loop = λ head s t h. loop_number head s.memory ∙ h;
+    collects = λ is_run text s t h. collect_number is_run text s.memory ∙ h;
+    closes = λ is_run may_run s h.
+        let o = close_outcome is_run may_run s.memory in
+        done_number o.product (after s o) (close_number is_run may_run s.memory ∙ h);
+    turns = λ kind condition s k t h. h;
+    finish = λ region in_loop gave_up s h. finish_number region in_loop gave_up s.memory ∙ h;
+  }
+
+-- ---- lines of the page
+
+leaves_any : HasLeaves IsAny
+leaves_any line t = any_leaves (atoms line)
+
+text_any : (text : Option (List ℕ)) → IsIfSome IsAny text
+text_any None = tt
+text_any (Some text) = tt
+
+texts_any : HasLoopTexts IsAny
+texts_any open_blocks line t = text_any (loop_text open_blocks line)
+
+one_number : (e : Edge) (line : SourceLine) → (line_done e line).memory.number ≡ line.number
+unfolding run_line before_line any_kind
+one_number e line =
+    page_keeps IsAny any_kind (IsAt line.number) (effects e.output) leaves_any texts_any (keeps_number e.output line.number) tt
+    (line.text ∷ []) (before_line e line) (any_lines (line.text ∷ [])) refl
+
+-- the number of the last of these lines, or of the one before them
+abbrev pub last_of : ℕ → List SourceLine → ℕ
+last_of n [] = n
+last_of n (line ∷ lines) = last_of line.number lines
+
+lines_number : (e : Edge) (lines : List SourceLine) → (lines_done e lines).memory.number ≡ last_of e.memory.number lines
+unfolding lines_done
+lines_number e [] = refl
+lines_number e (line ∷ lines) = lines_number (line_done e line) lines ∙ ap (λ n. last_of n lines) (one_number e line)
+
+pub done_number_is : (e : Edge) (lines : List SourceLine) → e.to_come ≡ None → (done e lines).memory.number ≡ last_of e.memory.number lines
+done_number_is e lines idle = ap (λ (f : Edge). f.memory.number) (done-by_line e lines idle) ∙ lines_number e lines

@@ -1,0 +1,21 @@
+-- What is held between two source lines of a page, and its footer. Source: roff(7), "LANGUAGE SYNTAX"; mandoc(1), "DIAGNOSTICS".
+use Rattle.std.specs.Prelude.{ℕ, List}
+use Rattle.page_core_base.specs.Pieces.{Item}
+use Rattle.page_core_base.specs.declared.page_settings.Settings.{Settings}
+use Rattle.page_roff_source.specs.Edges as roff
+use Rattle.page_roff_source.specs.Edges.{Edge}
+use Rattle.page_engine_body.specs.Bodies as bodies
+use Rattle.page_engine_body.specs.Bodies.{BodyEdge}
+
+-- what decides the pieces of the lines to come
+pub record LinesEdge : Type 0 where
+  pub roff : Edge
+  pub body : BodyEdge
+
+-- the start of a page
+abbrev pub start_of : Settings → LinesEdge
+start_of s = record { roff = roff.first_edge s.output; body = bodies.start_of s }
+
+-- the footer after the line of a number, where so many blank rows stand
+abbrev pub footer_items : LinesEdge → ℕ → ℕ → List Item
+footer_items e line blank_rows = bodies.footer_items e.body.header line blank_rows
