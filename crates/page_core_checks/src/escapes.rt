@@ -3,6 +3,7 @@
 use crate::checks::{check, check_count};
 use page_core_escapes::{Escape, escape};
 use page_core_limits::LINE;
+use std::alloc::AllocError;
 use std::process::Abort;
 use std::test::Fail;
 
@@ -18,20 +19,21 @@ fn check_escape(rt: &impl Abort, text: &str, is_closed: bool) {
     }
 }
 
+fn add(line: &mut String, part: &str, count: usize) -> Result<(), AllocError> {
+    for _ in 0..count {
+        line.push_str(part)?;
+    }
+    Ok(())
+}
+
 #[test]
 fn arguments_nest_deep(rt: HostRuntime) -> Result<(), Fail> {
     let mut line = String::new(rt.alloc());
-    for _ in 0..21_845 {
-        line.push_str("\\X'")?;
-    }
+    add(&mut line, "\\X'", 21_845)?;
     check_escape(&rt, line.as_str(), false);
-    let mut line = String::new(rt.alloc());
-    for _ in 0..16_000 {
-        line.push_str("\\X'")?;
-    }
-    for _ in 0..16_000 {
-        line.push_str("'")?;
-    }
+    line.clear();
+    add(&mut line, "\\X'", 16_000)?;
+    add(&mut line, "'", 16_000)?;
     check_escape(&rt, line.as_str(), true);
     Ok(())
 }

@@ -1,13 +1,9 @@
 //! Rows of pieces.
 
-ghost use Rattle.std.specs.Prelude.{◌≡◌, ◌<◌, length};
-ghost use Rattle.std.specs.Bool.{MatchBool};
-ghost use Rattle.page_core_base.specs.Fails.{Rose};
-
-use page_core_base::{Cell, Fault, Font, Note, NoteSink, Output, Place, RowSink, Settings};
-use page_core_writers::{TextNotes, TextRows};
-use page_fill::{Filler, Piece, TagForm};
-use std::alloc::Global;
+use crate::sheets::Sheet;
+use crate::steps::{HERE, Step, run};
+use page_core_base::{Fault, Font, Output, Settings};
+use page_fill::{Piece, TagForm};
 use std::process::Abort;
 use std::test::Fail;
 
@@ -15,141 +11,47 @@ fn check_bytes(rt: &impl Abort, got: &[u8], wanted: &[u8]) {
     assert_eq!(rt; got, wanted);
 }
 
-fn check_count(rt: &impl Abort, got: u32, wanted: u32) {
-    assert_eq!(rt; got, wanted);
-}
+const ASCII: Output = Output::Ascii;
 
-fn check_failures(rt: &impl Abort, got: u64, wanted: u64) {
-    assert_eq!(rt; got, wanted);
-}
+const UTF8: Output = Output::Utf8;
 
-fn check_answer(rt: &impl Abort, got: Result<(), Fault>, wanted: Result<(), Fault>) {
-    assert_eq!(rt; got, wanted);
-}
+// A width, an output, steps, the rows that they give, where these are compared, and the messages.
+type Case<'a> = (u32, Output, &'a [Step], Option<&'a str>, &'a str);
 
-const HERE: Place = Place { line: 3, column: 7 };
-
-fn text(text: &str) -> Piece<&[u8]> {
-    Piece::Text {
-        text: text.as_bytes(),
-        font: Font::R,
-        place: HERE,
-    }
-}
-
-fn blank(count: u32) -> Piece<&'static [u8]> {
-    Piece::Blank {
-        count,
-        has_tab: false,
-    }
-}
-
-fn tag(hang: u32, form: TagForm) -> Piece<&'static [u8]> {
-    Piece::Tag { hang, form }
-}
-
-// The piece that a byte of a script stands for; most letters are a text.
-fn scripted(script: &[u8], at: usize) -> Piece<&[u8]>
-    requires { at < length script.now }
-{
-    match script[at] {
-        b'_' => blank(1),
-        b'=' => blank(2),
-        b'>' => Piece::Blank {
-            count: 1,
-            has_tab: true,
-        },
-        b'+' => Piece::Glue,
-        b'-' => Piece::Split,
-        b'/' => Piece::Break,
-        b'|' => Piece::RowEnd,
-        b'O' => Piece::Para(0),
-        b'P' => Piece::Para(1),
-        b'Q' => Piece::Para(2),
-        b'S' => Piece::Space(1),
-        b'H' => Piece::Heading,
-        b'L' => Piece::Literal(true),
-        b'M' => Piece::Indent { first: 1, rest: 2 },
-        b'R' => tag(4, TagForm::Row),
-        b'N' => tag(4, TagForm::Hang),
-        b'I' => tag(4, TagForm::Inset(2)),
-        b'E' => Piece::TagEnd,
-        b'C' => Piece::Column(4),
-        b'T' => Piece::Tab {
-            font: Font::R,
-            place: HERE,
-        },
-        b'.' => text(""),
-        _ => Piece::Text {
-            text: &script[at..at + 1],
-            font: Font::R,
-            place: HERE,
-        },
-    }
-}
-
-// Settings of rows of 6 columns.
-fn narrow_settings() -> Settings {
+fn settings_of(width: u32, output: Output) -> Settings {
     let mut settings = Settings::new();
-    settings.width = 6;
+    settings.width = width;
+    settings.output = output;
     settings
 }
 
-// Words with a blank before each that come after a script: their font, and how many of their bytes are taken at once.
-#[derive(Clone, Copy)]
-struct Words<'a> {
-    text: &'a str,
-    font: Font,
-    taken: usize,
+fn check(rt: &(impl Abort + AllocGlobal), case: Case<'_>) -> Result<(), Fault> {
+    let (width, output, steps, wanted, messages) = case;
+    let mut rows = Sheet::new(rt.alloc(), 99);
+    let mut notes = Sheet::new(rt.alloc(), 99);
+    run(
+        rt,
+        &settings_of(width, output),
+        steps,
+        &mut rows,
+        &mut notes,
+    )?;
+    if let Some(wanted) = wanted {
+        check_bytes(rt, rows.text.as_slice(), wanted.as_bytes());
+    }
+    check_bytes(rt, notes.text.as_slice(), messages.as_bytes());
+    Ok(())
 }
 
-// Gives words to a filler: what it takes of them at once, and the others one by one.
-fn give_words<R: RowSink, N: NoteSink>(
-    rt: &impl Abort,
-    filler: &mut Filler,
-    words: &Words<'_>,
-    rows: &mut R,
-    notes: &mut N,
-) -> Result<(), Fail> {
-    let taken = filler.take_words(words.text.as_bytes(), words.font);
-    assert_eq!(rt; taken, words.taken);
-    let left = &words.text.as_bytes()[taken..];
-    for word in left.split(|byte| *byte == b' ').skip(1) {
-        filler.piece(blank(1), rows, notes)?;
-        let piece = Piece::Text {
-            text: word,
-            font: words.font,
-            place: HERE,
-        };
-        filler.piece(piece, rows, notes)?;
+fn check_cases(rt: &(impl Abort + AllocGlobal), cases: &[Case<'_>]) -> Result<(), Fault> {
+    for case in cases {
+        check(rt, *case)?;
     }
     Ok(())
 }
 
-// The bytes of rows of 6 columns and of messages, for a script and the words after it.
-fn filled(
-    rt: &impl Abort,
-    alloc: Global,
-    script: &str,
-    words: Option<Words<'_>>,
-) -> Result<(Vec<u8>, Vec<u8>), Fail> {
-    let mut out = Vec::new(alloc);
-    let mut messages = Vec::new(alloc);
-    let mut filler = Filler::new(alloc, &narrow_settings())?;
-    let mut rows = TextRows::new(&mut out);
-    let mut notes = TextNotes::new(&mut messages, "t");
-    for at in 0..script.len() {
-        filler.piece(scripted(script.as_bytes(), at), &mut rows, &mut notes)?;
-    }
-    if let Some(words) = &words {
-        give_words(rt, &mut filler, words, &mut rows, &mut notes)?;
-    }
-    filler.finish(&mut rows, &mut notes)?;
-    Ok((out, messages))
-}
-
 // Scripts, each with the rows that it gives, without a message.
-const SCRIPTS: [(&str, &str); 63] = [
+const SCRIPTS: &[(&str, &str)] = &[
     // Words fill rows.
     ("ab_cde", "ab cde\n"),
     ("ab_cdef", "ab\ncdef\n"),
@@ -224,486 +126,581 @@ const SCRIPTS: [(&str, &str); 63] = [
     ("LabcdefghTi", "abcdefgh        i\n"),
 ];
 
-#[test]
-fn scripts_give_rows(rt: HostRuntime) -> Result<(), Fail> {
-    let alloc = rt.alloc();
-    for (script, rows) in SCRIPTS {
-        let (out, notes) = filled(&rt, alloc, script, None)?;
-        check_bytes(&rt, out.as_slice(), rows.as_bytes());
-        check_bytes(&rt, notes.as_slice(), b"");
-    }
-    for (script, rows) in [("aTbT", "a b\n"), ("a>b", "a b\n"), ("a>bTc", "a b c\n")] {
-        let (out, notes) = filled(&rt, alloc, script, None)?;
-        check_bytes(&rt, out.as_slice(), rows.as_bytes());
-        check_bytes(
-            &rt,
-            notes.as_slice(),
-            b"mandoc: t:3:7: WARNING: tab in filled text\n".as_slice(),
-        );
-    }
-    Ok(())
-}
+// Scripts with a tab in filled text.
+const TABS: &[(&str, &str)] = &[("aTbT", "a b\n"), ("a>b", "a b\n"), ("a>bTc", "a b c\n")];
 
-// Scripts, each with words that come after it, how many of their bytes are taken at once, and the rows with the words that are left.
-const TAKEN: [(&str, Font, &str, usize, &str); 9] = [
-    ("a", Font::R, " b c", 4, "a b c\n"),
-    ("a", Font::R, " bcd ef", 4, "a bcd\nef\n"),
-    ("a", Font::R, " b cdef", 2, "a b\ncdef\n"),
-    ("a", Font::R, " bcdefg", 0, "a\nbcdefg\n"),
-    // Up to a byte that is not printable ASCII.
-    ("a", Font::R, " b \u{4e00}", 2, "a b\n<?>\n"),
-    // The first word of a row, one that is placed, and rows that are kept come one by one; so does what is not roman.
-    ("", Font::R, " b c", 0, "b c\n"),
-    ("NaE", Font::R, " b", 0, "a   b\n"),
-    ("La", Font::R, " b c", 0, "a b c\n"),
-    ("a", Font::B, " b", 0, "a b\u{8}b\n"),
-];
+const NO_ZZ: &str = "mandoc: t:3:7: WARNING: unknown character, using <?>: zz\n";
 
-#[test]
-fn words_with_room_are_taken_at_once(rt: HostRuntime) -> Result<(), Fail> {
-    for (script, font, text, taken, rows) in TAKEN {
-        let words = Words { text, font, taken };
-        let (out, _) = filled(&rt, rt.alloc(), script, Some(words))?;
-        check_bytes(&rt, out.as_slice(), rows.as_bytes());
-    }
-    Ok(())
-}
+const NO_IDEOGRAPH: &str = "mandoc: t:3:7: WARNING: unknown character, using <?>: \u{4e00}\n";
 
-// The last word that is taken at once goes on after its last part.
-#[test]
-fn last_word_taken_is_parted(rt: HostRuntime) -> Result<(), Fail> {
-    let alloc = rt.alloc();
-    for (more, rows) in [("", "a bc-d\n"), ("e", "a bc-\nde\n")] {
-        let mut out = Vec::new(alloc);
-        let mut messages = Vec::new(alloc);
-        let mut filler = Filler::new(alloc, &narrow_settings())?;
-        let mut sink = TextRows::new(&mut out);
-        let mut notes = TextNotes::new(&mut messages, "t");
-        filler.piece(text("a"), &mut sink, &mut notes)?;
-        let taken = filler.take_words(" bc-d".as_bytes(), Font::R);
-        assert_eq!(rt; taken, 5);
-        filler.piece(text(more), &mut sink, &mut notes)?;
-        filler.finish(&mut sink, &mut notes)?;
-        check_bytes(&rt, out.as_slice(), rows.as_bytes());
-    }
-    Ok(())
-}
+const TAB: &str = "mandoc: t:3:7: WARNING: tab in filled text\n";
 
-// The columns of a tag are counted over its rows: 7 here.
-#[test]
-fn wrapped_tags_count_all_their_rows(rt: HostRuntime) -> Result<(), Fail> {
-    let alloc = rt.alloc();
-    for (hang, rows) in [(7, "abc\ndef\ng\n"), (8, "abc\ndef g\n")] {
-        let mut out = Vec::new(alloc);
-        let mut messages = Vec::new(alloc);
-        let mut filler = Filler::new(alloc, &narrow_settings())?;
-        let mut sink = TextRows::new(&mut out);
-        let mut notes = TextNotes::new(&mut messages, "t");
-        filler.piece(tag(hang, TagForm::Row), &mut sink, &mut notes)?;
-        for at in 0..9 {
-            filler.piece(scripted(b"abc_defEg", at), &mut sink, &mut notes)?;
-        }
-        filler.finish(&mut sink, &mut notes)?;
-        check_bytes(&rt, out.as_slice(), rows.as_bytes());
-    }
-    Ok(())
-}
-
-// The bytes of a row of one piece, and of messages.
-fn one_row(alloc: Global, output: Output, piece: Piece<&[u8]>) -> Result<(Vec<u8>, Vec<u8>), Fail> {
-    let mut out = Vec::new(alloc);
-    let mut messages = Vec::new(alloc);
-    let mut settings = Settings::new();
-    settings.output = output;
-    let mut filler = Filler::new(alloc, &settings)?;
-    let mut rows = TextRows::new(&mut out);
-    let mut notes = TextNotes::new(&mut messages, "t");
-    filler.piece(piece, &mut rows, &mut notes)?;
-    filler.finish(&mut rows, &mut notes)?;
-    Ok((out, messages))
-}
-
-fn glyph(name: &str) -> Piece<&[u8]> {
-    Piece::Glyph {
-        name: name.as_bytes(),
-        font: Font::R,
-        place: HERE,
-    }
-}
-
-// A detail has at most 64 bytes, and ends at a character's end.
-const LONG_NAME: &str = "aaaaaaaaaaaaaaaaaaaaaaaaaaaaaaaaaaaaaaaaaaaaaaaaaaaaaaaaaaaaaaa\u{e9}";
-
-#[test]
-fn glyphs_and_characters_are_spelled(rt: HostRuntime) -> Result<(), Fail> {
-    for (output, piece, row, detail) in [
-        (Output::Ascii, glyph("em"), "--\n", ""),
-        (Output::Lint, glyph("em"), "--\n", ""),
-        (Output::Utf8, glyph("em"), "\u{2014}\n", ""),
-        (Output::Ascii, glyph("zz"), "<?>\n", "zz"),
-        (Output::Utf8, glyph("zz"), "<?>\n", "zz"),
-        (
-            Output::Ascii,
-            glyph(LONG_NAME),
-            "<?>\n",
-            "aaaaaaaaaaaaaaaaaaaaaaaaaaaaaaaaaaaaaaaaaaaaaaaaaaaaaaaaaaaaaaa",
-        ),
-        (Output::Ascii, text("\u{e9}"), "e\n", ""),
-        (Output::Utf8, text("\u{e9}"), "\u{e9}\n", ""),
-        (Output::Ascii, text("\u{4e00}"), "<?>\n", "\u{4e00}"),
-        (Output::Utf8, text("\u{4e00}"), "\u{4e00}\n", ""),
-        (Output::Ascii, text("\u{a0}a"), " a\n", ""),
-        (Output::Utf8, text("\u{a0}a"), " a\n", ""),
-    ] {
-        let (out, notes) = one_row(rt.alloc(), output, piece)?;
-        check_bytes(&rt, out.as_slice(), row.as_bytes());
-        let message = if detail.is_empty() {
-            String::new(rt.alloc())
-        } else {
-            format!(in rt.alloc();
-                "mandoc: t:3:7: WARNING: unknown character, using <?>: {detail}\n"
-            )?
-        };
-        check_bytes(&rt, notes.as_slice(), message.as_bytes());
-    }
-    Ok(())
-}
-
-// Counts rows and messages, and fails from a call on.
-#[derive(Drop)]
-struct Counter {
-    calls: u32,
-    good: u32,
-    failures: u64,
-}
-
-impl Counter {
-    fn new(good: u32) -> Counter {
-        Counter {
-            calls: 0,
-            good,
-            failures: 0,
-        }
-    }
-
-    // Counts a call, and says whether it succeeds.
-    fn takes(&mut self) -> bool
-        ensures { MatchBool result (self.new.failures
-            ≡ self.old.failures) (Rose self.old.failures self.new.failures) }
-    {
-        self.calls = self.calls.saturating_add(1);
-        if self.calls <= self.good {
-            return true;
-        }
-        self.failures = self.failures.saturating_add(1);
-        false
-    }
-}
-
-impl RowSink for Counter {
-    ghost gave = { λ _ _ _. Unit {0} };
-
-    ghost within = { λ _ _ _. Unit {0} };
-
-    ghost failed = { λ s. s.failures };
-
-    ghost Loans = { Unit {0} };
-
-    ghost loans = { λ _. tt };
-
-    ghost laws = { record {
-      none = λ _. tt;
-      more = λ _ _ _ _ _ _ _. tt;
-      after = λ _ _ _ _ _ _ _. tt;
-      before = λ _ _ _ _ _. tt;
-    } };
-
-    ghost whole = { λ _ _ _ _. tt };
-
-    fn row(&mut self, _margin: u32, _cells: &[Cell]) -> Result<(), Fault> {
-        if self.takes() {
-            return Ok(());
-        }
-        Err(Fault::WriteText)
-    }
-
-    fn failures(&self) -> u64 {
-        self.failures
-    }
-}
-
-impl NoteSink for Counter {
-    ghost gave = { λ _ _ _. Unit {0} };
-
-    ghost within = { λ _ _ _. Unit {0} };
-
-    ghost failed = { λ s. s.failures };
-
-    ghost Loans = { Unit {0} };
-
-    ghost loans = { λ _. tt };
-
-    ghost laws = { record {
-      none = λ _. tt;
-      more = λ _ _ _ _ _ _ _. tt;
-      after = λ _ _ _ _ _ _ _. tt;
-      before = λ _ _ _ _ _. tt;
-    } };
-
-    ghost whole = { λ _ _ _ _. tt };
-
-    fn note(&mut self, _note: &Note) -> Result<(), Fault> {
-        if self.takes() {
-            return Ok(());
-        }
-        Err(Fault::WriteNotes)
-    }
-
-    fn failures(&self) -> u64 {
-        self.failures
-    }
-}
-
-// Gives 5 rows and 2 messages.
-const FIVE_ROWS: [Piece<&'static [u8]>; 9] = [
-    Piece::Text {
-        text: b"abc",
-        font: Font::R,
-        place: HERE,
-    },
-    Piece::Blank {
-        count: 1,
-        has_tab: true,
-    },
-    Piece::Text {
-        text: b"defghi",
-        font: Font::R,
-        place: HERE,
-    },
-    Piece::Break,
-    Piece::Space(2),
-    Piece::Glyph {
-        name: b"zz",
-        font: Font::R,
-        place: HERE,
-    },
-    Piece::Heading,
-    Piece::Para(1),
-    Piece::Indent { first: 1, rest: 1 },
-];
-
-// Takes the pieces up to the first one that fails, after which the filler has failed.
-fn run_to_fault(
-    rt: &impl Abort,
-    filler: &mut Filler,
-    rows: &mut Counter,
-    notes: &mut Counter,
+fn check_scripts(
+    rt: &(impl Abort + AllocGlobal),
+    scripts: &[(&'static str, &'static str)],
+    messages: &str,
 ) -> Result<(), Fault> {
-    for piece in &FIVE_ROWS {
-        if let Err(fault) = filler.piece(*piece, rows, notes) {
-            check_answer(
-                rt,
-                filler.piece(Piece::Break, rows, notes),
-                Err(Fault::Failed),
-            );
-            check_answer(rt, filler.finish(rows, notes), Err(Fault::Failed));
-            return Err(fault);
-        }
+    for (script, rows) in scripts {
+        let steps = [Step::Script(script), Step::End];
+        check(rt, (6, Output::Ascii, &steps, Some(rows), messages))?;
     }
     Ok(())
 }
 
-#[test]
-fn each_row_and_message_may_fail(rt: HostRuntime) -> Result<(), Fail> {
-    let alloc = rt.alloc();
-    let settings = narrow_settings();
-    for good in 0..7 {
-        let mut filler = Filler::new(alloc, &settings)?;
-        let mut rows = Counter::new(good);
-        let mut notes = Counter::new(9);
-        let fault = run_to_fault(&rt, &mut filler, &mut rows, &mut notes);
-        if good < 5 {
-            check_answer(&rt, fault, Err(Fault::WriteText));
-            check_count(&rt, rows.calls, good + 1);
-            check_failures(&rt, rows.failures, 1);
-        } else {
-            check_answer(&rt, fault, Ok(()));
-            check_count(&rt, rows.calls, 5);
-            check_count(&rt, notes.calls, 2);
-        }
-    }
-    for good in 0..3 {
-        let mut filler = Filler::new(alloc, &settings)?;
-        let mut rows = Counter::new(9);
-        let mut notes = Counter::new(good);
-        let fault = run_to_fault(&rt, &mut filler, &mut rows, &mut notes);
-        if good < 2 {
-            check_answer(&rt, fault, Err(Fault::WriteNotes));
-            check_count(&rt, notes.calls, good + 1);
-        } else {
-            check_answer(&rt, fault, Ok(()));
-        }
-    }
-    Ok(())
-}
+const WORDS: &[Case<'static>] = &[
+    (
+        6,
+        ASCII,
+        &[
+            Step::Script("a"),
+            Step::Words(" b c", Font::R, 4),
+            Step::End,
+        ],
+        Some("a b c\n"),
+        "",
+    ),
+    (
+        6,
+        ASCII,
+        &[
+            Step::Script("a"),
+            Step::Words(" bcd ef", Font::R, 4),
+            Step::End,
+        ],
+        Some("a bcd\nef\n"),
+        "",
+    ),
+    (
+        6,
+        ASCII,
+        &[
+            Step::Script("a"),
+            Step::Words(" b cdef", Font::R, 2),
+            Step::End,
+        ],
+        Some("a b\ncdef\n"),
+        "",
+    ),
+    (
+        6,
+        ASCII,
+        &[
+            Step::Script("a"),
+            Step::Words(" bcdefg", Font::R, 0),
+            Step::End,
+        ],
+        Some("a\nbcdefg\n"),
+        "",
+    ),
+    // Up to a byte that is not printable ASCII.
+    (
+        6,
+        ASCII,
+        &[
+            Step::Script("a"),
+            Step::Words(" b \u{4e00}", Font::R, 2),
+            Step::End,
+        ],
+        Some("a b\n<?>\n"),
+        NO_IDEOGRAPH,
+    ),
+    // The first word of a row, one that is placed, and rows that are kept come one by one; so does what is not roman.
+    (
+        6,
+        ASCII,
+        &[Step::Words(" b c", Font::R, 0), Step::End],
+        Some("b c\n"),
+        "",
+    ),
+    (
+        6,
+        ASCII,
+        &[
+            Step::Script("NaE"),
+            Step::Words(" b", Font::R, 0),
+            Step::End,
+        ],
+        Some("a   b\n"),
+        "",
+    ),
+    (
+        6,
+        ASCII,
+        &[
+            Step::Script("La"),
+            Step::Words(" b c", Font::R, 0),
+            Step::End,
+        ],
+        Some("a b c\n"),
+        "",
+    ),
+    (
+        6,
+        ASCII,
+        &[Step::Script("a"), Step::Words(" b", Font::B, 0), Step::End],
+        Some("a b\u{8}b\n"),
+        "",
+    ),
+    // The last word that is taken at once goes on after its last part.
+    (
+        6,
+        ASCII,
+        &[
+            Step::Text("a"),
+            Step::Takes(" bc-d", 5),
+            Step::Text(""),
+            Step::End,
+        ],
+        Some("a bc-d\n"),
+        "",
+    ),
+    (
+        6,
+        ASCII,
+        &[
+            Step::Text("a"),
+            Step::Takes(" bc-d", 5),
+            Step::Text("e"),
+            Step::End,
+        ],
+        Some("a bc-\nde\n"),
+        "",
+    ),
+    // The columns of a tag are counted over its rows: 7 here.
+    (
+        6,
+        ASCII,
+        &[
+            Step::Piece(Piece::Tag {
+                hang: 7,
+                form: TagForm::Row,
+            }),
+            Step::Script("abc_defEg"),
+            Step::End,
+        ],
+        Some("abc\ndef\ng\n"),
+        "",
+    ),
+    (
+        6,
+        ASCII,
+        &[
+            Step::Piece(Piece::Tag {
+                hang: 8,
+                form: TagForm::Row,
+            }),
+            Step::Script("abc_defEg"),
+            Step::End,
+        ],
+        Some("abc\ndef g\n"),
+        "",
+    ),
+];
 
-// A row is given as soon as a cell comes that it has no room for, or a break: by each piece the rows so far, and the open row's cells.
-#[test]
-fn rows_come_as_they_settle(rt: HostRuntime) -> Result<(), Fail> {
-    let alloc = rt.alloc();
-    let mut rows = Counter::new(9);
-    let mut notes = Counter::new(9);
-    let mut filler = Filler::new(alloc, &Settings::new())?;
-    let steps = [
-        (Piece::Indent { first: 7, rest: 7 }, 0, 0),
-        (text("aaaaaaaaaaaaaaaaaaaaaaaaaaaaaaaaaaa"), 0, 35),
-        (blank(1), 0, 35),
-        (text("bbbbbbbbbbbbbbbbbbbbbbbbbbbbbbbbbbbb"), 1, 36),
-        (blank(1), 1, 36),
-        (text("c"), 1, 38),
-        (Piece::Para(1), 3, 0),
-    ];
-    for (piece, given, open) in steps {
-        check_answer(&rt, filler.piece(piece, &mut rows, &mut notes), Ok(()));
-        check_count(&rt, rows.calls, given);
-        check_count(&rt, filler.pending().len() as u32, open);
-    }
-    Ok(())
-}
-
-#[test]
-fn nothing_is_taken_after_the_end(rt: HostRuntime) -> Result<(), Fail> {
-    let alloc = rt.alloc();
-    let mut rows = Counter::new(9);
-    let mut notes = Counter::new(9);
-    let mut filler = Filler::new(alloc, &Settings::new())?;
-    check_answer(&rt, filler.piece(text("a"), &mut rows, &mut notes), Ok(()));
-    check_answer(&rt, filler.finish(&mut rows, &mut notes), Ok(()));
-    check_count(&rt, rows.calls, 1);
-    check_answer(
-        &rt,
-        filler.piece(text("b"), &mut rows, &mut notes),
-        Err(Fault::Failed),
-    );
-    check_answer(
-        &rt,
-        filler.finish(&mut rows, &mut notes),
-        Err(Fault::Failed),
-    );
-    check_count(&rt, rows.calls, 1);
-    Ok(())
-}
+// Glyphs and characters are spelled.
+const GLYPHS: &[Case<'static>] = &[
+    (
+        78,
+        ASCII,
+        &[
+            Step::Piece(Piece::Glyph {
+                name: b"em",
+                font: Font::R,
+                place: HERE,
+            }),
+            Step::End,
+        ],
+        Some("--\n"),
+        "",
+    ),
+    (
+        78,
+        Output::Lint,
+        &[
+            Step::Piece(Piece::Glyph {
+                name: b"em",
+                font: Font::R,
+                place: HERE,
+            }),
+            Step::End,
+        ],
+        Some("--\n"),
+        "",
+    ),
+    (
+        78,
+        UTF8,
+        &[
+            Step::Piece(Piece::Glyph {
+                name: b"em",
+                font: Font::R,
+                place: HERE,
+            }),
+            Step::End,
+        ],
+        Some("\u{2014}\n"),
+        "",
+    ),
+    (
+        78,
+        ASCII,
+        &[
+            Step::Piece(Piece::Glyph {
+                name: b"zz",
+                font: Font::R,
+                place: HERE,
+            }),
+            Step::End,
+        ],
+        Some("<?>\n"),
+        NO_ZZ,
+    ),
+    (
+        78,
+        UTF8,
+        &[
+            Step::Piece(Piece::Glyph {
+                name: b"zz",
+                font: Font::R,
+                place: HERE,
+            }),
+            Step::End,
+        ],
+        Some("<?>\n"),
+        NO_ZZ,
+    ),
+    // A detail has at most 64 bytes, and ends at a character's end.
+    (
+        78,
+        ASCII,
+        &[
+            Step::Piece(Piece::Glyph {
+                name: b"aaaaaaaaaaaaaaaaaaaaaaaaaaaaaaaaaaaaaaaaaaaaaaaaaaaaaaaaaaaaaaa\xc3\xa9",
+                font: Font::R,
+                place: HERE,
+            }),
+            Step::End,
+        ],
+        Some("<?>\n"),
+        "mandoc: t:3:7: WARNING: unknown character, using <?>: aaaaaaaaaaaaaaaaaaaaaaaaaaaaaaaaaaaaaaaaaaaaaaaaaaaaaaaaaaaaaaa\n",
+    ),
+    (
+        78,
+        ASCII,
+        &[Step::Text("\u{e9}"), Step::End],
+        Some("e\n"),
+        "",
+    ),
+    (
+        78,
+        UTF8,
+        &[Step::Text("\u{e9}"), Step::End],
+        Some("\u{e9}\n"),
+        "",
+    ),
+    (
+        78,
+        ASCII,
+        &[Step::Text("\u{4e00}"), Step::End],
+        Some("<?>\n"),
+        NO_IDEOGRAPH,
+    ),
+    (
+        78,
+        UTF8,
+        &[Step::Text("\u{4e00}"), Step::End],
+        Some("\u{4e00}\n"),
+        "",
+    ),
+    (
+        78,
+        ASCII,
+        &[Step::Text("\u{a0}a"), Step::End],
+        Some(" a\n"),
+        "",
+    ),
+    (
+        78,
+        UTF8,
+        &[Step::Text("\u{a0}a"), Step::End],
+        Some(" a\n"),
+        "",
+    ),
+];
 
 const TOO_MANY: &str = "mandoc: t:3:7: ERROR: limit exceeded, skipping: CELLS\n";
 
+const LITERAL: Step = Step::Piece(Piece::Literal(true));
+
+const FILLED: Step = Step::Piece(Piece::Literal(false));
+
+const TWO_BLANKS: Step = Step::Piece(Piece::Blank {
+    count: 2,
+    has_tab: false,
+});
+
 // A row takes 4,096 cells, in a literal row and in one word.
-#[test]
-fn long_rows_are_split(rt: HostRuntime) -> Result<(), Fail> {
-    let alloc = rt.alloc();
-    for is_literal in [true, false] {
-        let mut messages = Vec::new(alloc);
-        let mut rows = Counter::new(9);
-        let mut notes = TextNotes::new(&mut messages, "t");
-        let mut filler = Filler::new(alloc, &Settings::new())?;
-        filler.piece(Piece::Literal(is_literal), &mut rows, &mut notes)?;
-        for _ in 0..4096 {
-            filler.piece(text("x"), &mut rows, &mut notes)?;
-        }
-        check_count(&rt, filler.pending().len() as u32, 4096);
-        check_count(&rt, rows.calls, 0);
-        filler.piece(text("x"), &mut rows, &mut notes)?;
-        check_count(&rt, filler.pending().len() as u32, 1);
-        check_count(&rt, rows.calls, 1);
-        check_bytes(&rt, messages.as_slice(), TOO_MANY.as_bytes());
+const LONG_ROWS: &[Case<'static>] = &[
+    (
+        78,
+        ASCII,
+        &[
+            LITERAL,
+            Step::Cells("x"),
+            Step::Open(4096),
+            Step::Rows(0),
+            Step::Text("x"),
+            Step::Open(1),
+            Step::Rows(1),
+        ],
+        None,
+        TOO_MANY,
+    ),
+    (
+        78,
+        ASCII,
+        &[
+            FILLED,
+            Step::Cells("x"),
+            Step::Open(4096),
+            Step::Rows(0),
+            Step::Text("x"),
+            Step::Open(1),
+            Step::Rows(1),
+        ],
+        None,
+        TOO_MANY,
+    ),
+    // A row of parts takes 4,096 cells, and ends before the part that passes the width, with no message.
+    (
+        78,
+        UTF8,
+        &[
+            FILLED,
+            Step::Parts,
+            Step::Open(4096),
+            Step::Rows(0),
+            Step::Text("x"),
+            Step::Open(1),
+            Step::Rows(1),
+        ],
+        None,
+        TOO_MANY,
+    ),
+    (
+        64,
+        UTF8,
+        &[
+            FILLED,
+            Step::Parts,
+            Step::Open(4096),
+            Step::Rows(0),
+            Step::Text("x"),
+            Step::Open(1),
+            Step::Rows(1),
+        ],
+        None,
+        "",
+    ),
+    (
+        64,
+        UTF8,
+        &[
+            LITERAL,
+            Step::Parts,
+            Step::Open(4096),
+            Step::Rows(0),
+            Step::Text("x"),
+            Step::Open(1),
+            Step::Rows(1),
+        ],
+        None,
+        TOO_MANY,
+    ),
+    // A blank that would be cell 4,097 is dropped with its like; where rows are kept as they are it is a cell.
+    (
+        78,
+        UTF8,
+        &[
+            LITERAL,
+            Step::Cells("\u{301}"),
+            TWO_BLANKS,
+            Step::Text("y"),
+            Step::Open(3),
+            Step::Rows(1),
+        ],
+        None,
+        TOO_MANY,
+    ),
+    (
+        78,
+        UTF8,
+        &[
+            FILLED,
+            Step::Cells("\u{301}"),
+            TWO_BLANKS,
+            Step::Text("y"),
+            Step::Open(1),
+            Step::Rows(1),
+        ],
+        None,
+        TOO_MANY,
+    ),
+];
+
+const BLANK: Step = Step::Piece(Piece::Blank {
+    count: 1,
+    has_tab: false,
+});
+
+const ROWS_AS_THEY_COME: &[Case<'static>] = &[
+    // A row is given as soon as a cell comes that it has no room for, or a break: by each piece the rows so far, and the open row's cells.
+    (
+        78,
+        ASCII,
+        &[
+            Step::Piece(Piece::Indent { first: 7, rest: 7 }),
+            Step::Rows(0),
+            Step::Open(0),
+            Step::Text("aaaaaaaaaaaaaaaaaaaaaaaaaaaaaaaaaaa"),
+            Step::Rows(0),
+            Step::Open(35),
+            BLANK,
+            Step::Rows(0),
+            Step::Open(35),
+            Step::Text("bbbbbbbbbbbbbbbbbbbbbbbbbbbbbbbbbbbb"),
+            Step::Rows(1),
+            Step::Open(36),
+            BLANK,
+            Step::Rows(1),
+            Step::Open(36),
+            Step::Text("c"),
+            Step::Rows(1),
+            Step::Open(38),
+            Step::Piece(Piece::Para(1)),
+            Step::Rows(3),
+            Step::Open(0),
+        ],
+        None,
+        "",
+    ),
+    // Nothing is taken after the end.
+    (
+        78,
+        ASCII,
+        &[
+            Step::Text("a"),
+            Step::End,
+            Step::Rows(1),
+            Step::Closed,
+            Step::Rows(1),
+        ],
+        Some("a\n"),
+        "",
+    ),
+    // Blank rows at the end are counted.
+    (
+        78,
+        ASCII,
+        &[
+            Step::BlankRows(1),
+            Step::Piece(Piece::Space(2)),
+            Step::BlankRows(3),
+            Step::Text("a"),
+            Step::BlankRows(3),
+            Step::Piece(Piece::Break),
+            Step::BlankRows(0),
+            Step::Text(" "),
+            Step::BlankRows(0),
+            Step::Piece(Piece::Para(3)),
+            Step::BlankRows(3),
+        ],
+        None,
+        "",
+    ),
+];
+
+// Gives 5 rows and 2 messages.
+const FIVE_ROWS: &[Step] = &[
+    Step::Text("abc"),
+    Step::Piece(Piece::Blank {
+        count: 1,
+        has_tab: true,
+    }),
+    Step::Text("defghi"),
+    Step::Piece(Piece::Break),
+    Step::Piece(Piece::Space(2)),
+    Step::Piece(Piece::Glyph {
+        name: b"zz",
+        font: Font::R,
+        place: HERE,
+    }),
+    Step::Piece(Piece::Heading),
+    Step::Piece(Piece::Para(1)),
+    Step::Piece(Piece::Indent { first: 1, rest: 1 }),
+];
+
+fn check_answer(rt: &impl Abort, got: Result<(), Fault>, wanted: Result<(), Fault>) {
+    assert_eq!(rt; got, wanted);
+}
+
+// So many calls of a sink, and so many of them that failed.
+type Calls = Option<(u32, u64)>;
+
+// Checks the calls of a sink, where these are compared.
+fn check_calls(rt: &impl Abort, sheet: &Sheet, wanted: Calls) {
+    if let Some((calls, failures)) = wanted {
+        assert!(rt; sheet.calls == calls, "{} calls", sheet.calls);
+        assert!(rt; sheet.failures == failures, "{} failures", sheet.failures);
     }
+}
+
+// How many rows and how many messages succeed, what is answered, and the calls of rows and of messages.
+const FAULTS: &[(u32, u32, Result<(), Fault>, Calls, Calls)] = &[
+    (0, 9, Err(Fault::WriteText), Some((1, 1)), None),
+    (1, 9, Err(Fault::WriteText), Some((2, 1)), None),
+    (2, 9, Err(Fault::WriteText), Some((3, 1)), None),
+    (3, 9, Err(Fault::WriteText), Some((4, 1)), None),
+    (4, 9, Err(Fault::WriteText), Some((5, 1)), None),
+    (5, 9, Ok(()), Some((5, 0)), Some((2, 0))),
+    (6, 9, Ok(()), Some((5, 0)), Some((2, 0))),
+    (9, 0, Err(Fault::WriteNotes), None, Some((1, 1))),
+    (9, 1, Err(Fault::WriteNotes), None, Some((2, 1))),
+    (9, 2, Ok(()), None, None),
+];
+
+fn check_fault(
+    rt: &(impl Abort + AllocGlobal),
+    rows: &mut Sheet,
+    notes: &mut Sheet,
+    wanted: Result<(), Fault>,
+) {
+    let answer = run(rt, &settings_of(6, ASCII), FIVE_ROWS, rows, notes);
+    check_answer(rt, answer, wanted);
+}
+
+#[test]
+fn each_row_and_message_may_fail(rt: HostRuntime) {
+    for (good_rows, good_notes, wanted, of_rows, of_notes) in FAULTS {
+        let mut rows = Sheet::new(rt.alloc(), *good_rows);
+        let mut notes = Sheet::new(rt.alloc(), *good_notes);
+        check_fault(&rt, &mut rows, &mut notes, *wanted);
+        check_calls(&rt, &rows, *of_rows);
+        check_calls(&rt, &notes, *of_notes);
+    }
+}
+
+#[test]
+fn scripts_give_rows(rt: HostRuntime) -> Result<(), Fail> {
+    check_scripts(&rt, SCRIPTS, "")?;
+    check_scripts(&rt, TABS, TAB)?;
     Ok(())
 }
 
-// Gives 4,096 cells as one word of 64 parts, each of 63 accents and a hyphen.
-fn give_parts<R: RowSink, N: NoteSink>(
-    filler: &mut Filler,
-    rows: &mut R,
-    notes: &mut N,
-) -> Result<(), Fault> {
-    for cell in 1..4097u32 {
-        if cell % 64 == 0 {
-            filler.piece(text("-"), rows, notes)?;
-            filler.piece(Piece::Split, rows, notes)?;
-        } else {
-            filler.piece(text("\u{301}"), rows, notes)?;
-        }
-    }
-    Ok(())
-}
-
-// A row of parts takes 4,096 cells, and ends before the part that passes the width, with no message.
 #[test]
-fn long_rows_of_parts_are_split(rt: HostRuntime) -> Result<(), Fail> {
-    let alloc = rt.alloc();
-    let mut settings = Settings::new();
-    settings.output = Output::Utf8;
-    for (width, is_literal, message) in [
-        (78, false, TOO_MANY),
-        (64, false, ""),
-        (64, true, TOO_MANY),
-    ] {
-        let mut messages = Vec::new(alloc);
-        let mut rows = Counter::new(9);
-        let mut notes = TextNotes::new(&mut messages, "t");
-        settings.width = width;
-        let mut filler = Filler::new(alloc, &settings)?;
-        filler.piece(Piece::Literal(is_literal), &mut rows, &mut notes)?;
-        give_parts(&mut filler, &mut rows, &mut notes)?;
-        check_count(&rt, filler.pending().len() as u32, 4096);
-        check_count(&rt, rows.calls, 0);
-        filler.piece(text("x"), &mut rows, &mut notes)?;
-        check_count(&rt, filler.pending().len() as u32, 1);
-        check_count(&rt, rows.calls, 1);
-        check_bytes(&rt, messages.as_slice(), message.as_bytes());
-    }
-    Ok(())
-}
-
-// A blank that would be cell 4,097 is dropped with its like; where rows are kept as they are it is a cell.
-#[test]
-fn blanks_of_a_full_row_are_dropped(rt: HostRuntime) -> Result<(), Fail> {
-    let alloc = rt.alloc();
-    let mut settings = Settings::new();
-    settings.output = Output::Utf8;
-    for (is_literal, cells) in [(true, 3), (false, 1)] {
-        let mut messages = Vec::new(alloc);
-        let mut rows = Counter::new(9);
-        let mut notes = TextNotes::new(&mut messages, "t");
-        let mut filler = Filler::new(alloc, &settings)?;
-        filler.piece(Piece::Literal(is_literal), &mut rows, &mut notes)?;
-        for _ in 0..4096 {
-            filler.piece(text("\u{301}"), &mut rows, &mut notes)?;
-        }
-        filler.piece(blank(2), &mut rows, &mut notes)?;
-        filler.piece(text("y"), &mut rows, &mut notes)?;
-        check_count(&rt, filler.pending().len() as u32, cells);
-        check_count(&rt, rows.calls, 1);
-        check_bytes(&rt, messages.as_slice(), TOO_MANY.as_bytes());
-    }
-    Ok(())
-}
-
-#[test]
-fn blank_rows_at_the_end_are_counted(rt: HostRuntime) -> Result<(), Fail> {
-    let alloc = rt.alloc();
-    let mut rows = Counter::new(99);
-    let mut notes = Counter::new(9);
-    let mut filler = Filler::new(alloc, &Settings::new())?;
-    check_count(&rt, filler.blank_rows(), 1);
-    for (piece, count) in [
-        (Piece::Space(2), 3),
-        (text("a"), 3),
-        (Piece::Break, 0),
-        (text(" "), 0),
-        (Piece::Para(3), 3),
-    ] {
-        filler.piece(piece, &mut rows, &mut notes)?;
-        check_count(&rt, filler.blank_rows(), count);
+fn steps_give_rows(rt: HostRuntime) -> Result<(), Fail> {
+    for cases in [WORDS, GLYPHS, LONG_ROWS, ROWS_AS_THEY_COME] {
+        check_cases(&rt, cases)?;
     }
     Ok(())
 }

@@ -13,33 +13,37 @@ use definitions::{show_mode, show_request};
 use heads::{show_end, show_guarded, show_head};
 use names::{Roff, show_register, show_string};
 use sources::{Page, repeated};
-use std::alloc::Global;
 use std::io;
 use texts::{show_condition, show_text};
 
 fn main(rt: HostRuntime) -> io::Result<()> {
-    let mut roff = Roff::new(rt.alloc())?;
-    let Ok(mut page) = Page::new(rt.alloc()) else {
-        return Ok(());
-    };
-    show_lines(&rt, &mut roff, &mut page)
-}
-
-// The lines of the input.
-fn show_lines(rt: &HostRuntime, roff: &mut Roff, page: &mut Page) -> io::Result<()> {
-    for line in rt.lines(rt.alloc()) {
-        let line = line?;
-        if line.as_str() == "new" && !restart(rt.alloc(), roff, page) {
-            return Ok(());
+    'parts: for _ in 0..u64::MAX {
+        if !show_part(&rt)? {
+            break 'parts;
         }
-        show_line(rt, roff, page, line.as_str());
     }
     Ok(())
 }
 
-// Begins with other names and another page. Answers whether there was memory for them.
-fn restart(alloc: Global, roff: &mut Roff, page: &mut Page) -> bool {
-    roff.restart(alloc).is_ok() && page.restart(alloc).is_ok()
+// Shows lines up to a line `new`, and answers whether one came. What the calls work on is made and dropped here alone, since this takes most of
+// the proof.
+fn show_part(rt: &HostRuntime) -> io::Result<bool> {
+    let mut roff = Roff::new(rt.alloc())?;
+    let Ok(mut page) = Page::new(rt.alloc()) else {
+        return Ok(false);
+    };
+    show_lines(rt, &mut roff, &mut page)
+}
+
+fn show_lines(rt: &HostRuntime, roff: &mut Roff, page: &mut Page) -> io::Result<bool> {
+    for line in rt.lines(rt.alloc()) {
+        let line = line?;
+        show_line(rt, roff, page, line.as_str());
+        if line.as_str() == "new" {
+            return Ok(true);
+        }
+    }
+    Ok(false)
 }
 
 // A line of the input, with what its call gives.

@@ -30,12 +30,6 @@ impl Roff {
         })
     }
 
-    /// Forgets all.
-    pub(crate) fn restart(&mut self, alloc: Global) -> Result<(), AllocError> {
-        *self = Roff::new(alloc)?;
-        Ok(())
-    }
-
     /// Changes what the calls work on, where this is such a call; it shows nothing: a definition NAME=VALUE of a string or a macro, the
     /// arguments of a macro that runs, each with a `;` after it, or the output.
     pub(crate) fn change(&mut self, call: &str, text: &str) {

@@ -26,12 +26,6 @@ impl Page {
         })
     }
 
-    /// Begins another page.
-    pub(crate) fn restart(&mut self, alloc: Global) -> Result<(), Fault> {
-        *self = Page::new(alloc)?;
-        Ok(())
-    }
-
     /// Runs a line of the page several times, and shows how many lines that takes, and what it gives.
     pub(crate) fn show_lines(&mut self, rt: &HostRuntime, times: u32, text: &str) {
         let before = self.roff.counts().taken;

@@ -2,10 +2,8 @@
 #![tactic(auto)]
 
 #[cfg(test)]
-mod fixtures;
+mod scripts;
 #[cfg(test)]
-mod limits;
+mod steps;
 #[cfg(test)]
-mod names;
-#[cfg(test)]
-mod texts;
+mod tests;

@@ -2,10 +2,12 @@
 #![tactic(auto)]
 
 #[cfg(test)]
-mod fixtures;
-#[cfg(test)]
 mod leaves;
 #[cfg(test)]
 mod loops;
 #[cfg(test)]
 mod regions;
+#[cfg(test)]
+mod scripts;
+#[cfg(test)]
+mod steps;

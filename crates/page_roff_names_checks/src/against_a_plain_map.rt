@@ -2,8 +2,8 @@
 
 use page_core_limits::DEFS;
 use page_roff_names::Names;
+use std::alloc::{AllocError, Global};
 use std::process::Abort;
-use std::test::Fail;
 
 /// What stands for a name: a macro or a string, and a part of the text as its value.
 #[derive(Clone, Copy)]
@@ -132,19 +132,22 @@ fn change(rt: &impl Abort, names: &mut Names, text: &[u8], plains: &mut [Plain],
     }
 }
 
-#[test]
-fn a_thousand_changes(rt: HostRuntime) -> Result<(), Fail> {
-    let alloc = rt.alloc();
-    let mut names = Names::new(alloc)?;
+fn text_of_changes(alloc: Global) -> Result<Vec<u8>, AllocError> {
     let mut text = vec![in alloc; b'.'; 10_000]?;
     for i in 0..text.len() {
         text[i] = (i % 251) as u8;
     }
+    Ok(text)
+}
+
+/// Makes a thousand changes, after each of which both hold the same.
+pub fn check_changes(rt: &(impl Abort + AllocGlobal), names: &mut Names) -> Result<(), AllocError> {
+    let text = text_of_changes(rt.alloc())?;
     let mut plains = [NOTHING; 26];
     let mut seed = 2_026u32;
     for _ in 0..1_000u32 {
-        change(&rt, &mut names, &text, &mut plains, &mut seed);
-        check_all(&rt, &mut names, &text, &plains);
+        change(rt, names, text.as_slice(), &mut plains, &mut seed);
+        check_all(rt, names, text.as_slice(), &plains);
     }
     Ok(())
 }

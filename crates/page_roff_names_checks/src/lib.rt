@@ -4,4 +4,6 @@
 #[cfg(test)]
 mod against_a_plain_map;
 #[cfg(test)]
+mod rows;
+#[cfg(test)]
 mod tests;

@@ -1,209 +1,187 @@
-//! Definitions, their limits, and the strings that are there before.
+//! Definitions, their limits, and the strings that are there before; and a thousand changes.
 
-use page_core_limits::Limit;
+use crate::against_a_plain_map::check_changes;
+use crate::rows::{Call, NO_VALUE, Row, check_rows};
 use page_roff_names::Names;
+use std::alloc::AllocError;
 use std::process::Abort;
 use std::test::Fail;
 
-fn check_done(rt: &impl Abort, done: Result<(), Limit>, want: &str) {
-    let got = match done {
-        Ok(()) => "",
-        Err(limit) => limit.name(),
-    };
-    assert_eq!(rt; got, want);
+const FOUR_LONG_STRINGS_AND_A_FIFTH: &[Row] = &[
+    (Call::DefineString, ("d", 1), ("x", 16_000), ""),
+    (Call::DefineString, ("b", 1), ("y", 16_000), ""),
+    (Call::DefineString, ("a", 1), ("x", 16_000), ""),
+    (Call::DefineString, ("c", 1), ("y", 16_000), ""),
+    (Call::DefineString, ("e", 1), ("y", 16_000), "DEFS"),
+    (Call::IsNothing, ("e", 1), NO_VALUE, ""),
+    (Call::IsString, ("b", 1), ("y", 16_000), ""),
+    (Call::Remove, ("b", 1), NO_VALUE, ""),
+    (Call::IsNothing, ("b", 1), NO_VALUE, ""),
+    (Call::DefineString, ("e", 1), ("y", 16_000), ""),
+    (Call::IsString, ("a", 1), ("x", 16_000), ""),
+    (Call::IsString, ("c", 1), ("y", 16_000), ""),
+    (Call::IsString, ("d", 1), ("x", 16_000), ""),
+    (Call::IsString, ("e", 1), ("y", 16_000), ""),
+];
+
+const A_NAME_HAS_64_BYTES: &[Row] = &[
+    (Call::DefineString, ("n", 64), ("v", 1), ""),
+    (Call::IsString, ("n", 64), ("v", 1), ""),
+    (Call::DefineString, ("n", 65), ("v", 1), "NAME"),
+    (Call::IsNothing, ("n", 65), NO_VALUE, ""),
+    (Call::SetRegister(7), ("n", 64), NO_VALUE, ""),
+    (Call::SetRegister(7), ("n", 65), NO_VALUE, "NAME"),
+    (Call::Rename, ("n", 64), ("n", 65), "NAME"),
+    (Call::IsString, ("n", 64), ("v", 1), ""),
+    (Call::IsNothing, ("n", 65), NO_VALUE, ""),
+];
+
+const A_BODY_HAS_16384_BYTES: &[Row] = &[
+    (Call::DefineMacro, ("m", 1), ("v", 16_385), "BODY"),
+    (Call::IsNothing, ("m", 1), NO_VALUE, ""),
+    (Call::DefineMacro, ("m", 1), ("v", 16_384), ""),
+    (Call::AppendMacro, ("m", 1), ("v", 1), "BODY"),
+    (Call::IsMacro, ("m", 1), ("v", 16_384), ""),
+    (Call::DefineString, ("m", 1), ("v", 16_385), "BODY"),
+    (Call::IsMacro, ("m", 1), ("v", 16_384), ""),
+    (Call::DefineString, ("n", 65), ("v", 16_385), "NAME"),
+    (Call::DefineString, ("x", 1), ("v", 16_384), ""),
+    (Call::DefineString, ("y", 1), ("v", 16_384), ""),
+    (Call::DefineString, ("z", 1), ("v", 16_384), "DEFS"),
+    (Call::DefineString, ("z", 1), ("v", 16_385), "BODY"),
+];
+
+const THERE_ARE_1024_NAMES: &[Row] = &[
+    (Call::DefineString, ("s", 1), ("string", 1), ""),
+    (Call::Fill(1_023), ("", 0), NO_VALUE, ""),
+    (Call::SetRegister(1), ("new", 1), NO_VALUE, "NAMES"),
+    (Call::DefineString, ("new", 1), ("v", 16_385), "NAMES"),
+    (Call::AppendMacro, ("new", 1), NO_VALUE, "NAMES"),
+    (Call::IsNothing, ("new", 1), NO_VALUE, ""),
+    (Call::SetRegister(-5), ("\u{3}\u{4}", 1), NO_VALUE, ""),
+    (Call::IsRegister(Some(-5)), ("\u{3}\u{4}", 1), NO_VALUE, ""),
+    (Call::Rename, ("s", 1), ("t", 1), ""),
+    (Call::RemoveRegister, ("\u{0}\u{0}", 1), NO_VALUE, ""),
+    (Call::DefineString, ("new", 1), ("string", 1), ""),
+    (Call::SetRegister(1), ("\u{0}\u{0}", 1), NO_VALUE, "NAMES"),
+    (Call::IsString, ("t", 1), ("string", 1), ""),
+];
+
+const A_REGISTER_HAS_A_NUMBER: &[Row] = &[
+    (Call::IsRegister(None), ("a", 1), NO_VALUE, ""),
+    (Call::SetRegister(2), ("b", 1), NO_VALUE, ""),
+    (Call::SetRegister(1), ("a", 1), NO_VALUE, ""),
+    (Call::DefineString, ("a", 1), ("string", 1), ""),
+    (Call::IsRegister(Some(1)), ("a", 1), NO_VALUE, ""),
+    (Call::IsRegister(Some(2)), ("b", 1), NO_VALUE, ""),
+    (Call::SetRegister(-3), ("a", 1), NO_VALUE, ""),
+    (Call::IsRegister(Some(-3)), ("a", 1), NO_VALUE, ""),
+    (Call::Remove, ("b", 1), NO_VALUE, ""),
+    (Call::IsRegister(Some(2)), ("b", 1), NO_VALUE, ""),
+    (Call::RemoveRegister, ("a", 1), NO_VALUE, ""),
+    (Call::IsRegister(None), ("a", 1), NO_VALUE, ""),
+    (Call::IsString, ("a", 1), ("string", 1), ""),
+];
+
+const STRINGS_AND_MACROS_SHARE_THEIR_NAMES: &[Row] = &[
+    (Call::AppendString, ("s", 1), ("ab", 1), ""),
+    (Call::AppendString, ("s", 1), ("cd", 1), ""),
+    (Call::IsString, ("s", 1), ("abcd", 1), ""),
+    (Call::AppendMacro, ("s", 1), ("line\n", 1), ""),
+    (Call::IsMacro, ("s", 1), ("line\n", 1), ""),
+    (Call::AppendMacro, ("s", 1), ("more\n", 1), ""),
+    (Call::IsMacro, ("s", 1), ("line\nmore\n", 1), ""),
+    (Call::AppendString, ("s", 1), ("ef", 1), ""),
+    (Call::IsString, ("s", 1), ("ef", 1), ""),
+    (Call::DefineMacro, ("m", 1), ("body\n", 1), ""),
+    (Call::Rename, ("none", 1), ("m", 1), ""),
+    (Call::IsMacro, ("m", 1), ("body\n", 1), ""),
+    (Call::Rename, ("m", 1), ("m", 1), ""),
+    (Call::IsMacro, ("m", 1), ("body\n", 1), ""),
+    (Call::Rename, ("m", 1), ("s", 1), ""),
+    (Call::IsMacro, ("s", 1), ("body\n", 1), ""),
+    (Call::IsNothing, ("m", 1), NO_VALUE, ""),
+];
+
+const SOME_STRINGS_ARE_THERE_BEFORE: &[Row] = &[
+    (Call::IsString, ("R", 1), ("\\(rg", 1), ""),
+    (Call::IsString, ("Tm", 1), ("(Tm)", 1), ""),
+    (Call::IsString, ("S", 1), ("", 1), ""),
+    (Call::IsString, ("lq", 1), ("\\(lq", 1), ""),
+    (Call::IsString, ("rq", 1), ("\\(rq", 1), ""),
+    (Call::IsString, ("q", 1), ("\\(dq", 1), ""),
+    (Call::IsString, ("Ba", 1), ("|", 1), ""),
+    (Call::IsString, ("Am", 1), ("&", 1), ""),
+    (Call::IsString, ("Lt", 1), ("<", 1), ""),
+    (Call::IsString, ("Gt", 1), (">", 1), ""),
+    (Call::IsString, ("Ne", 1), ("\\(!=", 1), ""),
+    (Call::IsString, ("Le", 1), ("\\(<=", 1), ""),
+    (Call::IsString, ("Ge", 1), ("\\(>=", 1), ""),
+    (Call::IsString, ("Pm", 1), ("\\(+-", 1), ""),
+];
+
+const A_DEFINITION_HIDES_A_PREDEFINED_STRING: &[Row] = &[
+    (Call::Remove, ("Tm", 1), NO_VALUE, ""),
+    (Call::Rename, ("Tm", 1), ("x", 1), ""),
+    (Call::IsNothing, ("x", 1), NO_VALUE, ""),
+    (Call::AppendString, ("Tm", 1), ("!", 1), ""),
+    (Call::IsString, ("Tm", 1), ("(Tm)!", 1), ""),
+    (Call::Remove, ("Tm", 1), NO_VALUE, ""),
+    (Call::IsString, ("Tm", 1), ("(Tm)", 1), ""),
+    (Call::AppendMacro, ("Tm", 1), ("line\n", 1), ""),
+    (Call::IsMacro, ("Tm", 1), ("line\n", 1), ""),
+    (Call::AppendString, ("Tm", 1), ("anew", 1), ""),
+    (Call::IsString, ("Tm", 1), ("anew", 1), ""),
+    (Call::Rename, ("Tm", 1), ("y", 1), ""),
+    (Call::IsString, ("Tm", 1), ("(Tm)", 1), ""),
+    (Call::IsString, ("y", 1), ("anew", 1), ""),
+];
+
+// What is checked over the names of a page from its beginning on.
+#[derive(Clone, Copy)]
+enum Check<'a> {
+    Rows(&'a [Row]),
+    // Changes beside a table that holds the same.
+    Changes,
 }
 
-fn check_string(rt: &impl Abort, names: &Names, name: &[u8], want: &[u8]) {
-    assert!(rt; names.string(name) == Some(want) && names.body(name).is_none());
-}
-
-fn check_body(rt: &impl Abort, names: &Names, name: &[u8], want: &[u8]) {
-    assert!(rt; names.body(name) == Some(want) && names.string(name).is_none());
-}
-
-fn check_nothing(rt: &impl Abort, names: &Names, name: &[u8]) {
-    assert!(rt; names.string(name).is_none() && names.body(name).is_none());
-}
-
-fn check_number(rt: &impl Abort, names: &Names, name: &[u8], want: i32) {
-    assert!(rt; names.register(name) == Some(want));
-}
-
-#[test]
-fn four_long_strings_and_a_fifth(rt: HostRuntime) -> Result<(), Fail> {
-    let alloc = rt.alloc();
-    let mut names = Names::new(alloc)?;
-    let x = vec![in alloc; b'x'; 16_000]?;
-    let y = vec![in alloc; b'y'; 16_000]?;
-    check_done(&rt, names.define_string(b"d", &x), "");
-    check_done(&rt, names.define_string(b"b", &y), "");
-    check_done(&rt, names.define_string(b"a", &x), "");
-    check_done(&rt, names.define_string(b"c", &y), "");
-    check_done(&rt, names.define_string(b"e", &y), "DEFS");
-    check_nothing(&rt, &names, b"e");
-    check_string(&rt, &names, b"b", &y);
-    names.remove(b"b");
-    check_nothing(&rt, &names, b"b");
-    check_done(&rt, names.define_string(b"e", &y), "");
-    check_string(&rt, &names, b"a", &x);
-    check_string(&rt, &names, b"c", &y);
-    check_string(&rt, &names, b"d", &x);
-    check_string(&rt, &names, b"e", &y);
-    Ok(())
-}
-
-#[test]
-fn a_name_has_64_bytes(rt: HostRuntime) -> Result<(), Fail> {
-    let alloc = rt.alloc();
-    let mut names = Names::new(alloc)?;
-    let longest = vec![in alloc; b'n'; 64]?;
-    let longer = vec![in alloc; b'n'; 65]?;
-    check_done(&rt, names.define_string(&longest, b"v"), "");
-    check_string(&rt, &names, &longest, b"v");
-    check_done(&rt, names.define_string(&longer, b"v"), "NAME");
-    check_nothing(&rt, &names, &longer);
-    check_done(&rt, names.set_register(&longest, 7), "");
-    check_done(&rt, names.set_register(&longer, 7), "NAME");
-    check_done(&rt, names.rename(&longest, &longer), "NAME");
-    check_string(&rt, &names, &longest, b"v");
-    check_nothing(&rt, &names, &longer);
-    Ok(())
-}
-
-#[test]
-fn a_body_has_16384_bytes(rt: HostRuntime) -> Result<(), Fail> {
-    let alloc = rt.alloc();
-    let mut names = Names::new(alloc)?;
-    let longest = vec![in alloc; b'v'; 16_384]?;
-    let longer = vec![in alloc; b'v'; 16_385]?;
-    let long_name = vec![in alloc; b'n'; 65]?;
-    check_done(&rt, names.define_macro(b"m", &longer), "BODY");
-    check_nothing(&rt, &names, b"m");
-    check_done(&rt, names.define_macro(b"m", &longest), "");
-    check_done(&rt, names.append_macro(b"m", b"v"), "BODY");
-    check_body(&rt, &names, b"m", &longest);
-    check_done(&rt, names.define_string(b"m", &longer), "BODY");
-    check_body(&rt, &names, b"m", &longest);
-    check_done(&rt, names.define_string(&long_name, &longer), "NAME");
-    check_done(&rt, names.define_string(b"x", &longest), "");
-    check_done(&rt, names.define_string(b"y", &longest), "");
-    check_done(&rt, names.define_string(b"z", &longest), "DEFS");
-    check_done(&rt, names.define_string(b"z", &longer), "BODY");
-    Ok(())
-}
-
-/// Gives `count` registers a number.
-fn fill(rt: &impl Abort, names: &mut Names, count: u32) {
-    for number in 0..count {
-        let name = [(number / 32 % 32) as u8, (number % 32) as u8];
-        check_done(rt, names.set_register(&name, 1), "");
+// Makes names, and checks this over them. It stands once, since what makes and drops them takes most of the proof.
+fn run(rt: &(impl Abort + AllocGlobal), check: Check<'_>) -> Result<(), AllocError> {
+    let mut names = Names::new(rt.alloc())?;
+    match check {
+        Check::Rows(rows) => check_rows(rt, &mut names, rows),
+        Check::Changes => check_changes(rt, &mut names),
     }
 }
 
 #[test]
-fn there_are_1024_names(rt: HostRuntime) -> Result<(), Fail> {
-    let alloc = rt.alloc();
-    let mut names = Names::new(alloc)?;
-    let longer = vec![in alloc; b'v'; 16_385]?;
-    check_done(&rt, names.define_string(b"s", b"string"), "");
-    fill(&rt, &mut names, 1_023);
-    check_done(&rt, names.set_register(b"new", 1), "NAMES");
-    check_done(&rt, names.define_string(b"new", &longer), "NAMES");
-    check_done(&rt, names.append_macro(b"new", b""), "NAMES");
-    check_nothing(&rt, &names, b"new");
-    check_done(&rt, names.set_register(&[3, 4], -5), "");
-    check_number(&rt, &names, &[3, 4], -5);
-    check_done(&rt, names.rename(b"s", b"t"), "");
-    names.remove_register(&[0, 0]);
-    check_done(&rt, names.define_string(b"new", b"string"), "");
-    check_done(&rt, names.set_register(&[0, 0], 1), "NAMES");
-    check_string(&rt, &names, b"t", b"string");
-    Ok(())
-}
-
-#[test]
-fn a_register_has_a_number(rt: HostRuntime) -> Result<(), Fail> {
-    let mut names = Names::new(rt.alloc())?;
-    assert!(rt; names.register(b"a").is_none());
-    check_done(&rt, names.set_register(b"b", 2), "");
-    check_done(&rt, names.set_register(b"a", 1), "");
-    check_done(&rt, names.define_string(b"a", b"string"), "");
-    check_number(&rt, &names, b"a", 1);
-    check_number(&rt, &names, b"b", 2);
-    check_done(&rt, names.set_register(b"a", -3), "");
-    check_number(&rt, &names, b"a", -3);
-    names.remove(b"b");
-    check_number(&rt, &names, b"b", 2);
-    names.remove_register(b"a");
-    assert!(rt; names.register(b"a").is_none());
-    check_string(&rt, &names, b"a", b"string");
-    Ok(())
-}
-
-#[test]
-fn strings_and_macros_share_their_names(rt: HostRuntime) -> Result<(), Fail> {
-    let mut names = Names::new(rt.alloc())?;
-    check_done(&rt, names.append_string(b"s", b"ab"), "");
-    check_done(&rt, names.append_string(b"s", b"cd"), "");
-    check_string(&rt, &names, b"s", b"abcd");
-    check_done(&rt, names.append_macro(b"s", b"line\n"), "");
-    check_body(&rt, &names, b"s", b"line\n");
-    check_done(&rt, names.append_macro(b"s", b"more\n"), "");
-    check_body(&rt, &names, b"s", b"line\nmore\n");
-    check_done(&rt, names.append_string(b"s", b"ef"), "");
-    check_string(&rt, &names, b"s", b"ef");
-    check_done(&rt, names.define_macro(b"m", b"body\n"), "");
-    check_done(&rt, names.rename(b"none", b"m"), "");
-    check_body(&rt, &names, b"m", b"body\n");
-    check_done(&rt, names.rename(b"m", b"m"), "");
-    check_body(&rt, &names, b"m", b"body\n");
-    check_done(&rt, names.rename(b"m", b"s"), "");
-    check_body(&rt, &names, b"s", b"body\n");
-    check_nothing(&rt, &names, b"m");
-    Ok(())
-}
-
-#[test]
-fn some_strings_are_there_before(rt: HostRuntime) -> Result<(), Fail> {
-    let names = Names::new(rt.alloc())?;
-    let table: [(&[u8], &[u8]); 14] = [
-        (b"R", b"\\(rg"),
-        (b"Tm", b"(Tm)"),
-        (b"S", b""),
-        (b"lq", b"\\(lq"),
-        (b"rq", b"\\(rq"),
-        (b"q", b"\\(dq"),
-        (b"Ba", b"|"),
-        (b"Am", b"&"),
-        (b"Lt", b"<"),
-        (b"Gt", b">"),
-        (b"Ne", b"\\(!="),
-        (b"Le", b"\\(<="),
-        (b"Ge", b"\\(>="),
-        (b"Pm", b"\\(+-"),
-    ];
-    for (name, want) in table {
-        check_string(&rt, &names, name, want);
+fn names_and_definitions_have_limits(rt: HostRuntime) -> Result<(), Fail> {
+    for rows in [
+        FOUR_LONG_STRINGS_AND_A_FIFTH,
+        A_NAME_HAS_64_BYTES,
+        A_BODY_HAS_16384_BYTES,
+        THERE_ARE_1024_NAMES,
+    ] {
+        run(&rt, Check::Rows(rows))?;
     }
     Ok(())
 }
 
 #[test]
-fn a_definition_hides_a_predefined_string(rt: HostRuntime) -> Result<(), Fail> {
-    let mut names = Names::new(rt.alloc())?;
-    names.remove(b"Tm");
-    check_done(&rt, names.rename(b"Tm", b"x"), "");
-    check_nothing(&rt, &names, b"x");
-    check_done(&rt, names.append_string(b"Tm", b"!"), "");
-    check_string(&rt, &names, b"Tm", b"(Tm)!");
-    names.remove(b"Tm");
-    check_string(&rt, &names, b"Tm", b"(Tm)");
-    check_done(&rt, names.append_macro(b"Tm", b"line\n"), "");
-    check_body(&rt, &names, b"Tm", b"line\n");
-    check_done(&rt, names.append_string(b"Tm", b"anew"), "");
-    check_string(&rt, &names, b"Tm", b"anew");
-    check_done(&rt, names.rename(b"Tm", b"y"), "");
-    check_string(&rt, &names, b"Tm", b"(Tm)");
-    check_string(&rt, &names, b"y", b"anew");
+fn names_have_their_definitions(rt: HostRuntime) -> Result<(), Fail> {
+    for rows in [
+        A_REGISTER_HAS_A_NUMBER,
+        STRINGS_AND_MACROS_SHARE_THEIR_NAMES,
+        SOME_STRINGS_ARE_THERE_BEFORE,
+        A_DEFINITION_HIDES_A_PREDEFINED_STRING,
+    ] {
+        run(&rt, Check::Rows(rows))?;
+    }
+    Ok(())
+}
+
+#[test]
+fn a_thousand_changes(rt: HostRuntime) -> Result<(), Fail> {
+    run(&rt, Check::Changes)?;
     Ok(())
 }

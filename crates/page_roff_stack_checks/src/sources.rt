@@ -7,6 +7,7 @@ use page_core_limits::{ARGS, BODY};
 use page_roff_blocks::{Atom, Branch, Ended, Head, Opening, Reached, loop_text};
 use page_roff_heads::{Condition, LoopHead, Test};
 use page_roff_stack::{InputStack, Next};
+use std::alloc::AllocError;
 use std::process::Abort;
 use std::test::Fail;
 
@@ -278,7 +279,7 @@ fn step(stack: &mut InputStack, macros: &[Macro], trace: &mut Trace) -> bool {
 }
 
 // Runs lines of the page, one after another, and answers what was shown.
-fn run(rt: &impl Abort, stack: &mut InputStack, macros: &[Macro], lines: &[&str]) -> Shown {
+fn run_lines(rt: &impl Abort, stack: &mut InputStack, macros: &[Macro], lines: &[&str]) -> Shown {
     let mut trace = Trace {
         shown: Shown::new(),
         text: Shown::new(),
@@ -311,131 +312,89 @@ const MACROS: &[Macro] = &[
     (b'i', ".while 2 \\{\n.ig\n"),
 ];
 
-fn check<R: Abort + AllocGlobal>(rt: &R, lines: &[&str], want: &str) -> Result<(), Fail> {
-    let mut stack = InputStack::new(rt.alloc())?;
-    let shown = run(rt, &mut stack, MACROS, lines);
-    assert_eq!(rt; shown.as_slice(), want.as_bytes(), "{want}");
-    Ok(())
-}
+// Lines of the page, and what is shown of them.
+type Case = (&'static [&'static str], &'static str);
 
-#[test]
-fn macros_inside_one_another(rt: HostRuntime) -> Result<(), Fail> {
-    check(
-        &rt,
-        &[".a y z"],
-        ".a y z|(one|.b x|(in|ner|last|x)three|y z)",
-    )?;
-    check(&rt, &[".a", "q"], ".a|(one|.b x|(in|ner|last|x)three|)q|")?;
-    check(&rt, &[".if n .b"], ".b|(in|ner|last|)")?;
-    check(&rt, &[""], "|")
-}
+const MACROS_INSIDE_ONE_ANOTHER: &[Case] = &[
+    (&[".a y z"], ".a y z|(one|.b x|(in|ner|last|x)three|y z)"),
+    (&[".a", "q"], ".a|(one|.b x|(in|ner|last|x)three|)q|"),
+    (&[".if n .b"], ".b|(in|ner|last|)"),
+    (&[""], "|"),
+];
 
-#[test]
-fn heads_of_a_line(rt: HostRuntime) -> Result<(), Fail> {
-    check(&rt, &[".if n .if n .if t x"], "")?;
-    check(&rt, &[".if n .if n .if n .if n x"], "x|")?;
-    check(&rt, &[".if n \\{a\\} b"], "a|b|")?;
-    check(&rt, &[".ie t x", ".el y", ".el z"], "y|")?;
-    check(&rt, &[".if t \\{", "x", ".b", "\\}", "z"], "z|")
-}
+const HEADS_OF_A_LINE: &[Case] = &[
+    (&[".if n .if n .if t x"], ""),
+    (&[".if n .if n .if n .if n x"], "x|"),
+    (&[".if n \\{a\\} b"], "a|b|"),
+    (&[".ie t x", ".el y", ".el z"], "y|"),
+    (&[".if t \\{", "x", ".b", "\\}", "z"], "z|"),
+];
 
-#[test]
-fn blocks_end_with_their_source(rt: HostRuntime) -> Result<(), Fail> {
-    check(&rt, &[".if n \\{", ".f", "\\}"], ".f|(!)")
-}
+const BLOCKS_END_WITH_THEIR_SOURCE: &[Case] = &[(&[".if n \\{", ".f", "\\}"], ".f|(!)")];
 
-#[test]
-fn regions(rt: HostRuntime) -> Result<(), Fail> {
-    check(&rt, &[".c"], ".c|([q]end|)")?;
-    check(&rt, &[".d", "z"], ".d|([q)z|")?;
-    check(&rt, &[".ig zZ", "q", ".zZ", "z"], "[q]z|")?;
-    check(
-        &rt,
-        &[".if t \\{", ".ig", "\\}", "..", "\\}", "z"],
-        "{\\}]z|",
-    )
-}
+const REGIONS: &[Case] = &[
+    (&[".c"], ".c|([q]end|)"),
+    (&[".d", "z"], ".d|([q)z|"),
+    (&[".ig zZ", "q", ".zZ", "z"], "[q]z|"),
+    (&[".if t \\{", ".ig", "\\}", "..", "\\}", "z"], "{\\}]z|"),
+];
 
-#[test]
-fn full_stack(rt: HostRuntime) -> Result<(), Fail> {
-    let calls = ".e|(.e|(.e|(.e|(.e|(.e|(.e|(.e|(.e|(.e|(.e|(.e|(.e|(.e|(.e|(.e|(.e|";
-    let ends = "z|)z|)z|)z|)z|)z|)z|)z|)z|)z|)z|)z|)z|)z|)z|)z|)";
-    let mut want = Shown::new();
-    show(&mut want, calls.as_bytes());
-    show(&mut want, ends.as_bytes());
-    let mut stack = InputStack::new(rt.alloc())?;
-    let shown = run(&rt, &mut stack, MACROS, &[".e"]);
-    assert_eq!(rt; shown.as_slice(), want.as_slice());
-    let again = run(&rt, &mut stack, MACROS, &[".e"]);
-    assert_eq!(rt; again.as_slice(), want.as_slice());
-    Ok(())
-}
+// The second line finds a stack as the first did.
+const FULL_STACK: &[Case] = &[(
+    &[".e", ".e"],
+    ".e|(.e|(.e|(.e|(.e|(.e|(.e|(.e|(.e|(.e|(.e|(.e|(.e|(.e|(.e|(.e|(.e|\
+        z|)z|)z|)z|)z|)z|)z|)z|)z|)z|)z|)z|)z|)z|)z|)z|)\
+        .e|(.e|(.e|(.e|(.e|(.e|(.e|(.e|(.e|(.e|(.e|(.e|(.e|(.e|(.e|(.e|(.e|\
+        z|)z|)z|)z|)z|)z|)z|)z|)z|)z|)z|)z|)z|)z|)z|)z|)",
+)];
 
-#[test]
-fn loops_of_the_page(rt: HostRuntime) -> Result<(), Fail> {
-    check(&rt, &[".while 2 x"], "<x|,x|>")?;
-    check(&rt, &[".while 0 x", "y"], ">y|")?;
-    check(
-        &rt,
-        &[".while 2 \\{a", "b", "c\\}d", "e"],
-        "<a|b|c|,a|b|c|>d|e|",
-    )?;
-    check(&rt, &[".while 2 \\{\\}", "z"], "<,>z|")?;
-    check(&rt, &[".if t .while 2 x", "z"], "z|")?;
-    check(&rt, &[".if t \\{.while 2 \\{", "\\}", "\\}", "z"], "z|")
-}
+const LOOPS_OF_THE_PAGE: &[Case] = &[
+    (&[".while 2 x"], "<x|,x|>"),
+    (&[".while 0 x", "y"], ">y|"),
+    (&[".while 2 \\{a", "b", "c\\}d", "e"], "<a|b|c|,a|b|c|>d|e|"),
+    (&[".while 2 \\{\\}", "z"], "<,>z|"),
+    (&[".if t .while 2 x", "z"], "z|"),
+    (&[".if t \\{.while 2 \\{", "\\}", "\\}", "z"], "z|"),
+];
 
-#[test]
-fn loops_of_macros(rt: HostRuntime) -> Result<(), Fail> {
-    check(
-        &rt,
+const LOOPS_OF_MACROS: &[Case] = &[
+    (
         &[".g w"],
         ".g w|(<x|.b y|(in|ner|last|y),x|.b y|(in|ner|last|y)w>z|w)",
-    )?;
-    check(
-        &rt,
+    ),
+    (
         &[".while 2 .b y"],
         "<.b y|(in|ner|last|y),.b y|(in|ner|last|y)>",
-    )?;
-    check(&rt, &[".i w", "z"], ".i w|({w)z|")
-}
+    ),
+    (&[".i w", "z"], ".i w|({w)z|"),
+];
 
-#[test]
-fn loops_inside_one_another(rt: HostRuntime) -> Result<(), Fail> {
-    check(&rt, &[".while 2 .while 2 x"], "<<x|,x|>,<x|,x|>>")?;
-    check(
-        &rt,
+const LOOPS_INSIDE_ONE_ANOTHER: &[Case] = &[
+    (&[".while 2 .while 2 x"], "<<x|,x|>,<x|,x|>>"),
+    (
         &[".while 2 \\{a", ".while 1 \\{b", "\\}", "c", "\\}"],
         "<a|<b|>c|,a|<b|>c|>",
-    )
-}
+    ),
+];
 
-#[test]
-fn turns_begin_outside_all_blocks_and_regions(rt: HostRuntime) -> Result<(), Fail> {
-    check(&rt, &[".while 2 .if n \\{a", "\\}"], "<a|,a|>!")?;
-    check(&rt, &[".while 2 .if t \\{a", "z"], "<,>z|")?;
-    check(&rt, &[".while 2 .ig", "z"], "<[?,[?>z|")?;
-    check(
-        &rt,
+const TURNS_BEGIN_OUTSIDE_ALL_BLOCKS_AND_REGIONS: &[Case] = &[
+    (&[".while 2 .if n \\{a", "\\}"], "<a|,a|>!"),
+    (&[".while 2 .if t \\{a", "z"], "<,>z|"),
+    (&[".while 2 .ig", "z"], "<[?,[?>z|"),
+    (
         &[".while 2 \\{", ".ig", "\\}", "..", "x", "\\}"],
         "{\\}]<[\\}]x|,[\\}]x|>",
-    )
-}
+    ),
+];
 
-#[test]
-fn full_stack_of_loops(rt: HostRuntime) -> Result<(), Fail> {
-    let calls = ".h|(.h|(.h|(.h|(.h|(.h|(.h|(.h|(.h|(.h|(.h|(.h|(.h|(.h|(.h|(.h|(.h|X)";
-    let ends = "<x|>)<x|>)<x|>)<x|>)<x|>)<x|>)<x|>)<x|>)<x|>)<x|>)<x|>)<x|>)<x|>)<x|>)<x|>)";
-    let mut want = Shown::new();
-    show(&mut want, calls.as_bytes());
-    show(&mut want, ends.as_bytes());
-    let mut stack = InputStack::new(rt.alloc())?;
-    let shown = run(&rt, &mut stack, MACROS, &[".h"]);
-    assert_eq!(rt; shown.as_slice(), want.as_slice());
-    let again = run(&rt, &mut stack, MACROS, &[".h"]);
-    assert_eq!(rt; again.as_slice(), want.as_slice());
-    Ok(())
-}
+// The second line finds a stack as the first did.
+const FULL_STACK_OF_LOOPS: &[Case] = &[(
+    &[".h", ".h"],
+    ".h|(.h|(.h|(.h|(.h|(.h|(.h|(.h|(.h|(.h|(.h|(.h|(.h|(.h|(.h|(.h|(.h|X)\
+        <x|>)<x|>)<x|>)<x|>)<x|>)<x|>)<x|>)<x|>)<x|>)<x|>)<x|>)<x|>)<x|>)<x|>)<x|>)\
+        .h|(.h|(.h|(.h|(.h|(.h|(.h|(.h|(.h|(.h|(.h|(.h|(.h|(.h|(.h|(.h|(.h|X)\
+        <x|>)<x|>)<x|>)<x|>)<x|>)<x|>)<x|>)<x|>)<x|>)<x|>)<x|>)<x|>)<x|>)<x|>)<x|>)",
+)];
 
 // Runs a loop whose turns all begin, and answers how many there were.
 fn all_turns(stack: &mut InputStack) -> u32 {
@@ -451,11 +410,9 @@ fn all_turns(stack: &mut InputStack) -> u32 {
     2000
 }
 
-#[test]
-fn turns_of_a_loop_end(rt: HostRuntime) -> Result<(), Fail> {
-    let mut stack = InputStack::new(rt.alloc())?;
-    let turns = all_turns(&mut stack);
-    assert_eq!(rt; turns, 1002);
+fn check_turns(rt: &impl Abort, stack: &mut InputStack) {
+    let turns = all_turns(stack);
+    assert!(rt; turns == 1002, "{turns} turns");
     let is_end = matches!(
         stack.peek(),
         Next::SourceEnd {
@@ -464,5 +421,68 @@ fn turns_of_a_loop_end(rt: HostRuntime) -> Result<(), Fail> {
         }
     );
     assert!(rt; is_end);
+}
+
+fn check_lines(rt: &impl Abort, stack: &mut InputStack, case: &Case) {
+    let (lines, want) = *case;
+    let shown = run_lines(rt, stack, MACROS, lines);
+    assert_eq!(rt; shown.as_slice(), want.as_bytes(), "{want}");
+}
+
+// What is checked over a stack from its first line on.
+#[derive(Clone, Copy)]
+enum Check<'a> {
+    Lines(&'a Case),
+    TurnsOfALoop,
+}
+
+// Makes a stack, and checks this over it. It stands once, since what makes and drops a stack takes most of the proof.
+fn run(rt: &(impl Abort + AllocGlobal), check: Check<'_>) -> Result<(), AllocError> {
+    let mut stack = InputStack::new(rt.alloc())?;
+    match check {
+        Check::Lines(case) => check_lines(rt, &mut stack, case),
+        Check::TurnsOfALoop => check_turns(rt, &mut stack),
+    }
+    Ok(())
+}
+
+fn check_all(rt: &(impl Abort + AllocGlobal), cases: &[Case]) -> Result<(), AllocError> {
+    for case in cases {
+        run(rt, Check::Lines(case))?;
+    }
+    Ok(())
+}
+
+#[test]
+fn sources_of_lines_and_macros(rt: HostRuntime) -> Result<(), Fail> {
+    for cases in [
+        MACROS_INSIDE_ONE_ANOTHER,
+        HEADS_OF_A_LINE,
+        BLOCKS_END_WITH_THEIR_SOURCE,
+        REGIONS,
+        FULL_STACK,
+    ] {
+        check_all(&rt, cases)?;
+    }
+    Ok(())
+}
+
+#[test]
+fn sources_of_loops(rt: HostRuntime) -> Result<(), Fail> {
+    for cases in [
+        LOOPS_OF_THE_PAGE,
+        LOOPS_OF_MACROS,
+        LOOPS_INSIDE_ONE_ANOTHER,
+        TURNS_BEGIN_OUTSIDE_ALL_BLOCKS_AND_REGIONS,
+        FULL_STACK_OF_LOOPS,
+    ] {
+        check_all(&rt, cases)?;
+    }
+    Ok(())
+}
+
+#[test]
+fn turns_of_a_loop_end(rt: HostRuntime) -> Result<(), Fail> {
+    run(&rt, Check::TurnsOfALoop)?;
     Ok(())
 }

@@ -91,6 +91,11 @@ fn read_line(text: &str, line: u32) -> Taken<'_> {
     }
 }
 
+/// Checks what was given.
+pub fn check_shown(rt: &impl Abort, got: &Shown, wanted: &str, at: &str) {
+    assert_eq!(rt; got.text(), wanted.as_bytes(), "of {at}");
+}
+
 /// Gives the lines of a script, with "|" after each.
 pub fn give_script(rt: &impl Abort, alloc: Global, out: &mut Shown, page: &mut Page, script: &str) {
     let mut number = 0u32;

@@ -4,7 +4,7 @@ ghost use Rattle.std.specs.Prelude.{◌≤◌, length};
 ghost use Rattle.page_scopes_phrases.specs.Fits.{ArgumentFits};
 ghost use Rattle.page_sets_lines.specs.Events.{word_seen};
 
-use crate::pages::{MOST, Page};
+use crate::pages::{MOST, Page, check_shown};
 use page_core_base::{Font, Place};
 use page_roff_forms::{Argument, Quoting};
 use page_scopes_leaves::{TagPlace, end_line, give_leaf, give_raw_line, give_tag};
@@ -13,7 +13,6 @@ use page_scopes_shown::Shown;
 use page_sets::{Join, Leaf, Own, OwnWord, Role, Word};
 use std::alloc::Global;
 use std::process::Abort;
-use std::test::Fail;
 
 // An argument in column 5.
 fn argument(text: &str, font: Option<Font>) -> Word<&[u8]>
@@ -67,31 +66,25 @@ fn tagged(
     out
 }
 
-#[test]
-fn tags(rt: HostRuntime) -> Result<(), Fail> {
-    let rows = [
-        (false, "ab", None, "{7 11}<4;1[ab]>{11 11}[text]"),
-        (
-            false,
-            "a b.",
-            Some(Font::B),
-            "{7 11}<4;1B[a]1B[b.]>{11 11}[text]",
-        ),
-        (false, "a\\c", None, "{7 11}<4;1[a]>{11 11}[text]"),
-        (true, "ab", None, "{7 11}<4;[ab]>{11 11}[text]="),
-        (false, "", None, "{7 11}<4;1[]>{11 11}[text]"),
-    ];
-    for (is_literal, tag, font, wanted) in rows {
-        let out = tagged(&rt, rt.alloc(), is_literal, tag, font);
-        assert_eq!(rt; out.text(), wanted.as_bytes(), "of {tag}");
-    }
-    Ok(())
-}
+// Whether rows are kept, a tag and its font, and what is given.
+type Row = (bool, &'static str, Option<Font>, &'static str);
+
+const TAGS: &[Row] = &[
+    (false, "ab", None, "{7 11}<4;1[ab]>{11 11}[text]"),
+    (
+        false,
+        "a b.",
+        Some(Font::B),
+        "{7 11}<4;1B[a]1B[b.]>{11 11}[text]",
+    ),
+    (false, "a\\c", None, "{7 11}<4;1[a]>{11 11}[text]"),
+    (true, "ab", None, "{7 11}<4;[ab]>{11 11}[text]="),
+    (false, "", None, "{7 11}<4;1[]>{11 11}[text]"),
+];
 
 // A mark keeps the sentence that ended before it, and stands in the page's font.
-#[test]
-fn marks(rt: HostRuntime) -> Result<(), Fail> {
-    let mut out = Shown::new(rt.alloc(), false);
+fn marked(alloc: Global) -> Shown {
+    let mut out = Shown::new(alloc, false);
     let mut page = Page::new();
     let (context, running) = (&mut page.context, &mut page.running);
     let place = Place {
@@ -110,6 +103,14 @@ fn marks(rt: HostRuntime) -> Result<(), Fail> {
     give_leaf(&mut out, place, &Leaf::Own(mark), &None, context, running);
     give_raw_line(&mut out, place, b"b", context, running);
     out.add_number(running.gap);
-    assert_eq!(rt; out.text(), b"1[a.][]][]]/L[b]=F1".as_slice());
-    Ok(())
+    out
+}
+
+#[test]
+fn tags_and_marks(rt: HostRuntime) {
+    for (is_literal, tag, font, wanted) in TAGS {
+        let out = tagged(&rt, rt.alloc(), *is_literal, tag, *font);
+        check_shown(&rt, &out, wanted, tag);
+    }
+    check_shown(&rt, &marked(rt.alloc()), "1[a.][]][]]/L[b]=F1", "marks");
 }

@@ -10,17 +10,9 @@ use page_sets_lines::{
     BlockCloser, BlockOpener, Closer, Deed, Event, FontMacro, HeadingName, Join, Leaf, LineOpener,
     Link, Marks, OneLineName, Opener, ParagraphName, Quotation, Request, Role, TagName, Word,
 };
-use std::alloc::Global;
+use std::alloc::{AllocError, Global};
 use std::process::Abort;
 use std::test::Fail;
-
-fn check_bytes(rt: &impl Abort, got: &[u8], wanted: &[u8]) {
-    assert_eq!(rt; got, wanted);
-}
-
-fn check_count(rt: &impl Abort, got: usize, wanted: usize) {
-    assert_eq!(rt; got, wanted);
-}
 
 // A scope's name, ")" and the level where one ends, and messages.
 #[derive(Drop)]
@@ -142,24 +134,46 @@ fn apply_letter(scopes: &mut ScopeStack<Nested>, out: &mut Shown, letter: u8) {
     scopes.apply(&event, out);
 }
 
-fn apply_letters(scopes: &mut ScopeStack<Nested>, out: &mut Shown, script: &str) {
-    for letter in script.as_bytes() {
-        apply_letter(scopes, out, *letter);
+// Applies an event as often as there may be scopes, and shows nothing of it.
+fn apply_often(alloc: Global, scopes: &mut ScopeStack<Nested>, letter: u8) {
+    let mut out = nothing(alloc);
+    for _ in 0..SCOPES {
+        apply_letter(scopes, &mut out, letter);
     }
 }
 
-// What the events of a script give, up to the page's end.
-fn given_by(alloc: Global, script: &str) -> Result<Shown, Fail> {
+// Applies the event of a letter, or what a sign stands for.
+fn apply_sign(alloc: Global, scopes: &mut ScopeStack<Nested>, out: &mut Shown, sign: u8) {
+    match sign {
+        b'*' => apply_often(alloc, scopes, b'R'),
+        b'/' => apply_often(alloc, scopes, b'r'),
+        b'#' => {
+            let depth = scopes.depth().min(1_000) as u32;
+            out.notation.brief.add_number(depth);
+        }
+        _ => apply_letter(scopes, out, sign),
+    }
+}
+
+fn apply_script(alloc: Global, scopes: &mut ScopeStack<Nested>, out: &mut Shown, script: &str) {
+    for sign in script.as_bytes() {
+        apply_sign(alloc, scopes, out, *sign);
+    }
+}
+
+// What the events of a script give, up to the page's end. A stack is made and dropped here alone, since this takes most of the proof.
+fn given_by(alloc: Global, script: &str) -> Result<Shown, AllocError> {
     let mut out = nothing(alloc);
     let mut scopes = ScopeStack::new(alloc, Nested { margin: 0 })?;
-    apply_letters(&mut scopes, &mut out, script);
+    apply_script(alloc, &mut scopes, &mut out, script);
     out.notation.brief.add(b" ");
     scopes.finish(1, &mut out);
     Ok(out)
 }
 
-// Letters as above; then what they give, and what the page's end gives.
-const CASES: [(&str, &str); 33] = [
+// Letters as above; then what they give, and what the page's end gives. A `#` shows how many scopes are open; `*` opens as many margins as there
+// may be scopes, and `/` closes as many, of which nothing is shown.
+const CASES: [(&str, &str); 34] = [
     ("RUr", "RSUR!BadNest UR;)1)0 "),
     ("R3", "RS!FewerRs; !MissingEnd RS;)0"),
     ("R0", "RS!FewerRs; !MissingEnd RS;)0"),
@@ -193,44 +207,28 @@ const CASES: [(&str, &str); 33] = [
     ("oaz", "!NotOpen Oc;!NotOpen Ac;!NotOpen Xc; "),
     ("Oqo", "OoBq)1)0 "),
     ("OHy", "Oo!MissingEnd Oo;)0SHXo !MissingEnd Xo;)1)0"),
+    // The 65th scope is refused; so is a paragraph, which passes over the rest of its line, as a description and a row that stands alone do. The
+    // words of an enclosure stay.
+    (
+        "*#RewETtwEwErRnwElwEqwEr#/",
+        "64!Limit SCOPES;w!Limit SCOPES;w)3RS!Limit SCOPES;!Limit SCOPES;!Limit SCOPES;w)363 ",
+    ),
 ];
+
+fn check_script(rt: &impl Abort, alloc: Global, script: &str, wanted: &str) -> Result<(), Fail> {
+    let given = given_by(alloc, script)?;
+    assert_eq!(rt;
+        given.notation.brief.text(),
+        wanted.as_bytes(),
+        "of {script}"
+    );
+    Ok(())
+}
 
 #[test]
 fn scopes_of_events(rt: HostRuntime) -> Result<(), Fail> {
     for (script, wanted) in CASES {
-        check_bytes(
-            &rt,
-            given_by(rt.alloc(), script)?.notation.brief.text(),
-            wanted.as_bytes(),
-        );
+        check_script(&rt, rt.alloc(), script, wanted)?;
     }
-    Ok(())
-}
-
-// The 65th scope is refused; so is a paragraph, which passes over the rest of its line, as a description and a row that stands alone do. The
-// words of an enclosure stay.
-#[test]
-fn a_scope_too_many(rt: HostRuntime) -> Result<(), Fail> {
-    let mut out = nothing(rt.alloc());
-    let mut scopes = ScopeStack::new(rt.alloc(), Nested { margin: 0 })?;
-    for _i in 0..SCOPES {
-        apply_letter(&mut scopes, &mut out, b'R');
-    }
-    check_count(&rt, scopes.depth(), SCOPES);
-    let mut out = nothing(rt.alloc());
-    apply_letters(&mut scopes, &mut out, "RewETtwEwEr");
-    check_bytes(
-        &rt,
-        out.notation.brief.text(),
-        b"!Limit SCOPES;w!Limit SCOPES;w)3",
-    );
-    let mut out = nothing(rt.alloc());
-    apply_letters(&mut scopes, &mut out, "RnwElwEqwEr");
-    check_bytes(
-        &rt,
-        out.notation.brief.text(),
-        b"RS!Limit SCOPES;!Limit SCOPES;!Limit SCOPES;w)3",
-    );
-    check_count(&rt, scopes.depth(), SCOPES - 1);
     Ok(())
 }

@@ -16,7 +16,12 @@ fn check_called(rt: &impl Abort, name: &str, want: Inline) {
     };
     assert!(rt; calls, "called by {name}");
     check_line(rt, name, LineMacro::Inline(want));
-    assert!(rt; is_parsed(name.as_bytes()), "parsed: {name}");
+    check_parsed(rt, name, true);
+}
+
+// Whether words of its line call.
+fn check_parsed(rt: &impl Abort, name: &str, want: bool) {
+    assert!(rt; is_parsed(name.as_bytes()) == want, "parsed: {name}");
 }
 
 fn check_line(rt: &impl Abort, name: &str, want: LineMacro) {
@@ -31,190 +36,147 @@ fn check_uncalled(rt: &impl Abort, name: &str) {
     assert!(rt; called(name.as_bytes()).is_none(), "called by {name}");
 }
 
-#[test]
-fn words_in_a_font(rt: HostRuntime) {
-    for (name, want) in [
-        ("Cm", Inline::Words(Font::B)),
-        ("Ic", Inline::Words(Font::B)),
-        ("Ms", Inline::Words(Font::B)),
-        ("Sy", Inline::Words(Font::B)),
-        ("Ad", Inline::Words(Font::I)),
-        ("Em", Inline::Words(Font::I)),
-        ("Mt", Inline::Words(Font::I)),
-        ("Sx", Inline::Words(Font::I)),
-        ("Va", Inline::Words(Font::I)),
-        ("At", Inline::Words(Font::R)),
-        ("Dv", Inline::Words(Font::R)),
-        ("Er", Inline::Words(Font::R)),
-        ("Ev", Inline::Words(Font::R)),
-        ("Li", Inline::Words(Font::R)),
-        ("No", Inline::Words(Font::R)),
-        ("Tn", Inline::Words(Font::R)),
-    ] {
-        check_called(&rt, name, want);
-    }
-}
+const WORDS_IN_A_FONT: &[(&str, Inline)] = &[
+    ("Cm", Inline::Words(Font::B)),
+    ("Ic", Inline::Words(Font::B)),
+    ("Ms", Inline::Words(Font::B)),
+    ("Sy", Inline::Words(Font::B)),
+    ("Ad", Inline::Words(Font::I)),
+    ("Em", Inline::Words(Font::I)),
+    ("Mt", Inline::Words(Font::I)),
+    ("Sx", Inline::Words(Font::I)),
+    ("Va", Inline::Words(Font::I)),
+    ("At", Inline::Words(Font::R)),
+    ("Dv", Inline::Words(Font::R)),
+    ("Er", Inline::Words(Font::R)),
+    ("Ev", Inline::Words(Font::R)),
+    ("Li", Inline::Words(Font::R)),
+    ("No", Inline::Words(Font::R)),
+    ("Tn", Inline::Words(Font::R)),
+];
 
-#[test]
-fn texts(rt: HostRuntime) {
-    for (name, want) in [
-        ("An", Inline::Author),
-        ("Cd", Inline::Declaration),
-        ("Ft", Inline::TypeName),
-        ("Vt", Inline::TypeName),
-        ("Fa", Inline::Arguments),
-        ("Nm", Inline::Name),
-        ("Ar", Inline::Defaulted(Defaulted::Files)),
-        ("Pa", Inline::Defaulted(Defaulted::Home)),
-        ("Fl", Inline::Flag),
-        ("Xr", Inline::Reference),
-        ("Fn", Inline::Function),
-        ("Lk", Inline::Link),
-        ("Ns", Inline::NoSpace),
-        ("Ap", Inline::Apostrophe),
-        ("Ta", Inline::NextColumn),
-        ("Pf", Inline::Prefix),
-        ("Bx", Inline::Bsd),
-        ("Bsx", Inline::System(System::BsdOs)),
-        ("Dx", Inline::System(System::DragonFly)),
-        ("Fx", Inline::System(System::FreeBsd)),
-        ("Nx", Inline::System(System::NetBsd)),
-        ("Ox", Inline::System(System::OpenBsd)),
-        ("Ux", Inline::System(System::Unix)),
-    ] {
-        check_called(&rt, name, want);
-    }
-}
+const TEXTS: &[(&str, Inline)] = &[
+    ("An", Inline::Author),
+    ("Cd", Inline::Declaration),
+    ("Ft", Inline::TypeName),
+    ("Vt", Inline::TypeName),
+    ("Fa", Inline::Arguments),
+    ("Nm", Inline::Name),
+    ("Ar", Inline::Defaulted(Defaulted::Files)),
+    ("Pa", Inline::Defaulted(Defaulted::Home)),
+    ("Fl", Inline::Flag),
+    ("Xr", Inline::Reference),
+    ("Fn", Inline::Function),
+    ("Lk", Inline::Link),
+    ("Ns", Inline::NoSpace),
+    ("Ap", Inline::Apostrophe),
+    ("Ta", Inline::NextColumn),
+    ("Pf", Inline::Prefix),
+    ("Bx", Inline::Bsd),
+    ("Bsx", Inline::System(System::BsdOs)),
+    ("Dx", Inline::System(System::DragonFly)),
+    ("Fx", Inline::System(System::FreeBsd)),
+    ("Nx", Inline::System(System::NetBsd)),
+    ("Ox", Inline::System(System::OpenBsd)),
+    ("Ux", Inline::System(System::Unix)),
+];
 
-#[test]
-fn enclosures(rt: HostRuntime) {
-    for (name, want) in [
-        ("Aq", Inline::Enclosure(Marks::Angle)),
-        ("Bq", Inline::Enclosure(Marks::Square)),
-        ("Op", Inline::Enclosure(Marks::Square)),
-        ("Brq", Inline::Enclosure(Marks::Curly)),
-        ("Pq", Inline::Enclosure(Marks::Round)),
-        ("Dq", Inline::Enclosure(Marks::Double)),
-        ("Sq", Inline::Enclosure(Marks::Single)),
-        ("Ql", Inline::Enclosure(Marks::Single)),
-        ("Qq", Inline::Enclosure(Marks::Straight)),
-    ] {
-        check_called(&rt, name, want);
-    }
-}
+const ENCLOSURES: &[(&str, Inline)] = &[
+    ("Aq", Inline::Enclosure(Marks::Angle)),
+    ("Bq", Inline::Enclosure(Marks::Square)),
+    ("Op", Inline::Enclosure(Marks::Square)),
+    ("Brq", Inline::Enclosure(Marks::Curly)),
+    ("Pq", Inline::Enclosure(Marks::Round)),
+    ("Dq", Inline::Enclosure(Marks::Double)),
+    ("Sq", Inline::Enclosure(Marks::Single)),
+    ("Ql", Inline::Enclosure(Marks::Single)),
+    ("Qq", Inline::Enclosure(Marks::Straight)),
+];
 
-#[test]
-fn enclosures_over_lines(rt: HostRuntime) {
-    for (opener, closer, pair) in [
-        ("Ao", "Ac", Pair::Quotation(Quotation::Ao)),
-        ("Bo", "Bc", Pair::Quotation(Quotation::Bo)),
-        ("Bro", "Brc", Pair::Quotation(Quotation::Bro)),
-        ("Do", "Dc", Pair::Quotation(Quotation::Do)),
-        ("Oo", "Oc", Pair::Quotation(Quotation::Oo)),
-        ("Po", "Pc", Pair::Quotation(Quotation::Po)),
-        ("Qo", "Qc", Pair::Quotation(Quotation::Qo)),
-        ("So", "Sc", Pair::Quotation(Quotation::So)),
-        ("Eo", "Ec", Pair::Custom),
-        ("Fo", "Fc", Pair::Function),
-        ("Xo", "Xc", Pair::Extension),
-    ] {
-        check_called(&rt, opener, Inline::Opens(pair));
-        check_called(&rt, closer, Inline::Closes(pair));
-    }
-}
+const ENCLOSURES_OVER_LINES: &[(&str, &str, Pair)] = &[
+    ("Ao", "Ac", Pair::Quotation(Quotation::Ao)),
+    ("Bo", "Bc", Pair::Quotation(Quotation::Bo)),
+    ("Bro", "Brc", Pair::Quotation(Quotation::Bro)),
+    ("Do", "Dc", Pair::Quotation(Quotation::Do)),
+    ("Oo", "Oc", Pair::Quotation(Quotation::Oo)),
+    ("Po", "Pc", Pair::Quotation(Quotation::Po)),
+    ("Qo", "Qc", Pair::Quotation(Quotation::Qo)),
+    ("So", "Sc", Pair::Quotation(Quotation::So)),
+    ("Eo", "Ec", Pair::Custom),
+    ("Fo", "Fc", Pair::Function),
+    ("Xo", "Xc", Pair::Extension),
+];
 
-#[test]
-fn macros_that_begin_a_line(rt: HostRuntime) {
-    for (name, want) in [
-        ("Fd", LineMacro::Inline(Inline::Declaration)),
-        ("Lb", LineMacro::Inline(Inline::Words(Font::R))),
-        ("St", LineMacro::Inline(Inline::Words(Font::R))),
-        ("Op", LineMacro::Inline(Inline::Enclosure(Marks::Square))),
-        ("Dd", LineMacro::Prologue(Prologue::Dd)),
-        ("Dt", LineMacro::Prologue(Prologue::Dt)),
-        ("Os", LineMacro::Prologue(Prologue::Os)),
-        ("Sh", LineMacro::Heading(HeadingName::Sh)),
-        ("Ss", LineMacro::Heading(HeadingName::Ss)),
-        ("Pp", LineMacro::Paragraph(BodyParagraphName::Pp)),
-        ("Lp", LineMacro::Paragraph(BodyParagraphName::Lp)),
-        ("Nd", LineMacro::Description),
-        ("D1", LineMacro::OneLine(OneLineName::D1)),
-        ("Dl", LineMacro::OneLine(OneLineName::Dl)),
-        ("Bd", LineMacro::Begins(Block::Display)),
-        ("Ed", LineMacro::Ends(Block::Display)),
-        ("Bf", LineMacro::Begins(Block::Fonts)),
-        ("Ef", LineMacro::Ends(Block::Fonts)),
-        ("Bk", LineMacro::Begins(Block::Keep)),
-        ("Ek", LineMacro::Ends(Block::Keep)),
-        ("Bl", LineMacro::Begins(Block::List)),
-        ("El", LineMacro::Ends(Block::List)),
-        ("Rs", LineMacro::Begins(Block::Reference)),
-        ("Re", LineMacro::Ends(Block::Reference)),
-        ("It", LineMacro::Item),
-        ("Ex", LineMacro::Sentence(Sentence::Exit)),
-        ("Rv", LineMacro::Sentence(Sentence::Return)),
-        ("In", LineMacro::Include),
-        ("Sm", LineMacro::Spacing),
-        ("Tg", LineMacro::Target),
-        ("%A", LineMacro::Field(Font::R)),
-        ("%B", LineMacro::Field(Font::I)),
-        ("%C", LineMacro::Field(Font::R)),
-        ("%D", LineMacro::Field(Font::R)),
-        ("%I", LineMacro::Field(Font::R)),
-        ("%J", LineMacro::Field(Font::I)),
-        ("%N", LineMacro::Field(Font::R)),
-        ("%O", LineMacro::Field(Font::R)),
-        ("%P", LineMacro::Field(Font::R)),
-        ("%Q", LineMacro::Field(Font::R)),
-        ("%R", LineMacro::Field(Font::R)),
-        ("%T", LineMacro::Field(Font::I)),
-        ("%U", LineMacro::Field(Font::R)),
-        ("%V", LineMacro::Field(Font::R)),
-    ] {
-        check_line(&rt, name, want);
-    }
-}
+const MACROS_THAT_BEGIN_A_LINE: &[(&str, LineMacro)] = &[
+    ("Fd", LineMacro::Inline(Inline::Declaration)),
+    ("Lb", LineMacro::Inline(Inline::Words(Font::R))),
+    ("St", LineMacro::Inline(Inline::Words(Font::R))),
+    ("Op", LineMacro::Inline(Inline::Enclosure(Marks::Square))),
+    ("Dd", LineMacro::Prologue(Prologue::Dd)),
+    ("Dt", LineMacro::Prologue(Prologue::Dt)),
+    ("Os", LineMacro::Prologue(Prologue::Os)),
+    ("Sh", LineMacro::Heading(HeadingName::Sh)),
+    ("Ss", LineMacro::Heading(HeadingName::Ss)),
+    ("Pp", LineMacro::Paragraph(BodyParagraphName::Pp)),
+    ("Lp", LineMacro::Paragraph(BodyParagraphName::Lp)),
+    ("Nd", LineMacro::Description),
+    ("D1", LineMacro::OneLine(OneLineName::D1)),
+    ("Dl", LineMacro::OneLine(OneLineName::Dl)),
+    ("Bd", LineMacro::Begins(Block::Display)),
+    ("Ed", LineMacro::Ends(Block::Display)),
+    ("Bf", LineMacro::Begins(Block::Fonts)),
+    ("Ef", LineMacro::Ends(Block::Fonts)),
+    ("Bk", LineMacro::Begins(Block::Keep)),
+    ("Ek", LineMacro::Ends(Block::Keep)),
+    ("Bl", LineMacro::Begins(Block::List)),
+    ("El", LineMacro::Ends(Block::List)),
+    ("Rs", LineMacro::Begins(Block::Reference)),
+    ("Re", LineMacro::Ends(Block::Reference)),
+    ("It", LineMacro::Item),
+    ("Ex", LineMacro::Sentence(Sentence::Exit)),
+    ("Rv", LineMacro::Sentence(Sentence::Return)),
+    ("In", LineMacro::Include),
+    ("Sm", LineMacro::Spacing),
+    ("Tg", LineMacro::Target),
+    ("%A", LineMacro::Field(Font::R)),
+    ("%B", LineMacro::Field(Font::I)),
+    ("%C", LineMacro::Field(Font::R)),
+    ("%D", LineMacro::Field(Font::R)),
+    ("%I", LineMacro::Field(Font::R)),
+    ("%J", LineMacro::Field(Font::I)),
+    ("%N", LineMacro::Field(Font::R)),
+    ("%O", LineMacro::Field(Font::R)),
+    ("%P", LineMacro::Field(Font::R)),
+    ("%Q", LineMacro::Field(Font::R)),
+    ("%R", LineMacro::Field(Font::R)),
+    ("%T", LineMacro::Field(Font::I)),
+    ("%U", LineMacro::Field(Font::R)),
+    ("%V", LineMacro::Field(Font::R)),
+];
 
-#[test]
-fn no_word_calls(rt: HostRuntime) {
-    for name in [
-        "Fd", "Lb", "St", "Dd", "Sh", "Nd", "D1", "Bd", "Ed", "It", "In", "Ex", "%A", "Sm",
-    ] {
-        check_uncalled(&rt, name);
-    }
-}
+const NO_WORD_CALLS: &[&str] = &[
+    "Fd", "Lb", "St", "Dd", "Sh", "Nd", "D1", "Bd", "Ed", "It", "In", "Ex", "%A", "Sm",
+];
 
-#[test]
-fn no_macros(rt: HostRuntime) {
-    for name in [
-        "", "O", "op", "OP", "Opx", "Op ", " Op", "TH", "Bt", "Ud", "En", "Fr", "%E", "%",
-    ] {
-        check_uncalled(&rt, name);
-        assert!(rt; line_macro(name.as_bytes()).is_none(), "begun by {name}");
-        assert!(rt; !is_parsed(name.as_bytes()), "parsed: {name}");
-    }
-}
+const NO_MACROS: &[&str] = &[
+    "", "O", "op", "OP", "Opx", "Op ", " Op", "TH", "Bt", "Ud", "En", "Fr", "%E", "%",
+];
 
-#[test]
-fn lines_in_which_words_call(rt: HostRuntime) {
-    for (name, want) in [
-        ("Sh", true),
-        ("Ss", true),
-        ("It", true),
-        ("D1", true),
-        ("Dl", true),
-        ("St", true),
-        ("Fd", false),
-        ("Lb", false),
-        ("Nd", false),
-        ("%A", false),
-        ("In", false),
-        ("Dd", false),
-        ("Bl", false),
-    ] {
-        assert!(rt; is_parsed(name.as_bytes()) == want, "parsed: {name}");
-    }
-}
+const LINES_IN_WHICH_WORDS_CALL: &[(&str, bool)] = &[
+    ("Sh", true),
+    ("Ss", true),
+    ("It", true),
+    ("D1", true),
+    ("Dl", true),
+    ("St", true),
+    ("Fd", false),
+    ("Lb", false),
+    ("Nd", false),
+    ("%A", false),
+    ("In", false),
+    ("Dd", false),
+    ("Bl", false),
+];
 
 fn check_delimiter(rt: &impl Abort, word: &str, want: Delimiter) {
     let is_one = match delimiter_of(word.as_bytes()) {
@@ -224,31 +186,90 @@ fn check_delimiter(rt: &impl Abort, word: &str, want: Delimiter) {
     assert!(rt; is_one, "delimiter: {word}");
 }
 
-#[test]
-fn delimiters(rt: HostRuntime) {
-    for (word, want) in [
-        ("(", Delimiter::Opening),
-        ("[", Delimiter::Opening),
-        ("|", Delimiter::Middle),
-        (".", Delimiter::Closing),
-        (",", Delimiter::Closing),
-        (":", Delimiter::Closing),
-        (";", Delimiter::Closing),
-        (")", Delimiter::Closing),
-        ("]", Delimiter::Closing),
-        ("?", Delimiter::Closing),
-        ("!", Delimiter::Closing),
-    ] {
-        check_delimiter(&rt, word, want);
+const DELIMITERS: &[(&str, Delimiter)] = &[
+    ("(", Delimiter::Opening),
+    ("[", Delimiter::Opening),
+    ("|", Delimiter::Middle),
+    (".", Delimiter::Closing),
+    (",", Delimiter::Closing),
+    (":", Delimiter::Closing),
+    (";", Delimiter::Closing),
+    (")", Delimiter::Closing),
+    ("]", Delimiter::Closing),
+    ("?", Delimiter::Closing),
+    ("!", Delimiter::Closing),
+];
+
+const NO_DELIMITERS: &[&str] = &["", "..", "()", "{", "<", "-", "a", "\\&."];
+
+fn check_all_called(rt: &impl Abort, rows: &[(&str, Inline)]) {
+    for (name, want) in rows {
+        check_called(rt, name, *want);
     }
 }
 
-#[test]
-fn no_delimiters(rt: HostRuntime) {
-    for word in ["", "..", "()", "{", "<", "-", "a", "\\&."] {
+fn check_pairs(rt: &impl Abort, rows: &[(&str, &str, Pair)]) {
+    for (opener, closer, pair) in rows {
+        check_called(rt, opener, Inline::Opens(*pair));
+        check_called(rt, closer, Inline::Closes(*pair));
+    }
+}
+
+fn check_lines(rt: &impl Abort, rows: &[(&str, LineMacro)]) {
+    for (name, want) in rows {
+        check_line(rt, name, *want);
+    }
+}
+
+fn check_all_uncalled(rt: &impl Abort, names: &[&str]) {
+    for name in names {
+        check_uncalled(rt, name);
+    }
+}
+
+fn check_no_macro(rt: &impl Abort, name: &str) {
+    check_uncalled(rt, name);
+    assert!(rt; line_macro(name.as_bytes()).is_none(), "begun by {name}");
+    check_parsed(rt, name, false);
+}
+
+fn check_no_macros(rt: &impl Abort, names: &[&str]) {
+    for name in names {
+        check_no_macro(rt, name);
+    }
+}
+
+fn check_all_parsed(rt: &impl Abort, rows: &[(&str, bool)]) {
+    for (name, want) in rows {
+        check_parsed(rt, name, *want);
+    }
+}
+
+fn check_delimiters(rt: &impl Abort, rows: &[(&str, Delimiter)]) {
+    for (word, want) in rows {
+        check_delimiter(rt, word, *want);
+    }
+}
+
+fn check_no_delimiters(rt: &impl Abort, words: &[&str]) {
+    for word in words {
         assert!(rt;
             delimiter_of(word.as_bytes()).is_none(),
             "delimiter: {word}"
         );
     }
+}
+
+#[test]
+fn names_of_the_table(rt: HostRuntime) {
+    check_all_called(&rt, WORDS_IN_A_FONT);
+    check_all_called(&rt, TEXTS);
+    check_all_called(&rt, ENCLOSURES);
+    check_pairs(&rt, ENCLOSURES_OVER_LINES);
+    check_lines(&rt, MACROS_THAT_BEGIN_A_LINE);
+    check_all_uncalled(&rt, NO_WORD_CALLS);
+    check_no_macros(&rt, NO_MACROS);
+    check_all_parsed(&rt, LINES_IN_WHICH_WORDS_CALL);
+    check_delimiters(&rt, DELIMITERS);
+    check_no_delimiters(&rt, NO_DELIMITERS);
 }
