@@ -150,7 +150,7 @@ fn words(rt: HostRuntime) {
             ),
             (
                 ".Fl , a",
-                "5 +delimiter R ,; 7 mark+ B -; 7 word B a; 1 filled",
+                "2 mark B -; 5 +delimiter R ,; 7 mark+ B -; 7 word B a; 1 filled",
             ),
             (".Fl Ar x", "2 mark+ B -; 8 word I x; 1 filled"),
             (
@@ -174,7 +174,15 @@ fn words(rt: HostRuntime) {
                 "5 word+ .; 7 close enclosures; 7 +delimiter R ,; 1 filled",
             ),
             (".Pf", "2 note empty Pf; 1 filled"),
-            (".Ns", "2 glue; 1 filled"),
+            (".Ns", "1 filled"),
+            (
+                ".Ns , a Em b",
+                "5 +delimiter R ,; 7 word a; 12 word I b; 1 filled",
+            ),
+            (
+                ".Op a Ns",
+                "2 scope Bq; 5 word a; 7 close enclosures; 7 glue; 1 filled",
+            ),
             (".Em a Ns Em b", "5 word I a; 7 glue; 13 word I b; 1 filled"),
             (".Ap s", "2 +mark+ '; 5 word s; 1 filled"),
             (
@@ -229,6 +237,10 @@ fn references_and_blocks_of_words(rt: HostRuntime) {
             (".Ox 7", "2 mark OpenBSD; 5 word 7; 1 filled"),
             (".Bx 4.3", "5 word 4.3; 2 +mark BSD; 1 filled"),
             (".Bx", "2 mark BSD; 1 filled"),
+            (
+                ".Bx 4.3 reno .",
+                "5 word 4.3; 2 +mark BSD; 2 +mark+ -; 9 +mark Reno; 14 close enclosures; 14 +delimiter R .; 1 filled",
+            ),
             (".Lk u t", "7 word I t; 2 +mark :; 2 uri u; 1 filled"),
             (".Lk u", "2 uri u; 1 filled"),
             (".Oo a", "2 open Oo; 5 word a; 1 filled"),
@@ -535,6 +547,10 @@ fn functions_and_declarations(rt: HostRuntime) {
                 ".Cd a , b .",
                 "2 row; 5 word B a; 7 +delimiter R ,; 9 word B b; 2 row; 11 close enclosures; 11 +delimiter R .; 1 filled",
             ),
+            (
+                ".Cd a Ns b",
+                "2 row; 5 word B a; 7 glue; 10 word b; 1 filled",
+            ),
             (".Op Cd a", "2 scope Bq; 5 row; 8 word B a; 5 row; 1 filled"),
             (".Cd", "2 note empty Cd; 1 filled"),
             (
@@ -600,9 +616,25 @@ fn sentences_and_spacing(rt: HostRuntime) {
         &rt,
         &[".Rv"],
         &[
-            "2 mark The; 2 manual; 2 +mark (); 2 mark ",
-            "function returns the value 0 if successful; otherwise the value -1 is returned ",
+            "2 mark Upon successful completion, the value 0 is returned; otherwise the value -1 is returned ",
             "and the global variable errno is set to indicate the error.; 1 filled",
+        ],
+    );
+}
+
+#[test]
+fn remarks(rt: HostRuntime) {
+    check_lines(
+        &rt,
+        &[
+            (".Ud", "2 mark currently under development.; 1 filled"),
+            (".Ud Em x .", "2 mark currently under development.; 1 filled"),
+            (".Bt", "2 mark is currently in beta test.; 1 filled"),
+            (
+                ".Bt \"x",
+                "5 note! quote; 2 mark is currently in beta test.; 1 filled",
+            ),
+            (".Em Ud", "5 word I Ud; 1 filled"),
         ],
     );
 }

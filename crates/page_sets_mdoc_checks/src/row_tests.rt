@@ -1,7 +1,9 @@
 //! The table of macros, row by row.
 
 use page_core_base::Font;
-use page_sets_lines::{BodyParagraphName, HeadingName, Marks, OneLineName, Prologue, Quotation};
+use page_sets_lines::{
+    BodyParagraphName, HeadingName, Marks, OneLineName, Own, Prologue, Quotation,
+};
 use page_sets_mdoc_rows::{
     Block, Defaulted, Delimiter, Inline, LineMacro, Pair, Sentence, System, called, delimiter_of,
     is_parsed, line_macro,
@@ -153,6 +155,9 @@ fn macros_that_begin_a_line(rt: HostRuntime) {
         ("It", LineMacro::Item),
         ("Ex", LineMacro::Sentence(Sentence::Exit)),
         ("Rv", LineMacro::Sentence(Sentence::Return)),
+        ("Bt", LineMacro::Remark(Own::BetaTest)),
+        ("Ud", LineMacro::Remark(Own::UnderDevelopment)),
+        ("Ns", LineMacro::NoSpace),
         ("In", LineMacro::Include),
         ("Sm", LineMacro::Spacing),
         ("Tg", LineMacro::Target),
@@ -178,7 +183,8 @@ fn macros_that_begin_a_line(rt: HostRuntime) {
 #[test]
 fn no_word_calls(rt: HostRuntime) {
     for name in [
-        "Fd", "Lb", "St", "Dd", "Sh", "Nd", "D1", "Bd", "Ed", "It", "In", "Ex", "%A", "Sm",
+        "Fd", "Lb", "St", "Dd", "Sh", "Nd", "D1", "Bd", "Ed", "It", "In", "Ex", "%A", "Sm", "Bt",
+        "Ud",
     ] {
         check_uncalled(&rt, name);
     }
@@ -187,7 +193,7 @@ fn no_word_calls(rt: HostRuntime) {
 #[test]
 fn no_macros(rt: HostRuntime) {
     for name in [
-        "", "O", "op", "OP", "Opx", "Op ", " Op", "TH", "Bt", "Ud", "En", "Fr", "%E", "%",
+        "", "O", "op", "OP", "Opx", "Op ", " Op", "TH", "En", "Fr", "%E", "%",
     ] {
         check_uncalled(&rt, name);
         assert!(rt; line_macro(name.as_bytes()).is_none(), "begun by {name}");

@@ -44,6 +44,17 @@ fn either(test: bool, step: Step, other: Step) -> Step
     if test { step } else { other }
 }
 
+// What an `Ns` does that ends the words of its line, or another.
+fn glue_front(is_last: bool) -> Front
+    ensures { result ≡ step_specs.glue_front is_last }
+{
+    if is_last {
+        Front::EndsEnclosures
+    } else {
+        Front::Glue
+    }
+}
+
 // The step of what opens a scope.
 fn opening(pair: Pair, taken: bool, extent: Extent, len: u32) -> Step
     ensures { result ≡ step_specs.opening pair taken extent len }
@@ -89,7 +100,7 @@ fn first_step(inline: Inline, taken: bool, extent: Extent, len: u32) -> Step
         ),
         Inline::Flag => either(
             extent.has_real,
-            Step::Flags(FlagStep::Dash),
+            Step::Flags(FlagStep::First),
             Step::Lone(Lone::Dash {
                 follows: extent.follows,
             }),
@@ -112,7 +123,7 @@ fn first_step(inline: Inline, taken: bool, extent: Extent, len: u32) -> Step
                 inside: extent.inside,
             }),
         ),
-        Inline::NoSpace => Step::Front(Front::Glue),
+        Inline::NoSpace => Step::Front(glue_front(extent.words == 0 && !extent.follows)),
         Inline::Apostrophe => Step::Front(Front::Apostrophe),
         Inline::NextColumn => Step::Front(Front::NextColumn),
         Inline::Prefix => either(
@@ -186,7 +197,7 @@ impl MacroWords {
                 count: count_of(extent.words, taken),
                 cursor,
             },
-            after: after_words(first, inline, extent.has_real),
+            after: after_words(first, inline, extent.has_real, extent.follows),
         }
     }
 }

@@ -41,6 +41,8 @@ pub enum Front {
     NextColumn,
     /// `Ns`.
     Glue,
+    /// `Ns` that ends the words of its line: it stands outside the enclosures.
+    EndsEnclosures,
     /// `Ap`.
     Apostrophe,
     /// `Bsx Dx Fx Nx Ox Ux`.
@@ -130,6 +132,7 @@ fn front_event<'a>(begun: Begun<'a>, front: Front) -> Event<&'a [u8]>
         Front::Refused { len } => refusal(begun, len),
         Front::NextColumn => step_event(number, column, LineStep::NextColumn),
         Front::Glue => step_event(number, column, LineStep::Glue),
+        Front::EndsEnclosures => event_at(number, column, Deed::Close(Closer::Enclosures)),
         Front::Apostrophe => {
             own_word(
                 number,
@@ -171,7 +174,18 @@ fn front_event<'a>(begun: Begun<'a>, front: Front) -> Event<&'a [u8]>
     }
 }
 
+// The step after it.
+fn front_after(front: Front) -> Step
+    ensures { result ≡ step_specs.front_after front }
+{
+    match front {
+        Front::EndsEnclosures => Step::Front(Front::Glue),
+        _ => Step::Printed(None),
+    }
+}
+
 /// What a macro does before its words, which come next.
+#[tactic(auto, using(crate::proofs::StepLemmas::front_goes_on))]
 pub(crate) fn next_front<'a>(
     begun: Begun<'a>,
     front: Front,
@@ -184,6 +198,6 @@ pub(crate) fn next_front<'a>(
 {
     Some(Given {
         event: front_event(begun, front),
-        step: Step::Printed(None),
+        step: front_after(front),
     })
 }
