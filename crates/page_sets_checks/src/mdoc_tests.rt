@@ -628,7 +628,10 @@ fn remarks(rt: HostRuntime) {
         &rt,
         &[
             (".Ud", "2 mark currently under development.; 1 filled"),
-            (".Ud Em x .", "2 mark currently under development.; 1 filled"),
+            (
+                ".Ud Em x .",
+                "2 mark currently under development.; 1 filled",
+            ),
             (".Bt", "2 mark is currently in beta test.; 1 filled"),
             (
                 ".Bt \"x",

@@ -120,9 +120,18 @@ fn references_and_functions(rt: HostRuntime) {
         ),
         (".Bx", "2 own BSD"),
         (".Bx 4 x", "5 word 4; 2 +own BSD; 2 +own+ -; 7 word x"),
-        (".Bx 4 tahoe", "5 word 4; 2 +own BSD; 2 +own+ -; 7 +own Tahoe"),
-        (".Bx 4 \"reno\"", "5 word 4; 2 +own BSD; 2 +own+ -; 8 word reno"),
-        (".Bx 4 | x", "5 word 4; 2 +own BSD; 7 delimiter R |; 9 word x"),
+        (
+            ".Bx 4 tahoe",
+            "5 word 4; 2 +own BSD; 2 +own+ -; 7 +own Tahoe",
+        ),
+        (
+            ".Bx 4 \"reno\"",
+            "5 word 4; 2 +own BSD; 2 +own+ -; 8 word reno",
+        ),
+        (
+            ".Bx 4 | x",
+            "5 word 4; 2 +own BSD; 7 delimiter R |; 9 word x",
+        ),
         (".Bx ( 4", "5 delimiter+ R (; 7 word 4; 2 +own BSD"),
         (".Bx | 4", "2 own BSD; 5 delimiter R |; 7 word 4"),
         (".Fx 2", "2 own FreeBSD; 5 word 2"),

@@ -1,6 +1,7 @@
 -- The first step of a macro gives all its events: helpers of proofs.
 use Rattle.std.proofs.Common.{◌≡◌, ℕ, zero, suc, ◌+◌, ◌-◌, ◌==◌, Bool, true, false, not, ◌&&◌, List, [], ◌∷◌, ◌++◌, length, take, drop, refl, sym, ap, ◌∙◌, arith, inl, inr, Option, None, Some, if◌then◌else◌}
 use Rattle.std.specs.List.{list_any, list_all}
+use Rattle.std.proofs.Math.Dec.{eqb-suc-zero}
 use Rattle.std.proofs.lemmas.Bool.{cases_Bool}
 use Rattle.page_core_base.specs.declared.cells.Font.TheVariants.{R, B, I}
 use Rattle.page_core_base.specs.LinesTaken.{Line}
@@ -47,7 +48,9 @@ glue_gives : (line : Line) (column : ℕ) (words : List (Argument (List ℕ))) (
     → step_events line column (steps.Front (glue_front (length words == 0 && not follows))) words ≡ no_space line.number column words follows
 glue_gives line column [] true = refl
 glue_gives line column [] false = refl
-glue_gives line column (word ∷ words) follows = refl
+glue_gives line column (word ∷ words) follows =
+    let some : (length (word ∷ words) == 0) ≡ false = eqb-suc-zero (length words) in
+    rw some refl
 
 -- where the macro takes no word as it stands
 none_gives : (line : Line) (column len : ℕ) (inline : Inline) (q : LineParts)

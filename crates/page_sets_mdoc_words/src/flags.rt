@@ -33,7 +33,7 @@ pub enum FlagStep {
 }
 
 // The dash before a flag.
-fn flag_dash(begun: Begun<'_>, word: Argument<&[u8]>) -> Given<'_>
+fn flag_dash<'a>(begun: Begun<'a>, word: Argument<&'a [u8]>) -> Given<'a>
     ensures event { event_seen result.event ≡ own_word begun.entry.line.line word.entry.column Dash (Some B) Apart Glued }
     ensures step { result.step ≡ steps.Flags flags.Flag }
 {

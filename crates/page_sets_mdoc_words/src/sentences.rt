@@ -171,7 +171,6 @@ fn beginning(sentence: Sentence, all: NameCount) -> (Own, Step)
 }
 
 // What begins it.
-#[tactic(auto, using(crate::proofs::SentenceLemmas::beginning_gives))]
 fn next_the<'a>(begun: Begun<'a>, sentence: Sentence, left: &mut WordsLeft) -> Option<Given<'a>>
     requires short { length begun.line.text.now ≤ LINE }
     requires within { IsCursorOf begun.line.text.now left.old.cursor }

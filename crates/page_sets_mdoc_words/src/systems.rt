@@ -36,7 +36,7 @@ pub enum VersionStep {
 }
 
 // The name.
-fn name(begun: Begun<'_>, before: Join) -> Event<&[u8]>
+fn name<'a>(begun: Begun<'a>, before: Join) -> Event<&'a [u8]>
     ensures { event_seen result ≡ own_word begun.entry.line.line begun.entry.column Bsd None before Apart }
 {
     own_word(
