@@ -142,7 +142,10 @@ fn words(rt: HostRuntime) {
                 ".Sy a Em b Ar",
                 "5 word B a; 10 word I b; 12 mark I file ...; 1 filled",
             ),
-            (".Em Ta", "2 note empty Em; 5 column; 1 filled"),
+            (
+                ".Em Ta",
+                "2 note empty Em; 5 close enclosures; 5 column; 1 filled",
+            ),
             (".Fl", "2 mark B -; 1 filled"),
             (
                 ".Fl a b",
@@ -698,12 +701,15 @@ fn items_and_columns(rt: HostRuntime) {
             ),
             (
                 ".It x Ta \"Ta\" y Ta ,",
-                "2 open It; 2 scope It; 5 word x; 7 column; 11 word \"Ta\"; 15 word y; 17 column; 20 close enclosures; \
+                "2 open It; 2 scope It; 5 word x; 7 close enclosures; 7 column; 11 word \"Ta\"; 15 word y; 17 close enclosures; 17 column; 20 close enclosures; \
                 20 +delimiter R ,; 1 filled",
             ),
             (".It \"x", "2 open It; 2 scope It; 6 word \"x; 1 filled"),
-            (".Ta", "2 column; 1 filled"),
-            (".Ta Em a", "2 column; 8 word I a; 1 filled"),
+            (".Ta", "2 close enclosures; 2 column; 1 filled"),
+            (
+                ".Ta Em a",
+                "2 close enclosures; 2 column; 8 word I a; 1 filled",
+            ),
         ],
     );
 }

@@ -12,6 +12,7 @@ use Rattle.page_sets_mdoc_words.specs.Inlines.{function_end}
 use Rattle.page_core_base.specs.LinesTaken.{Line}
 use Rattle.page_sets_mdoc_words.specs.declared.fronts.Front.{Front}
 use Rattle.page_sets_mdoc_words.specs.declared.fronts.Front.TheVariants as fronts
+use Rattle.page_sets_mdoc_words.specs.declared.fronts.Outer.TheVariants as outers
 use Rattle.page_sets_mdoc_words.specs.Steps.{front_after, front_rest, step_events, inside_events, function_events, is_opening_step, takes_comma, function_font, function_after}
 
 -- ---- before the words
@@ -21,7 +22,8 @@ pub front_goes_on : (line : Line) (column : ℕ) (front : Front) (words : List (
 front_goes_on line column (fronts.Refused len) words = refl
 front_goes_on line column fronts.NextColumn words = refl
 front_goes_on line column fronts.Glue words = refl
-front_goes_on line column fronts.EndsEnclosures words = refl
+front_goes_on line column (fronts.EndsEnclosures outers.Glue) words = refl
+front_goes_on line column (fronts.EndsEnclosures outers.NextColumn) words = refl
 front_goes_on line column fronts.Apostrophe words = refl
 front_goes_on line column (fronts.System system) words = refl
 front_goes_on line column (fronts.Enclosure marks) words = refl

@@ -13,6 +13,7 @@ use Rattle.page_sets_mdoc_words.specs.declared.flags.FlagStep.{FlagStep}
 use Rattle.page_sets_mdoc_words.specs.declared.flags.FlagStep.TheVariants as flag_steps
 use Rattle.page_sets_mdoc_words.specs.declared.fronts.Front.{Front}
 use Rattle.page_sets_mdoc_words.specs.declared.fronts.Front.TheVariants as fronts
+use Rattle.page_sets_mdoc_words.specs.declared.fronts.Outer.TheVariants as outers
 use Rattle.page_sets_mdoc_words.specs.declared.functions.FunctionStep.{FunctionStep}
 use Rattle.page_sets_mdoc_words.specs.declared.functions.FunctionStep.TheVariants as function_steps
 use Rattle.page_sets_mdoc_words.specs.declared.links.LinkStep.{LinkStep}
@@ -69,7 +70,7 @@ front_slices : (line : Line) (column : ℕ) (front : Front) → (is_word (front_
 front_slices line column (fronts.Refused len) = (refl, part_slice line.text (column - 1) len)
 front_slices line column fronts.NextColumn = (refl, tt)
 front_slices line column fronts.Glue = (refl, tt)
-front_slices line column fronts.EndsEnclosures = (refl, tt)
+front_slices line column (fronts.EndsEnclosures outer) = (refl, tt)
 front_slices line column fronts.Apostrophe = (refl, tt)
 front_slices line column (fronts.System system) = (refl, tt)
 front_slices line column (fronts.Enclosure marks) = (refl, tt)
@@ -86,7 +87,9 @@ front_rest_prints : (line : Line) (column : ℕ) (front : Front) (words : List (
 front_rest_prints line column (fronts.Refused len) words h = plain_rest line words h
 front_rest_prints line column fronts.NextColumn words h = plain_rest line words h
 front_rest_prints line column fronts.Glue words h = plain_rest line words h
-front_rest_prints line column fronts.EndsEnclosures words h =
+front_rest_prints line column (fronts.EndsEnclosures outers.Glue) words h =
+    own_first line.text 0 1 words _ _ refl tt (omega arith) (printed_prints line.text line.number None words h)
+front_rest_prints line column (fronts.EndsEnclosures outers.NextColumn) words h =
     own_first line.text 0 1 words _ _ refl tt (omega arith) (printed_prints line.text line.number None words h)
 front_rest_prints line column fronts.Apostrophe words h = plain_rest line words h
 front_rest_prints line column (fronts.System system) words h = plain_rest line words h

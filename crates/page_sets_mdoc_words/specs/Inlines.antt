@@ -272,15 +272,22 @@ closed number column pairs.Extension taken words =
 closed number column pairs.Function taken words =
     event_at number column (deeds.Close (ends.Block closers.Function)) ∷ printed number None words
 
--- ---- `Ns`
+-- ---- `Ns`, `Ta`
+
+abbrev pub ends_enclosures : ℕ → ℕ → Event (List ℕ)
+ends_enclosures number column = event_at number column (deeds.Close ends.Enclosures)
 
 abbrev pub glue : ℕ → ℕ → Event (List ℕ)
 glue number column = step_event number column steps.Glue
 
+-- the next column stands outside the enclosures
+abbrev pub next_column : ℕ → ℕ → List (Argument (List ℕ)) → List (Event (List ℕ))
+next_column number column words = ends_enclosures number column ∷ step_event number column steps.NextColumn ∷ printed number None words
+
 -- one that ends the words of its line stands outside the enclosures
 abbrev pub last_glue : ℕ → ℕ → Bool → List (Event (List ℕ))
 last_glue number column true = glue number column ∷ []
-last_glue number column false = event_at number column (deeds.Close ends.Enclosures) ∷ glue number column ∷ []
+last_glue number column false = ends_enclosures number column ∷ glue number column ∷ []
 
 abbrev pub no_space : ℕ → ℕ → List (Argument (List ℕ)) → Bool → List (Event (List ℕ))
 no_space number column [] follows = last_glue number column follows
@@ -309,7 +316,7 @@ inline_events number column name inlines.Link taken words follows = with_words n
 inline_events number column name inlines.NoSpace taken words follows = no_space number column words follows
 inline_events number column name inlines.Apostrophe taken words follows =
     own_word number column owns.Apostrophe None Glued Glued ∷ printed number None words
-inline_events number column name inlines.NextColumn taken words follows = step_event number column steps.NextColumn ∷ printed number None words
+inline_events number column name inlines.NextColumn taken words follows = next_column number column words
 inline_events number column name inlines.Prefix taken words follows = prefix number column name taken words
 inline_events number column name (inlines.Enclosure marks) taken words follows =
     event_at number column (deeds.LineScope (lines.Enclosure marks)) ∷ printed number None words

@@ -40,6 +40,8 @@ use Rattle.page_sets_mdoc_words.specs.declared.flags.FlagStep.{FlagStep}
 use Rattle.page_sets_mdoc_words.specs.declared.flags.FlagStep.TheVariants as flag_steps
 use Rattle.page_sets_mdoc_words.specs.declared.fronts.Front.{Front}
 use Rattle.page_sets_mdoc_words.specs.declared.fronts.Front.TheVariants as fronts
+use Rattle.page_sets_mdoc_words.specs.declared.fronts.Outer.{Outer}
+use Rattle.page_sets_mdoc_words.specs.declared.fronts.Outer.TheVariants as outers
 use Rattle.page_sets_mdoc_words.specs.declared.functions.FunctionStep.{FunctionStep}
 use Rattle.page_sets_mdoc_words.specs.declared.functions.FunctionStep.TheVariants as function_steps
 use Rattle.page_sets_mdoc_words.specs.declared.includes.IncludeStep.{IncludeStep}
@@ -67,7 +69,7 @@ use Rattle.page_sets_mdoc_words.specs.declared.steps.Begun.{Begun}
 use Rattle.page_sets_mdoc_words.specs.declared.steps.Given.{Given}
 use Rattle.page_sets_mdoc_words.specs.declared.steps.MacroWords.{MacroWords}
 use Rattle.page_sets_mdoc_words.specs.Printed.{printed_word, printed, own_word, step_event}
-use Rattle.page_sets_mdoc_words.specs.Inlines.{empty_macro, lone, named, manual_name, default_word, flags, flags_begun, lone_dash, section, reference, more_arguments, arguments, arguments_begin, next_arguments, opens_function, function_opened, function_words, function_end, system_word, bsd, variant, variant_word, glue, colon, uri_event, address, link_words, missing_quote, prefix_word, opens_custom, closes_custom, inline_events}
+use Rattle.page_sets_mdoc_words.specs.Inlines.{empty_macro, lone, named, manual_name, default_word, flags, flags_begun, lone_dash, section, reference, more_arguments, arguments, arguments_begin, next_arguments, opens_function, function_opened, function_words, function_end, system_word, bsd, variant, variant_word, ends_enclosures, glue, colon, uri_event, address, link_words, missing_quote, prefix_word, opens_custom, closes_custom, inline_events}
 use Rattle.page_sets_mdoc_words.specs.Synopses.{before_words, after_words, followed, framed}
 use Rattle.page_sets_mdoc_words.specs.Sentences.{is_zero, name_mark, marked, joined, names_events, sentence_word, mark_word, sentence_events, file_events, include_events}
 use Rattle.page_sets_mdoc_words.specs.WordsLeft.{words_left}
@@ -93,7 +95,7 @@ abbrev pub front_event : Line → ℕ → Front → Event (List ℕ)
 front_event line column (fronts.Refused len) = refusal line column len
 front_event line column fronts.NextColumn = step_event line.number column line_steps.NextColumn
 front_event line column fronts.Glue = glue line.number column
-front_event line column fronts.EndsEnclosures = event_at line.number column (deeds.Close closers.Enclosures)
+front_event line column (fronts.EndsEnclosures outer) = ends_enclosures line.number column
 front_event line column fronts.Apostrophe = own_word line.number column owns.Apostrophe None Glued Glued
 front_event line column (fronts.System system) = system_word line.number column system
 front_event line column (fronts.Enclosure marks) = event_at line.number column (deeds.LineScope (Enclosure marks))
@@ -101,14 +103,19 @@ front_event line column (fronts.Opens block) = event_at line.number column (deed
 front_event line column (fronts.Closes block) = event_at line.number column (deeds.Close (closers.Block (block_closer block)))
 front_event line column fronts.ClosesFunction = event_at line.number column (deeds.Close (closers.Block block_closers.Function))
 
+-- what stands outside the enclosures
+abbrev pub outer_front : Outer → Front
+outer_front outers.Glue = fronts.Glue
+outer_front outers.NextColumn = fronts.NextColumn
+
 -- the events after it
 abbrev pub front_rest : Line → ℕ → Front → List (Argument (List ℕ)) → List (Event (List ℕ))
-front_rest line column fronts.EndsEnclosures words = glue line.number column ∷ printed line.number None words
+front_rest line column (fronts.EndsEnclosures outer) words = front_event line column (outer_front outer) ∷ printed line.number None words
 front_rest line column _ words = printed line.number None words
 
 -- the step after it
 abbrev pub front_after : Front → Step
-front_after fronts.EndsEnclosures = steps.Front fronts.Glue
+front_after (fronts.EndsEnclosures outer) = steps.Front (outer_front outer)
 front_after _ = steps.Printed None
 
 -- ---- words that are taken
@@ -312,7 +319,7 @@ needs extent len step = if extent.has_real then step else steps.Front (fronts.Re
 
 -- an `Ns` that ends the words of its line, or another
 abbrev pub glue_front : Bool → Front
-glue_front true = fronts.EndsEnclosures
+glue_front true = fronts.EndsEnclosures outers.Glue
 glue_front false = fronts.Glue
 
 abbrev pub opening : Pair → Bool → Extent → ℕ → Step
@@ -346,7 +353,7 @@ first_step inlines.Bsd taken extent len = steps.Version version_steps.Version
 first_step inlines.Link taken extent len = needs extent len (steps.Link (link_steps.Address extent.inside))
 first_step inlines.NoSpace taken extent len = steps.Front (glue_front (extent.words == 0 && not extent.follows))
 first_step inlines.Apostrophe taken extent len = steps.Front fronts.Apostrophe
-first_step inlines.NextColumn taken extent len = steps.Front fronts.NextColumn
+first_step inlines.NextColumn taken extent len = steps.Front (fronts.EndsEnclosures outers.NextColumn)
 first_step inlines.Prefix taken extent len = if taken then steps.Taken takers.Prefix else steps.Front (fronts.Refused len)
 first_step (inlines.Enclosure marks) taken extent len = steps.Front (fronts.Enclosure marks)
 first_step (inlines.Opens pair) taken extent len = opening pair taken extent len

@@ -11,7 +11,7 @@ ghost use Rattle.page_sets_mdoc_words.specs.WordsLeft.{after_words};
 
 use crate::arguments::ArgumentStep;
 use crate::flags::FlagStep;
-use crate::fronts::{Front, WordBlock};
+use crate::fronts::{Front, Outer, WordBlock};
 use crate::functions::FunctionStep;
 use crate::links::LinkStep;
 use crate::names::Lone;
@@ -49,7 +49,7 @@ fn glue_front(is_last: bool) -> Front
     ensures { result ≡ step_specs.glue_front is_last }
 {
     if is_last {
-        Front::EndsEnclosures
+        Front::EndsEnclosures(Outer::Glue)
     } else {
         Front::Glue
     }
@@ -125,7 +125,7 @@ fn first_step(inline: Inline, taken: bool, extent: Extent, len: u32) -> Step
         ),
         Inline::NoSpace => Step::Front(glue_front(extent.words == 0 && !extent.follows)),
         Inline::Apostrophe => Step::Front(Front::Apostrophe),
-        Inline::NextColumn => Step::Front(Front::NextColumn),
+        Inline::NextColumn => Step::Front(Front::EndsEnclosures(Outer::NextColumn)),
         Inline::Prefix => either(
             taken,
             Step::Taken(Taker::Prefix),

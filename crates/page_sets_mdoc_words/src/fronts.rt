@@ -32,17 +32,26 @@ pub enum WordBlock {
     Extension,
 }
 
+/// What stands outside the enclosures.
+#[derive(Clone, Copy)]
+pub enum Outer {
+    /// `Ns` that ends the words of its line.
+    Glue,
+    /// `Ta`.
+    NextColumn,
+}
+
 /// What a macro does before it prints its words.
 #[derive(Clone, Copy)]
 pub enum Front {
     /// It lacks a word: a message with its name, of which this is the length.
     Refused { len: u32 },
-    /// `Ta`.
+    /// The next column, outside the enclosures.
     NextColumn,
     /// `Ns`.
     Glue,
-    /// `Ns` that ends the words of its line: it stands outside the enclosures.
-    EndsEnclosures,
+    /// The enclosures end before what stands outside them.
+    EndsEnclosures(Outer),
     /// `Ap`.
     Apostrophe,
     /// `Bsx Dx Fx Nx Ox Ux`.
@@ -132,7 +141,7 @@ fn front_event<'a>(begun: Begun<'a>, front: Front) -> Event<&'a [u8]>
         Front::Refused { len } => refusal(begun, len),
         Front::NextColumn => step_event(number, column, LineStep::NextColumn),
         Front::Glue => step_event(number, column, LineStep::Glue),
-        Front::EndsEnclosures => event_at(number, column, Deed::Close(Closer::Enclosures)),
+        Front::EndsEnclosures(_) => event_at(number, column, Deed::Close(Closer::Enclosures)),
         Front::Apostrophe => {
             own_word(
                 number,
@@ -179,7 +188,8 @@ fn front_after(front: Front) -> Step
     ensures { result ≡ step_specs.front_after front }
 {
     match front {
-        Front::EndsEnclosures => Step::Front(Front::Glue),
+        Front::EndsEnclosures(Outer::Glue) => Step::Front(Front::Glue),
+        Front::EndsEnclosures(Outer::NextColumn) => Step::Front(Front::NextColumn),
         _ => Step::Printed(None),
     }
 }
