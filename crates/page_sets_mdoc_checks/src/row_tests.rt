@@ -10,15 +10,20 @@ use page_sets_mdoc_rows::{
 };
 use std::process::Abort;
 
-// Checks what a name calls, on any line and at its front.
-fn check_called(rt: &impl Abort, name: &str, want: Inline) {
+// Checks what a name calls.
+fn check_calls(rt: &impl Abort, name: &str, want: Inline) {
     let calls = match called(name.as_bytes()) {
         Some(inline) => inline == want,
         None => false,
     };
     assert!(rt; calls, "called by {name}");
-    check_line(rt, name, LineMacro::Inline(want));
     assert!(rt; is_parsed(name.as_bytes()), "parsed: {name}");
+}
+
+// The same, on any line and at its front.
+fn check_called(rt: &impl Abort, name: &str, want: Inline) {
+    check_calls(rt, name, want);
+    check_line(rt, name, LineMacro::Inline(want));
 }
 
 fn check_line(rt: &impl Abort, name: &str, want: LineMacro) {
@@ -72,7 +77,6 @@ fn texts(rt: HostRuntime) {
         ("Xr", Inline::Reference),
         ("Fn", Inline::Function),
         ("Lk", Inline::Link),
-        ("Ns", Inline::NoSpace),
         ("Ap", Inline::Apostrophe),
         ("Ta", Inline::NextColumn),
         ("Pf", Inline::Prefix),
@@ -86,6 +90,7 @@ fn texts(rt: HostRuntime) {
     ] {
         check_called(&rt, name, want);
     }
+    check_calls(&rt, "Ns", Inline::NoSpace);
 }
 
 #[test]
