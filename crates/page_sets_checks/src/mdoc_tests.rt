@@ -71,7 +71,7 @@ fn blocks(rt: HostRuntime) {
             (".", "1 filled"),
             (".ZZ a", "2 note unknown ZZ; 1 filled"),
             (".SH X", "2 note unknown SH; 1 filled"),
-            (".Bt", "2 note unknown Bt; 1 filled"),
+            (".En", "2 note unknown En; 1 filled"),
         ],
     );
     assert!(rt; Mdoc.indent() == 5);
