@@ -2,8 +2,8 @@
 """Compares real pages with what the `mandoc` on the PATH prints of them (usage: bench/manuals.py FOLDER [LISTED [LANGUAGE]]).
 
 FOLDER holds pages as they are installed, packed or not, in any folders below it; those of the language are taken, man(7) unless it is `mdoc`.
-Pages with tables, equations or pictures, pages that only name another one, and pages with macros of mdoc(7) that print a text which the
-profile has not (`At Lb St`) are left aside. Headers and footers are left aside too, with the blank rows beside them. Printed are two
+Pages with tables, equations or pictures, pages that only name another one, pages with macros of mdoc(7) that print a text which the
+profile has not (`At Lb St`) or put one in another order (`Rs`), links, and pages with the same bytes as one before are left aside. Headers and footers are left aside too, with the blank rows beside them. Printed are two
 shares of the pages: those with the same words in the same order, and those with the same rows, margins and blank rows too. For the first
 LISTED pages (default 20) whose words differ, and for as many with the same words in other rows, it prints where they first differ: ours,
 then the other's. Blanks at a row's end do not count.
@@ -19,7 +19,7 @@ DATE = re.compile(rb"^[.'][ \t]*Dd\b", re.M)
 TITLE = re.compile(rb"^[.'][ \t]*TH\b", re.M)
 LEFT_ASIDE = {
     "man": re.compile(rb"^[.'][ \t]*(TS|EQ|PS|so)\b", re.M),
-    "mdoc": re.compile(rb"^[.'][ \t]*(TS|EQ|PS|so)\b|^[.'].*\b(At|Lb|St)\b", re.M),
+    "mdoc": re.compile(rb"^[.'][ \t]*(TS|EQ|PS|so)\b|^[.'].*\b(At|Lb|St|Rs)\b", re.M),
 }
 BROKEN = re.compile(rb"([A-Za-z]-)\n *(?=[A-Za-z])")
 OPTIONS = ["-T", "ascii", "-O", "width=78"]
@@ -34,16 +34,18 @@ def language_of(page):
 
 def pages(folder, language):
     """Yields the name and the bytes of each page of a language, in the order of their names."""
+    came = set()
     for base, folders, names in os.walk(folder):
         folders.sort()
         for name in sorted(names):
             path = os.path.join(base, name)
-            if not os.path.isfile(path):
+            if os.path.islink(path) or not os.path.isfile(path):
                 continue
             opening = gzip.open if name.endswith(".gz") else open
             with opening(path, "rb") as file:
                 page = file.read()
-            if language_of(page) == language and not LEFT_ASIDE[language].search(page):
+            if page not in came and language_of(page) == language and not LEFT_ASIDE[language].search(page):
+                came.add(page)
                 yield os.path.relpath(path, folder), page
 
 

@@ -22,6 +22,7 @@ use Rattle.page_sets_lines.specs.declared.leaves.Own.{Own}
 use Rattle.page_sets_lines.specs.declared.leaves.Own.TheVariants.{OpenParenthesis, CloseParenthesis, OpenBracket, CloseBracket, OpenAngle, CloseAngle, OpenBrace, CloseBrace, OpenDouble, CloseDouble, OpenSingle, CloseSingle, Straight, Comma, FullStop, Colon, Apostrophe, Dash}
 use Rattle.page_sets_lines.specs.declared.leaves.Own.TheVariants.{Flag, Files, Home, Bsd, BsdOs, DragonFly, FreeBsd, NetBsd, OpenBsd, Unix}
 use Rattle.page_sets_lines.specs.declared.leaves.Own.TheVariants.{Call, CallComma, Semicolon, Include, The, And, UtilityExits, UtilitiesExit, FunctionReturns, FunctionsReturn}
+use Rattle.page_sets_lines.specs.declared.leaves.Own.TheVariants.{CompletionReturns, UnderDevelopment, BetaTest, Reno, Tahoe}
 use Rattle.page_sets_lines.specs.Marks.{marks_name}
 
 abbrev pub paragraph_name : ParagraphName → List ℕ
@@ -117,6 +118,12 @@ own_text FunctionReturns =
     codes "function returns the value 0 if successful; otherwise the value -1 is returned and the global variable errno is set to indicate the error."
 own_text FunctionsReturn =
     codes "functions return the value 0 if successful; otherwise the value -1 is returned and the global variable errno is set to indicate the error."
+own_text CompletionReturns =
+    codes "Upon successful completion, the value 0 is returned; otherwise the value -1 is returned and the global variable errno is set to indicate the error."
+own_text UnderDevelopment = codes "currently under development."
+own_text BetaTest = codes "is currently in beta test."
+own_text Reno = codes "Reno"
+own_text Tahoe = codes "Tahoe"
 
 -- a word, which can end a sentence or go on with one; the others are marks
 abbrev pub own_is_word : Own → Bool
@@ -158,11 +165,19 @@ own_is_word UtilityExits = true
 own_is_word UtilitiesExit = true
 own_is_word FunctionReturns = true
 own_is_word FunctionsReturn = true
+own_is_word CompletionReturns = true
+own_is_word UnderDevelopment = true
+own_is_word BetaTest = true
+own_is_word Reno = true
+own_is_word Tahoe = true
 
--- of these only the sentences of `Ex` and `Rv` end one
+-- of these only the sentences of `Bt`, `Ex`, `Rv` and `Ud` end one
 abbrev pub own_ends_sentence : Own → Bool
 own_ends_sentence UtilityExits = true
 own_ends_sentence UtilitiesExit = true
 own_ends_sentence FunctionReturns = true
 own_ends_sentence FunctionsReturn = true
+own_ends_sentence CompletionReturns = true
+own_ends_sentence UnderDevelopment = true
+own_ends_sentence BetaTest = true
 own_ends_sentence _ = false

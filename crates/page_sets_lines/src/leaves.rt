@@ -103,6 +103,16 @@ pub enum Own {
     FunctionReturns,
     /// The sentence of `Rv` about several, from `functions` on.
     FunctionsReturn,
+    /// The sentence of `Rv` about none.
+    CompletionReturns,
+    /// The sentence of `Ud`.
+    UnderDevelopment,
+    /// The sentence of `Bt`.
+    BetaTest,
+    /// `Reno`
+    Reno,
+    /// `Tahoe`
+    Tahoe,
 }
 
 impl Own {
@@ -153,6 +163,13 @@ impl Own {
             Own::FunctionsReturn => {
                 "functions return the value 0 if successful; otherwise the value -1 is returned and the global variable errno is set to indicate the error."
             }
+            Own::CompletionReturns => {
+                "Upon successful completion, the value 0 is returned; otherwise the value -1 is returned and the global variable errno is set to indicate the error."
+            }
+            Own::UnderDevelopment => "currently under development.",
+            Own::BetaTest => "is currently in beta test.",
+            Own::Reno => "Reno",
+            Own::Tahoe => "Tahoe",
         }
     }
 
@@ -179,6 +196,11 @@ impl Own {
                 | Own::UtilitiesExit
                 | Own::FunctionReturns
                 | Own::FunctionsReturn
+                | Own::CompletionReturns
+                | Own::UnderDevelopment
+                | Own::BetaTest
+                | Own::Reno
+                | Own::Tahoe
         )
     }
 
@@ -188,7 +210,13 @@ impl Own {
     {
         matches!(
             self,
-            Own::UtilityExits | Own::UtilitiesExit | Own::FunctionReturns | Own::FunctionsReturn
+            Own::UtilityExits
+                | Own::UtilitiesExit
+                | Own::FunctionReturns
+                | Own::FunctionsReturn
+                | Own::CompletionReturns
+                | Own::UnderDevelopment
+                | Own::BetaTest
         )
     }
 }

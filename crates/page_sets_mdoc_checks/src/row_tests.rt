@@ -1,22 +1,29 @@
 //! The table of macros, row by row.
 
 use page_core_base::Font;
-use page_sets_lines::{BodyParagraphName, HeadingName, Marks, OneLineName, Prologue, Quotation};
+use page_sets_lines::{
+    BodyParagraphName, HeadingName, Marks, OneLineName, Own, Prologue, Quotation,
+};
 use page_sets_mdoc_rows::{
     Block, Defaulted, Delimiter, Inline, LineMacro, Pair, Sentence, System, called, delimiter_of,
     is_parsed, line_macro,
 };
 use std::process::Abort;
 
-// Checks what a name calls, on any line and at its front.
-fn check_called(rt: &impl Abort, name: &str, want: Inline) {
+// Checks what a name calls.
+fn check_calls(rt: &impl Abort, name: &str, want: Inline) {
     let calls = match called(name.as_bytes()) {
         Some(inline) => inline == want,
         None => false,
     };
     assert!(rt; calls, "called by {name}");
-    check_line(rt, name, LineMacro::Inline(want));
     check_parsed(rt, name, true);
+}
+
+// The same, on any line and at its front.
+fn check_called(rt: &impl Abort, name: &str, want: Inline) {
+    check_calls(rt, name, want);
+    check_line(rt, name, LineMacro::Inline(want));
 }
 
 // Whether words of its line call.
@@ -68,7 +75,6 @@ const TEXTS: &[(&str, Inline)] = &[
     ("Xr", Inline::Reference),
     ("Fn", Inline::Function),
     ("Lk", Inline::Link),
-    ("Ns", Inline::NoSpace),
     ("Ap", Inline::Apostrophe),
     ("Ta", Inline::NextColumn),
     ("Pf", Inline::Prefix),
@@ -135,6 +141,9 @@ const MACROS_THAT_BEGIN_A_LINE: &[(&str, LineMacro)] = &[
     ("It", LineMacro::Item),
     ("Ex", LineMacro::Sentence(Sentence::Exit)),
     ("Rv", LineMacro::Sentence(Sentence::Return)),
+    ("Bt", LineMacro::Remark(Own::BetaTest)),
+    ("Ud", LineMacro::Remark(Own::UnderDevelopment)),
+    ("Ns", LineMacro::NoSpace),
     ("In", LineMacro::Include),
     ("Sm", LineMacro::Spacing),
     ("Tg", LineMacro::Target),
@@ -155,11 +164,11 @@ const MACROS_THAT_BEGIN_A_LINE: &[(&str, LineMacro)] = &[
 ];
 
 const NO_WORD_CALLS: &[&str] = &[
-    "Fd", "Lb", "St", "Dd", "Sh", "Nd", "D1", "Bd", "Ed", "It", "In", "Ex", "%A", "Sm",
+    "Fd", "Lb", "St", "Dd", "Sh", "Nd", "D1", "Bd", "Ed", "It", "In", "Ex", "%A", "Sm", "Bt", "Ud",
 ];
 
 const NO_MACROS: &[&str] = &[
-    "", "O", "op", "OP", "Opx", "Op ", " Op", "TH", "Bt", "Ud", "En", "Fr", "%E", "%",
+    "", "O", "op", "OP", "Opx", "Op ", " Op", "TH", "En", "Fr", "%E", "%",
 ];
 
 const LINES_IN_WHICH_WORDS_CALL: &[(&str, bool)] = &[
@@ -264,6 +273,7 @@ fn check_no_delimiters(rt: &impl Abort, words: &[&str]) {
 fn names_of_the_table(rt: HostRuntime) {
     check_all_called(&rt, WORDS_IN_A_FONT);
     check_all_called(&rt, TEXTS);
+    check_calls(&rt, "Ns", Inline::NoSpace);
     check_all_called(&rt, ENCLOSURES);
     check_pairs(&rt, ENCLOSURES_OVER_LINES);
     check_lines(&rt, MACROS_THAT_BEGIN_A_LINE);

@@ -9,7 +9,27 @@ use Rattle.page_sets_mdoc_words.specs.declared.functions.FunctionStep.{FunctionS
 use Rattle.page_sets_mdoc_words.specs.declared.functions.FunctionStep.TheVariants as steps
 use Rattle.page_sets_mdoc_words.specs.Printed.{printed_word, own_word}
 use Rattle.page_sets_mdoc_words.specs.Inlines.{function_end}
-use Rattle.page_sets_mdoc_words.specs.Steps.{inside_events, function_events, is_opening_step, takes_comma, function_font, function_after}
+use Rattle.page_core_base.specs.LinesTaken.{Line}
+use Rattle.page_sets_mdoc_words.specs.declared.fronts.Front.{Front}
+use Rattle.page_sets_mdoc_words.specs.declared.fronts.Front.TheVariants as fronts
+use Rattle.page_sets_mdoc_words.specs.declared.fronts.Outer.TheVariants as outers
+use Rattle.page_sets_mdoc_words.specs.Steps.{front_after, front_rest, step_events, inside_events, function_events, is_opening_step, takes_comma, function_font, function_after}
+
+-- ---- before the words
+
+pub front_goes_on : (line : Line) (column : ℕ) (front : Front) (words : List (Argument (List ℕ)))
+    → step_events line column (front_after front) words ≡ front_rest line column front words
+front_goes_on line column (fronts.Refused len) words = refl
+front_goes_on line column fronts.NextColumn words = refl
+front_goes_on line column fronts.Glue words = refl
+front_goes_on line column (fronts.EndsEnclosures outers.Glue) words = refl
+front_goes_on line column (fronts.EndsEnclosures outers.NextColumn) words = refl
+front_goes_on line column fronts.Apostrophe words = refl
+front_goes_on line column (fronts.System system) words = refl
+front_goes_on line column (fronts.Enclosure marks) words = refl
+front_goes_on line column (fronts.Opens block) words = refl
+front_goes_on line column (fronts.Closes block) words = refl
+front_goes_on line column fronts.ClosesFunction words = refl
 
 -- ---- `Fn`
 

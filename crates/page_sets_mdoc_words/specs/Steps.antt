@@ -1,5 +1,5 @@
 -- The words of a macro, one after another: the code's own steps. The numbers in them say what is done with the words, whatever these are.
-use Rattle.std.specs.Prelude.{◌≡◌, ℕ, ◌+◌, ◌-◌, min, Bool, true, false, List, [], ◌∷◌, ◌++◌, length, take, drop, Option, None, Some, MatchOption, if◌then◌else◌}
+use Rattle.std.specs.Prelude.{◌≡◌, ℕ, ◌+◌, ◌-◌, min, ◌==◌, Bool, true, false, not, ◌&&◌, List, [], ◌∷◌, ◌++◌, length, take, drop, Option, None, Some, MatchOption, if◌then◌else◌}
 use Rattle.std.specs.List.{list_any}
 use Rattle.std.specs.Borrow.{Bor}
 use Rattle.page_core_base.specs.declared.cells.Font.{Font}
@@ -40,6 +40,8 @@ use Rattle.page_sets_mdoc_words.specs.declared.flags.FlagStep.{FlagStep}
 use Rattle.page_sets_mdoc_words.specs.declared.flags.FlagStep.TheVariants as flag_steps
 use Rattle.page_sets_mdoc_words.specs.declared.fronts.Front.{Front}
 use Rattle.page_sets_mdoc_words.specs.declared.fronts.Front.TheVariants as fronts
+use Rattle.page_sets_mdoc_words.specs.declared.fronts.Outer.{Outer}
+use Rattle.page_sets_mdoc_words.specs.declared.fronts.Outer.TheVariants as outers
 use Rattle.page_sets_mdoc_words.specs.declared.functions.FunctionStep.{FunctionStep}
 use Rattle.page_sets_mdoc_words.specs.declared.functions.FunctionStep.TheVariants as function_steps
 use Rattle.page_sets_mdoc_words.specs.declared.includes.IncludeStep.{IncludeStep}
@@ -49,6 +51,7 @@ use Rattle.page_sets_mdoc_words.specs.declared.sentences.NameCount.TheVariants a
 use Rattle.page_sets_mdoc_words.specs.declared.sentences.SentenceStep.{SentenceStep}
 use Rattle.page_sets_mdoc_words.specs.declared.sentences.SentenceStep.TheVariants as sentence_steps
 use Rattle.page_sets_mdoc_rows.specs.declared.blocks.Sentence.{Sentence}
+use Rattle.page_sets_mdoc_rows.specs.declared.blocks.Sentence.TheVariants.{Exit, Return}
 use Rattle.page_sets_mdoc_words.specs.declared.links.LinkStep.{LinkStep}
 use Rattle.page_sets_mdoc_words.specs.declared.links.LinkStep.TheVariants as link_steps
 use Rattle.page_sets_mdoc_words.specs.declared.names.Lone.{Lone}
@@ -66,9 +69,9 @@ use Rattle.page_sets_mdoc_words.specs.declared.steps.Begun.{Begun}
 use Rattle.page_sets_mdoc_words.specs.declared.steps.Given.{Given}
 use Rattle.page_sets_mdoc_words.specs.declared.steps.MacroWords.{MacroWords}
 use Rattle.page_sets_mdoc_words.specs.Printed.{printed_word, printed, own_word, step_event}
-use Rattle.page_sets_mdoc_words.specs.Inlines.{empty_macro, lone, named, manual_name, default_word, flags, lone_dash, section, reference, more_arguments, arguments, arguments_begin, next_arguments, opens_function, function_opened, function_words, function_end, system_word, bsd, colon, uri_event, address, link_words, missing_quote, prefix_word, opens_custom, closes_custom, inline_events}
+use Rattle.page_sets_mdoc_words.specs.Inlines.{empty_macro, lone, named, manual_name, default_word, flags, flags_begun, lone_dash, section, reference, more_arguments, arguments, arguments_begin, next_arguments, opens_function, function_opened, function_words, function_end, system_word, bsd, variant, variant_word, ends_enclosures, glue, colon, uri_event, address, link_words, missing_quote, prefix_word, opens_custom, closes_custom, inline_events}
 use Rattle.page_sets_mdoc_words.specs.Synopses.{before_words, after_words, followed, framed}
-use Rattle.page_sets_mdoc_words.specs.Sentences.{is_zero, name_mark, marked, joined, names_events, given_names, sentence_word, mark_word, sentence_events, file_events, include_events}
+use Rattle.page_sets_mdoc_words.specs.Sentences.{is_zero, name_mark, marked, joined, names_events, sentence_word, mark_word, sentence_events, file_events, include_events}
 use Rattle.page_sets_mdoc_words.specs.WordsLeft.{words_left}
 
 -- ---- before the words
@@ -91,13 +94,29 @@ block_closer blocks.Extension = block_closers.Extension
 abbrev pub front_event : Line → ℕ → Front → Event (List ℕ)
 front_event line column (fronts.Refused len) = refusal line column len
 front_event line column fronts.NextColumn = step_event line.number column line_steps.NextColumn
-front_event line column fronts.Glue = step_event line.number column line_steps.Glue
+front_event line column fronts.Glue = glue line.number column
+front_event line column (fronts.EndsEnclosures outer) = ends_enclosures line.number column
 front_event line column fronts.Apostrophe = own_word line.number column owns.Apostrophe None Glued Glued
 front_event line column (fronts.System system) = system_word line.number column system
 front_event line column (fronts.Enclosure marks) = event_at line.number column (deeds.LineScope (Enclosure marks))
 front_event line column (fronts.Opens block) = event_at line.number column (deeds.Open (openers.Block (block_opener block)))
 front_event line column (fronts.Closes block) = event_at line.number column (deeds.Close (closers.Block (block_closer block)))
 front_event line column fronts.ClosesFunction = event_at line.number column (deeds.Close (closers.Block block_closers.Function))
+
+-- what stands outside the enclosures
+abbrev pub outer_front : Outer → Front
+outer_front outers.Glue = fronts.Glue
+outer_front outers.NextColumn = fronts.NextColumn
+
+-- the events after it
+abbrev pub front_rest : Line → ℕ → Front → List (Argument (List ℕ)) → List (Event (List ℕ))
+front_rest line column (fronts.EndsEnclosures outer) words = front_event line column (outer_front outer) ∷ printed line.number None words
+front_rest line column _ words = printed line.number None words
+
+-- the step after it
+abbrev pub front_after : Front → Step
+front_after (fronts.EndsEnclosures outer) = steps.Front (outer_front outer)
+front_after _ = steps.Printed None
 
 -- ---- words that are taken
 
@@ -123,12 +142,16 @@ lone_event number column (lones.Dash follows) is_last = lone_dash number column 
 
 abbrev pub version_events : ℕ → ℕ → VersionStep → List (Argument (List ℕ)) → List (Event (List ℕ))
 version_events number column version_steps.Version words = bsd number column words
-version_events number column version_steps.Name words = own_word number column owns.Bsd None Glued Apart ∷ printed number None words
+version_events number column version_steps.Name words = own_word number column owns.Bsd None Glued Apart ∷ variant number column words
+version_events number column version_steps.Hyphen words = variant number column words
+version_events number column version_steps.Variant [] = []
+version_events number column version_steps.Variant (word ∷ words) = variant_word number word ∷ printed number None words
 
-abbrev pub flag_events : ℕ → FlagStep → List (Argument (List ℕ)) → List (Event (List ℕ))
-flag_events number flag_steps.Dash words = flags number words
-flag_events number flag_steps.Flag [] = []
-flag_events number flag_steps.Flag (word ∷ words) = printed_word number (Some B) word ∷ flags number words
+abbrev pub flag_events : ℕ → ℕ → FlagStep → List (Argument (List ℕ)) → List (Event (List ℕ))
+flag_events number column flag_steps.First words = flags_begun number column words
+flag_events number column flag_steps.Dash words = flags number words
+flag_events number column flag_steps.Flag [] = []
+flag_events number column flag_steps.Flag (word ∷ words) = printed_word number (Some B) word ∷ flags number words
 
 abbrev pub reference_events : ℕ → ReferenceStep → List (Argument (List ℕ)) → List (Event (List ℕ))
 reference_events number reference_steps.Name words = reference number words
@@ -201,10 +224,11 @@ include_step_events number column include_steps.Opening words = own_word number 
 include_step_events number column include_steps.File words = file_events number column words
 include_step_events number column include_steps.Closing words = own_word number column owns.CloseAngle None Glued Apart ∷ printed number None words
 
--- the step after the first word, before this many names
-abbrev pub beginning : NameCount → SentenceStep
-beginning counts.Zero = sentence_steps.ManualName
-beginning all = sentence_steps.Name all
+-- what begins a sentence of this many names, and the step after it
+abbrev pub beginning : Sentence → NameCount → Own × Step
+beginning Exit counts.Zero = (owns.The, steps.Sentence Exit sentence_steps.ManualName)
+beginning Return counts.Zero = (owns.CompletionReturns, steps.Printed None)
+beginning sentence all = (owns.The, steps.Sentence sentence (sentence_steps.Name all))
 
 -- the step after a name, and the one after what is glued to it, where this many names are left
 abbrev pub joining : NameCount → NameCount → SentenceStep
@@ -218,8 +242,7 @@ naming (Some own) all left = sentence_steps.Mark own all left
 abbrev pub sentence_step_events : ℕ → ℕ → Sentence → SentenceStep → List (Argument (List ℕ)) → List (Event (List ℕ))
 sentence_step_events number column sentence sentence_steps.The names = sentence_events number column sentence names
 sentence_step_events number column sentence sentence_steps.ManualName names =
-    step_event number column line_steps.ManualName
-    ∷ marked number column (name_mark sentence false) (names_events number column sentence counts.Zero names)
+    step_event number column line_steps.ManualName ∷ names_events number column sentence counts.Zero names
 sentence_step_events number column sentence (sentence_steps.Name all) names = names_events number column sentence all names
 sentence_step_events number column sentence (sentence_steps.Mark own all left) names =
     mark_word number column own ∷ joined number column left (names_events number column sentence all names)
@@ -231,13 +254,13 @@ sentence_step_events number column sentence (sentence_steps.And all) names =
 -- all events from a step on
 abbrev pub step_events : Line → ℕ → Step → List (Argument (List ℕ)) → List (Event (List ℕ))
 step_events line column (steps.Printed font) words = printed line.number font words
-step_events line column (steps.Front front) words = front_event line column front ∷ printed line.number None words
+step_events line column (steps.Front front) words = front_event line column front ∷ front_rest line column front words
 step_events line column (steps.Taken taker) words = taken_events line.number column taker words
 step_events line column steps.AuthorOption words = option_events line.number words
 step_events line column steps.Named words = named line.number column words
 step_events line column (steps.Lone single) words = lone line.number (lone_event line.number column single) words
 step_events line column (steps.Version step) words = version_events line.number column step words
-step_events line column (steps.Flags step) words = flag_events line.number step words
+step_events line column (steps.Flags step) words = flag_events line.number column step words
 step_events line column (steps.Reference step) words = reference_events line.number step words
 step_events line column (steps.Function step inside) words = function_events line.number column step inside words
 step_events line column (steps.Link step) words = link_events line column step words
@@ -294,6 +317,11 @@ ReadsPlain line font old result new =
 abbrev pub needs : Extent → ℕ → Step → Step
 needs extent len step = if extent.has_real then step else steps.Front (fronts.Refused len)
 
+-- an `Ns` that ends the words of its line, or another
+abbrev pub glue_front : Bool → Front
+glue_front true = fronts.EndsEnclosures outers.Glue
+glue_front false = fronts.Glue
+
 abbrev pub opening : Pair → Bool → Extent → ℕ → Step
 opening (pairs.Quotation quotation) taken extent len = steps.Front (fronts.Opens (blocks.Quotation quotation))
 opening pairs.Custom taken extent len = if taken then steps.Taken takers.Opens else steps.Front (fronts.Opens blocks.Custom)
@@ -317,15 +345,15 @@ first_step inlines.Name taken extent len = if extent.has_real then steps.Named e
 first_step (inlines.Defaulted default) taken extent len =
     if extent.has_real then steps.Printed (Some I) else steps.Lone (lones.Default default)
 first_step inlines.Flag taken extent len =
-    if extent.has_real then steps.Flags flag_steps.Dash else steps.Lone (lones.Dash extent.follows)
+    if extent.has_real then steps.Flags flag_steps.First else steps.Lone (lones.Dash extent.follows)
 first_step inlines.Reference taken extent len = needs extent len (steps.Reference reference_steps.Name)
 first_step inlines.Function taken extent len = needs extent len (steps.Function function_steps.Name extent.inside)
 first_step (inlines.System system) taken extent len = steps.Front (fronts.System system)
 first_step inlines.Bsd taken extent len = steps.Version version_steps.Version
 first_step inlines.Link taken extent len = needs extent len (steps.Link (link_steps.Address extent.inside))
-first_step inlines.NoSpace taken extent len = steps.Front fronts.Glue
+first_step inlines.NoSpace taken extent len = steps.Front (glue_front (extent.words == 0 && not extent.follows))
 first_step inlines.Apostrophe taken extent len = steps.Front fronts.Apostrophe
-first_step inlines.NextColumn taken extent len = steps.Front fronts.NextColumn
+first_step inlines.NextColumn taken extent len = steps.Front (fronts.EndsEnclosures outers.NextColumn)
 first_step inlines.Prefix taken extent len = if taken then steps.Taken takers.Prefix else steps.Front (fronts.Refused len)
 first_step (inlines.Enclosure marks) taken extent len = steps.Front (fronts.Enclosure marks)
 first_step (inlines.Opens pair) taken extent len = opening pair taken extent len
@@ -357,5 +385,5 @@ begun_events line column len inline parts =
 -- the same with what it does in the SYNOPSIS
 abbrev pub placed_begun : Bool → Line → ℕ → ℕ → Inline → LineParts → List (Event (List ℕ))
 placed_begun first line column len inline parts =
-    framed line.number column (before_words first inline (list_any is_real parts.words)) (after_words first inline (list_any is_real parts.words))
+    framed line.number column (before_words first inline (list_any is_real parts.words)) (after_words first inline (list_any is_real parts.words) (has_calls parts.calls))
     (begun_events line column len inline parts)

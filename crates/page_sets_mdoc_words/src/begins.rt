@@ -11,7 +11,7 @@ ghost use Rattle.page_sets_mdoc_words.specs.WordsLeft.{after_words};
 
 use crate::arguments::ArgumentStep;
 use crate::flags::FlagStep;
-use crate::fronts::{Front, WordBlock};
+use crate::fronts::{Front, Outer, WordBlock};
 use crate::functions::FunctionStep;
 use crate::links::LinkStep;
 use crate::names::Lone;
@@ -42,6 +42,17 @@ fn either(test: bool, step: Step, other: Step) -> Step
     ensures { result ≡ (if test then step else other) }
 {
     if test { step } else { other }
+}
+
+// What an `Ns` does that ends the words of its line, or another.
+fn glue_front(is_last: bool) -> Front
+    ensures { result ≡ step_specs.glue_front is_last }
+{
+    if is_last {
+        Front::EndsEnclosures(Outer::Glue)
+    } else {
+        Front::Glue
+    }
 }
 
 // The step of what opens a scope.
@@ -89,7 +100,7 @@ fn first_step(inline: Inline, taken: bool, extent: Extent, len: u32) -> Step
         ),
         Inline::Flag => either(
             extent.has_real,
-            Step::Flags(FlagStep::Dash),
+            Step::Flags(FlagStep::First),
             Step::Lone(Lone::Dash {
                 follows: extent.follows,
             }),
@@ -112,9 +123,9 @@ fn first_step(inline: Inline, taken: bool, extent: Extent, len: u32) -> Step
                 inside: extent.inside,
             }),
         ),
-        Inline::NoSpace => Step::Front(Front::Glue),
+        Inline::NoSpace => Step::Front(glue_front(extent.words == 0 && !extent.follows)),
         Inline::Apostrophe => Step::Front(Front::Apostrophe),
-        Inline::NextColumn => Step::Front(Front::NextColumn),
+        Inline::NextColumn => Step::Front(Front::EndsEnclosures(Outer::NextColumn)),
         Inline::Prefix => either(
             taken,
             Step::Taken(Taker::Prefix),
@@ -186,7 +197,7 @@ impl MacroWords {
                 count: count_of(extent.words, taken),
                 cursor,
             },
-            after: after_words(first, inline, extent.has_real),
+            after: after_words(first, inline, extent.has_real, extent.follows),
         }
     }
 }

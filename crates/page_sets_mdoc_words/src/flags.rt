@@ -1,27 +1,85 @@
 //! `Fl`: flags, each with a dash before it (mdoc(7), "Fl").
 
-ghost use Rattle.std.specs.Prelude.{◌≤◌, length};
+ghost use Rattle.std.specs.Prelude.{◌≡◌, ◌≤◌, Some, length};
+ghost use Rattle.page_core_base.specs.declared.cells.Font.TheVariants.{B};
+ghost use Rattle.page_sets_lines.specs.declared.events.Join.TheVariants.{Apart, Glued};
+ghost use Rattle.page_sets_lines.specs.declared.leaves.Own.TheVariants.{Dash};
+ghost use Rattle.page_sets_lines.specs.Events.{event_seen};
 ghost use Rattle.page_sets_mdoc_lines.specs.Cursors.{IsCursorOf};
 ghost use Rattle.page_sets_mdoc_words.specs.declared.flags.FlagStep.TheVariants as flags;
 ghost use Rattle.page_sets_mdoc_words.specs.declared.steps.Step.TheVariants as steps;
+ghost use Rattle.page_sets_mdoc_words.specs.Printed.{own_word};
 ghost use Rattle.page_sets_mdoc_words.specs.Steps.{StepsOn};
 ghost use Rattle.page_sets_mdoc_words.specs.WordsLeft.{GoesOn};
 
-use crate::printed::{own_word, printed_word};
+use crate::printed::{is_opening, own_word, printed_word};
 use crate::steps::{Begun, Given, Step};
 use crate::words_left::WordsLeft;
 use page_core_base::Font;
 use page_core_limits::LINE;
+use page_roff_forms::Argument;
 use page_sets_lines::{Join, Own};
 use page_sets_mdoc_lines::is_real;
 
 /// What comes next of flags.
 #[derive(Clone, Copy)]
 pub enum FlagStep {
+    /// A dash alone, where a delimiter that opens nothing comes before the first flag.
+    First,
     /// A dash before the next flag.
     Dash,
     /// The flag after its dash.
     Flag,
+}
+
+// The dash before a flag.
+fn flag_dash<'a>(begun: Begun<'a>, word: Argument<&'a [u8]>) -> Given<'a>
+    ensures event { event_seen result.event ≡ own_word begun.entry.line.line word.entry.column Dash (Some B) Apart Glued }
+    ensures step { result.step ≡ steps.Flags flags.Flag }
+{
+    Given {
+        event: own_word(
+            begun.line.line,
+            word.column,
+            Own::Dash,
+            Some(Font::B),
+            Join::Apart,
+            Join::Glued,
+        ),
+        step: Step::Flags(FlagStep::Flag),
+    }
+}
+
+// The dash before the first flag, or an opening delimiter before it; a dash alone before any other.
+fn next_first<'a>(begun: Begun<'a>, left: &mut WordsLeft) -> Option<Given<'a>>
+    requires short { length begun.line.text.now ≤ LINE }
+    requires within { IsCursorOf begun.line.text.now left.old.cursor }
+    ensures goes { GoesOn begun.entry.line.text.now left.old left.new }
+    ensures gives { StepsOn begun.entry (steps.Flags flags.First) left.old result left.new }
+{
+    let mut ahead = *left;
+    let word = ahead.read(begun.line.text)?;
+    if is_real(word) {
+        return Some(flag_dash(begun, word));
+    }
+    if is_opening(word) {
+        *left = ahead;
+        return Some(Given {
+            event: printed_word(begun.line.line, None, word),
+            step: Step::Flags(FlagStep::First),
+        });
+    }
+    Some(Given {
+        event: own_word(
+            begun.line.line,
+            begun.column,
+            Own::Flag,
+            Some(Font::B),
+            Join::Apart,
+            Join::Apart,
+        ),
+        step: Step::Flags(FlagStep::Dash),
+    })
 }
 
 // The dash before the next flag, or a delimiter before it.
@@ -34,17 +92,7 @@ fn next_dash<'a>(begun: Begun<'a>, left: &mut WordsLeft) -> Option<Given<'a>>
     let mut ahead = *left;
     let word = ahead.read(begun.line.text)?;
     if is_real(word) {
-        return Some(Given {
-            event: own_word(
-                begun.line.line,
-                word.column,
-                Own::Dash,
-                Some(Font::B),
-                Join::Apart,
-                Join::Glued,
-            ),
-            step: Step::Flags(FlagStep::Flag),
-        });
+        return Some(flag_dash(begun, word));
     }
     *left = ahead;
     Some(Given {
@@ -65,6 +113,7 @@ pub(crate) fn next_flag<'a>(
     ensures gives { StepsOn begun.entry (steps.Flags step) left.old result left.new }
 {
     match step {
+        FlagStep::First => next_first(begun, left),
         FlagStep::Dash => next_dash(begun, left),
         FlagStep::Flag => {
             let word = left.read(begun.line.text)?;

@@ -32,15 +32,26 @@ pub enum WordBlock {
     Extension,
 }
 
+/// What stands outside the enclosures.
+#[derive(Clone, Copy)]
+pub enum Outer {
+    /// `Ns` that ends the words of its line.
+    Glue,
+    /// `Ta`.
+    NextColumn,
+}
+
 /// What a macro does before it prints its words.
 #[derive(Clone, Copy)]
 pub enum Front {
     /// It lacks a word: a message with its name, of which this is the length.
     Refused { len: u32 },
-    /// `Ta`.
+    /// The next column, outside the enclosures.
     NextColumn,
     /// `Ns`.
     Glue,
+    /// The enclosures end before what stands outside them.
+    EndsEnclosures(Outer),
     /// `Ap`.
     Apostrophe,
     /// `Bsx Dx Fx Nx Ox Ux`.
@@ -130,6 +141,7 @@ fn front_event<'a>(begun: Begun<'a>, front: Front) -> Event<&'a [u8]>
         Front::Refused { len } => refusal(begun, len),
         Front::NextColumn => step_event(number, column, LineStep::NextColumn),
         Front::Glue => step_event(number, column, LineStep::Glue),
+        Front::EndsEnclosures(_) => event_at(number, column, Deed::Close(Closer::Enclosures)),
         Front::Apostrophe => {
             own_word(
                 number,
@@ -171,7 +183,19 @@ fn front_event<'a>(begun: Begun<'a>, front: Front) -> Event<&'a [u8]>
     }
 }
 
+// The step after it.
+fn front_after(front: Front) -> Step
+    ensures { result ≡ step_specs.front_after front }
+{
+    match front {
+        Front::EndsEnclosures(Outer::Glue) => Step::Front(Front::Glue),
+        Front::EndsEnclosures(Outer::NextColumn) => Step::Front(Front::NextColumn),
+        _ => Step::Printed(None),
+    }
+}
+
 /// What a macro does before its words, which come next.
+#[tactic(auto, using(crate::proofs::StepLemmas::front_goes_on))]
 pub(crate) fn next_front<'a>(
     begun: Begun<'a>,
     front: Front,
@@ -184,6 +208,6 @@ pub(crate) fn next_front<'a>(
 {
     Some(Given {
         event: front_event(begun, front),
-        step: Step::Printed(None),
+        step: front_after(front),
     })
 }

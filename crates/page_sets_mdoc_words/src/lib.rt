@@ -21,7 +21,7 @@ mod words_left;
 
 pub use arguments::ArgumentStep;
 pub use flags::FlagStep;
-pub use fronts::{Front, WordBlock};
+pub use fronts::{Front, Outer, WordBlock};
 pub use functions::FunctionStep;
 pub use includes::IncludeStep;
 pub use links::LinkStep;

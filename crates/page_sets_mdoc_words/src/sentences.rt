@@ -31,9 +31,9 @@ pub enum NameCount {
 /// What comes next of a sentence.
 #[derive(Clone, Copy)]
 pub enum SentenceStep {
-    /// Its first word.
+    /// Its first word, or all of it.
     The,
-    /// The name of the manual, where no name is given.
+    /// `Ex`: the name of the manual, where no name is given.
     ManualName,
     /// The next of this many names, or the rest of the sentence after the last of them.
     Name {
@@ -156,28 +156,31 @@ fn mark_word<'a>(begun: Begun<'a>, own: Own) -> Event<&'a [u8]>
     )
 }
 
-// The step after the first word, before this many names.
-fn beginning(all: NameCount) -> SentenceStep
-    ensures { result ≡ step_specs.beginning all }
+// What begins a sentence of this many names; the names come next, or that of the manual.
+fn beginning(sentence: Sentence, all: NameCount) -> (Own, Step)
+    ensures { result ≡ step_specs.beginning sentence all }
 {
-    match all {
-        NameCount::Zero => SentenceStep::ManualName,
+    let step = match (sentence, all) {
+        (Sentence::Return, NameCount::Zero) => {
+            return (Own::CompletionReturns, Step::Printed(None));
+        }
+        (Sentence::Exit, NameCount::Zero) => SentenceStep::ManualName,
         _ => SentenceStep::Name { all },
-    }
+    };
+    (Own::The, Step::Sentence { sentence, step })
 }
 
-// The first word; the names come next, or that of the manual.
-#[tactic(auto, using(crate::proofs::SentenceLemmas::beginning_gives))]
+// What begins it.
 fn next_the<'a>(begun: Begun<'a>, sentence: Sentence, left: &mut WordsLeft) -> Option<Given<'a>>
     requires short { length begun.line.text.now ≤ LINE }
     requires within { IsCursorOf begun.line.text.now left.old.cursor }
     ensures goes { GoesOn begun.entry.line.text.now left.old left.new }
     ensures gives { StepsOn begun.entry (steps.Sentence sentence sentence_steps.The) left.old result left.new }
 {
-    let step = beginning(name_count(begun.line.text, *left));
+    let (own, step) = beginning(sentence, name_count(begun.line.text, *left));
     Some(Given {
-        event: sentence_word(begun, Own::The),
-        step: Step::Sentence { sentence, step },
+        event: sentence_word(begun, own),
+        step,
     })
 }
 
@@ -211,8 +214,7 @@ fn next_name<'a>(
     })
 }
 
-// The name of the manual, where no name is given; what is glued to it comes next, or the rest of the sentence.
-#[tactic(auto, using(crate::proofs::SentenceLemmas::naming_gives))]
+// The name of the manual, where no name is given; the rest of the sentence comes next.
 fn next_manual_name<'a>(
     begun: Begun<'a>,
     sentence: Sentence,
@@ -223,7 +225,9 @@ fn next_manual_name<'a>(
     ensures goes { GoesOn begun.entry.line.text.now left.old left.new }
     ensures gives { StepsOn begun.entry (steps.Sentence sentence sentence_steps.ManualName) left.old result left.new }
 {
-    let step = naming(name_mark(sentence, false), NameCount::Zero, NameCount::Zero);
+    let step = SentenceStep::Name {
+        all: NameCount::Zero,
+    };
     Some(Given {
         event: step_event(begun.line.line, begun.column, LineStep::ManualName),
         step: Step::Sentence { sentence, step },

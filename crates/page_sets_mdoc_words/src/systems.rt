@@ -1,6 +1,7 @@
 //! `Bx`: a version of BSD (mdoc(7), "Bx").
 
 ghost use Rattle.std.specs.Prelude.{◌≡◌, ◌≤◌, None, length};
+ghost use Rattle.page_roff_forms.specs.Arguments.{argument_seen};
 ghost use Rattle.page_sets_lines.specs.declared.events.Join.{Join};
 ghost use Rattle.page_sets_lines.specs.declared.events.Join.TheVariants.{Apart};
 ghost use Rattle.page_sets_lines.specs.declared.leaves.Own.TheVariants.{Bsd};
@@ -8,6 +9,7 @@ ghost use Rattle.page_sets_lines.specs.Events.{event_seen};
 ghost use Rattle.page_sets_mdoc_lines.specs.Cursors.{IsCursorOf};
 ghost use Rattle.page_sets_mdoc_words.specs.declared.systems.VersionStep.TheVariants as versions;
 ghost use Rattle.page_sets_mdoc_words.specs.declared.steps.Step.TheVariants as steps;
+ghost use Rattle.page_sets_mdoc_words.specs.Inlines as inlines;
 ghost use Rattle.page_sets_mdoc_words.specs.Printed.{own_word};
 ghost use Rattle.page_sets_mdoc_words.specs.Steps.{StepsOn};
 ghost use Rattle.page_sets_mdoc_words.specs.WordsLeft.{GoesOn};
@@ -16,7 +18,8 @@ use crate::printed::{is_opening, own_word, printed_word};
 use crate::steps::{Begun, Given, Step};
 use crate::words_left::WordsLeft;
 use page_core_limits::LINE;
-use page_sets_lines::{Join, Own};
+use page_roff_forms::Argument;
+use page_sets_lines::{Event, Join, Own};
 use page_sets_mdoc_lines::is_real;
 
 /// What comes next of a version.
@@ -26,25 +29,77 @@ pub enum VersionStep {
     Version,
     /// The name after it.
     Name,
+    /// The hyphen before a variant.
+    Hyphen,
+    /// The variant after it.
+    Variant,
 }
 
-// The name, and then the words that are left.
-fn name<'a>(begun: Begun<'a>, before: Join) -> Given<'a>
-    ensures event { event_seen result.event
-        ≡ own_word begun.entry.line.line begun.entry.column Bsd None before Apart }
-    ensures step { result.step ≡ steps.Printed None }
+// The name.
+fn name<'a>(begun: Begun<'a>, before: Join) -> Event<&'a [u8]>
+    ensures { event_seen result ≡ own_word begun.entry.line.line begun.entry.column Bsd None before Apart }
 {
-    Given {
+    own_word(
+        begun.line.line,
+        begun.column,
+        Own::Bsd,
+        None,
+        before,
+        Join::Apart,
+    )
+}
+
+// A variant that has a capital letter.
+fn variant_own(text: &[u8]) -> Option<Own>
+    ensures { result ≡ inlines.variant_own text.now }
+{
+    match text {
+        b"reno" => Some(Own::Reno),
+        b"tahoe" => Some(Own::Tahoe),
+        _ => None,
+    }
+}
+
+// A variant.
+fn variant_word(number: u32, word: Argument<&[u8]>) -> Event<&[u8]>
+    ensures { event_seen result ≡ inlines.variant_word number (argument_seen word.entry) }
+{
+    if word.is_quoted() {
+        return printed_word(number, None, word);
+    }
+    match variant_own(word.text) {
+        Some(own) => own_word(number, word.column, own, None, Join::Glued, Join::Apart),
+        None => printed_word(number, None, word),
+    }
+}
+
+// The hyphen before a variant, or another word.
+fn next_hyphen<'a>(begun: Begun<'a>, left: &mut WordsLeft) -> Option<Given<'a>>
+    requires short { length begun.line.text.now ≤ LINE }
+    requires within { IsCursorOf begun.line.text.now left.old.cursor }
+    ensures goes { GoesOn begun.entry.line.text.now left.old left.new }
+    ensures gives { StepsOn begun.entry (steps.Version versions.Hyphen) left.old result left.new }
+{
+    let mut ahead = *left;
+    let word = ahead.read(begun.line.text)?;
+    if !is_real(word) {
+        *left = ahead;
+        return Some(Given {
+            event: printed_word(begun.line.line, None, word),
+            step: Step::Printed(None),
+        });
+    }
+    Some(Given {
         event: own_word(
             begun.line.line,
             begun.column,
-            Own::Bsd,
+            Own::Dash,
             None,
-            before,
-            Join::Apart,
+            Join::Glued,
+            Join::Glued,
         ),
-        step: Step::Printed(None),
-    }
+        step: Step::Version(VersionStep::Variant),
+    })
 }
 
 // The version, or the name where there is none.
@@ -70,7 +125,10 @@ fn next_version<'a>(begun: Begun<'a>, left: &mut WordsLeft) -> Option<Given<'a>>
                 step: Step::Version(VersionStep::Version),
             })
         }
-        _ => Some(name(begun, Join::Apart)),
+        _ => Some(Given {
+            event: name(begun, Join::Apart),
+            step: Step::Printed(None),
+        }),
     }
 }
 
@@ -87,6 +145,17 @@ pub(crate) fn next_of_version<'a>(
 {
     match step {
         VersionStep::Version => next_version(begun, left),
-        VersionStep::Name => Some(name(begun, Join::Glued)),
+        VersionStep::Name => Some(Given {
+            event: name(begun, Join::Glued),
+            step: Step::Version(VersionStep::Hyphen),
+        }),
+        VersionStep::Hyphen => next_hyphen(begun, left),
+        VersionStep::Variant => {
+            let word = left.read(begun.line.text)?;
+            Some(Given {
+                event: variant_word(begun.line.line, word),
+                step: Step::Printed(None),
+            })
+        }
     }
 }
