@@ -1,8 +1,7 @@
 //! Escapes of a whole line; `page_core_cases` has the others.
 
 use crate::checks::{check, check_count};
-use page_core_escapes::{Escape, escape};
-use page_core_limits::LINE;
+use page_core::{Escape, LINE, escape};
 use std::process::Abort;
 use std::test::Fail;
 

@@ -2,188 +2,201 @@
 
 use crate::checks::{check, check_answer, check_bytes, check_count, check_failures, check_text};
 use crate::writers::{narrow_writer, note};
-use page_core_base::{Fault, Level, Note, NoteKind, NoteSink, Place};
-use page_core_writers::{KeptNotes, TextNotes, write_note};
+use page_core::{Fault, KeptNotes, Level, Note, NoteKind, NoteSink, Place, TextNotes, write_note};
+use std::process::Abort;
 use std::test::Fail;
 
+// The kinds of messages, with their levels and texts.
+const KINDS: &[(NoteKind, Level, &str)] = &[
+    (
+        NoteKind::TrailingBlank,
+        Level::Style,
+        "whitespace at end of input line",
+    ),
+    (
+        NoteKind::MissingTitle,
+        Level::Warning,
+        "missing manual title, using \"\"",
+    ),
+    (
+        NoteKind::UnknownSection,
+        Level::Warning,
+        "unknown manual section",
+    ),
+    (
+        NoteKind::MissingDate,
+        Level::Warning,
+        "missing date, using \"\"",
+    ),
+    (
+        NoteKind::MissingOs,
+        Level::Warning,
+        "missing Os macro, using \"\"",
+    ),
+    (
+        NoteKind::LateMacro,
+        Level::Warning,
+        "skipping late prologue macro",
+    ),
+    (NoteKind::NoBody, Level::Warning, "no document body"),
+    (
+        NoteKind::BeforeSection,
+        Level::Warning,
+        "content before first section header",
+    ),
+    (
+        NoteKind::SkipPara,
+        Level::Warning,
+        "skipping paragraph macro",
+    ),
+    (NoteKind::LineScope, Level::Warning, "line scope broken"),
+    (NoteKind::EmptyMacro, Level::Warning, "skipping empty macro"),
+    (NoteKind::BadNest, Level::Warning, "blocks badly nested"),
+    (
+        NoteKind::BlankFill,
+        Level::Warning,
+        "blank line in fill mode, using .sp",
+    ),
+    (NoteKind::TabFill, Level::Warning, "tab in filled text"),
+    (
+        NoteKind::UndefString,
+        Level::Warning,
+        "undefined string, using \"\"",
+    ),
+    (
+        NoteKind::UndefEscape,
+        Level::Warning,
+        "undefined escape, printing literally",
+    ),
+    (
+        NoteKind::BadEscape,
+        Level::Warning,
+        "invalid escape sequence",
+    ),
+    (
+        NoteKind::NoGlyph,
+        Level::Warning,
+        "unknown character, using <?>",
+    ),
+    (
+        NoteKind::UnknownFont,
+        Level::Warning,
+        "unknown font, skipping request",
+    ),
+    (
+        NoteKind::Unterminated,
+        Level::Warning,
+        "unterminated quoted argument",
+    ),
+    (
+        NoteKind::MissingWidth,
+        Level::Warning,
+        "missing -width in -tag list, using 6n",
+    ),
+    (NoteKind::BadChar, Level::Error, "skipping bad character"),
+    (
+        NoteKind::UnknownMacro,
+        Level::Error,
+        "skipping unknown macro",
+    ),
+    (
+        NoteKind::ItemOutside,
+        Level::Error,
+        "skipping item outside list",
+    ),
+    (
+        NoteKind::NotOpen,
+        Level::Error,
+        "skipping end of block that is not open",
+    ),
+    (
+        NoteKind::FewerRs,
+        Level::Error,
+        "fewer RS blocks open, skipping",
+    ),
+    (
+        NoteKind::MissingEnd,
+        Level::Error,
+        "appending missing end of block",
+    ),
+    (
+        NoteKind::ArgOutside,
+        Level::Error,
+        "using macro argument outside macro",
+    ),
+    (
+        NoteKind::NotNumeric,
+        Level::Error,
+        "argument is not numeric, using 0",
+    ),
+    (NoteKind::DivZero, Level::Error, "divide by zero"),
+    (
+        NoteKind::NoListType,
+        Level::Error,
+        "missing list type, using -item",
+    ),
+    (
+        NoteKind::MissingName,
+        Level::Error,
+        "missing manual name, using \"\"",
+    ),
+    (
+        NoteKind::BadCondition,
+        Level::Error,
+        "unknown condition, using false",
+    ),
+    (
+        NoteKind::Loop,
+        Level::Error,
+        "input stack limit exceeded, infinite loop?",
+    ),
+    (NoteKind::Limit, Level::Error, "limit exceeded, skipping"),
+    (
+        NoteKind::UnsuppRequest,
+        Level::Unsupp,
+        "unsupported roff request",
+    ),
+    (
+        NoteKind::UnsuppEscape,
+        Level::Unsupp,
+        "unsupported escape sequence",
+    ),
+    (
+        NoteKind::Table,
+        Level::Unsupp,
+        "unsupported table, equation or picture",
+    ),
+];
+
 #[test]
-fn kinds_have_texts_and_levels_an_order(rt: HostRuntime) {
-    let kinds = [
-        (
-            NoteKind::TrailingBlank,
-            Level::Style,
-            "whitespace at end of input line",
-        ),
-        (
-            NoteKind::MissingTitle,
-            Level::Warning,
-            "missing manual title, using \"\"",
-        ),
-        (
-            NoteKind::UnknownSection,
-            Level::Warning,
-            "unknown manual section",
-        ),
-        (
-            NoteKind::MissingDate,
-            Level::Warning,
-            "missing date, using \"\"",
-        ),
-        (
-            NoteKind::MissingOs,
-            Level::Warning,
-            "missing Os macro, using \"\"",
-        ),
-        (
-            NoteKind::LateMacro,
-            Level::Warning,
-            "skipping late prologue macro",
-        ),
-        (NoteKind::NoBody, Level::Warning, "no document body"),
-        (
-            NoteKind::BeforeSection,
-            Level::Warning,
-            "content before first section header",
-        ),
-        (
-            NoteKind::SkipPara,
-            Level::Warning,
-            "skipping paragraph macro",
-        ),
-        (NoteKind::LineScope, Level::Warning, "line scope broken"),
-        (NoteKind::EmptyMacro, Level::Warning, "skipping empty macro"),
-        (NoteKind::BadNest, Level::Warning, "blocks badly nested"),
-        (
-            NoteKind::BlankFill,
-            Level::Warning,
-            "blank line in fill mode, using .sp",
-        ),
-        (NoteKind::TabFill, Level::Warning, "tab in filled text"),
-        (
-            NoteKind::UndefString,
-            Level::Warning,
-            "undefined string, using \"\"",
-        ),
-        (
-            NoteKind::UndefEscape,
-            Level::Warning,
-            "undefined escape, printing literally",
-        ),
-        (
-            NoteKind::BadEscape,
-            Level::Warning,
-            "invalid escape sequence",
-        ),
-        (
-            NoteKind::NoGlyph,
-            Level::Warning,
-            "unknown character, using <?>",
-        ),
-        (
-            NoteKind::UnknownFont,
-            Level::Warning,
-            "unknown font, skipping request",
-        ),
-        (
-            NoteKind::Unterminated,
-            Level::Warning,
-            "unterminated quoted argument",
-        ),
-        (
-            NoteKind::MissingWidth,
-            Level::Warning,
-            "missing -width in -tag list, using 6n",
-        ),
-        (NoteKind::BadChar, Level::Error, "skipping bad character"),
-        (
-            NoteKind::UnknownMacro,
-            Level::Error,
-            "skipping unknown macro",
-        ),
-        (
-            NoteKind::ItemOutside,
-            Level::Error,
-            "skipping item outside list",
-        ),
-        (
-            NoteKind::NotOpen,
-            Level::Error,
-            "skipping end of block that is not open",
-        ),
-        (
-            NoteKind::FewerRs,
-            Level::Error,
-            "fewer RS blocks open, skipping",
-        ),
-        (
-            NoteKind::MissingEnd,
-            Level::Error,
-            "appending missing end of block",
-        ),
-        (
-            NoteKind::ArgOutside,
-            Level::Error,
-            "using macro argument outside macro",
-        ),
-        (
-            NoteKind::NotNumeric,
-            Level::Error,
-            "argument is not numeric, using 0",
-        ),
-        (NoteKind::DivZero, Level::Error, "divide by zero"),
-        (
-            NoteKind::NoListType,
-            Level::Error,
-            "missing list type, using -item",
-        ),
-        (
-            NoteKind::MissingName,
-            Level::Error,
-            "missing manual name, using \"\"",
-        ),
-        (
-            NoteKind::BadCondition,
-            Level::Error,
-            "unknown condition, using false",
-        ),
-        (
-            NoteKind::Loop,
-            Level::Error,
-            "input stack limit exceeded, infinite loop?",
-        ),
-        (NoteKind::Limit, Level::Error, "limit exceeded, skipping"),
-        (
-            NoteKind::UnsuppRequest,
-            Level::Unsupp,
-            "unsupported roff request",
-        ),
-        (
-            NoteKind::UnsuppEscape,
-            Level::Unsupp,
-            "unsupported escape sequence",
-        ),
-        (
-            NoteKind::Table,
-            Level::Unsupp,
-            "unsupported table, equation or picture",
-        ),
-    ];
-    for (kind, level, text) in kinds {
+fn kinds_have_levels_and_texts(rt: HostRuntime) {
+    for (kind, level, text) in KINDS {
         check_text(&rt, kind.level().name(), level.name(), text);
         check_text(&rt, kind.text(), text, text);
     }
-    let levels = [
-        (0, Level::Base, "BASE"),
-        (1, Level::Style, "STYLE"),
-        (2, Level::Warning, "WARNING"),
-        (3, Level::Error, "ERROR"),
-        (4, Level::Unsupp, "UNSUPP"),
-    ];
-    for (rank, level, name) in levels {
+}
+
+// The levels in their order, with their names.
+const LEVELS: &[(u32, Level, &str)] = &[
+    (0, Level::Base, "BASE"),
+    (1, Level::Style, "STYLE"),
+    (2, Level::Warning, "WARNING"),
+    (3, Level::Error, "ERROR"),
+    (4, Level::Unsupp, "UNSUPP"),
+];
+
+// Checks that a level is below those after it, and no other.
+fn check_order(rt: &impl Abort, rank: u32, level: Level) {
+    for (other_rank, other, name) in LEVELS {
+        check(rt, level.is_below(*other) == (rank < *other_rank), name);
+    }
+}
+
+#[test]
+fn levels_have_names_and_an_order(rt: HostRuntime) {
+    for (rank, level, name) in LEVELS {
         check_text(&rt, level.name(), name, name);
-        for (other_rank, other, _) in levels {
-            check(&rt, level.is_below(other) == (rank < other_rank), name);
-        }
+        check_order(&rt, *rank, *level);
     }
 }
 
@@ -210,37 +223,36 @@ fn a_message_is_a_line(rt: HostRuntime) {
     }
 }
 
+const PLACE: Place = Place { line: 3, column: 9 };
+
+// Texts, what details of them begin with, and how many bytes these have.
+const DETAILS: &[(&[u8], &str, usize)] = &[
+    (b"", "", 0),
+    (b"\\q", "\\q", 2),
+    (b"ab\xffcd", "ab", 2),
+    (b"ab\xc3", "ab", 2),
+    (&[b'x'; 70], "", 64),
+];
+
+fn check_detail(rt: &impl Abort, text: &[u8], front: &str, count: usize) {
+    let note = Note::about(NoteKind::UndefEscape, PLACE, text);
+    check(rt, note.kind == NoteKind::UndefEscape, "the kind");
+    check(rt, note.line == 3 && note.column == 9, "the place");
+    check(rt, note.detail.as_str().starts_with(front), front);
+    check_count(rt, note.detail.len(), count, front);
+}
+
 // A detail has 64 bytes at most, and ends where a character ends or where the text is not UTF-8.
 #[test]
 fn details_are_cut(rt: HostRuntime) {
-    let place = Place { line: 3, column: 9 };
-    let long = [b'x'; 70];
-    let cases = [
-        (b"".as_slice(), "", 0),
-        (b"\\q", "\\q", 0),
-        (b"ab\xffcd", "ab", 0),
-        (b"ab\xc3", "ab", 0),
-        (long.as_slice(), "", 64),
-    ];
-    for (text, front, count) in cases {
-        let note = Note::about(NoteKind::UndefEscape, place, text);
-        check(&rt, note.kind == NoteKind::UndefEscape, "the kind");
-        check(&rt, note.line == 3 && note.column == 9, "the place");
-        check(&rt, note.detail.as_str().starts_with(front), front);
-        check_count(&rt, note.detail.len(), front.len() + count, front);
+    for (text, front, count) in DETAILS {
+        check_detail(&rt, text, front, *count);
     }
-    let mut text = [b'x'; 66];
     for (from, count) in [(61, 64), (62, 64), (63, 63), (64, 64)] {
-        text = [b'x'; 66];
+        let mut text = [b'x'; 66];
         text[from..from + 2].copy_from_slice("\u{e9}".as_bytes());
-        check_count(
-            &rt,
-            Note::about(NoteKind::NoGlyph, place, &text).detail.len(),
-            count,
-            "before a character of two bytes",
-        );
+        check_detail(&rt, &text, "", count);
     }
-    check_count(&rt, text.len(), 66, "the text");
 }
 
 // A front of the bytes is written where the writer fails; a slow or interrupted writer gets all.
@@ -313,35 +325,29 @@ fn a_note_to_a_bad_writer(rt: HostRuntime) {
     }
 }
 
-// A message is kept, or where memory is refused the fault is answered, a failure counted and no message kept.
-#[test]
-fn notes_are_kept(rt: HostRuntime) -> Result<(), Fail> {
-    let mut kept = KeptNotes::new(rt.alloc());
-    let mut failures = 0u64;
-    for note in [
-        note(NoteKind::Loop, 1, 1, "CALLS"),
-        note(NoteKind::NoBody, 9, 1, ""),
-    ] {
-        let before = kept.notes.len();
-        match kept.note(&note) {
-            Ok(()) => {
-                check(
-                    &rt,
-                    *kept.notes.last().ok_or("no note")? == note,
-                    "the last",
-                );
-                check_count(&rt, kept.notes.len() - before, 1, "a message more");
-            }
-            Err(fault) => {
-                failures = failures.saturating_add(1);
-                check_answer(&rt, Err(fault), Err(Fault::WriteNotes));
-                check_count(&rt, kept.notes.len(), before, "no message more");
-            }
+// Gives a message, which is kept; or where memory is refused, the fault is answered, a failure counted and no message kept.
+fn check_kept(rt: &impl Abort, kept: &mut KeptNotes, note: &Note) {
+    let (before, failures) = (kept.notes.len(), kept.failures());
+    match kept.note(note) {
+        Ok(()) => {
+            check(rt, kept.notes.last() == Some(note), "the last");
+            check(rt, kept.notes.len() > before, "a message more");
+            check_failures(rt, kept.failures(), failures);
+        }
+        Err(fault) => {
+            check_answer(rt, Err(fault), Err(Fault::WriteNotes));
+            check_count(rt, kept.notes.len(), before, "no message more");
+            check_failures(rt, kept.failures(), failures.saturating_add(1));
         }
     }
+}
+
+#[test]
+fn notes_are_kept(rt: HostRuntime) {
+    let mut kept = KeptNotes::new(rt.alloc());
+    check_kept(&rt, &mut kept, &note(NoteKind::Loop, 1, 1, "CALLS"));
+    check_kept(&rt, &mut kept, &note(NoteKind::NoBody, 9, 1, ""));
     check(&rt, kept.takes(NoteKind::Table), "a sink takes every kind");
-    check_failures(&rt, kept.failures(), failures);
-    Ok(())
 }
 
 #[test]

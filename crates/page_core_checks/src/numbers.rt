@@ -2,10 +2,7 @@
 
 use crate::checks::{check_bytes, check_count, check_failures};
 use crate::writers::narrow_writer;
-use page_core_base::{Fault, NoteSink, Output};
-use page_core_limits::LINE;
-use page_core_numbers::{Scale, columns, number};
-use page_core_writers::TextNotes;
+use page_core::{Fault, LINE, NoteSink, Output, Scale, TextNotes, columns, number};
 use std::process::Abort;
 use std::test::Fail;
 

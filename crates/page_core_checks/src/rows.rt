@@ -2,8 +2,7 @@
 
 use crate::checks::{check, check_answer, check_bytes, check_count, check_failures};
 use crate::writers::{cells, narrow_writer};
-use page_core_base::{Cell, Fault, Font, RowSink};
-use page_core_writers::{KeptRows, Row, TextRows, cell_bytes};
+use page_core::{Cell, Fault, Font, KeptRows, Row, RowSink, TextRows, cell_bytes};
 use std::process::Abort;
 use std::test::Fail;
 
@@ -98,34 +97,45 @@ fn a_row_to_a_bad_writer(rt: HostRuntime) -> Result<(), Fail> {
     Ok(())
 }
 
-// A row is kept, or where memory is refused the fault is answered, a failure counted and no row kept.
+// Gives a row, which is kept; or where memory is refused, the fault is answered, a failure counted and no row kept.
+fn check_kept(rt: &impl Abort, kept: &mut KeptRows, margin: u32, cells: &[Cell]) {
+    let (before, failures) = (kept.rows.len(), kept.failures());
+    match kept.row(margin, cells) {
+        Ok(()) => {
+            let is_last = kept
+                .rows
+                .last()
+                .is_some_and(|row| is_row(row, margin, cells));
+            check(rt, is_last, "the last");
+            check(rt, kept.rows.len() > before, "a row more");
+            check_failures(rt, kept.failures(), failures);
+        }
+        Err(fault) => {
+            check_answer(rt, Err(fault), Err(Fault::WriteText));
+            check_count(rt, kept.rows.len(), before, "no row more");
+            check_failures(rt, kept.failures(), failures.saturating_add(1));
+        }
+    }
+}
+
 #[test]
 fn rows_are_kept(rt: HostRuntime) -> Result<(), Fail> {
     let mut kept = KeptRows::new(rt.alloc());
-    let mut failures = 0u64;
     for (margin, text) in [(3, "ab "), (0, ""), (9, "é")] {
         let row = cells(rt.alloc(), text, Font::I)?;
-        let before = kept.rows.len();
-        match kept.row(margin, row.as_slice()) {
-            Ok(()) => {
-                let last = kept.rows.last().ok_or("no row")?;
-                check_row(&rt, last, margin, row.as_slice());
-                check_count(&rt, kept.rows.len() - before, 1, "a row more");
-            }
-            Err(fault) => {
-                failures = failures.saturating_add(1);
-                check_answer(&rt, Err(fault), Err(Fault::WriteText));
-                check_count(&rt, kept.rows.len(), before, "no row more");
-            }
-        }
+        check_kept(&rt, &mut kept, margin, row.as_slice());
     }
-    check_failures(&rt, kept.failures(), failures);
-    let row = Row::new(5, cells(rt.alloc(), "ab", Font::B)?);
-    check_row(&rt, &row, 5, cells(rt.alloc(), "ab", Font::B)?.as_slice());
     Ok(())
 }
 
-fn check_row(rt: &impl Abort, row: &Row, margin: u32, cells: &[Cell]) {
-    check(rt, row.margin() == margin, "the margin");
-    check(rt, row.cells() == cells, "the cells");
+#[test]
+fn a_row_has_its_margin_and_cells(rt: HostRuntime) -> Result<(), Fail> {
+    let row = Row::new(5, cells(rt.alloc(), "ab", Font::B)?);
+    let same = cells(rt.alloc(), "ab", Font::B)?;
+    check(&rt, is_row(&row, 5, same.as_slice()), "the row");
+    Ok(())
+}
+
+fn is_row(row: &Row, margin: u32, cells: &[Cell]) -> bool {
+    row.margin() == margin && row.cells() == cells
 }

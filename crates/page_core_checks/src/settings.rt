@@ -1,7 +1,7 @@
 //! Settings, and how they are checked.
 
 use crate::checks::{check, check_text};
-use page_core_base::{Encoding, Language, Output, SettingFault, Settings};
+use page_core::{Encoding, Language, Output, SettingFault, Settings};
 use std::process::Abort;
 use std::test::Fail;
 

@@ -1,8 +1,7 @@
 //! What a line of a page may hold, and the names of limits.
 
 use crate::checks::{check, check_text};
-use page_core_base::is_line;
-use page_core_limits::{LINE, Limit};
+use page_core::{LINE, Limit, is_line};
 use std::test::Fail;
 
 #[test]

@@ -1,7 +1,7 @@
 //! What is written: a writer that has little room, messages and cells.
 
 use arrayvec::ArrayString;
-use page_core_base::{Cell, Font, Note, NoteKind};
+use page_core::{Cell, Font, Note, NoteKind};
 use std::alloc::{AllocError, Global};
 use std::io;
 use std::io::{ErrorKind, Write};
