@@ -1,4 +1,4 @@
-//! For tests: files of a runtime, of which one call fails.
+//! For tests: the files of a folder, of which one call fails.
 
 use std::alloc::Allocator;
 use std::cell::Cell;
@@ -64,11 +64,20 @@ impl Failure {
     }
 }
 
-/// The files of a runtime, of which one call fails.
+/// The files of a folder, of which one call fails: each path is one in this folder.
 #[derive(Drop)]
 pub struct FailingFiles<'a, R> {
     pub rt: &'a R,
+    pub dir: &'a str,
     pub failure: &'a Failure,
+}
+
+impl<R: AllocGlobal> FailingFiles<'_, R> {
+    // The path of a file of these.
+    fn path(&self, name: &str) -> io::Result<String> {
+        let path = format!(in self.rt.alloc(); "{}/{name}", self.dir)?;
+        Ok(path)
+    }
 }
 
 /// A file of these.
@@ -135,7 +144,8 @@ impl<F: OpenFile> OpenFile for FailingFile<'_, F> {
     }
 }
 
-impl<'a, R: Files> Files for FailingFiles<'a, R> {
+// What the program does not call is not supported.
+impl<'a, R: Files + AllocGlobal> Files for FailingFiles<'a, R> {
     type File = FailingFile<'a, R::File>;
 
     type Dir = FailingNames<'a, R::Dir>;
@@ -146,50 +156,57 @@ impl<'a, R: Files> Files for FailingFiles<'a, R> {
         } else {
             Call::Open
         })?;
+        let path = self.path(path)?;
         Ok(FailingFile {
-            file: self.rt.open_file(how, path)?,
+            file: self.rt.open_file(how, path.as_str())?,
             failure: self.failure,
         })
     }
 
     fn open_dir(&self, path: &str) -> io::Result<FailingNames<'a, R::Dir>> {
         self.failure.at(Call::List)?;
+        let path = self.path(path)?;
         Ok(FailingNames {
-            names: self.rt.open_dir(path)?,
+            names: self.rt.open_dir(path.as_str())?,
             failure: self.failure,
         })
     }
 
     fn rename(&self, from: &str, to: &str) -> io::Result<()> {
         self.failure.at(Call::Rename)?;
-        self.rt.rename(from, to)
+        let from = self.path(from)?;
+        let to = self.path(to)?;
+        self.rt.rename(from.as_str(), to.as_str())
     }
 
     fn metadata(&self, path: &str) -> io::Result<Metadata> {
-        self.rt.metadata(path)
-    }
-
-    fn symlink_metadata(&self, path: &str) -> io::Result<Metadata> {
-        self.rt.symlink_metadata(path)
-    }
-
-    fn copy(&self, from: &str, to: &str) -> io::Result<u64> {
-        self.rt.copy(from, to)
+        let path = self.path(path)?;
+        self.rt.metadata(path.as_str())
     }
 
     fn remove_file(&self, path: &str) -> io::Result<()> {
-        self.rt.remove_file(path)
+        let path = self.path(path)?;
+        self.rt.remove_file(path.as_str())
     }
 
     fn create_dir(&self, path: &str) -> io::Result<()> {
-        self.rt.create_dir(path)
+        let path = self.path(path)?;
+        self.rt.create_dir(path.as_str())
     }
 
-    fn remove_dir(&self, path: &str) -> io::Result<()> {
-        self.rt.remove_dir(path)
+    fn symlink_metadata(&self, _path: &str) -> io::Result<Metadata> {
+        Err(io::Error::from(ErrorKind::Unsupported))
     }
 
-    fn remove_dir_all<B: Allocator>(&self, alloc: B, path: &str) -> io::Result<()> {
-        self.rt.remove_dir_all(alloc, path)
+    fn copy(&self, _from: &str, _to: &str) -> io::Result<u64> {
+        Err(io::Error::from(ErrorKind::Unsupported))
+    }
+
+    fn remove_dir(&self, _path: &str) -> io::Result<()> {
+        Err(io::Error::from(ErrorKind::Unsupported))
+    }
+
+    fn remove_dir_all<B: Allocator>(&self, _alloc: B, _path: &str) -> io::Result<()> {
+        Err(io::Error::from(ErrorKind::Unsupported))
     }
 }

@@ -1,217 +1,280 @@
 //! What `makewhatis` does with the pages of a folder, and with files that fail (makewhatis(8)).
 
 use crate::failing_files::{Call, FailingFiles, Failure};
-use crate::test_runs::{check_text, folder, run_over, runs, runs_over};
+use crate::test_runs::{
+    EMPTY, Fails, INDEX, Index, NEVER, NO_CALL, Run, Test, check, in_folder, is_alone, run_failing,
+    set_index,
+};
+use std::alloc::Global;
+use std::fs;
 use std::process::{self, Abort};
-use std::rt::{Env, Files};
-use std::test::Fail;
-use std::{fs, io};
+use std::rt::Files;
 
 const OLD: &str = "whatis 2\nold\t1\tof before\tman1/old.1\n";
 
-const INDEX: &str =
+const WHOLE: &str =
     "whatis 2\nzed\t1\tlast\tman1/Zed.1\ncat\t1\tprint files\tman1/cat.1\nls, dir\t1p\tlist files\tman1/ls.1\nfsck\t8\tcheck disks\tman8/fsck.8\n";
+
+const WITHOUT_CAT: &str =
+    "whatis 2\nzed\t1\tlast\tman1/Zed.1\nls, dir\t1p\tlist files\tman1/ls.1\nfsck\t8\tcheck disks\tman8/fsck.8\n";
+
+const WITHOUT_FOLDER: &str = "whatis 2\nfsck\t8\tcheck disks\tman8/fsck.8\n";
 
 const PRINTED: &str =
     "zed(1) - last\ncat(1) - print files\nls, dir(1p) - list files\nfsck(8) - check disks\n";
 
-// Files in folders of pages; the name of one can't stand in an index, one has no record, and one isn't where pages are.
-const FILES: [(&str, &str); 8] = [
-    ("man1/ls.1", ".TH LS 1p\n.SH NAME\nls, dir \\- list files\n"),
-    ("man1/Zed.1", ".TH ZED 1\n.SH NAME\nzed \\- last\n"),
-    (
-        "man1/cat.1",
-        ".Dd d\n.Dt CAT 1\n.Os\n.Sh NAME\n.Nm cat\n.Nd print files\n",
-    ),
-    ("man1/none.1", ".TH NONE 1\n.SH NAME\nnone\n"),
-    ("man1/a\tb.1", ".TH B 1\n.SH NAME\nb \\- blank\n"),
-    ("man1/sub.1/t.1", ".TH T 1\n.SH NAME\nt \\- deep\n"),
-    (
-        "man8/fsck.8",
-        ".TH FSCK 8\n.SH NAME\nfsck \\- check disks\n",
-    ),
-    ("man10/x.1", ".TH X 1\n.SH NAME\nx \\- far\n"),
+const LOST: &str = "[notes]mandoc: ./whatis.idx: cannot write\n";
+
+// Nothing can be printed, and all can be told.
+const SILENT: (Fails, Fails) = (Fails::Past(0), Fails::Never);
+
+const PAGES: &[Run] = &[
+    // an index
+    Run {
+        words: &["makewhatis", "-n", "."],
+        fails: NEVER,
+        told: &["[out]", PRINTED, "[out flushed]"],
+        status: 0,
+        index: Index {
+            name: INDEX,
+            before: Some(OLD),
+            call: NO_CALL,
+            after: Some(OLD),
+        },
+    },
+    Run {
+        words: &["makewhatis", "."],
+        fails: SILENT,
+        told: &[],
+        status: 0,
+        index: Index {
+            name: INDEX,
+            before: Some(OLD),
+            call: NO_CALL,
+            after: Some(WHOLE),
+        },
+    },
+    Run {
+        words: &["whatis", "-w", "-s", "8", "fsck", "cat"],
+        fails: NEVER,
+        told: &["[out]man8/fsck.8\n[out flushed]"],
+        status: 0,
+        index: Index {
+            name: INDEX,
+            before: Some(WHOLE),
+            call: NO_CALL,
+            after: Some(WHOLE),
+        },
+    },
+    // what can't be read is told of, and the index is still made of the other pages, in this folder and in the next
+    Run {
+        words: &["makewhatis", "."],
+        fails: SILENT,
+        told: &["[notes]mandoc: ./man1/cat.1: cannot open\n"],
+        status: 6,
+        index: Index {
+            name: INDEX,
+            before: Some(OLD),
+            call: (Some(Call::Open), 1),
+            after: Some(WITHOUT_CAT),
+        },
+    },
+    Run {
+        words: &["makewhatis", "."],
+        fails: SILENT,
+        told: &["[notes]mandoc: ./man1/cat.1: cannot read\n"],
+        status: 6,
+        index: Index {
+            name: INDEX,
+            before: Some(OLD),
+            call: (Some(Call::Read), 2),
+            after: Some(WITHOUT_CAT),
+        },
+    },
+    Run {
+        words: &["makewhatis", "."],
+        fails: SILENT,
+        told: &["[notes]mandoc: ./man1: cannot open\n"],
+        status: 6,
+        index: Index {
+            name: INDEX,
+            before: Some(OLD),
+            call: (Some(Call::List), 0),
+            after: Some(WITHOUT_FOLDER),
+        },
+    },
+    Run {
+        words: &["makewhatis", "."],
+        fails: SILENT,
+        told: &["[notes]mandoc: ./man1: cannot open\n"],
+        status: 6,
+        index: Index {
+            name: INDEX,
+            before: Some(OLD),
+            call: (Some(Call::Names), 0),
+            after: Some(WITHOUT_FOLDER),
+        },
+    },
+    Run {
+        words: &["makewhatis", "."],
+        fails: SILENT,
+        told: &["[notes]mandoc: ./man1: cannot open\n"],
+        status: 6,
+        index: Index {
+            name: INDEX,
+            before: Some(OLD),
+            call: (Some(Call::Names), 1),
+            after: Some(WITHOUT_FOLDER),
+        },
+    },
+    // an index that can't be finished leaves the one of before, and no folder follows
+    Run {
+        words: &["makewhatis", ".", "."],
+        fails: SILENT,
+        told: &[LOST],
+        status: 6,
+        index: Index {
+            name: INDEX,
+            before: Some(OLD),
+            call: (Some(Call::Create), 0),
+            after: Some(OLD),
+        },
+    },
+    Run {
+        words: &["makewhatis", ".", "."],
+        fails: SILENT,
+        told: &[LOST],
+        status: 6,
+        index: Index {
+            name: INDEX,
+            before: Some(OLD),
+            call: (Some(Call::Write), 0),
+            after: Some(OLD),
+        },
+    },
+    Run {
+        words: &["makewhatis", ".", "."],
+        fails: SILENT,
+        told: &[LOST],
+        status: 6,
+        index: Index {
+            name: INDEX,
+            before: Some(OLD),
+            call: (Some(Call::Flush), 0),
+            after: Some(OLD),
+        },
+    },
+    Run {
+        words: &["makewhatis", ".", "."],
+        fails: SILENT,
+        told: &[LOST],
+        status: 6,
+        index: Index {
+            name: INDEX,
+            before: Some(OLD),
+            call: (Some(Call::Rename), 0),
+            after: Some(OLD),
+        },
+    },
+    // a folder without pages has an index without entries; one that is missing has none, and no other one follows
+    Run {
+        words: &["makewhatis", "missing", "empty"],
+        fails: SILENT,
+        told: &["[notes]mandoc: missing/whatis.idx: cannot write\n"],
+        status: 6,
+        index: Index {
+            name: EMPTY,
+            before: None,
+            call: NO_CALL,
+            after: None,
+        },
+    },
+    Run {
+        words: &["makewhatis", "-n", "missing", "empty"],
+        fails: SILENT,
+        told: &["[out flushed][out flushed]"],
+        status: 0,
+        index: Index {
+            name: EMPTY,
+            before: None,
+            call: NO_CALL,
+            after: None,
+        },
+    },
+    Run {
+        words: &["makewhatis", "empty"],
+        fails: SILENT,
+        told: &[],
+        status: 0,
+        index: Index {
+            name: EMPTY,
+            before: None,
+            call: NO_CALL,
+            after: Some("whatis 2\n"),
+        },
+    },
 ];
 
-// A folder of a test's own with these files, and an index of before.
-fn pages<R: Files + Env + AllocGlobal>(rt: &R, id: u32, name: &str) -> io::Result<String> {
-    let dir = folder(rt, id, name)?;
-    for below in ["man1", "man1/sub.1", "man8", "man10"].iter() {
-        fs::create_dir(rt, path(rt, dir.as_str(), below)?)?;
-    }
-    for (file, text) in FILES.iter() {
-        fs::write(rt, path(rt, dir.as_str(), file)?, *text)?;
-    }
-    fs::write(rt, path(rt, dir.as_str(), "whatis.idx")?, OLD)?;
-    Ok(dir)
-}
-
-// The path of a file in a folder.
-fn path<R: AllocGlobal>(rt: &R, dir: &str, file: &str) -> io::Result<String> {
-    let path = format!(in rt.alloc(); "{dir}/{file}")?;
-    Ok(path)
-}
-
-fn check(rt: &impl Abort, holds: bool, what: &str) {
-    assert!(rt; holds, "{what}");
-}
-
-// Checks the index of a folder, and that no other is left.
-fn check_index<R: Files + AllocGlobal + Abort>(rt: &R, dir: &str, want: &str) -> io::Result<()> {
-    let index = fs::read(rt, path(rt, dir, "whatis.idx")?)?;
-    check_text(rt, index.as_slice(), want);
-    let is_left = fs::exists(rt, path(rt, dir, "whatis.tmp")?)?;
-    check(rt, !is_left, "whatis.tmp");
-    Ok(())
-}
-
 #[test]
-fn makes_an_index(rt: HostRuntime) -> Result<(), Fail> {
-    let dir = pages(&rt, process::id(rt.process()), "makes")?;
-    let dir = dir.as_str();
-    runs(&rt, &["makewhatis", "-n", dir], 200, (PRINTED, "", 0));
-    check_index(&rt, dir, OLD)?;
-    runs(&rt, &["makewhatis", dir], 0, ("", "", 0));
-    check_index(&rt, dir, INDEX)?;
-    let words = ["whatis", "-M", dir, "-w", "-s", "8", "fsck", "cat"];
-    runs(&rt, &words, 100, ("man8/fsck.8\n", "", 0));
-    fs::remove_dir_all(&rt, dir)?;
-    Ok(())
+fn makes_an_index(rt: HostRuntime) {
+    let made = in_folder(&rt, process::id(rt.process()), "makes", &PAGES);
+    check(&rt, made.is_ok(), &[], "the folder");
 }
 
-// A folder without pages has an index without entries; one that is missing has none, and no other one follows.
-#[test]
-fn needs_a_folder(rt: HostRuntime) -> Result<(), Fail> {
-    let dir = folder(&rt, process::id(rt.process()), "needs")?;
-    let dir = dir.as_str();
-    let missing = path(&rt, dir, "missing")?;
-    let told = format!(in rt.alloc(); "mandoc: {dir}/missing/whatis.idx: cannot write\n")?;
-    runs(
-        &rt,
-        &["makewhatis", missing.as_str(), dir],
-        0,
-        ("", told.as_str(), 6),
-    );
-    check(
-        &rt,
-        !fs::exists(&rt, path(&rt, dir, "whatis.idx")?)?,
-        "an index",
-    );
-    runs(
-        &rt,
-        &["makewhatis", "-n", missing.as_str(), dir],
-        0,
-        ("", "", 0),
-    );
-    runs(&rt, &["makewhatis", dir], 0, ("", "", 0));
-    check_index(&rt, dir, "whatis 2\n")?;
-    fs::remove_dir_all(&rt, dir)?;
-    Ok(())
-}
-
-// What can't be read is told of, and the index is still made of the other pages, in this folder and in the next.
-#[test]
-fn passes_over_what_cannot_be_read(rt: HostRuntime) -> Result<(), Fail> {
-    let dir = pages(&rt, process::id(rt.process()), "passes")?;
-    let dir = dir.as_str();
-    let without_cat =
-        "whatis 2\nzed\t1\tlast\tman1/Zed.1\nls, dir\t1p\tlist files\tman1/ls.1\nfsck\t8\tcheck disks\tman8/fsck.8\n";
-    let without_folder = "whatis 2\nfsck\t8\tcheck disks\tman8/fsck.8\n";
-    let cases = [
-        (Call::Open, 1, "man1/cat.1: cannot open", without_cat),
-        (Call::Read, 2, "man1/cat.1: cannot read", without_cat),
-        (Call::List, 0, "man1: cannot open", without_folder),
-        (Call::Names, 0, "man1: cannot open", without_folder),
-        (Call::Names, 1, "man1: cannot open", without_folder),
-    ];
-    for (call, before, fault, index) in cases.iter() {
-        let failure = Failure::new(Some(*call), *before);
-        let files = FailingFiles {
-            rt: &rt,
-            failure: &failure,
-        };
-        let told = format!(in rt.alloc(); "mandoc: {dir}/{fault}\n")?;
-        runs_over(&rt, &files, &["makewhatis", dir], 0, ("", told.as_str(), 6));
-        check_index(&rt, dir, index)?;
-    }
-    fs::remove_dir_all(&rt, dir)?;
-    Ok(())
-}
-
-// An index that can't be finished leaves the one of before, and no folder follows.
-#[test]
-fn keeps_the_index_of_before(rt: HostRuntime) -> Result<(), Fail> {
-    let dir = pages(&rt, process::id(rt.process()), "keeps")?;
-    let dir = dir.as_str();
-    let told = format!(in rt.alloc(); "mandoc: {dir}/whatis.idx: cannot write\n")?;
-    for call in [Call::Create, Call::Write, Call::Flush, Call::Rename].iter() {
-        let failure = Failure::new(Some(*call), 0);
-        let files = FailingFiles {
-            rt: &rt,
-            failure: &failure,
-        };
-        runs_over(
-            &rt,
-            &files,
-            &["makewhatis", dir, dir],
-            0,
-            ("", told.as_str(), 6),
-        );
-        check_index(&rt, dir, OLD)?;
-    }
-    fs::remove_dir_all(&rt, dir)?;
-    Ok(())
-}
+// The command line of an index whose calls fail in turn.
+const WORDS: &[&str] = &["makewhatis", "."];
 
 // Whichever call fails, the index is the one of before or a whole one, and nothing else is left.
-#[test]
-fn shows_no_half_of_an_index(rt: HostRuntime) -> Result<(), Fail> {
-    let dir = pages(&rt, process::id(rt.process()), "halves")?;
-    let dir = dir.as_str();
-    let mut calls = 0;
-    for before in 0..200 {
-        fs::write(&rt, path(&rt, dir, "whatis.idx")?, OLD)?;
-        let failure = Failure::new(None, before);
-        makes_with(&rt, dir, &failure)?;
-        if !failure.has_come() {
-            break;
+struct Halves;
+
+impl Test for Halves {
+    fn run<R: Files + AllocGlobal + Abort>(&self, rt: &R, files: &FailingFiles<'_, R>) {
+        let mut calls = 0;
+        'calls: for before in 0..200 {
+            if !makes_failing(rt, files, before) {
+                break 'calls;
+            }
+            calls = before;
         }
-        calls = before;
+        check(rt, 20 < calls && calls < 199, WORDS, "the number of calls");
     }
-    check(&rt, 20 < calls && calls < 199, "the number of calls");
-    fs::remove_dir_all(&rt, dir)?;
-    Ok(())
 }
 
-// Makes an index while a call fails.
-fn makes_with<R: Files + AllocGlobal + Abort>(
+// Makes an index while the call after this number of them fails, and answers whether it came.
+fn makes_failing<R: Files + AllocGlobal + Abort>(
     rt: &R,
-    dir: &str,
-    failure: &Failure,
-) -> io::Result<()> {
-    let files = FailingFiles { rt, failure };
-    let ran = run_over(&files, rt.alloc(), &["makewhatis", dir], 0);
-    check(rt, failure.has_come() == (ran.status == 6), "the status");
-    check(
-        rt,
-        failure.has_come() == !ran.err.is_empty(),
-        "what is told",
-    );
-    let index = fs::read_to_string(rt, path(rt, dir, "whatis.idx")?)?;
-    check(rt, is_whole(index.as_str()), "a whole index");
-    check(
-        rt,
-        !fs::exists(rt, path(rt, dir, "whatis.tmp")?)?,
-        "whatis.tmp",
-    );
-    Ok(())
+    files: &FailingFiles<'_, R>,
+    before: u32,
+) -> bool {
+    let is_set = set_index(files, INDEX, Some(OLD)).is_ok();
+    check(rt, is_set, WORDS, "the index of before");
+    let failure = Failure::new(None, before);
+    let ran = run_failing(files, &failure, WORDS, SILENT);
+    let has_come = failure.has_come();
+    check(rt, has_come == (ran.status == 6), WORDS, "the status");
+    check(rt, has_come == !ran.told.is_empty(), WORDS, "what is told");
+    check(rt, is_left_whole(files, rt.alloc()), WORDS, "the index");
+    has_come
 }
 
-// Whether an index is the one of before, or a new one with whole lines.
+// Whether the index is the one of before, or a new one with whole lines, and nothing is left beside it.
+fn is_left_whole<F: Files>(files: &F, alloc: Global) -> bool {
+    match fs::read_to_string(&(files, alloc), INDEX) {
+        Ok(index) => is_alone(files) && is_whole(index.as_str()),
+        Err(_) => false,
+    }
+}
+
 fn is_whole(index: &str) -> bool {
     index == OLD || index.ends_with('\n') && index.lines().all(|line| is_line_of(line))
 }
 
 fn is_line_of(line: &str) -> bool {
-    INDEX.lines().any(|entry| entry == line)
+    WHOLE.lines().any(|entry| entry == line)
+}
+
+#[test]
+fn shows_no_half_of_an_index(rt: HostRuntime) {
+    let made = in_folder(&rt, process::id(rt.process()), "halves", &Halves);
+    check(&rt, made.is_ok(), &[], "the folder");
 }

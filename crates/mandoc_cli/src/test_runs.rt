@@ -1,106 +1,363 @@
-//! For tests: command lines that are run over files, with what they print, and a folder for each test.
+//! For tests: command lines that are run over the files of a folder, with what their reader and their writers are told.
 
 use crate::commands::run_command;
+use crate::failing_files::{Call, FailingFiles, Failure};
 use mandoc_command::command;
 use std::alloc::Global;
-use std::io::{self, ErrorKind, Write};
+use std::cell::RefCell;
+use std::io::{self, ErrorKind, Read, Write};
 use std::process::Abort;
 use std::rt::{Env, Files};
 use std::{env, fs};
 
-/// What is printed, and where it fails: past this number of bytes.
-#[derive(Drop)]
-struct Paper {
-    text: Vec<u8>,
-    room: usize,
+// A page without a message, and one with a warning.
+const QUIET: &str = ".TH T 1 2020-01-01 S\n.SH NAME\nt \\- x\n";
+
+const BLANK: &str = ".TH T 1 2020-01-01 S\n.SH NAME\nt \\- x\n\ny\n";
+
+const FOLDERS: &[&str] = &["empty", "man1", "man1/sub.1", "man8", "man10"];
+
+// Two pages to be formatted, and pages in folders: the name of one can't stand in an index, one has no record, and one isn't where pages are.
+const FILES: &[(&str, &str)] = &[
+    ("quiet.1", QUIET),
+    ("blank.1", BLANK),
+    ("man1/ls.1", ".TH LS 1p\n.SH NAME\nls, dir \\- list files\n"),
+    ("man1/Zed.1", ".TH ZED 1\n.SH NAME\nzed \\- last\n"),
+    (
+        "man1/cat.1",
+        ".Dd d\n.Dt CAT 1\n.Os\n.Sh NAME\n.Nm cat\n.Nd print files\n",
+    ),
+    ("man1/none.1", ".TH NONE 1\n.SH NAME\nnone\n"),
+    ("man1/a\tb.1", ".TH B 1\n.SH NAME\nb \\- blank\n"),
+    ("man1/sub.1/t.1", ".TH T 1\n.SH NAME\nt \\- deep\n"),
+    (
+        "man8/fsck.8",
+        ".TH FSCK 8\n.SH NAME\nfsck \\- check disks\n",
+    ),
+    ("man10/x.1", ".TH X 1\n.SH NAME\nx \\- far\n"),
+];
+
+/// The index of the folder.
+pub const INDEX: &str = "whatis.idx";
+
+/// The index of a folder without pages below it.
+pub const EMPTY: &str = "empty/whatis.idx";
+
+// What stands beside these before they are whole.
+const UNFINISHED: &[&str] = &["whatis.tmp", "empty/whatis.tmp"];
+
+/// A command line in a folder; where its rows and its messages fail; what its reader and its writers are told, and its status; and what becomes
+/// of an index.
+pub struct Run {
+    pub words: &'static [&'static str],
+    pub fails: (Fails, Fails),
+    pub told: &'static [&'static str],
+    pub status: u8,
+    pub index: Index,
 }
 
-impl Paper {
-    fn new(alloc: Global, room: usize) -> Paper {
-        Paper {
-            text: Vec::new(alloc),
-            room,
+/// An index before and after a run, and the call of files that fails in it, after this number of them.
+pub struct Index {
+    pub name: &'static str,
+    pub before: Option<&'static str>,
+    pub call: (Option<Call>, u32),
+    pub after: Option<&'static str>,
+}
+
+/// No call of files fails.
+pub const NO_CALL: (Option<Call>, u32) = (None, u32::MAX);
+
+/// No index is there, and none is made.
+pub const NO_INDEX: Index = Index {
+    name: INDEX,
+    before: None,
+    call: NO_CALL,
+    after: None,
+};
+
+/// Where a writer fails.
+#[derive(Clone, Copy)]
+pub enum Fails {
+    Never,
+    /// Past this number of bytes, of which the last ones are written.
+    Past(usize),
+    /// After this number of flushes.
+    AtFlush(usize),
+}
+
+/// No writer fails.
+pub const NEVER: (Fails, Fails) = (Fails::Never, Fails::Never);
+
+// What is told of a reader and two writers in turn: `[in]` for a read, the bytes of the writers, `[NAME]` where those of another one begin, and
+// `[NAME flushed]`.
+#[derive(Drop)]
+pub struct Journal {
+    text: String,
+    last: Option<Writer>,
+}
+
+// The writer of the rows or that of the messages.
+#[derive(Clone, Copy, PartialEq, Eq)]
+enum Writer {
+    Rows,
+    Messages,
+}
+
+impl Writer {
+    // What a journal calls it.
+    fn name(self) -> &'static str {
+        match self {
+            Writer::Rows => "out",
+            Writer::Messages => "notes",
         }
     }
 }
 
-impl Write for Paper {
+impl Journal {
+    /// Nothing was told.
+    pub fn new(alloc: Global) -> RefCell<Journal> {
+        RefCell::new(Journal {
+            text: String::new(alloc),
+            last: None,
+        })
+    }
+}
+
+// Tells of bytes that a writer took.
+fn tell_bytes(journal: &RefCell<Journal>, writer: Writer, bytes: &[u8]) -> io::Result<()> {
+    let (Ok(mut journal), Ok(text)) = (journal.try_borrow_mut(), str::from_utf8(bytes)) else {
+        return Err(io::Error::from(ErrorKind::InvalidData));
+    };
+    if journal.last != Some(writer) {
+        let name = writer.name();
+        write!(journal.text, "[{name}]")?;
+        journal.last = Some(writer);
+    }
+    journal.text.push_str(text)?;
+    Ok(())
+}
+
+// Tells of a call.
+fn tell_call(journal: &RefCell<Journal>, name: &str, call: &str) -> io::Result<()> {
+    let Ok(mut journal) = journal.try_borrow_mut() else {
+        return Err(io::Error::from(ErrorKind::InvalidData));
+    };
+    write!(journal.text, "[{name}{call}]")?;
+    journal.last = None;
+    Ok(())
+}
+
+// A writer that tells a journal of each write and flush.
+#[derive(Drop)]
+struct Told<'a> {
+    writer: Writer,
+    journal: &'a RefCell<Journal>,
+    fails: Fails,
+}
+
+impl Write for Told<'_> {
     fn write(&mut self, bytes: &[u8]) -> io::Result<usize> {
-        let count = bytes.len().min(self.room);
-        if count == 0 {
-            return Err(io::Error::from(ErrorKind::StorageFull));
+        let mut count = bytes.len();
+        if let Fails::Past(room) = self.fails {
+            if room == 0 {
+                return Err(io::Error::from(ErrorKind::StorageFull));
+            }
+            count = count.min(room);
+            self.fails = Fails::Past(room.saturating_sub(count));
         }
-        self.text.extend_from_slice(&bytes[..count])?;
-        self.room -= count;
+        tell_bytes(self.journal, self.writer, &bytes[..count])?;
         Ok(count)
     }
 
     fn flush(&mut self) -> io::Result<()> {
-        Ok(())
+        if let Fails::AtFlush(left) = self.fails {
+            let Some(rest) = left.checked_sub(1) else {
+                return Err(io::Error::from(ErrorKind::StorageFull));
+            };
+            self.fails = Fails::AtFlush(rest);
+        }
+        tell_call(self.journal, self.writer.name(), " flushed")
     }
 }
 
-/// Checks that a text is the one that is wanted.
-pub fn check_text(rt: &impl Abort, text: &[u8], want: &str) {
-    let shown = std::str::from_utf8(text).unwrap_or("no text");
-    assert!(rt; text == want.as_bytes(), "{shown:?}, and not {want:?}");
+// The page with a warning, which comes line by line, as one that is typed, and fails where it ends.
+#[derive(Drop)]
+struct Typed<'a> {
+    page: &'a [u8],
+    journal: &'a RefCell<Journal>,
 }
 
-fn check_status(rt: &impl Abort, status: u8, want: u8) {
-    assert_eq!(rt; status, want);
+impl Read for Typed<'_> {
+    fn read(&mut self, buffer: &mut [u8]) -> io::Result<usize> {
+        tell_call(self.journal, "in", "")?;
+        if self.page.is_empty() {
+            return Err(io::Error::from(ErrorKind::ConnectionReset));
+        }
+        let end = self.page.iter().position(|byte| *byte == b'\n');
+        let count = end
+            .map_or(self.page.len(), |end| end.saturating_add(1))
+            .min(self.page.len())
+            .min(buffer.len());
+        let (front, rest) = self.page.split_at(count);
+        buffer[..count].copy_from_slice(front);
+        self.page = rest;
+        Ok(count)
+    }
 }
 
-/// What a command line printed, what it told, and its status.
+// Runs words over files, where the rows and the messages fail so, and answers the status. A refused command line has the status 5.
+fn run_over<F: Files>(
+    files: &F,
+    alloc: Global,
+    words: &[&str],
+    fails: (Fails, Fails),
+    journal: &RefCell<Journal>,
+) -> u8 {
+    let Ok(asked) = command(alloc, words) else {
+        return 5;
+    };
+    let mut out = Told {
+        writer: Writer::Rows,
+        journal,
+        fails: fails.0,
+    };
+    let mut notes = Told {
+        writer: Writer::Messages,
+        journal,
+        fails: fails.1,
+    };
+    let mut input = Typed {
+        page: BLANK.as_bytes(),
+        journal,
+    };
+    run_command(files, alloc, &asked, &mut input, &mut out, &mut notes)
+}
+
+/// What a run told its reader and its writers, and its status.
 #[derive(Drop)]
 pub struct Ran {
-    pub out: Vec<u8>,
-    pub err: Vec<u8>,
+    pub told: String,
     pub status: u8,
 }
 
-/// Runs these words over files, where the output has this room. A refused command line has the status 5.
-pub fn run_over<F: Files>(files: &F, alloc: Global, words: &[&str], room: usize) -> Ran {
-    let mut out = Paper::new(alloc, room);
-    let mut err = Paper::new(alloc, usize::MAX);
-    let status = match command(alloc, words) {
-        Ok(asked) => run_command(files, alloc, &asked, &mut io::empty(), &mut out, &mut err),
-        Err(_) => 5,
+/// Runs words over the files of a folder, of which a call fails.
+pub fn run_failing<R: Files + AllocGlobal>(
+    good: &FailingFiles<'_, R>,
+    failure: &Failure,
+    words: &[&str],
+    fails: (Fails, Fails),
+) -> Ran {
+    let alloc = good.rt.alloc();
+    let journal = Journal::new(alloc);
+    let files = FailingFiles {
+        rt: good.rt,
+        dir: good.dir,
+        failure,
     };
+    let status = run_over(&files, alloc, words, fails, &journal);
     Ran {
-        out: out.text,
-        err: err.text,
+        told: journal.into_inner().text,
         status,
     }
 }
 
-/// Checks that these words, over files, print this, tell this and end with this status, where the output has this room.
-pub fn runs_over<F: Files, R: AllocGlobal + Abort>(
-    rt: &R,
-    files: &F,
-    words: &[&str],
-    room: usize,
-    want: (&str, &str, u8),
-) {
-    let ran = run_over(files, rt.alloc(), words, room);
-    check_text(rt, ran.err.as_slice(), want.1);
-    check_text(rt, ran.out.as_slice(), want.0);
-    check_status(rt, ran.status, want.2);
+/// Checks what holds of a run by these words.
+pub fn check(rt: &impl Abort, holds: bool, words: &[&str], what: &str) {
+    assert!(rt; holds, "{words:?}: {what}");
 }
 
-/// The same over the files of the system.
-pub fn runs<R: Files + AllocGlobal + Abort>(
-    rt: &R,
-    words: &[&str],
-    room: usize,
-    want: (&str, &str, u8),
-) {
-    runs_over(rt, rt, words, room, want);
+// Whether a text is these, one after another.
+fn is_joined(text: &str, parts: &[&str]) -> bool {
+    let mut rest = text;
+    for part in parts {
+        match rest.strip_prefix(*part) {
+            Some(after) => rest = after,
+            None => return false,
+        }
+    }
+    rest.is_empty()
 }
 
-/// A folder of a test's own, by the number of its process and a name.
-pub fn folder<R: Files + Env + AllocGlobal>(rt: &R, id: u32, name: &str) -> io::Result<String> {
+/// Makes the index that is there before a run.
+pub fn set_index<F: Files>(files: &F, name: &str, text: Option<&str>) -> io::Result<()> {
+    match text {
+        Some(text) => fs::write(files, name, text),
+        None if matches!(fs::exists(files, name), Ok(true)) => fs::remove_file(files, name),
+        None => Ok(()),
+    }
+}
+
+/// Whether no index is left that is not whole.
+pub fn is_alone<F: Files>(files: &F) -> bool {
+    UNFINISHED
+        .iter()
+        .all(|name| matches!(fs::exists(files, *name), Ok(false)))
+}
+
+// Whether an index is this one, or none is there.
+fn is_index<F: Files>(files: &F, alloc: Global, name: &str, want: Option<&str>) -> bool {
+    match (fs::read_to_string(&(files, alloc), name), want) {
+        (Ok(text), Some(want)) => text.as_str() == want,
+        (Err(error), None) => error.kind() == ErrorKind::NotFound,
+        _ => false,
+    }
+}
+
+// Makes a run over the files of a folder, and checks what comes of it.
+fn check_run<R: Files + AllocGlobal + Abort>(rt: &R, files: &FailingFiles<'_, R>, run: &Run) {
+    let index = &run.index;
+    let is_set = set_index(files, index.name, index.before).is_ok();
+    check(rt, is_set, run.words, "the index of before");
+    let failure = Failure::new(index.call.0, index.call.1);
+    let ran = run_failing(files, &failure, run.words, run.fails);
+    let told = ran.told.as_str();
+    check(rt, is_joined(told, run.told), run.words, told);
+    check(rt, ran.status == run.status, run.words, "the status");
+    let is_left = is_index(files, rt.alloc(), index.name, index.after);
+    check(rt, is_left && is_alone(files), run.words, "the index");
+}
+
+// Makes the folders and files of a test.
+fn fill<F: Files>(files: &F) -> io::Result<()> {
+    for dir in FOLDERS {
+        fs::create_dir(files, *dir)?;
+    }
+    for (name, text) in FILES {
+        fs::write(files, *name, *text)?;
+    }
+    Ok(())
+}
+
+/// What a test does with the files of its folder.
+pub trait Test {
+    fn run<R: Files + AllocGlobal + Abort>(&self, rt: &R, files: &FailingFiles<'_, R>);
+}
+
+impl Test for &[Run] {
+    fn run<R: Files + AllocGlobal + Abort>(&self, rt: &R, files: &FailingFiles<'_, R>) {
+        for run in *self {
+            check_run(rt, files, run);
+        }
+    }
+}
+
+/// Makes a folder of a test's own with the files above, by the number of its process and a name, gives it to the test, and removes it.
+pub fn in_folder<R: Files + Env + AllocGlobal + Abort, T: Test>(
+    rt: &R,
+    id: u32,
+    name: &str,
+    test: &T,
+) -> io::Result<()> {
     let below = env::temp_dir(rt)?;
-    let folder = format!(in rt.alloc(); "{}/mandoc_index-{id}-{name}", below.as_str())?;
-    fs::create_dir(rt, folder.as_str())?;
-    Ok(folder)
+    let dir = format!(in rt.alloc(); "{}/mandoc_cli-{id}-{name}", below.as_str())?;
+    fs::create_dir(rt, dir.as_str())?;
+    let failure = Failure::new(NO_CALL.0, NO_CALL.1);
+    let files = FailingFiles {
+        rt,
+        dir: dir.as_str(),
+        failure: &failure,
+    };
+    fill(&files)?;
+    test.run(rt, &files);
+    fs::remove_dir_all(rt, dir.as_str())
 }

@@ -1,7 +1,7 @@
 //! Escapes: what each means, and how many bytes it takes.
 
-use page_core_escapes::{Escape, FontName, Token, escape, read_token};
-use page_core_limits::LINE;
+use page_core::{Escape, FontName, LINE, escape};
+use page_core_escapes::{Token, read_token};
 
 /// Shows the escape at a text's front: the number of its bytes, what it means, and its argument or character.
 pub(crate) fn show_escape(rt: &HostRuntime, text: &str) {

@@ -1,7 +1,6 @@
 //! Glyphs and characters: their spellings, what they print, and their columns.
 
-use page_core_base::Output;
-use page_core_tables::{Printed, char_columns, glyph, printed_char, printed_glyph, spelling};
+use page_core::{Output, Printed, char_columns, glyph, printed_char, printed_glyph, spelling};
 
 /// Shows the glyph of a name: its character, its spelling, that of its character, and what it prints in ASCII, for lint and in UTF-8.
 pub(crate) fn show_glyph(rt: &HostRuntime, name: &str) {

@@ -1,4 +1,4 @@
-//! Shows what calls of `page_core` give, a line for each line of the standard input: the name of a call, a blank, and its text. Other lines
+//! Shows what calls through the door `page_core` give, a line for each line of the standard input: the name of a call, a blank, and its text. Other lines
 //! stay as they are. What cannot be written is missing from what is wanted.
 #![tactic(auto)]
 

@@ -1,9 +1,6 @@
 //! Numbers and columns.
 
-use page_core_base::Output;
-use page_core_limits::LINE;
-use page_core_numbers::{Scale, columns, number};
-use page_core_writers::TextNotes;
+use page_core::{LINE, Output, Scale, TextNotes, columns, number};
 
 /// Shows the columns of a text in ASCII, for lint and in UTF-8.
 pub(crate) fn show_columns(rt: &HostRuntime, text: &str) {

@@ -1,6 +1,6 @@
 //! What is asserted, one function a type. `at` names the case.
 
-use page_core_base::Fault;
+use page_core::Fault;
 use std::process::Abort;
 
 pub(crate) fn check(rt: &impl Abort, holds: bool, at: &str) {

@@ -1,9 +1,7 @@
 //! Escapes of a whole line; `page_core_cases` has the others.
 
 use crate::checks::{check, check_count};
-use page_core_escapes::{Escape, escape};
-use page_core_limits::LINE;
-use std::alloc::AllocError;
+use page_core::{Escape, LINE, escape};
 use std::process::Abort;
 use std::test::Fail;
 
@@ -19,21 +17,20 @@ fn check_escape(rt: &impl Abort, text: &str, is_closed: bool) {
     }
 }
 
-fn add(line: &mut String, part: &str, count: usize) -> Result<(), AllocError> {
-    for _ in 0..count {
-        line.push_str(part)?;
-    }
-    Ok(())
-}
-
 #[test]
 fn arguments_nest_deep(rt: HostRuntime) -> Result<(), Fail> {
     let mut line = String::new(rt.alloc());
-    add(&mut line, "\\X'", 21_845)?;
+    for _ in 0..21_845 {
+        line.push_str("\\X'")?;
+    }
     check_escape(&rt, line.as_str(), false);
-    line.clear();
-    add(&mut line, "\\X'", 16_000)?;
-    add(&mut line, "'", 16_000)?;
+    let mut line = String::new(rt.alloc());
+    for _ in 0..16_000 {
+        line.push_str("\\X'")?;
+    }
+    for _ in 0..16_000 {
+        line.push_str("'")?;
+    }
     check_escape(&rt, line.as_str(), true);
     Ok(())
 }

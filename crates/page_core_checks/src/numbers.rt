@@ -1,12 +1,8 @@
 //! Numbers whose messages fail, and columns of a whole line; `page_core_cases` has the others.
 
 use crate::checks::{check_bytes, check_count, check_failures};
-use crate::writers::{Room, narrow_writer};
-use page_core_base::{Fault, NoteSink, Output};
-use page_core_limits::LINE;
-use page_core_numbers::{Scale, columns, number};
-use page_core_writers::TextNotes;
-use std::alloc::{AllocError, Global};
+use crate::writers::narrow_writer;
+use page_core::{Fault, LINE, NoteSink, Output, Scale, TextNotes, columns, number};
 use std::process::Abort;
 use std::test::Fail;
 
@@ -18,15 +14,7 @@ fn check_number(
     want: Result<(i32, usize), Fault>,
     front: &[u8],
 ) {
-    let mut out = narrow_writer(
-        rt.alloc(),
-        Room {
-            most: 9,
-            room,
-            interruptions: 0,
-            takes_none: false,
-        },
-    );
+    let mut out = narrow_writer(rt.alloc(), 9, room);
     let mut notes = TextNotes::new(&mut out, "f");
     let read = number(text, Scale::Basic, 3, 7, &mut notes);
     check_failures(rt, notes.failures(), want.is_err() as u64);
@@ -56,26 +44,17 @@ fn check_columns(rt: &impl Abort, text: &str, output: Output, want: usize) {
     check_count(rt, found as usize, want, "columns of a line");
 }
 
-// Checks the columns of a line that is a text so many times.
-fn check_long_line(
-    rt: &impl Abort,
-    alloc: Global,
-    part: &str,
-    count: usize,
-    output: Output,
-    want: usize,
-) -> Result<(), AllocError> {
-    let mut line = String::new(alloc);
-    for _ in 0..count {
-        line.push_str(part)?;
-    }
-    check_columns(rt, line.as_str(), output, want);
-    Ok(())
-}
-
 #[test]
 fn a_long_line_has_columns(rt: HostRuntime) -> Result<(), Fail> {
-    check_long_line(&rt, rt.alloc(), "\\h'999i'", 8_192, Output::Utf8, 8_192_000)?;
-    check_long_line(&rt, rt.alloc(), "\u{3b1}", 32_768, Output::Ascii, 229_376)?;
+    let mut line = String::new(rt.alloc());
+    for _ in 0..8192 {
+        line.push_str("\\h'999i'")?;
+    }
+    check_columns(&rt, line.as_str(), Output::Utf8, 8_192_000);
+    let mut line = String::new(rt.alloc());
+    for _ in 0..32_768 {
+        line.push_str("\u{3b1}")?;
+    }
+    check_columns(&rt, line.as_str(), Output::Ascii, 229_376);
     Ok(())
 }

@@ -1,40 +1,34 @@
 //! What is written: a writer that has little room, messages and cells.
 
 use arrayvec::ArrayString;
-use page_core_base::{Cell, Font, Note, NoteKind};
+use page_core::{Cell, Font, Note, NoteKind};
 use std::alloc::{AllocError, Global};
 use std::io;
 use std::io::{ErrorKind, Write};
 
-/// How a writer takes bytes: at most `most` at a call, and `room` in all, after this number of calls that are interrupted. Once it has no room
-/// it fails, by an error or by taking no byte.
-#[derive(Clone, Copy)]
-pub(crate) struct Room {
+// A writer that takes at most `most` bytes at a call, after this number of calls that are interrupted. Once it has no room it fails, by an
+// error or by taking no byte.
+#[derive(Drop)]
+pub(crate) struct Narrow {
+    pub(crate) got: Vec<u8>,
     pub(crate) most: usize,
     pub(crate) room: usize,
     pub(crate) interruptions: u32,
     pub(crate) takes_none: bool,
 }
 
-/// Such a writer, and what it got.
-#[derive(Drop)]
-pub(crate) struct Narrow {
-    pub(crate) got: Vec<u8>,
-    left: Room,
-}
-
 impl Write for Narrow {
     fn write(&mut self, buf: &[u8]) -> io::Result<usize> {
-        if self.left.interruptions > 0 {
-            self.left.interruptions -= 1;
+        if self.interruptions > 0 {
+            self.interruptions -= 1;
             return Err(io::Error::from(ErrorKind::Interrupted));
         }
-        let count = buf.len().min(self.left.most).min(self.left.room);
-        if count == 0 && !self.left.takes_none {
+        let count = buf.len().min(self.most).min(self.room);
+        if count == 0 && !self.takes_none {
             return Err(io::Error::from(ErrorKind::BrokenPipe));
         }
         self.got.extend_from_slice(&buf[..count])?;
-        self.left.room -= count;
+        self.room -= count;
         Ok(count)
     }
 
@@ -43,10 +37,14 @@ impl Write for Narrow {
     }
 }
 
-pub(crate) fn narrow_writer(alloc: Global, room: Room) -> Narrow {
+// A writer that takes `most` bytes at a call, and `room` in all.
+pub(crate) fn narrow_writer(alloc: Global, most: usize, room: usize) -> Narrow {
     Narrow {
         got: Vec::new(alloc),
-        left: room,
+        most,
+        room,
+        interruptions: 0,
+        takes_none: false,
     }
 }
 

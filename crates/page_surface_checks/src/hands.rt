@@ -4,10 +4,11 @@ ghost use Rattle.std.specs.Prelude.{◌≤◌, length};
 
 use crate::lines::FedPage;
 use crate::sheets::Sheet;
-use page_core::{Fault, LINE, Level, Note, NoteSink, PieceSink, Settings, Taken, is_line};
+use crate::sinks::{Kept, Notes};
+use page_core::{Fault, LINE, PieceSink, Settings, Taken, is_line};
 use page_roff::{Counts, Roff};
 use page_scopes::Scopes;
-use page_sets::MacroSet;
+use page_sets::{MacroSet, Man};
 use std::alloc::Global;
 
 // The lines that roff takes of one source line at most, and one call more.
@@ -16,8 +17,11 @@ const TAKES: usize = 1_002;
 // The source lines of a page here at most.
 const LINES: u64 = 1_000_000;
 
-/// What takes the finished lines of roff, beside its messages.
-pub(crate) trait LineSink: NoteSink {
+/// What takes the finished lines of roff, and its messages.
+pub(crate) trait LineSink {
+    /// Where messages go.
+    fn notes(&mut self) -> &mut Notes;
+
     /// A finished line comes.
     fn finished(&mut self, line: Taken<'_>) -> Result<(), Fault>
         requires { length line.text.now ≤ LINE };
@@ -41,7 +45,7 @@ fn begin_line(roff: &mut Roff, text: &[u8], number: u32) -> bool {
 
 // Takes the next finished line of roff, and says whether there was one.
 fn take_line<L: LineSink>(roff: &mut Roff, lines: &mut L) -> Result<bool, Fault> {
-    match roff.take(lines)? {
+    match roff.take(lines.notes())? {
         Some(line) => {
             lines.finished(line)?;
             Ok(true)
@@ -73,7 +77,7 @@ pub(crate) fn run_line<L: LineSink>(
 }
 
 /// Ends roff.
-pub(crate) fn end_roff<N: NoteSink>(roff: &mut Roff, notes: &mut N) -> Result<(), Fault> {
+pub(crate) fn end_roff(roff: &mut Roff, notes: &mut Notes) -> Result<(), Fault> {
     if roff.idle() {
         roff.end(notes)
     } else {
@@ -83,13 +87,15 @@ pub(crate) fn end_roff<N: NoteSink>(roff: &mut Roff, notes: &mut N) -> Result<()
 
 // ---- what is below roff
 
-/// The scopes before the first line; nothing is said of their state.
+/// The scopes before the first line: the set of the page is chosen once they are made. Nothing is said of their state.
 pub(crate) fn new_scopes<S: MacroSet>(
     alloc: Global,
     settings: &Settings,
     set: &S,
 ) -> Result<Scopes, Fault> {
-    Scopes::new(alloc, settings, set)
+    let mut scopes = Scopes::new(alloc, settings, &Man)?;
+    scopes.choose(set);
+    Ok(scopes)
 }
 
 // Applies the events of a finished line.
@@ -120,9 +126,9 @@ struct Body<S> {
 
 impl<S: MacroSet + Drop> Body<S> {
     // Before the first line.
-    fn new(alloc: Global, settings: &Settings, set: S) -> Result<Body<S>, Fault> {
+    fn new(alloc: Global, settings: &Settings, set: S, kept: Kept) -> Result<Body<S>, Fault> {
         let scopes = new_scopes(alloc, settings, &set)?;
-        let sheet = Sheet::new(alloc, settings)?;
+        let sheet = Sheet::new(alloc, settings, kept)?;
         Ok(Body { set, scopes, sheet })
     }
 
@@ -133,40 +139,14 @@ impl<S: MacroSet + Drop> Body<S> {
     }
 }
 
-impl<S> NoteSink for Body<S> {
-    ghost gave = { λ _ _ _. Unit {0} };
-
-    ghost within = { λ _ _ _. Unit {0} };
-
-    ghost failed = { λ _. 0 };
-
-    ghost Loans = { Unit {0} };
-
-    ghost loans = { λ _. tt };
-
-    ghost laws = { record {
-      none = λ _. tt;
-      more = λ _ _ _ _ _ _ _. tt;
-      after = λ _ _ _ _ _ _ _. tt;
-      before = λ _ _ _ _ _. tt;
-    } };
-
-    ghost whole = { λ _ _ _ _. tt };
-
-    fn note(&mut self, note: &Note) -> Result<(), Fault> {
-        let _ = self.sheet.note(note);
-        Ok(())
-    }
-
-    fn failures(&self) -> u64 {
-        0
-    }
-}
-
 impl<S: MacroSet> LineSink for Body<S>
 where
     S::Place: Drop,
 {
+    fn notes(&mut self) -> &mut Notes {
+        &mut self.sheet.kept.notes
+    }
+
     fn finished(&mut self, line: Taken<'_>) -> Result<(), Fault> {
         apply_line(&self.set, line, &mut self.scopes, &mut self.sheet)
     }
@@ -183,9 +163,14 @@ pub(crate) struct ByHand<S> {
 
 impl<S: MacroSet + Drop> ByHand<S> {
     /// A page before its first line.
-    pub(crate) fn new(alloc: Global, settings: &Settings, set: S) -> Result<ByHand<S>, Fault> {
+    pub(crate) fn new(
+        alloc: Global,
+        settings: &Settings,
+        set: S,
+        kept: Kept,
+    ) -> Result<ByHand<S>, Fault> {
         let roff = new_roff(alloc, settings)?;
-        let body = Body::new(alloc, settings, set)?;
+        let body = Body::new(alloc, settings, set, kept)?;
         Ok(ByHand { roff, body })
     }
 }
@@ -199,20 +184,12 @@ where
     }
 
     fn end(&mut self) -> Result<(), Fault> {
-        end_roff(&mut self.roff, &mut self.body)?;
+        end_roff(&mut self.roff, &mut self.body.sheet.kept.notes)?;
         self.body.finish()
     }
 
-    fn rows(&self) -> &[u8] {
-        self.body.sheet.rows.text.as_slice()
-    }
-
-    fn messages(&self) -> &[u8] {
-        self.body.sheet.notes.text.as_slice()
-    }
-
-    fn worst(&self) -> Option<Level> {
-        self.body.sheet.notes.worst
+    fn kept(&self) -> &Kept {
+        &self.body.sheet.kept
     }
 
     fn counts(&self) -> Counts {

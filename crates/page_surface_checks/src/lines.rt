@@ -2,8 +2,8 @@
 
 ghost use Rattle.std.specs.Prelude.{◌≡◌, ◌+◌, ◌^◌, ◌<◌, length, false, true, OnOk};
 
-use crate::sinks::Notes;
-use page_core::{Encoding, Fault, Level};
+use crate::sinks::{Kept, Notes};
+use page_core::{Encoding, Fault};
 use page_roff::{Counts, Cutter};
 use std::alloc::Global;
 
@@ -20,14 +20,8 @@ pub(crate) trait FedPage {
     /// No more lines come.
     fn end(&mut self) -> Result<(), Fault>;
 
-    /// The rows so far, as they are printed.
-    fn rows(&self) -> &[u8];
-
-    /// The messages so far, as they are printed.
-    fn messages(&self) -> &[u8];
-
-    /// The worst level of these.
-    fn worst(&self) -> Option<Level>;
+    /// The rows and messages so far.
+    fn kept(&self) -> &Kept;
 
     /// What is counted.
     fn counts(&self) -> Counts;

@@ -3,83 +3,43 @@
 use crate::checks::all_messages;
 use crate::hands::{LineSink, end_roff, new_roff, run_line};
 use crate::lines::FedPage;
-use crate::sinks::Notes;
+use crate::sinks::{Kept, Notes};
 use crate::steps::{Step, check_steps};
-use page_core::{Fault, Level, Note, NoteSink, Taken};
+use page_core::{Fault, Taken};
 use page_roff::{Counts, Roff};
 use std::test::Fail;
 
-// Keeps finished lines, each with a bar after it.
-#[derive(Drop)]
-struct Spelling {
-    lines: Vec<u8>,
-    notes: Notes,
-}
-
-impl NoteSink for Spelling {
-    ghost gave = { λ _ _ _. Unit {0} };
-
-    ghost within = { λ _ _ _. Unit {0} };
-
-    ghost failed = { λ _. 0 };
-
-    ghost Loans = { Unit {0} };
-
-    ghost loans = { λ _. tt };
-
-    ghost laws = { record {
-      none = λ _. tt;
-      more = λ _ _ _ _ _ _ _. tt;
-      after = λ _ _ _ _ _ _ _. tt;
-      before = λ _ _ _ _ _. tt;
-    } };
-
-    ghost whole = { λ _ _ _ _. tt };
-
-    fn note(&mut self, note: &Note) -> Result<(), Fault> {
-        let _ = self.notes.note(note);
-        Ok(())
+// Finished lines stand for rows, each with a bar after it.
+impl LineSink for Kept {
+    fn notes(&mut self) -> &mut Notes {
+        &mut self.notes
     }
 
-    fn failures(&self) -> u64 {
-        0
-    }
-}
-
-impl LineSink for Spelling {
     fn finished(&mut self, line: Taken<'_>) -> Result<(), Fault> {
-        let _ = self.lines.extend_from_slice(line.text);
-        let _ = self.lines.push(b'|');
+        let _ = self.rows.text.extend_from_slice(line.text);
+        let _ = self.rows.text.push(b'|');
         Ok(())
     }
 }
 
-// Roff alone, whose finished lines stand for rows.
+// Roff alone.
 #[derive(Drop)]
 struct RoffAlone {
     roff: Roff,
-    spelling: Spelling,
+    kept: Kept,
 }
 
 impl FedPage for RoffAlone {
     fn line(&mut self, text: &[u8], number: u32) -> Result<(), Fault> {
-        run_line(&mut self.roff, text, number, &mut self.spelling)
+        run_line(&mut self.roff, text, number, &mut self.kept)
     }
 
     fn end(&mut self) -> Result<(), Fault> {
-        end_roff(&mut self.roff, &mut self.spelling)
+        end_roff(&mut self.roff, &mut self.kept.notes)
     }
 
-    fn rows(&self) -> &[u8] {
-        self.spelling.lines.as_slice()
-    }
-
-    fn messages(&self) -> &[u8] {
-        self.spelling.notes.text.as_slice()
-    }
-
-    fn worst(&self) -> Option<Level> {
-        self.spelling.notes.worst
+    fn kept(&self) -> &Kept {
+        &self.kept
     }
 
     fn counts(&self) -> Counts {
@@ -160,10 +120,8 @@ const STEPS: &[Step] = &[
 
 #[test]
 fn runs_roff(rt: HostRuntime) -> Result<(), Fail> {
+    let kept = Kept::new(rt.alloc(), (0, 0));
     let roff = new_roff(rt.alloc(), &all_messages())?;
-    let spelling = Spelling {
-        lines: Vec::new(rt.alloc()),
-        notes: Notes::new(rt.alloc(), 0),
-    };
-    check_steps(&rt, RoffAlone { roff, spelling }, STEPS)
+    check_steps(&rt, RoffAlone { roff, kept }, STEPS);
+    Ok(())
 }

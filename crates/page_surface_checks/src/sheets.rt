@@ -2,17 +2,16 @@
 
 ghost use Rattle.std.proofs.Common.{refl};
 
-use crate::sinks::{Notes, Rows};
+use crate::sinks::Kept;
 use page_core::{Fault, Font, Note, NoteSink, Piece, PieceSink, Place, Settings};
 use page_fill::Filler;
 use std::alloc::Global;
 
-/// A filler with its rows and messages. It takes all pieces: a fault of its sinks, which never fail here, is kept aside.
+/// A filler with its rows and messages. It takes all pieces: a fault of its sinks is kept aside.
 #[derive(Drop)]
 pub(crate) struct Sheet {
     filler: Filler,
-    pub(crate) rows: Rows,
-    pub(crate) notes: Notes,
+    pub(crate) kept: Kept,
     has_failed: bool,
 }
 
@@ -22,27 +21,25 @@ pub(crate) fn new_filler(alloc: Global, settings: &Settings) -> Result<Filler, F
 }
 
 // Fills a piece, and says whether that went well.
-fn fill(filler: &mut Filler, rows: &mut Rows, notes: &mut Notes, piece: Piece<&[u8]>) -> bool {
-    filler.piece(piece, rows, notes).is_ok()
+fn fill(filler: &mut Filler, kept: &mut Kept, piece: Piece<&[u8]>) -> bool {
+    filler.piece(piece, &mut kept.rows, &mut kept.notes).is_ok()
 }
 
 impl Sheet {
     /// A sheet without a row.
-    pub(crate) fn new(alloc: Global, settings: &Settings) -> Result<Sheet, Fault> {
+    pub(crate) fn new(alloc: Global, settings: &Settings, kept: Kept) -> Result<Sheet, Fault> {
         let filler = new_filler(alloc, settings)?;
-        let rows = Rows::new(alloc, 0);
-        let notes = Notes::new(alloc, 0);
         Ok(Sheet {
             filler,
-            rows,
-            notes,
+            kept,
             has_failed: false,
         })
     }
 
     /// Ends the open row, and fails where the filler did or still has an open row.
     pub(crate) fn finish(&mut self) -> Result<(), Fault> {
-        self.filler.finish(&mut self.rows, &mut self.notes)?;
+        self.filler
+            .finish(&mut self.kept.rows, &mut self.kept.notes)?;
         if self.has_failed || self.pending() != 0 {
             return Err(Fault::Failed);
         }
@@ -76,7 +73,7 @@ impl NoteSink for Sheet {
     ghost whole = { λ _ _ _ _. tt };
 
     fn note(&mut self, note: &Note) -> Result<(), Fault> {
-        let _ = self.notes.note(note);
+        let _ = self.kept.notes.note(note);
         Ok(())
     }
 
@@ -110,7 +107,7 @@ impl PieceSink for Sheet {
     ghost causes = { λ _ _ _ _ broke. broke };
 
     fn piece(&mut self, piece: Piece<&[u8]>) -> Result<(), Fault> {
-        if !fill(&mut self.filler, &mut self.rows, &mut self.notes, piece) {
+        if !fill(&mut self.filler, &mut self.kept, piece) {
             self.has_failed = true;
         }
         Ok(())

@@ -49,6 +49,23 @@ impl Notes {
     }
 }
 
+/// Rows and messages as they are printed.
+#[derive(Drop)]
+pub(crate) struct Kept {
+    pub(crate) rows: Rows,
+    pub(crate) notes: Notes,
+}
+
+impl Kept {
+    /// Nothing was given yet, and the row and the message of these numbers fail; 0: none.
+    pub(crate) fn new(alloc: Global, failing: (u64, u64)) -> Kept {
+        Kept {
+            rows: Rows::new(alloc, failing.0),
+            notes: Notes::new(alloc, failing.1),
+        }
+    }
+}
+
 // The worse of the levels so far and one more.
 fn worse(worst: Option<Level>, level: Level) -> Option<Level> {
     match worst {

@@ -5,7 +5,6 @@ use crate::lines::FedPage;
 use page_core::Fault;
 use page_roff::Counts;
 use std::process::Abort;
-use std::test::Fail;
 
 /// A line; the rows so far, after it; how many scopes are open then, and how many cells the open row has; how many lines were taken, and how many
 /// interpolations made.
@@ -18,12 +17,7 @@ pub(crate) struct Step {
 }
 
 // Feeds a line of a number, and compares what holds then.
-fn check_step<P: FedPage>(
-    rt: &impl Abort,
-    page: &mut P,
-    number: u32,
-    step: &Step,
-) -> Result<(), Fail> {
+fn check_step<P: FedPage>(rt: &impl Abort, page: &mut P, number: u32, step: &Step) {
     check_answer(rt, page.line(step.line.as_bytes(), number), Ok(()));
     check(rt, page.open() == step.open);
     let counts = Counts {
@@ -32,22 +26,18 @@ fn check_step<P: FedPage>(
         expansions: step.expansions,
     };
     check_counts(rt, page.counts(), counts);
-    check_text(rt, page.rows(), step.rows)
+    check_text(rt, page.kept().rows.text.as_slice(), step.rows);
 }
 
 /// Feeds lines to a page, which have no message, and its end, after which it takes nothing more.
-pub(crate) fn check_steps<P: FedPage + Drop>(
-    rt: &impl Abort,
-    mut page: P,
-    steps: &[Step],
-) -> Result<(), Fail> {
+pub(crate) fn check_steps<P: FedPage + Drop>(rt: &impl Abort, mut page: P, steps: &[Step]) {
     let mut number = 0u32;
     for step in steps {
         number = number.saturating_add(1);
-        check_step(rt, &mut page, number, step)?;
+        check_step(rt, &mut page, number, step);
     }
     check_answer(rt, page.end(), Ok(()));
     check_answer(rt, page.line(b"x", 1), Err(Fault::Failed));
     check_answer(rt, page.end(), Err(Fault::Failed));
-    check_text(rt, page.messages(), "")
+    check_text(rt, page.kept().notes.text.as_slice(), "");
 }
