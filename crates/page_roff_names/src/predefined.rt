@@ -14,8 +14,6 @@ pub(crate) fn predefined(name: &[u8]) -> Option<&'static [u8]>
         b"R" => Some(b"\\(rg"),
         b"Tm" => Some(b"(Tm)"),
         b"S" => Some(b""),
-        b"lp" => Some(b"("),
-        b"rp" => Some(b")"),
         b"lq" => Some(b"\\(lq"),
         b"rq" => Some(b"\\(rq"),
         b"q" => Some(b"\\(dq"),
