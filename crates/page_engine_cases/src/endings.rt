@@ -5,7 +5,7 @@
 ghost use Rattle.std.specs.Prelude.{◌≡◌, ◌≤◌, length, false};
 
 use crate::lines::{BYTES, Feed, Lines};
-use page_core_base::Fault;
+use page_core::Fault;
 use page_engine::Outcome;
 use std::alloc::{AllocError, Global};
 

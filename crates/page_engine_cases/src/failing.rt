@@ -5,7 +5,7 @@ use crate::lines::FILE;
 use crate::pages::run_lines;
 use crate::stores::{Fails, Store};
 use crate::streams::{Shows, Streams};
-use page_core_base::{Fault, Settings};
+use page_core::{Fault, Settings};
 use page_engine::{Outcome, run_page};
 use std::alloc::Global;
 

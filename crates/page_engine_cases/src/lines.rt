@@ -3,10 +3,9 @@
 ghost use Rattle.std.specs.Prelude.{◌≡◌, ◌+◌, ◌^◌, ◌<◌, length, false, true, OnOk, IfSome};
 ghost use Rattle.page_core_base.specs.Texts.{IsLine};
 
-use page_core_base::{Encoding, Fault};
-use page_core_writers::KeptNotes;
+use page_core::{Encoding, Fault, KeptNotes};
 use page_engine::Outcome;
-use page_roff_lines::Cutter;
+use page_roff::Cutter;
 use std::alloc::Global;
 
 /// The bytes of a page at most.

@@ -5,8 +5,7 @@ ghost use Rattle.page_core_base.specs.Texts.{IsLine};
 use crate::endings::{Ending, run};
 use crate::lines::{BYTES, FILE, Feed, Lines};
 use crate::streams::Streams;
-use page_core_base::{Fault, Settings};
-use page_core_writers::{TextNotes, TextRows};
+use page_core::{Fault, Settings, TextNotes, TextRows};
 use page_engine::{Outcome, Page};
 use std::alloc::Global;
 

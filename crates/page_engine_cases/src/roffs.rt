@@ -5,10 +5,9 @@ ghost use Rattle.page_core_base.specs.Texts.{IsLine};
 use crate::endings::{Ending, run};
 use crate::lines::{BYTES, FILE, Feed, Lines};
 use crate::stores::{Fails, Store};
-use page_core_base::{Fault, Settings};
-use page_core_writers::TextNotes;
+use page_core::{Fault, Settings, TextNotes};
 use page_engine::Outcome;
-use page_roff_source::Roff;
+use page_roff::Roff;
 use std::alloc::Global;
 
 /// What a source line may give at most: its finished lines, and that there are no more.

@@ -1,7 +1,7 @@
 //! Where the rows and the messages of a page go, and what of it is shown as it comes.
 
 use crate::stores::{Fails, Store};
-use page_core_base::Fault;
+use page_core::Fault;
 use std::alloc::Global;
 
 /// What is shown as it comes.

@@ -1,7 +1,7 @@
 //! What the words of a title say of a page's run.
 
 use crate::stores::Fails;
-use page_core_base::{Level, Output, Settings};
+use page_core::{Level, Output, Settings};
 
 /// How a page is run, and what is shown of it.
 #[derive(Clone, Copy)]
@@ -27,7 +27,7 @@ impl Words {
         }
     }
 
-    /// Those of a title `WORDS: what it shows`: `utf8`, `width=N`, `rows=N` and `messages=N`, after how many bytes the writer of the rows or
+    /// Those of a title `WORDS: what it shows`: `utf8`, `width=N`, `indent=N`, `rows=N` and `messages=N`, after how many bytes the writer of the rows or
     /// of the messages fails, and `each`.
     pub(crate) fn of(title: &str) -> Words {
         let mut words = Words::new();
@@ -41,6 +41,7 @@ impl Words {
     fn set(&mut self, word: &str) {
         match word.split_once('=') {
             Some(("width", digits)) => self.settings.width = digits.parse().unwrap_or(0),
+            Some(("indent", digits)) => self.settings.indent = digits.parse().ok(),
             Some(("rows", digits)) => self.rows = Fails::Past(digits.parse().unwrap_or(0)),
             Some(("messages", digits)) => self.messages = Fails::Past(digits.parse().unwrap_or(0)),
             _ => match word {
