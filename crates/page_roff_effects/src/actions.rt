@@ -193,7 +193,12 @@ impl Actions {
 
     /// Expands a line, in copy mode or not. Answers whether the line itself is what it gives, since no backslash stands in it: then it is not
     /// copied.
-    pub(crate) fn expand_unless_plain<O: NoteOut>(&mut self, copy: bool, text: &[u8], out: &mut O) -> bool
+    pub(crate) fn expand_unless_plain<O: NoteOut>(
+        &mut self,
+        copy: bool,
+        text: &[u8],
+        out: &mut O,
+    ) -> bool
         requires { length text.now ≤ LINE }
         ensures { ExpandsOrKeeps O.left copy self.old out.old text.now result self.new out.new }
     {

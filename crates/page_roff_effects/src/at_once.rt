@@ -19,7 +19,7 @@ use page_roff_forms::{LineForm, begins_control, control_name, form_of, plain_len
 use page_roff_values::gives_itself;
 
 impl Actions {
-    // Whether a line is no control line, or one part that is left to the set of macros.
+    // Whether a line is no control line, or one part with a name that is left to the set of macros.
     fn is_passed(&mut self, raw: &[u8]) -> bool
         requires { length raw.now ≤ LINE }
         ensures passed { result ≡ true → IsPassed raw.now (name_of (form_of raw.now)) self.old.memory.definitions }
@@ -27,7 +27,9 @@ impl Actions {
     {
         match control_name(raw) {
             Some(name) => {
-                matches!(Command::of(name, &mut self.names), Command::Pass) && is_leaf(raw)
+                !name.is_empty()
+                    && matches!(Command::of(name, &mut self.names), Command::Pass)
+                    && is_leaf(raw)
             }
             None => true,
         }

@@ -1,5 +1,6 @@
 -- Steps of the machine, one after another: helpers of proofs.
-use Rattle.std.proofs.Common.{◌≡◌, ℕ, suc, ◌≤◌, inl, inr, Bool, true, false, List, [], ◌∷◌, ◌++◌, map, length, Some, refl, sym, ap, ◌∙◌, append_assoc, arith}
+use Rattle.std.proofs.Common.{◌≡◌, ℕ, suc, ◌≤◌, ◌==◌, inl, inr, Bool, true, false, List, [], ◌∷◌, ◌++◌, map, length, Some, refl, sym, ap, ◌∙◌, append_assoc, arith}
+use Rattle.std.proofs.lemmas.Bool.Decides.{nat_tests}
 use Rattle.std.proofs.lemmas.List.{append-nil}
 use Rattle.page_core_base.specs.Messages.{Message}
 use Rattle.page_core_base.specs.declared.page_settings.Output.{Output}
@@ -78,6 +79,12 @@ if_done : (progress : Progress) (A B : Type 0) → (A → B) → IfDone progress
 if_done More A B f h = tt
 if_done Line A B f h = tt
 if_done Done A B f h = f h
+
+pub without_bytes : (bytes : List ℕ) → (length bytes == 0) ≡ true → bytes ≡ []
+without_bytes [] e = refl
+without_bytes (b ∷ bs) e =
+    let n : length (b ∷ bs) ≡ 0 = grind (arith, nat_tests) in
+    absurd (omega (arith, n))
 
 module _ {P S : Type 0} (left : P → S → List Message → Type 0) where
   -- ---- what comes next is done, and the stack moves on
@@ -241,23 +248,30 @@ module _ {P S : Type 0} (left : P → S → List Message → Type 0) where
         done = tt;
       }
 
+  pub calls_macro : (old mid passed new : Runner) (out out_mid : S) (movement : Movement) → IsIn old.stack.top.kind old.doing
+      → Decides left old out movement mid out_mid → movement ≡ moves.Leaf kinds.Call
+      → passed ≡ record { stack = with_top (past (after_part mid.stack.top.spot.levels) mid.stack.top) mid.stack; doing = mid.doing }
+      → new ≡ called passed → Steps left old out More new out_mid
+  calls_macro old mid passed new out out_mid movement k a em e en =
+      let d = decided old mid out out_mid movement k a in
+      let suits : CanBegin kinds.Call mid.stack mid.doing = rw em at d.1 in
+      steps old mid new out out_mid out_mid movement More a (rw em (quiet_product left mid new out_mid (moves.Leaf kinds.Call) kinds.Call (shifts_call mid passed new e en suits)))
+
   pub calls_nothing : (old mid new : Runner) (out out_mid : S) (movement : Movement) → IsIn old.stack.top.kind old.doing
       → Decides left old out movement mid out_mid → movement ≡ moves.Leaf kinds.Call → mid.doing.actions.call.body ≡ []
       → new ≡ record { stack = with_top (past (after_part mid.stack.top.spot.levels) mid.stack.top) mid.stack; doing = mid.doing }
       → StepsTwice left old out More new out_mid
   unfolding at_part after_part
   calls_nothing old mid new out out_mid movement k a em eb e =
-      let call = mid.doing.actions.call in
       let inside = called new in
       let d = decided old mid out out_mid movement k a in
-      let suits : CanBegin kinds.Call mid.stack mid.doing = rw em at d.1 in
       let is : IsIn new.stack.top.kind new.doing = rw e d.0 in
       let doing : new.doing ≡ mid.doing = ap (λ (r : Runner). r.doing) e in
       let empty : new.doing.actions.call.body ≡ [] = ap (λ (b : BudgetedActions). b.actions.call.body) doing ∙ eb in
       record {
         more = refl;
         inside = inside;
-        call = steps old mid inside out out_mid out_mid movement More a (rw em (quiet_product left mid inside out_mid (moves.Leaf kinds.Call) kinds.Call (shifts_call mid new inside e refl suits)));
+        call = calls_macro old mid new inside out out_mid movement k a em e refl;
         end = ends_at_once new inside new.doing.actions.call.packed out_mid is (rw empty refl);
       }
 

@@ -1,6 +1,6 @@
 //! The steps of the machine: what comes next is done, and the input stack moves on.
 
-ghost use Rattle.std.specs.Prelude.{◌≡◌, ◌≤◌, ◌^◌, [], true, false, None, length};
+ghost use Rattle.std.specs.Prelude.{◌≡◌, ◌≤◌, ◌^◌, true, false, None, length};
 ghost use Rattle.page_core_base.specs.Texts.{IsLine};
 ghost use Rattle.page_core_limits.specs.declared.TheConstants.{ARGS};
 ghost use Rattle.page_roff_blocks.specs.Levels as levels;
@@ -340,17 +340,6 @@ impl Runner {
         Progress::More
     }
 
-    // Whether a macro without a body is called: nothing of it runs.
-    fn calls_nothing(&self, movement: Movement) -> bool
-        ensures call { result ≡ true → movement ≡ Movement.Leaf kinds.Call }
-        ensures empty { result ≡ true → self.now.doing.actions.call.body ≡ [] }
-    {
-        match movement {
-            Movement::Leaf(ProductKind::Call) => self.doing.actions.called_body().is_empty(),
-            _ => false,
-        }
-    }
-
     // Makes one step after the beginning of a line, or two: a macro without a body is called and ends.
     #[inline(never)]
     fn step_on<O: NoteOut>(&mut self, out: &mut O) -> Progress
@@ -360,11 +349,16 @@ impl Runner {
         ensures { StepsOn O.left self.old out.old result self.new out.new }
     {
         let movement = self.act(out);
-        if self.calls_nothing(movement) {
-            self.stack.pass();
-            return Progress::More;
+        match movement {
+            Movement::Leaf(ProductKind::Call) => {
+                self.stack.pass();
+                if !self.doing.actions.called_body().is_empty() {
+                    self.call();
+                }
+                Progress::More
+            }
+            _ => self.go(movement, out),
         }
-        self.go(movement, out)
     }
 
     // Makes one step, or two. The first and the last one of a source line are asked for first: each line has them.
