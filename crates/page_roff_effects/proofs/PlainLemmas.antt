@@ -10,7 +10,8 @@ use Rattle.page_roff_forms.specs.LineForms.{is_plain, has_word, begins_control, 
 use Rattle.page_roff_forms.specs.declared.line_forms.LineForm.TheVariants.{Text}
 use Rattle.page_roff_forms.proofs.FormLemmas.{read_first, read_all, front_of}
 use Rattle.page_roff_values.proofs.LineLemmas.{plain_expanded}
-use Rattle.page_roff_effects.specs.Acting.{plain_form}
+use Rattle.page_roff_values.specs.Values.{nothing, adds, start}
+use Rattle.page_roff_effects.specs.Acting.{Acting, plain_form, line_laid}
 use Rattle.page_roff_effects.specs.Leaves.{leaf_outcome}
 use Rattle.page_roff_effects.specs.States.{Memory, Setting, counted, gives_line, surroundings}
 
@@ -45,3 +46,8 @@ plain_taken setting may_call line m b p h =
           (ap (λ m. gives_line forms.Text line 0 m) (counted_none m))
       | inr w ↦ rw w refl
     ]
+
+-- and so is a text without a backslash, in copy mode or not
+pub plain_laid : (copy : Bool) (text : List ℕ) (a : Acting) → prefix_len is_plain text ≡ length text → length text ≤ LINE
+    → line_laid copy text a ≡ nothing (adds text (start a.memory.number))
+plain_laid copy text a p h = plain_expanded (surroundings copy a.setting a.memory) a.memory.number text (no_backslash text p) h

@@ -110,15 +110,14 @@ line_laid copy text a = expanded (surroundings copy a.setting a.memory) a.memory
 
 -- a line was expanded, or is what it gives and was not copied
 abbrev pub text_given : Bool → List ℕ → Acting → List ℕ
-text_given true text a = text
-text_given false text a = a.finished.text
+text_given kept text a = if kept then text else a.finished.text
 
-pub record ExpandsOrKeeps {P S : Type 0} (left : P → S → List Message → Type 0) (old : Acting) (out : S) (text : List ℕ) (kept : Bool)
+pub record ExpandsOrKeeps {P S : Type 0} (left : P → S → List Message → Type 0) (copy : Bool) (old : Acting) (out : S) (text : List ℕ) (kept : Bool)
     (new : Acting) (out_new : S) : Type 0 where
   pub setting : new.setting ≡ old.setting
-  pub memory : new.memory ≡ counted (line_laid false text old).edge.count old.memory
-  pub given : text_given kept text new ≡ (line_laid false text old).edge.text
-  pub came : Came left out (line_laid false text old).notes out_new
+  pub memory : new.memory ≡ counted (line_laid copy text old).edge.count old.memory
+  pub given : text_given kept text new ≡ (line_laid copy text old).edge.text
+  pub came : Came left out (line_laid copy text old).notes out_new
 
 abbrev pub with_arguments : Option (List (List ℕ)) → Acting → Acting
 with_arguments arguments a = record a { setting = record { output = a.setting.output; arguments = arguments } }
@@ -160,10 +159,10 @@ pub record Takes (old : Acting) (o : Outcome) (result : ProductKind) (new : Acti
   pub kind : result ≡ kind_of o.product
   pub lends : Lends o.product new
 
--- a name that is left to the set of macros, where a line has one
-abbrev pub IsPassed : Option (List ℕ) → Definitions → Type 0
-IsPassed None d = Unit {0}
-IsPassed (Some name) d = command_of name d ≡ Pass
+-- a raw line whose name is left to the set of macros, and which is one part then, where it has a name
+abbrev pub IsPassed : List ℕ → Option (List ℕ) → Definitions → Type 0
+IsPassed raw None d = Unit {0}
+IsPassed raw (Some name) d = (command_of name d ≡ Pass) × (atoms raw ≡ Leaf raw ∷ [])
 
 -- a raw line that is one part was taken without a message, whether one more macro may run or not; or nothing was done
 pub record IsTaken (old : Acting) (raw : List ℕ) (outcome : Bool → Outcome) (new : Acting) : Type 0 where

@@ -1,6 +1,6 @@
 //! What the parts of a source do, with what is remembered from part to part (roff(7), "LANGUAGE SYNTAX").
 
-ghost use Rattle.std.specs.Prelude.{◌≡◌, ◌≤◌, [], ◌∷◌, length, IfOk, None, Some};
+ghost use Rattle.std.specs.Prelude.{◌≡◌, ◌≤◌, [], ◌∷◌, false, length, IfOk, None, Some};
 ghost use Rattle.page_core_base.specs.LinesTaken.{line_seen};
 ghost use Rattle.page_core_limits.specs.declared.TheConstants.{ARGS, LINE};
 ghost use Rattle.page_roff_heads.specs.Conditions.{condition_seen, test_seen, FitsTest};
@@ -19,6 +19,7 @@ use crate::calls::CallBuffer;
 use page_core_base::{Note, NoteKind, Output, Place, Taken};
 use page_core_limits::{ARGS, Limit};
 use page_roff_conditions::holds;
+use page_roff_forms::plain_len;
 use page_roff_heads::{Condition, read_condition};
 use page_roff_names::Names;
 use page_roff_values::{CallArguments, Environment, Expansion, NoteOut};
@@ -174,7 +175,7 @@ impl Actions {
     /// Expands a line. Answers whether the line itself is what it gives: then it is not copied.
     pub(crate) fn expand_or_keep<O: NoteOut>(&mut self, text: &[u8], out: &mut O) -> bool
         requires { length text.now ≤ LINE }
-        ensures { ExpandsOrKeeps O.left self.old out.old text.now result self.new out.new }
+        ensures { ExpandsOrKeeps O.left false self.old out.old text.now result self.new out.new }
     {
         let env = Environment {
             copy: false,
@@ -187,6 +188,24 @@ impl Actions {
         }
         let count = self.expansion.count();
         self.expansions = self.expansions.saturating_add(count as u64);
+        false
+    }
+
+    /// Expands a line, in copy mode or not. Answers whether the line itself is what it gives, since no backslash stands in it: then it is not
+    /// copied.
+    pub(crate) fn expand_unless_plain<O: NoteOut>(
+        &mut self,
+        copy: bool,
+        text: &[u8],
+        out: &mut O,
+    ) -> bool
+        requires { length text.now ≤ LINE }
+        ensures { ExpandsOrKeeps O.left copy self.old out.old text.now result self.new out.new }
+    {
+        if plain_len(text) == text.len() {
+            return true;
+        }
+        self.expand(copy, text, out);
         false
     }
 

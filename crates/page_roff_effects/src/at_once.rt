@@ -1,7 +1,9 @@
 //! Lines that are taken at once, as they are written: most of a page is made of them (roff(7), "LANGUAGE SYNTAX").
 
-ghost use Rattle.std.specs.Prelude.{◌≡◌, ◌≤◌, true, length};
+ghost use Rattle.std.specs.Prelude.{◌≡◌, ◌≤◌, [], ◌∷◌, true, length};
 ghost use Rattle.page_core_limits.specs.declared.TheConstants.{LINE};
+ghost use Rattle.page_roff_blocks.specs.declared.atoms.Atom.TheVariants.{Leaf};
+ghost use Rattle.page_roff_blocks.specs.Atoms.{atoms};
 ghost use Rattle.page_roff_forms.specs.LineForms.{form_of, name_of};
 ghost use Rattle.page_roff_effects.specs.declared.commands.Command.TheVariants as commands;
 ghost use Rattle.page_roff_effects.specs.Acting.{control_seen, IsPassed, TakesIf};
@@ -17,13 +19,18 @@ use page_roff_forms::{LineForm, begins_control, control_name, form_of, plain_len
 use page_roff_values::gives_itself;
 
 impl Actions {
-    // Whether a line is no control line, or one that is left to the set of macros.
+    // Whether a line is no control line, or one part with a name that is left to the set of macros.
     fn is_passed(&mut self, raw: &[u8]) -> bool
-        ensures passed { result ≡ true → IsPassed (name_of (form_of raw.now)) self.old.memory.definitions }
+        requires { length raw.now ≤ LINE }
+        ensures passed { result ≡ true → IsPassed raw.now (name_of (form_of raw.now)) self.old.memory.definitions }
         ensures same { self.new ≡ self.old }
     {
         match control_name(raw) {
-            Some(name) => matches!(Command::of(name, &mut self.names), Command::Pass),
+            Some(name) => {
+                !name.is_empty()
+                    && matches!(Command::of(name, &mut self.names), Command::Pass)
+                    && is_leaf(raw)
+            }
             None => true,
         }
     }
@@ -48,7 +55,7 @@ impl Actions {
         requires text { length text.now ≤ LINE }
         ensures { TakesIf result self.old raw.now (λ may_call. text_outcome self.old.setting text.now self.old.memory) self.new }
     {
-        if !is_leaf(raw) || !gives_itself(text) {
+        if !gives_itself(text) || !is_leaf(raw) {
             return false;
         }
         self.line.set(Form::Text, text, self.number, 0);
@@ -61,10 +68,11 @@ impl Actions {
         requires raw { length raw.now ≤ LINE }
         requires text { length line.text.now ≤ LINE }
         requires passed { command_of line.name.now self.old.memory.definitions ≡ commands.Pass }
+        requires leaf { atoms raw.now ≡ Leaf raw.now ∷ [] }
         ensures { TakesIf result self.old raw.now
             (λ may_call. control_outcome self.old.setting may_call (control_seen line.entry) self.old.memory) self.new }
     {
-        if line.name.is_empty() || !is_leaf(raw) || !gives_itself(line.text) {
+        if line.name.is_empty() || !gives_itself(line.text) {
             return false;
         }
         self.line
@@ -76,7 +84,7 @@ impl Actions {
     #[tactic(auto, unfolding(crate::specs::Leaves::leaf_outcome))]
     fn take_form_at_once(&mut self, raw: &[u8]) -> bool
         requires short { length raw.now ≤ LINE }
-        requires passed { IsPassed (name_of (form_of raw.now)) self.old.memory.definitions }
+        requires passed { IsPassed raw.now (name_of (form_of raw.now)) self.old.memory.definitions }
         ensures { TakesIf result self.old raw.now (λ may_call. leaf_outcome self.old.setting may_call raw.now self.old.memory) self.new }
     {
         match form_of(raw) {

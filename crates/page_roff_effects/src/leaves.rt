@@ -1,11 +1,12 @@
 //! Lines that head nothing: text, requests, calls of macros (roff(7), "LANGUAGE SYNTAX" and "MACRO SYNTAX").
 
-ghost use Rattle.std.specs.Prelude.{◌≡◌, ◌≤◌, ◌+◌, ◌++◌, length, drop, true};
+ghost use Rattle.std.specs.Prelude.{◌≡◌, ◌≤◌, ◌+◌, ◌++◌, length, drop, true, if◌then◌else◌};
 ghost use Rattle.page_core_limits.specs.declared.TheConstants.{LINE};
 ghost use Rattle.page_roff_forms.specs.LineForms.{form_of};
 ghost use Rattle.page_roff_forms.specs.declared.line_forms.LineForm.TheVariants.{Control};
 ghost use Rattle.page_roff_values.specs.Latches.{Came};
-ghost use Rattle.page_roff_effects.specs.Acting.{control_seen, plain_form, Does, Gives, Takes, IfCalled, IsCallable};
+ghost use Rattle.page_roff_effects.specs.Acting.{control_seen, plain_form, text_given, Does, Gives, Takes, IfCalled, IsCallable};
+ghost use Rattle.page_core_base.specs.declared.lines_taken.Form.TheVariants as forms;
 ghost use Rattle.page_roff_effects.specs.Leaves as leaves;
 ghost use Rattle.page_roff_effects.specs.Leaves.{leaf_outcome};
 ghost use Rattle.page_roff_effects.specs.States.{gives_line};
@@ -17,7 +18,7 @@ use page_core_limits::{LINE, Limit};
 use page_roff_definitions::{RequestLine, define, report_closings};
 use page_roff_forms::{LineForm, begins_control, form_of, has_word, plain_len};
 use page_roff_requests::DefinitionRequest;
-use page_roff_values::NoteOut;
+use page_roff_values::{Expansion, NoteOut};
 
 /// A control line with a name.
 #[derive(Clone, Copy)]
@@ -75,6 +76,15 @@ fn rest_of(text: &[u8], name_end: u32) -> &[u8]
     &text[(name_end as usize).min(text.len())..]
 }
 
+// What a line gives: itself where it is plain, and else what is finished.
+fn finished_text<'a>(is_plain: bool, text: &'a [u8], expansion: &'a Expansion) -> &'a [u8]
+    requires { length text.now ≤ LINE }
+    ensures value { result.now ≡ (if is_plain then text.now else expansion.now.text) }
+    ensures short { length result.now ≤ LINE }
+{
+    if is_plain { text } else { expansion.text() }
+}
+
 // Reports a call beyond the limits.
 fn report_refusals<O: NoteOut>(may_call: bool, fits: bool, place: Place, out: &mut O)
     ensures { Came O.left out.old (leaves.depth_notes may_call place
@@ -101,13 +111,13 @@ fn report_refusals<O: NoteOut>(may_call: bool, fits: bool, place: Place, out: &m
 }
 
 impl Actions {
-    // Takes the line that is finished.
-    fn take_finished(&mut self, form: Form, name_end: u32) -> ProductKind
-        ensures { Takes self.old (gives_line form self.old.finished.text name_end
+    // Takes the text line that is finished.
+    fn take_finished(&mut self) -> ProductKind
+        ensures { Takes self.old (gives_line forms.Text self.old.finished.text 0
             self.old.memory) result self.new }
     {
         self.line
-            .set(form, self.expansion.text(), self.number, name_end);
+            .set(Form::Text, self.expansion.text(), self.number, 0);
         ProductKind::Line
     }
 
@@ -120,19 +130,34 @@ impl Actions {
         ProductKind::Line
     }
 
-    // Calls a macro with the arguments of the finished line.
+    // Takes a control line that is finished, or is plain.
+    fn take_control(&mut self, line: ControlLine<'_>, is_plain: bool) -> ProductKind
+        requires { length line.text.now ≤ LINE }
+        ensures { Takes self.old (gives_line forms.Control (text_given is_plain line.entry.text.now self.old) line.entry.name_end
+            self.old.memory) result self.new }
+    {
+        let finished = finished_text(is_plain, line.text, &self.expansion);
+        self.line
+            .set(Form::Control, finished, self.number, line.name_end);
+        ProductKind::Line
+    }
+
+    // Calls a macro with the arguments of the finished line: the line itself where it is plain.
     fn call<O: NoteOut>(
         &mut self,
         may_call: bool,
         line: ControlLine<'_>,
+        is_plain: bool,
         out: &mut O,
     ) -> ProductKind
-        requires { line.name_end ≤ LINE }
+        requires name { line.name_end ≤ LINE }
+        requires short { length line.text.now ≤ LINE }
         ensures { Gives O.left self.old out.old
-            (leaves.does may_call Command.Call (control_seen line.entry) self.old.finished.text self.old.memory)
+            (leaves.does may_call Command.Call (control_seen line.entry) (text_given is_plain line.entry.text.now self.old) self.old.memory)
             result self.new out.new }
     {
-        let rest = rest_of(self.expansion.text(), line.name_end);
+        let finished = finished_text(is_plain, line.text, &self.expansion);
+        let rest = rest_of(finished, line.name_end);
         let place = Place {
             line: self.number,
             column: line.column,
@@ -154,18 +179,26 @@ impl Actions {
     }
 
     // Does what a request for definitions says.
-    fn define<O: NoteOut>(&mut self, request: DefinitionRequest, line: ControlLine<'_>, out: &mut O)
-        requires { line.name_end ≤ LINE }
+    fn define<O: NoteOut>(
+        &mut self,
+        request: DefinitionRequest,
+        line: ControlLine<'_>,
+        is_plain: bool,
+        out: &mut O,
+    )
+        requires name { line.name_end ≤ LINE }
+        requires short { length line.text.now ≤ LINE }
         ensures { Does O.left self.old out.old
-            (leaves.does true (Command.Define request) (control_seen line.entry) self.old.finished.text self.old.memory)
+            (leaves.does true (Command.Define request) (control_seen line.entry) (text_given is_plain line.entry.text.now self.old) self.old.memory)
             self.new out.new }
     {
+        let finished = finished_text(is_plain, line.text, &self.expansion);
         let request_line = RequestLine {
             place: Place {
                 line: self.number,
                 column: line.column,
             },
-            rest: rest_of(self.expansion.text(), line.name_end),
+            rest: rest_of(finished, line.name_end),
             rest_column: line.name_end + 1,
         };
         define(request, request_line, &mut self.names, out);
@@ -177,17 +210,19 @@ impl Actions {
         may_call: bool,
         command: Command,
         line: ControlLine<'_>,
+        is_plain: bool,
         out: &mut O,
     ) -> ProductKind
-        requires { line.name_end ≤ LINE }
+        requires name { line.name_end ≤ LINE }
+        requires short { length line.text.now ≤ LINE }
         ensures { Gives O.left self.old out.old
-            (leaves.does may_call command (control_seen line.entry) self.old.finished.text self.old.memory)
+            (leaves.does may_call command (control_seen line.entry) (text_given is_plain line.entry.text.now self.old) self.old.memory)
             result self.new out.new }
     {
         match command {
-            Command::Call => self.call(may_call, line, out),
+            Command::Call => self.call(may_call, line, is_plain, out),
             Command::Define(request) => {
-                self.define(request, line, out);
+                self.define(request, line, is_plain, out);
                 ProductKind::Nothing
             }
             Command::Ignore => ProductKind::Nothing,
@@ -201,7 +236,7 @@ impl Actions {
                 );
                 ProductKind::Nothing
             }
-            Command::Pass => self.take_finished(Form::Control, line.name_end),
+            Command::Pass => self.take_control(line, is_plain),
         }
     }
 
@@ -213,7 +248,8 @@ impl Actions {
         line: ControlLine<'_>,
         out: &mut O,
     ) -> ProductKind
-        requires { line.name_end ≤ LINE }
+        requires name { line.name_end ≤ LINE }
+        requires short { length line.text.now ≤ LINE }
         ensures { Gives O.left self.old out.old
             (leaves.control_outcome self.old.setting may_call (control_seen line.entry) self.old.memory)
             result self.new out.new }
@@ -222,8 +258,8 @@ impl Actions {
             return ProductKind::Nothing;
         }
         let command = Command::of(line.name, &mut self.names);
-        self.expand(command.copies(), line.text, out);
-        self.run(may_call, command, line, out)
+        let is_plain = self.expand_unless_plain(command.copies(), line.text, out);
+        self.run(may_call, command, line, is_plain, out)
     }
 
     // Expands a text line, and takes it.
@@ -236,7 +272,7 @@ impl Actions {
         if self.expand_or_keep(text, out) {
             self.take_raw(Form::Text, text)
         } else {
-            self.take_finished(Form::Text, 0)
+            self.take_finished()
         }
     }
 

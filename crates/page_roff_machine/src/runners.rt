@@ -11,7 +11,7 @@ ghost use Rattle.page_roff_machine.specs.Machines.{Advances};
 ghost use Rattle.page_roff_machine.specs.Moving.{Collects, Decides, Moves, Closes, Shifts, Repeats, Suits, CanBegin};
 ghost use Rattle.page_roff_machine.specs.Moving.{called, passes_block, progress_as, with_arguments_of};
 ghost use Rattle.page_roff_machine.specs.AtOnce.{IsOutside, TakesAtOnceIf};
-ghost use Rattle.page_roff_machine.specs.Stepping.{IsSound, IsMeasured, Steps, machine_of};
+ghost use Rattle.page_roff_machine.specs.Stepping.{IsSound, IsMeasured, Steps, StepsOn, machine_of};
 
 use crate::budgeted_actions::BudgetedActions;
 use crate::movements::{Movement, Progress};
@@ -340,22 +340,31 @@ impl Runner {
         Progress::More
     }
 
-    // Makes one step after the beginning of a line.
+    // Makes one step after the beginning of a line, or two: a macro without a body is called and ends.
     #[inline(never)]
     fn step_on<O: NoteOut>(&mut self, out: &mut O) -> Progress
         requires sound { IsSound self.old }
         requires begun { is_line (next_of self.old.stack) ≡ false }
         requires left { is_nothing (next_of self.old.stack) ≡ false }
-        ensures { Steps O.left self.old out.old result self.new out.new }
+        ensures { StepsOn O.left self.old out.old result self.new out.new }
     {
         let movement = self.act(out);
-        self.go(movement, out)
+        match movement {
+            Movement::Leaf(ProductKind::Call) => {
+                self.stack.pass();
+                if !self.doing.actions.called_body().is_empty() {
+                    self.call();
+                }
+                Progress::More
+            }
+            _ => self.go(movement, out),
+        }
     }
 
-    // Makes one step. The first and the last one of a source line are asked for first: each line has them.
+    // Makes one step, or two. The first and the last one of a source line are asked for first: each line has them.
     fn step<O: NoteOut>(&mut self, out: &mut O) -> Progress
         requires { IsSound self.old }
-        ensures { Steps O.left self.old out.old result self.new out.new }
+        ensures { StepsOn O.left self.old out.old result self.new out.new }
     {
         if self.stack.begins_line() {
             self.begin_line(out);
