@@ -297,40 +297,24 @@ fn runs_a_page_with_the_memory_of_its_start(rt: HostRuntime) {
     }
 }
 
-#[test]
-fn counts_lines_and_interpolations(rt: HostRuntime) -> Result<(), Fail> {
-    run(&rt, Check::CountsOfCalls)?;
-    Ok(())
-}
-
-// The condition is tested four times, and three lines run in each turn.
-#[test]
-fn counts_the_lines_of_loops(rt: HostRuntime) -> Result<(), Fail> {
-    run(&rt, Check::LinesOfALoop)?;
-    Ok(())
-}
-
-#[test]
-fn repeats_a_loop_until_its_condition_fails(rt: HostRuntime) -> Result<(), Fail> {
-    run(&rt, Check::TurnsOfALoop)?;
-    Ok(())
-}
+const CHECKS: &[Check] = &[
+    // Lines and interpolations are counted.
+    Check::CountsOfCalls,
+    // So are the lines of loops: the condition is tested four times, and three lines run in each turn.
+    Check::LinesOfALoop,
+    // A loop is repeated until its condition fails.
+    Check::TurnsOfALoop,
+    // A loop of one line is given up, and so is one without lines.
+    Check::Endless(".while 1 x", 500),
+    Check::Endless(".while 1 \\{\\}", 0),
+    // A loop that is open at the end is reported; a region in it is not.
+    Check::OpenLoop,
+];
 
 #[test]
-fn gives_up_a_loop_of_one_line(rt: HostRuntime) -> Result<(), Fail> {
-    run(&rt, Check::Endless(".while 1 x", 500))?;
-    Ok(())
-}
-
-#[test]
-fn gives_up_a_loop_without_lines(rt: HostRuntime) -> Result<(), Fail> {
-    run(&rt, Check::Endless(".while 1 \\{\\}", 0))?;
-    Ok(())
-}
-
-// A region in it is not reported.
-#[test]
-fn reports_a_loop_that_is_open_at_the_end(rt: HostRuntime) -> Result<(), Fail> {
-    run(&rt, Check::OpenLoop)?;
+fn counts_lines_and_runs_loops(rt: HostRuntime) -> Result<(), Fail> {
+    for check in CHECKS {
+        run(&rt, *check)?;
+    }
     Ok(())
 }
