@@ -111,146 +111,141 @@ fn check<R: Abort + AllocGlobal>(rt: &R, case: Case) -> Result<(), Fail> {
     Ok(())
 }
 
-#[test]
-fn joins_physical_lines(rt: HostRuntime) -> Result<(), Fail> {
-    let cases: [Case; 22] = [
-        (Encoding::Auto, b"", ""),
-        (Encoding::Auto, b"a\nb\n", "1 a|2 b|"),
-        (Encoding::Auto, b"a\r\nb", "1 a|2 b|"),
-        (Encoding::Auto, b"\n\r\n", "1 |2 |"),
-        (Encoding::Auto, b"a\rb\n", "bad 1:2 0x0d, 1 a?b|"),
-        (Encoding::Auto, b"a\r\r\n", "bad 1:2 0x0d, 1 a?|"),
-        (Encoding::Auto, b"a\r", "bad 1:2 0x0d, 1 a?|"),
-        (Encoding::Auto, b"a\\\nb\nc\n", "1 ab|3 c|"),
-        (Encoding::Auto, b"a\\\r\n\\\nb\nc", "1 ab|4 c|"),
-        (Encoding::Auto, b"a\\\\\nb\n", "1 a\\\\|2 b|"),
-        (Encoding::Auto, b"a\\\rb\n", "bad 1:3 0x0d, 1 a\\?b|"),
-        (Encoding::Auto, b"x \\\" c \\\nb\n", "1 x \\\" c \\|2 b|"),
-        (
-            Encoding::Auto,
-            b"x \\\" c \\# d\r\nb\n",
-            "1 x \\\" c \\# d|2 b|",
-        ),
-        (Encoding::Auto, b"a \\# c\nb\nd\n", "1 a b|3 d|"),
-        (Encoding::Auto, b"a\\#\\\"\\\nb\n", "1 ab|"),
-        (Encoding::Auto, b"a\\\\#\nb\n", "1 a\\\\#|2 b|"),
-        (Encoding::Auto, b"\\", "1 |"),
-        (Encoding::Auto, b"a\\", "1 a|"),
-        (Encoding::Auto, b"b\na\\\n", "1 b|2 a|"),
-        (Encoding::Auto, b"a\\#c", "1 a|"),
-        (Encoding::Auto, b"a\\\r", "bad 1:3 0x0d, 1 a\\?|"),
-        (
-            Encoding::Auto,
-            b".if n \\{\\\n.br\\}\nx",
-            "1 .if n \\{.br\\}|3 x|",
-        ),
-    ];
+fn check_all<R: Abort + AllocGlobal>(rt: &R, cases: &[Case]) -> Result<(), Fail> {
     for case in cases {
-        check(&rt, case)?;
+        check(rt, *case)?;
     }
     Ok(())
 }
 
-#[test]
-fn decodes_lines(rt: HostRuntime) -> Result<(), Fail> {
-    let cases: [Case; 27] = [
-        (Encoding::Auto, b"\xef\xbb\xbf", ""),
-        (Encoding::Ascii, b"\xef\xbb\xbfa", "1 a|"),
-        (Encoding::Latin1, b"\xef\xbb\xbf\n", "1 |"),
-        (Encoding::Auto, b"\xef\xbb\xbf\xe9", "bad 1:1 0xe9, 1 ?|"),
-        (
-            Encoding::Auto,
-            b"\xef\xbb\xc2\xa0",
-            "1 \u{ef}\u{bb}\u{c2}\u{a0}|",
-        ),
-        (Encoding::Utf8, b"a\n\xef\xbb\xbf\n", "1 a|2 \u{feff}|"),
-        (
-            Encoding::Auto,
-            b"\xc3\xa9\n\xe9\n",
-            "1 \u{e9}|bad 2:1 0xe9, 2 ?|",
-        ),
-        (
-            Encoding::Auto,
-            b"\xe9\n\xc3\xa9",
-            "1 \u{e9}|2 \u{c3}\u{a9}|",
-        ),
-        (Encoding::Auto, b"\xc3\xa9\xc3", "bad 1:3 0xc3, 1 \u{e9}?|"),
-        (Encoding::Auto, b"\xc3\\\n\xa9\n", "1 \u{e9}|"),
-        (Encoding::Auto, b"a\\#\xe9\n\xc3\xa9\n", "1 a\u{e9}|"),
-        (
-            Encoding::Auto,
-            b"\\\" \xe9\n\xc3\xa9\n",
-            "1 \\\" \u{e9}|2 \u{c3}\u{a9}|",
-        ),
-        (
-            Encoding::Ascii,
-            b"\xc3\xa9",
-            "bad 1:1 0xc3, bad 1:2 0xa9, 1 ??|",
-        ),
-        (
-            Encoding::Latin1,
-            b"\x80\xa0\xbf\xc0\xff\x9f",
-            "bad 1:1 0x80, bad 1:10 0x9f, 1 ?\u{a0}\u{bf}\u{c0}\u{ff}?|",
-        ),
-        (
-            Encoding::Auto,
-            b"\x00\t\x7f\x1f~",
-            "bad 1:1 0x00, bad 1:3 0x7f, bad 1:4 0x1f, 1 ?\t??~|",
-        ),
-        (
-            Encoding::Utf8,
-            b"\xc0\xaf",
-            "bad 1:1 0xc0, bad 1:2 0xaf, 1 ??|",
-        ),
-        (
-            Encoding::Utf8,
-            b"\xc2\x85\xc2\xa0",
-            "bad 1:1 0xc2, bad 1:2 0x85, 1 ??\u{a0}|",
-        ),
-        (
-            Encoding::Utf8,
-            b"\xe0\x9f\xbf",
-            "bad 1:1 0xe0, bad 1:2 0x9f, bad 1:3 0xbf, 1 ???|",
-        ),
-        (Encoding::Utf8, b"\xe0\xa0\x80", "1 \u{800}|"),
-        (
-            Encoding::Utf8,
-            b"\xed\xa0\x80",
-            "bad 1:1 0xed, bad 1:2 0xa0, bad 1:3 0x80, 1 ???|",
-        ),
-        (Encoding::Utf8, b"\xed\x9f\xbf", "1 \u{d7ff}|"),
-        (
-            Encoding::Utf8,
-            b"\xf0\x8f\xbf\xbf",
-            "bad 1:1 0xf0, bad 1:2 0x8f, bad 1:3 0xbf, bad 1:4 0xbf, 1 ????|",
-        ),
-        (Encoding::Utf8, b"\xf4\x8f\xbf\xbf", "1 \u{10ffff}|"),
-        (
-            Encoding::Utf8,
-            b"\xf4\x90\x80\x80",
-            "bad 1:1 0xf4, bad 1:2 0x90, bad 1:3 0x80, bad 1:4 0x80, 1 ????|",
-        ),
-        (
-            Encoding::Utf8,
-            b"\xf5\x80\x80\x80",
-            "bad 1:1 0xf5, bad 1:2 0x80, bad 1:3 0x80, bad 1:4 0x80, 1 ????|",
-        ),
-        (
-            Encoding::Utf8,
-            b"a\xe4\xb8\x80b\xe4\xb8",
-            "bad 1:6 0xe4, bad 1:7 0xb8, 1 a\u{4e00}b??|",
-        ),
-        (
-            Encoding::Utf8,
-            b"\xf0\x9f\x98\x80\xff",
-            "bad 1:5 0xff, 1 \u{1f600}?|",
-        ),
-    ];
-    for case in cases {
-        check(&rt, case)?;
-    }
-    Ok(())
-}
+// Physical lines are joined.
+const JOINED: &[Case] = &[
+    (Encoding::Auto, b"", ""),
+    (Encoding::Auto, b"a\nb\n", "1 a|2 b|"),
+    (Encoding::Auto, b"a\r\nb", "1 a|2 b|"),
+    (Encoding::Auto, b"\n\r\n", "1 |2 |"),
+    (Encoding::Auto, b"a\rb\n", "bad 1:2 0x0d, 1 a?b|"),
+    (Encoding::Auto, b"a\r\r\n", "bad 1:2 0x0d, 1 a?|"),
+    (Encoding::Auto, b"a\r", "bad 1:2 0x0d, 1 a?|"),
+    (Encoding::Auto, b"a\\\nb\nc\n", "1 ab|3 c|"),
+    (Encoding::Auto, b"a\\\r\n\\\nb\nc", "1 ab|4 c|"),
+    (Encoding::Auto, b"a\\\\\nb\n", "1 a\\\\|2 b|"),
+    (Encoding::Auto, b"a\\\rb\n", "bad 1:3 0x0d, 1 a\\?b|"),
+    (Encoding::Auto, b"x \\\" c \\\nb\n", "1 x \\\" c \\|2 b|"),
+    (
+        Encoding::Auto,
+        b"x \\\" c \\# d\r\nb\n",
+        "1 x \\\" c \\# d|2 b|",
+    ),
+    (Encoding::Auto, b"a \\# c\nb\nd\n", "1 a b|3 d|"),
+    (Encoding::Auto, b"a\\#\\\"\\\nb\n", "1 ab|"),
+    (Encoding::Auto, b"a\\\\#\nb\n", "1 a\\\\#|2 b|"),
+    (Encoding::Auto, b"\\", "1 |"),
+    (Encoding::Auto, b"a\\", "1 a|"),
+    (Encoding::Auto, b"b\na\\\n", "1 b|2 a|"),
+    (Encoding::Auto, b"a\\#c", "1 a|"),
+    (Encoding::Auto, b"a\\\r", "bad 1:3 0x0d, 1 a\\?|"),
+    (
+        Encoding::Auto,
+        b".if n \\{\\\n.br\\}\nx",
+        "1 .if n \\{.br\\}|3 x|",
+    ),
+];
+
+// Lines are decoded.
+const DECODED: &[Case] = &[
+    (Encoding::Auto, b"\xef\xbb\xbf", ""),
+    (Encoding::Ascii, b"\xef\xbb\xbfa", "1 a|"),
+    (Encoding::Latin1, b"\xef\xbb\xbf\n", "1 |"),
+    (Encoding::Auto, b"\xef\xbb\xbf\xe9", "bad 1:1 0xe9, 1 ?|"),
+    (
+        Encoding::Auto,
+        b"\xef\xbb\xc2\xa0",
+        "1 \u{ef}\u{bb}\u{c2}\u{a0}|",
+    ),
+    (Encoding::Utf8, b"a\n\xef\xbb\xbf\n", "1 a|2 \u{feff}|"),
+    (
+        Encoding::Auto,
+        b"\xc3\xa9\n\xe9\n",
+        "1 \u{e9}|bad 2:1 0xe9, 2 ?|",
+    ),
+    (
+        Encoding::Auto,
+        b"\xe9\n\xc3\xa9",
+        "1 \u{e9}|2 \u{c3}\u{a9}|",
+    ),
+    (Encoding::Auto, b"\xc3\xa9\xc3", "bad 1:3 0xc3, 1 \u{e9}?|"),
+    (Encoding::Auto, b"\xc3\\\n\xa9\n", "1 \u{e9}|"),
+    (Encoding::Auto, b"a\\#\xe9\n\xc3\xa9\n", "1 a\u{e9}|"),
+    (
+        Encoding::Auto,
+        b"\\\" \xe9\n\xc3\xa9\n",
+        "1 \\\" \u{e9}|2 \u{c3}\u{a9}|",
+    ),
+    (
+        Encoding::Ascii,
+        b"\xc3\xa9",
+        "bad 1:1 0xc3, bad 1:2 0xa9, 1 ??|",
+    ),
+    (
+        Encoding::Latin1,
+        b"\x80\xa0\xbf\xc0\xff\x9f",
+        "bad 1:1 0x80, bad 1:10 0x9f, 1 ?\u{a0}\u{bf}\u{c0}\u{ff}?|",
+    ),
+    (
+        Encoding::Auto,
+        b"\x00\t\x7f\x1f~",
+        "bad 1:1 0x00, bad 1:3 0x7f, bad 1:4 0x1f, 1 ?\t??~|",
+    ),
+    (
+        Encoding::Utf8,
+        b"\xc0\xaf",
+        "bad 1:1 0xc0, bad 1:2 0xaf, 1 ??|",
+    ),
+    (
+        Encoding::Utf8,
+        b"\xc2\x85\xc2\xa0",
+        "bad 1:1 0xc2, bad 1:2 0x85, 1 ??\u{a0}|",
+    ),
+    (
+        Encoding::Utf8,
+        b"\xe0\x9f\xbf",
+        "bad 1:1 0xe0, bad 1:2 0x9f, bad 1:3 0xbf, 1 ???|",
+    ),
+    (Encoding::Utf8, b"\xe0\xa0\x80", "1 \u{800}|"),
+    (
+        Encoding::Utf8,
+        b"\xed\xa0\x80",
+        "bad 1:1 0xed, bad 1:2 0xa0, bad 1:3 0x80, 1 ???|",
+    ),
+    (Encoding::Utf8, b"\xed\x9f\xbf", "1 \u{d7ff}|"),
+    (
+        Encoding::Utf8,
+        b"\xf0\x8f\xbf\xbf",
+        "bad 1:1 0xf0, bad 1:2 0x8f, bad 1:3 0xbf, bad 1:4 0xbf, 1 ????|",
+    ),
+    (Encoding::Utf8, b"\xf4\x8f\xbf\xbf", "1 \u{10ffff}|"),
+    (
+        Encoding::Utf8,
+        b"\xf4\x90\x80\x80",
+        "bad 1:1 0xf4, bad 1:2 0x90, bad 1:3 0x80, bad 1:4 0x80, 1 ????|",
+    ),
+    (
+        Encoding::Utf8,
+        b"\xf5\x80\x80\x80",
+        "bad 1:1 0xf5, bad 1:2 0x80, bad 1:3 0x80, bad 1:4 0x80, 1 ????|",
+    ),
+    (
+        Encoding::Utf8,
+        b"a\xe4\xb8\x80b\xe4\xb8",
+        "bad 1:6 0xe4, bad 1:7 0xb8, 1 a\u{4e00}b??|",
+    ),
+    (
+        Encoding::Utf8,
+        b"\xf0\x9f\x98\x80\xff",
+        "bad 1:5 0xff, 1 \u{1f600}?|",
+    ),
+];
 
 // A page of one byte many times, and then others.
 fn page_of(alloc: Global, byte: u8, count: usize, tail: &[u8]) -> Result<Vec<u8>, Fail> {
@@ -262,75 +257,85 @@ fn page_of(alloc: Global, byte: u8, count: usize, tail: &[u8]) -> Result<Vec<u8>
 // What is shown of a page before the bytes that it has many times, and how many bytes are shown in all.
 type LongCase = (Encoding, u8, usize, &'static [u8], &'static str, usize);
 
+const LONG: &[LongCase] = &[
+    (Encoding::Auto, b'x', 65535, b"\n", "1 x", 65538),
+    (Encoding::Auto, b'x', 65536, b"\r\n", "1 x", 65539),
+    (Encoding::Auto, b'x', 65536, b"\\\n", "1 x", 65539),
+    (
+        Encoding::Auto,
+        b'x',
+        65537,
+        b"\n",
+        "limit 1:1 LINE, 1 x",
+        65555,
+    ),
+    (
+        Encoding::Auto,
+        b'x',
+        65536,
+        b"\r",
+        "limit 1:1 LINE, 1 x",
+        65555,
+    ),
+    (
+        Encoding::Auto,
+        b'x',
+        65530,
+        b"\\\n1234567",
+        "limit 1:1 LINE, 1 x",
+        65555,
+    ),
+    (
+        Encoding::Auto,
+        b'x',
+        65536,
+        b"\xe9\n\xc3\xa9",
+        "limit 1:1 LINE, 1 x",
+        65560,
+    ),
+    (
+        Encoding::Latin1,
+        b'x',
+        65535,
+        b"\xe9\n",
+        "limit 1:1 LINE, 1 x",
+        65554,
+    ),
+    (Encoding::Latin1, 0xe9, 32768, b"\n", "1 \u{e9}", 65539),
+    (
+        Encoding::Latin1,
+        0xe9,
+        32767,
+        b"xxx\n",
+        "limit 1:1 LINE, 1 \u{e9}",
+        65555,
+    ),
+    (
+        Encoding::Latin1,
+        0xe9,
+        32769,
+        b"\x80",
+        "limit 1:1 LINE, 1 \u{e9}",
+        65555,
+    ),
+];
+
+fn check_long<R: Abort + AllocGlobal>(rt: &R, case: LongCase) -> Result<(), Fail> {
+    let (encoding, byte, count, tail, want, len) = case;
+    let page = page_of(rt.alloc(), byte, count, tail)?;
+    let lines = lines_of(rt.alloc(), encoding, page.as_slice(), 65530, 3)?;
+    check_front(rt, lines.as_str(), want, tail);
+    check_number(rt, lines.len(), len);
+    Ok(())
+}
+
 #[test]
-fn cuts_long_lines(rt: HostRuntime) -> Result<(), Fail> {
-    let cases: [LongCase; 11] = [
-        (Encoding::Auto, b'x', 65535, b"\n", "1 x", 65538),
-        (Encoding::Auto, b'x', 65536, b"\r\n", "1 x", 65539),
-        (Encoding::Auto, b'x', 65536, b"\\\n", "1 x", 65539),
-        (
-            Encoding::Auto,
-            b'x',
-            65537,
-            b"\n",
-            "limit 1:1 LINE, 1 x",
-            65555,
-        ),
-        (
-            Encoding::Auto,
-            b'x',
-            65536,
-            b"\r",
-            "limit 1:1 LINE, 1 x",
-            65555,
-        ),
-        (
-            Encoding::Auto,
-            b'x',
-            65530,
-            b"\\\n1234567",
-            "limit 1:1 LINE, 1 x",
-            65555,
-        ),
-        (
-            Encoding::Auto,
-            b'x',
-            65536,
-            b"\xe9\n\xc3\xa9",
-            "limit 1:1 LINE, 1 x",
-            65560,
-        ),
-        (
-            Encoding::Latin1,
-            b'x',
-            65535,
-            b"\xe9\n",
-            "limit 1:1 LINE, 1 x",
-            65554,
-        ),
-        (Encoding::Latin1, 0xe9, 32768, b"\n", "1 \u{e9}", 65539),
-        (
-            Encoding::Latin1,
-            0xe9,
-            32767,
-            b"xxx\n",
-            "limit 1:1 LINE, 1 \u{e9}",
-            65555,
-        ),
-        (
-            Encoding::Latin1,
-            0xe9,
-            32769,
-            b"\x80",
-            "limit 1:1 LINE, 1 \u{e9}",
-            65555,
-        ),
-    ];
-    for (encoding, byte, count, tail, want, len) in cases {
-        let page = page_of(rt.alloc(), byte, count, tail)?;
-        let lines = lines_of(rt.alloc(), encoding, page.as_slice(), 65530, 3)?;
-        check_front(&rt, lines.as_str(), want, tail);
-        check_number(&rt, lines.len(), len);
+fn gives_the_lines_of_pages(rt: HostRuntime) -> Result<(), Fail> {
+    for cases in [JOINED, DECODED] {
+        check_all(&rt, cases)?;
+    }
+    for case in LONG {
+        check_long(&rt, *case)?;
     }
     Ok(())
 }
