@@ -124,13 +124,11 @@ impl Page {
         })
     }
 
-    /// A page after a heading and a word.
-    pub(crate) fn begun(alloc: Global) -> Result<Page, AllocError> {
-        let mut page = Page::new(alloc)?;
+    /// Takes a heading and a word.
+    pub(crate) fn begin(&mut self, alloc: Global) {
         let mut out = nothing(alloc);
-        page.take(&mut out, ".SH A");
-        page.take(&mut out, "x");
-        Ok(page)
+        self.take(&mut out, ".SH A");
+        self.take(&mut out, "x");
     }
 
     // Takes a line; one that begins with `^` by the second set, which shows it as it is.
