@@ -1,6 +1,6 @@
 -- What the code's object holds, and what its calls do, in terms of the effects of parts. Trust needs no reading of it.
 -- Source: roff(7), "LANGUAGE SYNTAX".
-use Rattle.std.specs.Prelude.{◌≡◌, ℕ, ◌≤◌, Bool, true, false, nat_le, List, [], ◌∷◌, length, Option, Some, None, if◌then◌else◌}
+use Rattle.std.specs.Prelude.{◌≡◌, ℕ, ◌≤◌, Bool, true, false, List, [], ◌∷◌, length, Option, Some, None, if◌then◌else◌}
 use Rattle.page_core_limits.specs.declared.TheConstants.{ARGS, BODY}
 use Rattle.page_core_base.specs.Messages.{Message}
 use Rattle.page_core_base.specs.LinesTaken.{Line}
@@ -14,13 +14,13 @@ use Rattle.page_roff_values.specs.Latches.{Came}
 use Rattle.page_roff_values.specs.Values.{Spot, Laid, expanded}
 use Rattle.page_roff_conditions.specs.Answers.{Answer}
 use Rattle.page_roff_names.specs.Names.{Definitions}
+use Rattle.page_roff_buffers.specs.Calls.{Call}
 use Rattle.page_roff_effects.specs.declared.commands.Command.TheVariants.{Pass}
 use Rattle.page_roff_effects.specs.Commands.{command_of}
 use Rattle.page_roff_effects.specs.declared.commands.ProductKind.{ProductKind}
 use Rattle.page_roff_effects.specs.declared.commands.ProductKind.TheVariants as kinds
-use Rattle.page_roff_effects.specs.States.{Memory, first_memory, Call, Product, no_product, line_product, call_product, loop_product, Outcome, Setting, surroundings, counted}
+use Rattle.page_roff_effects.specs.States.{Memory, first_memory, Product, no_product, line_product, call_product, loop_product, Outcome, Setting, surroundings, counted}
 use Rattle.page_roff_effects.specs.Effects.{test_outcome}
-use Rattle.page_roff_effects.specs.RegionLines.{with_line}
 use Rattle.page_roff_effects.specs.Leaves as leaves
 use Rattle.page_roff_effects.specs.declared.leaves.ControlLine.{ControlLine}
 
@@ -126,31 +126,6 @@ abbrev pub with_number : ℕ → Acting → Acting
 with_number number a = record a {
   memory = record { definitions = a.memory.definitions; body = a.memory.body; number = number; expansions = a.memory.expansions };
 }
-
--- before a line and a call were taken
-abbrev pub no_line : Line
-no_line = record { form = Text; text = []; number = 0; name_end = 0 }
-
-abbrev pub no_call : Call
-no_call = record { body = []; packed = [] }
-
--- a line is added to a body with its end, unless that passes the limit: then there is no body
-abbrev pub body_if : Bool → List ℕ → Option (List ℕ)
-body_if true body = Some body
-body_if false body = None
-
-abbrev pub AddsLine : Option (List ℕ) → List ℕ → Bool → Option (List ℕ) → Type 0
-AddsLine None line result new = Unit {0}
-AddsLine (Some body) line result new =
-    (result ≡ nat_le (length (with_line body line)) BODY) × (new ≡ body_if result (with_line body line))
-
--- the arguments of a call are packed, if they are within their limit
-abbrev pub PacksIf : Bool → List ℕ → List ℕ → Type 0
-PacksIf true wanted bytes = bytes ≡ wanted
-PacksIf false wanted bytes = Unit {0}
-
-abbrev pub Packs : List ℕ → Bool → List ℕ → Type 0
-Packs wanted result bytes = (result ≡ nat_le (length wanted) ARGS) × PacksIf result wanted bytes
 
 -- something came of a part, without a message
 pub record Takes (old : Acting) (o : Outcome) (result : ProductKind) (new : Acting) : Type 0 where

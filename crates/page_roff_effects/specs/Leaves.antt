@@ -1,11 +1,10 @@
 -- What lines do that head nothing: text, requests, calls of macros. Source: roff(7), "LANGUAGE SYNTAX" and "MACRO SYNTAX".
 use Rattle.std.specs.Prelude.{ℕ, ◌+◌, ◌-◌, ◌==◌, ◌&&◌, Bool, true, false, nat_le, List, [], ◌∷◌, ◌++◌, length, drop, if◌then◌else◌, unwrap_or}
-use Rattle.std.specs.List.{flat_map}
 use Rattle.page_core_base.specs.Messages.{Message, message_about}
 use Rattle.page_core_base.specs.declared.places.Place.{Place}
 use Rattle.page_core_base.specs.declared.lines_taken.Form.TheVariants as forms
 use Rattle.page_core_base.specs.declared.note_kinds.NoteKind.TheVariants as kinds
-use Rattle.page_roff_forms.specs.Arguments.{arguments, is_quoted}
+use Rattle.page_roff_forms.specs.Arguments.{arguments}
 use Rattle.page_roff_forms.specs.LineForms.{form_of, without_comment}
 use Rattle.page_roff_forms.specs.declared.line_forms.LineForm.{LineForm}
 use Rattle.page_roff_forms.specs.declared.line_forms.LineForm.TheVariants.{Comment, BlankLine, Text, Control}
@@ -14,6 +13,7 @@ use Rattle.page_core_limits.specs.declared.TheConstants.{ARGS}
 use Rattle.page_roff_values.specs.Values.{Laid, expanded}
 use Rattle.page_roff_definitions.specs.Arguments.{closings_notes}
 use Rattle.page_roff_definitions.specs.Definitions.{Outcome, outcome_of}
+use Rattle.page_roff_buffers.specs.Calls.{packed}
 use Rattle.page_roff_effects.specs.declared.commands.Command.{Command}
 use Rattle.page_roff_effects.specs.declared.commands.Command.TheVariants.{Call, Define, Ignore, Refuse, Pass}
 use Rattle.page_roff_effects.specs.Commands.{called_body, command_of, copies}
@@ -22,21 +22,7 @@ use Rattle.page_roff_effects.specs.States as states
 use Rattle.page_core_limits.specs.Limits.{name_of}
 use Rattle.page_core_limits.specs.declared.Limit.TheVariants as limits
 
--- ---- the arguments of a call
-
--- in a quoted argument a pair of quotes (34) is one quote
-abbrev pub unpaired : List ℕ → List ℕ
-unpaired [] = []
-unpaired (byte ∷ []) = byte ∷ []
-unpaired (byte ∷ next ∷ bytes) =
-    if byte == 34 && next == 34 then 34 ∷ unpaired bytes else byte ∷ unpaired (next ∷ bytes)
-
-abbrev pub argument_value : Argument (List ℕ) → List ℕ
-argument_value argument = if is_quoted argument.quoting then unpaired argument.text else argument.text
-
--- each argument with a line feed (10) after it, which no line holds
-abbrev pub packed : List (Argument (List ℕ)) → List ℕ
-packed arguments = flat_map (λ argument. argument_value argument ++ (10 ∷ [])) arguments
+-- ---- calls
 
 -- the call that would be one running macro too many
 abbrev pub depth_notes : Bool → Place → List Message

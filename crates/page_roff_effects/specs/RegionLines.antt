@@ -18,6 +18,7 @@ use Rattle.page_roff_names.specs.Names.{Definitions, with_text}
 use Rattle.page_roff_values.specs.Values.{expanded}
 use Rattle.page_roff_definitions.specs.Definitions.{settles}
 use Rattle.page_roff_definitions.specs.Definitions as defining
+use Rattle.page_roff_buffers.specs.Calls.{with_line}
 use Rattle.page_roff_effects.specs.Commands.{called_body}
 use Rattle.page_roff_effects.specs.Leaves.{defines, after_expansion}
 use Rattle.page_roff_effects.specs.States.{Memory, Outcome, nothing, reports, reports_at, note_at, gives_line, at, with_body, Setting, surroundings}
@@ -64,10 +65,6 @@ head_outcome head true m =
 head_outcome head false m = nothing m
 
 -- ---- lines
-
--- a body with one line more, which ends in a line feed (10)
-abbrev pub with_line : List ℕ → List ℕ → List ℕ
-with_line body line = body ++ (line ++ (10 ∷ []))
 
 -- the line that passes the limit is reported, and from then on there is no body
 abbrev pub longer_if : Bool → List ℕ → Memory → Outcome

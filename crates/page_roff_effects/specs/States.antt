@@ -6,13 +6,9 @@ use Rattle.page_core_base.specs.declared.lines_taken.Form.{Form}
 use Rattle.page_core_base.specs.declared.note_kinds.NoteKind.{NoteKind}
 use Rattle.page_core_base.specs.declared.page_settings.Output.{Output}
 use Rattle.page_core_base.specs.declared.places.Place.{Place}
+use Rattle.page_roff_buffers.specs.Calls.{Call}
 use Rattle.page_roff_names.specs.Names.{Definitions, definitions}
 use Rattle.page_roff_values.specs.Environments.{Surroundings}
-
--- a macro that is called: the lines of its body, and its arguments, each with a line feed after it
-pub record Call : Type 0 where
-  pub body : List ℕ
-  pub packed : List ℕ
 
 -- What is remembered from part to part: what names stand for; the body that the open region has so far, where it defines a macro and
 -- no limit was passed, or the text of the loop that is collected; the number of the source line; how many interpolations were made.

@@ -14,10 +14,9 @@ ghost use Rattle.page_roff_effects.specs.Effects.{answer_of, turn_answer, budget
 ghost use Rattle.page_core_base.specs.Messages.{message_about};
 ghost use Rattle.page_roff_values.specs.Latches.{Came};
 
-use crate::buffers::{BodyBuffer, LineBuffer};
-use crate::calls::CallBuffer;
 use page_core_base::{Note, NoteKind, Output, Place, Taken};
 use page_core_limits::{ARGS, Limit};
+use page_roff_buffers::{BodyBuffer, CallBuffer, LineBuffer};
 use page_roff_conditions::holds;
 use page_roff_forms::plain_len;
 use page_roff_heads::{Condition, read_condition};

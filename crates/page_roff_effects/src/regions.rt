@@ -15,11 +15,11 @@ ghost use Rattle.page_roff_effects.specs.RegionLines as regions;
 ghost use Rattle.page_roff_effects.specs.States.{Memory, reports, with_body};
 
 use crate::actions::{Actions, report_at};
-use crate::buffers::BodyBuffer;
 use crate::commands::{ProductKind, body_or_nothing};
 use page_core_base::{Form, Note, NoteKind, Place};
 use page_core_limits::{LINE, Limit, NAME};
 use page_roff_blocks::{OpenRegion, RegionHead};
+use page_roff_buffers::BodyBuffer;
 use page_roff_names::Names;
 use page_roff_requests::RegionKind;
 use page_roff_values::NoteOut;

@@ -26,9 +26,10 @@ use Rattle.page_roff_effects.specs.Acting.{Acting, kind_of, Lends, IfRepeated}
 use Rattle.page_roff_effects.specs.Effects.{effects, setting_of, answer_of, turn_answer, test_outcome, tested_after, done_by, done_after, budget_outcome, end_of_block_outcome}
 use Rattle.page_roff_effects.specs.Leaves.{leaf_outcome}
 use Rattle.page_roff_effects.specs.LoopLines.{longer_if_some, loop_outcome, collect_outcome, close_outcome, condition_in, body_in}
-use Rattle.page_roff_effects.specs.RegionLines.{head_outcome, with_line, longer_if, longer, line_outcome, end_outcome, finish_region, finish_outcome}
+use Rattle.page_roff_buffers.specs.Calls.{Call, with_line}
+use Rattle.page_roff_effects.specs.RegionLines.{head_outcome, longer_if, longer, line_outcome, end_outcome, finish_region, finish_outcome}
 use Rattle.page_roff_conditions.specs.Answers.{Answer}
-use Rattle.page_roff_effects.specs.States.{Setting, Call, Memory, State, Outcome, Product, no_product, line_product, call_product, loop_product, Given, says, takes, after, lines_of}
+use Rattle.page_roff_effects.specs.States.{Setting, Memory, State, Outcome, Product, no_product, line_product, call_product, loop_product, Given, says, takes, after, lines_of}
 use Rattle.page_roff_stack.specs.Changes.{is_page}
 use Rattle.page_roff_machine.specs.declared.budgeted_actions.BudgetedActions.{BudgetedActions}
 use Rattle.page_roff_machine.specs.Doing.{output_of, state_in, state_after, answer_with, line_after, IsIn, IsAt, Makes, Does, Answers, parts_of, charged_in, begun_in, met_in, value_in, answer_after, answer_in, region_after, region_in, opens_after, opened_in, closed_in, closes_after, passed_in, kept_in, collected_in, turned_in, leaf_after, leaf_in, line_of, done_as, read_in, read_kept_in, ended_in, ended_kept_in, unopened_in, finished_in}

@@ -35,8 +35,9 @@ use Rattle.page_roff_language.proofs.KeepEffects.{IsKeptAfter, KeepsEffects, pag
 use Rattle.page_roff_language.proofs.KeepLemmas.{IsIfSome, IsLoopHead}
 use Rattle.page_roff_effects.specs.Commands.{called_body, request_command, command_or, command_of, copies}
 use Rattle.page_roff_effects.specs.Effects.{effects, setting_of, answer_of, turn_answer, test_outcome, tested_after, done_by, done_after, budget_outcome, block_outcome, end_of_block_outcome}
-use Rattle.page_roff_effects.specs.Leaves.{packed, call_if, ControlLine, rest_of, rest_column, does, command_outcome, control_outcome, control_line, form_outcome, leaf_outcome}
-use Rattle.page_roff_effects.specs.RegionLines.{first_body, body_begun, head_outcome, with_line, longer_if, longer, body_outcome, kind_outcome, line_outcome, macro_definition, body_freed, end_outcome, finish_region, finish_outcome}
+use Rattle.page_roff_buffers.specs.Calls.{with_line, packed}
+use Rattle.page_roff_effects.specs.Leaves.{call_if, ControlLine, rest_of, rest_column, does, command_outcome, control_outcome, control_line, form_outcome, leaf_outcome}
+use Rattle.page_roff_effects.specs.RegionLines.{first_body, body_begun, head_outcome, longer_if, longer, body_outcome, kind_outcome, line_outcome, macro_definition, body_freed, end_outcome, finish_region, finish_outcome}
 use Rattle.page_roff_effects.specs.LoopLines.{longer_if_some, loop_outcome, collect_outcome, repeats_text, close_outcome}
 use Rattle.page_roff_effects.specs.States.{Memory, first_memory, Setting, surroundings, counted, Product, no_product, line_product, call_product, loop_product, lines_of, Given, says, takes, State, Outcome, nothing, after}
 use Rattle.page_roff_texts.specs.Texts.{AreLines, IsBody, IsPacked, AreEntries, IsBodyIfSome, HoldsTexts, AreGiven}

@@ -2,8 +2,8 @@ use Rattle.std.proofs.Common.{◌≡◌, ℕ, true, ◌+◌, ◌≤◌, ◌++◌
 use Rattle.std.specs.Vec.{vec_capacity}
 use Rattle.page_core_limits.specs.declared.TheConstants.{ARGS, LINE}
 use Rattle.page_roff_definitions.specs.Arguments.{closings_notes}
-use Rattle.page_roff_effects.specs.Leaves.{packed}
-use Rattle.page_roff_effects.proofs.calls.append_arguments.Given as goal
+use Rattle.page_roff_buffers.specs.Calls.{packed}
+use Rattle.page_roff_buffers.proofs.calls.append_arguments.Given as goal
 
 abbrev pub invariant-loop-argument : goal.invariant-loop-argument
 invariant-loop-argument l = record {

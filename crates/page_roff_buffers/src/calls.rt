@@ -5,8 +5,8 @@ ghost use Rattle.std.specs.Vec.{vec_len, vec_capacity};
 ghost use Rattle.page_core_limits.specs.declared.TheConstants.{BODY, LINE};
 ghost use Rattle.page_roff_forms.specs.Arguments.{argument_seen, arguments};
 ghost use Rattle.page_roff_definitions.specs.Arguments.{closing_notes, closings_notes};
-ghost use Rattle.page_roff_effects.specs.Acting.{no_call, Packs};
-ghost use Rattle.page_roff_effects.specs.Leaves.{unpaired, argument_value, packed};
+ghost use Rattle.page_roff_buffers.specs.Buffers.{no_call, Packs};
+ghost use Rattle.page_roff_buffers.specs.Calls.{unpaired, argument_value, packed};
 
 use crate::buffers::{append, replace};
 use memchr::memchr;
@@ -64,11 +64,11 @@ fn append_argument(text: &mut Vec<u8>, argument: Argument<&[u8]>)
 
 /// What is known of arguments that were packed.
 #[derive(Clone, Copy)]
-pub(crate) struct Packing {
+pub struct Packing {
     /// Whether they are within the limit.
-    pub(crate) fits: bool,
+    pub fits: bool,
     /// Whether it is known that none of them lacks its last quote.
-    pub(crate) is_closed: bool,
+    pub is_closed: bool,
 }
 
 // Whether an argument too is known not to lack its last quote.
@@ -108,7 +108,7 @@ fn append_arguments(text: &mut Vec<u8>, arguments: &mut Arguments<'_>) -> Packin
 
 /// The call that was taken last.
 #[derive(Drop)]
-pub(crate) struct CallBuffer {
+pub struct CallBuffer {
     body: Vec<u8>,
     packed: Vec<u8>,
 }
@@ -118,7 +118,7 @@ impl Model for CallBuffer {
     ghost use Rattle.std.specs.Vec.{vec_capacity};
     ghost use Rattle.page_core_limits.specs.declared.TheConstants.{BODY, LINE};
     ghost use Rattle.page_core_limits.specs.declared.TheConstants.{ARGS};
-    ghost use Rattle.page_roff_effects.specs.States.{Call};
+    ghost use Rattle.page_roff_buffers.specs.Calls.{Call};
 
     ghost Value = { Call };
 
@@ -129,7 +129,7 @@ impl Model for CallBuffer {
 
 impl CallBuffer {
     /// No call yet. All memory is reserved here.
-    pub(crate) fn new(alloc: Global) -> Result<CallBuffer, AllocError>
+    pub fn new(alloc: Global) -> Result<CallBuffer, AllocError>
         ensures { IfOk result (λ r. r ≡ no_call) }
     {
         Ok(CallBuffer {
@@ -139,7 +139,7 @@ impl CallBuffer {
     }
 
     /// Takes the arguments of a call from the rest of its line, of which the first byte stands at a column.
-    pub(crate) fn pack(&mut self, rest: &[u8], column: u32) -> Packing
+    pub fn pack(&mut self, rest: &[u8], column: u32) -> Packing
         requires short { length rest.now ≤ LINE }
         requires room { column + length rest.now ≤ LINE + 1 }
         ensures packed { Packs (packed (arguments column rest.now)) result.fits self.new.packed }
@@ -150,7 +150,7 @@ impl CallBuffer {
     }
 
     /// Takes the body of a call, or the text of a loop.
-    pub(crate) fn set_body(&mut self, body: &[u8])
+    pub fn set_body(&mut self, body: &[u8])
         requires { length body.now ≤ BODY }
         ensures { self.new ≡ record { body = body.now; packed = self.old.packed } }
     {
@@ -158,14 +158,14 @@ impl CallBuffer {
     }
 
     /// Lends the body.
-    pub(crate) fn body(&self) -> &[u8]
+    pub fn body(&self) -> &[u8]
         ensures { result.now ≡ self.now.body }
     {
         self.body.as_slice()
     }
 
     /// Lends the arguments, each with a line feed after it.
-    pub(crate) fn packed(&self) -> &[u8]
+    pub fn packed(&self) -> &[u8]
         ensures { result.now ≡ self.now.packed }
     {
         self.packed.as_slice()

@@ -1,7 +1,7 @@
 use Rattle.std.proofs.Common.{◌≡◌, ◌+◌, ◌≤◌, ◌++◌, length}
 use Rattle.std.specs.Vec.{vec_len, vec_capacity}
-use Rattle.page_roff_effects.specs.Leaves.{unpaired}
-use Rattle.page_roff_effects.proofs.calls.append_unpaired.Given as goal
+use Rattle.page_roff_buffers.specs.Calls.{unpaired}
+use Rattle.page_roff_buffers.proofs.calls.append_unpaired.Given as goal
 
 abbrev pub invariant-loop-rest : goal.invariant-loop-rest
 invariant-loop-rest l = record {

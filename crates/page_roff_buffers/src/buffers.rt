@@ -4,8 +4,8 @@ ghost use Rattle.std.specs.Prelude.{◌≡◌, ◌≤◌, ◌+◌, [], ◌∷◌
 ghost use Rattle.std.specs.Vec.{vec_len, vec_capacity};
 ghost use Rattle.page_core_base.specs.LinesTaken.{line_seen};
 ghost use Rattle.page_core_limits.specs.declared.TheConstants.{BODY, LINE};
-ghost use Rattle.page_roff_effects.specs.Acting.{no_line, AddsLine};
-ghost use Rattle.page_roff_blocks.specs.Regions.{text_seen};
+ghost use Rattle.page_roff_buffers.specs.Buffers.{no_line, AddsLine};
+ghost use Rattle.page_roff_requests.specs.Regions.{text_seen};
 
 use page_core_base::{Form, Taken};
 use page_core_limits::{BODY, LINE};
@@ -36,7 +36,7 @@ pub(crate) fn replace(text: &mut Vec<u8>, bytes: &[u8])
 
 /// The finished line that was taken last.
 #[derive(Drop)]
-pub(crate) struct LineBuffer {
+pub struct LineBuffer {
     form: Form,
     text: Vec<u8>,
     line: u32,
@@ -58,7 +58,7 @@ impl Model for LineBuffer {
 
 impl LineBuffer {
     /// No line yet. All memory is reserved here.
-    pub(crate) fn new(alloc: Global) -> Result<LineBuffer, AllocError>
+    pub fn new(alloc: Global) -> Result<LineBuffer, AllocError>
         ensures { IfOk result (λ r. r ≡ no_line) }
     {
         Ok(LineBuffer {
@@ -70,7 +70,7 @@ impl LineBuffer {
     }
 
     /// Takes a line.
-    pub(crate) fn set(&mut self, form: Form, text: &[u8], line: u32, name_end: u32)
+    pub fn set(&mut self, form: Form, text: &[u8], line: u32, name_end: u32)
         requires { length text.now ≤ LINE }
         ensures { self.new ≡ record { form = form; text = text.now; number = line; name_end = name_end } }
     {
@@ -81,7 +81,7 @@ impl LineBuffer {
     }
 
     /// Lends the line, of at most [`LINE`] bytes.
-    pub(crate) fn taken(&self) -> Taken<'_>
+    pub fn taken(&self) -> Taken<'_>
         ensures line { line_seen result ≡ self.now }
         ensures short { length result.text.now ≤ LINE }
     {
@@ -96,7 +96,7 @@ impl LineBuffer {
 
 /// The body that an open region has so far, where it defines a macro and no limit was passed, or the text of the loop that is collected.
 #[derive(Drop)]
-pub(crate) struct BodyBuffer {
+pub struct BodyBuffer {
     is_open: bool,
     text: Vec<u8>,
 }
@@ -115,7 +115,7 @@ impl Model for BodyBuffer {
 
 impl BodyBuffer {
     /// No body. All memory is reserved here.
-    pub(crate) fn new(alloc: Global) -> Result<BodyBuffer, AllocError>
+    pub fn new(alloc: Global) -> Result<BodyBuffer, AllocError>
         ensures { IfOk result (λ r. r ≡ None) }
     {
         Ok(BodyBuffer {
@@ -125,14 +125,14 @@ impl BodyBuffer {
     }
 
     /// There is no body.
-    pub(crate) fn clear(&mut self)
+    pub fn clear(&mut self)
         ensures { self.new ≡ None }
     {
         self.is_open = false;
     }
 
     /// A body that begins so.
-    pub(crate) fn begin(&mut self, front: &[u8])
+    pub fn begin(&mut self, front: &[u8])
         requires { length front.now ≤ BODY }
         ensures { self.new ≡ Some front.now }
     {
@@ -141,7 +141,7 @@ impl BodyBuffer {
     }
 
     /// What the body has so far, if there is one.
-    pub(crate) fn text(&self) -> Option<&[u8]>
+    pub fn text(&self) -> Option<&[u8]>
         ensures text { text_seen result ≡ self.now }
         ensures short { IfSome result (λ body. length body.now ≤ BODY) }
     {
@@ -153,7 +153,7 @@ impl BodyBuffer {
     }
 
     /// Adds a line with its end to a body. Where that passes the limit, there is no body from then on.
-    pub(crate) fn add_line(&mut self, line: &[u8]) -> bool
+    pub fn add_line(&mut self, line: &[u8]) -> bool
         ensures { AddsLine self.old line.now result self.new }
     {
         if !self.is_open {
@@ -169,7 +169,7 @@ impl BodyBuffer {
     }
 
     /// The body is within its limit. Nothing is done: what is added keeps to it.
-    pub(crate) fn caps_law(&self)
+    pub fn caps_law(&self)
         ensures { IfSome self.now (λ body. length body ≤ BODY) }
     {
         let _is_open = self.is_open;

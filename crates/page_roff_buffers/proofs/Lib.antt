@@ -1,0 +1,2 @@
+pub mod CapLemmas
+pub mod PackLemmas
