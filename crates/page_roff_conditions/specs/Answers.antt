@@ -37,9 +37,9 @@ is_defined name d = is_some (string_of name d) || is_some (body_of name d) || is
 abbrev pub is_register : List ℕ → Surroundings → Bool
 is_register name env = is_some (register_found name env)
 
--- a text is expanded after what is finished of its line, of which `base` bytes stand before the text
+-- a text is expanded after what is finished of its line, of which this many bytes stand before the text
 abbrev pub expands : Surroundings → ℕ → List ℕ → Spot → Laid
-expands env base text s = value env NEST text (after_bytes base s)
+expands env count text s = value env NEST text (after_bytes count s)
 
 -- What a text gives, unless it was cut: then the condition is false, and nothing turns that.
 abbrev pub unless_cut : Bool → Laid → Answer → Answer

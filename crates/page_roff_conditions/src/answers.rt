@@ -1,6 +1,6 @@
 //! Whether a condition holds (roff(7), "Conditional expressions").
 
-ghost use Rattle.std.specs.Prelude.{◌≡◌, false, ◌-◌, ◌≤◌, ◌^◌, [], take, drop, length};
+ghost use Rattle.std.specs.Prelude.{◌≡◌, false, ◌-◌, ◌≤◌, ◌^◌, take, drop, length};
 ghost use Rattle.std.specs.Str.{bytes_eq};
 ghost use Rattle.page_roff_conditions.specs.Answers as asked;
 ghost use Rattle.page_roff_conditions.specs.Answers.{Gives};
@@ -30,23 +30,22 @@ fn turned(is_turned: bool, holds: bool) -> bool
     holds != is_turned
 }
 
-// Expands a text after what is finished of its line. Answers whether that was cut.
+// Expands a text after what is finished of its line, of which `bytes_before` bytes stand before the text. Answers whether that was
+// cut.
 fn expand_text<O: NoteOut>(
     text: &[u8],
-    base: u32,
+    bytes_before: u32,
     env: &Environment<'_>,
     line: &mut Expansion,
     out: &mut O,
 ) -> bool
     requires going { line.old.ended ≡ false }
-    requires outside { line.old.around.before ≡ [] }
-    requires base { base ≤ 2 ^ 31 }
-    ensures goes { Goes O.left out.old (asked.expands (surroundings_of env.now) base text.now line.old)
+    requires bytes_before { bytes_before ≤ 2 ^ 31 }
+    ensures goes { Goes O.left out.old (asked.expands (surroundings_of env.now) bytes_before text.now line.old)
         out.new (nothing line.new) }
     ensures ended { result ≡ line.new.ended }
-    ensures outside { line.new.around.before ≡ [] }
 {
-    line.expand_more(env, text, base, out);
+    line.expand_more(env, text, bytes_before, out);
     line.has_ended()
 }
 
@@ -61,7 +60,6 @@ fn is_positive<O: NoteOut>(
 ) -> bool
     requires fits { FitsPlaced (placed_seen text.now) }
     requires going { line.old.ended ≡ false }
-    requires outside { line.old.around.before ≡ [] }
     ensures { Gives O.left out.old out.new result line.new
         (asked.test_answer (surroundings_of env.now) place is_turned
         (Test.Expression (placed_seen text.now)) line.old) }
@@ -93,7 +91,6 @@ fn are_equal<O: NoteOut>(
     requires first { FitsPlaced (placed_seen first.now) }
     requires second { FitsPlaced (placed_seen second.now) }
     requires going { line.old.ended ≡ false }
-    requires outside { line.old.around.before ≡ [] }
     ensures { Gives O.left out.old out.new result line.new
         (asked.test_answer (surroundings_of env.now) place is_turned
         (Test.Texts (placed_seen first.now) (placed_seen second.now)) line.old) }
@@ -102,11 +99,11 @@ fn are_equal<O: NoteOut>(
         return false;
     }
     let len = line.text().len();
-    let base = second
+    let bytes_between = second
         .column
         .saturating_sub(1)
         .saturating_sub(first.text.len() as u32);
-    if expand_text(second.text, base, env, line, out) {
+    if expand_text(second.text, bytes_between, env, line, out) {
         return false;
     }
     turned(is_turned, has_equal_parts(line.text(), len))

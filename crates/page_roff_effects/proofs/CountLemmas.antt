@@ -52,8 +52,8 @@ cut_within : (cut : Bool) (laid : Laid) (answer : Answer) → IsWithin laid.edge
 cut_within true laid answer h k = h
 cut_within false laid answer h k = k
 
-expands_within : (env : Surroundings) (base : ℕ) (text : List ℕ) (s : Spot) → IsWithin s → IsWithin (expands env base text s).edge
-expands_within env base text s h = value_within env NEST text _ (record { text = h.text; count = h.count })
+expands_within : (env : Surroundings) (count : ℕ) (text : List ℕ) (s : Spot) → IsWithin s → IsWithin (expands env count text s).edge
+expands_within env count text s h = value_within env NEST text _ (record { text = h.text; count = h.count })
 
 test_within : (env : Surroundings) (place : Place) (is_turned : Bool) (test : Test (List ℕ)) (s : Spot) → IsWithin s
     → IsWithin (test_answer env place is_turned test s).edge

@@ -1,6 +1,6 @@
 -- Widths: helpers of proofs.
 use Rattle.std.specs.Fmt.{decimal}
-use Rattle.std.proofs.Common.{◌≡◌, ℕ, ◌*◌, Bool, true, false, List, length, Some, refl, sym, ap, ◌∙◌}
+use Rattle.std.proofs.Common.{◌≡◌, ℕ, ◌*◌, Bool, true, false, List, [], ◌∷◌, ◌++◌, length, Some, refl, sym, ap, ◌∙◌}
 use Rattle.std.proofs.Math.Seq.{take-append_seam, drop-append_seam, take-length, drop-length}
 use Rattle.std.proofs.lemmas.List.{take-append-drop}
 use Rattle.std.proofs.lemmas.Str.{is_utf8-from_IsUtf8, IsUtf8-from_is_utf8}
@@ -8,24 +8,36 @@ use Rattle.std.specs.Str.{IsUtf8, is_utf8}
 use Rattle.page_core_base.specs.Messages.{Message}
 use Rattle.page_core_base.specs.declared.page_settings.Output.{Output}
 use Rattle.page_core_numbers.specs.Columns.{columns_of}
-use Rattle.page_roff_values.specs.declared.expansions.Expansion.TheInside.{Inside}
-use Rattle.page_roff_values.specs.Expansions.{spot_of}
+use Rattle.page_roff_values.specs.declared.expansions.Nested.TheInside.{Inside}
+use Rattle.page_roff_values.specs.Environments.{Surroundings}
+use Rattle.page_roff_values.specs.Expansions.{NestedSpot, nested_of}
 use Rattle.page_roff_values.specs.Latches.{Goes}
-use Rattle.page_roff_values.specs.Steps.{going_outside}
-use Rattle.page_roff_values.specs.Values.{Spot, Laid, nothing, join, seq, put, inside, outside, leaves, column_of, units_of, width}
+use Rattle.page_roff_values.specs.Rest.{rest}
+use Rattle.page_roff_values.specs.Steps.{going_inside, going_outside}
+use Rattle.page_roff_values.specs.Values.{Spot, Laid, nothing, join, seq, put, inside, outside, leaves, column_of, units_of, width, value}
+use Rattle.page_roff_values.proofs.FollowLemmas.{value_follows}
+use Rattle.page_roff_values.proofs.GoingLemmas.{begins}
 use Rattle.page_roff_values.proofs.LayLemmas.{seq_more, goes_on}
 
 -- the code begins a text where the line is
-pub inside_is : (a : Inside) (start column : ℕ) → start ≡ length a.text.items → column ≡ column_of (spot_of a)
-    → spot_of (record a { start = start; fixed = Some column }) ≡ inside (spot_of a)
+pub inside_is : (a : Inside) (start column : ℕ) → start ≡ length a.text.items → column ≡ column_of (nested_of a).spot
+    → nested_of (record a { start = start; width_column = Some column }) ≡ going_inside (nested_of a)
 inside_is a start column e f =
     let t = a.text.items in
     rw (e, f, take-length t, drop-length t, take-append-drop a.start t) refl
 
--- the code goes on where the line was
-pub outside_is : (s t : Spot) → t.around ≡ (inside s).around → going_outside (length s.around.before) s.around.fixed t ≡ outside s t
-outside_is s t e =
-    rw (e, take-append_seam s.around.before s.text, drop-append_seam s.around.before s.text) refl
+outside_is : (s t : NestedSpot) → t.spot.around ≡ (inside s.spot).around → t.before ≡ s.before ++ s.spot.text
+    → going_outside (length s.before) s.spot.around.width_column t ≡ record { spot = outside s.spot t.spot; before = s.before }
+outside_is s t e h =
+    rw (e, h, take-append_seam s.before s.spot.text, drop-append_seam s.before s.spot.text) refl
+
+-- the text was read, and the code goes on where the line was
+pub goes_back : (env : Surroundings) (room : ℕ) (text : List ℕ) (s t : NestedSpot) → s.spot.ended ≡ false
+    → t.spot ≡ (seq (nothing (inside s.spot)) (rest env room (text ∷ []))).edge → t.before ≡ s.before ++ s.spot.text
+    → going_outside (length s.before) s.spot.around.width_column t ≡ record { spot = outside s.spot t.spot; before = s.before }
+goes_back env room text s t going is kept =
+    let all : t.spot ≡ (value env room text (inside s.spot)).edge = is ∙ ap (λ (a : Laid). a.edge) (sym (begins env room text (inside s.spot) going)) in
+    outside_is s t (ap (λ (a : Spot). a.around) all ∙ (value_follows env room text (inside s.spot)).around) kept
 
 pub units_known : (output : Output) (text : List ℕ) → IsUtf8 text → 24 * columns_of output text ≡ units_of output text
 units_known output text h = rw (is_utf8-from_IsUtf8 text h) refl

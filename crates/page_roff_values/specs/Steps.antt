@@ -1,12 +1,15 @@
 -- The code's own steps on a line. Trust needs no reading of it.
-use Rattle.std.specs.Prelude.{ℕ, take, drop, Option}
-use Rattle.page_roff_values.specs.Values.{Spot}
+use Rattle.std.specs.Prelude.{ℕ, ◌++◌, take, drop, Option}
+use Rattle.page_roff_values.specs.Expansions.{NestedSpot}
+use Rattle.page_roff_values.specs.Values.{inside}
+
+-- the text of a width, as the code begins it
+abbrev pub going_inside : NestedSpot → NestedSpot
+going_inside s = record { spot = inside s.spot; before = s.before ++ s.spot.text }
 
 -- a line after the text of a width, as the code goes on with it
-abbrev pub going_outside : ℕ → Option ℕ → Spot → Spot
-going_outside start fixed s = record {
-  around = record { line = s.around.line; base = s.around.base; fixed = fixed; before = take start s.around.before };
-  text = drop start s.around.before;
-  count = s.count;
-  ended = s.ended;
+abbrev pub going_outside : ℕ → Option ℕ → NestedSpot → NestedSpot
+going_outside start width_column s = record {
+  spot = record s.spot { around = record s.spot.around { width_column = width_column }; text = drop start s.before };
+  before = take start s.before;
 }

@@ -24,13 +24,12 @@ use Rattle.page_core_limits.specs.declared.Limit.TheVariants as limits
 unfoldable pub NEST : ℕ
 NEST = 16
 
--- Where a text stands: its source line, how many bytes are before it, the column of the width that it is in, if it is in one,
--- and what is finished outside that.
+-- Where a text stands: its source line, how many bytes of the line stand before it, and the column of the outermost `\w` that it
+-- is in, if it is in one.
 pub record Around : Type 0 where
   pub line : ℕ
-  pub base : ℕ
-  pub fixed : Option ℕ
-  pub before : List ℕ
+  pub bytes_before : ℕ
+  pub width_column : Option ℕ
 
 -- a line so far: where it stands, what is finished of it, how many interpolations it made, whether it has ended
 pub record Spot : Type 0 where
@@ -60,7 +59,7 @@ seq a f = unless a.edge.ended a (f a.edge)
 
 -- a message's column is the byte after what is finished; in a width it is that of the width
 abbrev pub column_of : Spot → ℕ
-column_of s = unwrap_or s.around.fixed (s.around.base + length s.text + 1)
+column_of s = unwrap_or s.around.width_column (s.around.bytes_before + length s.text + 1)
 
 abbrev pub message_at : NoteKind → List ℕ → Spot → Message
 message_at kind detail s = message_about kind (record { line = s.around.line; column = column_of s }) detail
@@ -113,17 +112,7 @@ value_or kind detail None f s = says kind detail s
 
 -- a text whose width is measured begins with nothing, and messages in it have the column of the `\w`
 abbrev pub inside : Spot → Spot
-inside s = record {
-  around = record {
-    line = s.around.line;
-    base = s.around.base;
-    fixed = Some (column_of s);
-    before = s.around.before ++ s.text;
-  };
-  text = [];
-  count = s.count;
-  ended = s.ended;
-}
+inside s = record s { around = record s.around { width_column = Some (column_of s) }; text = [] }
 
 -- the line after the text; where the text has ended the line, it ends before the `\w`
 abbrev pub outside : Spot → Spot → Spot
@@ -164,7 +153,7 @@ value env depth text s = lay (call_at env depth) (parts env.copy text) s
 -- the beginning of a line
 abbrev pub start : ℕ → Spot
 start line =
-    record { around = record { line = line; base = 0; fixed = None; before = [] }; text = []; count = 0; ended = false }
+    record { around = record { line = line; bytes_before = 0; width_column = None }; text = []; count = 0; ended = false }
 
 -- a whole line
 abbrev pub expanded : Surroundings → ℕ → List ℕ → Laid
@@ -172,9 +161,7 @@ expanded env line text = value env NEST text (start line)
 
 -- this many bytes of the line stand before the text that comes
 abbrev pub after_bytes : ℕ → Spot → Spot
-after_bytes base s = record s {
-  around = record { line = s.around.line; base = base; fixed = s.around.fixed; before = s.around.before };
-}
+after_bytes bytes_before s = record s { around = record s.around { bytes_before = bytes_before } }
 
 -- what a line gives: itself, or what was finished
 abbrev pub taken : Bool → ℕ → List ℕ → Spot → Spot

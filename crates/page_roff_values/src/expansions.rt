@@ -1,13 +1,14 @@
 //! The finished line (roff(7), "Escape sequences").
 
-ghost use Rattle.std.specs.Prelude.{◌≡◌, [], ◌+◌, ◌-◌, ◌*◌, ◌^◌, ◌<◌, ◌≤◌, length, not, false, nat_lt, IfOk, if◌then◌else◌};
+ghost use Rattle.std.specs.Prelude.{◌≡◌, ◌+◌, ◌-◌, ◌*◌, ◌^◌, ◌<◌, ◌≤◌, length, not, false, nat_lt, IfOk, if◌then◌else◌};
 ghost use Rattle.std.specs.Fmt.{decimal, signed_decimal};
 ghost use Rattle.page_core_limits.specs.declared.TheConstants.{LINE};
 ghost use Rattle.page_roff_values.specs.Environments.{surroundings_of};
 ghost use Rattle.page_roff_values.specs.Latches.{Goes};
 ghost use Rattle.page_roff_values.specs.Rest.{calling, going_on, steps, texts_of};
 ghost use Rattle.page_roff_values.specs.Values as laying;
-ghost use Rattle.page_roff_values.specs.Steps.{going_outside};
+ghost use Rattle.page_roff_values.specs.Expansions.{outermost, over};
+ghost use Rattle.page_roff_values.specs.Steps.{going_inside, going_outside};
 ghost use Rattle.page_roff_values.specs.Views.{call_of};
 
 use crate::endings::{kept, without_lone};
@@ -27,27 +28,43 @@ use std::marker::Model;
 /// A line that is being expanded: the text that is finished, how many interpolations it made, and whether it has ended.
 #[derive(Drop)]
 pub struct Expansion {
-    text: Vec<u8>,
-    // Where the text of a width begins, while it is expanded.
-    start: usize,
-    // The number of the line, for messages.
-    line: u32,
-    // The bytes before the text in its raw line, from which columns are counted.
-    base: u32,
-    // The column of all messages, inside a width.
-    fixed: Option<u32>,
-    count: u32,
-    ended: bool,
+    nested: Nested,
 }
 
 impl Model for Expansion {
+    ghost use Rattle.std.specs.Prelude.{◌≡◌, []};
     ghost use Rattle.page_roff_values.specs.Values.{Spot};
 
     ghost Value = { Spot };
 
-    ghost use Rattle.page_roff_values.specs.Expansions.{spot_of, IsHeld};
+    ghost view = { λ a. a.nested.spot };
 
-    ghost view = { spot_of };
+    // Between calls it stands inside of no other.
+    ghost invariant = { λ a. a.nested.before ≡ [] };
+}
+
+/// A line, or the text of a width, with what is finished of those that it stands inside of, in one buffer.
+#[derive(Drop)]
+struct Nested {
+    text: Vec<u8>,
+    // Where its own text begins, after theirs.
+    start: usize,
+    // The number of the line, for messages.
+    line: u32,
+    // The bytes before the text in its raw line, from which columns are counted.
+    bytes_before: u32,
+    // The column of all messages, inside a width.
+    width_column: Option<u32>,
+    count: u32,
+    ended: bool,
+}
+
+impl Model for Nested {
+    ghost use Rattle.page_roff_values.specs.Expansions.{IsHeld, NestedSpot, nested_of};
+
+    ghost Value = { NestedSpot };
+
+    ghost view = { nested_of };
 
     ghost invariant = { IsHeld };
 }
@@ -56,82 +73,97 @@ impl Model for Expansion {
 #[derive(Clone, Copy)]
 struct Outside {
     start: usize,
-    fixed: Option<u32>,
+    width_column: Option<u32>,
 }
 
-impl Expansion {
-    /// Nothing yet. All memory is reserved here.
-    pub fn new(alloc: Global) -> Result<Expansion, AllocError>
-        ensures { IfOk result (λ r. r ≡ laying.start 0) }
+impl Nested {
+    // Nothing yet. All memory is reserved here.
+    fn new(alloc: Global) -> Result<Nested, AllocError>
+        ensures { IfOk result (λ r. r ≡ outermost (laying.start 0)) }
     {
-        Ok(Expansion {
+        Ok(Nested {
             text: Vec::with_capacity(alloc, LINE * (NEST + 1))?,
             start: 0,
             line: 0,
-            base: 0,
-            fixed: None,
+            bytes_before: 0,
+            width_column: None,
             count: 0,
             ended: false,
         })
     }
 
-    /// The beginning of a line with this number.
-    pub fn begin(&mut self, line: u32)
-        ensures { self.new ≡ laying.start line }
+    // The beginning of a line with this number.
+    fn begin(&mut self, line: u32)
+        ensures { self.new ≡ outermost (laying.start line) }
     {
         self.text.clear();
         self.start = 0;
         self.line = line;
-        self.base = 0;
-        self.fixed = None;
+        self.bytes_before = 0;
+        self.width_column = None;
         self.count = 0;
         self.ended = false;
     }
 
     // Sets how many bytes of the line stand before the text that comes.
-    fn set_base(&mut self, base: u32)
-        requires { base ≤ 2 ^ 31 }
-        ensures { self.new ≡ laying.after_bytes base self.old }
+    fn set_bytes_before(&mut self, bytes_before: u32)
+        requires { bytes_before ≤ 2 ^ 31 }
+        ensures { self.new ≡ over (laying.after_bytes bytes_before) self.old }
     {
-        self.base = base;
+        self.bytes_before = bytes_before;
+    }
+
+    // What is finished.
+    fn text(&self) -> &[u8]
+        ensures value { result.now ≡ self.now.spot.text }
+        ensures bound { length result.now ≤ LINE }
+    {
+        &self.text[self.start..]
+    }
+
+    // How many interpolations were made.
+    fn count(&self) -> u32
+        ensures { result ≡ self.now.spot.count }
+    {
+        self.count
     }
 
     // Whether the line goes on.
     fn is_going(&self) -> bool
-        ensures { result ≡ not self.now.ended }
+        ensures { result ≡ not self.now.spot.ended }
     {
         !self.ended
     }
 
     // How many bytes still fit.
     fn room(&self) -> usize
-        ensures { result ≡ LINE - length self.now.text }
+        ensures { result ≡ LINE - length self.now.spot.text }
     {
         LINE - (self.text.len() - self.start)
     }
 
     // The column of a message.
     fn column(&self) -> u32
-        ensures { result ≡ laying.column_of self.now }
+        ensures { result ≡ laying.column_of self.now.spot }
     {
-        match self.fixed {
+        match self.width_column {
             Some(column) => column,
-            None => self.base + (self.text.len() - self.start) as u32 + 1,
+            None => self.bytes_before + (self.text.len() - self.start) as u32 + 1,
         }
     }
 
     // Copies bytes, for which there is room.
     fn add(&mut self, run: &[u8])
-        requires { length run.now ≤ LINE - length self.old.text }
-        ensures { self.new ≡ laying.adds run.now self.old }
+        requires { length run.now ≤ LINE - length self.old.spot.text }
+        ensures { self.new ≡ over (laying.adds run.now) self.old }
     {
         let _ = self.text.extend_from_slice(run);
     }
 
     // Gives a message at the end of what is finished.
     fn report<O: NoteOut>(&self, kind: NoteKind, detail: &[u8], out: &mut O)
-        ensures { Goes O.left out.old (laying.says kind detail.now self.now) out.new
-            (laying.nothing self.now) }
+        ensures { Goes O.left out.old (laying.says kind detail.now self.now.spot) out.new
+            (laying.nothing self.now.spot) }
     {
         let place = Place {
             line: self.line,
@@ -142,8 +174,9 @@ impl Expansion {
 
     // Ends the line, with a message.
     fn report_end<O: NoteOut>(&mut self, kind: NoteKind, detail: &[u8], out: &mut O)
-        ensures { Goes O.left out.old (laying.ends kind detail.now self.old) out.new
-            (laying.nothing self.new) }
+        ensures goes { Goes O.left out.old (laying.ends kind detail.now self.old.spot) out.new
+            (laying.nothing self.new.spot) }
+        ensures before { self.new.before ≡ self.old.before }
     {
         self.report(kind, detail, out);
         self.ended = true;
@@ -151,8 +184,8 @@ impl Expansion {
 
     // Counts an interpolation, unless it is one too many.
     fn charge(&mut self) -> bool
-        ensures fits { result ≡ nat_lt self.old.count EXPAND }
-        ensures counted { self.new ≡ (if result then laying.counts self.old else self.old) }
+        ensures fits { result ≡ nat_lt self.old.spot.count EXPAND }
+        ensures counted { self.new ≡ (if result then over laying.counts self.old else self.old) }
     {
         if EXPAND <= self.count {
             return false;
@@ -165,7 +198,9 @@ impl Expansion {
     #[inline(always)]
     #[tactic(auto, unfolding(crate::specs::Values::put))]
     fn put<O: NoteOut>(&mut self, run: &[u8], out: &mut O)
-        ensures { Goes O.left out.old (laying.put run.now self.old) out.new (laying.nothing self.new) }
+        ensures goes { Goes O.left out.old (laying.put run.now self.old.spot) out.new
+            (laying.nothing self.new.spot) }
+        ensures before { self.new.before ≡ self.old.before }
     {
         let end = kept(run, self.room());
         self.add(&run[..end]);
@@ -176,8 +211,9 @@ impl Expansion {
 
     // Puts a register's number.
     fn put_number<O: NoteOut>(&mut self, number: i32, out: &mut O)
-        ensures { Goes O.left out.old (laying.put (signed_decimal number) self.old)
-            out.new (laying.nothing self.new) }
+        ensures goes { Goes O.left out.old (laying.put (signed_decimal number) self.old.spot)
+            out.new (laying.nothing self.new.spot) }
+        ensures before { self.new.before ≡ self.old.before }
     {
         let mut buffer = Buffer::new();
         self.put(buffer.format(number).as_bytes(), out);
@@ -185,8 +221,9 @@ impl Expansion {
 
     // Puts a width.
     fn put_units<O: NoteOut>(&mut self, units: u32, out: &mut O)
-        ensures { Goes O.left out.old (laying.put (decimal units) self.old) out.new
-            (laying.nothing self.new) }
+        ensures goes { Goes O.left out.old (laying.put (decimal units) self.old.spot) out.new
+            (laying.nothing self.new.spot) }
+        ensures before { self.new.before ≡ self.old.before }
     {
         let mut buffer = Buffer::new();
         self.put(buffer.format(units).as_bytes(), out);
@@ -194,24 +231,24 @@ impl Expansion {
 
     // Begins the text of a width.
     fn go_inside(&mut self) -> Outside
-        requires { length self.old.around.before ≤ LINE * (NEST - 1) }
-        ensures inside { self.new ≡ laying.inside self.old }
-        ensures start { result.start ≡ length self.old.around.before }
-        ensures fixed { result.fixed ≡ self.old.around.fixed }
-        ensures bound { length self.new.around.before ≤ length self.old.around.before + LINE }
+        requires { length self.old.before ≤ LINE * (NEST - 1) }
+        ensures inside { self.new ≡ going_inside self.old }
+        ensures start { result.start ≡ length self.old.before }
+        ensures width_column { result.width_column ≡ self.old.spot.around.width_column }
+        ensures bound { length self.new.before ≤ length self.old.before + LINE }
     {
         let outside = Outside {
             start: self.start,
-            fixed: self.fixed,
+            width_column: self.width_column,
         };
-        self.fixed = Some(self.column());
+        self.width_column = Some(self.column());
         self.start = self.text.len();
         outside
     }
 
     // The width of the text that is finished.
     fn units(&self, output: Output) -> u32
-        ensures { result ≡ laying.units_of output self.now.text }
+        ensures { result ≡ laying.units_of output self.now.spot.text }
     {
         match std::str::from_utf8(self.text()) {
             Ok(text) => 24 * columns(text.as_bytes(), output),
@@ -221,13 +258,13 @@ impl Expansion {
 
     // Goes on with the line after the text of a width.
     fn go_outside(&mut self, outside: Outside)
-        requires start { outside.start ≤ length self.old.around.before }
-        requires fits { length self.old.around.before ≤ outside.start + LINE }
-        ensures { self.new ≡ going_outside outside.start outside.fixed self.old }
+        requires start { outside.start ≤ length self.old.before }
+        requires fits { length self.old.before ≤ outside.start + LINE }
+        ensures { self.new ≡ going_outside outside.start outside.width_column self.old }
     {
         self.text.truncate(self.start);
         self.start = outside.start;
-        self.fixed = outside.fixed;
+        self.width_column = outside.width_column;
     }
 
     // Puts the width of a text, which is expanded by itself.
@@ -239,11 +276,12 @@ impl Expansion {
         text: &'e [u8],
         out: &mut O,
     )
-        requires going { self.old.ended ≡ false }
-        requires fits { length self.old.around.before + LINE * (room + 1) ≤ LINE * NEST }
-        ensures { Goes O.left out.old
-            (laying.width env.now.output (laying.value (surroundings_of env.now) room text.now) self.old)
-            out.new (laying.nothing self.new) }
+        requires going { self.old.spot.ended ≡ false }
+        requires fits { length self.old.before + LINE * (room + 1) ≤ LINE * NEST }
+        ensures goes { Goes O.left out.old
+            (laying.width env.now.output (laying.value (surroundings_of env.now) room text.now) self.old.spot)
+            out.new (laying.nothing self.new.spot) }
+        ensures before { self.new.before ≡ self.old.before }
     {
         let outside = self.go_inside();
         let mut sources = Sources::new(text);
@@ -265,13 +303,13 @@ impl Expansion {
         sources: &mut Sources<'e>,
         out: &mut O,
     )
-        requires going { self.old.ended ≡ false }
-        requires fits { length self.old.around.before + LINE * room ≤ LINE * NEST }
+        requires going { self.old.spot.ended ≡ false }
+        requires fits { length self.old.before + LINE * room ≤ LINE * NEST }
         ensures goes { Goes O.left out.old
-            (calling (surroundings_of env.now) room (call_of call.entry) (texts_of sources.old) self.old)
-            out.new (going_on (surroundings_of env.now) room (texts_of sources.new) self.new) }
-        ensures around { self.new.around ≡ self.old.around }
-        ensures falls { steps self.new (texts_of sources.new) ≤ steps self.old (texts_of sources.old) }
+            (calling (surroundings_of env.now) room (call_of call.entry) (texts_of sources.old) self.old.spot)
+            out.new (going_on (surroundings_of env.now) room (texts_of sources.new) self.new.spot) }
+        ensures before { self.new.before ≡ self.old.before }
+        ensures falls { steps self.new.spot (texts_of sources.new) ≤ steps self.old.spot (texts_of sources.old) }
     {
         if !self.charge() {
             self.report_end(NoteKind::Loop, Limit::Expand.name().as_bytes(), out);
@@ -304,10 +342,11 @@ impl Expansion {
         sources: &mut Sources<'e>,
         out: &mut O,
     )
-        requires { length self.old.around.before + LINE * room ≤ LINE * NEST }
-        ensures { Goes O.left out.old (going_on (surroundings_of env.now) room
-            (texts_of sources.old) self.old)
-            out.new (laying.nothing self.new) }
+        requires { length self.old.before + LINE * room ≤ LINE * NEST }
+        ensures goes { Goes O.left out.old (going_on (surroundings_of env.now) room
+            (texts_of sources.old) self.old.spot)
+            out.new (laying.nothing self.new.spot) }
+        ensures before { self.new.before ≡ self.old.before }
     {
         'parts: while self.is_going() {
             match sources.next(env.copy, self.room()) {
@@ -317,31 +356,47 @@ impl Expansion {
             }
         }
     }
+}
 
-    /// Expands a text after what is finished of its line, of which `base` bytes stand before the text, with what is left of the line's
-    /// interpolations.
+impl Expansion {
+    /// Nothing yet. All memory is reserved here.
+    pub fn new(alloc: Global) -> Result<Expansion, AllocError>
+        ensures { IfOk result (λ r. r ≡ laying.start 0) }
+    {
+        Ok(Expansion {
+            nested: Nested::new(alloc)?,
+        })
+    }
+
+    /// The beginning of a line with this number.
+    pub fn begin(&mut self, line: u32)
+        ensures { self.new ≡ laying.start line }
+    {
+        self.nested.begin(line);
+    }
+
+    /// Expands a text after what is finished of its line, of which `bytes_before` bytes stand before the text, with what is left of the
+    /// line's interpolations.
     pub fn expand_more<O: NoteOut>(
         &mut self,
         env: &Environment<'_>,
         text: &[u8],
-        base: u32,
+        bytes_before: u32,
         out: &mut O,
     )
         requires going { self.old.ended ≡ false }
-        requires outside { self.old.around.before ≡ [] }
-        requires base { base ≤ 2 ^ 31 }
-        ensures goes { Goes O.left out.old
-            (laying.value (surroundings_of env.now) laying.NEST text.now (laying.after_bytes base self.old))
+        requires bytes_before { bytes_before ≤ 2 ^ 31 }
+        ensures { Goes O.left out.old
+            (laying.value (surroundings_of env.now) laying.NEST text.now (laying.after_bytes bytes_before self.old))
             out.new (laying.nothing self.new) }
-        ensures around { self.new.around ≡ (laying.after_bytes base self.old).around }
     {
-        self.set_base(base);
+        self.nested.set_bytes_before(bytes_before);
         if !text.is_empty() && memchr(b'\\', text).is_none() {
-            self.put(text, out);
+            self.nested.put(text, out);
             return;
         }
         let mut sources = Sources::new(text);
-        self.run(env, NEST, &mut sources, out);
+        self.nested.run(env, NEST, &mut sources, out);
     }
 
     /// Expands the line of this number. Answers whether the line itself is what it gives: then it isn't copied.
@@ -369,20 +424,20 @@ impl Expansion {
         ensures value { result.now ≡ self.now.text }
         ensures bound { length result.now ≤ LINE }
     {
-        &self.text[self.start..]
+        self.nested.text()
     }
 
     /// How many interpolations were made.
     pub fn count(&self) -> u32
         ensures { result ≡ self.now.count }
     {
-        self.count
+        self.nested.count()
     }
 
     /// Whether the line was cut, since a limit was passed.
     pub fn has_ended(&self) -> bool
         ensures { result ≡ self.now.ended }
     {
-        self.ended
+        !self.nested.is_going()
     }
 }

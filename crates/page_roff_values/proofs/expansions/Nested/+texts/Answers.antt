@@ -1,41 +1,42 @@
 use Rattle.std.specs.Fmt.{decimal, signed_decimal}
-use Rattle.std.proofs.Common.{◌≡◌, ◌-◌, [], ◌∷◌, length, codes, arith, ap, ◌∙◌, sym, rules, refl, length-append}
+use Rattle.std.proofs.Common.{◌-◌, [], ◌∷◌, length, codes, arith, ap, ◌∙◌, sym, rules, refl}
 use Rattle.std.proofs.Common.{w32}
 use Rattle.std.proofs.lemmas.Int.{to_z-of_z}
 use Rattle.page_core_base.specs.declared.note_kinds.NoteKind.TheVariants.{UndefString, ArgOutside, Loop}
 use Rattle.page_roff_values.specs.Environments.{surroundings_of}
+use Rattle.page_roff_values.specs.Expansions.{NestedSpot}
 use Rattle.page_roff_values.specs.Rest.{rest, room_in, steps, texts_of}
-use Rattle.page_roff_values.specs.Values.{Spot, nothing, seq, says, ends, counts, put, width, inside, outside, call_at, value}
+use Rattle.page_roff_values.specs.Values.{Spot, nothing, seq, says, ends, counts, put, width, inside, call_at, value}
 use Rattle.page_roff_values.specs.Views.{call_of}
 use Rattle.page_roff_values.proofs.CallLemmas.{call_ends, call_deep, call_gives, call_enters, string_some, string_none, argument_some, argument_none, register_some, width_some, steps_counts, steps_later, steps_less, size_value}
 use Rattle.page_roff_values.proofs.FollowLemmas.{put_follows, put_count, width_follows, value_follows}
 use Rattle.page_roff_values.proofs.GoingLemmas.{begins}
 use Rattle.page_roff_values.proofs.LayLemmas.{goes_on, goes_then, goes_same, going, gone, seq_ended, seq_more, seq_nothing}
 use Rattle.page_roff_values.proofs.TextLemmas.{outer_of}
-use Rattle.page_roff_values.proofs.WidthLemmas.{outside_is, width_goes}
-use Rattle.page_roff_values.proofs.expansions.Expansion.+texts.Goals as goal
+use Rattle.page_roff_values.proofs.WidthLemmas.{goes_back, width_goes}
+use Rattle.page_roff_values.proofs.expansions.Nested.+texts.Goals as goal
 
 -- ---- an interpolation
 
 pub call-returns-then-not-charge-clause-goes : goal.call-returns-then-not-charge-clause-goes
 call-returns-then-not-charge-clause-goes g x c =
     let env = surroundings_of c.args.env.now in
-    let s = c.args.self.now in
+    let s = c.args.self.now.spot in
     let room = c.args.room in
     let t = c.args.sources.now.inner.text.now in
     let ts = outer_of c.args.sources.now.outer.items in
     let call = call_of c.args.call in
-    goes_on g.O.NoteOut.left _ _ (seq (call_at env (room_in room (t ∷ ts)) call s) (rest env room (t ∷ ts))) (ends Loop (codes "EXPAND") s) c.report_end.new.self (rest env room (t ∷ ts))
-    (call_ends env (room_in room (t ∷ ts)) call s (rest env room (t ∷ ts)) (sym c.if-not-charge.ensures.fits)) (rw (c.if-not-charge.ensures.counted, c.as_bytes.ensures.value, c.name.ensures) at c.report_end.ensures)
+    goes_on g.O.NoteOut.left _ _ (seq (call_at env (room_in room (t ∷ ts)) call s) (rest env room (t ∷ ts))) (ends Loop (codes "EXPAND") s) c.report_end.new.self.spot (rest env room (t ∷ ts))
+    (call_ends env (room_in room (t ∷ ts)) call s (rest env room (t ∷ ts)) (sym c.if-not-charge.ensures.fits)) (rw (c.if-not-charge.ensures.counted, c.as_bytes.ensures.value, c.name.ensures) at c.report_end.ensures.goes)
 
 pub call-returns-then-not-charge-clause-falls : goal.call-returns-then-not-charge-clause-falls
 unfolding steps
-call-returns-then-not-charge-clause-falls g x c = rw (c.report_end.ensures.1, c.if-not-charge.ensures.counted) (omega arith)
+call-returns-then-not-charge-clause-falls g x c = rw (c.report_end.ensures.goes.1, c.if-not-charge.ensures.counted) (omega arith)
 
 pub call-returns-then-room-depth-clause-goes : goal.call-returns-then-room-depth-clause-goes
 call-returns-then-room-depth-clause-goes g x c =
     let env = surroundings_of c.args.env.now in
-    let s = c.args.self.now in
+    let s = c.args.self.now.spot in
     let room = c.args.room in
     let t = c.args.sources.now.inner.text.now in
     let ts = outer_of c.args.sources.now.outer.items in
@@ -46,63 +47,52 @@ call-returns-then-room-depth-clause-goes g x c =
 pub call-returns-then-room-depth-clause-falls : goal.call-returns-then-room-depth-clause-falls
 call-returns-then-room-depth-clause-falls g x c =
     let ts = texts_of c.args.sources.now in
-    rw c.if-not-charge.ensures.counted (steps_counts c.args.self.now ts ts (sym c.if-not-charge.ensures.fits) (omega arith))
+    rw c.if-not-charge.ensures.counted (steps_counts c.args.self.now.spot ts ts (sym c.if-not-charge.ensures.fits) (omega arith))
 
 pub call-returns-in-Register-clause-goes : goal.call-returns-in-Register-clause-goes
 call-returns-in-Register-clause-goes g x c =
     let env = surroundings_of c.args.env.now in
-    let s = c.args.self.now in
+    let s = c.args.self.now.spot in
     let room = c.args.room in
     let t = c.args.sources.now.inner.text.now in
     let ts = outer_of c.args.sources.now.outer.items in
     let call = call_of c.args.call in
     let d = room - length (t ∷ ts) in
     let given = put (signed_decimal c.register.result) (counts s) in
-    goes_on g.O.NoteOut.left _ _ (seq (call_at env (room_in room (t ∷ ts)) call s) (rest env room (t ∷ ts))) given c.put_number.new.self (rest env room (t ∷ ts))
+    goes_on g.O.NoteOut.left _ _ (seq (call_at env (room_in room (t ∷ ts)) call s) (rest env room (t ∷ ts))) given c.put_number.new.self.spot (rest env room (t ∷ ts))
     (call_gives env room d t ts call s (rest env room (t ∷ ts)) given (sym c.if-not-charge.ensures.fits) (omega (arith, c.depth.ensures.value))
-    (register_some env (value env d) call c.in-Register.name.now c.register.result (counts s) (ap call_of c.in-Register.is) c.register.ensures)) (rw (c.if-not-charge.ensures.counted, to_z-of_z w32 c.register.result (search rules)) at c.put_number.ensures)
-
-pub call-returns-in-Register-clause-around : goal.call-returns-in-Register-clause-around
-call-returns-in-Register-clause-around g x c =
-    ap (λ (a : Spot). a.around) (rw (c.if-not-charge.ensures.counted, to_z-of_z w32 c.register.result (search rules)) at c.put_number.ensures.1) ∙ (put_follows (signed_decimal c.register.result) (counts c.args.self.now)).around
+    (register_some env (value env d) call c.in-Register.name.now c.register.result (counts s) (ap call_of c.in-Register.is) c.register.ensures)) (rw (c.if-not-charge.ensures.counted, to_z-of_z w32 c.register.result (search rules)) at c.put_number.ensures.goes)
 
 pub call-returns-in-Register-clause-falls : goal.call-returns-in-Register-clause-falls
 call-returns-in-Register-clause-falls g x c =
-    let f = (put_follows (signed_decimal c.register.result) (counts c.args.self.now)).count in
-    steps_later c.args.self.now c.put_number.new.self (texts_of c.args.sources.now) (rw (rw (c.if-not-charge.ensures.counted, to_z-of_z w32 c.register.result (search rules)) at c.put_number.ensures.1) (omega (arith, f)))
+    let f = (put_follows (signed_decimal c.register.result) (counts c.args.self.now.spot)).count in
+    steps_later c.args.self.now.spot c.put_number.new.self.spot (texts_of c.args.sources.now) (rw (rw (c.if-not-charge.ensures.counted, to_z-of_z w32 c.register.result (search rules)) at c.put_number.ensures.goes.1) (omega (arith, f)))
 
 pub call-returns-in-Width-clause-goes : goal.call-returns-in-Width-clause-goes
 call-returns-in-Width-clause-goes g x c =
     let env = surroundings_of c.args.env.now in
-    let s = c.args.self.now in
+    let s = c.args.self.now.spot in
     let room = c.args.room in
     let t = c.args.sources.now.inner.text.now in
     let ts = outer_of c.args.sources.now.outer.items in
     let call = call_of c.args.call in
     let d = room - c.depth-in-Width.result - 1 in
     let given = width env.output (value env d c.in-Width.text.now) (counts s) in
-    goes_on g.O.NoteOut.left _ _ (seq (call_at env (room_in room (t ∷ ts)) call s) (rest env room (t ∷ ts))) given c.put_width.new.self (rest env room (t ∷ ts))
+    goes_on g.O.NoteOut.left _ _ (seq (call_at env (room_in room (t ∷ ts)) call s) (rest env room (t ∷ ts))) given c.put_width.new.self.spot (rest env room (t ∷ ts))
     (call_gives env room d t ts call s (rest env room (t ∷ ts)) given (sym c.if-not-charge.ensures.fits) (omega (arith, c.depth.ensures.value, c.depth-in-Width.ensures.value))
-    (width_some env (value env d) call c.in-Width.text.now (counts s) (ap call_of c.in-Width.is))) (rw c.if-not-charge.ensures.counted at c.put_width.ensures)
-
-pub call-returns-in-Width-clause-around : goal.call-returns-in-Width-clause-around
-call-returns-in-Width-clause-around g x c =
-    let env = surroundings_of c.args.env.now in
-    let d = c.args.room - c.depth-in-Width.result - 1 in
-    ap (λ (a : Spot). a.around) (rw c.if-not-charge.ensures.counted at c.put_width.ensures.1)
-    ∙ (width_follows env.output (value env d c.in-Width.text.now) (counts c.args.self.now) (value_follows env d c.in-Width.text.now)).around
+    (width_some env (value env d) call c.in-Width.text.now (counts s) (ap call_of c.in-Width.is))) (rw c.if-not-charge.ensures.counted at c.put_width.ensures.goes)
 
 pub call-returns-in-Width-clause-falls : goal.call-returns-in-Width-clause-falls
 call-returns-in-Width-clause-falls g x c =
     let env = surroundings_of c.args.env.now in
     let d = c.args.room - c.depth-in-Width.result - 1 in
-    let f = (width_follows env.output (value env d c.in-Width.text.now) (counts c.args.self.now) (value_follows env d c.in-Width.text.now)).count in
-    steps_later c.args.self.now c.put_width.new.self (texts_of c.args.sources.now) (rw (rw c.if-not-charge.ensures.counted at c.put_width.ensures.1) (omega (arith, f)))
+    let f = (width_follows env.output (value env d c.in-Width.text.now) (counts c.args.self.now.spot) (value_follows env d c.in-Width.text.now)).count in
+    steps_later c.args.self.now.spot c.put_width.new.self.spot (texts_of c.args.sources.now) (rw (rw c.if-not-charge.ensures.counted at c.put_width.ensures.goes.1) (omega (arith, f)))
 
 pub call-returns-in-Some-clause-goes : goal.call-returns-in-Some-clause-goes
 call-returns-in-Some-clause-goes g x c =
     let env = surroundings_of c.args.env.now in
-    let s = c.args.self.now in
+    let s = c.args.self.now.spot in
     let room = c.args.room in
     let t = c.args.sources.now.inner.text.now in
     let ts = outer_of c.args.sources.now.outer.items in
@@ -117,12 +107,12 @@ pub call-returns-in-Some-clause-falls : goal.call-returns-in-Some-clause-falls
 call-returns-in-Some-clause-falls g x c =
     let ts = texts_of c.args.sources.now in
     let w = c.without_lone.result.now in
-    rw (c.if-not-charge.ensures.counted, c.enter.ensures.texts) (steps_counts c.args.self.now ts (w ∷ ts) (sym c.if-not-charge.ensures.fits) (size_value w ts c.enter.ensures.fits))
+    rw (c.if-not-charge.ensures.counted, c.enter.ensures.texts) (steps_counts c.args.self.now.spot ts (w ∷ ts) (sym c.if-not-charge.ensures.fits) (size_value w ts c.enter.ensures.fits))
 
 pub call-returns-in-None-clause-goes : goal.call-returns-in-None-clause-goes
 call-returns-in-None-clause-goes g x c =
     let env = surroundings_of c.args.env.now in
-    let s = c.args.self.now in
+    let s = c.args.self.now.spot in
     let room = c.args.room in
     let t = c.args.sources.now.inner.text.now in
     let ts = outer_of c.args.sources.now.outer.items in
@@ -136,12 +126,12 @@ call-returns-in-None-clause-goes g x c =
 pub call-returns-in-None-clause-falls : goal.call-returns-in-None-clause-falls
 call-returns-in-None-clause-falls g x c =
     let ts = texts_of c.args.sources.now in
-    rw c.if-not-charge.ensures.counted (steps_counts c.args.self.now ts ts (sym c.if-not-charge.ensures.fits) (omega arith))
+    rw c.if-not-charge.ensures.counted (steps_counts c.args.self.now.spot ts ts (sym c.if-not-charge.ensures.fits) (omega arith))
 
 pub call-returns-in-Some-argument-clause-goes : goal.call-returns-in-Some-argument-clause-goes
 call-returns-in-Some-argument-clause-goes g x c =
     let env = surroundings_of c.args.env.now in
-    let s = c.args.self.now in
+    let s = c.args.self.now.spot in
     let room = c.args.room in
     let t = c.args.sources.now.inner.text.now in
     let ts = outer_of c.args.sources.now.outer.items in
@@ -156,12 +146,12 @@ pub call-returns-in-Some-argument-clause-falls : goal.call-returns-in-Some-argum
 call-returns-in-Some-argument-clause-falls g x c =
     let ts = texts_of c.args.sources.now in
     let w = c.without_lone-in-Some-argument.result.now in
-    rw (c.if-not-charge.ensures.counted, c.enter-in-Some-argument.ensures.texts) (steps_counts c.args.self.now ts (w ∷ ts) (sym c.if-not-charge.ensures.fits) (size_value w ts c.enter-in-Some-argument.ensures.fits))
+    rw (c.if-not-charge.ensures.counted, c.enter-in-Some-argument.ensures.texts) (steps_counts c.args.self.now.spot ts (w ∷ ts) (sym c.if-not-charge.ensures.fits) (size_value w ts c.enter-in-Some-argument.ensures.fits))
 
 pub call-returns-in-None-argument-clause-goes : goal.call-returns-in-None-argument-clause-goes
 call-returns-in-None-argument-clause-goes g x c =
     let env = surroundings_of c.args.env.now in
-    let s = c.args.self.now in
+    let s = c.args.self.now.spot in
     let room = c.args.room in
     let t = c.args.sources.now.inner.text.now in
     let ts = outer_of c.args.sources.now.outer.items in
@@ -175,110 +165,112 @@ call-returns-in-None-argument-clause-goes g x c =
 pub call-returns-in-None-argument-clause-falls : goal.call-returns-in-None-argument-clause-falls
 call-returns-in-None-argument-clause-falls g x c =
     let ts = texts_of c.args.sources.now in
-    rw c.if-not-charge.ensures.counted (steps_counts c.args.self.now ts ts (sym c.if-not-charge.ensures.fits) (omega arith))
+    rw c.if-not-charge.ensures.counted (steps_counts c.args.self.now.spot ts ts (sym c.if-not-charge.ensures.fits) (omega arith))
 
 -- ---- a width
 
-pub put_width-go_outside-requires-clause-start : goal.put_width-go_outside-requires-clause-start
-put_width-go_outside-requires-clause-start g x c =
+pub put_width-returns-then-is_going-clause-goes : goal.put_width-returns-then-is_going-clause-goes
+put_width-returns-then-is_going-clause-goes g x c =
     let env = surroundings_of c.args.env.now in
     let s = c.args.self.now in
     let room = c.args.room in
     let text = c.args.text.now in
+    let t = c.run.new.self in
+    let u = c.go_outside.new.self in
     let outside' = c.go_inside-outside.ensures in
-    let ran = rw (c.new-sources.ensures, outside'.inside) at c.run.ensures in
-    let same = begins env room text (inside s) c.requires.going in
-    let is : c.run.new.self ≡ (value env room text (inside s)).edge = ran.1 ∙ ap (λ a. a.edge) (sym same) in
-    let around : c.run.new.self.around ≡ (inside s).around = ap (λ (a : Spot). a.around) is ∙ (value_follows env room text (inside s)).around in
-    rw (around, outside'.start) (omega (arith, length-append s.around.before s.text))
+    let ran = rw (c.new-sources.ensures, outside'.inside) at c.run.ensures.goes in
+    let kept = rw outside'.inside at c.run.ensures.before in
+    let back = rw (outside'.start, outside'.width_column) at c.go_outside.ensures ∙ goes_back env room text s t c.requires.going ran.1 kept in
+    let same = begins env room text (inside s.spot) c.requires.going in
+    let last = seq (nothing u.spot) (put (decimal c.units-units.result)) in
+    goes_then g.O.NoteOut.left _ _ _ (width env.output (value env room text) s.spot) last (nothing c.put_units.new.self.spot)
+    (width_goes g.O.NoteOut.left _ _ env.output (value env room text) s.spot t.spot u.spot c.units-units.result
+    (goes_then g.O.NoteOut.left _ _ _ (value env room text (inside s.spot)) (seq (nothing (inside s.spot)) (rest env room (text ∷ []))) (nothing t.spot) (goes_same g.O.NoteOut.left _ _ _ same) ran) (ap (λ (a : NestedSpot). a.spot) back) c.units-units.ensures)
+    (goes_then g.O.NoteOut.left _ _ _ last (put (decimal c.units-units.result) u.spot) (nothing c.put_units.new.self.spot)
+    (goes_same g.O.NoteOut.left _ last (put (decimal c.units-units.result) u.spot) (seq_nothing u.spot (put (decimal c.units-units.result)) (going _ (sym c.if-is_going.true ∙ c.is_going.ensures))))
+    c.put_units.ensures.goes)
 
-pub put_width-go_outside-requires-clause-fits : goal.put_width-go_outside-requires-clause-fits
-put_width-go_outside-requires-clause-fits g x c =
+pub put_width-returns-then-is_going-clause-before : goal.put_width-returns-then-is_going-clause-before
+put_width-returns-then-is_going-clause-before g x c =
     let env = surroundings_of c.args.env.now in
     let s = c.args.self.now in
     let room = c.args.room in
     let text = c.args.text.now in
+    let t = c.run.new.self in
     let outside' = c.go_inside-outside.ensures in
-    let ran = rw (c.new-sources.ensures, outside'.inside) at c.run.ensures in
-    let same = begins env room text (inside s) c.requires.going in
-    let is : c.run.new.self ≡ (value env room text (inside s)).edge = ran.1 ∙ ap (λ a. a.edge) (sym same) in
-    let around : c.run.new.self.around ≡ (inside s).around = ap (λ (a : Spot). a.around) is ∙ (value_follows env room text (inside s)).around in
-    rw (around, outside'.start) (rw outside'.inside at outside'.bound)
+    let ran = rw (c.new-sources.ensures, outside'.inside) at c.run.ensures.goes in
+    let kept = rw outside'.inside at c.run.ensures.before in
+    let back = rw (outside'.start, outside'.width_column) at c.go_outside.ensures ∙ goes_back env room text s t c.requires.going ran.1 kept in
+    c.put_units.ensures.before ∙ ap (λ (a : NestedSpot). a.before) back
 
-pub put_width-returns-then-is_going : goal.put_width-returns-then-is_going
-put_width-returns-then-is_going g x c =
+pub put_width-returns-else-is_going-clause-goes : goal.put_width-returns-else-is_going-clause-goes
+put_width-returns-else-is_going-clause-goes g x c =
     let env = surroundings_of c.args.env.now in
     let s = c.args.self.now in
     let room = c.args.room in
     let text = c.args.text.now in
+    let t = c.run.new.self in
+    let u = c.go_outside.new.self in
     let outside' = c.go_inside-outside.ensures in
-    let ran = rw (c.new-sources.ensures, outside'.inside) at c.run.ensures in
-    let same = begins env room text (inside s) c.requires.going in
-    let is : c.run.new.self ≡ (value env room text (inside s)).edge = ran.1 ∙ ap (λ a. a.edge) (sym same) in
-    let around : c.run.new.self.around ≡ (inside s).around = ap (λ (a : Spot). a.around) is ∙ (value_follows env room text (inside s)).around in
-    let out : c.go_outside.new.self ≡ outside s c.run.new.self = rw (outside'.start, outside'.fixed) at c.go_outside.ensures ∙ outside_is s c.run.new.self around in
-    let last = seq (nothing c.go_outside.new.self) (put (decimal c.units-units.result)) in
-    goes_then g.O.NoteOut.left _ _ _ (width env.output (value env room text) s) last (nothing c.put_units.new.self)
-    (width_goes g.O.NoteOut.left _ _ env.output (value env room text) s c.run.new.self c.go_outside.new.self c.units-units.result
-    (goes_then g.O.NoteOut.left _ _ _ (value env room text (inside s)) (seq (nothing (inside s)) (rest env room (text ∷ []))) (nothing c.run.new.self) (goes_same g.O.NoteOut.left _ _ _ same) ran) out c.units-units.ensures)
-    (goes_then g.O.NoteOut.left _ _ _ last (put (decimal c.units-units.result) c.go_outside.new.self) (nothing c.put_units.new.self)
-    (goes_same g.O.NoteOut.left _ last (put (decimal c.units-units.result) c.go_outside.new.self) (seq_nothing c.go_outside.new.self (put (decimal c.units-units.result)) (going _ (sym c.if-is_going.true ∙ c.is_going.ensures))))
-    c.put_units.ensures)
+    let ran = rw (c.new-sources.ensures, outside'.inside) at c.run.ensures.goes in
+    let kept = rw outside'.inside at c.run.ensures.before in
+    let back = rw (outside'.start, outside'.width_column) at c.go_outside.ensures ∙ goes_back env room text s t c.requires.going ran.1 kept in
+    let same = begins env room text (inside s.spot) c.requires.going in
+    let last = seq (nothing u.spot) (put (decimal c.units-units.result)) in
+    goes_then g.O.NoteOut.left _ _ _ (width env.output (value env room text) s.spot) last (nothing u.spot)
+    (width_goes g.O.NoteOut.left _ _ env.output (value env room text) s.spot t.spot u.spot c.units-units.result
+    (goes_then g.O.NoteOut.left _ _ _ (value env room text (inside s.spot)) (seq (nothing (inside s.spot)) (rest env room (text ∷ []))) (nothing t.spot) (goes_same g.O.NoteOut.left _ _ _ same) ran) (ap (λ (a : NestedSpot). a.spot) back) c.units-units.ensures)
+    (goes_same g.O.NoteOut.left _ last (nothing u.spot) (seq_ended u.spot (put (decimal c.units-units.result)) (gone _ (sym c.if-is_going.false ∙ c.is_going.ensures))))
 
-pub put_width-returns-else-is_going : goal.put_width-returns-else-is_going
-put_width-returns-else-is_going g x c =
+pub put_width-returns-else-is_going-clause-before : goal.put_width-returns-else-is_going-clause-before
+put_width-returns-else-is_going-clause-before g x c =
     let env = surroundings_of c.args.env.now in
     let s = c.args.self.now in
     let room = c.args.room in
     let text = c.args.text.now in
+    let t = c.run.new.self in
     let outside' = c.go_inside-outside.ensures in
-    let ran = rw (c.new-sources.ensures, outside'.inside) at c.run.ensures in
-    let same = begins env room text (inside s) c.requires.going in
-    let is : c.run.new.self ≡ (value env room text (inside s)).edge = ran.1 ∙ ap (λ a. a.edge) (sym same) in
-    let around : c.run.new.self.around ≡ (inside s).around = ap (λ (a : Spot). a.around) is ∙ (value_follows env room text (inside s)).around in
-    let out : c.go_outside.new.self ≡ outside s c.run.new.self = rw (outside'.start, outside'.fixed) at c.go_outside.ensures ∙ outside_is s c.run.new.self around in
-    let last = seq (nothing c.go_outside.new.self) (put (decimal c.units-units.result)) in
-    goes_then g.O.NoteOut.left _ _ _ (width env.output (value env room text) s) last (nothing c.go_outside.new.self)
-    (width_goes g.O.NoteOut.left _ _ env.output (value env room text) s c.run.new.self c.go_outside.new.self c.units-units.result
-    (goes_then g.O.NoteOut.left _ _ _ (value env room text (inside s)) (seq (nothing (inside s)) (rest env room (text ∷ []))) (nothing c.run.new.self) (goes_same g.O.NoteOut.left _ _ _ same) ran) out c.units-units.ensures)
-    (goes_same g.O.NoteOut.left _ last (nothing c.go_outside.new.self) (seq_ended c.go_outside.new.self (put (decimal c.units-units.result)) (gone _ (sym c.if-is_going.false ∙ c.is_going.ensures))))
+    let ran = rw (c.new-sources.ensures, outside'.inside) at c.run.ensures.goes in
+    let kept = rw outside'.inside at c.run.ensures.before in
+    let back = rw (outside'.start, outside'.width_column) at c.go_outside.ensures ∙ goes_back env room text s t c.requires.going ran.1 kept in
+    ap (λ (a : NestedSpot). a.before) back
 
 -- ---- the run
 
-pub run-returns-in-None : goal.run-returns-in-None
-run-returns-in-None g x c =
+pub run-returns-in-None-clause-goes : goal.run-returns-in-None-clause-goes
+run-returns-in-None-clause-goes g x c =
     let env = surroundings_of c.args.env.now in
     let room = c.args.room in
-    let s = c.parts.self in
+    let s = c.parts.self.spot in
     let ts = texts_of c.parts.sources in
     let e = going s.ended (sym c.parts-test.true ∙ c.is_going.ensures) in
-    goes_then g.O.NoteOut.left _ _ _ (seq (nothing c.args.self.now) (rest env room (texts_of c.args.sources.now))) (seq (nothing s) (rest env room ts)) (nothing s) c.parts.invariant.goes
+    goes_then g.O.NoteOut.left _ _ _ (seq (nothing c.args.self.now.spot) (rest env room (texts_of c.args.sources.now))) (seq (nothing s) (rest env room ts)) (nothing s) c.parts.invariant.goes
     (goes_same g.O.NoteOut.left _ (seq (nothing s) (rest env room ts)) (nothing s) (seq_nothing s (rest env room ts) e ∙ c.in-None.ensures.reads env room s refl e (omega (arith, c.room.ensures))))
 
 pub run-parts-smaller-in-Some-Copied : goal.run-parts-smaller-in-Some-Copied
 run-parts-smaller-in-Some-Copied g x c =
-    let s = c.parts.self in
-    steps_less s c.put.new.self (texts_of c.parts.sources) (texts_of c.next.new.self) (ap (λ (t : Spot). t.count) c.put.ensures.1 ∙ put_count c.in-Some-Copied.run'.now s) c.in-Some-Copied.ensures.falls
+    let s = c.parts.self.spot in
+    steps_less s c.put.new.self.spot (texts_of c.parts.sources) (texts_of c.next.new.self) (ap (λ (t : Spot). t.count) {y = (put c.in-Some-Copied.run'.now s).edge} c.put.ensures.goes.1 ∙ put_count c.in-Some-Copied.run'.now s) c.in-Some-Copied.ensures.falls
 
 pub run-parts-preserved-in-Some-Copied : goal.run-parts-preserved-in-Some-Copied
 run-parts-preserved-in-Some-Copied g x c =
     let env = surroundings_of c.args.env.now in
     let room = c.args.room in
-    let s = c.parts.self in
+    let s = c.parts.self.spot in
     let ts = texts_of c.parts.sources in
     let us = texts_of c.next.new.self in
     let e = going s.ended (sym c.parts-test.true ∙ c.is_going.ensures) in
     let given = put c.in-Some-Copied.run'.now s in
     let reads = rw c.in-Some-Copied.field-0-is at (c.in-Some-Copied.ensures.reads env room s refl e (omega (arith, c.room.ensures))) in
     record {
-      goes = goes_then g.O.NoteOut.left _ _ _ (seq (nothing c.args.self.now) (rest env room (texts_of c.args.sources.now))) (seq (nothing s) (rest env room ts)) (seq (nothing c.put.new.self) (rest env room us)) c.parts.invariant.goes
-          (goes_on g.O.NoteOut.left _ _ (seq (nothing s) (rest env room ts)) given c.put.new.self (rest env room us) (seq_nothing s (rest env room ts) e ∙ (reads ∙ seq_more given (rest env room us))) c.put.ensures);
-      around = ap (λ (a : Spot). a.around) c.put.ensures.1 ∙ ((put_follows c.in-Some-Copied.run'.now s).around ∙ c.parts.invariant.around);
+      goes = goes_then g.O.NoteOut.left _ _ _ (seq (nothing c.args.self.now.spot) (rest env room (texts_of c.args.sources.now))) (seq (nothing s) (rest env room ts)) (seq (nothing c.put.new.self.spot) (rest env room us)) c.parts.invariant.goes
+          (goes_on g.O.NoteOut.left _ _ (seq (nothing s) (rest env room ts)) given c.put.new.self.spot (rest env room us) (seq_nothing s (rest env room ts) e ∙ (reads ∙ seq_more given (rest env room us))) c.put.ensures.goes);
+      before = c.put.ensures.before ∙ c.parts.invariant.before;
     }
 
 pub run-parts-smaller : goal.run-parts-smaller
 run-parts-smaller g x c =
-    let s = c.parts.self in
+    let s = c.parts.self.spot in
     let less = steps_less s s (texts_of c.parts.sources) (texts_of c.next.new.self) refl c.in-Some-Called.ensures.falls in
     omega (arith, c.call.ensures.falls)
 
@@ -286,25 +278,25 @@ pub run-parts-preserved : goal.run-parts-preserved
 run-parts-preserved g x c =
     let env = surroundings_of c.args.env.now in
     let room = c.args.room in
-    let s = c.parts.self in
+    let s = c.parts.self.spot in
     let ts = texts_of c.parts.sources in
     let us = texts_of c.next.new.self in
     let e = going s.ended (sym c.parts-test.true ∙ c.is_going.ensures) in
     let call = seq (call_at env (room_in room us) (call_of c.in-Some-Called.call) s) (rest env room us) in
-    let last = seq (nothing c.call.new.self) (rest env room (texts_of c.call.new.sources)) in
+    let last = seq (nothing c.call.new.self.spot) (rest env room (texts_of c.call.new.sources)) in
     let reads = rw c.in-Some-Called.field-0-is at (c.in-Some-Called.ensures.reads env room s refl e (omega (arith, c.room.ensures))) in
     record {
-      goes = goes_then g.O.NoteOut.left _ _ _ (seq (nothing c.args.self.now) (rest env room (texts_of c.args.sources.now))) (seq (nothing s) (rest env room ts)) last c.parts.invariant.goes
+      goes = goes_then g.O.NoteOut.left _ _ _ (seq (nothing c.args.self.now.spot) (rest env room (texts_of c.args.sources.now))) (seq (nothing s) (rest env room ts)) last c.parts.invariant.goes
           (goes_then g.O.NoteOut.left _ _ _ (seq (nothing s) (rest env room ts)) call last
           (goes_same g.O.NoteOut.left _ (seq (nothing s) (rest env room ts)) call (seq_nothing s (rest env room ts) e ∙ reads)) c.call.ensures.goes);
-      around = c.call.ensures.around ∙ c.parts.invariant.around;
+      before = c.call.ensures.before ∙ c.parts.invariant.before;
     }
 
-pub run-returns : goal.run-returns
-run-returns g x c =
+pub run-returns-clause-goes : goal.run-returns-clause-goes
+run-returns-clause-goes g x c =
     let env = surroundings_of c.args.env.now in
     let room = c.args.room in
-    let s = c.parts.self in
+    let s = c.parts.self.spot in
     let ts = texts_of c.parts.sources in
-    goes_then g.O.NoteOut.left _ _ _ (seq (nothing c.args.self.now) (rest env room (texts_of c.args.sources.now))) (seq (nothing s) (rest env room ts)) (nothing s) c.parts.invariant.goes
+    goes_then g.O.NoteOut.left _ _ _ (seq (nothing c.args.self.now.spot) (rest env room (texts_of c.args.sources.now))) (seq (nothing s) (rest env room ts)) (nothing s) c.parts.invariant.goes
     (goes_same g.O.NoteOut.left _ (seq (nothing s) (rest env room ts)) (nothing s) (seq_ended s (rest env room ts) (gone s.ended (sym c.parts-test.false ∙ c.is_going.ensures))))

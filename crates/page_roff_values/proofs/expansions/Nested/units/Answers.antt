@@ -1,13 +1,13 @@
 use Rattle.std.proofs.Common.{◌*◌, ap, ◌∙◌}
 use Rattle.page_roff_values.proofs.WidthLemmas.{units_known, units_none}
-use Rattle.page_roff_values.proofs.expansions.Expansion.units.Goals as goal
+use Rattle.page_roff_values.proofs.expansions.Nested.units.Goals as goal
 
 pub returns-in-Ok : goal.returns-in-Ok
 returns-in-Ok c =
     let h = c.in-Ok.ensures.cases in
     let e = c.text.ensures.value in
     ap (λ n. 24 * n) c.columns.ensures.value
-    ∙ rw (c.as_bytes.ensures.value, h.0, e) (units_known c.args.output c.args.self.now.text (rw e at h.1))
+    ∙ rw (c.as_bytes.ensures.value, h.0, e) (units_known c.args.output c.args.self.now.spot.text (rw e at h.1))
 
 pub returns-in-Err : goal.returns-in-Err
-returns-in-Err c = units_none c.args.output c.args.self.now.text (rw c.text.ensures.value at c.in-Err.ensures.cases.0)
+returns-in-Err c = units_none c.args.output c.args.self.now.spot.text (rw c.text.ensures.value at c.in-Err.ensures.cases.0)

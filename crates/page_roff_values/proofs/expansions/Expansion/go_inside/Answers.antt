@@ -1,8 +1,0 @@
-use Rattle.std.proofs.Common.{◌∙◌, ap, sym, rules}
-use Rattle.page_roff_values.specs.Values.{inside, column_of}
-use Rattle.page_roff_values.proofs.WidthLemmas.{inside_is}
-use Rattle.page_roff_values.proofs.expansions.Expansion.go_inside.Goals as goal
-
-pub returns-clause-inside : goal.returns-clause-inside
-returns-clause-inside c =
-    inside_is c.self.inside c.len-self-inside.result c.column.result (search rules) (c.column.ensures ∙ ap column_of (sym c.self.view_is)) ∙ ap inside c.self.view_is
