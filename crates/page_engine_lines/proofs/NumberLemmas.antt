@@ -1,7 +1,6 @@
 -- The number that roff remembers is the one of its last line, whatever that line does: helpers of proofs.
 use Rattle.std.proofs.Common.{◌≡◌, ℕ, ◌==◌, Bool, true, false, is_some, List, [], ◌∷◌, length, Option, Some, None, refl, ap, ◌∙◌}
 use Rattle.std.specs.Prelude.{if◌then◌else◌}
-use Rattle.page_core_base.specs.declared.page_settings.Output.{Output}
 use Rattle.page_roff_requests.specs.Requests.{request_of}
 use Rattle.page_roff_requests.specs.declared.requests.Request.{Request}
 use Rattle.page_roff_requests.specs.declared.requests.Request.TheVariants as requests
@@ -16,7 +15,7 @@ use Rattle.page_roff_blocks.specs.Levels.{Opened}
 use Rattle.page_roff_blocks.specs.Loops.{loop_text}
 use Rattle.page_roff_blocks.specs.declared.regions.RegionHead.{RegionHead}
 use Rattle.page_roff_values.specs.Arguments.{lines_in}
-use Rattle.page_roff_values.specs.Values.{expanded}
+use Rattle.page_roff_values.specs.Values.{expanded, units_of}
 use Rattle.page_roff_language.specs.Languages.{Kind}
 use Rattle.page_roff_language.proofs.KeepLemmas.{IsIfSome, IsAny, HasLeaves, HasLoopTexts, any_leaves, any_lines}
 use Rattle.page_roff_language.proofs.KeepEffects.{IsKeptAfter, KeepsEffects, page_keeps}
@@ -164,7 +163,7 @@ any_kind kind = Unit {0}
 abbrev IsAt : ℕ → State → Type 0
 IsAt n s = s.memory.number ≡ n
 
-module _ (output : Output) (n : ℕ) where
+module _ (units : List ℕ → ℕ) (n : ℕ) where
   done_number : (p : Product) (s : State) → IsAt n s → IsKeptAfter IsAny any_kind (IsAt n) (done_by p s)
   unfolding done_by any_kind
   done_number no_product s h = h
@@ -172,19 +171,19 @@ module _ (output : Output) (n : ℕ) where
   done_number (call_product call) s h = (any_lines (lines_in call.body), tt, h)
   done_number (loop_product text) s h = (tt, any_lines (body_in text), h)
 
-  keeps_number : KeepsEffects IsAny any_kind (IsAt n) (effects output)
+  keeps_number : KeepsEffects IsAny any_kind (IsAt n) (effects units)
   unfolding effects done_after tested_after budget_outcome block_outcome end_of_block_outcome any_kind
   keeps_number = record {
     inner = λ kind k. tt;
     exhausts = λ s h. h;
     tests = λ kind condition s h. h;
     leaf = λ may_call kind text s k t h.
-        let o = leaf_outcome (setting_of output kind) may_call text s.memory in
-        done_number o.product (after s o) (leaf_number (setting_of output kind) may_call text s.memory ∙ h);
+        let o = leaf_outcome (setting_of units kind) may_call text s.memory in
+        done_number o.product (after s o) (leaf_number (setting_of units kind) may_call text s.memory ∙ h);
     refuses = λ head s h. h;
     unopened = λ s h. h;
     opens_region = λ kind head is_run s h. head_number head is_run s.memory ∙ h;
-    reads = λ kind o is_run line s k t h. line_number (setting_of output kind) o is_run line s.memory ∙ h;
+    reads = λ kind o is_run line s k t h. line_number (setting_of units kind) o is_run line s.memory ∙ h;
     ends_region = λ kind o is_run line s h. end_number o is_run s.memory ∙ h;
     opens_loop = λ head s t h. loop_number head s.memory ∙ h;
     collects = λ is_run text s t h. collect_number is_run text s.memory ∙ h;
@@ -210,7 +209,7 @@ texts_any open_blocks line t = text_any (loop_text open_blocks line)
 one_number : (e : Edge) (line : SourceLine) → (line_done e line).memory.number ≡ line.number
 unfolding run_line before_line any_kind
 one_number e line =
-    page_keeps IsAny any_kind (IsAt line.number) (effects e.output) leaves_any texts_any (keeps_number e.output line.number) tt
+    page_keeps IsAny any_kind (IsAt line.number) (effects (units_of e.output)) leaves_any texts_any (keeps_number (units_of e.output) line.number) tt
     (line.text ∷ []) (before_line e line) (any_lines (line.text ∷ [])) refl
 
 -- the number of the last of these lines, or of the one before them

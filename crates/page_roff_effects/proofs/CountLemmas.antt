@@ -1,6 +1,5 @@
 -- How many interpolations a part makes: helpers of proofs.
 use Rattle.std.proofs.Common.{◌≡◌, ℕ, ◌+◌, ◌-◌, ◌≤◌, ◌==◌, Bool, true, false, is_some, List, [], length, Option, Some, None, refl, ap, ◌∙◌, arith, if◌then◌else◌}
-use Rattle.page_core_base.specs.declared.page_settings.Output.{Output}
 use Rattle.page_core_base.specs.declared.places.Place.{Place}
 use Rattle.page_roff_blocks.specs.Levels.{Opened}
 use Rattle.page_roff_blocks.specs.declared.regions.RegionHead.{RegionHead}
@@ -200,40 +199,40 @@ unfolding close_outcome
 close_keeps true may_call m = repeats_keeps may_call m.body _
 close_keeps false may_call m = refl
 
-module _ (output : Output) where
+module _ (units : List ℕ → ℕ) where
   leaf_spends : (may_call : Bool) (kind : Kind) (text : List ℕ) (s : State)
-      → expansions_of (state_of ((effects output).leaf may_call kind text s)) ≤ expansions_of s + EXPAND
+      → expansions_of (state_of ((effects units).leaf may_call kind text s)) ≤ expansions_of s + EXPAND
   unfolding effects done_after
   leaf_spends may_call kind text s =
-      let o = leaf_outcome (setting_of output kind) may_call text s.memory in
+      let o = leaf_outcome (setting_of units kind) may_call text s.memory in
       few_as _ _ _ (ap (λ (m : Memory). m.expansions) (done_memory o.product (states.after s o)))
-      (leaf_few (setting_of output kind) may_call text s.memory)
+      (leaf_few (setting_of units kind) may_call text s.memory)
 
   tests_spends : (kind : Kind) (condition : Condition (List ℕ)) (s : State)
-      → expansions_of ((effects output).tests kind condition s).1 ≤ expansions_of s + EXPAND
+      → expansions_of ((effects units).tests kind condition s).1 ≤ expansions_of s + EXPAND
   unfolding effects tested_after
   tests_spends kind condition s =
-      few_counts s.memory.expansions (answer_of (setting_of output kind) condition s.memory).edge.count
-      (condition_few (setting_of output kind) condition s.memory)
+      few_counts s.memory.expansions (answer_of (setting_of units kind) condition s.memory).edge.count
+      (condition_few (setting_of units kind) condition s.memory)
 
-  turns_spends : (kind : Kind) (condition : List ℕ) (s : State) → expansions_of ((effects output).turns kind condition s).1 ≤ expansions_of s + EXPAND
+  turns_spends : (kind : Kind) (condition : List ℕ) (s : State) → expansions_of ((effects units).turns kind condition s).1 ≤ expansions_of s + EXPAND
   unfolding effects tested_after
   turns_spends kind condition s =
-      few_counts s.memory.expansions (turn_answer (setting_of output kind) condition s.memory).edge.count
-      (condition_few (setting_of output kind) _ s.memory)
+      few_counts s.memory.expansions (turn_answer (setting_of units kind) condition s.memory).edge.count
+      (condition_few (setting_of units kind) _ s.memory)
 
-  closes_spends : (is_run may_call : Bool) (s : State) → expansions_of (state_of ((effects output).closes is_run may_call s)) ≡ expansions_of s
+  closes_spends : (is_run may_call : Bool) (s : State) → expansions_of (state_of ((effects units).closes is_run may_call s)) ≡ expansions_of s
   unfolding effects done_after
   closes_spends is_run may_call s =
       let o = close_outcome is_run may_call s.memory in
       ap (λ (m : Memory). m.expansions) (done_memory o.product (states.after s o)) ∙ close_keeps is_run may_call s.memory
 
   reads_spends : (kind : Kind) (o : Opened) (line : List ℕ) (s : State)
-      → expansions_of ((effects output).reads kind o true line s) ≤ expansions_of s + EXPAND
+      → expansions_of ((effects units).reads kind o true line s) ≤ expansions_of s + EXPAND
   unfolding effects line_outcome
-  reads_spends kind o line s = kind_few (setting_of output kind) o.kind line s.memory
+  reads_spends kind o line s = kind_few (setting_of units kind) o.kind line s.memory
 
-  pub spends : Spends expansions_of EXPAND (effects output)
+  pub spends : Spends expansions_of EXPAND (effects units)
   unfolding effects budget_outcome block_outcome end_of_block_outcome line_outcome
   spends = record {
     exhausts = λ s. refl;

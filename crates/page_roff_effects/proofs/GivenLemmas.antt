@@ -1,6 +1,5 @@
 -- What was given before stays in front: helpers of proofs.
 use Rattle.std.proofs.Common.{◌≡◌, ℕ, zero, suc, Bool, true, false, not, ◌&&◌, List, Option, Some, None, refl, ap, ◌∙◌, append_assoc}
-use Rattle.page_core_base.specs.declared.page_settings.Output.{Output}
 use Rattle.page_roff_heads.specs.declared.conditions.Condition.{Condition}
 use Rattle.page_roff_blocks.specs.Levels.{Opened}
 use Rattle.page_roff_blocks.specs.Loops.{loop_text}
@@ -32,117 +31,117 @@ done_after_front : (g : List Given) (s : State) (o : Outcome) → done_after (gi
 unfolding done_after
 done_after_front g s o = ap (done_by o.product) (after_front g s o) ∙ done_front g o.product (after s o)
 
-module _ (output : Output) (g : List Given) where
+module _ (units : List ℕ → ℕ) (g : List Given) where
   done_with_front : (s : Budgeted State) (d : Done State)
-      → done_with (effects output) (in_front g s) (over_done (given_before g) d) ≡ over_done (in_front g) (done_with (effects output) s d)
+      → done_with (effects units) (in_front g s) (over_done (given_before g) d) ≡ over_done (in_front g) (done_with (effects units) s d)
   unfolding done_with with_rest
   done_with_front s (gives t) = refl
   done_with_front s (calls lines args t) = refl
   done_with_front s (repeats condition lines t) = refl
 
-  with_rest_front : (s : Budgeted State) (t u : State) → t ≡ given_before g u → with_rest (effects output) (in_front g s) t ≡ in_front g (with_rest (effects output) s u)
+  with_rest_front : (s : Budgeted State) (t u : State) → t ≡ given_before g u → with_rest (effects units) (in_front g s) t ≡ in_front g (with_rest (effects units) s u)
   unfolding with_rest
   with_rest_front s t u e = ap (λ (r : State). record { left = s.left; gave_up = s.gave_up; taken = s.taken; rest = r }) e
 
   closed_with_front : (s : Budgeted State) (d : Done State)
-      → closed_with (effects output) (in_front g s) (over_done (given_before g) d) ≡ over_done (in_front g) (closed_with (effects output) s d)
+      → closed_with (effects units) (in_front g s) (over_done (given_before g) d) ≡ over_done (in_front g) (closed_with (effects units) s d)
   unfolding closed_with with_rest
   closed_with_front s (gives t) = refl
   closed_with_front s (calls lines args t) = refl
   closed_with_front s (repeats condition lines t) = refl
 
   charge_front_by : (gave_up : Bool) (left : ℕ) (s : Budgeted State)
-      → charge_by (effects output) gave_up left (in_front g s) ≡ in_front g (charge_by (effects output) gave_up left s)
+      → charge_by (effects units) gave_up left (in_front g s) ≡ in_front g (charge_by (effects units) gave_up left s)
   unfolding charge_by effects
   charge_front_by true left s = refl
   charge_front_by false zero s =
       ap (λ (r : State). record { left = 0; gave_up = true; taken = s.taken; rest = r }) (after_front g s.rest (budget_outcome s.rest.memory))
   charge_front_by false (suc left) s = refl
 
-  charge_front : (s : Budgeted State) → charge (effects output) (in_front g s) ≡ in_front g (charge (effects output) s)
+  charge_front : (s : Budgeted State) → charge (effects units) (in_front g s) ≡ in_front g (charge (effects units) s)
   unfolding charge
   charge_front s = charge_front_by s.gave_up s.left s
 
-  begin_front : (kind : Kind) (s : Budgeted State) → begin_line (effects output) kind (in_front g s) ≡ in_front g (begin_line (effects output) kind s)
+  begin_front : (kind : Kind) (s : Budgeted State) → begin_line (effects units) kind (in_front g s) ≡ in_front g (begin_line (effects units) kind s)
   unfolding begin_line
   begin_front page s = refl
   begin_front (body args) s = charge_front s
 
-  meet_front : (is_remainder : Bool) (s : Budgeted State) → meet (effects output) is_remainder (in_front g s) ≡ over_pair (in_front g) (meet (effects output) is_remainder s)
+  meet_front : (is_remainder : Bool) (s : Budgeted State) → meet (effects units) is_remainder (in_front g s) ≡ over_pair (in_front g) (meet (effects units) is_remainder s)
   unfolding meet whether_run
   meet_front false s = refl
   meet_front true s = ap (λ (t : Budgeted State). (not t.gave_up, t)) (charge_front s)
 
   test_front : (kind : Kind) (condition : Condition (List ℕ)) (s : Budgeted State)
-      → test (effects output) kind condition (in_front g s) ≡ over_pair (in_front g) (test (effects output) kind condition s)
+      → test (effects units) kind condition (in_front g s) ≡ over_pair (in_front g) (test (effects units) kind condition s)
   unfolding test effects with_rest
   test_front kind condition s =
       ap (λ (v : Bool × State). (v.0, record { left = s.left; gave_up = s.gave_up; taken = s.taken; rest = v.1 }))
-      (tested_front g s.rest (answer_of (setting_of output kind) condition s.rest.memory))
+      (tested_front g s.rest (answer_of (setting_of units kind) condition s.rest.memory))
 
   unopened_front : (kind : Kind) (gave_up : Bool) (s : Budgeted State)
-      → unopened_by (effects output) kind gave_up (in_front g s) ≡ in_front g (unopened_by (effects output) kind gave_up s)
+      → unopened_by (effects units) kind gave_up (in_front g s) ≡ in_front g (unopened_by (effects units) kind gave_up s)
   unfolding unopened_by effects
   unopened_front page gave_up s = with_rest_front s _ _ (after_front g s.rest (end_of_block_outcome s.rest.memory))
   unopened_front (body args) true s = refl
   unopened_front (body args) false s = with_rest_front s _ _ (after_front g s.rest (end_of_block_outcome s.rest.memory))
 
   read_front : (kind : Kind) (o : Opened) (line : List ℕ) (s : Budgeted State)
-      → read_line (effects output) kind o line (in_front g s) ≡ in_front g (read_line (effects output) kind o line s)
+      → read_line (effects units) kind o line (in_front g s) ≡ in_front g (read_line (effects units) kind o line s)
   unfolding read_line effects
   read_front kind o line s =
-      let t = begin_line (effects output) kind s in
+      let t = begin_line (effects units) kind s in
       let f : Budgeted State → Budgeted State =
-      λ t. with_rest (effects output) t (after t.rest (line_outcome (setting_of output kind) o (o.is_run && not t.gave_up) line t.rest.memory)) in
+      λ t. with_rest (effects units) t (after t.rest (line_outcome (setting_of units kind) o (o.is_run && not t.gave_up) line t.rest.memory)) in
       ap f (begin_front kind s)
-      ∙ with_rest_front t _ _ (after_front g t.rest (line_outcome (setting_of output kind) o (o.is_run && not t.gave_up) line t.rest.memory))
+      ∙ with_rest_front t _ _ (after_front g t.rest (line_outcome (setting_of units kind) o (o.is_run && not t.gave_up) line t.rest.memory))
 
   end_front : (kind : Kind) (o : Opened) (line : List ℕ) (s : Budgeted State)
-      → end_line (effects output) kind o line (in_front g s) ≡ in_front g (end_line (effects output) kind o line s)
+      → end_line (effects units) kind o line (in_front g s) ≡ in_front g (end_line (effects units) kind o line s)
   unfolding end_line effects
   end_front kind o line s =
-      let t = begin_line (effects output) kind s in
+      let t = begin_line (effects units) kind s in
       let f : Budgeted State → Budgeted State =
-      λ t. with_rest (effects output) t (after t.rest (end_outcome o (o.is_run && not t.gave_up) t.rest.memory)) in
+      λ t. with_rest (effects units) t (after t.rest (end_outcome o (o.is_run && not t.gave_up) t.rest.memory)) in
       ap f (begin_front kind s)
       ∙ with_rest_front t _ _ (after_front g t.rest (end_outcome o (o.is_run && not t.gave_up) t.rest.memory))
 
   collect_front : (text : Option (List ℕ)) (s : Budgeted State)
-      → collect_some (effects output) text (in_front g s) ≡ in_front g (collect_some (effects output) text s)
+      → collect_some (effects units) text (in_front g s) ≡ in_front g (collect_some (effects units) text s)
   unfolding collect_some effects
   collect_front None s = refl
   collect_front (Some text) s = with_rest_front s _ _ (after_front g s.rest (collect_outcome (not s.gave_up) text s.rest.memory))
 
   closes_front : (may_run : Bool) (s : Budgeted State)
-      → (language (effects output)).closes may_run (in_front g s) ≡ over_done (in_front g) ((language (effects output)).closes may_run s)
+      → (language (effects units)).closes may_run (in_front g s) ≡ over_done (in_front g) ((language (effects units)).closes may_run s)
   unfolding language effects
   closes_front may_run s =
       let o = close_outcome (not s.gave_up) may_run s.rest.memory in
-      ap (closed_with (effects output) (in_front g s)) (done_after_front g s.rest o) ∙ closed_with_front s (done_after s.rest o)
+      ap (closed_with (effects units) (in_front g s)) (done_after_front g s.rest o) ∙ closed_with_front s (done_after s.rest o)
 
   turn_front_by : (gave_up : Bool) (kind : Kind) (condition : List ℕ) (s : Budgeted State)
-      → turn_by (effects output) gave_up kind condition (in_front g s) ≡ over_pair (in_front g) (turn_by (effects output) gave_up kind condition s)
+      → turn_by (effects units) gave_up kind condition (in_front g s) ≡ over_pair (in_front g) (turn_by (effects units) gave_up kind condition s)
   unfolding turn_by effects with_rest
   turn_front_by true kind condition s = refl
   turn_front_by false kind condition s =
       ap (λ (v : Bool × State). (v.0, record { left = s.left; gave_up = s.gave_up; taken = s.taken; rest = v.1 }))
-      (tested_front g s.rest (turn_answer (setting_of output kind) condition s.rest.memory))
+      (tested_front g s.rest (turn_answer (setting_of units kind) condition s.rest.memory))
 
   turn_front : (kind : Kind) (condition : List ℕ) (s : Budgeted State)
-      → turn (effects output) kind condition (in_front g s) ≡ over_pair (in_front g) (turn (effects output) kind condition s)
+      → turn (effects units) kind condition (in_front g s) ≡ over_pair (in_front g) (turn (effects units) kind condition s)
   unfolding turn
   turn_front kind condition s =
-      let t = charge (effects output) s in
-      ap (λ (u : Budgeted State). turn_by (effects output) u.gave_up kind condition u) (charge_front s) ∙ turn_front_by t.gave_up kind condition t
+      let t = charge (effects units) s in
+      ap (λ (u : Budgeted State). turn_by (effects units) u.gave_up kind condition u) (charge_front s) ∙ turn_front_by t.gave_up kind condition t
 
   leaf_front : (may_call : Bool) (kind : Kind) (text : List ℕ) (s : Budgeted State)
-      → (language (effects output)).leaf may_call kind text (in_front g s) ≡ over_done (in_front g) ((language (effects output)).leaf may_call kind text s)
+      → (language (effects units)).leaf may_call kind text (in_front g s) ≡ over_done (in_front g) ((language (effects units)).leaf may_call kind text s)
   unfolding language effects
   leaf_front may_call kind text s =
-      let o = leaf_outcome (setting_of output kind) may_call text s.rest.memory in
-      ap (done_with (effects output) (in_front g s)) (done_after_front g s.rest o) ∙ done_with_front s (done_after s.rest o)
+      let o = leaf_outcome (setting_of units kind) may_call text s.rest.memory in
+      ap (done_with (effects units) (in_front g s)) (done_after_front g s.rest o) ∙ done_with_front s (done_after s.rest o)
 
-  parts_front : (kind : Kind) → IsFrontOfParts (in_front g) (meaning (effects output) kind)
+  parts_front : (kind : Kind) → IsFrontOfParts (in_front g) (meaning (effects units) kind)
   unfolding meaning effects
   parts_front kind = record {
     begins = λ line s. begin_front kind s;
@@ -158,7 +157,7 @@ module _ (output : Output) (g : List Given) where
     keeps = λ line s. collect_front (Some line) s;
   }
 
-  pub is_front : IsFront (in_front g) (language (effects output))
+  pub is_front : IsFront (in_front g) (language (effects units))
   unfolding language effects
   is_front = record {
     parts = parts_front;

@@ -11,7 +11,7 @@ use Rattle.page_roff_forms.specs.declared.line_forms.LineForm.TheVariants.{Text}
 use Rattle.page_roff_forms.proofs.FormLemmas.{read_first, read_all, front_of}
 use Rattle.page_roff_values.proofs.LineLemmas.{plain_expanded}
 use Rattle.page_roff_values.specs.Values.{nothing, adds, start}
-use Rattle.page_roff_effects.specs.Acting.{Acting, plain_form, line_laid}
+use Rattle.page_roff_effects.specs.Acting.{Acting, measured, plain_form, line_laid}
 use Rattle.page_roff_effects.specs.Leaves.{leaf_outcome}
 use Rattle.page_roff_effects.specs.States.{Memory, Setting, counted, gives_line, surroundings}
 
@@ -50,4 +50,4 @@ plain_taken setting may_call line m b p h =
 -- and so is a text without a backslash, in copy mode or not
 pub plain_laid : (copy : Bool) (text : List ℕ) (a : Acting) → prefix_len is_plain text ≡ length text → length text ≤ LINE
     → line_laid copy text a ≡ nothing (adds text (start a.memory.number))
-plain_laid copy text a p h = plain_expanded (surroundings copy a.setting a.memory) a.memory.number text (no_backslash text p) h
+plain_laid copy text a p h = plain_expanded (surroundings copy (measured a.setting) a.memory) a.memory.number text (no_backslash text p) h

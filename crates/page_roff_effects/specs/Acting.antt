@@ -12,6 +12,9 @@ use Rattle.page_roff_blocks.specs.Atoms.{atoms}
 use Rattle.page_roff_forms.specs.LineForms.{has_word}
 use Rattle.page_roff_values.specs.Latches.{Came}
 use Rattle.page_roff_values.specs.Values.{Spot, Laid, expanded}
+use Rattle.page_roff_values.specs.Views.{units_of_bytes}
+use Rattle.page_roff_language.specs.Budgets.{Effects}
+use Rattle.page_roff_language.specs.Languages.{Kind, arguments_of}
 use Rattle.page_roff_conditions.specs.Answers.{Answer}
 use Rattle.page_roff_names.specs.Names.{Definitions}
 use Rattle.page_roff_buffers.specs.Calls.{Call}
@@ -19,20 +22,35 @@ use Rattle.page_roff_effects.specs.declared.commands.Command.TheVariants.{Pass}
 use Rattle.page_roff_effects.specs.Commands.{command_of}
 use Rattle.page_roff_effects.specs.declared.commands.ProductKind.{ProductKind}
 use Rattle.page_roff_effects.specs.declared.commands.ProductKind.TheVariants as kinds
-use Rattle.page_roff_effects.specs.States.{Memory, first_memory, Product, no_product, line_product, call_product, loop_product, Outcome, Setting, surroundings, counted}
-use Rattle.page_roff_effects.specs.Effects.{test_outcome}
+use Rattle.page_roff_effects.specs.States.{Memory, first_memory, Product, no_product, line_product, call_product, loop_product, Outcome, Setting, State, surroundings, counted}
+use Rattle.page_roff_effects.specs.Effects.{effects, test_outcome}
 use Rattle.page_roff_effects.specs.Leaves as leaves
 use Rattle.page_roff_effects.specs.declared.leaves.ControlLine.{ControlLine}
 
+-- the output, and the arguments of the macro that runs, if one does
+pub record ActingSetting : Type 0 where
+  pub output : Output
+  pub arguments : Option (List (List ℕ))
+
+-- the code measures any bytes
+abbrev pub measured : ActingSetting → Setting
+measured setting = record { units = units_of_bytes setting.output; arguments = setting.arguments }
+
+abbrev pub acting_setting : Output → Kind → ActingSetting
+acting_setting output kind = record { output = output; arguments = arguments_of kind }
+
+abbrev pub acting_effects : Output → Effects State
+acting_effects output = effects (units_of_bytes output)
+
 -- What decides, what is remembered, the line as far as it is expanded, and what was taken last: a line, and a call.
 pub record Acting : Type 0 where
-  pub setting : Setting
+  pub setting : ActingSetting
   pub memory : Memory
   pub finished : Spot
   pub line : Line
   pub call : Call
 
-abbrev pub first_setting : Output → Setting
+abbrev pub first_setting : Output → ActingSetting
 first_setting output = record { output = output; arguments = None }
 
 -- what comes of a part, as the code says it
@@ -106,7 +124,7 @@ abbrev pub Expands : {P S : Type 0} → (P → S → List Message → Type 0) �
 Expands left old new edge laid = (edge ≡ laid.edge) × Came left old laid.notes new
 
 abbrev pub line_laid : Bool → List ℕ → Acting → Laid
-line_laid copy text a = expanded (surroundings copy a.setting a.memory) a.memory.number text
+line_laid copy text a = expanded (surroundings copy (measured a.setting) a.memory) a.memory.number text
 
 -- a line was expanded, or is what it gives and was not copied
 abbrev pub text_given : Bool → List ℕ → Acting → List ℕ

@@ -1,12 +1,11 @@
 -- What the parts of a source do to what is remembered and given. Source: roff(7), "LANGUAGE SYNTAX"; mandoc(1), "DIAGNOSTICS".
-use Rattle.std.specs.Prelude.{ℕ, Bool, false, List, ◌++◌, codes, None}
+use Rattle.std.specs.Prelude.{ℕ, Bool, false, List, ◌++◌, codes}
 use Rattle.page_core_base.specs.declared.note_kinds.NoteKind.TheVariants as kinds
-use Rattle.page_core_base.specs.declared.page_settings.Output.{Output}
 use Rattle.page_roff_heads.specs.declared.conditions.Condition.{Condition}
 use Rattle.page_roff_heads.specs.Conditions.{condition_of}
 use Rattle.page_roff_values.specs.Arguments.{arguments_in, lines_in}
 use Rattle.page_roff_conditions.specs.Answers.{Answer, condition_answer}
-use Rattle.page_roff_language.specs.Languages.{Kind, page, body, Done, gives, calls, repeats}
+use Rattle.page_roff_language.specs.Languages.{Kind, arguments_of, Done, gives, calls, repeats}
 use Rattle.page_roff_language.specs.Budgets.{Budgeted, Effects}
 use Rattle.page_roff_effects.specs.States.{Memory, State, Given, Outcome, Product, no_product, line_product, call_product, loop_product, after, reports, reports_at, counted, Setting, surroundings}
 use Rattle.page_roff_effects.specs.Leaves.{leaf_outcome}
@@ -15,10 +14,9 @@ use Rattle.page_roff_effects.specs.RegionLines.{head_outcome, line_outcome, end_
 use Rattle.page_core_limits.specs.Limits.{name_of}
 use Rattle.page_core_limits.specs.declared.Limit.TheVariants as limits
 
--- the page has no arguments, and a loop of the page has none
-abbrev pub setting_of : Output → Kind → Setting
-setting_of output page = record { output = output; arguments = None }
-setting_of output (body arguments) = record { output = output; arguments = arguments }
+-- what a part of such a source reads
+abbrev pub setting_of : (List ℕ → ℕ) → Kind → Setting
+setting_of units kind = record { units = units; arguments = arguments_of kind }
 
 -- a condition: its messages, and the interpolations that it made
 unfoldable pub answer_of : Setting → Condition (List ℕ) → Memory → Answer
@@ -56,21 +54,22 @@ done_after s o = done_by o.product (after s o)
 unfoldable pub tested_after : State → Answer → Bool × State
 tested_after s answer = (answer.holds, after s (test_outcome answer s.memory))
 
-unfoldable pub effects : Output → Effects State
-effects output =
+-- where a finished text is so many basic units wide
+unfoldable pub effects : (List ℕ → ℕ) → Effects State
+effects units =
     record {
       exhausts = λ s. after s (budget_outcome s.memory);
-      tests = λ kind condition s. tested_after s (answer_of (setting_of output kind) condition s.memory);
-      leaf = λ may_call kind text s. done_after s (leaf_outcome (setting_of output kind) may_call text s.memory);
+      tests = λ kind condition s. tested_after s (answer_of (setting_of units kind) condition s.memory);
+      leaf = λ may_call kind text s. done_after s (leaf_outcome (setting_of units kind) may_call text s.memory);
       refuses = λ head s. after s (block_outcome head.column s.memory);
       unopened = λ s. after s (end_of_block_outcome s.memory);
       opens_region = λ kind head is_run s. after s (head_outcome head is_run s.memory);
-      reads = λ kind o is_run line s. after s (line_outcome (setting_of output kind) o is_run line s.memory);
+      reads = λ kind o is_run line s. after s (line_outcome (setting_of units kind) o is_run line s.memory);
       ends_region = λ kind o is_run line s. after s (end_outcome o is_run s.memory);
       opens_loop = λ head s. after s (loop_outcome head s.memory);
       collects = λ is_run line s. after s (collect_outcome is_run line s.memory);
       closes = λ is_run may_call s. done_after s (close_outcome is_run may_call s.memory);
-      turns = λ kind condition s. tested_after s (turn_answer (setting_of output kind) condition s.memory);
+      turns = λ kind condition s. tested_after s (turn_answer (setting_of units kind) condition s.memory);
       finish = λ region in_loop gave_up s. after s (finish_outcome region in_loop gave_up s.memory);
     }
 

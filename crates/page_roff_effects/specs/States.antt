@@ -4,7 +4,6 @@ use Rattle.page_core_base.specs.Messages.{Message, message_about}
 use Rattle.page_core_base.specs.LinesTaken.{Line}
 use Rattle.page_core_base.specs.declared.lines_taken.Form.{Form}
 use Rattle.page_core_base.specs.declared.note_kinds.NoteKind.{NoteKind}
-use Rattle.page_core_base.specs.declared.page_settings.Output.{Output}
 use Rattle.page_core_base.specs.declared.places.Place.{Place}
 use Rattle.page_roff_buffers.specs.Calls.{Call}
 use Rattle.page_roff_names.specs.Names.{Definitions, definitions}
@@ -122,11 +121,11 @@ counted count m =
 
 -- ---- what interpolations read
 
--- the output, and the arguments of the macro that runs, if one does
+-- how many basic units wide a finished text is, and the arguments of the macro that runs, if one does
 pub record Setting : Type 0 where
-  pub output : Output
+  pub units : List ℕ → ℕ
   pub arguments : Option (List (List ℕ))
 
 abbrev pub surroundings : Bool → Setting → Memory → Surroundings
 surroundings copy setting m =
-    record { copy = copy; definitions = m.definitions; arguments = setting.arguments; output = setting.output }
+    record { copy = copy; definitions = m.definitions; arguments = setting.arguments; units = setting.units }

@@ -5,11 +5,11 @@ ghost use Rattle.page_core_base.specs.LinesTaken.{line_seen};
 ghost use Rattle.page_core_limits.specs.declared.TheConstants.{ARGS, LINE};
 ghost use Rattle.page_roff_heads.specs.Conditions.{condition_seen, test_seen, FitsTest};
 ghost use Rattle.page_roff_values.specs.Arguments.{arguments_in};
-ghost use Rattle.page_roff_values.specs.Environments.{surroundings_of};
+ghost use Rattle.page_roff_values.specs.Views.{surroundings_of};
 ghost use Rattle.page_roff_values.specs.Values as laying;
 ghost use Rattle.page_roff_effects.specs.Acting as acting;
 ghost use Rattle.page_roff_effects.specs.Caps.{MemoryFits};
-ghost use Rattle.page_roff_effects.specs.Acting.{Does, Tests, Expands, ExpandsOrKeeps};
+ghost use Rattle.page_roff_effects.specs.Acting.{measured, Does, Tests, Expands, ExpandsOrKeeps};
 ghost use Rattle.page_roff_effects.specs.Effects.{answer_of, turn_answer, budget_outcome, block_outcome, end_of_block_outcome};
 ghost use Rattle.page_core_base.specs.Messages.{message_about};
 ghost use Rattle.page_roff_values.specs.Latches.{Came};
@@ -213,7 +213,7 @@ impl Actions {
     pub fn test<O: NoteOut>(&mut self, condition: &Condition<&[u8]>, out: &mut O) -> bool
         requires { FitsTest (test_seen condition.now.test) }
         ensures { Tests O.left self.old out.old
-            (answer_of self.old.setting (condition_seen condition.now) self.old.memory) result self.new out.new }
+            (answer_of (measured self.old.setting) (condition_seen condition.now) self.old.memory) result self.new out.new }
     {
         let env = Environment {
             copy: false,
@@ -231,7 +231,7 @@ impl Actions {
     pub fn turn<O: NoteOut>(&mut self, condition: &[u8], out: &mut O) -> bool
         requires { length condition.now ≤ LINE }
         ensures { Tests O.left self.old out.old
-            (turn_answer self.old.setting condition.now self.old.memory) result self.new out.new }
+            (turn_answer (measured self.old.setting) condition.now self.old.memory) result self.new out.new }
     {
         let (condition, _) = read_condition(condition, 1);
         self.test(&condition, out)

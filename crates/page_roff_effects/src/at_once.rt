@@ -6,7 +6,7 @@ ghost use Rattle.page_roff_blocks.specs.declared.atoms.Atom.TheVariants.{Leaf};
 ghost use Rattle.page_roff_blocks.specs.Atoms.{atoms};
 ghost use Rattle.page_roff_forms.specs.LineForms.{form_of, name_of};
 ghost use Rattle.page_roff_effects.specs.declared.commands.Command.TheVariants as commands;
-ghost use Rattle.page_roff_effects.specs.Acting.{control_seen, IsPassed, TakesIf};
+ghost use Rattle.page_roff_effects.specs.Acting.{control_seen, measured, IsPassed, TakesIf};
 ghost use Rattle.page_roff_effects.specs.Commands.{command_of};
 ghost use Rattle.page_roff_effects.specs.Leaves.{control_outcome, leaf_outcome, text_outcome};
 
@@ -39,7 +39,7 @@ impl Actions {
     #[tactic(auto, using(crate::proofs::AtOnceLemmas::plain_taken_at_once))]
     fn take_plain_at_once(&mut self, raw: &[u8]) -> bool
         requires { length raw.now ≤ LINE }
-        ensures { TakesIf result self.old raw.now (λ may_call. leaf_outcome self.old.setting may_call raw.now self.old.memory) self.new }
+        ensures { TakesIf result self.old raw.now (λ may_call. leaf_outcome (measured self.old.setting) may_call raw.now self.old.memory) self.new }
     {
         if begins_control(raw) || plain_len(raw) < raw.len() || !is_leaf(raw) {
             return false;
@@ -53,7 +53,7 @@ impl Actions {
     fn take_text_at_once(&mut self, raw: &[u8], text: &[u8]) -> bool
         requires raw { length raw.now ≤ LINE }
         requires text { length text.now ≤ LINE }
-        ensures { TakesIf result self.old raw.now (λ may_call. text_outcome self.old.setting text.now self.old.memory) self.new }
+        ensures { TakesIf result self.old raw.now (λ may_call. text_outcome (measured self.old.setting) text.now self.old.memory) self.new }
     {
         if !gives_itself(text) || !is_leaf(raw) {
             return false;
@@ -70,7 +70,7 @@ impl Actions {
         requires passed { command_of line.name.now self.old.memory.definitions ≡ commands.Pass }
         requires leaf { atoms raw.now ≡ Leaf raw.now ∷ [] }
         ensures { TakesIf result self.old raw.now
-            (λ may_call. control_outcome self.old.setting may_call (control_seen line.entry) self.old.memory) self.new }
+            (λ may_call. control_outcome (measured self.old.setting) may_call (control_seen line.entry) self.old.memory) self.new }
     {
         if line.name.is_empty() || !gives_itself(line.text) {
             return false;
@@ -85,7 +85,7 @@ impl Actions {
     fn take_form_at_once(&mut self, raw: &[u8]) -> bool
         requires short { length raw.now ≤ LINE }
         requires passed { IsPassed raw.now (name_of (form_of raw.now)) self.old.memory.definitions }
-        ensures { TakesIf result self.old raw.now (λ may_call. leaf_outcome self.old.setting may_call raw.now self.old.memory) self.new }
+        ensures { TakesIf result self.old raw.now (λ may_call. leaf_outcome (measured self.old.setting) may_call raw.now self.old.memory) self.new }
     {
         match form_of(raw) {
             LineForm::Comment | LineForm::BlankLine => false,
@@ -105,7 +105,7 @@ impl Actions {
     /// nothing, and nothing in it is interpolated. Says whether it did; then it has no message, and nothing else changes.
     pub fn take_at_once(&mut self, raw: &[u8]) -> bool
         requires { length raw.now ≤ LINE }
-        ensures { TakesIf result self.old raw.now (λ may_call. leaf_outcome self.old.setting may_call raw.now self.old.memory) self.new }
+        ensures { TakesIf result self.old raw.now (λ may_call. leaf_outcome (measured self.old.setting) may_call raw.now self.old.memory) self.new }
     {
         if self.take_plain_at_once(raw) {
             return true;

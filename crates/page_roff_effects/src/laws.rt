@@ -1,7 +1,6 @@
 //! Laws of what the parts of a source do.
 
-ghost use Rattle.std.specs.Prelude.{◌≡◌, List};
-ghost use Rattle.page_core_base.specs.declared.page_settings.Output.{Output};
+ghost use Rattle.std.specs.Prelude.{◌≡◌, ℕ, List};
 ghost use Rattle.page_core_limits.specs.declared.TheConstants.{EXPAND};
 ghost use Rattle.page_roff_language.specs.Budgets.{language};
 ghost use Rattle.page_roff_language.specs.Fronts.{IsFront};
@@ -11,10 +10,10 @@ ghost use Rattle.page_roff_effects.specs.States.{Given};
 
 /// A line that is taken makes no more than `EXPAND` interpolations.
 pub fn expansions_law()
-    ensures { (output : Output) → Spends expansions_of EXPAND (effects output) }
+    ensures { (units : List ℕ → ℕ) → Spends expansions_of EXPAND (effects units) }
 {}
 
 /// What was given before decides nothing.
 pub fn given_law()
-    ensures { (output : Output) (given : List Given) → IsFront (in_front given) (language (effects output)) }
+    ensures { (units : List ℕ → ℕ) (given : List Given) → IsFront (in_front given) (language (effects units)) }
 {}

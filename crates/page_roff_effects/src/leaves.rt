@@ -5,7 +5,7 @@ ghost use Rattle.page_core_limits.specs.declared.TheConstants.{LINE};
 ghost use Rattle.page_roff_forms.specs.LineForms.{form_of};
 ghost use Rattle.page_roff_forms.specs.declared.line_forms.LineForm.TheVariants.{Control};
 ghost use Rattle.page_roff_values.specs.Latches.{Came};
-ghost use Rattle.page_roff_effects.specs.Acting.{control_seen, plain_form, text_given, Does, Gives, Takes, IfCalled, IsCallable};
+ghost use Rattle.page_roff_effects.specs.Acting.{control_seen, measured, plain_form, text_given, Does, Gives, Takes, IfCalled, IsCallable};
 ghost use Rattle.page_core_base.specs.declared.lines_taken.Form.TheVariants as forms;
 ghost use Rattle.page_roff_effects.specs.Leaves as leaves;
 ghost use Rattle.page_roff_effects.specs.Leaves.{leaf_outcome};
@@ -251,7 +251,7 @@ impl Actions {
         requires name { line.name_end ≤ LINE }
         requires short { length line.text.now ≤ LINE }
         ensures { Gives O.left self.old out.old
-            (leaves.control_outcome self.old.setting may_call (control_seen line.entry) self.old.memory)
+            (leaves.control_outcome (measured self.old.setting) may_call (control_seen line.entry) self.old.memory)
             result self.new out.new }
     {
         if line.name.is_empty() {
@@ -266,7 +266,7 @@ impl Actions {
     fn text<O: NoteOut>(&mut self, text: &[u8], out: &mut O) -> ProductKind
         requires { length text.now ≤ LINE }
         ensures { Gives O.left self.old out.old
-            (leaves.text_outcome self.old.setting text.now self.old.memory)
+            (leaves.text_outcome (measured self.old.setting) text.now self.old.memory)
             result self.new out.new }
     {
         if self.expand_or_keep(text, out) {
@@ -280,7 +280,7 @@ impl Actions {
     pub fn leaf<O: NoteOut>(&mut self, may_call: bool, text: &[u8], out: &mut O) -> ProductKind
         requires { length text.now ≤ LINE }
         ensures gives { Gives O.left self.old out.old
-            (leaf_outcome self.old.setting may_call text.now self.old.memory)
+            (leaf_outcome (measured self.old.setting) may_call text.now self.old.memory)
             result self.new out.new }
         ensures call { IfCalled result (IsCallable may_call self.new.call) }
     {
@@ -292,7 +292,7 @@ impl Actions {
     fn take_form<O: NoteOut>(&mut self, may_call: bool, text: &[u8], out: &mut O) -> ProductKind
         requires { length text.now ≤ LINE }
         ensures { Gives O.left self.old out.old
-            (leaf_outcome self.old.setting may_call text.now self.old.memory)
+            (leaf_outcome (measured self.old.setting) may_call text.now self.old.memory)
             result self.new out.new }
     {
         if !begins_control(text) && plain_len(text) == text.len() {

@@ -10,7 +10,7 @@ ghost use Rattle.page_roff_blocks.specs.Levels.{within_limit, opened_seen};
 ghost use Rattle.page_roff_blocks.specs.Regions.{region_seen, text_seen};
 ghost use Rattle.page_roff_definitions.specs.Definitions as defining;
 ghost use Rattle.page_roff_values.specs.Latches.{Came};
-ghost use Rattle.page_roff_effects.specs.Acting.{Does, Gives};
+ghost use Rattle.page_roff_effects.specs.Acting.{measured, Does, Gives};
 ghost use Rattle.page_roff_effects.specs.RegionLines as regions;
 ghost use Rattle.page_roff_effects.specs.States.{Memory, reports, with_body};
 
@@ -157,7 +157,7 @@ impl Actions {
     // Expands a line of a body in copy mode, and adds it.
     fn collect<O: NoteOut>(&mut self, line: &[u8], out: &mut O)
         ensures { Does O.left self.old out.old
-            (regions.body_outcome self.old.setting line.now self.old.memory) self.new out.new }
+            (regions.body_outcome (measured self.old.setting) line.now self.old.memory) self.new out.new }
     {
         if self.body.text().is_none() {
             return;
@@ -177,7 +177,7 @@ impl Actions {
     ) -> ProductKind
         requires { length line.now ≤ LINE }
         ensures { Gives O.left self.old out.old
-            (regions.line_outcome self.old.setting region.now is_run line.now self.old.memory) result self.new out.new }
+            (regions.line_outcome (measured self.old.setting) region.now is_run line.now self.old.memory) result self.new out.new }
     {
         if !is_run {
             return ProductKind::Nothing;

@@ -36,7 +36,7 @@ pub record KeepsEffects {R : Type 0} (T : List ℕ → Type 0) (K : Kind → Typ
   pub finish : (region : Option Opened) (in_loop gave_up : Bool) (r : R) → P r → P (e.finish region in_loop gave_up r)
 
 module _ {R : Type 0} (T : List ℕ → Type 0) (K : Kind → Type 0) (P : R → Type 0) (e : Effects R) (leaves : HasLeaves T) (texts : HasLoopTexts T) (k : KeepsEffects T K P e) where
-  Kept : Budgeted R → Type 0
+  unfoldable pub Kept : Budgeted R → Type 0
   Kept s = P s.rest
 
   charge_keeps_by : (gave_up : Bool) (left : ℕ) (s : Budgeted R) → Kept s → Kept (charge_by e gave_up left s)
@@ -45,11 +45,11 @@ module _ {R : Type 0} (T : List ℕ → Type 0) (K : Kind → Type 0) (P : R →
   charge_keeps_by false zero s h = k.exhausts s.rest h
   charge_keeps_by false (suc left) s h = h
 
-  charge_keeps : (s : Budgeted R) → Kept s → Kept (charge e s)
+  pub charge_keeps : (s : Budgeted R) → Kept s → Kept (charge e s)
   unfolding charge
   charge_keeps s h = charge_keeps_by s.gave_up s.left s h
 
-  begin_keeps : (kind : Kind) (s : Budgeted R) → Kept s → Kept (begin_line e kind s)
+  pub begin_keeps : (kind : Kind) (s : Budgeted R) → Kept s → Kept (begin_line e kind s)
   unfolding begin_line Kept
   begin_keeps page s h = h
   begin_keeps (body args) s h = charge_keeps s h
@@ -80,13 +80,13 @@ module _ {R : Type 0} (T : List ℕ → Type 0) (K : Kind → Type 0) (P : R →
   some_keeps None s t h = h
   some_keeps (Some text) s t h = k.collects (not s.gave_up) text s.rest t h
 
-  leaf_done : (s : Budgeted R) (done : Done R) → IsKeptAfter T K P done → IsKeptAfter T K Kept (done_with e s done)
+  pub leaf_done : (s : Budgeted R) (done : Done R) → IsKeptAfter T K P done → IsKeptAfter T K Kept (done_with e s done)
   unfolding done_with with_rest Kept
   leaf_done s (gives r) h = h
   leaf_done s (calls lines args r) h = h
   leaf_done s (repeats condition lines r) h = h
 
-  closed_done : (s : Budgeted R) (done : Done R) → IsKeptAfter T K P done → IsKeptAfter T K Kept (closed_with e s done)
+  pub closed_done : (s : Budgeted R) (done : Done R) → IsKeptAfter T K P done → IsKeptAfter T K Kept (closed_with e s done)
   unfolding closed_with with_rest Kept
   closed_done s (gives r) h = h
   closed_done s (calls lines args r) h = h.2
@@ -97,15 +97,15 @@ module _ {R : Type 0} (T : List ℕ → Type 0) (K : Kind → Type 0) (P : R →
   tested_keeps true kind condition s a t h = h
   tested_keeps false kind condition s a t h = k.turns kind condition s.rest a t h
 
-  turn_keeps : (kind : Kind) (condition : List ℕ) (s : Budgeted R) → K kind → T condition → Kept s → Kept ((language e).turn kind condition s).1
+  pub turn_keeps : (kind : Kind) (condition : List ℕ) (s : Budgeted R) → K kind → T condition → Kept s → Kept ((language e).turn kind condition s).1
   unfolding language turn
   turn_keeps kind condition s a t h = let c = charge e s in tested_keeps c.gave_up kind condition c a t (charge_keeps s h)
 
   -- what comes of leaves and loops keeps it, where so many more sources may run
-  DoneKeeps : ℕ → Type 0
+  pub DoneKeeps : ℕ → Type 0
   DoneKeeps d = (kind : Kind) (done : Done (Budgeted R)) → K kind → IsKeptAfter T K Kept done → Kept (done_at (language e) d kind done)
 
-  parts_keep : (d : ℕ) (kind : Kind) → K kind → DoneKeeps d → KeepsParts T (meaning_at (language e) d kind) Kept
+  pub parts_keep : (d : ℕ) (kind : Kind) → K kind → DoneKeeps d → KeepsParts T (meaning_at (language e) d kind) Kept
   unfolding meaning_at meaning_by language meaning test with_rest Kept DoneKeeps
   parts_keep d kind a done_keeps = record {
     meets = meet_keeps;
@@ -121,7 +121,7 @@ module _ {R : Type 0} (T : List ℕ → Type 0) (K : Kind → Type 0) (P : R →
         done_keeps kind (closed_with e s done) a (closed_done s done (k.closes (not s.gave_up) (is_some d) s.rest h));
   }
 
-  lines_keep : (d : ℕ) (kind : Kind) → K kind → KeepsLines T (meaning_at (language e) d kind) Kept
+  pub lines_keep : (d : ℕ) (kind : Kind) → K kind → KeepsLines T (meaning_at (language e) d kind) Kept
   unfolding meaning_at meaning_by language meaning
   lines_keep d kind a = record {
     begins = λ line s t h. begin_keeps kind s h;
@@ -131,7 +131,7 @@ module _ {R : Type 0} (T : List ℕ → Type 0) (K : Kind → Type 0) (P : R →
     keeps = λ line s t h. some_keeps (Some line) s t h;
   }
 
-  body_keeps : (d : ℕ) (kind : Kind) → K kind → DoneKeeps d → (lines : List (List ℕ)) (s : Budgeted R) → AreSuch T lines → Kept s
+  pub body_keeps : (d : ℕ) (kind : Kind) → K kind → DoneKeeps d → (lines : List (List ℕ)) (s : Budgeted R) → AreSuch T lines → Kept s
       → Kept (run_body (language e) (meaning_at (language e) d kind) lines s)
   unfolding run_body finish_at language with_rest Kept
   body_keeps d kind a done_keeps lines s l h =
@@ -141,7 +141,7 @@ module _ {R : Type 0} (T : List ℕ → Type 0) (K : Kind → Type 0) (P : R →
       k.finish after.place.region after.place.levels.in_loop after.state.gave_up after.state.rest
       (run_keeps T m Kept (parts_keep d kind a done_keeps) leaves (lines_keep d kind a) lines from l h)
 
-  all_keep : (d : ℕ) → DoneKeeps d
+  pub all_keep : (d : ℕ) → DoneKeeps d
   unfolding DoneKeeps done_at done_by meaning_at
   all_keep zero kind (gives s) a h = h
   all_keep zero kind (calls lines args s) a h = h.2

@@ -119,13 +119,13 @@ module _ {S : Type 0} (T : List ℕ → Type 0) (m : Meaning (List ℕ) S) (P : 
   unfolding met
   met_keeps spot s h = meet_keeps (reached spot) s h
 
-  value_keeps : (branch : Branch (List ℕ)) (bit : Bool) (s : S) → P s → P (value m branch bit s).1
+  pub value_keeps : (branch : Branch (List ℕ)) (bit : Bool) (s : S) → P s → P (value m branch bit s).1
   unfolding value
   value_keeps (If condition) bit s h = k.tests condition s h
   value_keeps (IfElse condition) bit s h = k.tests condition s h
   value_keeps Else bit s h = h
 
-  leaf_keeps : (is_met : Bool) (text : List ℕ) (s : S) → T text → P s → P (leaf_if m is_met text s)
+  pub leaf_keeps : (is_met : Bool) (text : List ℕ) (s : S) → T text → P s → P (leaf_if m is_met text s)
   unfolding leaf_if
   leaf_keeps true text s t h = k.gives text s t h
   leaf_keeps false text s t h = h
@@ -200,7 +200,7 @@ module _ {S : Type 0} (T : List ℕ → Type 0) (m : Meaning (List ℕ) S) (P : 
     collected_keeps true open_blocks line s t h = n.collects open_blocks line s t h
     collected_keeps false open_blocks line s t h = h
 
-    begun_keeps : (line : List ℕ) (l : Levels) (s : S) → T line → P s → P (begin_line m line l s)
+    pub begun_keeps : (line : List ℕ) (l : Levels) (s : S) → T line → P s → P (begin_line m line l s)
     unfolding begin_line
     begun_keeps line l s t h = collected_keeps l.in_loop l.skipped line (m.begins line s) t (n.begins line s t h)
 
@@ -209,7 +209,7 @@ module _ {S : Type 0} (T : List ℕ → Type 0) (m : Meaning (List ℕ) S) (P : 
     inside_keeps true o line l s t h = kept_keeps l.in_loop line (m.ends_region o line s) t (n.ends_region o line s t h)
     inside_keeps false o line l s t h = kept_keeps l.in_loop line (m.reads o line s) t (n.reads o line s t h)
 
-    from_keeps : (o : Option Opened) (line : List ℕ) (l : Levels) (s : S) → T line → P s → P (step_from m (λ t. t) o line l s).state
+    pub from_keeps : (o : Option Opened) (line : List ℕ) (l : Levels) (s : S) → T line → P s → P (step_from m (λ t. t) o line l s).state
     unfolding step_from
     from_keeps None line l s t h = parts_keep (atoms line) (at_line l) (begin_line m line l s) (leaves line t) (begun_keeps line l s t h)
     from_keeps (Some o) line l s t h = inside_keeps (is_ending o.ending line) o line l s t h

@@ -10,3 +10,5 @@ pub mod OnLineLemmas
 pub mod SpendLemmas
 pub mod TurnLemmas
 pub mod DepthLemmas
+pub mod SameEffects
+pub mod SameLemmas

@@ -10,6 +10,11 @@ pub data Kind : Type 0 where
   page : Kind
   body : Option (List (List ℕ)) → Kind
 
+-- the arguments of the innermost macro; on the page none runs
+abbrev pub arguments_of : Kind → Option (List (List ℕ))
+arguments_of page = None
+arguments_of (body args) = args
+
 -- the body of a loop has the arguments of the source around it
 unfoldable pub inner : Kind → Kind
 inner page = body None

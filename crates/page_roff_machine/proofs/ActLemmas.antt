@@ -30,7 +30,7 @@ use Rattle.page_roff_language.specs.Measures.{HasMeasure, IsOnLine}
 use Rattle.page_roff_language.specs.Budgets.{Budgeted, meaning, language, end_line}
 use Rattle.page_roff_effects.specs.declared.commands.ProductKind.{ProductKind}
 use Rattle.page_roff_effects.specs.declared.commands.ProductKind.TheVariants as kinds
-use Rattle.page_roff_effects.specs.Acting.{IfCalled, IsCallable, IfRepeated, IsRepeatable}
+use Rattle.page_roff_effects.specs.Acting.{IfCalled, IsCallable, IfRepeated, IsRepeatable, acting_effects, measured}
 use Rattle.page_roff_effects.specs.Effects.{effects}
 use Rattle.page_roff_effects.specs.States.{State, says}
 use Rattle.page_roff_stack.specs.declared.next.Next.{Next}
@@ -53,10 +53,10 @@ use Rattle.page_roff_machine.proofs.FrameLemmas.{same_source}
 
 module _ (output : Output) (d : ℕ) (kind : Kind) where
   m : Meaning (List ℕ) (Budgeted State)
-  m = meaning_at (language (effects output)) d kind
+  m = meaning_at (language (acting_effects output)) d kind
 
   p : Meaning (List ℕ) (Budgeted State)
-  p = meaning (effects output) kind
+  p = meaning (acting_effects output) kind
 
   met_same : (r : Reached) (s : Budgeted State) → meet_as m r s ≡ meet_as p r s
   unfolding m p meaning_at meaning_by language meet_as
@@ -80,7 +80,7 @@ module _ (output : Output) (d : ℕ) (kind : Kind) where
       ap (answer_after m branch bit) (met_same r s) ∙ answer_same_if branch bit (meet_as p r s).0 (meet_as p r s).1
 
   refuse_same : (way : Way) (h : Head (List ℕ)) (s : Budgeted State)
-      → refuse_if m way h s ≡ refuse_if (meaning (effects output) page) way (record { column = h.column; branch = Else }) s
+      → refuse_if m way h s ≡ refuse_if (meaning (acting_effects output) page) way (record { column = h.column; branch = Else }) s
   unfolding m meaning_at meaning_by language meaning effects refuse_if
   refuse_same Runs h s = refl
   refuse_same Skips h s = refl
@@ -139,8 +139,8 @@ module _ (output : Output) (d : ℕ) (kind : Kind) where
       ∙ ap (λ (q : Bool × Budgeted State). let a = opens_after p h q in (loop_spot a.0 spot, a.1)) (met_same (reached spot) s)
 
   loop_same_if : (may_run is_run : Bool) (h : LoopHead (List ℕ)) (f : Frame) (under : List Frame) (s : Budgeted State) → is_some (depth under) ≡ may_run
-      → machine.loop_if (language (effects output)) m is_run h f under s
-      ≡ leaf_next (language (effects output)) may_run f under (closes_after (language (effects output)) may_run (opens_if p h is_run s))
+      → machine.loop_if (language (acting_effects output)) m is_run h f under s
+      ≡ leaf_next (language (acting_effects output)) may_run f under (closes_after (language (acting_effects output)) may_run (opens_if p h is_run s))
   unfolding machine.loop_if loop_next leaf_next m p meaning_at meaning_by language
   loop_same_if true true h f under s e = rw e refl
   loop_same_if false true h f under s e = rw e refl
@@ -149,7 +149,7 @@ module _ (output : Output) (d : ℕ) (kind : Kind) where
 
   -- the end of a block
   end_same : (ended : Ended) (f : Frame) (under : List Frame) (s : Budgeted State)
-      → end_next (language (effects output)) m ended f under s ≡ end_next (language (effects output)) p ended f under s
+      → end_next (language (acting_effects output)) m ended f under s ≡ end_next (language (acting_effects output)) p ended f under s
   unfolding end_next m p meaning_at meaning_by language
   end_same endings.Block f under s = refl
   end_same endings.Loop f under s = refl
@@ -185,11 +185,11 @@ leaf_same l false false text f under s e = refl
 
 -- the step, from what was looked at
 pub step_next : (output : Output) (s : Stack) (x : Next (List ℕ) Opened) (state : Budgeted State) → x ≡ next_of s
-    → let l = language (effects output) in
+    → let l = language (acting_effects output) in
     next l (running s state) ≡ step_in l (meaning_at l (depth s.under) s.top.kind) x s.top.parts s.top.lines s.top s.under state
 unfolding step_of
 step_next output s x state e =
-    let l = language (effects output) in
+    let l = language (acting_effects output) in
     next_steps l s state
     ∙ ap (λ x. step_in l (meaning_at l (depth s.under) s.top.kind) x s.top.parts s.top.lines s.top s.under state) (sym e)
 
@@ -313,7 +313,7 @@ reached_in_loop spot e = rw e refl
 
 -- a source that was begun ends
 finish_same : (b : BudgetedActions) (begun : Bool) (region : Option Opened) (f : Frame) (s : Budgeted State)
-    → finish_if (language (effects (output_of b))) begun (end_of region f s) ≡ finished_in b begun region f.spot.levels.in_loop f.kind s
+    → finish_if (language (acting_effects (output_of b))) begun (end_of region f s) ≡ finished_in b begun region f.spot.levels.in_loop f.kind s
 unfolding finish_if finish_at
 finish_same b true region f s = refl
 finish_same b false region f s = refl
@@ -328,7 +328,7 @@ module _ {P S : Type 0} (left : P → S → List Message → Type 0) (old : Runn
   unfolding moved step_in part_next met at_part p meaning meet_as leaf_next language meaning_at meaning_by m
   decides_leaf text r may_call result e er em k a callable =
       let output = output_of old.doing in
-      let l = language (effects output) in
+      let l = language (acting_effects output) in
       let s = old.stack in
       let d = depth s.under in
       let f = past (after_part s.top.spot.levels) s.top in
@@ -343,7 +343,7 @@ module _ {P S : Type 0} (left : P → S → List Message → Type 0) (old : Runn
             step_next output s (Part (Leaf text)) state e
             ∙ ap (λ next. Some next) (leaf_same l may_call q.0 text f s.under q.1 (sym em))
             ∙ ap (λ (q : Bool × Budgeted State). Some (leaf_next l may_call f s.under (leaf_after l may_call s.top.kind text q)))
-            (met_same output d s.top.kind (reached s.top.spot) state ∙ ap (λ r. meet_as (meaning (effects output) s.top.kind) r state) (sym er))
+            (met_same output d s.top.kind (reached s.top.spot) state ∙ ap (λ r. meet_as (meaning (acting_effects output) s.top.kind) r state) (sym er))
             ∙ ap (λ done. Some (leaf_next l may_call f s.under done)) (a.state s.top.kind k [])
             ∙ ap (λ may_call. Some (leaf_next l may_call f s.under (done_as result new (map says a.notes)))) em;
         suits = can_call result may_call s new em callable;
@@ -358,7 +358,7 @@ module _ {P S : Type 0} (left : P → S → List Message → Type 0) (old : Runn
   unfolding moved step_in part_next met at_part p meaning meet_as language meaning_at meaning_by m
   decides_loop head r may_run result e er em k a repeatable =
       let output = output_of old.doing in
-      let l = language (effects output) in
+      let l = language (acting_effects output) in
       let s = old.stack in
       let d = depth s.under in
       let f = past (after_part s.top.spot.levels) s.top in
@@ -373,7 +373,7 @@ module _ {P S : Type 0} (left : P → S → List Message → Type 0) (old : Runn
             step_next output s (Part (Loop head)) state e
             ∙ ap (λ next. Some next) (loop_same_if output d s.top.kind may_run q.0 head f s.under q.1 (sym em))
             ∙ ap (λ (q : Bool × Budgeted State). Some (leaf_next l may_run f s.under (closes_after l may_run (opens_after (parts_of old.doing s.top.kind) head q))))
-            (met_same output d s.top.kind (reached s.top.spot) state ∙ ap (λ r. meet_as (meaning (effects output) s.top.kind) r state) (sym er))
+            (met_same output d s.top.kind (reached s.top.spot) state ∙ ap (λ r. meet_as (meaning (acting_effects output) s.top.kind) r state) (sym er))
             ∙ ap (λ done. Some (leaf_next l may_run f s.under done)) (a.state s.top.kind k [])
             ∙ ap (λ may_run. Some (leaf_next l may_run f s.under (done_as result new (map says a.notes)))) em;
         suits = can_repeat result may_run s new em repeatable;
@@ -588,14 +588,14 @@ module _ {P S : Type 0} (left : P → S → List Message → Type 0) (old : Runn
       state_after (answer_with result) a t
       (kind_after left old.doing mid a.setting)
       (λ kind k given.
-      ap (λ (output : Output). (language (effects output)).turn kind condition (state_in given mid))
+      ap (λ (output : Output). (language (acting_effects output)).turn kind condition (state_in given mid))
       (sym (ap (λ setting. setting.output) a.setting)))
 
   turn_step : (region : Option Opened) (begun in_loop : Bool) (condition : List ℕ) (result : Bool)
       → Turn region begun condition ≡ next_of old.stack → in_loop ≡ old.stack.top.spot.levels.in_loop
       → IsIn old.stack.top.kind old.doing
       → (a : Answers left old.doing out (λ kind s. turned_in old.doing condition kind (finished_in old.doing begun region in_loop kind s)) result new out_new)
-      → next (language (effects (output_of old.doing))) (running old.stack (state_in [] old.doing))
+      → next (language (acting_effects (output_of old.doing))) (running old.stack (state_in [] old.doing))
       ≡ turn_if result old.stack.top old.stack.under (state_in (map says a.notes) new)
   unfolding step_in
   turn_step region begun in_loop condition result e el k a =
@@ -699,7 +699,7 @@ module _ {P S : Type 0} (left : P → S → List Message → Type 0) (old collec
       state_after state_after a c.does
       (λ kind k. kind_after left old.doing mid a.setting kind k.setting)
       (λ kind k given.
-      ap (λ (output : Output). collect_if (meaning (effects output) kind) l.in_loop l.skipped line (state_in given mid))
+      ap (λ (output : Output). collect_if (meaning (acting_effects output) kind) l.in_loop l.skipped line (state_in given mid))
       (sym (ap (λ setting. setting.output) a.setting)))
 
   pub begins : (is_page_now : Bool) (stack : Stack)

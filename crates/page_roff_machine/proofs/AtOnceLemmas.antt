@@ -16,10 +16,10 @@ use Rattle.page_roff_language.specs.Budgets.{Budgeted, language, meaning, meet, 
 use Rattle.page_roff_language.specs.Budgets as budgets
 use Rattle.page_roff_language.specs.Counting.{Budget, budgeted, begun, renewed}
 use Rattle.page_roff_language.specs.Measures.{HasMeasure, IsFirst}
-use Rattle.page_roff_effects.specs.Acting.{with_number, with_arguments}
-use Rattle.page_roff_effects.specs.Effects.{effects, setting_of, done_after, done_by}
+use Rattle.page_roff_effects.specs.Acting.{with_number, with_arguments, acting_effects, acting_setting, measured, ActingSetting}
+use Rattle.page_roff_effects.specs.Effects.{effects, done_after, done_by}
 use Rattle.page_roff_effects.specs.Leaves.{leaf_outcome}
-use Rattle.page_roff_effects.specs.States.{Memory, State, Setting, Given, takes, line_product, numbered}
+use Rattle.page_roff_effects.specs.States.{Memory, State, Given, takes, line_product, numbered}
 use Rattle.page_roff_stack.specs.Changes.{is_page, page_line}
 use Rattle.page_roff_stack.specs.Stacks.{Stack, is_nothing, next_of}
 use Rattle.page_roff_stack.specs.Stacks as stacks
@@ -48,7 +48,7 @@ abbrev alone : Frame → Budgeted State → Running (Budgeted State)
 alone f s = record { top = f; under = []; state = s }
 
 line_begins : (output : Output) (line : List ℕ) (bit : Bool) (outer : List Bool) (m : Memory) (count : ℕ)
-    → next (language (effects output)) (at_page line (at_levels None (level bit outer false 0) (state_with count m [])))
+    → next (language (acting_effects output)) (at_page line (at_levels None (level bit outer false 0) (state_with count m [])))
     ≡ Some (alone (frame_at (atoms line) (at_line (level bit outer false 0))) (state_with (count + 1) m []))
 unfolding next next_in line_next at_page at_line begin_line collect_if meaning_at meaning_by language meaning budgets.begin_line
 line_begins output line bit outer m count = refl
@@ -59,35 +59,35 @@ given_next l true f s = refl
 given_next l false f s = refl
 
 line_given : (output : Output) (line : List ℕ) (m : Memory) (count : ℕ) (taken : Line) (may_call : Bool)
-    → leaf_outcome (setting_of output page) may_call line m ≡ record { notes = []; product = line_product taken; memory = m }
-    → (language (effects output)).leaf may_call page line (state_with count m []) ≡ gives (state_with count m (takes taken ∷ []))
+    → leaf_outcome (measured (acting_setting output page)) may_call line m ≡ record { notes = []; product = line_product taken; memory = m }
+    → (language (acting_effects output)).leaf may_call page line (state_with count m []) ≡ gives (state_with count m (takes taken ∷ []))
 unfolding language effects done_with done_after done_by with_rest
 line_given output line m count taken may_call e = rw e refl
 
 leaf_taken : (output : Output) (line : List ℕ) (bit : Bool) (outer : List Bool) (m : Memory) (count : ℕ) (taken : Line)
-    → ((may_call : Bool) → leaf_outcome (setting_of output page) may_call line m ≡ record { notes = []; product = line_product taken; memory = m })
-    → next (language (effects output)) (alone (frame_at (Leaf line ∷ []) (at_line (level bit outer false 0))) (state_with count m []))
+    → ((may_call : Bool) → leaf_outcome (measured (acting_setting output page)) may_call line m ≡ record { notes = []; product = line_product taken; memory = m })
+    → next (language (acting_effects output)) (alone (frame_at (Leaf line ∷ []) (at_line (level bit outer false 0))) (state_with count m []))
     ≡ Some (alone (frame_at [] (after_part (level bit outer false 0))) (state_with count m (takes taken ∷ [])))
 unfolding next next_in part_next met meet_as reached reached_in reached_from reached_if at_line at_part meaning_at meaning_by language meaning meet whether_run leaf_if
 leaf_taken output line bit outer m count taken e =
-    let l = language (effects output) in
+    let l = language (acting_effects output) in
     let b = is_some (depth []) in
     let f = frame_at [] (after_part (level bit outer false 0)) in
     ap (λ (d : Done (Budgeted State)). Some (leaf_next l b f [] d)) (line_given output line m count taken b (e b))
     ∙ ap (λ (r : Running (Budgeted State)). Some r) (given_next l b f (state_with count m (takes taken ∷ [])))
 
-nothing_left : (output : Output) (spot : Spot) (s : Budgeted State) → next (language (effects output)) (alone (frame_at [] spot) s) ≡ None
+nothing_left : (output : Output) (spot : Spot) (s : Budgeted State) → next (language (acting_effects output)) (alone (frame_at [] spot) s) ≡ None
 unfolding next next_in source_next
 nothing_left output spot s = refl
 
 run_leaf : (output : Output) (line : List ℕ) (bit : Bool) (outer : List Bool) (m : Memory) (count : ℕ) (taken : Line)
     → atoms line ≡ Leaf line ∷ []
-    → ((may_call : Bool) → leaf_outcome (setting_of output page) may_call line m ≡ record { notes = []; product = line_product taken; memory = m })
-    → run_page (language (effects output)) (line ∷ []) (at_levels None (level bit outer false 0) (state_with count m []))
+    → ((may_call : Bool) → leaf_outcome (measured (acting_setting output page)) may_call line m ≡ record { notes = []; product = line_product taken; memory = m })
+    → run_page (language (acting_effects output)) (line ∷ []) (at_levels None (level bit outer false 0) (state_with count m []))
     ≡ at_levels None (level bit outer false 0) (state_with (count + 1) m (takes taken ∷ []))
 unfolding stands_at after_part
 run_leaf output line bit outer m count taken ea eo =
-    let l = language (effects output) in
+    let l = language (acting_effects output) in
     let at = at_levels None (level bit outer false 0) (state_with count m []) in
     let one = alone (frame_at (Leaf line ∷ []) (at_line (level bit outer false 0))) (state_with (count + 1) m []) in
     let last = alone (frame_at [] (after_part (level bit outer false 0))) (state_with (count + 1) m (takes taken ∷ [])) in
@@ -121,11 +121,11 @@ takes_line old new line number idle sound h =
     let levels = old.stack.top.spot.levels in
     let count = old.doing.budget.taken in
     let given = takes taken ∷ [] in
-    let es : old.doing.actions.setting ≡ setting_of output page =
-    sound.setting ∙ ap (setting_of output) (page_kind old.stack.top.kind h.outside.page) in
+    let es : old.doing.actions.setting ≡ acting_setting output page =
+    sound.setting ∙ ap (acting_setting output) (page_kind old.stack.top.kind h.outside.page) in
     let el = levels_are levels h.outside.loop h.outside.skipped in
-    let eo : (may_call : Bool) → leaf_outcome (setting_of output page) may_call line m ≡ record { notes = []; product = line_product taken; memory = m } =
-    λ may_call. ap (λ (s : Setting). leaf_outcome s may_call line m) (sym es) ∙ h.taken.given may_call in
+    let eo : (may_call : Bool) → leaf_outcome (measured (acting_setting output page)) may_call line m ≡ record { notes = []; product = line_product taken; memory = m } =
+    λ may_call. ap (λ (s : ActingSetting). leaf_outcome (measured s) may_call line m) (sym es) ∙ h.taken.given may_call in
     let after : stands_after given (machine_of new) ≡ at_levels None (level levels.bit levels.outer false 0) (state_with (count + 1) m given) =
     ap (λ (s : Stack). standing s new.doing.budget new.doing.actions.memory given) h.stack
     ∙ ap (λ (b : Budget). standing old.stack b new.doing.actions.memory given) h.budget
@@ -134,10 +134,10 @@ takes_line old new line number idle sound h =
     let before : begun_at number (machine_of old) ≡ at_levels None (level levels.bit levels.outer false 0) (state_with count m []) =
     ap₂ (λ (region : Option Opened) (l : Levels). at_levels region l (state_with count m [])) h.outside.region el in
     record {
-      output = ap (λ (s : Setting). s.output) h.taken.setting;
+      output = ap (λ (s : ActingSetting). s.output) h.taken.setting;
       idle = ap (λ (s : Stack). is_nothing (next_of s)) h.stack ∙ idle;
       outcome = after ∙ sym (run_leaf output line levels.bit levels.outer m count taken h.taken.leaf eo)
-          ∙ sym (ap (run_page (language (effects output)) (line ∷ [])) before);
+          ∙ sym (ap (run_page (language (acting_effects output)) (line ∷ [])) before);
     }
 
 -- a line that is to come is not nothing

@@ -22,8 +22,8 @@ use Rattle.page_roff_language.specs.Counting.{Budget, budgeted, begun, charged_b
 use Rattle.page_roff_effects.specs.declared.commands.ProductKind.{ProductKind}
 use Rattle.page_roff_effects.specs.declared.commands.ProductKind.TheVariants as kinds
 use Rattle.page_roff_effects.specs.Acting as acting
-use Rattle.page_roff_effects.specs.Acting.{Acting, kind_of, Lends, IfRepeated}
-use Rattle.page_roff_effects.specs.Effects.{effects, setting_of, answer_of, turn_answer, test_outcome, tested_after, done_by, done_after, budget_outcome, end_of_block_outcome}
+use Rattle.page_roff_effects.specs.Acting.{Acting, kind_of, Lends, IfRepeated, acting_effects, acting_setting, measured, ActingSetting}
+use Rattle.page_roff_effects.specs.Effects.{effects, answer_of, turn_answer, test_outcome, tested_after, done_by, done_after, budget_outcome, end_of_block_outcome}
 use Rattle.page_roff_effects.specs.Leaves.{leaf_outcome}
 use Rattle.page_roff_effects.specs.LoopLines.{longer_if_some, loop_outcome, collect_outcome, close_outcome, condition_in, body_in}
 use Rattle.page_roff_buffers.specs.Calls.{Call, with_line}
@@ -160,7 +160,7 @@ module _ {P S : Type 0} (left : P → S → List Message → Type 0) where
     notes = (budget_outcome old.actions.memory).notes;
     came = d.came;
     state = λ kind k given.
-        charged_beyond (effects (output_of old)) old.budget.gave_up old.budget.left old.budget (record { memory = old.actions.memory; out = given }) h
+        charged_beyond (acting_effects (output_of old)) old.budget.gave_up old.budget.left old.budget (record { memory = old.actions.memory; out = given }) h
         ∙ acted (charged old.budget) old.actions.memory new given (budget_outcome old.actions.memory) eb d.memory refl;
   }
 
@@ -173,7 +173,7 @@ module _ {P S : Type 0} (left : P → S → List Message → Type 0) where
     notes = [];
     came = came_none left out;
     state = λ kind k given.
-        charged_within (effects (output_of old)) old.budget.gave_up old.budget.left old.budget (record { memory = old.actions.memory; out = given }) h
+        charged_within (acting_effects (output_of old)) old.budget.gave_up old.budget.left old.budget (record { memory = old.actions.memory; out = given }) h
         ∙ rw (eb, ea) (ap (λ more. budgeted (charged old.budget) (record { memory = old.actions.memory; out = more })) (sym (append-nil given)));
   }
 
@@ -196,7 +196,7 @@ module _ {P S : Type 0} (left : P → S → List Message → Type 0) where
     notes = [];
     came = came_none left out;
     state = λ kind k given.
-        begun_page (effects (output_of old)) kind old.budget (record { memory = old.actions.memory; out = given }) k.page
+        begun_page (acting_effects (output_of old)) kind old.budget (record { memory = old.actions.memory; out = given }) k.page
         ∙ rw (eb, ea) (ap (λ more. budgeted (begun old.budget) (record { memory = old.actions.memory; out = more })) (sym (append-nil given)));
   }
 
@@ -208,7 +208,7 @@ module _ {P S : Type 0} (left : P → S → List Message → Type 0) where
     notes = d.notes;
     came = d.came;
     state = λ kind k given.
-        begun_body (effects (output_of old)) kind (state_in given old) k.page ∙ d.state kind k.setting given;
+        begun_body (acting_effects (output_of old)) kind (state_in given old) k.page ∙ d.state kind k.setting given;
   }
 
   -- ---- whether a part is run
@@ -265,31 +265,31 @@ tested_as b m new given a result eb em er =
 module _ {P S : Type 0} (left : P → S → List Message → Type 0) where
   tests_as : (old new : BudgetedActions) (out out_new : S) (condition : Condition (List ℕ)) (result : Bool)
       → new.budget ≡ old.budget
-      → acting.Tests left old.actions out (answer_of old.actions.setting condition old.actions.memory) result new.actions out_new
-      → Answers left old out (λ kind s. test (effects (output_of old)) kind condition s) result new out_new
+      → acting.Tests left old.actions out (answer_of (measured old.actions.setting) condition old.actions.memory) result new.actions out_new
+      → Answers left old out (λ kind s. test (acting_effects (output_of old)) kind condition s) result new out_new
   unfolding test effects with_rest
   tests_as old new out out_new condition result eb t =
-      let a = answer_of old.actions.setting condition old.actions.memory in
+      let a = answer_of (measured old.actions.setting) condition old.actions.memory in
       record {
         setting = t.does.setting;
         notes = a.notes;
         came = t.does.came;
         state = λ kind k given.
-            ap (λ (setting : Setting).
-            answered old.budget (tested_after (record { memory = old.actions.memory; out = given }) (answer_of setting condition old.actions.memory))) (sym k)
+            ap (λ (setting : ActingSetting).
+            answered old.budget (tested_after (record { memory = old.actions.memory; out = given }) (answer_of (measured setting) condition old.actions.memory))) (sym k)
             ∙ tested_as old.budget old.actions.memory new given a result eb t.does.memory t.holds;
       }
 
   pub value_if : (old new : BudgetedActions) (out out_new : S) (condition : Condition (List ℕ)) (bit result : Bool)
       → new.budget ≡ old.budget
-      → acting.Tests left old.actions out (answer_of old.actions.setting condition old.actions.memory) result new.actions out_new
+      → acting.Tests left old.actions out (answer_of (measured old.actions.setting) condition old.actions.memory) result new.actions out_new
       → Answers left old out (value_in old (If condition) bit) result new out_new
   unfolding value meaning
   value_if old new out out_new condition bit result eb t = tests_as old new out out_new condition result eb t
 
   pub value_if_else : (old new : BudgetedActions) (out out_new : S) (condition : Condition (List ℕ)) (bit result : Bool)
       → new.budget ≡ old.budget
-      → acting.Tests left old.actions out (answer_of old.actions.setting condition old.actions.memory) result new.actions out_new
+      → acting.Tests left old.actions out (answer_of (measured old.actions.setting) condition old.actions.memory) result new.actions out_new
       → Answers left old out (value_in old (IfElse condition) bit) result new out_new
   unfolding value meaning
   value_if_else old new out out_new condition bit result eb t = tests_as old new out out_new condition result eb t
@@ -319,7 +319,7 @@ module _ {P S : Type 0} (left : P → S → List Message → Type 0) where
       })
       (kind_after old mid a.setting)
       (λ kind k given.
-      ap (λ (output : Output). let v = value (meaning (effects output) kind) branch bit (state_in given mid) in (Some v.0, v.1))
+      ap (λ (output : Output). let v = value (meaning (acting_effects output) kind) branch bit (state_in given mid) in (Some v.0, v.1))
       (sym (ap (λ setting. setting.output) a.setting)))
 
   pub answer_passed : (old new : BudgetedActions) (out out_new : S) (reached : Reached) (branch : Branch (List ℕ)) (bit : Bool)
@@ -370,29 +370,29 @@ module _ {P S : Type 0} (left : P → S → List Message → Type 0) where
   pub read_met : (old mid new : BudgetedActions) (out out_mid out_new : S) (is_page_now : Bool) (o : Opened) (line : List ℕ) (result : ProductKind)
       → Makes left old out (IsAt is_page_now old) (begun_in old) mid state_after out_mid
       → new.budget ≡ mid.budget
-      → acting.Gives left mid.actions out_mid (line_outcome mid.actions.setting o (o.is_run && not mid.budget.gave_up) line mid.actions.memory) result new.actions out_new
+      → acting.Gives left mid.actions out_mid (line_outcome (measured mid.actions.setting) o (o.is_run && not mid.budget.gave_up) line mid.actions.memory) result new.actions out_new
       → Makes left old out (IsAt is_page_now old) (read_in old o line) new (line_after result) out_new
   unfolding meaning read_line effects with_rest
   read_met old mid new out out_mid out_new is_page_now o line result a eb g =
-      let outcome = line_outcome mid.actions.setting o (o.is_run && not mid.budget.gave_up) line mid.actions.memory in
+      let outcome = line_outcome (measured mid.actions.setting) o (o.is_run && not mid.budget.gave_up) line mid.actions.memory in
       both left old mid new out out_mid out_new (IsAt is_page_now old) (IsAt is_page_now mid)
       (begun_in old)
-      (λ kind t. with_rest (effects (output_of old)) t ((effects (output_of old)).reads kind o (o.is_run && not t.gave_up) line t.rest))
-      (λ kind t. with_rest (effects (output_of mid)) t ((effects (output_of mid)).reads kind o (o.is_run && not t.gave_up) line t.rest))
+      (λ kind t. with_rest (acting_effects (output_of old)) t ((acting_effects (output_of old)).reads kind o (o.is_run && not t.gave_up) line t.rest))
+      (λ kind t. with_rest (acting_effects (output_of mid)) t ((acting_effects (output_of mid)).reads kind o (o.is_run && not t.gave_up) line t.rest))
       state_after (line_after result) a
       (record {
         setting = g.does.setting;
         notes = outcome.notes;
         came = g.does.came;
         state = λ kind k given.
-            ap (λ (setting : Setting). budgeted mid.budget (after (record { memory = mid.actions.memory; out = given })
-            (line_outcome setting o (o.is_run && not mid.budget.gave_up) line mid.actions.memory))) (sym k.setting)
+            ap (λ (setting : ActingSetting). budgeted mid.budget (after (record { memory = mid.actions.memory; out = given })
+            (line_outcome (measured setting) o (o.is_run && not mid.budget.gave_up) line mid.actions.memory))) (sym k.setting)
             ∙ line_acted mid.budget mid.actions.memory new given outcome result eb g.does.memory g.kind g.lends;
       })
       (run_after old mid a.setting is_page_now)
       (λ kind k given.
       ap (λ (output : Output). budgeted mid.budget (after (record { memory = mid.actions.memory; out = given })
-      (line_outcome (setting_of output kind) o (o.is_run && not mid.budget.gave_up) line mid.actions.memory)))
+      (line_outcome (measured (acting_setting output kind)) o (o.is_run && not mid.budget.gave_up) line mid.actions.memory)))
       (sym (ap (λ setting. setting.output) a.setting)))
 
   pub end_met : (old mid new : BudgetedActions) (out out_mid out_new : S) (is_page_now : Bool) (o : Opened)
@@ -405,8 +405,8 @@ module _ {P S : Type 0} (left : P → S → List Message → Type 0) where
       let outcome = end_outcome o (o.is_run && not mid.budget.gave_up) mid.actions.memory in
       both left old mid new out out_mid out_new (IsAt is_page_now old) (IsAt is_page_now mid)
       (begun_in old)
-      (λ kind t. with_rest (effects (output_of old)) t ((effects (output_of old)).ends_region kind o (o.is_run && not t.gave_up) [] t.rest))
-      (λ kind t. with_rest (effects (output_of mid)) t ((effects (output_of mid)).ends_region kind o (o.is_run && not t.gave_up) [] t.rest))
+      (λ kind t. with_rest (acting_effects (output_of old)) t ((acting_effects (output_of old)).ends_region kind o (o.is_run && not t.gave_up) [] t.rest))
+      (λ kind t. with_rest (acting_effects (output_of mid)) t ((acting_effects (output_of mid)).ends_region kind o (o.is_run && not t.gave_up) [] t.rest))
       state_after state_after a
       (record {
         setting = d.setting;
@@ -558,7 +558,7 @@ module _ {P S : Type 0} (left : P → S → List Message → Type 0) where
         notes = outcome.notes;
         came = g.does.came;
         state = λ kind k given.
-            loop_done (effects (output_of old)) old.budget (record { memory = old.actions.memory; out = given }) outcome.memory new given outcome.notes outcome.product result repeated
+            loop_done (acting_effects (output_of old)) old.budget (record { memory = old.actions.memory; out = given }) outcome.memory new given outcome.notes outcome.product result repeated
             eb g.does.memory g.kind h g.lends;
       }
 
@@ -568,11 +568,11 @@ module _ {P S : Type 0} (left : P → S → List Message → Type 0) where
       → Makes left old out (λ kind. IsIn kind old) (passed_in old may_run head reached) new (done_as result) out_new
   loop_whole old mid new out out_mid out_new reached may_run head result a c =
       both left old mid new out out_mid out_new (λ kind. IsIn kind old) (λ kind. IsIn kind mid)
-      (opened_in old head reached) (λ kind q. closes_after (language (effects (output_of old))) may_run q)
+      (opened_in old head reached) (λ kind q. closes_after (language (acting_effects (output_of old))) may_run q)
       (closed_in mid may_run) (answer_with true) (done_as result) a c
       (kind_after old mid a.setting)
       (λ kind k given.
-      ap (λ (output : Output). (language (effects output)).closes may_run (state_in given mid))
+      ap (λ (output : Output). (language (acting_effects output)).closes may_run (state_in given mid))
       (sym (ap (λ setting. setting.output) a.setting)))
 
   pub loop_not_met : (old new : BudgetedActions) (out out_new : S) (reached : Reached) (may_run : Bool) (head : LoopHead (List ℕ))
@@ -582,7 +582,7 @@ module _ {P S : Type 0} (left : P → S → List Message → Type 0) where
     setting = a.setting;
     notes = a.notes;
     came = a.came;
-    state = λ kind k given. ap (closes_after (language (effects (output_of old))) may_run) (a.state kind k given);
+    state = λ kind k given. ap (closes_after (language (acting_effects (output_of old))) may_run) (a.state kind k given);
   }
 
   -- what is collected
@@ -609,7 +609,7 @@ module _ {P S : Type 0} (left : P → S → List Message → Type 0) where
     setting = d.setting;
     notes = d.notes;
     came = d.came;
-    state = λ kind k given. ap (λ text. collect_some (effects (output_of old)) text (state_in given old)) (sym e) ∙ d.state kind k given;
+    state = λ kind k given. ap (λ text. collect_some (acting_effects (output_of old)) text (state_in given old)) (sym e) ∙ d.state kind k given;
   }
 
   pub collects_none : (old : BudgetedActions) (out : S) (open_blocks : ℕ) (line : List ℕ)
@@ -618,41 +618,41 @@ module _ {P S : Type 0} (left : P → S → List Message → Type 0) where
   unfolding meaning collect_some
   collects_none old out open_blocks line e =
       stays left old out (λ kind. IsIn kind old) (collected_in old open_blocks line) state_after
-      (λ kind k given. ap (λ text. collect_some (effects (output_of old)) text (state_in given old)) (sym e))
+      (λ kind k given. ap (λ text. collect_some (acting_effects (output_of old)) text (state_in given old)) (sym e))
 
   -- a turn
   turn_tests : (mid new : BudgetedActions) (out_mid out_new : S) (condition : List ℕ) (result : Bool)
       → mid.budget.gave_up ≡ false → new.budget ≡ mid.budget
-      → acting.Tests left mid.actions out_mid (turn_answer mid.actions.setting condition mid.actions.memory) result new.actions out_new
-      → Answers left mid out_mid (λ kind t. turn_by (effects (output_of mid)) t.gave_up kind condition t) result new out_new
+      → acting.Tests left mid.actions out_mid (turn_answer (measured mid.actions.setting) condition mid.actions.memory) result new.actions out_new
+      → Answers left mid out_mid (λ kind t. turn_by (acting_effects (output_of mid)) t.gave_up kind condition t) result new out_new
   unfolding turn_by effects with_rest
   turn_tests mid new out_mid out_new condition result h eb t =
-      let a = turn_answer mid.actions.setting condition mid.actions.memory in
+      let a = turn_answer (measured mid.actions.setting) condition mid.actions.memory in
       record {
         setting = t.does.setting;
         notes = a.notes;
         came = t.does.came;
         state = λ kind k given.
-            ap (λ gave_up. turn_by (effects (output_of mid)) gave_up kind condition (state_in given mid)) h
-            ∙ ap (λ (setting : Setting).
-            answered mid.budget (tested_after (record { memory = mid.actions.memory; out = given }) (turn_answer setting condition mid.actions.memory))) (sym k)
+            ap (λ gave_up. turn_by (acting_effects (output_of mid)) gave_up kind condition (state_in given mid)) h
+            ∙ ap (λ (setting : ActingSetting).
+            answered mid.budget (tested_after (record { memory = mid.actions.memory; out = given }) (turn_answer (measured setting) condition mid.actions.memory))) (sym k)
             ∙ tested_as mid.budget mid.actions.memory new given a result eb t.does.memory t.holds;
       }
 
   pub turn_given : (old mid new : BudgetedActions) (out out_mid out_new : S) (condition : List ℕ) (result : Bool)
       → Does left old out (charged_in old) mid out_mid
       → mid.budget.gave_up ≡ false → new.budget ≡ mid.budget
-      → acting.Tests left mid.actions out_mid (turn_answer mid.actions.setting condition mid.actions.memory) result new.actions out_new
+      → acting.Tests left mid.actions out_mid (turn_answer (measured mid.actions.setting) condition mid.actions.memory) result new.actions out_new
       → Answers left old out (turned_in old condition) result new out_new
   unfolding language turn
   turn_given old mid new out out_mid out_new condition result a h eb t =
       both left old mid new out out_mid out_new (λ kind. IsIn kind old) (λ kind. IsIn kind mid)
-      (charged_in old) (λ kind t. turn_by (effects (output_of old)) t.gave_up kind condition t)
-      (λ kind t. turn_by (effects (output_of mid)) t.gave_up kind condition t)
+      (charged_in old) (λ kind t. turn_by (acting_effects (output_of old)) t.gave_up kind condition t)
+      (λ kind t. turn_by (acting_effects (output_of mid)) t.gave_up kind condition t)
       state_after (answer_with result) a (turn_tests mid new out_mid out_new condition result h eb t)
       (kind_after old mid a.setting)
       (λ kind k given.
-      ap (λ (output : Output). turn_by (effects output) mid.budget.gave_up kind condition (state_in given mid))
+      ap (λ (output : Output). turn_by (acting_effects output) mid.budget.gave_up kind condition (state_in given mid))
       (sym (ap (λ setting. setting.output) a.setting)))
 
   pub turn_given_up : (old new : BudgetedActions) (out out_new : S) (condition : List ℕ)
@@ -665,8 +665,8 @@ module _ {P S : Type 0} (left : P → S → List Message → Type 0) where
     notes = a.notes;
     came = a.came;
     state = λ kind k given.
-        ap (λ (t : Budgeted State). turn_by (effects (output_of old)) t.gave_up kind condition t) (a.state kind k given)
-        ∙ ap (λ gave_up. turn_by (effects (output_of old)) gave_up kind condition (state_in (given ++ map says a.notes) new)) h;
+        ap (λ (t : Budgeted State). turn_by (acting_effects (output_of old)) t.gave_up kind condition t) (a.state kind k given)
+        ∙ ap (λ gave_up. turn_by (acting_effects (output_of old)) gave_up kind condition (state_in (given ++ map says a.notes) new)) h;
   }
 
   -- ---- lines that head nothing
@@ -678,7 +678,7 @@ module _ {P S : Type 0} (left : P → S → List Message → Type 0) where
     setting = a.setting;
     notes = a.notes;
     came = a.came;
-    state = λ kind k given. ap (leaf_after (language (effects (output_of old))) may_call kind text) (a.state kind k given);
+    state = λ kind k given. ap (leaf_after (language (acting_effects (output_of old))) may_call kind text) (a.state kind k given);
   }
 
   leaf_done : (e : Effects State) (b : Budget) (s : State) (m : Memory) (new : BudgetedActions) (given : List Given) (notes : List Message) (p : Product) (result : ProductKind)
@@ -705,28 +705,28 @@ module _ {P S : Type 0} (left : P → S → List Message → Type 0) where
   pub leaf_met : (old mid new : BudgetedActions) (out out_mid out_new : S) (reached : Reached) (may_call : Bool) (text : List ℕ) (result : ProductKind)
       → Answers left old out (met_in old reached) true mid out_mid
       → new.budget ≡ mid.budget
-      → acting.Gives left mid.actions out_mid (leaf_outcome mid.actions.setting may_call text mid.actions.memory) result new.actions out_new
+      → acting.Gives left mid.actions out_mid (leaf_outcome (measured mid.actions.setting) may_call text mid.actions.memory) result new.actions out_new
       → Makes left old out (λ kind. IsIn kind old) (leaf_in old may_call text reached) new (done_as result) out_new
   unfolding language effects done_after
   leaf_met old mid new out out_mid out_new reached may_call text result a eb g =
-      let outcome = leaf_outcome mid.actions.setting may_call text mid.actions.memory in
+      let outcome = leaf_outcome (measured mid.actions.setting) may_call text mid.actions.memory in
       both left old mid new out out_mid out_new (λ kind. IsIn kind old) (λ kind. IsIn kind mid)
-      (met_in old reached) (λ kind q. leaf_after (language (effects (output_of old))) may_call kind text q)
-      (λ kind s. (language (effects (output_of mid))).leaf may_call kind text s)
+      (met_in old reached) (λ kind q. leaf_after (language (acting_effects (output_of old))) may_call kind text q)
+      (λ kind s. (language (acting_effects (output_of mid))).leaf may_call kind text s)
       (answer_with true) (done_as result) a
       (record {
         setting = g.does.setting;
         notes = outcome.notes;
         came = g.does.came;
         state = λ kind k given.
-            ap (λ (setting : Setting). done_with (effects (output_of mid)) (state_in given mid)
-            (done_after (record { memory = mid.actions.memory; out = given }) (leaf_outcome setting may_call text mid.actions.memory))) (sym k)
-            ∙ leaf_done (effects (output_of mid)) mid.budget (record { memory = mid.actions.memory; out = given }) outcome.memory new given outcome.notes outcome.product result
+            ap (λ (setting : ActingSetting). done_with (acting_effects (output_of mid)) (state_in given mid)
+            (done_after (record { memory = mid.actions.memory; out = given }) (leaf_outcome (measured setting) may_call text mid.actions.memory))) (sym k)
+            ∙ leaf_done (acting_effects (output_of mid)) mid.budget (record { memory = mid.actions.memory; out = given }) outcome.memory new given outcome.notes outcome.product result
             eb g.does.memory g.kind g.lends;
       })
       (kind_after old mid a.setting)
       (λ kind k given.
-      ap (λ (output : Output). (language (effects output)).leaf may_call kind text (state_in given mid))
+      ap (λ (output : Output). (language (acting_effects output)).leaf may_call kind text (state_in given mid))
       (sym (ap (λ setting. setting.output) a.setting)))
 
 -- ---- the end of a block where none is open
@@ -756,7 +756,7 @@ module _ {P S : Type 0} (left : P → S → List Message → Type 0) where
     notes = (end_of_block_outcome old.actions.memory).notes;
     came = d.came;
     state = λ kind k given.
-        told_by (effects (output_of old)) kind old.budget.gave_up (state_in given old) (ap (λ page. not page && old.budget.gave_up) k.page ∙ h)
+        told_by (acting_effects (output_of old)) kind old.budget.gave_up (state_in given old) (ap (λ page. not page && old.budget.gave_up) k.page ∙ h)
         ∙ acted old.budget old.actions.memory new given (end_of_block_outcome old.actions.memory) eb d.memory refl;
   }
 
@@ -766,4 +766,4 @@ module _ {P S : Type 0} (left : P → S → List Message → Type 0) where
   unfolding meaning
   unopened_silent old out is_page_now h =
       stays left old out (IsAt is_page_now old) (unopened_in old) state_after
-      (λ kind k given. silent_by (effects (output_of old)) kind old.budget.gave_up (state_in given old) (ap (λ page. not page && old.budget.gave_up) k.page ∙ h))
+      (λ kind k given. silent_by (acting_effects (output_of old)) kind old.budget.gave_up (state_in given old) (ap (λ page. not page && old.budget.gave_up) k.page ∙ h))

@@ -11,16 +11,16 @@ use Rattle.page_roff_blocks.specs.declared.atoms.Branch.TheVariants.{Else}
 use Rattle.page_roff_blocks.specs.Levels.{after_part, guarded_by, bit_after, way_of, enter, open_loop, skip, leave, what_ends}
 use Rattle.page_roff_blocks.specs.Run.{refuse_if}
 use Rattle.page_roff_values.specs.Arguments.{arguments_in, lines_in}
-use Rattle.page_roff_language.specs.Languages.{Kind, page, body, gives, calls, Language, is_some}
+use Rattle.page_roff_language.specs.Languages.{arguments_of, Kind, page, body, gives, calls, Language, is_some}
 use Rattle.page_roff_language.specs.Machine.{Frame, entered, at_part, depth, leaf_next, end_next}
 use Rattle.page_roff_language.specs.Budgets.{Budgeted, meaning, language, with_rest}
 use Rattle.page_roff_effects.specs.declared.commands.ProductKind.{ProductKind}
 use Rattle.page_roff_effects.specs.declared.commands.ProductKind.TheVariants as kinds
 use Rattle.page_roff_effects.specs.Acting as acting
-use Rattle.page_roff_effects.specs.Acting.{Acting, IsCallable}
-use Rattle.page_roff_effects.specs.Effects.{effects, setting_of, block_outcome}
+use Rattle.page_roff_effects.specs.Acting.{Acting, IsCallable, acting_effects, acting_setting}
+use Rattle.page_roff_effects.specs.Effects.{effects, block_outcome}
 use Rattle.page_roff_effects.specs.States.{State, Given, says, takes}
-use Rattle.page_roff_stack.specs.Changes.{past, in_region, next_line, in_turn, is_page, arguments_of}
+use Rattle.page_roff_stack.specs.Changes.{past, in_region, next_line, in_turn, is_page}
 use Rattle.page_roff_stack.specs.Stacks as stacks
 use Rattle.page_roff_stack.specs.Stacks.{Stack, running, with_top, call_of, next_of, is_part}
 use Rattle.page_roff_machine.specs.declared.budgeted_actions.BudgetedActions.{BudgetedActions}
@@ -48,9 +48,8 @@ unfolding leaf_next
 calls_next l true f under lines args s e = refl
 calls_next l false f under lines args s e = absurd (cc)
 
-pub setting_is : (output : Output) (kind : Kind) → record { output = output; arguments = arguments_of kind } ≡ setting_of output kind
-setting_is output page = refl
-setting_is output (body arguments) = refl
+pub setting_is : (output : Output) (kind : Kind) → record { output = output; arguments = arguments_of kind } ≡ acting_setting output kind
+setting_is output kind = refl
 
 pub shifts_to : (old new : Runner) (movement : Movement) (progress : Progress) (s : Stack)
     → new ≡ record { stack = s; doing = old.doing } → s.top.kind ≡ old.stack.top.kind → s.under ≡ old.stack.under → s.top.turning ≡ old.stack.top.turning
@@ -71,7 +70,7 @@ unfolding moved reached_with at_part after_part
 shifts_leaf old new e k =
     let s = with_top (past (after_part old.stack.top.spot.levels) old.stack.top) old.stack in
     shifts_to old new (moves.Leaf kinds.Nothing) More s e refl refl refl (same_kept old.stack.top (after_part old.stack.top.spot.levels) (λ h. h)) k
-    (λ given. ap (λ next. Some next) (gives_next (language (effects (output_of old.doing))) (is_some (depth old.stack.under)) s.top s.under (state_in given old.doing)))
+    (λ given. ap (λ next. Some next) (gives_next (language (acting_effects (output_of old.doing))) (is_some (depth old.stack.under)) s.top s.under (state_in given old.doing)))
 
 pub shifts_leaf_line : (old new : Runner) → new ≡ record { stack = with_top (past (after_part old.stack.top.spot.levels) old.stack.top) old.stack; doing = old.doing }
     → IsIn old.stack.top.kind old.doing → Shifts old (moves.Leaf kinds.Line) Line new
@@ -80,7 +79,7 @@ shifts_leaf_line old new e k =
     let s = with_top (past (after_part old.stack.top.spot.levels) old.stack.top) old.stack in
     shifts_to old new (moves.Leaf kinds.Line) Line s e refl refl refl (same_kept old.stack.top (after_part old.stack.top.spot.levels) (λ h. h)) k
     (λ given. ap (λ next. Some next)
-    (gives_next (language (effects (output_of old.doing))) (is_some (depth old.stack.under)) s.top s.under (state_in (given ++ (takes old.doing.actions.line ∷ [])) old.doing)))
+    (gives_next (language (acting_effects (output_of old.doing))) (is_some (depth old.stack.under)) s.top s.under (state_in (given ++ (takes old.doing.actions.line ∷ [])) old.doing)))
 
 pub shifts_call : (old mid new : Runner) → mid ≡ record { stack = with_top (past (after_part old.stack.top.spot.levels) old.stack.top) old.stack; doing = old.doing }
     → new ≡ called mid → IsCallable (is_some (depth old.stack.under)) old.doing.actions.call
@@ -96,7 +95,7 @@ shifts_call old mid new em e callable =
       setting = rw k (setting_is (output_of old.doing) (body (Some (arguments_in call.packed))));
       step = λ given.
           ap (λ next. Some next)
-          (calls_next (language (effects (output_of old.doing))) (is_some (depth old.stack.under)) s.top s.under (lines_in call.body) (arguments_in call.packed) (state_in given old.doing) callable.room)
+          (calls_next (language (acting_effects (output_of old.doing))) (is_some (depth old.stack.under)) s.top s.under (lines_in call.body) (arguments_in call.packed) (state_in given old.doing) callable.room)
           ∙ ap (reached_with More given) (sym k);
       body = record {
         begins = λ h. rw k (within_huge call.body callable.body);
@@ -278,18 +277,18 @@ module _ {P S : Type 0} (left : P → S → List Message → Type 0) where
   -- a block is entered, or skipped, with its value
   entered_step : (old : Runner) (way : Way) (value : Bool) (column : ℕ) (given : List Given) (doing : BudgetedActions) (given_then : List Given)
       → way ≡ way_of value (length old.stack.top.spot.levels.outer)
-      → refuse_if (meaning (effects (output_of old.doing)) page) way (record { column = column; branch = Else }) (state_in given old.doing) ≡ state_in given_then doing
+      → refuse_if (meaning (acting_effects (output_of old.doing)) page) way (record { column = column; branch = Else }) (state_in given old.doing) ≡ state_in given_then doing
       → moved (output_of old.doing) (moves.Block (Some value) column) old.stack given old.doing
       ≡ reached_with More given_then (record { stack = entered_block old way value; doing = doing })
   unfolding moved reached_with entered_block
   entered_step old way value column given doing given_then e h =
-      ap (λ way. Some (running (entered_block old way value) (refuse_if (meaning (effects (output_of old.doing)) page) way (record { column = column; branch = Else }) (state_in given old.doing)))) (sym e)
+      ap (λ way. Some (running (entered_block old way value) (refuse_if (meaning (acting_effects (output_of old.doing)) page) way (record { column = column; branch = Else }) (state_in given old.doing)))) (sym e)
       ∙ ap (λ state. Some (running (entered_block old way value) state)) h
 
   enters_quietly : (old new : Runner) (out : S) (way : Way) (value : Bool) (column : ℕ)
       → way ≡ way_of value (length old.stack.top.spot.levels.outer)
       → new ≡ record { stack = entered_block old way value; doing = old.doing }
-      → ((state : Budgeted State) → refuse_if (meaning (effects (output_of old.doing)) page) way (record { column = column; branch = Else }) state ≡ state)
+      → ((state : Budgeted State) → refuse_if (meaning (acting_effects (output_of old.doing)) page) way (record { column = column; branch = Else }) state ≡ state)
       → IsIn old.stack.top.kind old.doing → Moves left old out (moves.Block (Some value) column) More new out
   unfolding at_part entered_block
   enters_quietly old new out way value column ew e h k =
@@ -347,12 +346,12 @@ module _ {P S : Type 0} (left : P → S → List Message → Type 0) where
 
   ends_as : (old : Runner) (ended : Ended) (given : List Given) → ended ≡ what_ends old.stack.top.spot.levels
       → moved (output_of old.doing) moves.BlockEnd old.stack given old.doing
-      ≡ Some (end_next (language (effects (output_of old.doing))) (meaning (effects (output_of old.doing)) old.stack.top.kind) ended
+      ≡ Some (end_next (language (acting_effects (output_of old.doing))) (meaning (acting_effects (output_of old.doing)) old.stack.top.kind) ended
       (left_block old).top old.stack.under (state_in given old.doing))
   unfolding moved left_block
   ends_as old ended given e =
       ap (λ ended.
-      Some (end_next (language (effects (output_of old.doing))) (meaning (effects (output_of old.doing)) old.stack.top.kind) ended
+      Some (end_next (language (acting_effects (output_of old.doing))) (meaning (acting_effects (output_of old.doing)) old.stack.top.kind) ended
       (left_block old).top old.stack.under (state_in given old.doing))) (sym e)
 
   pub leaves_block : (old new : Runner) (out : S)

@@ -4,17 +4,16 @@ use Rattle.page_core_base.specs.Messages.{Message}
 use Rattle.page_core_base.specs.declared.page_settings.Output.{Output}
 use Rattle.page_roff_blocks.specs.Levels.{after_part}
 use Rattle.page_roff_values.specs.Arguments.{lines_in}
-use Rattle.page_roff_language.specs.Languages.{Kind, page, body, inner, repeats, Language, is_some}
+use Rattle.page_roff_language.specs.Languages.{arguments_of, Kind, page, body, inner, repeats, Language, is_some}
 use Rattle.page_roff_language.specs.Machine.{Frame, looped, at_part, depth, leaf_next, loop_next}
 use Rattle.page_roff_language.specs.Measures.{weight}
 use Rattle.page_roff_language.specs.Budgets.{Budgeted, language}
 use Rattle.page_roff_effects.specs.declared.commands.ProductKind.{ProductKind}
 use Rattle.page_roff_effects.specs.declared.commands.ProductKind.TheVariants as kinds
-use Rattle.page_roff_effects.specs.Acting.{IsRepeatable, IfRepeated}
-use Rattle.page_roff_effects.specs.Effects.{effects, setting_of}
+use Rattle.page_roff_effects.specs.Acting.{IsRepeatable, IfRepeated, acting_effects, acting_setting}
 use Rattle.page_roff_effects.specs.LoopLines.{first_line, condition_in, body_in}
 use Rattle.page_roff_effects.specs.States.{State, Given, says}
-use Rattle.page_roff_stack.specs.Changes.{past, arguments_of}
+use Rattle.page_roff_stack.specs.Changes.{past}
 use Rattle.page_roff_stack.specs.Stacks.{with_top, first_text}
 use Rattle.page_roff_stack.specs.Views.{unpacked}
 use Rattle.page_roff_machine.specs.declared.budgeted_actions.BudgetedActions.{BudgetedActions}
@@ -44,7 +43,7 @@ unfolding looped inner
 looped_in page condition lines = refl
 looped_in (body args) condition lines = refl
 
-setting_in : (output : Output) (kind : Kind) → setting_of output kind ≡ setting_of output (inner (body (arguments_of kind)))
+setting_in : (output : Output) (kind : Kind) → acting_setting output kind ≡ acting_setting output (inner (body (arguments_of kind)))
 unfolding inner
 setting_in output page = refl
 setting_in output (body args) = refl
@@ -68,8 +67,8 @@ module _ (mid new : Runner) (r : Repeats mid new) where
   pub repeats_setting : IsIn mid.stack.top.kind mid.doing → IsIn new.stack.top.kind new.doing
   unfolding looped
   repeats_setting k =
-      let e : setting_of (output_of mid.doing) mid.stack.top.kind ≡ setting_of (output_of mid.doing) (inner (body (unpacked r.packed))) =
-      setting_in (output_of mid.doing) mid.stack.top.kind ∙ ap (λ args. setting_of (output_of mid.doing) (inner (body args))) (sym r.arguments) in
+      let e : acting_setting (output_of mid.doing) mid.stack.top.kind ≡ acting_setting (output_of mid.doing) (inner (body (unpacked r.packed))) =
+      setting_in (output_of mid.doing) mid.stack.top.kind ∙ ap (λ args. acting_setting (output_of mid.doing) (inner (body args))) (sym r.arguments) in
       rw r.loop (k ∙ e)
 
   pub repeats_step : (l : Language (Budgeted State)) (may_run : Bool) (given : List Given) → may_run ≡ true
@@ -108,7 +107,7 @@ shifts_loop old mid new e rep c k =
     record {
       output = ap (λ (r : Runner). output_of r.doing) r.loop;
       setting = repeats_setting m new r k;
-      step = λ given. repeats_step m new r (language (effects (output_of old.doing))) (is_some (depth old.stack.under)) given c.room;
+      step = λ given. repeats_step m new r (language (acting_effects (output_of old.doing))) (is_some (depth old.stack.under)) given c.room;
       body = record { begins = within.begins; turns = within.turns };
       frames = λ h.
           repeats_frames m new r (is_some (depth old.stack.under)) c (same_kept old.stack.top (after_part old.stack.top.spot.levels) (λ h. h) h.0, h.1);
@@ -132,11 +131,11 @@ can_loop kinds.Loop P h e = h
 module _ {P S : Type 0} (left : P → S → List Message → Type 0) (old : Runner) (doing : BudgetedActions) (out out_new : S) (may_run : Bool) (em : may_run ≡ is_some (depth old.stack.under)) where
   closes_as : (product : ProductKind) (given : List Given) (a : Makes left old.doing out (λ kind. IsIn kind old.doing) (closed_in old.doing may_run) doing (done_as product) out_new)
       → IsIn old.stack.top.kind old.doing
-      → Some (loop_next (language (effects (output_of old.doing))) old.stack.top old.stack.under (state_in given old.doing))
-      ≡ Some (leaf_next (language (effects (output_of old.doing))) may_run old.stack.top old.stack.under (done_as product doing (given ++ map says a.notes)))
+      → Some (loop_next (language (acting_effects (output_of old.doing))) old.stack.top old.stack.under (state_in given old.doing))
+      ≡ Some (leaf_next (language (acting_effects (output_of old.doing))) may_run old.stack.top old.stack.under (done_as product doing (given ++ map says a.notes)))
   unfolding loop_next
   closes_as product given a k =
-      let l = language (effects (output_of old.doing)) in
+      let l = language (acting_effects (output_of old.doing)) in
       ap (λ may_run. Some (leaf_next l may_run old.stack.top old.stack.under (l.closes may_run (state_in given old.doing)))) (sym em)
       ∙ ap (λ done. Some (leaf_next l may_run old.stack.top old.stack.under done)) (a.state old.stack.top.kind k given)
 
@@ -154,7 +153,7 @@ module _ {P S : Type 0} (left : P → S → List Message → Type 0) (old : Runn
         came = a.came;
         step = λ given.
             closes_as kinds.Loop given a k
-            ∙ repeats_step m new r (language (effects (output_of old.doing))) may_run (given ++ map says a.notes) c.room;
+            ∙ repeats_step m new r (language (acting_effects (output_of old.doing))) may_run (given ++ map says a.notes) c.room;
         body = repeats_within m new r;
         frames = repeats_frames m new r may_run c;
         not_done = tt;
@@ -166,7 +165,7 @@ module _ {P S : Type 0} (left : P → S → List Message → Type 0) (old : Runn
       → Closes left old out (record { stack = old.stack; doing = doing }) out_new
   unfolding reached_with
   closes_none product e a k =
-      let l = language (effects (output_of old.doing)) in
+      let l = language (acting_effects (output_of old.doing)) in
       record {
         output = ap (λ setting. setting.output) a.setting;
         setting = rw a.setting k;

@@ -15,10 +15,11 @@ use Rattle.page_roff_language.proofs.MachineLemmas.{next_law, end_law, page_law}
 use Rattle.page_roff_language.specs.Counting.{renewed}
 use Rattle.page_roff_language.specs.Measures.{HasMeasure, AreOnLine, IsOnLine, IsFirst}
 use Rattle.page_roff_effects.specs.Acting as acting
-use Rattle.page_roff_effects.specs.Acting.{Acting, with_number, with_arguments}
-use Rattle.page_roff_effects.specs.Effects.{effects, in_front}
+use Rattle.page_roff_effects.specs.Acting.{Acting, with_number, with_arguments, acting_effects, measured}
+use Rattle.page_roff_effects.specs.Effects.{in_front}
 use Rattle.page_roff_stack.specs.Changes.{page_line}
 use Rattle.page_roff_effects.specs.States.{State, Given, says}
+use Rattle.page_roff_values.specs.Views.{units_of_bytes}
 use Rattle.page_roff_effects.proofs.GivenLemmas.{is_front}
 use Rattle.page_roff_stack.specs.declared.next.Next.{Next}
 use Rattle.page_roff_stack.specs.declared.next.Next.TheVariants as things
@@ -54,8 +55,8 @@ outcome_step old new given eo e =
     let l = language_of old in
     next_law l (running_of [] old) (running_of given new) e
     ∙ ap (λ (before : List Given). rest_of l (running_of before new)) (sym (append-nil given))
-    ∙ rest_front (in_front given) l (is_front (output_of old) given) (running_of [] new)
-    ∙ ap (λ (output : Output). over (in_front given) (rest_of (language (effects output)) (running_of [] new))) (sym eo)
+    ∙ rest_front (in_front given) l (is_front (units_of_bytes (output_of old)) given) (running_of [] new)
+    ∙ ap (λ (output : Output). over (in_front given) (rest_of (language (acting_effects output)) (running_of [] new))) (sym eo)
 
 pub outcome_end : (m : Machine) → next (language_of m) (running_of [] m) ≡ None → outcome_of m ≡ stands m
 unfolding outcome_of stands_at
@@ -89,7 +90,7 @@ pub outcome_line : (old new : Machine) (line : List ℕ) (at : At (Budgeted Stat
     → outcome_of new ≡ run_page (language_of old) (line ∷ []) at
 unfolding outcome_of
 outcome_line old new line at eo e =
-    ap (λ (output : Output). rest_of (language (effects output)) (running_of [] new)) eo
+    ap (λ (output : Output). rest_of (language (acting_effects output)) (running_of [] new)) eo
     ∙ ap (rest_of (language_of old)) e
     ∙ page_law (language_of old) line at
 

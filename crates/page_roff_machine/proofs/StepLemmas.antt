@@ -10,6 +10,7 @@ use Rattle.page_roff_blocks.specs.Levels.{outside, at_line, after_part}
 use Rattle.page_roff_values.specs.Arguments.{arguments_in}
 use Rattle.page_roff_language.specs.Languages.{body, finish_at}
 use Rattle.page_roff_language.specs.Machine.{next, next_in, source_next, body_next, entered, at_part}
+use Rattle.page_roff_effects.specs.Acting.{acting_effects, measured}
 use Rattle.page_roff_effects.specs.declared.commands.ProductKind.TheVariants as kinds
 use Rattle.page_roff_effects.specs.RegionLines.{finish_outcome}
 use Rattle.page_roff_stack.specs.Changes.{past}
@@ -46,25 +47,25 @@ work_of r = measure HUGE (running r.stack (state_in [] r.doing))
 -- ---- steps end
 
 pub falls : (old new : Runner) (given : List Given) → IsMeasured old → IsIn new.stack.top.kind new.doing → AreKept (frames_of new.stack) → IsBodyWithin old.stack new.stack
-    → next (language (effects (output_of old.doing))) (running old.stack (state_in [] old.doing)) ≡ Some (running new.stack (state_in given new.doing))
+    → next (language (acting_effects (output_of old.doing))) (running old.stack (state_in [] old.doing)) ≡ Some (running new.stack (state_in given new.doing))
     → (suc (work_of new) ≤ work_of old) × IsMeasured new
 unfolding measure HasMeasure credit
 falls old new given h k kept b e =
     let r = running old.stack (state_in [] old.doing) in
     let q = running new.stack (state_in given new.doing) in
     let within : HasBodyWithin HUGE r q = record { begins = b.begins; turns = b.turns } in
-    let f = next_falls (effects (output_of old.doing)) HUGE r q h.way within e in
+    let f = next_falls (acting_effects (output_of old.doing)) HUGE r q h.way within e in
     (f.0, record { setting = k; frames = kept; way = f.1 })
 
 first_measured : (old new : Runner) (given : List Given) → IsFirst (running old.stack (state_in [] old.doing)) → IsIn new.stack.top.kind new.doing → AreKept (frames_of new.stack)
-    → next (language (effects (output_of old.doing))) (running old.stack (state_in [] old.doing)) ≡ Some (running new.stack (state_in given new.doing))
+    → next (language (acting_effects (output_of old.doing))) (running old.stack (state_in [] old.doing)) ≡ Some (running new.stack (state_in given new.doing))
     → IsMeasured new
 unfolding HasMeasure
 first_measured old new given h k kept e =
-    record { setting = k; frames = kept; way = first_falls (effects (output_of old.doing)) (running old.stack (state_in [] old.doing)) (running new.stack (state_in given new.doing)) h e }
+    record { setting = k; frames = kept; way = first_falls (acting_effects (output_of old.doing)) (running old.stack (state_in [] old.doing)) (running new.stack (state_in given new.doing)) h e }
 
 measured_from : (old new : Runner) (given : List Given) → IsSound old → IsIn new.stack.top.kind new.doing → (AreKept (frames_of old.stack) → AreKept (frames_of new.stack)) → IsBodyWithin old.stack new.stack
-    → next (language (effects (output_of old.doing))) (running old.stack (state_in [] old.doing)) ≡ Some (running new.stack (state_in given new.doing))
+    → next (language (acting_effects (output_of old.doing))) (running old.stack (state_in [] old.doing)) ≡ Some (running new.stack (state_in given new.doing))
     → IsMeasured new
 measured_from old new given h k kept b e =
     elim h.way [

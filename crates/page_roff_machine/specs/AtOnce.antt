@@ -1,7 +1,7 @@
 -- A source line that is taken at once, as the code does it. Trust needs no reading of it. Source: roff(7), "LANGUAGE SYNTAX".
 use Rattle.std.specs.Prelude.{◌≡◌, ℕ, Bool, true, false, List, None}
 use Rattle.page_roff_language.specs.Counting.{begun}
-use Rattle.page_roff_effects.specs.Acting.{IsTaken, with_number}
+use Rattle.page_roff_effects.specs.Acting.{IsTaken, with_number, measured}
 use Rattle.page_roff_effects.specs.Leaves.{leaf_outcome}
 use Rattle.page_roff_stack.specs.Changes.{is_page}
 use Rattle.page_roff_stack.specs.Stacks.{Stack}
@@ -20,7 +20,7 @@ pub record TakesAtOnce (line : List ℕ) (number : ℕ) (old new : Runner) : Typ
   pub stack : new.stack ≡ old.stack
   pub budget : new.doing.budget ≡ begun old.doing.budget
   pub taken : let a = with_number number old.doing.actions in
-      IsTaken a line (λ may_call. leaf_outcome a.setting may_call line a.memory) new.doing.actions
+      IsTaken a line (λ may_call. leaf_outcome (measured a.setting) may_call line a.memory) new.doing.actions
 
 -- nothing was done; or the actions alone know the number of the line
 pub record Keeps (number : ℕ) (old new : Runner) : Type 0 where

@@ -15,8 +15,7 @@ use Rattle.page_roff_language.specs.Budgets.{Budgeted, charge, begin_line, meani
 use Rattle.page_roff_language.specs.Counting.{Budget, budgeted}
 use Rattle.page_roff_effects.specs.declared.commands.ProductKind.{ProductKind}
 use Rattle.page_roff_effects.specs.declared.commands.ProductKind.TheVariants as kinds
-use Rattle.page_roff_effects.specs.Acting.{Acting}
-use Rattle.page_roff_effects.specs.Effects.{effects, setting_of}
+use Rattle.page_roff_effects.specs.Acting.{Acting, acting_effects, acting_setting}
 use Rattle.page_roff_effects.specs.LoopLines.{condition_in, body_in}
 use Rattle.page_roff_effects.specs.States.{State, Given, says, takes}
 use Rattle.page_roff_stack.specs.Changes.{is_page}
@@ -31,7 +30,7 @@ state_in given b = budgeted b.budget (record { memory = b.actions.memory; out = 
 
 -- the arguments are those of the source that runs
 abbrev pub IsIn : Kind → BudgetedActions → Type 0
-IsIn kind b = b.actions.setting ≡ setting_of (output_of b) kind
+IsIn kind b = b.actions.setting ≡ acting_setting (output_of b) kind
 
 -- it is the page that runs, or not; and a page has few enough lines that no count is too large
 pub record IsAt (is_page_now : Bool) (b : BudgetedActions) (kind : Kind) : Type 0 where
@@ -74,13 +73,13 @@ Answers left old out does result new out_new =
 -- ---- what is done
 
 abbrev pub parts_of : BudgetedActions → Kind → Meaning (List ℕ) (Budgeted State)
-parts_of b kind = meaning (effects (output_of b)) kind
+parts_of b kind = meaning (acting_effects (output_of b)) kind
 
 abbrev pub charged_in : BudgetedActions → Kind → Budgeted State → Budgeted State
-charged_in b kind s = charge (effects (output_of b)) s
+charged_in b kind s = charge (acting_effects (output_of b)) s
 
 abbrev pub begun_in : BudgetedActions → Kind → Budgeted State → Budgeted State
-begun_in b kind s = begin_line (effects (output_of b)) kind s
+begun_in b kind s = begin_line (acting_effects (output_of b)) kind s
 
 abbrev pub met_in : BudgetedActions → Reached → Kind → Budgeted State → Bool × Budgeted State
 met_in b reached kind s = meet_as (parts_of b kind) reached s
@@ -121,7 +120,7 @@ opened_in b head reached kind s = opens_after (parts_of b kind) head (met_in b r
 
 -- a loop that is collected is whole
 abbrev pub closed_in : BudgetedActions → Bool → Kind → Budgeted State → Done (Budgeted State)
-closed_in b may_run kind s = (language (effects (output_of b))).closes may_run s
+closed_in b may_run kind s = (language (acting_effects (output_of b))).closes may_run s
 
 -- a loop without a block, where it is run
 abbrev pub closes_if : {S : Type 0} → Language S → Bool → Bool → S → Done S
@@ -132,7 +131,7 @@ abbrev pub closes_after : {S : Type 0} → Language S → Bool → Bool × S →
 closes_after l may_run q = closes_if l may_run q.0 q.1
 
 abbrev pub passed_in : BudgetedActions → Bool → LoopHead (List ℕ) → Reached → Kind → Budgeted State → Done (Budgeted State)
-passed_in b may_run head reached kind s = closes_after (language (effects (output_of b))) may_run (opened_in b head reached kind s)
+passed_in b may_run head reached kind s = closes_after (language (acting_effects (output_of b))) may_run (opened_in b head reached kind s)
 
 -- a text, and what of a line, belongs to a loop that is collected
 abbrev pub kept_in : BudgetedActions → List ℕ → Kind → Budgeted State → Budgeted State
@@ -143,7 +142,7 @@ collected_in b open_blocks line kind s = (parts_of b kind).collects open_blocks 
 
 -- a turn of a loop
 abbrev pub turned_in : BudgetedActions → List ℕ → Kind → Budgeted State → Bool × Budgeted State
-turned_in b condition kind s = (language (effects (output_of b))).turn kind condition s
+turned_in b condition kind s = (language (acting_effects (output_of b))).turn kind condition s
 
 -- a line that heads nothing, where it is run
 abbrev pub leaf_if : {S : Type 0} → Language S → Bool → Kind → List ℕ → Bool → S → Done S
@@ -155,7 +154,7 @@ leaf_after l may_call kind text q = leaf_if l may_call kind text q.0 q.1
 
 abbrev pub leaf_in : BudgetedActions → Bool → List ℕ → Reached → Kind → Budgeted State → Done (Budgeted State)
 leaf_in b may_call text reached kind s =
-    leaf_after (language (effects (output_of b))) may_call kind text (met_in b reached kind s)
+    leaf_after (language (acting_effects (output_of b))) may_call kind text (met_in b reached kind s)
 
 -- what came of it: a line that was taken is given, and a call or a loop is lent
 abbrev pub line_of : ProductKind → Acting → List Given
@@ -191,7 +190,7 @@ ended_kept_in b in_loop o line kind s = keep_if (parts_of b kind) in_loop line (
 
 -- a source that was begun, or a turn of it, ends
 abbrev pub finished_in : BudgetedActions → Bool → Option Opened → Bool → Kind → Budgeted State → Budgeted State
-finished_in b true region in_loop kind s = (language (effects (output_of b))).finish region in_loop s
+finished_in b true region in_loop kind s = (language (acting_effects (output_of b))).finish region in_loop s
 finished_in b false region in_loop kind s = s
 
 -- the end of a block where none is open

@@ -12,9 +12,8 @@ use Rattle.page_roff_language.specs.Languages.{Language, run_page}
 use Rattle.page_roff_language.specs.Machine.{Running, rest_of}
 use Rattle.page_roff_language.specs.Budgets.{Budgeted, language}
 use Rattle.page_roff_language.specs.Counting.{Budget, budgeted, first_budget}
-use Rattle.page_roff_effects.specs.Acting.{Acting}
+use Rattle.page_roff_effects.specs.Acting.{Acting, acting_effects}
 use Rattle.page_roff_effects.specs.Acting as acting
-use Rattle.page_roff_effects.specs.Effects.{effects}
 use Rattle.page_roff_effects.specs.RegionLines.{finish_outcome}
 use Rattle.page_roff_effects.specs.States.{Memory, State, Given, takes, numbered}
 use Rattle.page_roff_stack.specs.Stacks.{Stack, first_stack, running, next_of, is_nothing}
@@ -30,7 +29,7 @@ abbrev pub output_of : Machine → Output
 output_of m = m.actions.setting.output
 
 abbrev pub language_of : Machine → Language (Budgeted State)
-language_of m = language (effects (output_of m))
+language_of m = language (acting_effects (output_of m))
 
 -- as the definitions see it, where this was given before
 abbrev pub running_of : List Given → Machine → Running (Budgeted State)

@@ -11,18 +11,17 @@ use Rattle.page_roff_blocks.specs.Run.{refuse_if}
 use Rattle.page_roff_blocks.specs.Steps.{collect_if}
 use Rattle.page_roff_values.specs.Arguments.{arguments_in}
 use Rattle.page_roff_values.specs.Latches.{Came}
-use Rattle.page_roff_language.specs.Languages.{Kind, page, body, is_some}
+use Rattle.page_roff_language.specs.Languages.{arguments_of, Kind, page, body, is_some}
 use Rattle.page_roff_language.specs.Machine.{Frame, Running, Turning, depth, leaf_next, loop_next, end_next, next}
 use Rattle.page_roff_language.specs.Measures.{weight, turns_of}
 use Rattle.page_roff_language.specs.Budgets.{Budgeted, meaning, language}
 use Rattle.page_roff_effects.specs.declared.commands.ProductKind.{ProductKind}
 use Rattle.page_roff_effects.specs.declared.commands.ProductKind.TheVariants as kinds
-use Rattle.page_roff_effects.specs.Acting.{with_arguments, IsCallable, IsRepeatable}
-use Rattle.page_roff_effects.specs.Effects.{effects}
+use Rattle.page_roff_effects.specs.Acting.{with_arguments, IsCallable, IsRepeatable, acting_effects}
 use Rattle.page_roff_effects.specs.States.{State, Given, says, takes}
 use Rattle.page_roff_stack.specs.declared.next.Next.{Next}
 use Rattle.page_roff_stack.specs.declared.next.Next.TheVariants as things
-use Rattle.page_roff_stack.specs.Changes.{past, in_region, next_line, in_turn, arguments_of}
+use Rattle.page_roff_stack.specs.Changes.{past, in_region, next_line, in_turn}
 use Rattle.page_roff_stack.specs.Stacks as stacks
 use Rattle.page_roff_stack.specs.Stacks.{Stack, running, with_top, call_of, loop_of, next_of, is_part, opens_block, is_turn, may_end, branch_in, region_in}
 use Rattle.page_roff_stack.specs.Views.{unpacked}
@@ -49,7 +48,7 @@ block_spot branch (Some value) spot =
 abbrev pub refused : Output → Option Bool → ℕ → Spot → Budgeted State → Budgeted State
 refused output None column spot s = s
 refused output (Some value) column spot s =
-    refuse_if (meaning (effects output) page) (way_of value (length spot.levels.outer)) (record { column = column; branch = Else }) s
+    refuse_if (meaning (acting_effects output) page) (way_of value (length spot.levels.outer)) (record { column = column; branch = Else }) s
 
 -- in the block of a loop: collected, or passed over
 abbrev pub loop_spot : Bool → Spot → Spot
@@ -60,7 +59,7 @@ loop_spot false spot = after_part (skip spot.levels)
 unfoldable pub moved : Output → Movement → Stack → List Given → BudgetedActions
     → Option (Running (Budgeted State))
 moved output (moves.Leaf product) s given b =
-    Some (leaf_next (language (effects output)) (is_some (depth s.under)) (past (after_part s.top.spot.levels) s.top) s.under (done_as product b given))
+    Some (leaf_next (language (acting_effects output)) (is_some (depth s.under)) (past (after_part s.top.spot.levels) s.top) s.under (done_as product b given))
 moved output (moves.Guard value) s given b =
     Some (running (with_top (past (guard_spot (branch_in (next_of s)) value s.top.spot) s.top) s) (state_in given b))
 moved output (moves.Block value column) s given b =
@@ -69,7 +68,7 @@ moved output (moves.Block value column) s given b =
 moved output (moves.Loop is_run) s given b =
     Some (running (with_top (past (loop_spot is_run s.top.spot) s.top) s) (state_in given b))
 moved output moves.BlockEnd s given b =
-    Some (end_next (language (effects output)) (meaning (effects output) s.top.kind) (what_ends s.top.spot.levels)
+    Some (end_next (language (acting_effects output)) (meaning (acting_effects output) s.top.kind) (what_ends s.top.spot.levels)
     (past (after_part (leave s.top.spot.levels)) s.top) s.under (state_in given b))
 moved output (moves.Region is_run) s given b =
     Some (running (with_top (in_region (region_in is_run (next_of s)) s.top) s) (state_in given b))
@@ -194,7 +193,7 @@ pub record Decides {P S : Type 0} (left : P → S → List Message → Type 0) (
   pub setting : new.doing.actions.setting ≡ old.doing.actions.setting
   pub notes : List Message
   pub came : Came left out notes out_new
-  pub step : next (language (effects (output_of old.doing))) (running old.stack (state_in [] old.doing))
+  pub step : next (language (acting_effects (output_of old.doing))) (running old.stack (state_in [] old.doing))
       ≡ moved (output_of old.doing) result old.stack (map says notes) new.doing
   pub suits : Suits result old.stack new.doing
 
@@ -249,5 +248,5 @@ Moves left old out movement result new out_new =
 -- a loop that is collected was whole
 abbrev pub Closes : {P S : Type 0} → (P → S → List Message → Type 0) → Runner → S → Runner → S → Type 0
 Closes left old out new out_new =
-    Goes left old out (λ given. Some (loop_next (language (effects (output_of old.doing))) old.stack.top old.stack.under (state_in given old.doing)))
+    Goes left old out (λ given. Some (loop_next (language (acting_effects (output_of old.doing))) old.stack.top old.stack.under (state_in given old.doing)))
     More new out_new

@@ -5,7 +5,7 @@ use Rattle.page_roff_values.specs.Latches.{Came}
 use Rattle.page_roff_language.specs.Machine.{next}
 use Rattle.page_roff_language.specs.Measures.{HasMeasure, IsFirst}
 use Rattle.page_roff_language.specs.Budgets.{language}
-use Rattle.page_roff_effects.specs.Effects.{effects}
+use Rattle.page_roff_effects.specs.Acting.{acting_effects}
 use Rattle.page_roff_effects.specs.States.{says}
 use Rattle.page_roff_stack.specs.Stacks.{running, next_of, is_nothing}
 use Rattle.page_roff_machine.specs.declared.movements.Progress.{Progress}
@@ -44,7 +44,7 @@ pub record Steps {P S : Type 0} (left : P → S → List Message → Type 0) (ol
   pub setting : IsIn new.stack.top.kind new.doing
   pub notes : List Message
   pub came : Came left out notes out_new
-  pub step : next (language (effects (output_of old.doing))) (running old.stack (state_in [] old.doing))
+  pub step : next (language (acting_effects (output_of old.doing))) (running old.stack (state_in [] old.doing))
       ≡ reached_with result (map says notes) new
   pub body : IsBodyWithin old.stack new.stack
   pub frames : AreKept (frames_of old.stack) → AreKept (frames_of new.stack)

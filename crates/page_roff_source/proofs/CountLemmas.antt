@@ -1,10 +1,10 @@
 -- How many lines a source line gives and takes: helpers of proofs.
 use Rattle.std.proofs.Common.{◌≡◌, ℕ, ◌+◌, ◌*◌, ◌≤◌, Bool, true, false, List, [], ◌∷◌, ◌++◌, length, map, Option, Some, None, refl, ap, arith}
 use Rattle.page_core_base.specs.Messages.{Message}
-use Rattle.page_core_base.specs.declared.page_settings.Output.{Output}
 use Rattle.page_roff_heads.specs.declared.conditions.Condition.{Condition}
 use Rattle.page_roff_blocks.specs.Levels.{Opened}
 use Rattle.page_core_limits.specs.declared.TheConstants.{EXPAND, REREAD}
+use Rattle.page_roff_values.specs.Values.{units_of}
 use Rattle.page_roff_language.specs.Languages.{Kind, state_of}
 use Rattle.page_roff_language.specs.Spending.{Spends}
 use Rattle.page_roff_language.proofs.BudgetLemmas.{page_line_bound}
@@ -89,32 +89,32 @@ unfolding close_outcome line_count
 close_quiet true may_run m = text_quiet may_run m.body (with_body None m)
 close_quiet false may_run m = refl
 
-module _ (output : Output) where
+module _ (units : List ℕ → ℕ) where
   leaf_lines : (may_call : Bool) (kind : Kind) (text : List ℕ) (s : State)
-      → lines_out (state_of ((effects output).leaf may_call kind text s)) ≤ lines_out s + 1
+      → lines_out (state_of ((effects units).leaf may_call kind text s)) ≤ lines_out s + 1
   unfolding effects done_after
   leaf_lines may_call kind text s =
-      let o = leaf_outcome (setting_of output kind) may_call text s.memory in
+      let o = leaf_outcome (setting_of units kind) may_call text s.memory in
       let d = done_out o.product (after s o) in
       let f = few s o in
       omega (arith, d, f)
 
   tests_lines : (kind : Kind) (condition : Condition (List ℕ)) (s : State)
-      → lines_out ((effects output).tests kind condition s).1 ≤ lines_out s + 1
+      → lines_out ((effects units).tests kind condition s).1 ≤ lines_out s + 1
   unfolding effects tested_after
-  tests_lines kind condition s = few s (test_outcome (answer_of (setting_of output kind) condition s.memory) s.memory)
+  tests_lines kind condition s = few s (test_outcome (answer_of (setting_of units kind) condition s.memory) s.memory)
 
   reads_lines : (kind : Kind) (o : Opened) (line : List ℕ) (s : State)
-      → lines_out ((effects output).reads kind o true line s) ≤ lines_out s + 1
+      → lines_out ((effects units).reads kind o true line s) ≤ lines_out s + 1
   unfolding effects
-  reads_lines kind o line s = few s (line_outcome (setting_of output kind) o true line s.memory)
+  reads_lines kind o line s = few s (line_outcome (setting_of units kind) o true line s.memory)
 
   turns_lines : (kind : Kind) (condition : List ℕ) (s : State)
-      → lines_out ((effects output).turns kind condition s).1 ≤ lines_out s + 1
+      → lines_out ((effects units).turns kind condition s).1 ≤ lines_out s + 1
   unfolding effects tested_after
-  turns_lines kind condition s = few s (test_outcome (turn_answer (setting_of output kind) condition s.memory) s.memory)
+  turns_lines kind condition s = few s (test_outcome (turn_answer (setting_of units kind) condition s.memory) s.memory)
 
-  closes_lines : (is_run may_run : Bool) (s : State) → lines_out (state_of ((effects output).closes is_run may_run s)) ≡ lines_out s
+  closes_lines : (is_run may_run : Bool) (s : State) → lines_out (state_of ((effects units).closes is_run may_run s)) ≡ lines_out s
   unfolding effects done_after
   closes_lines is_run may_run s =
       let o = close_outcome is_run may_run s.memory in
@@ -124,7 +124,7 @@ module _ (output : Output) where
       omega (arith, d, a, n)
 
   -- a line that is taken gives one line for the set of macros at most
-  lines_spend : Spends lines_out 1 (effects output)
+  lines_spend : Spends lines_out 1 (effects units)
   unfolding effects budget_outcome block_outcome end_of_block_outcome line_outcome
   lines_spend = record {
     exhausts = λ s. quiet s (budget_outcome s.memory) refl;
@@ -134,7 +134,7 @@ module _ (output : Output) where
     unopened = λ s. quiet s (end_of_block_outcome s.memory) refl;
     opens_region = λ kind head is_run s. quiet s (head_outcome head is_run s.memory) (head_plain head is_run s.memory);
     reads = reads_lines;
-    passes = λ kind o line s. quiet s (line_outcome (setting_of output kind) o false line s.memory) refl;
+    passes = λ kind o line s. quiet s (line_outcome (setting_of units kind) o false line s.memory) refl;
     ends_region = λ kind o is_run line s. quiet s (end_outcome o is_run s.memory) (end_plain o is_run s.memory);
     opens_loop = λ h s. quiet s (loop_outcome h s.memory) (loop_plain h s.memory);
     collects = λ is_run text s. quiet s (collect_outcome is_run text s.memory) (collect_plain is_run text s.memory);
@@ -146,7 +146,7 @@ module _ (output : Output) where
 pub taken_bound : (e : Edge) (line : SourceLine) → (line_done e line).taken ≤ e.taken + (REREAD + 1)
 unfolding run_line before_line
 taken_bound e line =
-    let h = page_line_bound (effects e.output) line.text (before_line e line) in
+    let h = page_line_bound (effects (units_of e.output)) line.text (before_line e line) in
     omega (arith, h)
 
 before_none : (e : Edge) (line : SourceLine) → lines_out (before_line e line).state.rest ≡ 0
@@ -163,14 +163,14 @@ given_by given taken before none e f h = omega arith
 pub given_bound : (e : Edge) (line : SourceLine) → line_count (line_given e line) + e.taken ≤ (line_done e line).taken
 unfolding run_line lines_out
 given_bound e line =
-    let h = page_spends lines_out 1 (effects e.output) (lines_spend e.output) (line.text ∷ []) (before_line e line) in
+    let h = page_spends lines_out 1 (effects (units_of e.output)) (lines_spend (units_of e.output)) (line.text ∷ []) (before_line e line) in
     given_by (line_count (line_given e line)) e.taken _ _ (before_none e line) (taken_before e line) h
 
 pub expansions_bound : (e : Edge) (line : SourceLine)
     → (line_done e line).memory.expansions + EXPAND * e.taken ≤ EXPAND * (line_done e line).taken + e.memory.expansions
 unfolding run_line before_line
 expansions_bound e line =
-    page_spends expansions_of EXPAND (effects e.output) (spends e.output) (line.text ∷ []) (before_line e line)
+    page_spends expansions_of EXPAND (effects (units_of e.output)) (spends (units_of e.output)) (line.text ∷ []) (before_line e line)
 
 -- no source is around the page
 page_met : (e : Edge) (line : SourceLine) → AreMet (at_page line.text (before_line e line)).under
@@ -181,8 +181,8 @@ pub each_bound : (e : Edge) (line : SourceLine) (m n : Moment) → IsMomentOf e 
     → expansions_at n ≤ expansions_at m + EXPAND
 unfolding IsMomentOf IsNoLater
 each_bound e line m n h k t =
-    let met = leads_met expansions_of EXPAND (effects e.output) (spends e.output) (at_page line.text (before_line e line)) m (page_met e line) h in
-    line_spends expansions_of EXPAND (effects e.output) (spends e.output) m n met k t
+    let met = leads_met expansions_of EXPAND (effects (units_of e.output)) (spends (units_of e.output)) (at_page line.text (before_line e line)) m (page_met e line) h in
+    line_spends expansions_of EXPAND (effects (units_of e.output)) (spends (units_of e.output)) m n met k t
 
 lines_done-bound : (e : Edge) (lines : List SourceLine) → (lines_done e lines).taken ≤ e.taken + (REREAD + 1) * length lines
 unfolding lines_done

@@ -1,6 +1,5 @@
 -- The forest of all lines of a page gives what its lines give one after another: helpers of proofs.
 use Rattle.std.proofs.Common.{◌≡◌, ℕ, ◌+◌, Bool, true, false, List, [], ◌∷◌, ◌++◌, length, map, Option, Some, None, refl, sym, ap, ◌∙◌, append_assoc, append-nil, arith}
-use Rattle.page_core_base.specs.declared.page_settings.Output.{Output}
 use Rattle.page_roff_blocks.specs.Regions.{is_ending}
 use Rattle.page_roff_blocks.specs.Levels.{Levels, Place, Opened}
 use Rattle.page_roff_blocks.specs.Run.{Meaning, At, after_head, each_line}
@@ -9,6 +8,7 @@ use Rattle.page_roff_blocks.specs.Steps.{step_inside, step_from, step, step_line
 use Rattle.page_roff_blocks.proofs.FoldLemmas.{run_is_steps}
 use Rattle.page_roff_blocks.proofs.HeadLemmas.{forest_is_each}
 use Rattle.page_core_limits.specs.declared.TheConstants.{CALLS, REREAD}
+use Rattle.page_roff_values.specs.Values.{units_of}
 use Rattle.page_roff_language.specs.Budgets.{Budgeted, Effects, language, meaning, begin_line, read_line, end_line}
 use Rattle.page_roff_language.specs.Languages.{page, meaning_by, meaning_at, run_page, run_page_lines}
 use Rattle.page_roff_language.specs.Machine.{at_page}
@@ -53,12 +53,12 @@ module _ {R : Type 0} (e : Effects R) where
       ∙ sym (run_is_steps page_meaning (λ t. t) (t ∷ []) (record { place = place; state = with_budget left' g' taken r }))
 
 -- what was given before stays in front
-front_run : (output : Output) (before : List Given) (t : List ℕ) (a : At (Budgeted State))
-    → run_page (language (effects output)) (t ∷ []) (over (in_front before) a) ≡ over (in_front before) (run_page (language (effects output)) (t ∷ []) a)
+front_run : (units : List ℕ → ℕ) (before : List Given) (t : List ℕ) (a : At (Budgeted State))
+    → run_page (language (effects units)) (t ∷ []) (over (in_front before) a) ≡ over (in_front before) (run_page (language (effects units)) (t ∷ []) a)
 unfolding at_page
-front_run output before t a =
-    let l = language (effects output) in
-    sym (page_law l t (over (in_front before) a)) ∙ rest_front (in_front before) l (is_front output before) (at_page t a)
+front_run units before t a =
+    let l = language (effects units) in
+    sym (page_law l t (over (in_front before) a)) ∙ rest_front (in_front before) l (is_front units before) (at_page t a)
     ∙ ap (over (in_front before)) (page_law l t a)
 
 abbrev at : Place → ℕ → Bool → ℕ → Memory → List Given → At (Budgeted State)
@@ -67,19 +67,19 @@ at place left gave_up taken memory out =
 
 -- one line with what comes before it
 one_line : (e : Edge) (x : SourceLine) (left : ℕ) (g : Bool) (out : List Given)
-    → run_page (language (effects e.output)) (x.text ∷ []) (after_head head_of x (at e.place left g e.taken e.memory out))
+    → run_page (language (effects (units_of e.output))) (x.text ∷ []) (after_head head_of x (at e.place left g e.taken e.memory out))
     ≡ over (in_front (out ++ map says x.notes)) (run_line e x)
 unfolding run_line before_line
 one_line e x left g out =
-    let l = language (effects e.output) in
+    let l = language (effects (units_of e.output)) in
     let m = numbered x.number e.memory in
     let front = out ++ map says x.notes in
-    budget_reset (effects e.output) x.text e.place left REREAD g false e.taken (record { memory = m; out = front })
+    budget_reset (effects (units_of e.output)) x.text e.place left REREAD g false e.taken (record { memory = m; out = front })
     ∙ ap (λ (o : List Given). run_page l (x.text ∷ []) (at e.place REREAD false e.taken m o)) (sym (append-nil front))
-    ∙ front_run e.output front x.text (at e.place REREAD false e.taken m [])
+    ∙ front_run (units_of e.output) front x.text (at e.place REREAD false e.taken m [])
 
 abbrev each : Edge → List SourceLine → At (Budgeted State) → At (Budgeted State)
-each e lines a = each_line (λ line. line.text) head_of (meaning_at (language (effects e.output)) CALLS page) lines a
+each e lines a = each_line (λ line. line.text) head_of (meaning_at (language (effects (units_of e.output))) CALLS page) lines a
 
 -- line after line
 each_stands : (e : Edge) (xs : List SourceLine) (left : ℕ) (g : Bool) (out : List Given)
@@ -99,7 +99,7 @@ each_stands e (x ∷ xs) left g out =
 all_stands : (e : Edge) (lines : List SourceLine) → StandsAt (lines_done e lines) (lines_given e lines) (run_all e lines)
 unfolding run_all run_page_lines
 all_stands e lines =
-    rw (forest_is_each (λ line. line.text) head_of (meaning_at (language (effects e.output)) CALLS page) lines (before_lines e))
+    rw (forest_is_each (λ line. line.text) head_of (meaning_at (language (effects (units_of e.output))) CALLS page) lines (before_lines e))
     (each_stands e lines 0 false [])
 
 pub given-by_line : (e : Edge) (lines : List SourceLine) → given e lines ≡ lines_given e lines

@@ -16,7 +16,8 @@ use Rattle.page_roff_stack.specs.Stacks.{is_nothing}
 use Rattle.page_roff_stack.specs.Stacks as stack
 use Rattle.page_roff_effects.specs.Caps.{MemoryFits}
 use Rattle.page_roff_effects.specs.RegionLines.{finish_outcome}
-use Rattle.page_roff_effects.specs.States.{Given, State, Memory, Setting, takes, first_memory, numbered}
+use Rattle.page_roff_effects.specs.Acting.{ActingSetting}
+use Rattle.page_roff_effects.specs.States.{Given, State, Memory, takes, first_memory, numbered}
 use Rattle.page_roff_machine.specs.Giving.{next_line, after_line}
 use Rattle.page_roff_machine.specs.Machines.{Machine, output_of, language_of, running_of, outcome_of, to_come, end_of, place_of, stands, stands_after, begun_at, Begins, Takes, BeginsOrTakes, Advances, taken_if, IsIdleUnless, IsNew}
 use Rattle.page_roff_machine.specs.Machines as machine
@@ -32,7 +33,7 @@ use Rattle.page_roff_source.specs.declared.roff_lines.Remaining.TheVariants as r
 use Rattle.page_roff_source.specs.RoffLines.{edge_of, state_of, given_by, begun_as, run_if, IsIdleAs, IsCounted, IsAtEdge, RunsOn}
 use Rattle.page_roff_source.proofs.CountLemmas.{taken_bound}
 use Rattle.page_roff_source.proofs.RoomLemmas.{done_room}
-use Rattle.page_roff_source.proofs.TextLemmas.{line_texts, taken_is, taken_line}
+use Rattle.page_roff_source.proofs.TextLemmas.{line_texts, runs_as, taken_is, taken_line}
 
 -- an edge by what leaves the page there
 abbrev edge_with : Output → At (Budgeted State) → ℕ → Option (List Given) → Edge
@@ -76,7 +77,7 @@ new_edge : (output : Output) (m : Machine) → IsNew output m → outcome_of m �
 unfolding at_line first_place
 new_edge output m n e =
     ap (λ (a : At (Budgeted State)). edge_with (output_of m) a 0 None) e
-    ∙ ap (λ (s : Setting). edge_with s.output (stands m) 0 None) n.actions.setting
+    ∙ ap (λ (s : ActingSetting). edge_with s.output (stands m) 0 None) n.actions.setting
     ∙ ap (λ (s : stack.Stack). at_stack output s m.actions.memory m.budget.taken) n.stack
     ∙ ap (λ (k : Memory). at_stack output stack.first_stack k m.budget.taken) n.actions.memory
     ∙ ap (λ (b : Budget). at_stack output stack.first_stack first_memory b.taken) n.budget
@@ -96,22 +97,22 @@ unfolding before_line
 before_at m source line e = ap (λ (a : At (Budgeted State)). begun_from a line.number) e
 
 pub begun : (old new : Machine) (source : ℕ) (line : SourceLine) → machine.is_idle old ≡ true → Begins line.text line.number old new
-    → edge_of new (source + 1) remaining.Run ≡ line_begun (edge_of old source remaining.Nothing) line
+    → HoldsTexts (edge_of old source remaining.Nothing).memory → IsLine line.text → edge_of new (source + 1) remaining.Run ≡ line_begun (edge_of old source remaining.Nothing) line
 unfolding run_line
-begun old new source line idle b =
+begun old new source line idle b h l =
     let e = before_at old source line (idle_stands old idle) in
-    let outcome = b.outcome ∙ sym (ap (run_page (language_of old) (line.text ∷ [])) e) in
+    let outcome = b.outcome ∙ sym (ap (run_page (language_of old) (line.text ∷ [])) e) ∙ runs_as (edge_of old source remaining.Nothing) line h l in
     ap (λ (o : Output). begun_with o (outcome_of new) (source + 1)) b.output
     ∙ ap (λ (a : At (Budgeted State)). begun_with (output_of old) a (source + 1)) outcome
 
 -- a line that is taken at once, where it is all that the line gives
 pub taken : (old new : Machine) (source : ℕ) (line : SourceLine) → machine.is_idle old ≡ true → Takes line.text line.number old new
-    → edge_of new (source + 1) remaining.Line ≡ line_begun (edge_of old source remaining.Nothing) line
+    → HoldsTexts (edge_of old source remaining.Nothing).memory → IsLine line.text → edge_of new (source + 1) remaining.Line ≡ line_begun (edge_of old source remaining.Nothing) line
 unfolding run_line
-taken old new source line idle t =
+taken old new source line idle t h l =
     let e = before_at old source line (idle_stands old idle) in
     let given = takes new.actions.line ∷ [] in
-    let outcome = t.outcome ∙ sym (ap (run_page (language_of old) (line.text ∷ [])) e) in
+    let outcome = t.outcome ∙ sym (ap (run_page (language_of old) (line.text ∷ [])) e) ∙ runs_as (edge_of old source remaining.Nothing) line h l in
     ap (λ (a : At (Budgeted State)). edge_with (output_of new) a (source + 1) (Some given)) (idle_stands new t.idle)
     ∙ ap (λ (o : Output). begun_with o (stands_after given new) (source + 1)) t.output
     ∙ ap (λ (a : At (Budgeted State)). begun_with (output_of old) a (source + 1)) outcome
@@ -187,17 +188,18 @@ begin_room m source remaining.End p none = absurd (cc)
 begin_room m source remaining.Run p none = absurd (cc)
 
 begin_at : (old new : Machine) (source : ℕ) (is_taken : Bool) (line : List ℕ) (number : ℕ) → machine.is_idle old ≡ true → BeginsOrTakes is_taken line number old new
+    → HoldsTexts (edge_of old source remaining.Nothing).memory → IsLine line
     → edge_of new (source + 1) (begun_as is_taken) ≡ line_begun (edge_of old source remaining.Nothing) (record { text = line; number = number; notes = [] })
-begin_at old new source true line number idle b = taken old new source (record { text = line; number = number; notes = [] }) idle b
-begin_at old new source false line number idle b = begun old new source (record { text = line; number = number; notes = [] }) idle b
+begin_at old new source true line number idle b h l = taken old new source (record { text = line; number = number; notes = [] }) idle b h l
+begin_at old new source false line number idle b h l = begun old new source (record { text = line; number = number; notes = [] }) idle b h l
 
 pub begin_edge : (old new : Machine) (source : ℕ) (left : Remaining) (is_taken : Bool) (line : List ℕ) (number : ℕ) → IsAtEdge old source left
-    → (edge_of old source left).to_come ≡ None → BeginsOrTakes is_taken line number old new
+    → (edge_of old source left).to_come ≡ None → BeginsOrTakes is_taken line number old new → IsLine line
     → edge_of new (source + 1) (begun_as is_taken) ≡ line_begun (edge_of old source left) (record { text = line; number = number; notes = [] })
-begin_edge old new source remaining.Nothing is_taken line number p none b = begin_at old new source is_taken line number p.idle b
-begin_edge old new source remaining.Line is_taken line number p none b = absurd (cc)
-begin_edge old new source remaining.End is_taken line number p none b = absurd (cc)
-begin_edge old new source remaining.Run is_taken line number p none b = absurd (cc)
+begin_edge old new source remaining.Nothing is_taken line number p none b l = begin_at old new source is_taken line number p.idle b p.texts l
+begin_edge old new source remaining.Line is_taken line number p none b l = absurd (cc)
+begin_edge old new source remaining.End is_taken line number p none b l = absurd (cc)
+begin_edge old new source remaining.Run is_taken line number p none b l = absurd (cc)
 
 begun_idle : (old new : Machine) (is_taken : Bool) (line : List ℕ) (number : ℕ) → BeginsOrTakes is_taken line number old new → IsIdleAs (begun_as is_taken) new
 begun_idle old new true line number b = b.idle
@@ -209,7 +211,7 @@ pub begin_invariant : (old new : Machine) (source : ℕ) (left : Remaining) (is_
 begin_invariant old new source left is_taken line number p none b few t =
     let l : SourceLine = record { text = line; number = number; notes = [] } in
     let e = edge_of old source left in
-    let same = sym (begin_edge old new source left is_taken line number p none b) in
+    let same = sym (begin_edge old new source left is_taken line number p none b t) in
     let h = line_texts e l p.texts t in
     record {
       idle = begun_idle old new is_taken line number b;

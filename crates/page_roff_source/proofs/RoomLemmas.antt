@@ -7,6 +7,7 @@ use Rattle.page_roff_blocks.specs.Run.{Meaning, At, run_lines}
 use Rattle.page_roff_blocks.specs.Steps.{begin_line, step_inside, step_from, step, step_lines}
 use Rattle.page_roff_blocks.proofs.FoldLemmas.{run_is_steps}
 use Rattle.page_roff_blocks.proofs.RoomLemmas.{atoms_room, step_room}
+use Rattle.page_roff_values.specs.Values.{units_of}
 use Rattle.page_roff_language.specs.Languages.{page, meaning_at, run_page}
 use Rattle.page_core_limits.specs.declared.TheConstants.{CALLS}
 use Rattle.page_roff_language.specs.Budgets.{language}
@@ -37,4 +38,4 @@ module _ {S : Type 0} (m : Meaning (List ℕ) S) where
 
 pub done_room : (e : Edge) (line : SourceLine) → (line_done e line).place.levels.skipped ≤ e.place.levels.skipped + (2 * length line.text + 2)
 unfolding run_line before_line run_page IsRoomy
-done_room e line = line_room (meaning_at (language (effects e.output)) CALLS page) line.text (before_line e line)
+done_room e line = line_room (meaning_at (language (effects (units_of e.output))) CALLS page) line.text (before_line e line)

@@ -1,11 +1,20 @@
 -- Each line that roff gives is one: helpers of proofs.
-use Rattle.std.proofs.Common.{◌≡◌, Bool, true, false, List, [], ◌∷◌, Option, Some, None, subst}
+use Rattle.std.proofs.Common.{◌≡◌, Bool, true, false, List, [], ◌∷◌, Option, Some, None, refl, subst}
 use Rattle.page_core_base.specs.LinesTaken.{Line}
+use Rattle.std.proofs.lemmas.Str.{is_utf8-from_IsUtf8}
 use Rattle.page_core_base.specs.Texts.{IsLine}
+use Rattle.page_core_base.specs.declared.page_settings.Output.{Output}
+use Rattle.page_roff_values.specs.Texts.{MeasureAlike}
+use Rattle.page_roff_values.specs.Values.{units_of}
+use Rattle.page_roff_values.specs.Views.{units_of_bytes}
+use Rattle.page_roff_language.specs.Budgets.{language}
+use Rattle.page_roff_language.specs.Languages.{run_page}
+use Rattle.page_roff_effects.specs.Acting.{acting_effects}
 use Rattle.page_roff_effects.specs.States.{Given, says, takes}
 use Rattle.page_roff_machine.specs.Giving.{next_line, after_line}
 use Rattle.page_roff_machine.specs.Machines.{taken_if}
 use Rattle.page_roff_texts.specs.Texts.{HoldsTexts, AreGiven}
+use Rattle.page_roff_texts.proofs.AlikeTexts.{page_alike}
 use Rattle.page_roff_texts.proofs.EffectTexts.{HoldsState, page_texts}
 use Rattle.page_roff_source.specs.Edges.{Edge, SourceLine}
 use Rattle.page_roff_source.specs.Taking.{before_line, run_line, given_of, line_taken, left_if}
@@ -14,7 +23,19 @@ use Rattle.page_roff_source.specs.Taking.{before_line, run_line, given_of, line_
 pub line_texts : (e : Edge) (line : SourceLine) → HoldsTexts e.memory → IsLine line.text → HoldsState (run_line e line).state.rest
 unfolding run_line before_line AreGiven
 line_texts e line h t =
-    page_texts e.output (line.text ∷ []) (before_line e line) (t, tt) (record { memory = record { names = h.names; body = h.body }; out = tt })
+    page_texts (units_of e.output) (line.text ∷ []) (before_line e line) (t, tt) (record { memory = record { names = h.names; body = h.body }; out = tt })
+
+-- what the code measures of a text is how wide it is
+bytes_alike : (output : Output) → MeasureAlike (units_of_bytes output) (units_of output)
+bytes_alike output text t = rw (is_utf8-from_IsUtf8 text t.utf8) refl
+
+-- so the line runs as it does where nothing but texts is measured
+pub runs_as : (e : Edge) (line : SourceLine) → HoldsTexts e.memory → IsLine line.text
+    → run_page (language (acting_effects e.output)) (line.text ∷ []) (before_line e line) ≡ run_line e line
+unfolding run_line before_line AreGiven
+runs_as e line h t =
+    page_alike (units_of_bytes e.output) (units_of e.output) (bytes_alike e.output) (line.text ∷ []) (before_line e line) (t, tt)
+    (record { memory = record { names = h.names; body = h.body }; out = tt })
 
 after_is : (given : List Given) → AreGiven given → AreGiven (after_line given)
 unfolding AreGiven

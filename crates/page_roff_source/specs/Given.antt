@@ -2,6 +2,7 @@
 -- Source: roff(7), "LANGUAGE SYNTAX"; mandoc(1), "DIAGNOSTICS".
 use Rattle.std.specs.Prelude.{◌+◌, false, List, [], ◌++◌, length, map, None}
 use Rattle.page_roff_blocks.specs.Run.{At}
+use Rattle.page_roff_values.specs.Values.{units_of}
 use Rattle.page_roff_language.specs.Budgets.{Budgeted, language}
 use Rattle.page_roff_language.specs.Languages.{run_page_lines}
 use Rattle.page_roff_effects.specs.Effects.{effects}
@@ -22,7 +23,7 @@ before_lines e = record {
 
 -- the forest of all lines, inside what is open
 unfoldable pub run_all : Edge → List SourceLine → At (Budgeted State)
-run_all e lines = run_page_lines (language (effects e.output)) (λ line. line.text) head_of lines (before_lines e)
+run_all e lines = run_page_lines (language (effects (units_of e.output))) (λ line. line.text) head_of lines (before_lines e)
 
 -- what it gives: messages, and lines for the set of macros, in their order
 abbrev pub given : Edge → List SourceLine → List Given

@@ -2,6 +2,7 @@
 -- of `Machine` in `page_roff_language`, whose `machine_law` says that the steps come to where the line leaves the page).
 -- Source: mandoc(1), "input stack limit exceeded, infinite loop?".
 use Rattle.std.specs.Prelude.{ℕ}
+use Rattle.page_roff_values.specs.Values.{units_of}
 use Rattle.page_roff_language.specs.Budgets.{Budgeted, language}
 use Rattle.page_roff_language.specs.Machine.{Running, at_page}
 use Rattle.page_roff_language.specs.Spending.{Leads}
@@ -16,7 +17,7 @@ Moment = Running (Budgeted State)
 
 -- one comes after another, or is the same
 unfoldable pub IsNoLater : Edge → Moment → Moment → Type 0
-IsNoLater e before after = Leads (language (effects e.output)) before after
+IsNoLater e before after = Leads (language (effects (units_of e.output))) before after
 
 -- it comes in the run of a line
 unfoldable pub IsMomentOf : Edge → SourceLine → Moment → Type 0

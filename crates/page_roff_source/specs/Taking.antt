@@ -3,6 +3,7 @@
 use Rattle.std.specs.Prelude.{ℕ, ◌+◌, Bool, is_none, false, List, [], ◌∷◌, Option, Some, None, unwrap_or}
 use Rattle.page_core_base.specs.LinesTaken.{Line}
 use Rattle.page_roff_blocks.specs.Run.{At}
+use Rattle.page_roff_values.specs.Values.{units_of}
 use Rattle.page_roff_language.specs.Budgets.{Budgeted, language}
 use Rattle.page_roff_language.specs.Languages.{run_page}
 use Rattle.page_core_limits.specs.declared.TheConstants.{REREAD}
@@ -32,7 +33,7 @@ before_line e line = record {
 
 -- the line is run, with the macros that it calls and the loop that it ends
 unfoldable pub run_line : Edge → SourceLine → At (Budgeted State)
-run_line e line = run_page (language (effects e.output)) (line.text ∷ []) (before_line e line)
+run_line e line = run_page (language (effects (units_of e.output))) (line.text ∷ []) (before_line e line)
 
 -- what it gives after the messages in front: messages, and lines for the set of macros
 abbrev pub line_given : Edge → SourceLine → List Given

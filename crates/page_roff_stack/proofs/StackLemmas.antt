@@ -3,10 +3,10 @@ use Rattle.std.proofs.Common.{◌≡◌, ℕ, zero, suc, ◌-◌, ◌<◌, Bool,
 use Rattle.page_roff_blocks.specs.declared.atoms.Atom.{Atom}
 use Rattle.page_roff_blocks.specs.Levels.{Opened}
 use Rattle.page_roff_blocks.specs.Run.{Meaning}
-use Rattle.page_roff_language.specs.Languages.{Kind, page, body, inner, Language, meaning_at}
+use Rattle.page_roff_language.specs.Languages.{arguments_of, Kind, page, body, inner, Language, meaning_at}
 use Rattle.page_roff_language.specs.Machine as machine
 use Rattle.page_roff_language.specs.Machine.{Frame, Turning, depth, looped}
-use Rattle.page_roff_stack.specs.Changes.{first_branch, first_region, is_page, arguments_of, begins_next, ends_with}
+use Rattle.page_roff_stack.specs.Changes.{first_branch, first_region, is_page, begins_next, ends_with}
 use Rattle.page_roff_stack.specs.Stacks.{Stack, running, has_begun, turn_left, turn_in, turn_or_end, next_around, next_in, next_of, is_part, is_line, may_end, is_nothing, branch_in, region_in, AreStacked, end_of, turn_if, step_in, step_of}
 use Rattle.page_roff_stack.specs.Views.{unpacked}
 

@@ -104,11 +104,6 @@ abbrev pub is_page : Kind → Bool
 is_page page = true
 is_page (body args) = false
 
--- the arguments of the macro whose body a source is, or in which its loop stands
-abbrev pub arguments_of : Kind → Option (List (List ℕ))
-arguments_of page = None
-arguments_of (body args) = args
-
 -- a part comes next
 abbrev pub HasPart : Frame → Type 0
 HasPart f = 0 < length f.parts

@@ -10,9 +10,9 @@ ghost use Rattle.page_roff_blocks.specs.Atoms.{atom_seen, FitsAtom};
 ghost use Rattle.page_roff_blocks.specs.Caps.{PlaceFits};
 ghost use Rattle.page_roff_blocks.specs.Levels.{after_part, guarded_by, way_of, enter, bit_after, open_loop, skip, leave, what_ends, reached, opened_seen};
 ghost use Rattle.page_roff_blocks.specs.Regions.{text_seen};
-ghost use Rattle.page_roff_language.specs.Languages.{is_some};
+ghost use Rattle.page_roff_language.specs.Languages.{arguments_of, is_some};
 ghost use Rattle.page_roff_language.specs.Machine.{depth};
-ghost use Rattle.page_roff_stack.specs.Changes.{page_line, past, in_region, next_line, in_turn, first_atoms, is_page, arguments_of};
+ghost use Rattle.page_roff_stack.specs.Changes.{page_line, past, in_region, next_line, in_turn, first_atoms, is_page};
 ghost use Rattle.page_roff_stack.specs.Stacks.{first_stack, with_top, call_of, loop_of, next_around, next_of, part_in, is_part, opens_block, is_line, is_turn, may_end, is_nothing, branch_in, region_in};
 ghost use Rattle.page_roff_stack.specs.Views.{packed_text, unpacked, next_seen, FitsNext};
 

@@ -5,7 +5,6 @@ use Rattle.std.proofs.lemmas.Str.{IsCharBoundary-from_take}
 use Rattle.page_core_limits.specs.declared.TheConstants.{BODY}
 use Rattle.page_core_base.specs.Messages.{Message}
 use Rattle.page_core_base.specs.Texts.{IsLine}
-use Rattle.page_core_base.specs.declared.page_settings.Output.{Output}
 use Rattle.page_roff_blocks.specs.Levels.{Opened, within_limit}
 use Rattle.page_roff_blocks.specs.Run.{At}
 use Rattle.page_roff_blocks.specs.declared.regions.RegionHead.{RegionHead}
@@ -30,7 +29,7 @@ use Rattle.page_roff_values.proofs.LineLemmas.{value_within}
 use Rattle.page_roff_values.proofs.PlainTexts.{nil_text, text_cut, text_at}
 use Rattle.page_roff_values.proofs.ValueTexts.{value_text}
 use Rattle.page_roff_language.specs.Budgets.{Budgeted, language}
-use Rattle.page_roff_language.specs.Languages.{Kind, page, body, inner, run_page}
+use Rattle.page_roff_language.specs.Languages.{Kind, page, body, arguments_of, inner, run_page}
 use Rattle.page_roff_language.proofs.KeepEffects.{IsKeptAfter, KeepsEffects, page_keeps}
 use Rattle.page_roff_language.proofs.KeepLemmas.{IsIfSome, IsLoopHead}
 use Rattle.page_roff_effects.specs.Commands.{called_body, request_command, command_or, command_of, copies}
@@ -177,6 +176,22 @@ unfolding close_outcome
 close_is true may_call m h = repeats_is may_call m.body _ h.body (record { names = h.names; body = tt })
 close_is false may_call m h = quiet [] _ (record { names = h.names; body = tt })
 
+byte_text : (c : Bool) (b : ℕ) (bs text : List ℕ) → (if c then control_form bs else Text (b ∷ bs)) ≡ Text text → b ∷ bs ≡ text
+byte_text true b bs text e = absurd (cc)
+byte_text false b bs text e = cc
+
+line_text : (t text : List ℕ) → uncommented_form t ≡ Text text → t ≡ text
+line_text [] text e = absurd (cc)
+line_text (b ∷ bs) text e = byte_text (is_control b) b bs text e
+
+word_text : (w : Bool) (raw text : List ℕ) → (if w then uncommented_form (without_comment raw) else BlankLine) ≡ Text text → without_comment raw ≡ text
+word_text true raw text e = line_text (without_comment raw) text e
+word_text false raw text e = absurd (cc)
+
+-- the text of a text line is a line
+pub text_line : (raw text : List ℕ) → form_of raw ≡ Text text → IsLine raw → IsLine text
+text_line raw text e r = subst IsLine (word_text (has_word raw) raw text e) (uncommented_line raw r)
+
 module _ (setting : Setting) (a : AreArgumentTexts setting.arguments) where
   control_is : (may_call : Bool) (line : ControlLine) (m : Memory) → IsLine line.text → IsRestAt line.text line.name_end → HoldsTexts m
       → IsOutcome (control_outcome setting may_call line m)
@@ -206,22 +221,7 @@ module _ (setting : Setting) (a : AreArgumentTexts setting.arguments) where
   unfolding IsProduct
   form_is may_call raw Comment m e r h = quiet [] m h
   form_is may_call raw BlankLine m e r h = record { memory = h; product = r }
-  form_is may_call raw (Text text) m e r h = text_is text m (subst IsLine (form_text raw text e) (uncommented_line raw r)) h
-    where
-      byte_text : (c : Bool) (b : ℕ) (bs text : List ℕ) → (if c then control_form bs else Text (b ∷ bs)) ≡ Text text → b ∷ bs ≡ text
-      byte_text true b bs text e = absurd (cc)
-      byte_text false b bs text e = cc
-
-      line_text : (t text : List ℕ) → uncommented_form t ≡ Text text → t ≡ text
-      line_text [] text e = absurd (cc)
-      line_text (b ∷ bs) text e = byte_text (is_control b) b bs text e
-
-      word_text : (w : Bool) (raw text : List ℕ) → (if w then uncommented_form (without_comment raw) else BlankLine) ≡ Text text → without_comment raw ≡ text
-      word_text true raw text e = line_text (without_comment raw) text e
-      word_text false raw text e = absurd (cc)
-
-      form_text : (raw text : List ℕ) → form_of raw ≡ Text text → without_comment raw ≡ text
-      form_text raw text e = word_text (has_word raw) raw text e
+  form_is may_call raw (Text text) m e r h = text_is text m (text_line raw text e r) h
   form_is may_call raw (Control name column rest rest_column) m e r h =
       control_is may_call (control_line raw name column rest_column) m (uncommented_line raw r) (control_rest raw name rest column rest_column r e) h
 
@@ -342,47 +342,47 @@ kept_by (line_product line) s p h = h
 kept_by (call_product call) s p h = (body_lines call.body p.0, packed_texts call.packed p.1, h)
 kept_by (loop_product text) s p h = (loop_condition text p, loop_lines text p, h)
 
-arguments_of : (output : Output) (kind : Kind) → IsKindText kind → AreArgumentTexts (setting_of output kind).arguments
-arguments_of output page h = tt
-arguments_of output (body args) h = h
+pub kind_arguments : (kind : Kind) → IsKindText kind → AreArgumentTexts (arguments_of kind)
+kind_arguments page h = tt
+kind_arguments (body args) h = h
 
-module _ (output : Output) where
+module _ (units : List ℕ → ℕ) where
   leaf_keeps : (may_call : Bool) (kind : Kind) (text : List ℕ) (s : State) → IsKindText kind → IsLine text → HoldsState s
-      → IsKeptAfter IsLine IsKindText HoldsState ((effects output).leaf may_call kind text s)
+      → IsKeptAfter IsLine IsKindText HoldsState ((effects units).leaf may_call kind text s)
   unfolding effects done_after
   leaf_keeps may_call kind text s a t h =
-      let o = leaf_outcome (setting_of output kind) may_call text s.memory in
-      let is = leaf_is (setting_of output kind) (arguments_of output kind a) may_call text s.memory t h.memory in
+      let o = leaf_outcome (setting_of units kind) may_call text s.memory in
+      let is = leaf_is (setting_of units kind) (kind_arguments kind a) may_call text s.memory t h.memory in
       kept_by o.product (after s o) is.product (after_is s o h is)
 
-  closes_keeps : (is_run may_call : Bool) (s : State) → HoldsState s → IsKeptAfter IsLine IsKindText HoldsState ((effects output).closes is_run may_call s)
+  closes_keeps : (is_run may_call : Bool) (s : State) → HoldsState s → IsKeptAfter IsLine IsKindText HoldsState ((effects units).closes is_run may_call s)
   unfolding effects done_after
   closes_keeps is_run may_call s h =
       let o = close_outcome is_run may_call s.memory in
       let is = close_is is_run may_call s.memory h.memory in
       kept_by o.product (after s o) is.product (after_is s o h is)
 
-  turns_keep : (kind : Kind) (condition : List ℕ) (s : State) → HoldsState s → HoldsState ((effects output).turns kind condition s).1
+  turns_keep : (kind : Kind) (condition : List ℕ) (s : State) → HoldsState s → HoldsState ((effects units).turns kind condition s).1
   unfolding effects tested_after
   turns_keep kind condition s h =
-      let answer = turn_answer (setting_of output kind) condition s.memory in
+      let answer = turn_answer (setting_of units kind) condition s.memory in
       after_is s (test_outcome answer s.memory) h (quiet answer.notes (counted answer.edge.count s.memory) (counted_holds answer.edge.count s.memory h.memory))
 
-  pub texts_kept : KeepsEffects IsLine IsKindText HoldsState (effects output)
+  pub texts_kept : KeepsEffects IsLine IsKindText HoldsState (effects units)
   unfolding effects budget_outcome block_outcome end_of_block_outcome tested_after
   texts_kept = record {
     inner = inner_is;
     exhausts = λ s h. after_is s (budget_outcome s.memory) h (quiet _ s.memory h.memory);
     tests = λ kind condition s h.
-        let answer = answer_of (setting_of output kind) condition s.memory in
+        let answer = answer_of (setting_of units kind) condition s.memory in
         after_is s (test_outcome answer s.memory) h (quiet answer.notes (counted answer.edge.count s.memory) (counted_holds answer.edge.count s.memory h.memory));
     leaf = leaf_keeps;
     refuses = λ head s h. after_is s (block_outcome head.column s.memory) h (quiet _ s.memory h.memory);
     unopened = λ s h. after_is s (end_of_block_outcome s.memory) h (quiet _ s.memory h.memory);
     opens_region = λ kind head is_run s h. after_is s (head_outcome head is_run s.memory) h (head_is head is_run s.memory h.memory);
     reads = λ kind o is_run line s a t h.
-        after_is s (line_outcome (setting_of output kind) o is_run line s.memory) h
-        (line_is (setting_of output kind) (arguments_of output kind a) o is_run line s.memory t h.memory);
+        after_is s (line_outcome (setting_of units kind) o is_run line s.memory) h
+        (line_is (setting_of units kind) (kind_arguments kind a) o is_run line s.memory t h.memory);
     ends_region = λ kind o is_run line s h. after_is s (end_outcome o is_run s.memory) h (end_is o is_run s.memory h.memory);
     opens_loop = λ head s l h. after_is s (loop_outcome head s.memory) h (loop_is head s.memory l h.memory);
     collects = λ is_run line s l h. after_is s (collect_outcome is_run line s.memory) h (collect_is is_run line s.memory l h.memory);
@@ -396,6 +396,6 @@ first_holds = record { names = tt; body = tt }
 
 -- ---- the lines of a page
 
-pub page_texts : (output : Output) (lines : List (List ℕ)) (at : At (Budgeted State)) → AreLines lines → HoldsState at.state.rest
-    → HoldsState (run_page (language (effects output)) lines at).state.rest
-page_texts output lines at t h = page_keeps IsLine IsKindText HoldsState (effects output) line_leaves loop_texts (texts_kept output) tt lines at (such lines t) h
+pub page_texts : (units : List ℕ → ℕ) (lines : List (List ℕ)) (at : At (Budgeted State)) → AreLines lines → HoldsState at.state.rest
+    → HoldsState (run_page (language (effects units)) lines at).state.rest
+page_texts units lines at t h = page_keeps IsLine IsKindText HoldsState (effects units) line_leaves loop_texts (texts_kept units) tt lines at (such lines t) h

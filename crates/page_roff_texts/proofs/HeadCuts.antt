@@ -4,7 +4,7 @@ use Rattle.std.specs.Prelude.{IsUtf8}
 use Rattle.std.specs.List.{starts_with, list_all}
 use Rattle.std.proofs.Math.Utf8.{encode}
 use Rattle.std.proofs.lemmas.Bool.{cases_Bool, and_parts, or_cases, leb-true, ltb-true}
-use Rattle.page_core_escapes.proofs.Boundaries.{character_ends}
+use Rattle.page_core_escapes.proofs.Boundaries.{character_begins, character_ends}
 use Rattle.page_roff_forms.specs.Arguments.{is_blank}
 use Rattle.page_roff_forms.specs.LineForms.{is_white, is_name}
 use Rattle.page_roff_heads.specs.Conditions.{is_among, is_between, is_letter, begins_expression, kind_of, name_len, second_of, both_len, has_both, texts_after, texts_at, read_test, turn_len, condition_len}
@@ -48,7 +48,7 @@ stop_two b n bs k s =
     let e : 1 + (1 + k) ≡ 2 + k = omega arith in
     subst (IsStop (b ∷ n ∷ bs)) e (stop_later b (n ∷ bs) (1 + k) (stop_later n bs k s))
 
-expression_stop : (passed : ℕ) (t : List ℕ) → IsStop t (expression_rest passed t)
+pub expression_stop : (passed : ℕ) (t : List ℕ) → IsStop t (expression_rest passed t)
 expression_stop zero [] = stop_start [] (λ lt. absurd (omega arith))
 expression_stop zero (b ∷ []) =
     stop_if (is_white b) (b ∷ []) 0 1 (λ e. stop_start (b ∷ []) (λ lt. white_low b e)) (λ e. record { within = omega arith; ascii = λ lt. absurd (omega arith) })
@@ -95,8 +95,15 @@ place_starts d (b ∷ c ∷ bs) =
     starts_if (b == 92) d t _ _ (λ e. starts_two d b c bs (place_of d bs) (place_starts d bs))
     (λ e. starts_later d b (c ∷ bs) (place_of d (c ∷ bs)) (place_starts d (c ∷ bs))))
 
--- past the next occurrence of a character
-place_cut : (d t : List ℕ) (c : ℕ) → d ≡ encode c → IsUtf8 t → nat_lt (place_of d t) (length t) ≡ true → CutsAt t (place_of d t + length d)
+-- before the next occurrence of a character
+pub before_cut : (d t : List ℕ) (c : ℕ) → d ≡ encode c → IsUtf8 t → nat_lt (place_of d t) (length t) ≡ true → CutsAt t (place_of d t)
+unfolding StartsAt
+before_cut d t c is u h =
+    let found = rw is at (place_starts d t (ltb-true (place_of d t) (length t) h)) in
+    subst (λ (l : List ℕ). CutsAt t (place_of l t)) (sym is) (character_begins t (place_of (encode c) t) c u found)
+
+-- past it
+pub place_cut : (d t : List ℕ) (c : ℕ) → d ≡ encode c → IsUtf8 t → nat_lt (place_of d t) (length t) ≡ true → CutsAt t (place_of d t + length d)
 unfolding StartsAt
 place_cut d t c is u h =
     let found = rw is at (place_starts d t (ltb-true (place_of d t) (length t) h)) in

@@ -1,6 +1,8 @@
+pub mod AlikeTexts
 pub mod ArgumentTexts
 pub mod AtomTexts
 pub mod BodyTexts
+pub mod ConditionTexts
 pub mod Cuts
 pub mod DefinitionTexts
 pub mod EffectTexts

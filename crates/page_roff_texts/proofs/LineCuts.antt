@@ -83,7 +83,7 @@ remainder_if : (c : Bool) (column : ℕ) (t : List ℕ) → IsLine t → IsLineI
 remainder_if true column t h = h
 remainder_if false column t h = tt
 
-after_blanks_line : (t : List ℕ) → IsLine t → IsLine (after_blanks t)
+pub after_blanks_line : (t : List ℕ) → IsLine t → IsLine (after_blanks t)
 after_blanks_line t h = (line_cut t (blank_len t) h (prefix_cut is_blank blank_low t h.utf8)).1
 
 pub remainder_line : (column : ℕ) (t : List ℕ) → IsLine t → IsLineIfSome (remainder_of column t)

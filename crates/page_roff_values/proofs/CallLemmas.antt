@@ -92,7 +92,7 @@ unfolding interpolated
 register_some env f call name n s c e = rw (c, e) refl
 
 pub width_some : (env : Surroundings) (f : List ℕ → Spot → Laid) (call : Call (List ℕ)) (text : List ℕ) (s : Spot) → call ≡ Width text
-    → interpolated env f call s ≡ width env.output (f text) s
+    → interpolated env f call s ≡ width env.units (f text) s
 unfolding interpolated
 width_some env f call text s c = rw c refl
 

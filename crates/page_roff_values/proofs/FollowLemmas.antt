@@ -2,7 +2,6 @@
 use Rattle.std.specs.Fmt.{decimal, signed_decimal}
 use Rattle.std.proofs.Common.{◌≡◌, ℕ, zero, suc, ◌-◌, ◌≤◌, Bool, true, false, nat_lt, List, [], ◌∷◌, length, take, codes, if◌then◌else◌, Option, None, Some, refl, ◌∙◌, arith}
 use Rattle.page_core_limits.specs.declared.TheConstants.{EXPAND, LINE}
-use Rattle.page_core_base.specs.declared.page_settings.Output.{Output}
 use Rattle.page_core_base.specs.declared.note_kinds.NoteKind.{NoteKind}
 use Rattle.page_core_base.specs.declared.note_kinds.NoteKind.TheVariants.{UndefString, ArgOutside, Loop, Limit}
 use Rattle.page_roff_names.specs.Names.{string_of}
@@ -13,7 +12,7 @@ use Rattle.page_roff_values.specs.declared.parts.Part.TheVariants.{Copied, Calle
 use Rattle.page_roff_values.specs.Arguments.{argument_of}
 use Rattle.page_roff_values.specs.Environments.{Surroundings, register_of}
 use Rattle.page_roff_values.specs.Parts.{parts, without_lone}
-use Rattle.page_roff_values.specs.Values.{Spot, Laid, nothing, unless, seq, says, ends, adds, counts, kept, put, lay, charge, value_or, inside, leaves, units_of, width, interpolated, call_at, value}
+use Rattle.page_roff_values.specs.Values.{Spot, Laid, nothing, unless, seq, says, ends, adds, counts, kept, put, lay, charge, value_or, inside, leaves, width, interpolated, call_at, value}
 
 pub record Follows (s t : Spot) : Type 0 where
   pub around : t.around ≡ s.around
@@ -73,12 +72,12 @@ or_follows : (kind : NoteKind) (detail : List ℕ) (o : Option (List ℕ)) (f : 
 or_follows kind detail (Some text) f s k = k (without_lone text) s
 or_follows kind detail None f s k = follows_same s
 
-pub width_follows : (output : Output) (f : Spot → Laid) (s : Spot) → ((t : Spot) → Follows t (f t).edge) → Follows s (width output f s).edge
+pub width_follows : (units : List ℕ → ℕ) (f : Spot → Laid) (s : Spot) → ((t : Spot) → Follows t (f t).edge) → Follows s (width units f s).edge
 unfolding width
-width_follows output f s k =
+width_follows units f s k =
     let a = f (inside s) in
     let h = (k (inside s)).count in
-    seq_follows s (leaves s a) (put (decimal (units_of output a.edge.text))) (record { around = refl; count = h }) (put_follows (decimal (units_of output a.edge.text)))
+    seq_follows s (leaves s a) (put (decimal (units a.edge.text))) (record { around = refl; count = h }) (put_follows (decimal (units a.edge.text)))
 
 interpolated_follows : (env : Surroundings) (f : List ℕ → Spot → Laid) (call : Call (List ℕ)) (s : Spot)
     → ((text : List ℕ) (t : Spot) → Follows t (f text t).edge) → Follows s (interpolated env f call s).edge
@@ -86,7 +85,7 @@ unfolding interpolated
 interpolated_follows env f (String name) s k = or_follows UndefString name (string_of name env.definitions) f s k
 interpolated_follows env f (Register name) s k = put_follows (signed_decimal (register_of name env)) s
 interpolated_follows env f (Argument escape) s k = or_follows ArgOutside escape (argument_of escape env.arguments) f s k
-interpolated_follows env f (Width text) s k = width_follows env.output (f text) s (k text)
+interpolated_follows env f (Width text) s k = width_follows env.units (f text) s (k text)
 
 call_follows : (env : Surroundings) (depth : ℕ) (call : Call (List ℕ)) (s : Spot) → Follows s (call_at env depth call s).edge
 unfolding call_at

@@ -1,11 +1,10 @@
 -- What is finished of a line stays as more is laid, and the bytes of a line before its first backslash stand at the front of its value: helpers of proofs.
 use Rattle.std.specs.Fmt.{decimal, signed_decimal}
-use Rattle.std.proofs.Common.{◌≡◌, ℕ, zero, suc, ◌+◌, ◌-◌, ◌<◌, ◌≤◌, ◌==◌, Bool, true, false, nat_lt, List, [], ◌∷◌, ◌++◌, length, take, get_or, codes, if◌then◌else◌, Option, Some, None, refl, sym, ap, ◌∙◌, subst, arith, append_assoc, append-nil}
+use Rattle.std.proofs.Common.{◌≡◌, ℕ, zero, suc, ◌-◌, ◌<◌, ◌≤◌, ◌==◌, Bool, true, false, nat_lt, List, [], ◌∷◌, ◌++◌, length, take, get_or, codes, if◌then◌else◌, Option, Some, None, refl, sym, ap, ◌∙◌, arith, append_assoc, append-nil}
 use Rattle.std.proofs.lemmas.List.{take-append-le, length-append}
 use Rattle.page_core_limits.specs.declared.TheConstants.{EXPAND, LINE}
 use Rattle.page_core_limits.specs.Limits.{name_of}
 use Rattle.page_core_limits.specs.declared.Limit.TheVariants as limits
-use Rattle.page_core_base.specs.declared.page_settings.Output.{Output}
 use Rattle.page_core_base.specs.declared.note_kinds.NoteKind.{NoteKind}
 use Rattle.page_core_base.specs.declared.note_kinds.NoteKind.TheVariants.{UndefString, ArgOutside, Loop, Limit}
 use Rattle.page_roff_names.specs.Names.{string_of}
@@ -16,7 +15,7 @@ use Rattle.page_roff_values.specs.declared.parts.Part.TheVariants.{Copied, Calle
 use Rattle.page_roff_values.specs.Arguments.{argument_of}
 use Rattle.page_roff_values.specs.Environments.{Surroundings, register_of}
 use Rattle.page_roff_values.specs.Parts.{plain, after_plain, copies, seen, parts, without_lone}
-use Rattle.page_roff_values.specs.Values.{Spot, Laid, nothing, unless, seq, says, ends, adds, counts, kept, put, lay, charge, value_or, inside, leaves, units_of, width, interpolated, call_at, value, start, expanded, NEST}
+use Rattle.page_roff_values.specs.Values.{Spot, Laid, nothing, unless, seq, says, ends, adds, counts, kept, put, lay, charge, value_or, inside, leaves, width, interpolated, call_at, value, start, expanded, NEST}
 use Rattle.page_roff_values.proofs.LineLemmas.{put_all}
 use Rattle.page_roff_values.proofs.ReadLemmas.{parts_more}
 
@@ -69,11 +68,11 @@ or_grows : (kind : NoteKind) (detail : List ℕ) (o : Option (List ℕ)) (f : Li
 or_grows kind detail (Some text) f s k = k (without_lone text) s
 or_grows kind detail None f s k = begins_same s.text
 
-width_grows : (output : Output) (f : Spot → Laid) (s : Spot) → Begins s.text (width output f s).edge.text
+width_grows : (units : List ℕ → ℕ) (f : Spot → Laid) (s : Spot) → Begins s.text (width units f s).edge.text
 unfolding width
-width_grows output f s =
+width_grows units f s =
     let a = f (inside s) in
-    seq_grows s.text (leaves s a) (put (decimal (units_of output a.edge.text))) (begins_same s.text) (put_grows (decimal (units_of output a.edge.text)))
+    seq_grows s.text (leaves s a) (put (decimal (units a.edge.text))) (begins_same s.text) (put_grows (decimal (units a.edge.text)))
 
 interpolated_grows : (env : Surroundings) (f : List ℕ → Spot → Laid) (call : Call (List ℕ)) (s : Spot)
     → ((text : List ℕ) (t : Spot) → Begins t.text (f text t).edge.text) → Begins s.text (interpolated env f call s).edge.text
@@ -81,7 +80,7 @@ unfolding interpolated
 interpolated_grows env f (String name) s k = or_grows UndefString name (string_of name env.definitions) f s k
 interpolated_grows env f (Register name) s k = put_grows (signed_decimal (register_of name env)) s
 interpolated_grows env f (Argument escape) s k = or_grows ArgOutside escape (argument_of escape env.arguments) f s k
-interpolated_grows env f (Width text) s k = width_grows env.output (f text) s
+interpolated_grows env f (Width text) s k = width_grows env.units (f text) s
 
 call_grows : (env : Surroundings) (depth : ℕ) (call : Call (List ℕ)) (s : Spot) → Begins s.text (call_at env depth call s).edge.text
 unfolding call_at

@@ -1,3 +1,4 @@
+pub mod AlikeLemmas
 pub mod ArgumentLemmas
 pub mod BracketLemmas
 pub mod CallLemmas

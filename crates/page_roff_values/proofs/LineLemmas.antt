@@ -6,7 +6,6 @@ use Rattle.std.proofs.lemmas.Bool.{le-leb, leb-true, ltb-true}
 use Rattle.memchr.specs.Find.{IsFirstByte, is_byte}
 use Rattle.std.specs.Option.{is_none}
 use Rattle.page_core_limits.specs.declared.TheConstants.{EXPAND, LINE}
-use Rattle.page_core_base.specs.declared.page_settings.Output.{Output}
 use Rattle.page_core_base.specs.declared.note_kinds.NoteKind.{NoteKind}
 use Rattle.page_core_base.specs.declared.note_kinds.NoteKind.TheVariants.{UndefString, ArgOutside, Loop, Limit}
 use Rattle.page_roff_names.specs.Names.{string_of}
@@ -17,7 +16,7 @@ use Rattle.page_roff_values.specs.declared.parts.Part.TheVariants.{Copied, Calle
 use Rattle.page_roff_values.specs.Arguments.{argument_of}
 use Rattle.page_roff_values.specs.Environments.{Surroundings, register_of}
 use Rattle.page_roff_values.specs.Parts.{copies, seen, parts, parts_up_to, without_lone}
-use Rattle.page_roff_values.specs.Values.{Spot, Laid, nothing, unless, seq, says, ends, adds, counts, kept, character_end, put, lay, charge, value_or, inside, leaves, units_of, width, interpolated, call_at, value, start, expanded, IsWithin}
+use Rattle.page_roff_values.specs.Values.{Spot, Laid, nothing, unless, seq, says, ends, adds, counts, kept, character_end, put, lay, charge, value_or, inside, leaves, width, interpolated, call_at, value, start, expanded, IsWithin}
 use Rattle.page_roff_values.proofs.LayLemmas.{seq_end}
 use Rattle.page_roff_values.proofs.ReadLemmas.{parts_more, plain_part}
 
@@ -81,12 +80,12 @@ or_within : (kind : NoteKind) (detail : List ℕ) (o : Option (List ℕ)) (f : L
 or_within kind detail (Some text) f s k h = k (without_lone text) s h
 or_within kind detail None f s k h = h
 
-width_within : (output : Output) (f : Spot → Laid) (s : Spot) → ((t : Spot) → IsWithin t → IsWithin (f t).edge) → IsWithin s → IsWithin (width output f s).edge
+width_within : (units : List ℕ → ℕ) (f : Spot → Laid) (s : Spot) → ((t : Spot) → IsWithin t → IsWithin (f t).edge) → IsWithin s → IsWithin (width units f s).edge
 unfolding width
-width_within output f s k h =
+width_within units f s k h =
     let a = f (inside s) in
     let i = k (inside s) (record { text = omega arith; count = h.count }) in
-    seq_within (leaves s a) (put (decimal (units_of output a.edge.text))) (record { text = h.text; count = i.count }) (put_within (decimal (units_of output a.edge.text)))
+    seq_within (leaves s a) (put (decimal (units a.edge.text))) (record { text = h.text; count = i.count }) (put_within (decimal (units a.edge.text)))
 
 interpolated_within : (env : Surroundings) (f : List ℕ → Spot → Laid) (call : Call (List ℕ)) (s : Spot)
     → ((text : List ℕ) (t : Spot) → IsWithin t → IsWithin (f text t).edge) → IsWithin s → IsWithin (interpolated env f call s).edge
@@ -94,7 +93,7 @@ unfolding interpolated
 interpolated_within env f (String name) s k h = or_within UndefString name (string_of name env.definitions) f s k h
 interpolated_within env f (Register name) s k h = put_within (signed_decimal (register_of name env)) s h
 interpolated_within env f (Argument escape) s k h = or_within ArgOutside escape (argument_of escape env.arguments) f s k h
-interpolated_within env f (Width text) s k h = width_within env.output (f text) s (k text) h
+interpolated_within env f (Width text) s k h = width_within env.units (f text) s (k text) h
 
 call_within : (env : Surroundings) (depth : ℕ) (call : Call (List ℕ)) (s : Spot) → IsWithin s → IsWithin (call_at env depth call s).edge
 unfolding call_at

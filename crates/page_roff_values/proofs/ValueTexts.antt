@@ -7,7 +7,6 @@ use Rattle.std.proofs.Math.Seq.{take-length}
 use Rattle.std.proofs.lemmas.Bool.Decides.{nat_tests}
 use Rattle.std.proofs.lemmas.Str.{IsCharBoundary-start}
 use Rattle.page_core_limits.specs.declared.TheConstants.{EXPAND, LINE}
-use Rattle.page_core_base.specs.declared.page_settings.Output.{Output}
 use Rattle.page_core_base.specs.declared.note_kinds.NoteKind.{NoteKind}
 use Rattle.page_core_base.specs.declared.note_kinds.NoteKind.TheVariants.{UndefString, ArgOutside, Loop, Limit}
 use Rattle.page_roff_names.specs.Names.{string_of}
@@ -19,7 +18,7 @@ use Rattle.page_roff_values.specs.Arguments.{spaced, spaced_quoted, joined, quot
 use Rattle.page_roff_values.specs.Environments.{Surroundings, register_of}
 use Rattle.page_roff_values.specs.Parts.{parts, without_lone}
 use Rattle.page_roff_values.specs.Texts.{IsText, AreTexts, AreArgumentTexts, AreLines}
-use Rattle.page_roff_values.specs.Values.{Spot, Laid, nothing, unless, seq, says, ends, adds, counts, kept, character_end, put, lay, charge, value_or, inside, leaves, units_of, width, interpolated, call_at, value}
+use Rattle.page_roff_values.specs.Values.{Spot, Laid, nothing, unless, seq, says, ends, adds, counts, kept, character_end, put, lay, charge, value_or, inside, leaves, width, interpolated, call_at, value}
 use Rattle.page_roff_values.proofs.PlainTexts.{nil_text, ascii_text, text_append, text_at}
 use Rattle.page_roff_values.proofs.PartTexts.{CallText, ArePartTexts, parts_texts, lone_text}
 
@@ -83,7 +82,7 @@ at_text n [] h = nil_text
 at_text zero (x ∷ xs) h = h.0
 at_text (suc n) (x ∷ xs) h = at_text n xs h.1
 
-abbrev SomeText : Option (List ℕ) → Type 0
+abbrev pub SomeText : Option (List ℕ) → Type 0
 SomeText o = MatchOption o (Unit {0}) IsText
 
 some_if : (c : Bool) (o p : Option (List ℕ)) → SomeText o → SomeText p → SomeText (if c then o else p)
@@ -97,7 +96,7 @@ named_text name xs h =
     (some_if (name == 42) (Some (joined xs)) (if name == 64 then Some (quoted xs) else None) (joined_text xs h)
     (some_if (name == 64) (Some (quoted xs)) None (quoted_text xs h) tt))
 
-argument_text : (escape : List ℕ) (env : Surroundings) → AreLines env → SomeText (argument_of escape env.arguments)
+pub argument_text : (escape : List ℕ) (env : Surroundings) → AreLines env → SomeText (argument_of escape env.arguments)
 argument_text escape env h = go escape env.arguments h.arguments
   where
     go : (escape : List ℕ) (o : Option (List (List ℕ))) → AreArgumentTexts o → SomeText (argument_of escape o)
@@ -108,7 +107,7 @@ argument_text escape env h = go escape env.arguments h.arguments
     go (a ∷ b ∷ name ∷ []) (Some xs) k = named_text name xs k
     go (a ∷ b ∷ name ∷ c ∷ more) (Some xs) k = tt
 
-string_text : (name : List ℕ) (env : Surroundings) → AreLines env → SomeText (string_of name env.definitions)
+pub string_text : (name : List ℕ) (env : Surroundings) → AreLines env → SomeText (string_of name env.definitions)
 string_text name env h = go (string_of name env.definitions) (h.strings name)
   where
     go : (o : Option (List ℕ)) → ((v : List ℕ) → o ≡ Some v → IsText v) → SomeText o
@@ -176,11 +175,11 @@ or_text : (kind : NoteKind) (detail : List ℕ) (o : Option (List ℕ)) (f : Lis
 or_text kind detail (Some text) f s o k h = k (without_lone text) s (lone_text text o) h
 or_text kind detail None f s o k h = h
 
-width_text : (output : Output) (f : Spot → Laid) (s : Spot) → IsText s.text → IsText (width output f s).edge.text
+width_text : (units : List ℕ → ℕ) (f : Spot → Laid) (s : Spot) → IsText s.text → IsText (width units f s).edge.text
 unfolding width
-width_text output f s h =
+width_text units f s h =
     let a = f (inside s) in
-    seq_text (leaves s a) (put (decimal (units_of output a.edge.text))) h (λ t. put_text (decimal (units_of output a.edge.text)) t (decimal_text (units_of output a.edge.text)))
+    seq_text (leaves s a) (put (decimal (units a.edge.text))) h (λ t. put_text (decimal (units a.edge.text)) t (decimal_text (units a.edge.text)))
 
 interpolated_text : (env : Surroundings) → AreLines env → (f : List ℕ → Spot → Laid) (call : Call (List ℕ)) (s : Spot)
     → ((text : List ℕ) (t : Spot) → IsText text → IsText t.text → IsText (f text t).edge.text) → IsText s.text → IsText (interpolated env f call s).edge.text
@@ -188,7 +187,7 @@ unfolding interpolated
 interpolated_text env l f (String name) s k h = or_text UndefString name (string_of name env.definitions) f s (string_text name env l) k h
 interpolated_text env l f (Register name) s k h = put_text (signed_decimal (register_of name env)) s (signed_text (register_of name env)) h
 interpolated_text env l f (Argument escape) s k h = or_text ArgOutside escape (argument_of escape env.arguments) f s (argument_text escape env l) k h
-interpolated_text env l f (Width text) s k h = width_text env.output (f text) s h
+interpolated_text env l f (Width text) s k h = width_text env.units (f text) s h
 
 call_text : (env : Surroundings) → AreLines env → (depth : ℕ) (call : Call (List ℕ)) (s : Spot) → CallText call → IsText s.text → IsText (call_at env depth call s).edge.text
 unfolding call_at

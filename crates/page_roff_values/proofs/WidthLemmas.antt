@@ -14,7 +14,8 @@ use Rattle.page_roff_values.specs.Expansions.{NestedSpot, nested_of}
 use Rattle.page_roff_values.specs.Latches.{Goes}
 use Rattle.page_roff_values.specs.Rest.{rest}
 use Rattle.page_roff_values.specs.Steps.{going_inside, going_outside}
-use Rattle.page_roff_values.specs.Values.{Spot, Laid, nothing, join, seq, put, inside, outside, leaves, column_of, units_of, width, value}
+use Rattle.page_roff_values.specs.Views.{units_of_bytes}
+use Rattle.page_roff_values.specs.Values.{Spot, Laid, nothing, join, seq, put, inside, outside, leaves, column_of, width, value}
 use Rattle.page_roff_values.proofs.FollowLemmas.{value_follows}
 use Rattle.page_roff_values.proofs.GoingLemmas.{begins}
 use Rattle.page_roff_values.proofs.LayLemmas.{seq_more, goes_on}
@@ -39,24 +40,24 @@ goes_back env room text s t going is kept =
     let all : t.spot ≡ (value env room text (inside s.spot)).edge = is ∙ ap (λ (a : Laid). a.edge) (sym (begins env room text (inside s.spot) going)) in
     outside_is s t (ap (λ (a : Spot). a.around) all ∙ (value_follows env room text (inside s.spot)).around) kept
 
-pub units_known : (output : Output) (text : List ℕ) → IsUtf8 text → 24 * columns_of output text ≡ units_of output text
+pub units_known : (output : Output) (text : List ℕ) → IsUtf8 text → 24 * columns_of output text ≡ units_of_bytes output text
 units_known output text h = rw (is_utf8-from_IsUtf8 text h) refl
 
 no_true : (b : Bool) → ¬ (b ≡ true) → b ≡ false
 no_true true h = absurd (h refl)
 no_true false h = refl
 
-pub units_none : (output : Output) (text : List ℕ) → ¬ (IsUtf8 text) → 0 ≡ units_of output text
+pub units_none : (output : Output) (text : List ℕ) → ¬ (IsUtf8 text) → 0 ≡ units_of_bytes output text
 units_none output text h = rw (no_true (is_utf8 text) (λ e. h (IsUtf8-from_is_utf8 text e))) refl
 
 -- the messages of the text came, and the line goes on with the width
-pub width_goes : {P S : Type 0} (left : P → S → List Message → Type 0) (o p : S) (output : Output) (f : Spot → Laid) (s t u : Spot) (units : ℕ)
-    → Goes left o (f (inside s)) p (nothing t) → u ≡ outside s t → units ≡ units_of output t.text
-    → Goes left o (width output f s) p (seq (nothing u) (put (decimal units)))
+pub width_goes : {P S : Type 0} (left : P → S → List Message → Type 0) (o p : S) (measure : List ℕ → ℕ) (f : Spot → Laid) (s t u : Spot) (units : ℕ)
+    → Goes left o (f (inside s)) p (nothing t) → u ≡ outside s t → units ≡ measure t.text
+    → Goes left o (width measure f s) p (seq (nothing u) (put (decimal units)))
 unfolding width
-width_goes left o p output f s t u units k e h =
+width_goes left o p measure f s t u units k e h =
     let a = f (inside s) in
-    let n : units ≡ units_of output a.edge.text = h ∙ ap (λ (x : Spot). units_of output x.text) k.1 in
-    goes_on left o p (seq (leaves s a) (put (decimal (units_of output a.edge.text)))) (leaves s a) u (put (decimal units))
-    (seq_more (leaves s a) (put (decimal (units_of output a.edge.text))) ∙ ap (λ (m : ℕ). join (leaves s a) (seq (nothing (leaves s a).edge) (put (decimal m)))) (sym n))
+    let n : units ≡ measure a.edge.text = h ∙ ap (λ (x : Spot). measure x.text) k.1 in
+    goes_on left o p (seq (leaves s a) (put (decimal (measure a.edge.text)))) (leaves s a) u (put (decimal units))
+    (seq_more (leaves s a) (put (decimal (measure a.edge.text))) ∙ ap (λ (m : ℕ). join (leaves s a) (seq (nothing (leaves s a).edge) (put (decimal m)))) (sym n))
     (k.0, e ∙ ap (outside s) k.1)

@@ -1,20 +1,15 @@
 -- What interpolations read: roff(7), "Escape sequences", and the read-only number registers.
 use Rattle.std.specs.Prelude.{ℕ, Bool, List, length, codes, if◌then◌else◌, ℤ, pos, Option, Some, None, unwrap_or}
 use Rattle.std.specs.Str.{bytes_eq}
-use Rattle.page_core_base.specs.declared.page_settings.Output.{Output}
 use Rattle.page_roff_names.specs.Names.{Definitions, number_of}
-use Rattle.page_roff_values.specs.declared.environments.Environment.{Environment}
 
--- whether it is copy mode; the names of the page; the arguments of the macro that runs, if one does; the output
+-- Whether it is copy mode; the names of the page; the arguments of the macro that runs, if one does; how many basic units wide a finished
+-- text is.
 pub record Surroundings : Type 0 where
   pub copy : Bool
   pub definitions : Definitions
   pub arguments : Option (List (List ℕ))
-  pub output : Output
-
-abbrev pub surroundings_of : Environment → Surroundings
-surroundings_of e =
-    record { copy = e.copy; definitions = e.names.now; arguments = e.arguments.now; output = e.output }
+  pub units : List ℕ → ℕ
 
 abbrev pub argument_count : Option (List (List ℕ)) → ℕ
 argument_count None = 0

@@ -2,7 +2,6 @@
 use Rattle.std.specs.Fmt.{decimal, signed_decimal}
 use Rattle.std.specs.Prelude.{ℕ, zero, suc, ◌+◌, ◌-◌, ◌*◌, ◌≤◌, Bool, true, false, ◌&&◌, nat_le, nat_lt, List, [], ◌∷◌, ◌++◌, length, take, get_or, codes, if◌then◌else◌}
 use Rattle.std.specs.Prelude.{Option, Some, None, unwrap_or}
-use Rattle.std.specs.Str.{is_utf8}
 use Rattle.page_core_limits.specs.declared.TheConstants.{EXPAND, LINE}
 use Rattle.page_core_base.specs.Messages.{Message, message_about}
 use Rattle.page_core_base.specs.declared.page_settings.Output.{Output}
@@ -121,15 +120,15 @@ outside s t = record { around = s.around; text = s.text; count = t.count; ended 
 abbrev pub leaves : Spot → Laid → Laid
 leaves s a = record { notes = a.notes; edge = outside s a.edge }
 
--- basic units, 24 a column; what isn't UTF-8, which no line is, has none
+-- basic units, 24 a column
 abbrev pub units_of : Output → List ℕ → ℕ
-units_of output text = if is_utf8 text then 24 * columns_of output text else 0
+units_of output text = 24 * columns_of output text
 
 -- The text is expanded by itself, and the line goes on with its width.
-unfoldable pub width : Output → (Spot → Laid) → Spot → Laid
-width output f s =
+unfoldable pub width : (List ℕ → ℕ) → (Spot → Laid) → Spot → Laid
+width units f s =
     let a = f (inside s) in
-    seq (leaves s a) (put (decimal (units_of output a.edge.text)))
+    seq (leaves s a) (put (decimal (units a.edge.text)))
 
 -- ---- values
 
@@ -138,7 +137,7 @@ unfoldable pub interpolated : Surroundings → (List ℕ → Spot → Laid) → 
 interpolated env f (String name) s = value_or UndefString name (string_of name env.definitions) f s
 interpolated env f (Register name) s = put (signed_decimal (register_of name env)) s
 interpolated env f (Argument escape) s = value_or ArgOutside escape (argument_of escape env.arguments) f s
-interpolated env f (Width text) s = width env.output (f text) s
+interpolated env f (Width text) s = width env.units (f text) s
 
 -- An interpolation in which this many more may stand inside one another. One too deep gives nothing.
 unfoldable pub call_at : Surroundings → ℕ → Call (List ℕ) → Spot → Laid

@@ -1,7 +1,8 @@
 //! What interpolations read: the names of a page, the arguments of the macro that runs, and the read-only number registers (roff(7)).
 
 ghost use Rattle.std.specs.Prelude.{◌≡◌};
-ghost use Rattle.page_roff_values.specs.Environments.{surroundings_of, read_only, register_found, register_of};
+ghost use Rattle.page_roff_values.specs.Environments.{read_only, register_found, register_of};
+ghost use Rattle.page_roff_values.specs.Views.{surroundings_of};
 
 use crate::call_arguments::CallArguments;
 use page_core_base::Output;

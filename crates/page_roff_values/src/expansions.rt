@@ -3,13 +3,12 @@
 ghost use Rattle.std.specs.Prelude.{◌≡◌, ◌+◌, ◌-◌, ◌*◌, ◌^◌, ◌<◌, ◌≤◌, length, not, false, nat_lt, IfOk, if◌then◌else◌};
 ghost use Rattle.std.specs.Fmt.{decimal, signed_decimal};
 ghost use Rattle.page_core_limits.specs.declared.TheConstants.{LINE};
-ghost use Rattle.page_roff_values.specs.Environments.{surroundings_of};
 ghost use Rattle.page_roff_values.specs.Latches.{Goes};
 ghost use Rattle.page_roff_values.specs.Rest.{calling, going_on, steps, texts_of};
 ghost use Rattle.page_roff_values.specs.Values as laying;
 ghost use Rattle.page_roff_values.specs.Expansions.{outermost, over};
 ghost use Rattle.page_roff_values.specs.Steps.{going_inside, going_outside};
-ghost use Rattle.page_roff_values.specs.Views.{call_of};
+ghost use Rattle.page_roff_values.specs.Views.{call_of, surroundings_of, units_of_bytes};
 
 use crate::endings::{kept, without_lone};
 use crate::environments::Environment;
@@ -248,7 +247,7 @@ impl Nested {
 
     // The width of the text that is finished.
     fn units(&self, output: Output) -> u32
-        ensures { result ≡ laying.units_of output self.now.spot.text }
+        ensures { result ≡ units_of_bytes output self.now.spot.text }
     {
         match std::str::from_utf8(self.text()) {
             Ok(text) => 24 * columns(text.as_bytes(), output),
@@ -279,7 +278,7 @@ impl Nested {
         requires going { self.old.spot.ended ≡ false }
         requires fits { length self.old.before + LINE * (room + 1) ≤ LINE * NEST }
         ensures goes { Goes O.left out.old
-            (laying.width env.now.output (laying.value (surroundings_of env.now) room text.now) self.old.spot)
+            (laying.width (units_of_bytes env.now.output) (laying.value (surroundings_of env.now) room text.now) self.old.spot)
             out.new (laying.nothing self.new.spot) }
         ensures before { self.new.before ≡ self.old.before }
     {

@@ -3,6 +3,6 @@ use Rattle.page_roff_texts.proofs.laws.texts_law.Goals as goal
 
 pub returns : goal.returns
 returns c = record {
-  memory = λ output lines at t h g. (page_texts output lines at t (record { memory = h; out = g })).memory;
-  given = λ output lines at t h g. (page_texts output lines at t (record { memory = h; out = g })).out;
+  memory = λ units lines at t h g. (page_texts units lines at t (record { memory = h; out = g })).memory;
+  given = λ units lines at t h g. (page_texts units lines at t (record { memory = h; out = g })).out;
 }

@@ -1,4 +1,5 @@
 use Rattle.std.proofs.Common.{refl, ap, ◌∙◌, not, ◌&&◌}
+use Rattle.page_roff_effects.specs.Acting.{measured}
 use Rattle.page_roff_machine.proofs.DoingLemmas.{read_met, passed_nothing}
 use Rattle.page_roff_machine.proofs.budgeted_actions.BudgetedActions.read.Goals as goal
 
@@ -11,5 +12,5 @@ returns-clause-done g c =
 pub returns-clause-none : goal.returns-clause-none
 returns-clause-none g c = λ h.
     c.read_line.ensures.kind
-    ∙ passed_nothing c.begin_line.new.self.actions.setting c.args.region.now c.runs-is_run.result c.args.line.now c.begin_line.new.self.actions.memory
+    ∙ passed_nothing (measured c.begin_line.new.self.actions.setting) c.args.region.now c.runs-is_run.result c.args.line.now c.begin_line.new.self.actions.memory
     (c.runs-is_run.ensures ∙ ap (λ is_run. is_run && not c.begin_line.new.self.budget.gave_up) h)

@@ -27,5 +27,5 @@ returns c =
     let a = c.self.inside in
     rw c.begun_as-self-inside.ensures
     (begin_edge a.machine c.begin.new.self a.source a.remaining c.begin.result c.args.line.now c.args.number c.self.invariant
-    (none_in a.machine a.source a.remaining _ c.self.view_is c.requires.idle) c.begin.ensures
+    (none_in a.machine a.source a.remaining _ c.self.view_is c.requires.idle) c.begin.ensures c.requires.line
     ∙ ap (λ (r : LinesState). line_begun r.edge (record { text = c.args.line.now; number = c.args.number; notes = [] })) c.self.view_is)

@@ -3,7 +3,7 @@ use Rattle.std.proofs.Common.{◌-◌, [], ◌∷◌, length, codes, arith, ap, 
 use Rattle.std.proofs.Common.{w32}
 use Rattle.std.proofs.lemmas.Int.{to_z-of_z}
 use Rattle.page_core_base.specs.declared.note_kinds.NoteKind.TheVariants.{UndefString, ArgOutside, Loop}
-use Rattle.page_roff_values.specs.Environments.{surroundings_of}
+use Rattle.page_roff_values.specs.Views.{surroundings_of}
 use Rattle.page_roff_values.specs.Expansions.{NestedSpot}
 use Rattle.page_roff_values.specs.Rest.{rest, room_in, steps, texts_of}
 use Rattle.page_roff_values.specs.Values.{Spot, nothing, seq, says, ends, counts, put, width, inside, call_at, value}
@@ -77,7 +77,7 @@ call-returns-in-Width-clause-goes g x c =
     let ts = outer_of c.args.sources.now.outer.items in
     let call = call_of c.args.call in
     let d = room - c.depth-in-Width.result - 1 in
-    let given = width env.output (value env d c.in-Width.text.now) (counts s) in
+    let given = width env.units (value env d c.in-Width.text.now) (counts s) in
     goes_on g.O.NoteOut.left _ _ (seq (call_at env (room_in room (t ∷ ts)) call s) (rest env room (t ∷ ts))) given c.put_width.new.self.spot (rest env room (t ∷ ts))
     (call_gives env room d t ts call s (rest env room (t ∷ ts)) given (sym c.if-not-charge.ensures.fits) (omega (arith, c.depth.ensures.value, c.depth-in-Width.ensures.value))
     (width_some env (value env d) call c.in-Width.text.now (counts s) (ap call_of c.in-Width.is))) (rw c.if-not-charge.ensures.counted at c.put_width.ensures.goes)
@@ -86,7 +86,7 @@ pub call-returns-in-Width-clause-falls : goal.call-returns-in-Width-clause-falls
 call-returns-in-Width-clause-falls g x c =
     let env = surroundings_of c.args.env.now in
     let d = c.args.room - c.depth-in-Width.result - 1 in
-    let f = (width_follows env.output (value env d c.in-Width.text.now) (counts c.args.self.now.spot) (value_follows env d c.in-Width.text.now)).count in
+    let f = (width_follows env.units (value env d c.in-Width.text.now) (counts c.args.self.now.spot) (value_follows env d c.in-Width.text.now)).count in
     steps_later c.args.self.now.spot c.put_width.new.self.spot (texts_of c.args.sources.now) (rw (rw c.if-not-charge.ensures.counted at c.put_width.ensures.goes.1) (omega (arith, f)))
 
 pub call-returns-in-Some-clause-goes : goal.call-returns-in-Some-clause-goes
@@ -183,8 +183,8 @@ put_width-returns-then-is_going-clause-goes g x c =
     let back = rw (outside'.start, outside'.width_column) at c.go_outside.ensures ∙ goes_back env room text s t c.requires.going ran.1 kept in
     let same = begins env room text (inside s.spot) c.requires.going in
     let last = seq (nothing u.spot) (put (decimal c.units-units.result)) in
-    goes_then g.O.NoteOut.left _ _ _ (width env.output (value env room text) s.spot) last (nothing c.put_units.new.self.spot)
-    (width_goes g.O.NoteOut.left _ _ env.output (value env room text) s.spot t.spot u.spot c.units-units.result
+    goes_then g.O.NoteOut.left _ _ _ (width env.units (value env room text) s.spot) last (nothing c.put_units.new.self.spot)
+    (width_goes g.O.NoteOut.left _ _ env.units (value env room text) s.spot t.spot u.spot c.units-units.result
     (goes_then g.O.NoteOut.left _ _ _ (value env room text (inside s.spot)) (seq (nothing (inside s.spot)) (rest env room (text ∷ []))) (nothing t.spot) (goes_same g.O.NoteOut.left _ _ _ same) ran) (ap (λ (a : NestedSpot). a.spot) back) c.units-units.ensures)
     (goes_then g.O.NoteOut.left _ _ _ last (put (decimal c.units-units.result) u.spot) (nothing c.put_units.new.self.spot)
     (goes_same g.O.NoteOut.left _ last (put (decimal c.units-units.result) u.spot) (seq_nothing u.spot (put (decimal c.units-units.result)) (going _ (sym c.if-is_going.true ∙ c.is_going.ensures))))
@@ -217,8 +217,8 @@ put_width-returns-else-is_going-clause-goes g x c =
     let back = rw (outside'.start, outside'.width_column) at c.go_outside.ensures ∙ goes_back env room text s t c.requires.going ran.1 kept in
     let same = begins env room text (inside s.spot) c.requires.going in
     let last = seq (nothing u.spot) (put (decimal c.units-units.result)) in
-    goes_then g.O.NoteOut.left _ _ _ (width env.output (value env room text) s.spot) last (nothing u.spot)
-    (width_goes g.O.NoteOut.left _ _ env.output (value env room text) s.spot t.spot u.spot c.units-units.result
+    goes_then g.O.NoteOut.left _ _ _ (width env.units (value env room text) s.spot) last (nothing u.spot)
+    (width_goes g.O.NoteOut.left _ _ env.units (value env room text) s.spot t.spot u.spot c.units-units.result
     (goes_then g.O.NoteOut.left _ _ _ (value env room text (inside s.spot)) (seq (nothing (inside s.spot)) (rest env room (text ∷ []))) (nothing t.spot) (goes_same g.O.NoteOut.left _ _ _ same) ran) (ap (λ (a : NestedSpot). a.spot) back) c.units-units.ensures)
     (goes_same g.O.NoteOut.left _ last (nothing u.spot) (seq_ended u.spot (put (decimal c.units-units.result)) (gone _ (sym c.if-is_going.false ∙ c.is_going.ensures))))
 

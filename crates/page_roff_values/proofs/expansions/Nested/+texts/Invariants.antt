@@ -1,5 +1,5 @@
 use Rattle.std.proofs.Common.{◌≡◌, ◌+◌, ◌*◌}
-use Rattle.page_roff_values.specs.Environments.{surroundings_of}
+use Rattle.page_roff_values.specs.Views.{surroundings_of}
 use Rattle.page_roff_values.specs.Latches.{Goes}
 use Rattle.page_roff_values.specs.Rest.{rest, texts_of, steps}
 use Rattle.page_roff_values.specs.Values.{seq, nothing}
