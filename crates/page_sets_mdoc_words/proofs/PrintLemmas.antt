@@ -20,7 +20,7 @@ use Rattle.page_sets_mdoc_lines.specs.LineWords.{word_delimiter, is_real}
 use Rattle.page_sets_mdoc_words.specs.Printed.{word_or_delimiter, real_word, printed_word, printed, is_opening}
 use Rattle.page_sets_mdoc_words.specs.Inlines.{lone, named, flags, flags_begun, variant_own, own_or_word, variant_word, variant, section, reference, more_arguments, arguments, function_words, function_end, next_arguments, function_opened, bsd, address, link_words, missing_quote}
 use Rattle.page_sets_lines.specs.declared.line_steps.SynopsisStep.{SynopsisStep}
-use Rattle.page_sets_lines.specs.declared.leaves.Own.{Own}
+use Rattle.page_sets_names.specs.declared.own_texts.Own.{Own}
 use Rattle.page_sets_mdoc_rows.specs.declared.blocks.Sentence.{Sentence}
 use Rattle.page_sets_mdoc_rows.specs.declared.blocks.Sentence.TheVariants.{Exit, Return}
 use Rattle.page_roff_forms.specs.Arguments.{is_quoted}

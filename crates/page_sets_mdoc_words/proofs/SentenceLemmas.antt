@@ -1,7 +1,7 @@
 -- One step of a sentence: helpers of proofs.
 use Rattle.std.proofs.Common.{◌≡◌, ℕ, Bool, true, false, List, [], ◌∷◌, refl, Option, None, Some}
 use Rattle.page_roff_forms.specs.declared.quotes.Argument.{Argument}
-use Rattle.page_sets_lines.specs.declared.leaves.Own.{Own}
+use Rattle.page_sets_names.specs.declared.own_texts.Own.{Own}
 use Rattle.page_core_base.specs.LinesTaken.{Line}
 use Rattle.page_sets_mdoc_rows.specs.declared.blocks.Sentence.{Sentence}
 use Rattle.page_sets_mdoc_rows.specs.declared.blocks.Sentence.TheVariants.{Exit, Return}

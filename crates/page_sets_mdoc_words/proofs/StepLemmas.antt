@@ -2,7 +2,7 @@
 use Rattle.std.proofs.Common.{◌≡◌, ℕ, zero, suc, ◌≤◌, min, Bool, true, false, List, [], ◌∷◌, ◌++◌, length, take, drop, refl, ap, ◌∙◌, arith, Option, None, Some}
 use Rattle.page_roff_forms.specs.declared.quotes.Argument.{Argument}
 use Rattle.page_sets_lines.specs.declared.events.Join.TheVariants.{Apart, Glued}
-use Rattle.page_sets_lines.specs.declared.leaves.Own.TheVariants.{Comma}
+use Rattle.page_sets_names.specs.declared.own_texts.Own.TheVariants.{Comma}
 use Rattle.page_sets_lines.specs.ControlLines.{first_of}
 use Rattle.page_sets_mdoc_lines.specs.LineWords.{arguments_after, is_real}
 use Rattle.page_sets_mdoc_words.specs.declared.functions.FunctionStep.{FunctionStep}

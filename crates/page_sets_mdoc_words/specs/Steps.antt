@@ -16,8 +16,8 @@ use Rattle.page_sets_lines.specs.declared.blocks.BlockCloser.TheVariants as bloc
 use Rattle.page_sets_lines.specs.declared.events.Join.TheVariants.{Apart, Glued}
 use Rattle.page_sets_lines.specs.declared.events.Deed.TheVariants as deeds
 use Rattle.page_sets_lines.specs.declared.events.Event.{Event}
-use Rattle.page_sets_lines.specs.declared.leaves.Own.{Own}
-use Rattle.page_sets_lines.specs.declared.leaves.Own.TheVariants as owns
+use Rattle.page_sets_names.specs.declared.own_texts.Own.{Own}
+use Rattle.page_sets_names.specs.declared.own_texts.Own.TheVariants as owns
 use Rattle.page_sets_lines.specs.declared.line_steps.LineStep.TheVariants as line_steps
 use Rattle.page_sets_lines.specs.declared.openers.Closer.TheVariants as closers
 use Rattle.page_sets_lines.specs.declared.openers.LineOpener.TheVariants.{Enclosure}

@@ -3,7 +3,7 @@
 ghost use Rattle.std.specs.Prelude.{◌≡◌, ◌≤◌, Some, length};
 ghost use Rattle.page_core_base.specs.declared.cells.Font.TheVariants.{B};
 ghost use Rattle.page_sets_lines.specs.declared.events.Join.TheVariants.{Apart, Glued};
-ghost use Rattle.page_sets_lines.specs.declared.leaves.Own.TheVariants.{Dash};
+ghost use Rattle.page_sets_names.specs.declared.own_texts.Own.TheVariants.{Dash};
 ghost use Rattle.page_sets_lines.specs.Events.{event_seen};
 ghost use Rattle.page_sets_mdoc_lines.specs.Cursors.{IsCursorOf};
 ghost use Rattle.page_sets_mdoc_words.specs.declared.flags.FlagStep.TheVariants as flags;

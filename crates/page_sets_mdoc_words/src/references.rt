@@ -2,7 +2,7 @@
 
 ghost use Rattle.std.specs.Prelude.{◌≡◌, ◌≤◌, None, length};
 ghost use Rattle.page_sets_lines.specs.declared.events.Join.TheVariants.{Apart, Glued};
-ghost use Rattle.page_sets_lines.specs.declared.leaves.Own.TheVariants.{CloseParenthesis};
+ghost use Rattle.page_sets_names.specs.declared.own_texts.Own.TheVariants.{CloseParenthesis};
 ghost use Rattle.page_sets_lines.specs.Events.{event_seen};
 ghost use Rattle.page_sets_mdoc_lines.specs.Cursors.{IsCursorOf};
 ghost use Rattle.page_sets_mdoc_words.specs.declared.references.ReferenceStep.TheVariants as references;

@@ -4,7 +4,7 @@ ghost use Rattle.std.specs.Prelude.{◌≡◌, ◌≤◌, None, length};
 ghost use Rattle.page_roff_forms.specs.Arguments.{argument_seen};
 ghost use Rattle.page_sets_lines.specs.declared.events.Join.{Join};
 ghost use Rattle.page_sets_lines.specs.declared.events.Join.TheVariants.{Apart};
-ghost use Rattle.page_sets_lines.specs.declared.leaves.Own.TheVariants.{Bsd};
+ghost use Rattle.page_sets_names.specs.declared.own_texts.Own.TheVariants.{Bsd};
 ghost use Rattle.page_sets_lines.specs.Events.{event_seen};
 ghost use Rattle.page_sets_mdoc_lines.specs.Cursors.{IsCursorOf};
 ghost use Rattle.page_sets_mdoc_words.specs.declared.systems.VersionStep.TheVariants as versions;

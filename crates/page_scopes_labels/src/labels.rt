@@ -1,7 +1,7 @@
 //! What an open scope is, and what is known of it by that alone: one row for each (man(7), mdoc(7)).
 
 ghost use Rattle.std.specs.Prelude.{◌≡◌};
-ghost use Rattle.page_scopes_tree.specs.Labels as labels;
+ghost use Rattle.page_scopes_labels.specs.Labels as labels;
 
 use page_sets_lines::{Block, LineOpener, Link, ListKind};
 use std::alloc::AllocError;
@@ -190,49 +190,49 @@ impl Label {
 
     /// Whether the scope ends with a line.
     #[inline(always)]
-    pub(crate) fn is_line(self) -> bool
+    pub fn is_line(self) -> bool
         ensures { result ≡ labels.is_line self }
     {
         matches!(self.row().end, ScopeEnd::Line)
     }
 
     /// Whether the scope is an enclosure that ends with a line.
-    pub(crate) fn is_enclosure(self) -> bool
+    pub fn is_enclosure(self) -> bool
         ensures { result ≡ labels.is_enclosure self }
     {
         matches!(self, Label::Line(LineOpener::Enclosure(_)))
     }
 
     /// Whether the scope is a section.
-    pub(crate) fn is_section(self) -> bool
+    pub fn is_section(self) -> bool
         ensures { result ≡ labels.is_section self }
     {
         matches!(self, Label::Section)
     }
 
     /// Whether the scope is a paragraph.
-    pub(crate) fn is_paragraph(self) -> bool
+    pub fn is_paragraph(self) -> bool
         ensures { result ≡ labels.is_paragraph self }
     {
         matches!(self, Label::Paragraph)
     }
 
     /// Whether the scope is an item of a list.
-    pub(crate) fn is_item(self) -> bool
+    pub fn is_item(self) -> bool
         ensures { result ≡ labels.is_item self }
     {
         matches!(self, Label::Item)
     }
 
     /// Whether the scope is a list.
-    pub(crate) fn is_list(self) -> bool
+    pub fn is_list(self) -> bool
         ensures { result ≡ labels.is_list self }
     {
         matches!(self, Label::Explicit(Explicit::Block(Block::List(_))))
     }
 
     /// Whether the scope is a list whose items have heads.
-    pub(crate) fn is_headed_list(self) -> bool
+    pub fn is_headed_list(self) -> bool
         ensures { result ≡ labels.is_headed_list self }
     {
         match self {
@@ -242,21 +242,21 @@ impl Label {
     }
 
     /// Whether the scope is that with a closer of its own.
-    pub(crate) fn is_explicit(self, explicit: Explicit) -> bool
+    pub fn is_explicit(self, explicit: Explicit) -> bool
         ensures { result ≡ labels.is_explicit explicit self }
     {
         self.has_opener_of(Label::Explicit(explicit))
     }
 
     /// Whether the scope is a relative margin.
-    pub(crate) fn is_margin(self) -> bool
+    pub fn is_margin(self) -> bool
         ensures { result ≡ labels.is_margin self }
     {
         self.is_explicit(Explicit::RelativeMargin)
     }
 
     /// Whether paragraphs inside the scope are apart from those around it.
-    pub(crate) fn is_level(self) -> bool
+    pub fn is_level(self) -> bool
         ensures { result ≡ labels.is_level self }
     {
         self.row().is_level

@@ -1,9 +1,9 @@
 //! The marks around enclosed words (mdoc(7), "MACRO REFERENCE").
 
 ghost use Rattle.std.specs.Prelude.{◌≡◌};
-ghost use Rattle.page_sets_lines.specs.Marks as marks;
+ghost use Rattle.page_sets_names.specs.Marks as marks;
 
-use crate::leaves::Own;
+use crate::own_texts::Own;
 
 /// The marks around the words of an enclosure.
 #[derive(Clone, Copy, PartialEq, Eq)]

@@ -1,11 +1,11 @@
 -- The marks around enclosed words, and the macros that have them. Source: mdoc(7), "MACRO REFERENCE".
 use Rattle.std.specs.Prelude.{ℕ, List, codes}
-use Rattle.page_sets_lines.specs.declared.leaves.Own.{Own}
-use Rattle.page_sets_lines.specs.declared.leaves.Own.TheVariants as owns
-use Rattle.page_sets_lines.specs.declared.marks.Marks.{Marks}
-use Rattle.page_sets_lines.specs.declared.marks.Marks.TheVariants.{Angle, Square, Curly, Round, Double, Single, Straight}
-use Rattle.page_sets_lines.specs.declared.marks.Quotation.{Quotation}
-use Rattle.page_sets_lines.specs.declared.marks.Quotation.TheVariants.{Ao, Bo, Bro, Do, Oo, Po, Qo, So}
+use Rattle.page_sets_names.specs.declared.own_texts.Own.{Own}
+use Rattle.page_sets_names.specs.declared.own_texts.Own.TheVariants as owns
+use Rattle.page_sets_names.specs.declared.marks.Marks.{Marks}
+use Rattle.page_sets_names.specs.declared.marks.Marks.TheVariants.{Angle, Square, Curly, Round, Double, Single, Straight}
+use Rattle.page_sets_names.specs.declared.marks.Quotation.{Quotation}
+use Rattle.page_sets_names.specs.declared.marks.Quotation.TheVariants.{Ao, Bo, Bro, Do, Oo, Po, Qo, So}
 
 -- the mark before the words
 abbrev pub opening : Marks → Own

@@ -3,20 +3,20 @@ use Rattle.std.specs.Prelude.{ℕ, Bool, true, false, List, codes}
 use Rattle.std.specs.Borrow.{Bor}
 use Rattle.std.specs.Str.{bytes_eq}
 use Rattle.page_sets_lines.specs.Blocks.{block_closer_name, block_name}
-use Rattle.page_sets_lines.specs.MacroNames.{font_macro_name, heading_name, link_closer_name, link_name, one_line_name, tag_name}
-use Rattle.page_sets_lines.specs.Marks.{marks_name}
+use Rattle.page_sets_names.specs.MacroNames.{font_macro_name, heading_name, link_closer_name, link_name, one_line_name, tag_name}
+use Rattle.page_sets_names.specs.Marks.{marks_name}
 use Rattle.page_sets_lines.specs.declared.openers.LineOpener.{LineOpener}
 use Rattle.page_sets_lines.specs.declared.openers.LineOpener.TheVariants.{Head, Heading, Tag, FontWords, Enclosure, Description, OneLine}
 use Rattle.page_sets_lines.specs.declared.blocks.Block.TheVariants as blocks
 use Rattle.page_sets_lines.specs.declared.lists.ListKind.{ListKind}
 use Rattle.page_sets_lines.specs.declared.lists.ListKind.TheVariants as kinds
-use Rattle.page_scopes_tree.specs.declared.labels.Explicit.{Explicit}
-use Rattle.page_scopes_tree.specs.declared.labels.Explicit.TheVariants.{RelativeMargin, Target, Syntax, Block}
-use Rattle.page_scopes_tree.specs.declared.labels.Label.{Label}
-use Rattle.page_scopes_tree.specs.declared.labels.Label.TheVariants as labels
-use Rattle.page_scopes_tree.specs.declared.labels.LabelRow.{LabelRow}
-use Rattle.page_scopes_tree.specs.declared.labels.ScopeEnd.{ScopeEnd}
-use Rattle.page_scopes_tree.specs.declared.labels.ScopeEnd.TheVariants.{Implied, Line, Closer}
+use Rattle.page_scopes_labels.specs.declared.labels.Explicit.{Explicit}
+use Rattle.page_scopes_labels.specs.declared.labels.Explicit.TheVariants.{RelativeMargin, Target, Syntax, Block}
+use Rattle.page_scopes_labels.specs.declared.labels.Label.{Label}
+use Rattle.page_scopes_labels.specs.declared.labels.Label.TheVariants as labels
+use Rattle.page_scopes_labels.specs.declared.labels.LabelRow.{LabelRow}
+use Rattle.page_scopes_labels.specs.declared.labels.ScopeEnd.{ScopeEnd}
+use Rattle.page_scopes_labels.specs.declared.labels.ScopeEnd.TheVariants.{Implied, Line, Closer}
 
 -- what texts of a row hold
 abbrev pub end_seen : ScopeEnd (Bor (List ℕ)) → ScopeEnd (List ℕ)
