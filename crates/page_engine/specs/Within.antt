@@ -6,7 +6,7 @@ use Rattle.page_roff_names.specs.Entries.{size}
 use Rattle.page_roff_source.specs.Caps.{RoffFits}
 use Rattle.page_scopes.specs.declared.layouts.Kept.{Kept}
 use Rattle.page_scopes_laws.specs.declared.Scope.{Scope}
-use Rattle.page_scopes_tree.specs.declared.labels.Label.{Label}
+use Rattle.page_scopes_labels.specs.declared.labels.Label.{Label}
 use Rattle.page_engine.specs.Edges.{Edge, lines_at}
 use Rattle.page_engine.specs.States.{PageState}
 

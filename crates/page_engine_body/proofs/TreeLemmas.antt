@@ -23,7 +23,7 @@ use Rattle.page_scopes_tree.specs.Nests.{Fact, scopes_nesting, step_standing}
 use Rattle.page_core_limits.specs.declared.TheConstants.{SCOPES}
 use Rattle.page_scopes_tree.specs.declared.acts.Act.{Act}
 use Rattle.page_scopes_tree.specs.declared.acts.Act.TheVariants as acts
-use Rattle.page_scopes_tree.specs.declared.labels.Label.{Label}
+use Rattle.page_scopes_labels.specs.declared.labels.Label.{Label}
 use Rattle.page_scopes_tree.proofs.FitLemmas.{scopes-sound}
 use Rattle.page_scopes_tree.proofs.StandingLemmas.{OfDone, done-standing}
 use Rattle.page_sets_lines.specs.declared.events.Deed.{Deed}
@@ -31,7 +31,7 @@ use Rattle.page_sets_lines.specs.declared.events.Deed.TheVariants as deeds
 use Rattle.page_sets_lines.specs.declared.events.Event.{Event}
 use Rattle.page_sets_lines.specs.declared.leaves.Leaf.{Leaf}
 use Rattle.page_sets_lines.specs.declared.leaves.Leaf.TheVariants as leaves
-use Rattle.page_sets_lines.specs.declared.macro_names.Prologue.{Prologue}
+use Rattle.page_sets_names.specs.declared.macro_names.Prologue.{Prologue}
 use Rattle.page_engine_body.specs.Bodies.{BodyEdge, HeaderEdge, begin_items, scope_items, with_scopes, with_title, deed_items, deed_after, event_items, event_after, events_items, events_after, end_items}
 use Rattle.page_engine_body.specs.Trees.{Aside, tells, titles, closes, deed_steps, event_steps, events_steps, page_end_steps, header_at, body_sides, body_nesting, body_layout, opened, body_of, tree_items, tree_after}
 

@@ -27,7 +27,7 @@ use Rattle.page_sets_lines.specs.declared.events.Deed.{Deed}
 use Rattle.page_sets_lines.specs.declared.events.Deed.TheVariants.{Leaf}
 use Rattle.page_sets_lines.specs.declared.events.Event.{Event}
 use Rattle.page_sets_lines.specs.declared.leaves.Leaf.TheVariants.{Prologue}
-use Rattle.page_sets_lines.specs.declared.macro_names.Prologue.{Prologue as PrologueName}
+use Rattle.page_sets_names.specs.declared.macro_names.Prologue.{Prologue as PrologueName}
 use Rattle.page_sets_lines.specs.declared.plain_lines.PlainLine.{PlainLine}
 use Rattle.page_engine_body.specs.Titles.{title_items, title_fields}
 

@@ -9,8 +9,8 @@ use Rattle.page_engine_header.specs.declared.fields.Fields.{Fields}
 use Rattle.page_roff_forms.specs.Arguments.{arguments}
 use Rattle.page_roff_forms.specs.declared.quotes.Argument.{Argument}
 use Rattle.page_scopes_words.specs.Words.{says}
-use Rattle.page_sets_lines.specs.MacroNames.{prologue_name}
-use Rattle.page_sets_lines.specs.declared.macro_names.Prologue.{Prologue}
+use Rattle.page_sets_names.specs.MacroNames.{prologue_name}
+use Rattle.page_sets_names.specs.declared.macro_names.Prologue.{Prologue}
 
 -- the arguments in the rest of a prologue macro's line
 abbrev pub title_arguments : List ℕ → List (Argument (List ℕ))

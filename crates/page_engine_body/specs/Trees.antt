@@ -18,13 +18,13 @@ use Rattle.page_scopes_tree.specs.Acts.{Step, does, steps_of}
 use Rattle.page_scopes_tree.specs.Frames.{framed}
 use Rattle.page_scopes_tree.specs.Nests.{Fact, coming, standing, refused, scopes_nesting}
 use Rattle.page_scopes_tree.specs.declared.acts.Act.TheVariants as acts
-use Rattle.page_scopes_tree.specs.declared.labels.Label.{Label}
+use Rattle.page_scopes_labels.specs.declared.labels.Label.{Label}
 use Rattle.page_scopes_words.specs.Words.{at, says}
 use Rattle.page_sets_lines.specs.declared.events.Deed.{Deed}
 use Rattle.page_sets_lines.specs.declared.events.Deed.TheVariants.{Leaf}
 use Rattle.page_sets_lines.specs.declared.events.Event.{Event}
 use Rattle.page_sets_lines.specs.declared.leaves.Leaf.TheVariants.{Prologue}
-use Rattle.page_sets_lines.specs.declared.macro_names.Prologue.{Prologue as PrologueName}
+use Rattle.page_sets_names.specs.declared.macro_names.Prologue.{Prologue as PrologueName}
 use Rattle.page_engine_body.specs.Bodies.{BodyEdge, HeaderEdge, is_mdoc}
 use Rattle.page_engine_body.specs.Titles.{title_items, title_fields}
 

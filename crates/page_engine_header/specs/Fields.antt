@@ -10,8 +10,8 @@ use Rattle.page_core_limits.specs.declared.TheConstants.{FIELD}
 use Rattle.page_roff_forms.specs.declared.quotes.Argument.{Argument}
 use Rattle.page_roff_forms.specs.Arguments.{is_quoted}
 use Rattle.page_scopes_words.specs.Words.{says}
-use Rattle.page_sets_lines.specs.declared.macro_names.Prologue.{Prologue}
-use Rattle.page_sets_lines.specs.declared.macro_names.Prologue.TheVariants.{TH, Dd, Dt, Os}
+use Rattle.page_sets_names.specs.declared.macro_names.Prologue.{Prologue}
+use Rattle.page_sets_names.specs.declared.macro_names.Prologue.TheVariants.{TH, Dd, Dt, Os}
 use Rattle.page_engine_header.specs.declared.fields.Fields.{Fields}
 
 -- a pair of quotes (34) in a quoted argument is one quote

@@ -2,7 +2,7 @@
 use Rattle.std.specs.Prelude.{◌≤◌, List, [], ◌∷◌, length, IfSome}
 use Rattle.page_core_limits.specs.declared.TheConstants.{FIELD, SCOPES}
 use Rattle.page_scopes_laws.specs.declared.Scope.{Scope}
-use Rattle.page_scopes_tree.specs.declared.labels.Label.{Label}
+use Rattle.page_scopes_labels.specs.declared.labels.Label.{Label}
 use Rattle.page_scopes.specs.Edges.{PageEdge}
 use Rattle.page_scopes.specs.declared.layouts.Kept.{Kept}
 

@@ -9,11 +9,12 @@ ghost use Rattle.page_scopes_tree.specs.Stacks.{Keeps};
 use crate::bodies::{give_coming, give_standing};
 use page_core_base::{PieceOut, Place};
 use page_roff_forms::Argument;
+use page_scopes_labels::Label;
 use page_scopes_laws::Scope;
 use page_scopes_layout::Context;
 use page_scopes_nodes::{PageLayout, give_begun, give_ended};
 use page_scopes_phrases::{KeptText, Running};
-use page_scopes_tree::{Act, Label, Laying};
+use page_scopes_tree::{Act, Laying};
 use page_sets_lines::{Deed, Event, Opener};
 
 /// What scopes and other events are laid out by.

@@ -13,20 +13,20 @@ use Rattle.page_scopes_leaves.specs.Steps.{function_end}
 use Rattle.page_scopes_phrases.specs.Phrases.{phrase_context, phrase_items, phrase_running}
 use Rattle.page_scopes_phrases.specs.declared.phrases.Phrase.{Phrase}
 use Rattle.page_scopes_phrases.specs.declared.runnings.Running.{Running}
-use Rattle.page_scopes_tree.specs.declared.labels.Explicit.{Explicit}
-use Rattle.page_scopes_tree.specs.declared.labels.Explicit.TheVariants as explicits
-use Rattle.page_scopes_tree.specs.declared.labels.Label.{Label}
-use Rattle.page_scopes_tree.specs.declared.labels.Label.TheVariants as labels
-use Rattle.page_sets_lines.specs.Marks.{closing, opening, quotation_marks}
+use Rattle.page_scopes_labels.specs.declared.labels.Explicit.{Explicit}
+use Rattle.page_scopes_labels.specs.declared.labels.Explicit.TheVariants as explicits
+use Rattle.page_scopes_labels.specs.declared.labels.Label.{Label}
+use Rattle.page_scopes_labels.specs.declared.labels.Label.TheVariants as labels
+use Rattle.page_sets_names.specs.Marks.{closing, opening, quotation_marks}
 use Rattle.page_sets_lines.specs.declared.blocks.Block.{Block}
 use Rattle.page_sets_lines.specs.declared.blocks.Block.TheVariants as blocks
 use Rattle.page_sets_lines.specs.declared.blocks.BlockOpener.{BlockOpener}
 use Rattle.page_sets_lines.specs.declared.blocks.BlockOpener.TheVariants as openers
 use Rattle.page_sets_lines.specs.declared.events.Join.TheVariants.{Apart, Glued}
 use Rattle.page_sets_lines.specs.declared.events.Word.{Word}
-use Rattle.page_sets_lines.specs.declared.leaves.Own.TheVariants.{FullStop, OpenParenthesis}
+use Rattle.page_sets_names.specs.declared.own_texts.Own.TheVariants.{FullStop, OpenParenthesis}
 use Rattle.page_sets_lines.specs.declared.leaves.OwnWord.{OwnWord}
-use Rattle.page_sets_lines.specs.declared.marks.Marks.{Marks}
+use Rattle.page_sets_names.specs.declared.marks.Marks.{Marks}
 use Rattle.page_sets_lines.specs.declared.openers.LineOpener.{LineOpener}
 use Rattle.page_sets_lines.specs.declared.openers.LineOpener.TheVariants as lines
 

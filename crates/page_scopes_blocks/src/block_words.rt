@@ -11,12 +11,12 @@ ghost use Rattle.page_sets_lines.specs.Events.{block_opener_seen, given_seen, wo
 use page_core_base::{Font, PieceOut, Place};
 use page_core_limits::LINE;
 use page_roff_forms::Argument;
+use page_scopes_labels::{Explicit, Label};
 use page_scopes_layout::{Context, SeriesSoFar};
 use page_scopes_leaves::give_function_end;
 use page_scopes_phrases::{
     Phrase, Running, argument_word, give_line_word, give_own_word, give_phrase,
 };
-use page_scopes_tree::{Explicit, Label};
 use page_sets_lines::{Block, BlockOpener, Join, LineOpener, Marks, Own, OwnWord, Word};
 
 // The mark before the words of an enclosure.

@@ -1,7 +1,7 @@
 -- The context of a text, and what stays of it after a scope. Source: man(7), "MACRO OVERVIEW"; mdoc(7), `Bl`, `Rs`, `Fo`, `Sm`.
 use Rattle.std.specs.Prelude.{ℕ, Option, Some, None, pos, Bool, true, false, ◌||◌, if◌then◌else◌}
-use Rattle.page_scopes_tree.specs.Labels.{label_row}
-use Rattle.page_scopes_tree.specs.declared.labels.Label.{Label}
+use Rattle.page_scopes_labels.specs.Labels.{label_row}
+use Rattle.page_scopes_labels.specs.declared.labels.Label.{Label}
 use Rattle.page_scopes_layout.specs.Settings.{after_scope, at_first}
 use Rattle.page_scopes_layout.specs.declared.TheConstants.{PREVAILING}
 use Rattle.page_scopes_layout.specs.declared.contexts.Context.{Context}
@@ -11,8 +11,8 @@ use Rattle.page_sets_lines.specs.declared.lists.ListKind.TheVariants as kinds
 use Rattle.page_sets_lines.specs.declared.openers.LineOpener.TheVariants as lines
 use Rattle.page_scopes_layout.specs.declared.contexts.SeriesSoFar.TheVariants.{Outside}
 use Rattle.page_scopes_layout.specs.declared.contexts.PageSection.TheVariants.{Other}
-use Rattle.page_scopes_tree.specs.declared.labels.Explicit.TheVariants.{Block}
-use Rattle.page_scopes_tree.specs.declared.labels.Label.TheVariants as labels
+use Rattle.page_scopes_labels.specs.declared.labels.Explicit.TheVariants.{Block}
+use Rattle.page_scopes_labels.specs.declared.labels.Label.TheVariants as labels
 use Rattle.page_sets_lines.specs.declared.blocks.Block.TheVariants as blocks
 use Rattle.page_scopes_layout.specs.declared.contexts.PagePart.TheVariants.{Text}
 use Rattle.page_scopes_words.specs.Fonts.{roman_fonts}

@@ -10,13 +10,13 @@ use Rattle.page_scopes_layout.specs.Lists.{is_close}
 use Rattle.page_scopes_layout.specs.declared.lists.OpenList.{OpenList}
 use Rattle.page_sets_lines.specs.declared.openers.LineOpener.{LineOpener}
 use Rattle.page_sets_lines.specs.declared.openers.LineOpener.TheVariants as lines
-use Rattle.page_scopes_tree.specs.declared.labels.Explicit.{Explicit}
-use Rattle.page_scopes_tree.specs.declared.labels.Explicit.TheVariants.{RelativeMargin, Target, Syntax}
-use Rattle.page_scopes_tree.specs.declared.labels.Explicit.TheVariants as explicits
+use Rattle.page_scopes_labels.specs.declared.labels.Explicit.{Explicit}
+use Rattle.page_scopes_labels.specs.declared.labels.Explicit.TheVariants.{RelativeMargin, Target, Syntax}
+use Rattle.page_scopes_labels.specs.declared.labels.Explicit.TheVariants as explicits
 use Rattle.page_sets_lines.specs.declared.blocks.Block.{Block}
 use Rattle.page_sets_lines.specs.declared.blocks.Block.TheVariants as blocks
-use Rattle.page_scopes_tree.specs.declared.labels.Label.{Label}
-use Rattle.page_scopes_tree.specs.declared.labels.Label.TheVariants as labels
+use Rattle.page_scopes_labels.specs.declared.labels.Label.{Label}
+use Rattle.page_scopes_labels.specs.declared.labels.Label.TheVariants as labels
 use Rattle.page_scopes_layout.specs.Margins.{hold, margins}
 use Rattle.page_scopes_layout.specs.declared.contexts.Context.{Context}
 

@@ -4,7 +4,7 @@ ghost use Rattle.std.specs.Prelude.{◌≡◌};
 ghost use Rattle.page_scopes_layout.specs.Contexts as contexts;
 
 use crate::{OpenList, PREVAILING, Setting};
-use page_scopes_tree::{Explicit, Label};
+use page_scopes_labels::{Explicit, Label};
 use page_scopes_words::{Fonts, ROMAN};
 use page_sets_lines::{Block, LineOpener, ListKind};
 

@@ -6,7 +6,7 @@ ghost use Rattle.page_scopes_layout.specs.Nodes as nodes;
 
 use crate::{Context, OpenList, hold, margins_of};
 use page_core_base::{Piece, PieceOut, TagForm};
-use page_scopes_tree::{Explicit, Label};
+use page_scopes_labels::{Explicit, Label};
 use page_sets_lines::{Block, LineOpener, ListKind};
 
 /// Gives the margins of a context.

@@ -22,16 +22,16 @@ use Rattle.page_scopes_phrases.specs.Runnings.{row_ended}
 use Rattle.page_scopes_phrases.specs.declared.kept_texts.KeptText.{KeptText}
 use Rattle.page_scopes_phrases.specs.declared.runnings.Running.{Running}
 use Rattle.page_scopes_words.specs.Words.{says}
-use Rattle.page_sets_lines.specs.MacroNames.{body_paragraph_name}
+use Rattle.page_sets_names.specs.MacroNames.{body_paragraph_name}
 use Rattle.page_sets_lines.specs.declared.events.Join.TheVariants.{Apart, Glued}
-use Rattle.page_sets_lines.specs.declared.leaves.Own.TheVariants.{CloseParenthesis, Comma, Semicolon}
-use Rattle.page_sets_lines.specs.declared.leaves.Own.TheVariants as owns
+use Rattle.page_sets_names.specs.declared.own_texts.Own.TheVariants.{CloseParenthesis, Comma, Semicolon}
+use Rattle.page_sets_names.specs.declared.own_texts.Own.TheVariants as owns
 use Rattle.page_sets_lines.specs.declared.leaves.OwnWord.{OwnWord}
 use Rattle.page_sets_lines.specs.declared.line_steps.LineStep.{LineStep}
 use Rattle.page_sets_lines.specs.declared.line_steps.LineStep.TheVariants as steps
 use Rattle.page_sets_lines.specs.declared.line_steps.SynopsisStep.{SynopsisStep}
 use Rattle.page_sets_lines.specs.declared.line_steps.SynopsisStep.TheVariants.{Break, Include, NameBegins, NameEnds}
-use Rattle.page_sets_lines.specs.declared.macro_names.BodyParagraphName.{BodyParagraphName}
+use Rattle.page_sets_names.specs.declared.macro_names.BodyParagraphName.{BodyParagraphName}
 
 -- `Ns`: the next word is glued to the one before, unless blanks part them
 abbrev pub glued : Context → Running → Running

@@ -14,7 +14,7 @@ use Rattle.page_scopes_leaves.specs.Tags.{phrase_tag}
 use Rattle.page_scopes_phrases.specs.declared.phrases.Phrase.{Phrase}
 use Rattle.page_scopes_phrases.specs.declared.runnings.Running.{Running}
 use Rattle.page_scopes_leaves.specs.declared.tags.TagPlace.{TagPlace}
-use Rattle.page_scopes_tree.specs.declared.labels.Label.TheVariants as labels
+use Rattle.page_scopes_labels.specs.declared.labels.Label.TheVariants as labels
 use Rattle.page_sets_lines.specs.declared.events.Join.TheVariants.{Apart}
 use Rattle.page_sets_lines.specs.declared.lists.ListKind.{ListKind}
 use Rattle.page_sets_lines.specs.declared.lists.ListKind.TheVariants as kinds

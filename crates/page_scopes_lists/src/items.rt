@@ -10,10 +10,10 @@ use arrayvec::ArrayVec;
 use itoa::Buffer;
 use page_core_base::{PieceOut, Place};
 use page_core_limits::LINE;
+use page_scopes_labels::Label;
 use page_scopes_layout::{Context, OpenList, give_begin, give_margins, hold};
 use page_scopes_leaves::{TagPlace, give_phrase_tag};
 use page_scopes_phrases::{Phrase, Running};
-use page_scopes_tree::Label;
 use page_sets_lines::{Join, ListKind};
 
 // Room for a number and a full stop.

@@ -17,10 +17,10 @@ use Rattle.page_scopes_phrases.specs.declared.runnings.Running.{Running}
 use Rattle.page_sets_lines.specs.declared.events.Deed.{Deed}
 use Rattle.page_sets_lines.specs.declared.events.Deed.TheVariants as deeds
 use Rattle.page_sets_lines.specs.declared.events.Event.{Event}
-use Rattle.page_sets_lines.specs.declared.macro_names.FontMacro.{FontMacro}
-use Rattle.page_sets_lines.specs.declared.macro_names.FontMacro.TheVariants as fonts
-use Rattle.page_sets_lines.specs.declared.macro_names.HeadingName.{HeadingName}
-use Rattle.page_sets_lines.specs.declared.macro_names.HeadingName.TheVariants as headings
+use Rattle.page_sets_names.specs.declared.macro_names.FontMacro.{FontMacro}
+use Rattle.page_sets_names.specs.declared.macro_names.FontMacro.TheVariants as fonts
+use Rattle.page_sets_names.specs.declared.macro_names.HeadingName.{HeadingName}
+use Rattle.page_sets_names.specs.declared.macro_names.HeadingName.TheVariants as headings
 use Rattle.page_sets_lines.specs.declared.openers.LineOpener.{LineOpener}
 use Rattle.page_sets_lines.specs.declared.openers.LineOpener.TheVariants as lines
 use Rattle.page_sets_lines.specs.declared.openers.Opener.{Opener}

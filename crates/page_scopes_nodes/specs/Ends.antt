@@ -11,14 +11,14 @@ use Rattle.page_scopes_phrases.specs.declared.headings.HeadingSoFar.{HeadingSoFa
 use Rattle.page_scopes_phrases.specs.Outcomes.{Outcome, followed_by}
 use Rattle.page_scopes_phrases.specs.Runnings.{row_ended}
 use Rattle.page_scopes_phrases.specs.declared.runnings.Running.{Running}
-use Rattle.page_scopes_tree.specs.declared.labels.Explicit.{Explicit}
-use Rattle.page_scopes_tree.specs.declared.labels.Explicit.TheVariants as explicits
-use Rattle.page_scopes_tree.specs.declared.labels.Label.{Label}
-use Rattle.page_scopes_tree.specs.declared.labels.Label.TheVariants as labels
+use Rattle.page_scopes_labels.specs.declared.labels.Explicit.{Explicit}
+use Rattle.page_scopes_labels.specs.declared.labels.Explicit.TheVariants as explicits
+use Rattle.page_scopes_labels.specs.declared.labels.Label.{Label}
+use Rattle.page_scopes_labels.specs.declared.labels.Label.TheVariants as labels
 use Rattle.page_sets_lines.specs.declared.blocks.Block.{Block}
 use Rattle.page_sets_lines.specs.declared.blocks.Block.TheVariants as blocks
-use Rattle.page_sets_lines.specs.declared.macro_names.HeadingName.{HeadingName}
-use Rattle.page_sets_lines.specs.declared.macro_names.HeadingName.TheVariants as headings
+use Rattle.page_sets_names.specs.declared.macro_names.HeadingName.{HeadingName}
+use Rattle.page_sets_names.specs.declared.macro_names.HeadingName.TheVariants as headings
 use Rattle.page_sets_lines.specs.declared.openers.LineOpener.{LineOpener}
 use Rattle.page_sets_lines.specs.declared.openers.LineOpener.TheVariants as lines
 use Rattle.page_scopes_nodes.specs.Targets.{target_word}

@@ -23,13 +23,13 @@ use Rattle.page_scopes_leaves.specs.Tags.{tag}
 use Rattle.page_scopes_phrases.specs.declared.runnings.Running.{Running}
 use Rattle.page_scopes_leaves.specs.declared.tags.TagPlace.{TagPlace}
 use Rattle.page_scopes_text.specs.Numbers.{columns_notes, columns_value}
-use Rattle.page_scopes_tree.specs.declared.labels.Explicit.TheVariants.{RelativeMargin, Syntax}
-use Rattle.page_scopes_tree.specs.declared.labels.Label.{Label}
-use Rattle.page_scopes_tree.specs.declared.labels.Label.TheVariants as labels
+use Rattle.page_scopes_labels.specs.declared.labels.Explicit.TheVariants.{RelativeMargin, Syntax}
+use Rattle.page_scopes_labels.specs.declared.labels.Label.{Label}
+use Rattle.page_scopes_labels.specs.declared.labels.Label.TheVariants as labels
 use Rattle.page_scopes_words.specs.Words.{says}
-use Rattle.page_sets_lines.specs.MacroNames.{paragraph_name}
+use Rattle.page_sets_names.specs.MacroNames.{paragraph_name}
 use Rattle.page_sets_lines.specs.declared.events.Join.TheVariants.{Apart}
-use Rattle.page_sets_lines.specs.declared.macro_names.ParagraphName.{ParagraphName}
+use Rattle.page_sets_names.specs.declared.macro_names.ParagraphName.{ParagraphName}
 use Rattle.page_sets_lines.specs.declared.openers.Opener.{Opener}
 use Rattle.page_sets_lines.specs.declared.openers.Opener.TheVariants as openers
 use Rattle.page_scopes_widths.specs.Names.{name_columns}

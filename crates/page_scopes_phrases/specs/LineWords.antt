@@ -17,13 +17,13 @@ use Rattle.page_scopes_phrases.specs.declared.phrases.Phrase.{Phrase}
 use Rattle.page_scopes_phrases.specs.declared.runnings.Running.{Running}
 use Rattle.page_scopes_words.specs.Sentences.{ends_sentence}
 use Rattle.page_scopes_words.specs.Words.{at, says}
-use Rattle.page_sets_lines.specs.MacroNames.{own_ends_sentence, own_is_word, own_text}
+use Rattle.page_sets_names.specs.OwnTexts.{own_ends_sentence, own_is_word, own_text}
 use Rattle.page_sets_lines.specs.declared.events.Join.{Join}
 use Rattle.page_sets_lines.specs.declared.events.Join.TheVariants.{Apart}
 use Rattle.page_sets_lines.specs.declared.events.Role.{Role}
 use Rattle.page_sets_lines.specs.declared.events.Role.TheVariants as roles
 use Rattle.page_sets_lines.specs.declared.events.Word.{Word}
-use Rattle.page_sets_lines.specs.declared.leaves.Own.{Own}
+use Rattle.page_sets_names.specs.declared.own_texts.Own.{Own}
 use Rattle.page_sets_lines.specs.declared.leaves.OwnWord.{OwnWord}
 
 abbrev pub is_line : Role → Bool

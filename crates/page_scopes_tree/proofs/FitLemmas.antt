@@ -21,16 +21,16 @@ use Rattle.page_sets_lines.specs.declared.openers.Closer.{Closer}
 use Rattle.page_sets_lines.specs.declared.openers.Closer.TheVariants as closers
 use Rattle.page_scopes_tree.specs.Acts.{Step, comes, does}
 use Rattle.page_scopes_tree.specs.Ends.{inside, up_to, line_scopes, up_to_explicit, up_to_item, up_to_paragraph, place_of_margin, but_outside, up_to_margin, opener_ends, closer_ends, leaf_ends, deed_ends, act_ends}
-use Rattle.page_scopes_tree.specs.Labels.{is_line, is_enclosure, is_section, is_paragraph, is_item, is_list, is_explicit, is_level}
+use Rattle.page_scopes_labels.specs.Labels.{is_line, is_enclosure, is_section, is_paragraph, is_item, is_list, is_explicit, is_level}
 use Rattle.page_scopes_tree.specs.Nests.{standing_by, step_ends, step_standing, scopes_nesting}
 use Rattle.page_scopes_tree.specs.Standings.{has_room, in_list, in_headed_list, opened, item_fate, opener_fate, head_fate, line_fate, closed, closer_fate, in_line_scope, is_dropped, request_fate, leaf_fate, deed_fate, act_fate, opener_label, is_passed_over}
 use Rattle.page_core_limits.specs.declared.TheConstants.{SCOPES}
 use Rattle.page_scopes_tree.specs.declared.acts.Act.{Act}
 use Rattle.page_scopes_tree.specs.declared.acts.Act.TheVariants as acts
-use Rattle.page_scopes_tree.specs.declared.labels.Explicit.{Explicit}
-use Rattle.page_scopes_tree.specs.declared.labels.Explicit.TheVariants.{RelativeMargin, Target, Syntax, Block}
-use Rattle.page_scopes_tree.specs.declared.labels.Label.{Label}
-use Rattle.page_scopes_tree.specs.declared.labels.Label.TheVariants as labels
+use Rattle.page_scopes_labels.specs.declared.labels.Explicit.{Explicit}
+use Rattle.page_scopes_labels.specs.declared.labels.Explicit.TheVariants.{RelativeMargin, Target, Syntax, Block}
+use Rattle.page_scopes_labels.specs.declared.labels.Label.{Label}
+use Rattle.page_scopes_labels.specs.declared.labels.Label.TheVariants as labels
 use Rattle.page_scopes_tree.specs.declared.standings.Fate.{Fate}
 use Rattle.page_scopes_tree.specs.declared.standings.Fate.TheVariants as fates
 use Rattle.page_scopes_tree.specs.declared.standings.Obstacle.{Obstacle}

@@ -8,8 +8,8 @@ use Rattle.page_scopes_laws.specs.declared.Scope.{Scope}
 use Rattle.page_scopes_laws.specs.Layouts.{labels}
 use Rattle.page_scopes_laws.proofs.RunLemmas.{length-labels}
 use Rattle.page_scopes_tree.specs.Ends.{place_of_margin, but_outside, up_to_margin}
-use Rattle.page_scopes_tree.specs.Labels.{is_margin}
-use Rattle.page_scopes_tree.specs.declared.labels.Label.{Label}
+use Rattle.page_scopes_labels.specs.Labels.{is_margin}
+use Rattle.page_scopes_labels.specs.declared.labels.Label.{Label}
 
 -- a place, where so many scopes stand before
 abbrev pub after_outer : ℕ → Option ℕ → Option ℕ

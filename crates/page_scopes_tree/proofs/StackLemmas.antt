@@ -15,7 +15,7 @@ use Rattle.page_scopes_tree.specs.Acts.{Step}
 use Rattle.page_scopes_tree.specs.Nests.{Fact, scopes_nesting}
 use Rattle.page_scopes_tree.specs.Stacks.{stack_edge}
 use Rattle.page_core_limits.specs.declared.TheConstants.{SCOPES}
-use Rattle.page_scopes_tree.specs.declared.labels.Label.{Label}
+use Rattle.page_scopes_labels.specs.declared.labels.Label.{Label}
 
 one_and_rest : (count i : ℕ) → i < count → count - i ≡ 1 + (count - (i + 1))
 one_and_rest count i h = omega arith

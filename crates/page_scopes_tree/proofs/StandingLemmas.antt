@@ -6,7 +6,7 @@ use Rattle.page_scopes_tree.specs.Acts.{does}
 use Rattle.page_scopes_tree.specs.Nests.{Fact, standing, refused, standing_by, step_standing}
 use Rattle.page_scopes_tree.specs.Standings.{act_fate, is_passed_over}
 use Rattle.page_scopes_tree.specs.declared.acts.Act.{Act}
-use Rattle.page_scopes_tree.specs.declared.labels.Label.{Label}
+use Rattle.page_scopes_labels.specs.declared.labels.Label.{Label}
 use Rattle.page_scopes_tree.specs.declared.standings.Fate.{Fate}
 use Rattle.page_scopes_tree.specs.declared.standings.Fate.TheVariants as fates
 use Rattle.page_scopes_tree.specs.declared.standings.Obstacle.{Obstacle}

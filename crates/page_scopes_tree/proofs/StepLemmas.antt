@@ -15,7 +15,7 @@ use Rattle.page_scopes_tree.specs.Nests.{Fact, scopes_nesting, standing_by, step
 use Rattle.page_scopes_tree.specs.Stacks.{TakesStep}
 use Rattle.page_scopes_tree.specs.Standings.{act_fate, act_skips, is_passed_over}
 use Rattle.page_scopes_tree.specs.declared.acts.Act.{Act}
-use Rattle.page_scopes_tree.specs.declared.labels.Label.{Label}
+use Rattle.page_scopes_labels.specs.declared.labels.Label.{Label}
 
 -- which of two is taken, by a test that fails
 second_of : {A : Type 0} (test : Bool) (a b : A) → test ≡ false → (if test then a else b) ≡ b

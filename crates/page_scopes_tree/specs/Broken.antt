@@ -7,7 +7,7 @@ use Rattle.page_core_base.specs.declared.note_kinds.NoteKind.{NoteKind}
 use Rattle.page_core_base.specs.declared.note_kinds.NoteKind.TheVariants as kinds
 use Rattle.page_core_base.specs.declared.places.Place.{Place}
 use Rattle.page_sets_lines.specs.Blocks.{block_closer_name, closed_block}
-use Rattle.page_sets_lines.specs.MacroNames.{link_closer_name}
+use Rattle.page_sets_names.specs.MacroNames.{link_closer_name}
 use Rattle.page_sets_lines.specs.declared.events.Event.{Event}
 use Rattle.page_sets_lines.specs.declared.events.Deed.{Deed}
 use Rattle.page_sets_lines.specs.declared.events.Deed.TheVariants as deeds
@@ -18,12 +18,12 @@ use Rattle.page_sets_lines.specs.declared.openers.Opener.TheVariants as openers
 use Rattle.page_sets_lines.specs.declared.openers.Closer.{Closer}
 use Rattle.page_sets_lines.specs.declared.openers.Closer.TheVariants as closers
 use Rattle.page_scopes_tree.specs.Acts.{act_place}
-use Rattle.page_scopes_tree.specs.Labels.{label_name, label_row}
+use Rattle.page_scopes_labels.specs.Labels.{label_name, label_row}
 use Rattle.page_scopes_tree.specs.declared.acts.Act.{Act}
 use Rattle.page_scopes_tree.specs.declared.acts.Act.TheVariants as acts
-use Rattle.page_scopes_tree.specs.declared.labels.Label.{Label}
-use Rattle.page_scopes_tree.specs.declared.labels.ScopeEnd.{ScopeEnd}
-use Rattle.page_scopes_tree.specs.declared.labels.ScopeEnd.TheVariants as ends
+use Rattle.page_scopes_labels.specs.declared.labels.Label.{Label}
+use Rattle.page_scopes_labels.specs.declared.labels.ScopeEnd.{ScopeEnd}
+use Rattle.page_scopes_labels.specs.declared.labels.ScopeEnd.TheVariants as ends
 use Rattle.page_scopes_tree.specs.declared.standings.Obstacle.{Obstacle}
 use Rattle.page_scopes_tree.specs.declared.standings.Obstacle.TheVariants.{OutsideList, Scopes, NotOpen, FewerMargins}
 use Rattle.page_core_limits.specs.Limits.{name_of}

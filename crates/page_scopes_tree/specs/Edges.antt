@@ -7,7 +7,7 @@ use Rattle.page_scopes_tree.specs.Acts.{Step, does, steps_of}
 use Rattle.page_scopes_tree.specs.Frames.{Tables, framed}
 use Rattle.page_scopes_tree.specs.Nests.{scopes_nesting}
 use Rattle.page_scopes_tree.specs.declared.acts.Act.TheVariants as acts
-use Rattle.page_scopes_tree.specs.declared.labels.Label.{Label}
+use Rattle.page_scopes_labels.specs.declared.labels.Label.{Label}
 
 -- what decides the rest of a page: whether the rest of a line is passed over, the open scopes, and the layout's state
 abbrev pub ScopesEdge : Type 0 → Type 0 → Type 0

@@ -11,7 +11,7 @@ use Rattle.page_scopes_tree.specs.Broken.{broken_notes, obstacle_notes}
 use Rattle.page_scopes_tree.specs.Nests.{Fact, coming, standing, refused}
 use Rattle.page_scopes_tree.specs.declared.acts.Act.{Act}
 use Rattle.page_scopes_tree.specs.declared.acts.Act.TheVariants as acts
-use Rattle.page_scopes_tree.specs.declared.labels.Label.{Label}
+use Rattle.page_scopes_labels.specs.declared.labels.Label.{Label}
 
 -- The tables of a layout over a state: what a scope keeps of the state before it; what its opener gives, an event that comes, an act that opens and
 -- closes nothing, and a scope's end at a place; and the state after each.

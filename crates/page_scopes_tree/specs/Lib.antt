@@ -1,4 +1,3 @@
-pub mod Labels
 pub mod Acts
 pub mod Ends
 pub mod Standings

@@ -6,7 +6,7 @@ use Rattle.page_scopes_tree.specs.Ends.{act_ends}
 use Rattle.page_scopes_tree.specs.Standings.{act_fate, act_skips, is_passed_over}
 use Rattle.page_sets_lines.specs.declared.events.Event.{Event}
 use Rattle.page_scopes_tree.specs.declared.acts.Act.{Act}
-use Rattle.page_scopes_tree.specs.declared.labels.Label.{Label}
+use Rattle.page_scopes_labels.specs.declared.labels.Label.{Label}
 use Rattle.page_scopes_tree.specs.declared.standings.Fate.{Fate}
 use Rattle.page_scopes_tree.specs.declared.standings.Fate.TheVariants as fates
 use Rattle.page_scopes_tree.specs.declared.standings.Obstacle.{Obstacle}

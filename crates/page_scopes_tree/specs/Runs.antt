@@ -1,7 +1,7 @@
 -- The code's own search among open scopes: how many of the innermost ones lie before what it looks for. Source: man(7), "MACRO OVERVIEW".
 use Rattle.std.specs.Prelude.{Bool, not}
-use Rattle.page_scopes_tree.specs.Labels.{is_line, is_enclosure, is_section, is_paragraph, is_item, is_list, is_headed_list, is_explicit, is_level}
-use Rattle.page_scopes_tree.specs.declared.labels.Label.{Label}
+use Rattle.page_scopes_labels.specs.Labels.{is_line, is_enclosure, is_section, is_paragraph, is_item, is_list, is_headed_list, is_explicit, is_level}
+use Rattle.page_scopes_labels.specs.declared.labels.Label.{Label}
 use Rattle.page_scopes_tree.specs.declared.runs.Run.{Run}
 use Rattle.page_scopes_tree.specs.declared.runs.Run.TheVariants as runs
 

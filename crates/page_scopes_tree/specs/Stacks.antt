@@ -18,7 +18,7 @@ use Rattle.page_scopes_tree.specs.Nests.{Fact, scopes_nesting, standing_by}
 use Rattle.page_scopes_tree.specs.Standings.{act_fate, in_enclosure, in_line_scope}
 use Rattle.page_scopes_tree.specs.declared.acts.Act.{Act}
 use Rattle.page_scopes_tree.specs.declared.acts.Act.TheVariants as acts
-use Rattle.page_scopes_tree.specs.declared.labels.Label.{Label}
+use Rattle.page_scopes_labels.specs.declared.labels.Label.{Label}
 
 -- the stack has these scopes now, the innermost first, and its room is as before
 abbrev pub Keeps : {B : Type 0} → Vec (Scope Label B) → Vec (Scope Label B) → List (Scope Label B) → Type 0

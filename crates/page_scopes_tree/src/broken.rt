@@ -4,13 +4,14 @@ ghost use Rattle.std.specs.Prelude.{◌≡◌, [], ◌∷◌};
 ghost use Rattle.page_core_base.specs.Latches.{Came};
 ghost use Rattle.page_scopes_tree.specs.Acts.{act_seen};
 ghost use Rattle.page_scopes_tree.specs.Broken as broken;
-ghost use Rattle.page_scopes_tree.specs.Labels.{end_seen};
+ghost use Rattle.page_scopes_labels.specs.Labels.{end_seen};
 ghost use Rattle.page_sets_lines.specs.Events.{closer_seen, deed_seen, opener_seen};
 
+use crate::Act;
 use crate::standings::Obstacle;
-use crate::{Act, Label, ScopeEnd};
 use page_core_base::{Note, NoteKind, PieceOut, Place};
 use page_core_limits::Limit;
+use page_scopes_labels::{Label, ScopeEnd};
 use page_sets_lines::{Closer, Deed, Event, Leaf, Opener};
 
 // Gives a message about a place.

@@ -8,10 +8,11 @@ ghost use Rattle.page_scopes_tree.specs.Acts.{act_seen};
 ghost use Rattle.page_scopes_tree.specs.Ends as ends;
 ghost use Rattle.page_sets_lines.specs.Events.{closer_seen, deed_seen, opener_seen, text_seen};
 
+use crate::Act;
 use crate::numbers::basic_number;
 use crate::runs::{Run, run_len};
-use crate::{Act, Explicit, Label};
 use page_core_limits::SCOPES;
+use page_scopes_labels::{Explicit, Label};
 use page_scopes_laws::Scope;
 use page_sets_lines::{Closer, Deed, Event, Leaf, Opener};
 

@@ -7,7 +7,7 @@ ghost use Rattle.page_sets_lines.specs.declared.events.Event.{Event};
 ghost use Rattle.page_scopes_tree.specs.Acts.{Step};
 ghost use Rattle.page_scopes_tree.specs.Edges.{ScopesEdge, events_edge, events_items, page_end_items, page_items};
 ghost use Rattle.page_scopes_tree.specs.Nests.{scopes_nesting};
-ghost use Rattle.page_scopes_tree.specs.declared.labels.Label.{Label};
+ghost use Rattle.page_scopes_labels.specs.declared.labels.Label.{Label};
 
 use crate::Laying;
 use page_core_limits::SCOPES;

@@ -8,8 +8,9 @@ ghost use Rattle.page_scopes_tree.specs.Stacks.{Keeps};
 ghost use Rattle.page_sets_lines.specs.Events.{event_seen};
 ghost use Rattle.page_sets_lines.specs.declared.events.Event.{Event};
 
-use crate::{Act, Label};
+use crate::Act;
 use page_core_base::{PieceOut, Place};
+use page_scopes_labels::Label;
 use page_scopes_laws::Scope;
 use page_sets_lines::Event;
 

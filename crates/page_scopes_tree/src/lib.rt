@@ -1,14 +1,13 @@
 //! The scopes of a page: what opens them, what ends them, and a stack of them that gives what the block tree gives (man(7)).
 //!
 //! Events of the set of macros come in; which scopes they end and open, with the messages of nesting, goes to a layout (`Laying`), which
-//! `page_scopes` is. Read `specs/Labels.antt` first (a row for each scope), then `Ends.antt` (how many scopes an event ends), `Standings.antt`
-//! (what it opens) and `Broken.antt` (messages).
+//! `page_scopes` is. What an open scope is stands in `page_scopes_labels`. Read `specs/Ends.antt` first (how many scopes an event ends), then
+//! `Standings.antt` (what it opens) and `Broken.antt` (messages).
 #![tactic(auto)]
 
 mod acts;
 mod broken;
 mod ends;
-mod labels;
 mod laws;
 mod layings;
 mod numbers;
@@ -18,7 +17,6 @@ mod stacks;
 mod standings;
 
 pub use acts::Act;
-pub use labels::{Explicit, Label, LabelRow, ScopeEnd};
 pub use laws::{events_law, tree_law};
 pub use layings::Laying;
 pub use scope_stacks::ScopeStack;

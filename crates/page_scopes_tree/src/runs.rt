@@ -5,7 +5,7 @@ ghost use Rattle.std.specs.List.{prefix_len};
 ghost use Rattle.page_scopes_laws.specs.Layouts.{labels};
 ghost use Rattle.page_scopes_tree.specs.Runs.{run_takes};
 
-use crate::{Explicit, Label};
+use page_scopes_labels::{Explicit, Label};
 use page_scopes_laws::Scope;
 
 /// Which of the innermost scopes are counted.

@@ -6,9 +6,10 @@ ghost use Rattle.page_scopes_tree.specs.Edges.{events_edge, events_items, page_e
 ghost use Rattle.page_sets_lines.specs.Events.{event_seen};
 
 use crate::stacks::{take_act, take_coming};
-use crate::{Act, Label, Laying};
+use crate::{Act, Laying};
 use page_core_base::PieceOut;
 use page_core_limits::SCOPES;
+use page_scopes_labels::Label;
 use page_scopes_laws::Scope;
 use page_sets_lines::Event;
 use std::alloc::{AllocError, Global};

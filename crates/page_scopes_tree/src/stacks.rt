@@ -13,9 +13,10 @@ ghost use Rattle.page_sets_lines.specs.Events.{event_seen};
 use crate::broken::{report_broken, report_obstacle};
 use crate::ends::count_ended;
 use crate::standings::{Fate, fate_of, is_idle, is_passed_over, skips_after, stands_alone};
-use crate::{Act, Label, Laying};
+use crate::{Act, Laying};
 use page_core_base::PieceOut;
 use page_core_limits::SCOPES;
+use page_scopes_labels::Label;
 use page_scopes_laws::Scope;
 use page_sets_lines::Event;
 

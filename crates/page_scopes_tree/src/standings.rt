@@ -7,9 +7,10 @@ ghost use Rattle.page_scopes_tree.specs.Stacks as stacks;
 ghost use Rattle.page_scopes_tree.specs.Standings as standings;
 ghost use Rattle.page_sets_lines.specs.Events.{closer_seen, deed_seen, leaf_seen, opener_seen, request_seen, text_seen};
 
+use crate::Act;
 use crate::runs::{Run, run_len};
-use crate::{Act, Explicit, Label};
 use page_core_limits::SCOPES;
+use page_scopes_labels::{Explicit, Label};
 use page_scopes_laws::Scope;
 use page_sets_lines::{BlockOpener, Closer, Deed, Event, Leaf, LineOpener, Opener, Request};
 

@@ -1,8 +1,9 @@
 //! A layout for tests: each scope stands four columns further in, and is shown by its name.
 
 use page_core_base::{Font, Piece, PieceOut, Place};
+use page_scopes_labels::Label;
 use page_scopes_laws::Scope;
-use page_scopes_tree::{Act, Label, Laying};
+use page_scopes_tree::{Act, Laying};
 use page_sets_lines::{Deed, Event, Leaf};
 
 /// The margin, in columns.

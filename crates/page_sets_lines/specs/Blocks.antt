@@ -8,7 +8,7 @@ use Rattle.page_sets_lines.specs.declared.blocks.BlockOpener.{BlockOpener}
 use Rattle.page_sets_lines.specs.declared.blocks.BlockOpener.TheVariants as openers
 use Rattle.page_sets_lines.specs.declared.blocks.BlockCloser.{BlockCloser}
 use Rattle.page_sets_lines.specs.declared.blocks.BlockCloser.TheVariants as closers
-use Rattle.page_sets_lines.specs.Marks.{quotation_name, quotation_closer_name}
+use Rattle.page_sets_names.specs.Marks.{quotation_name, quotation_closer_name}
 
 abbrev pub block_name : Block → List ℕ
 block_name (blocks.List kind) = codes "Bl"

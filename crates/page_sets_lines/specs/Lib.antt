@@ -1,6 +1,5 @@
-pub mod Marks
 pub mod Blocks
-pub mod MacroNames
+pub mod Openers
 pub mod Events
 pub mod Lists
 pub mod Laws

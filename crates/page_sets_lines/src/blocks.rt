@@ -5,9 +5,9 @@ ghost use Rattle.page_sets_lines.specs.Blocks.{block_name, block_closer_name, op
 ghost use Rattle.page_sets_lines.specs.Events.{block_opener_seen, block_closer_seen};
 
 use crate::lists::ListKind;
-use crate::marks::Quotation;
 use page_core_base::Font;
 use page_roff_forms::Argument;
+use page_sets_names::Quotation;
 use std::alloc::AllocError;
 
 /// A block, without its texts.

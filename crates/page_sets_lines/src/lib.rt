@@ -11,9 +11,7 @@ mod events;
 mod leaves;
 mod line_steps;
 mod lists;
-mod macro_names;
 mod macro_sets;
-mod marks;
 mod openers;
 mod plain_lines;
 mod requests;
@@ -21,14 +19,14 @@ mod requests;
 pub use blocks::{Block, BlockCloser, BlockOpener};
 pub use control_lines::{NameSpan, find_name, first_of, open_quote, read_after};
 pub use events::{Deed, Event, Join, Role, Word};
-pub use leaves::{Leaf, Own, OwnWord, Request};
+pub use leaves::{Leaf, OwnWord, Request};
 pub use line_steps::{LineStep, SynopsisStep};
 pub use lists::{Awaited, ListKind, ListOptions, ListWord, read_list_options};
-pub use macro_names::{
-    BodyParagraphName, FontMacro, HeadingName, Link, OneLineName, ParagraphName, Prologue, TagName,
-};
 pub use macro_sets::MacroSet;
-pub use marks::{Marks, Quotation};
 pub use openers::{Closer, LineOpener, Opener};
+pub use page_sets_names::{
+    BodyParagraphName, FontMacro, HeadingName, Link, Marks, OneLineName, Own, ParagraphName,
+    Prologue, Quotation, TagName,
+};
 pub use plain_lines::PlainLine;
 pub use requests::{layout_request, with_argument};

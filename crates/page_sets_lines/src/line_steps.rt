@@ -2,8 +2,8 @@
 
 ghost use Rattle.std.specs.Prelude.{◌≡◌};
 
-use crate::macro_names::BodyParagraphName;
 use page_roff_forms::Argument;
+use page_sets_names::BodyParagraphName;
 use std::alloc::AllocError;
 
 /// What a macro does in the section SYNOPSIS alone.

@@ -1,12 +1,11 @@
 //! What opens a scope, and what closes one (man(7), mdoc(7)).
 
 ghost use Rattle.std.specs.Prelude.{◌≡◌};
-ghost use Rattle.page_sets_lines.specs.MacroNames as names;
+ghost use Rattle.page_sets_lines.specs.Openers as names;
 
 use crate::blocks::{BlockCloser, BlockOpener};
-use crate::macro_names::{FontMacro, HeadingName, Link, OneLineName, ParagraphName, TagName};
-use crate::marks::Marks;
 use page_roff_forms::Argument;
+use page_sets_names::{FontMacro, HeadingName, Link, Marks, OneLineName, ParagraphName, TagName};
 use std::alloc::AllocError;
 
 /// What opens a scope that goes on after its line; `W` is a text, a number in it still an expression.

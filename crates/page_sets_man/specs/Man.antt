@@ -6,17 +6,17 @@ use Rattle.page_core_base.specs.declared.note_kinds.NoteKind.{NoteKind}
 use Rattle.page_core_base.specs.declared.note_kinds.NoteKind.TheVariants.{Unterminated, UnknownMacro, EmptyMacro}
 use Rattle.page_roff_forms.specs.declared.quotes.Argument.{Argument}
 use Rattle.page_roff_forms.specs.Arguments.{has_arguments}
-use Rattle.page_sets_lines.specs.declared.macro_names.HeadingName.TheVariants.{SH, SS}
-use Rattle.page_sets_lines.specs.declared.macro_names.TagName.TheVariants.{TP, TQ}
-use Rattle.page_sets_lines.specs.declared.macro_names.Prologue.TheVariants.{TH}
+use Rattle.page_sets_names.specs.declared.macro_names.HeadingName.TheVariants.{SH, SS}
+use Rattle.page_sets_names.specs.declared.macro_names.TagName.TheVariants.{TP, TQ}
+use Rattle.page_sets_names.specs.declared.macro_names.Prologue.TheVariants.{TH}
 use Rattle.page_sets_lines.specs.declared.openers.Opener.{Opener}
 use Rattle.page_sets_lines.specs.declared.openers.Opener.TheVariants as openers
 use Rattle.page_sets_lines.specs.declared.openers.Closer.{Closer}
 use Rattle.page_sets_lines.specs.declared.openers.Closer.TheVariants as closers
 use Rattle.page_sets_lines.specs.declared.openers.LineOpener.{LineOpener}
 use Rattle.page_sets_lines.specs.declared.openers.LineOpener.TheVariants.{Heading, Tag}
-use Rattle.page_sets_lines.specs.declared.leaves.Own.{Own}
-use Rattle.page_sets_lines.specs.declared.leaves.Own.TheVariants.{OpenParenthesis, CloseParenthesis}
+use Rattle.page_sets_names.specs.declared.own_texts.Own.{Own}
+use Rattle.page_sets_names.specs.declared.own_texts.Own.TheVariants.{OpenParenthesis, CloseParenthesis}
 use Rattle.page_sets_lines.specs.declared.leaves.Leaf.{Leaf}
 use Rattle.page_sets_lines.specs.declared.leaves.Leaf.TheVariants as leaves
 use Rattle.page_sets_lines.specs.declared.plain_lines.PlainLine.{PlainLine}

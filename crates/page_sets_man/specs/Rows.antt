@@ -3,12 +3,12 @@ use Rattle.std.specs.Prelude.{ℕ, true, false, List, [], ◌∷◌, Option, Non
 use Rattle.std.specs.Str.{bytes_eq}
 use Rattle.page_core_base.specs.declared.cells.Font.{Font}
 use Rattle.page_core_base.specs.declared.cells.Font.TheVariants as fonts
-use Rattle.page_sets_lines.specs.declared.macro_names.ParagraphName.TheVariants.{PP, LP, P}
-use Rattle.page_sets_lines.specs.declared.macro_names.Link.TheVariants.{UR, MT}
-use Rattle.page_sets_lines.specs.declared.macro_names.FontMacro.{FontMacro}
-use Rattle.page_sets_lines.specs.declared.macro_names.FontMacro.TheVariants.{B, I, SM, SB}
+use Rattle.page_sets_names.specs.declared.macro_names.ParagraphName.TheVariants.{PP, LP, P}
+use Rattle.page_sets_names.specs.declared.macro_names.Link.TheVariants.{UR, MT}
+use Rattle.page_sets_names.specs.declared.macro_names.FontMacro.{FontMacro}
+use Rattle.page_sets_names.specs.declared.macro_names.FontMacro.TheVariants.{B, I, SM, SB}
 use Rattle.page_sets_lines.specs.declared.openers.LineOpener.TheVariants.{FontWords}
-use Rattle.page_sets_lines.specs.declared.leaves.Own.TheVariants.{OpenBracket, CloseBracket}
+use Rattle.page_sets_names.specs.declared.own_texts.Own.TheVariants.{OpenBracket, CloseBracket}
 use Rattle.page_sets_lines.specs.PlainLines.{layout_request}
 use Rattle.page_sets_man.specs.declared.rows.Opens.{Opens}
 use Rattle.page_sets_man.specs.declared.rows.Opens.TheVariants.{Section, Subsection, Paragraph, Tagged, Indented, Hanging, RelativeMargin, Target, Syntax}

@@ -4,7 +4,7 @@ use Rattle.page_core_base.specs.declared.cells.Font.{Font}
 use Rattle.page_core_base.specs.declared.cells.Font.TheVariants as fonts
 use Rattle.page_core_base.specs.LinesTaken.{Line}
 use Rattle.page_roff_forms.specs.declared.quotes.Argument.{Argument}
-use Rattle.page_sets_lines.specs.declared.leaves.Own.TheVariants.{CloseParenthesis}
+use Rattle.page_sets_names.specs.declared.own_texts.Own.TheVariants.{CloseParenthesis}
 use Rattle.page_sets_lines.specs.declared.events.Join.{Join}
 use Rattle.page_sets_lines.specs.declared.events.Join.TheVariants.{Apart, Glued}
 use Rattle.page_sets_lines.specs.declared.events.Event.{Event}

@@ -18,19 +18,21 @@ use Rattle.page_sets_mdoc_lines.specs.LineWords.{arguments_after, word_call, is_
 use Rattle.page_sets_mdoc_lines.specs.Parts.{LineParts, parts, rest_parts, has_calls}
 use Rattle.page_sets_mdoc_lines.proofs.CursorLemmas.{at_end}
 use Rattle.page_sets_mdoc_lines.proofs.PartLemmas.{words_taken, rest_goes_on}
-use Rattle.page_sets_mdoc_words.specs.declared.steps.MacroWords.{MacroWords}
-use Rattle.page_sets_mdoc_words.specs.Synopses.{framed, placed_events}
-use Rattle.page_sets_mdoc_words.specs.declared.steps.Step.{Step}
-use Rattle.page_sets_mdoc_words.specs.declared.steps.Step.TheVariants as steps
-use Rattle.page_sets_mdoc_words.specs.declared.includes.IncludeStep.TheVariants.{Name}
-use Rattle.page_sets_mdoc_words.specs.declared.sentences.SentenceStep.TheVariants.{The}
-use Rattle.page_sets_mdoc_words.specs.Sentences.{sentence_events}
+use Rattle.page_sets_mdoc_words.specs.declared.macro_words.MacroWords.{MacroWords}
+use Rattle.page_sets_mdoc_steps.specs.Synopses.{framed, placed_events}
+use Rattle.page_sets_mdoc_steps.specs.declared.steps.Step.{Step}
+use Rattle.page_sets_mdoc_steps.specs.declared.steps.Step.TheVariants as steps
+use Rattle.page_sets_mdoc_steps.specs.declared.form_steps.IncludeStep.TheVariants.{Name}
+use Rattle.page_sets_mdoc_steps.specs.declared.form_steps.SentenceStep.TheVariants.{The}
+use Rattle.page_sets_mdoc_steps.specs.Sentences.{sentence_events}
 use Rattle.page_sets_mdoc_rows.specs.declared.blocks.Sentence.{Sentence}
 use Rattle.page_sets_lines.specs.declared.line_steps.SynopsisStep.{SynopsisStep}
 use Rattle.page_sets_lines.specs.declared.line_steps.SynopsisStep.TheVariants.{Break}
-use Rattle.page_sets_mdoc_words.specs.Printed.{printed}
-use Rattle.page_sets_mdoc_words.specs.Steps.{step_events, macro_words_events, placed_begun}
-use Rattle.page_sets_mdoc_words.specs.WordsLeft.{after_words}
+use Rattle.page_sets_mdoc_steps.specs.Printed.{printed}
+use Rattle.page_sets_mdoc_steps.specs.Steps.{step_events}
+use Rattle.page_sets_mdoc_steps.specs.WordsLeft.{after_words}
+use Rattle.page_sets_mdoc_words.specs.Begins.{placed_begun}
+use Rattle.page_sets_mdoc_words.specs.MacroWords.{macro_words_events}
 use Rattle.page_sets_mdoc.specs.Mdoc.{field_font, tail_events, rest_events, phrase_events, head_events, line_parts, include_words}
 use Rattle.page_sets_mdoc_blocks.specs.Fronts.{name_column, has_real_word, line_arguments, given_names}
 use Rattle.page_sets_mdoc.specs.RestLaws.{rest_calls, line_name}

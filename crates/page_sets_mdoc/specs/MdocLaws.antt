@@ -18,15 +18,15 @@ use Rattle.page_sets_mdoc_rows.specs.declared.blocks.LineMacro.{LineMacro}
 use Rattle.page_sets_mdoc_rows.specs.declared.blocks.LineMacro.TheVariants as lines
 use Rattle.page_sets_mdoc_rows.specs.Rows.{line_macro, is_parsed}
 use Rattle.page_sets_mdoc_lines.proofs.FewLemmas.{few_arguments_after}
-use Rattle.page_sets_mdoc_words.proofs.PrintLemmas.{Prints, no_event, more_events, word_passed, printed_prints, include_prints, sentence_prints, framed_prints}
-use Rattle.page_sets_mdoc_words.proofs.StepPrintLemmas.{most_events, step_prints}
+use Rattle.page_sets_mdoc_steps.proofs.PrintLemmas.{Prints, no_event, more_events, word_passed, printed_prints, include_prints, sentence_prints, framed_prints}
+use Rattle.page_sets_mdoc_steps.proofs.StepPrintLemmas.{most_events, step_prints}
 use Rattle.page_sets_mdoc_blocks.specs.Fronts.{name_column, line_arguments, request_front, has_real_word, is_standard, given_names, block_front}
 use Rattle.page_sets_mdoc_blocks.proofs.FrontLemmas.{request_front_slices, block_slices, front_slices, request_no_word, block_no_word, request_few, words_more, block_few}
 use Rattle.page_sets_mdoc.specs.declared.plans.Plan.{Plan}
 use Rattle.page_sets_mdoc.specs.declared.plans.LinePlan.{LinePlan}
 use Rattle.page_sets_mdoc.specs.declared.plans.LinePlan.TheVariants as line_plans
-use Rattle.page_sets_mdoc_words.specs.declared.steps.MacroWords.{MacroWords}
-use Rattle.page_sets_mdoc_words.specs.Sentences.{sentence_events}
+use Rattle.page_sets_mdoc_words.specs.declared.macro_words.MacroWords.{MacroWords}
+use Rattle.page_sets_mdoc_steps.specs.Sentences.{sentence_events}
 use Rattle.page_sets_mdoc_rows.specs.declared.blocks.Sentence.{Sentence}
 use Rattle.page_sets_lines.specs.declared.line_steps.SynopsisStep.TheVariants.{Break}
 use Rattle.page_sets_mdoc_lines.specs.LineWords.{arguments_after}

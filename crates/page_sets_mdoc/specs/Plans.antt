@@ -11,11 +11,11 @@ use Rattle.page_sets_mdoc_lines.specs.LineWords.{is_closing}
 use Rattle.page_sets_mdoc_lines.specs.Parts.{LineParts, parts}
 use Rattle.page_sets_mdoc_lines.specs.Cursors.{IsCursorOf}
 use Rattle.page_sets_lines.specs.declared.line_steps.SynopsisStep.{SynopsisStep}
-use Rattle.page_sets_mdoc_words.specs.declared.steps.Step.{Step}
-use Rattle.page_sets_mdoc_words.specs.declared.steps.Step.TheVariants.{Printed}
-use Rattle.page_sets_mdoc_words.specs.declared.steps.MacroWords.{MacroWords}
-use Rattle.page_sets_mdoc_words.specs.Steps.{macro_words_events}
-use Rattle.page_sets_mdoc_words.specs.WordsLeft.{after_words}
+use Rattle.page_sets_mdoc_steps.specs.declared.steps.Step.{Step}
+use Rattle.page_sets_mdoc_steps.specs.declared.steps.Step.TheVariants.{Printed}
+use Rattle.page_sets_mdoc_words.specs.declared.macro_words.MacroWords.{MacroWords}
+use Rattle.page_sets_mdoc_words.specs.MacroWords.{macro_words_events}
+use Rattle.page_sets_mdoc_steps.specs.WordsLeft.{after_words}
 use Rattle.page_sets_mdoc_blocks.specs.FrontSteps.{front_events}
 use Rattle.page_sets_mdoc.specs.declared.plans.Plan.{Plan}
 use Rattle.page_sets_mdoc.specs.declared.plans.LinePlan.{LinePlan}

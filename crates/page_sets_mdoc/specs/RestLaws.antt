@@ -13,11 +13,11 @@ use Rattle.page_sets_mdoc_rows.specs.Rows.{is_parsed}
 use Rattle.page_sets_mdoc_lines.specs.LineWords.{word_call, is_closing}
 use Rattle.page_sets_mdoc_lines.specs.Parts.{parts, has_calls}
 use Rattle.page_sets_mdoc_lines.proofs.PartLemmas.{words_taken, rest_goes_on}
-use Rattle.page_sets_mdoc_words.specs.Synopses.{placed_events}
-use Rattle.page_sets_mdoc_words.specs.Printed.{printed}
+use Rattle.page_sets_mdoc_steps.specs.Synopses.{placed_events}
+use Rattle.page_sets_mdoc_steps.specs.Printed.{printed}
 use Rattle.page_sets_mdoc_words.proofs.BeginLemmas.{begun_rest}
 use Rattle.page_sets_mdoc_words.proofs.BeginPrintLemmas.{own_count, placed_prints, called_prints}
-use Rattle.page_sets_mdoc_words.proofs.PrintLemmas.{Prints, no_event, more_events, own_first, word_passed, parted, printed_prints}
+use Rattle.page_sets_mdoc_steps.proofs.PrintLemmas.{Prints, no_event, more_events, own_first, word_passed, parted, printed_prints}
 use Rattle.page_sets_mdoc_blocks.specs.Fronts.{name_column}
 use Rattle.page_sets_mdoc.specs.Mdoc.{calls_events, tail_events, rest_events, head_events, phrase_events}
 

@@ -10,9 +10,9 @@ ghost use Rattle.page_roff_forms.specs.Arguments.{argument_seen};
 ghost use Rattle.std.specs.List.{list_all};
 ghost use Rattle.page_sets_mdoc_lines.specs.Parts.{parts};
 ghost use Rattle.page_sets_mdoc_lines.specs.Cursors.{IsCursorOf};
-ghost use Rattle.page_sets_mdoc_words.specs.Printed.{printed};
-ghost use Rattle.page_sets_mdoc_words.specs.Steps.{macro_words_events};
-ghost use Rattle.page_sets_mdoc_words.specs.Sentences.{sentence_events};
+ghost use Rattle.page_sets_mdoc_steps.specs.Printed.{printed};
+ghost use Rattle.page_sets_mdoc_steps.specs.Sentences.{sentence_events};
+ghost use Rattle.page_sets_mdoc_words.specs.MacroWords.{macro_words_events};
 ghost use Rattle.page_sets_mdoc_blocks.specs.Fronts.{name_column, has_real_word, given_names, line_arguments};
 ghost use Rattle.page_sets_mdoc.specs.Mdoc as mdoc;
 ghost use Rattle.page_sets_mdoc.specs.Plans as plans;
@@ -25,7 +25,8 @@ use page_sets_lines::{Closer, Deed, Event, SynopsisStep, find_name};
 use page_sets_mdoc_blocks::{has_real_word, is_standard};
 use page_sets_mdoc_lines::{Cursor, find_extent, is_closing, word_call};
 use page_sets_mdoc_rows::{Inline, LineMacro, Sentence, is_parsed};
-use page_sets_mdoc_words::{IncludeStep, MacroWords, SentenceStep, Step, WordsLeft};
+use page_sets_mdoc_steps::{IncludeStep, SentenceStep, Step, WordsLeft};
+use page_sets_mdoc_words::MacroWords;
 
 // This many words in a font, without a macro.
 fn words_from(font: Option<Font>, cursor: Cursor, count: usize) -> MacroWords

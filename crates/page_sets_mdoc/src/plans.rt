@@ -16,7 +16,8 @@ use page_roff_forms::has_arguments;
 use page_sets_lines::{Deed, Event, PlainLine, find_name, layout_request};
 use page_sets_mdoc_blocks::{Front, has_phrase};
 use page_sets_mdoc_rows::{LineMacro, line_macro};
-use page_sets_mdoc_words::{MacroWords, printed_word};
+use page_sets_mdoc_steps::printed_word;
+use page_sets_mdoc_words::MacroWords;
 
 /// What is still to come of a control line's events, in the order of the fields.
 #[derive(Clone, Copy)]

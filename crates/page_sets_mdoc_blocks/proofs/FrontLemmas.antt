@@ -7,13 +7,13 @@ use Rattle.page_core_base.specs.declared.note_kinds.NoteKind.TheVariants as kind
 use Rattle.page_roff_requests.specs.declared.requests.LayoutRequest.{LayoutRequest}
 use Rattle.page_sets_lines.specs.declared.events.Deed.{Deed}
 use Rattle.page_sets_lines.specs.declared.events.Event.{Event}
-use Rattle.page_sets_lines.specs.declared.macro_names.HeadingName.{HeadingName}
-use Rattle.page_sets_lines.specs.declared.macro_names.HeadingName.TheVariants as headings
+use Rattle.page_sets_names.specs.declared.macro_names.HeadingName.{HeadingName}
+use Rattle.page_sets_names.specs.declared.macro_names.HeadingName.TheVariants as headings
 use Rattle.page_sets_lines.specs.declared.openers.LineOpener.{LineOpener}
 use Rattle.page_sets_lines.specs.Laws.{IsPart, IsPartIfGiven, IsArgument, IsArgumentIfGiven, HasSlices, AreSlices, OpensSlices, BlockOpensSlices, BlockClosesSlices}
 use Rattle.page_sets_lines.specs.declared.events.Deed.TheVariants as deeds
 use Rattle.page_sets_lines.specs.declared.leaves.Leaf.TheVariants as leaves
-use Rattle.page_sets_lines.specs.declared.leaves.Own.{Own}
+use Rattle.page_sets_names.specs.declared.own_texts.Own.{Own}
 use Rattle.page_sets_lines.specs.declared.line_steps.LineStep.TheVariants as steps
 use Rattle.page_sets_lines.specs.ControlLines.{name_end, rest_of, open_quote}
 use Rattle.page_sets_lines.proofs.OrderLemmas.{AreArguments, all_arguments}

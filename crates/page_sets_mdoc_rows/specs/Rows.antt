@@ -7,15 +7,15 @@ use Rattle.page_sets_mdoc_rows.specs.declared.macros.Inline.TheVariants as inlin
 use Rattle.page_core_base.specs.declared.cells.Font.TheVariants.{R, B, I}
 use Rattle.page_sets_mdoc_rows.specs.declared.macros.Defaulted.TheVariants.{Files, Home}
 use Rattle.page_sets_mdoc_rows.specs.declared.macros.System.TheVariants.{BsdOs, DragonFly, FreeBsd, NetBsd, OpenBsd, Unix}
-use Rattle.page_sets_lines.specs.declared.marks.Marks.TheVariants.{Angle, Square, Curly, Round, Double, Single, Straight}
-use Rattle.page_sets_lines.specs.declared.marks.Quotation.TheVariants.{Ao, Bo, Bro, Do, Oo, Po, Qo, So}
+use Rattle.page_sets_names.specs.declared.marks.Marks.TheVariants.{Angle, Square, Curly, Round, Double, Single, Straight}
+use Rattle.page_sets_names.specs.declared.marks.Quotation.TheVariants.{Ao, Bo, Bro, Do, Oo, Po, Qo, So}
 use Rattle.page_sets_mdoc_rows.specs.declared.macros.Pair.{Pair}
 use Rattle.page_sets_mdoc_rows.specs.declared.macros.Pair.TheVariants as pairs
-use Rattle.page_sets_lines.specs.declared.leaves.Own.TheVariants as owns
-use Rattle.page_sets_lines.specs.declared.macro_names.Prologue.TheVariants.{Dd, Dt, Os}
-use Rattle.page_sets_lines.specs.declared.macro_names.HeadingName.TheVariants.{Sh, Ss}
-use Rattle.page_sets_lines.specs.declared.macro_names.BodyParagraphName.TheVariants.{Pp, Lp}
-use Rattle.page_sets_lines.specs.declared.macro_names.OneLineName.TheVariants.{D1, Dl}
+use Rattle.page_sets_names.specs.declared.own_texts.Own.TheVariants as owns
+use Rattle.page_sets_names.specs.declared.macro_names.Prologue.TheVariants.{Dd, Dt, Os}
+use Rattle.page_sets_names.specs.declared.macro_names.HeadingName.TheVariants.{Sh, Ss}
+use Rattle.page_sets_names.specs.declared.macro_names.BodyParagraphName.TheVariants.{Pp, Lp}
+use Rattle.page_sets_names.specs.declared.macro_names.OneLineName.TheVariants.{D1, Dl}
 use Rattle.page_sets_mdoc_rows.specs.declared.blocks.Block.TheVariants as blocks
 use Rattle.page_sets_mdoc_rows.specs.declared.blocks.Sentence.TheVariants.{Exit, Return}
 use Rattle.page_sets_mdoc_rows.specs.declared.blocks.LineMacro.{LineMacro}

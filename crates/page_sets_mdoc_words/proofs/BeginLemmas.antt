@@ -15,19 +15,20 @@ use Rattle.page_sets_mdoc_lines.specs.LineWords.{is_closing, is_real, word_call,
 use Rattle.page_sets_mdoc_lines.specs.Parts.{LineParts, parts, rest_parts, part_first, if_parsed, taken_first, is_something, as_list, extent_of, has_calls}
 use Rattle.page_sets_mdoc_lines.specs.declared.extents.Extent.{Extent}
 use Rattle.page_sets_mdoc_lines.proofs.PartLemmas.{words_taken, rest_goes_on}
-use Rattle.page_sets_mdoc_words.specs.declared.fronts.Front.TheVariants.{Refused}
-use Rattle.page_sets_mdoc_words.specs.declared.arguments.ArgumentStep.TheVariants.{Next}
-use Rattle.page_sets_mdoc_words.specs.declared.flags.FlagStep.TheVariants.{First}
-use Rattle.page_sets_mdoc_words.specs.declared.functions.FunctionStep.TheVariants as functions
-use Rattle.page_sets_mdoc_words.specs.declared.links.LinkStep.TheVariants.{Address}
-use Rattle.page_sets_mdoc_words.specs.declared.names.Lone.TheVariants as lones
-use Rattle.page_sets_mdoc_words.specs.declared.references.ReferenceStep.TheVariants as references
-use Rattle.page_sets_mdoc_words.specs.declared.steps.Step.{Step}
-use Rattle.page_sets_mdoc_words.specs.declared.steps.Step.TheVariants as steps
-use Rattle.page_sets_mdoc_words.specs.Inlines.{no_space, inline_events}
+use Rattle.page_sets_mdoc_steps.specs.declared.word_steps.Front.TheVariants.{Refused}
+use Rattle.page_sets_mdoc_steps.specs.declared.word_steps.ArgumentStep.TheVariants.{Next}
+use Rattle.page_sets_mdoc_steps.specs.declared.word_steps.FlagStep.TheVariants.{First}
+use Rattle.page_sets_mdoc_steps.specs.declared.form_steps.FunctionStep.TheVariants as functions
+use Rattle.page_sets_mdoc_steps.specs.declared.form_steps.LinkStep.TheVariants.{Address}
+use Rattle.page_sets_mdoc_steps.specs.declared.word_steps.Lone.TheVariants as lones
+use Rattle.page_sets_mdoc_steps.specs.declared.form_steps.ReferenceStep.TheVariants as references
+use Rattle.page_sets_mdoc_steps.specs.declared.steps.Step.{Step}
+use Rattle.page_sets_mdoc_steps.specs.declared.steps.Step.TheVariants as steps
+use Rattle.page_sets_mdoc_steps.specs.Inlines.{no_space, inline_events}
 use Rattle.page_sets_lines.specs.declared.line_steps.SynopsisStep.{SynopsisStep}
-use Rattle.page_sets_mdoc_words.specs.Synopses.{before_words, after_words, framed}
-use Rattle.page_sets_mdoc_words.specs.Steps.{step_events, glue_front, first_step, begun_events, placed_begun, count_of, takes_first, after_first}
+use Rattle.page_sets_mdoc_steps.specs.Synopses.{before_words, after_words, framed}
+use Rattle.page_sets_mdoc_steps.specs.Steps.{step_events}
+use Rattle.page_sets_mdoc_words.specs.Begins.{glue_front, first_step, begun_events, placed_begun, count_of, takes_first, after_first}
 
 -- one of two steps
 if_step : (line : Line) (column : ℕ) (test : Bool) (step other : Step) (words : List (Argument (List ℕ)))

@@ -12,14 +12,14 @@ use Rattle.page_sets_mdoc_rows.specs.declared.macros.Inline.TheVariants as inlin
 use Rattle.page_sets_mdoc_lines.specs.LineWords.{is_real}
 use Rattle.page_sets_mdoc_lines.specs.Parts.{parts, extent_of, has_calls}
 use Rattle.page_sets_mdoc_lines.specs.declared.extents.Extent.{Extent}
-use Rattle.page_sets_mdoc_words.specs.declared.steps.Step.{Step}
-use Rattle.page_sets_mdoc_words.specs.declared.steps.Step.TheVariants as steps
-use Rattle.page_sets_mdoc_words.specs.Printed.{printed}
-use Rattle.page_sets_mdoc_words.specs.Steps.{first_step, begun_events, placed_begun, count_of, takes_first, after_first}
-use Rattle.page_sets_mdoc_words.specs.Synopses.{before_words, after_words}
+use Rattle.page_sets_mdoc_steps.specs.declared.steps.Step.{Step}
+use Rattle.page_sets_mdoc_steps.specs.declared.steps.Step.TheVariants as steps
+use Rattle.page_sets_mdoc_steps.specs.Printed.{printed}
+use Rattle.page_sets_mdoc_words.specs.Begins.{first_step, begun_events, placed_begun, count_of, takes_first, after_first}
+use Rattle.page_sets_mdoc_steps.specs.Synopses.{before_words, after_words}
 use Rattle.page_sets_mdoc_words.proofs.BeginLemmas.{begun_gives, real_words}
-use Rattle.page_sets_mdoc_words.proofs.PrintLemmas.{Prints, more_events, printed_prints, framed_prints}
-use Rattle.page_sets_mdoc_words.proofs.StepPrintLemmas.{most_events, step_prints}
+use Rattle.page_sets_mdoc_steps.proofs.PrintLemmas.{Prints, more_events, printed_prints, framed_prints}
+use Rattle.page_sets_mdoc_steps.proofs.StepPrintLemmas.{most_events, step_prints}
 
 -- how many arguments a macro has from its name on
 abbrev pub own_count : Inline → Bool → List (Argument (List ℕ)) → ℕ

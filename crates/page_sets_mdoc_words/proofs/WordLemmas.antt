@@ -1,33 +1,15 @@
 -- The words that are left: helpers of proofs.
-use Rattle.std.proofs.Common.{◌≡◌, ℕ, zero, suc, ◌-◌, ◌<◌, ◌≤◌, List, [], ◌∷◌, take, drop, refl, arith, Option, None, Some}
+use Rattle.std.proofs.Common.{◌≡◌, ℕ, zero, suc, List, [], ◌∷◌, take, drop, refl, Option, None, Some}
 use Rattle.page_core_base.specs.declared.cells.Font.{Font}
 use Rattle.page_core_base.specs.LinesTaken.{Line}
 use Rattle.page_roff_forms.specs.declared.quotes.Argument.{Argument}
 use Rattle.page_sets_lines.specs.declared.events.Event.{Event}
 use Rattle.page_sets_lines.specs.declared.line_steps.SynopsisStep.{SynopsisStep}
-use Rattle.page_sets_mdoc_words.specs.declared.steps.MacroWords.{MacroWords}
-use Rattle.page_sets_mdoc_words.specs.Printed.{printed_word}
-use Rattle.page_sets_mdoc_words.specs.Steps.{macro_words_events, IsPlain}
-use Rattle.page_sets_mdoc_words.specs.Synopses.{followed}
-use Rattle.page_sets_mdoc_words.specs.WordsLeft.{words_left}
-
-pub take_first : {A : Type 0} → (n : ℕ) (words : List A) (word : A) (others : List A) → words ≡ word ∷ others → 1 ≤ n
-    → take n words ≡ word ∷ take (n - 1) others
-take_first zero words word others e h = absurd (omega (arith, h))
-take_first (suc n) words word others e h = let m : suc n - 1 ≡ n = omega arith in rw (e, m) refl
-
-pub drop_first : {A : Type 0} → (n : ℕ) (words : List A) (word : A) (others : List A) → words ≡ word ∷ others → 1 ≤ n
-    → drop (n - 1) others ≡ drop n words
-drop_first zero words word others e h = absurd (omega (arith, h))
-drop_first (suc n) words word others e h = let m : suc n - 1 ≡ n = omega arith in rw (e, m) refl
-
-pub take_none : {A : Type 0} → (n : ℕ) (words : List A) → words ≡ [] → take n words ≡ []
-take_none zero words e = refl
-take_none (suc n) words e = rw e refl
-
-pub drop_none : {A : Type 0} → (n : ℕ) (words : List A) → words ≡ [] → drop n words ≡ words
-drop_none zero words e = refl
-drop_none (suc n) words e = rw e refl
+use Rattle.page_sets_mdoc_words.specs.declared.macro_words.MacroWords.{MacroWords}
+use Rattle.page_sets_mdoc_steps.specs.Printed.{printed_word}
+use Rattle.page_sets_mdoc_words.specs.MacroWords.{macro_words_events, IsPlain}
+use Rattle.page_sets_mdoc_steps.specs.Synopses.{followed}
+use Rattle.page_sets_mdoc_steps.specs.WordsLeft.{words_left}
 
 -- where none are left, what comes after them is all
 pub none_left : {A : Type 0} → (n : ℕ) (words : List A) → take n words ≡ [] → drop n words ≡ words

@@ -1,6 +1,2 @@
-pub mod Printed
-pub mod Inlines
-pub mod Synopses
-pub mod Sentences
-pub mod WordsLeft
-pub mod Steps
+pub mod MacroWords
+pub mod Begins

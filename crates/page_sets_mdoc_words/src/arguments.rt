@@ -2,27 +2,16 @@
 
 ghost use Rattle.std.specs.Prelude.{◌≤◌, length};
 ghost use Rattle.page_sets_mdoc_lines.specs.Cursors.{IsCursorOf};
-ghost use Rattle.page_sets_mdoc_words.specs.declared.arguments.ArgumentStep.TheVariants as arguments;
-ghost use Rattle.page_sets_mdoc_words.specs.declared.steps.Step.TheVariants as steps;
-ghost use Rattle.page_sets_mdoc_words.specs.Steps.{StepsOn};
-ghost use Rattle.page_sets_mdoc_words.specs.WordsLeft.{GoesOn};
+ghost use Rattle.page_sets_mdoc_steps.specs.declared.word_steps.ArgumentStep.TheVariants as arguments;
+ghost use Rattle.page_sets_mdoc_steps.specs.declared.steps.Step.TheVariants as steps;
+ghost use Rattle.page_sets_mdoc_steps.specs.Steps.{StepsOn};
+ghost use Rattle.page_sets_mdoc_steps.specs.WordsLeft.{GoesOn};
 
-use crate::printed::{printed_word, step_event};
-use crate::steps::{Begun, Given, Step};
-use crate::words_left::WordsLeft;
 use page_core_base::Font;
 use page_core_limits::LINE;
 use page_sets_lines::LineStep;
 use page_sets_mdoc_lines::is_real;
-
-/// What comes next of arguments.
-#[derive(Clone, Copy)]
-pub enum ArgumentStep {
-    /// The next argument begins.
-    Next,
-    /// Its word.
-    Word,
-}
+use page_sets_mdoc_steps::{ArgumentStep, Begun, Given, Step, WordsLeft, printed_word, step_event};
 
 // The next argument begins, or a delimiter stands before it.
 fn next_argument<'a>(begun: Begun<'a>, left: &mut WordsLeft) -> Option<Given<'a>>

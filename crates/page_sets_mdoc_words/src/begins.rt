@@ -5,30 +5,25 @@ ghost use Rattle.page_core_base.specs.LinesTaken.{line_seen};
 ghost use Rattle.page_sets_mdoc_lines.specs.LineWords.{arguments_after};
 ghost use Rattle.page_sets_mdoc_lines.specs.Parts.{parts, rest_parts};
 ghost use Rattle.page_sets_mdoc_lines.specs.Cursors.{IsCursorOf};
-ghost use Rattle.page_sets_mdoc_words.specs.Steps as step_specs;
-ghost use Rattle.page_sets_mdoc_words.specs.Steps.{macro_words_events, placed_begun, TakesWord};
-ghost use Rattle.page_sets_mdoc_words.specs.WordsLeft.{after_words};
+ghost use Rattle.page_sets_mdoc_steps.specs.WordsLeft.{after_words};
+ghost use Rattle.page_sets_mdoc_words.specs.Begins as begins;
+ghost use Rattle.page_sets_mdoc_words.specs.Begins.{placed_begun, TakesWord};
+ghost use Rattle.page_sets_mdoc_words.specs.MacroWords.{macro_words_events};
 
-use crate::arguments::ArgumentStep;
-use crate::flags::FlagStep;
-use crate::fronts::{Front, Outer, WordBlock};
-use crate::functions::FunctionStep;
-use crate::links::LinkStep;
-use crate::names::Lone;
-use crate::references::ReferenceStep;
-use crate::steps::{MacroWords, Step};
+use crate::macro_words::MacroWords;
 use crate::synopses::{after_words, before_words};
-use crate::systems::VersionStep;
-use crate::taken_words::Taker;
-use crate::words_left::WordsLeft;
 use page_core_base::{Font, Taken};
 use page_core_limits::LINE;
 use page_sets_mdoc_lines::{Cursor, Extent, find_extent, may_take, takes_next};
 use page_sets_mdoc_rows::{Inline, Pair};
+use page_sets_mdoc_steps::{
+    ArgumentStep, FlagStep, Front, FunctionStep, LinkStep, Lone, Outer, ReferenceStep, Step, Taker,
+    VersionStep, WordBlock, WordsLeft,
+};
 
 // The step of a macro that is refused where all its words are delimiters.
 fn needs(extent: Extent, len: u32, step: Step) -> Step
-    ensures { result ≡ step_specs.needs extent len step }
+    ensures { result ≡ begins.needs extent len step }
 {
     if extent.has_real {
         step
@@ -46,7 +41,7 @@ fn either(test: bool, step: Step, other: Step) -> Step
 
 // What an `Ns` does that ends the words of its line, or another.
 fn glue_front(is_last: bool) -> Front
-    ensures { result ≡ step_specs.glue_front is_last }
+    ensures { result ≡ begins.glue_front is_last }
 {
     if is_last {
         Front::EndsEnclosures(Outer::Glue)
@@ -57,7 +52,7 @@ fn glue_front(is_last: bool) -> Front
 
 // The step of what opens a scope.
 fn opening(pair: Pair, taken: bool, extent: Extent, len: u32) -> Step
-    ensures { result ≡ step_specs.opening pair taken extent len }
+    ensures { result ≡ begins.opening pair taken extent len }
 {
     match pair {
         Pair::Quotation(quotation) => Step::Front(Front::Opens(WordBlock::Quotation(quotation))),
@@ -70,7 +65,7 @@ fn opening(pair: Pair, taken: bool, extent: Extent, len: u32) -> Step
 
 // The step of what closes a scope.
 fn closing(pair: Pair, taken: bool) -> Step
-    ensures { result ≡ step_specs.closing pair taken }
+    ensures { result ≡ begins.closing pair taken }
 {
     match pair {
         Pair::Quotation(quotation) => Step::Front(Front::Closes(WordBlock::Quotation(quotation))),
@@ -83,7 +78,7 @@ fn closing(pair: Pair, taken: bool) -> Step
 
 // The first step of a macro, by the extent of its words, the length of its name and whether it takes a word.
 fn first_step(inline: Inline, taken: bool, extent: Extent, len: u32) -> Step
-    ensures { result ≡ step_specs.first_step inline taken extent len }
+    ensures { result ≡ begins.first_step inline taken extent len }
 {
     match inline {
         Inline::Words(font) => needs(extent, len, Step::Printed(Some(font))),
@@ -139,7 +134,7 @@ fn first_step(inline: Inline, taken: bool, extent: Extent, len: u32) -> Step
 
 // How many words there are with the one that is taken.
 fn count_of(words: u32, taken: bool) -> usize
-    ensures { result ≡ step_specs.count_of words taken }
+    ensures { result ≡ begins.count_of words taken }
 {
     if taken {
         words as usize + 1

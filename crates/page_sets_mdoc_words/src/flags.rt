@@ -3,34 +3,23 @@
 ghost use Rattle.std.specs.Prelude.{◌≡◌, ◌≤◌, Some, length};
 ghost use Rattle.page_core_base.specs.declared.cells.Font.TheVariants.{B};
 ghost use Rattle.page_sets_lines.specs.declared.events.Join.TheVariants.{Apart, Glued};
-ghost use Rattle.page_sets_lines.specs.declared.leaves.Own.TheVariants.{Dash};
+ghost use Rattle.page_sets_names.specs.declared.own_texts.Own.TheVariants.{Dash};
 ghost use Rattle.page_sets_lines.specs.Events.{event_seen};
 ghost use Rattle.page_sets_mdoc_lines.specs.Cursors.{IsCursorOf};
-ghost use Rattle.page_sets_mdoc_words.specs.declared.flags.FlagStep.TheVariants as flags;
-ghost use Rattle.page_sets_mdoc_words.specs.declared.steps.Step.TheVariants as steps;
-ghost use Rattle.page_sets_mdoc_words.specs.Printed.{own_word};
-ghost use Rattle.page_sets_mdoc_words.specs.Steps.{StepsOn};
-ghost use Rattle.page_sets_mdoc_words.specs.WordsLeft.{GoesOn};
+ghost use Rattle.page_sets_mdoc_steps.specs.declared.word_steps.FlagStep.TheVariants as flags;
+ghost use Rattle.page_sets_mdoc_steps.specs.declared.steps.Step.TheVariants as steps;
+ghost use Rattle.page_sets_mdoc_steps.specs.Printed.{own_word};
+ghost use Rattle.page_sets_mdoc_steps.specs.Steps.{StepsOn};
+ghost use Rattle.page_sets_mdoc_steps.specs.WordsLeft.{GoesOn};
 
-use crate::printed::{is_opening, own_word, printed_word};
-use crate::steps::{Begun, Given, Step};
-use crate::words_left::WordsLeft;
 use page_core_base::Font;
 use page_core_limits::LINE;
 use page_roff_forms::Argument;
 use page_sets_lines::{Join, Own};
 use page_sets_mdoc_lines::is_real;
-
-/// What comes next of flags.
-#[derive(Clone, Copy)]
-pub enum FlagStep {
-    /// A dash alone, where a delimiter that opens nothing comes before the first flag.
-    First,
-    /// A dash before the next flag.
-    Dash,
-    /// The flag after its dash.
-    Flag,
-}
+use page_sets_mdoc_steps::{
+    Begun, FlagStep, Given, Step, WordsLeft, is_opening, own_word, printed_word,
+};
 
 // The dash before a flag.
 fn flag_dash<'a>(begun: Begun<'a>, word: Argument<&'a [u8]>) -> Given<'a>

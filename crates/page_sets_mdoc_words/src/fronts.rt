@@ -4,67 +4,21 @@ ghost use Rattle.std.specs.Prelude.{◌≡◌, ◌≤◌, ◌-◌, take, drop, l
 ghost use Rattle.page_core_base.specs.LinesTaken.{line_seen};
 ghost use Rattle.page_sets_lines.specs.Events.{event_seen, block_opener_seen, block_closer_seen};
 ghost use Rattle.page_sets_mdoc_lines.specs.Cursors.{IsCursorOf};
-ghost use Rattle.page_sets_mdoc_words.specs.declared.steps.Step.TheVariants as steps;
-ghost use Rattle.page_sets_mdoc_words.specs.Inlines.{system_own};
-ghost use Rattle.page_sets_mdoc_words.specs.Steps as step_specs;
-ghost use Rattle.page_sets_mdoc_words.specs.Steps.{StepsOn};
-ghost use Rattle.page_sets_mdoc_words.specs.WordsLeft.{GoesOn};
+ghost use Rattle.page_sets_mdoc_steps.specs.declared.steps.Step.TheVariants as steps;
+ghost use Rattle.page_sets_mdoc_steps.specs.Inlines.{system_own};
+ghost use Rattle.page_sets_mdoc_steps.specs.Steps as step_specs;
+ghost use Rattle.page_sets_mdoc_steps.specs.Steps.{StepsOn};
+ghost use Rattle.page_sets_mdoc_steps.specs.WordsLeft.{GoesOn};
 
-use crate::printed::{event_at, own_word, step_event};
-use crate::steps::{Begun, Given, Step};
-use crate::words_left::WordsLeft;
 use page_core_base::NoteKind;
 use page_core_limits::LINE;
 use page_sets_lines::{
-    BlockCloser, BlockOpener, Closer, Deed, Event, Join, LineOpener, LineStep, Marks, Opener, Own,
-    Quotation,
+    BlockCloser, BlockOpener, Closer, Deed, Event, Join, LineOpener, LineStep, Opener, Own,
 };
 use page_sets_mdoc_rows::System;
-
-/// A block that can stand among words.
-#[derive(Clone, Copy)]
-pub enum WordBlock {
-    /// `Ao Bo Bro Do Oo Po Qo So` and what closes them; the name is that of the opener.
-    Quotation(Quotation),
-    /// `Eo` and `Ec`.
-    Custom,
-    /// `Xo` and `Xc`.
-    Extension,
-}
-
-/// What stands outside the enclosures.
-#[derive(Clone, Copy)]
-pub enum Outer {
-    /// `Ns` that ends the words of its line.
-    Glue,
-    /// `Ta`.
-    NextColumn,
-}
-
-/// What a macro does before it prints its words.
-#[derive(Clone, Copy)]
-pub enum Front {
-    /// It lacks a word: a message with its name, of which this is the length.
-    Refused { len: u32 },
-    /// The next column, outside the enclosures.
-    NextColumn,
-    /// `Ns`.
-    Glue,
-    /// The enclosures end before what stands outside them.
-    EndsEnclosures(Outer),
-    /// `Ap`.
-    Apostrophe,
-    /// `Bsx Dx Fx Nx Ox Ux`.
-    System(System),
-    /// `Aq Bq Brq Dq Op Pq Ql Qq Sq`.
-    Enclosure(Marks),
-    /// `Ao Bo Bro Do Eo Oo Po Qo So Xo`, without a mark.
-    Opens(WordBlock),
-    /// `Ac Bc Brc Dc Ec Oc Pc Qc Sc Xc`, without a mark.
-    Closes(WordBlock),
-    /// `Fc`.
-    ClosesFunction,
-}
+use page_sets_mdoc_steps::{
+    Begun, Front, Given, Outer, Step, WordBlock, WordsLeft, event_at, own_word, step_event,
+};
 
 // A part of a text, as far as the text has it.
 #[tactic(auto, using(crate::proofs::SliceLemmas::part_of))]
@@ -195,7 +149,7 @@ fn front_after(front: Front) -> Step
 }
 
 /// What a macro does before its words, which come next.
-#[tactic(auto, using(crate::proofs::StepLemmas::front_goes_on))]
+#[tactic(auto, using(crate::proofs::FrontLemmas::front_goes_on))]
 pub(crate) fn next_front<'a>(
     begun: Begun<'a>,
     front: Front,

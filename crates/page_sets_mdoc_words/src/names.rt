@@ -3,31 +3,20 @@
 ghost use Rattle.std.specs.Prelude.{◌≡◌, ◌≤◌, Bool, length};
 ghost use Rattle.page_sets_lines.specs.Events.{event_seen};
 ghost use Rattle.page_sets_mdoc_lines.specs.Cursors.{IsCursorOf};
-ghost use Rattle.page_sets_mdoc_words.specs.declared.steps.Step.TheVariants as steps;
-ghost use Rattle.page_sets_mdoc_words.specs.Inlines as inlines;
-ghost use Rattle.page_sets_mdoc_words.specs.Steps as step_specs;
-ghost use Rattle.page_sets_mdoc_words.specs.Steps.{StepsOn};
-ghost use Rattle.page_sets_mdoc_words.specs.WordsLeft.{GoesOn};
+ghost use Rattle.page_sets_mdoc_steps.specs.declared.steps.Step.TheVariants as steps;
+ghost use Rattle.page_sets_mdoc_steps.specs.Inlines as inlines;
+ghost use Rattle.page_sets_mdoc_steps.specs.Steps as step_specs;
+ghost use Rattle.page_sets_mdoc_steps.specs.Steps.{StepsOn};
+ghost use Rattle.page_sets_mdoc_steps.specs.WordsLeft.{GoesOn};
 
-use crate::printed::{is_opening, own_word, printed_word, step_event, word_event};
-use crate::steps::{Begun, Given, Step};
-use crate::words_left::WordsLeft;
 use page_core_base::Font;
 use page_core_limits::LINE;
 use page_sets_lines::{Event, Join, LineStep, Own, Role};
 use page_sets_mdoc_lines::is_real;
 use page_sets_mdoc_rows::Defaulted;
-
-/// What a macro prints where all its words are delimiters.
-#[derive(Clone, Copy)]
-pub enum Lone {
-    /// `Nm`: the name of the manual.
-    ManualName,
-    /// `Ar` and `Pa`.
-    Default(Defaulted),
-    /// `Fl`: a dash, which is glued to a call right after it.
-    Dash { follows: bool },
-}
+use page_sets_mdoc_steps::{
+    Begun, Given, Lone, Step, WordsLeft, is_opening, own_word, printed_word, step_event, word_event,
+};
 
 // The text of `Ar` or `Pa`.
 fn default_own(default: Defaulted) -> Own

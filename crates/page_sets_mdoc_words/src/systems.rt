@@ -4,36 +4,23 @@ ghost use Rattle.std.specs.Prelude.{◌≡◌, ◌≤◌, None, length};
 ghost use Rattle.page_roff_forms.specs.Arguments.{argument_seen};
 ghost use Rattle.page_sets_lines.specs.declared.events.Join.{Join};
 ghost use Rattle.page_sets_lines.specs.declared.events.Join.TheVariants.{Apart};
-ghost use Rattle.page_sets_lines.specs.declared.leaves.Own.TheVariants.{Bsd};
+ghost use Rattle.page_sets_names.specs.declared.own_texts.Own.TheVariants.{Bsd};
 ghost use Rattle.page_sets_lines.specs.Events.{event_seen};
 ghost use Rattle.page_sets_mdoc_lines.specs.Cursors.{IsCursorOf};
-ghost use Rattle.page_sets_mdoc_words.specs.declared.systems.VersionStep.TheVariants as versions;
-ghost use Rattle.page_sets_mdoc_words.specs.declared.steps.Step.TheVariants as steps;
-ghost use Rattle.page_sets_mdoc_words.specs.Inlines as inlines;
-ghost use Rattle.page_sets_mdoc_words.specs.Printed.{own_word};
-ghost use Rattle.page_sets_mdoc_words.specs.Steps.{StepsOn};
-ghost use Rattle.page_sets_mdoc_words.specs.WordsLeft.{GoesOn};
+ghost use Rattle.page_sets_mdoc_steps.specs.declared.word_steps.VersionStep.TheVariants as versions;
+ghost use Rattle.page_sets_mdoc_steps.specs.declared.steps.Step.TheVariants as steps;
+ghost use Rattle.page_sets_mdoc_steps.specs.Inlines as inlines;
+ghost use Rattle.page_sets_mdoc_steps.specs.Printed.{own_word};
+ghost use Rattle.page_sets_mdoc_steps.specs.Steps.{StepsOn};
+ghost use Rattle.page_sets_mdoc_steps.specs.WordsLeft.{GoesOn};
 
-use crate::printed::{is_opening, own_word, printed_word};
-use crate::steps::{Begun, Given, Step};
-use crate::words_left::WordsLeft;
 use page_core_limits::LINE;
 use page_roff_forms::Argument;
 use page_sets_lines::{Event, Join, Own};
 use page_sets_mdoc_lines::is_real;
-
-/// What comes next of a version.
-#[derive(Clone, Copy)]
-pub enum VersionStep {
-    /// The version, after opening delimiters.
-    Version,
-    /// The name after it.
-    Name,
-    /// The hyphen before a variant.
-    Hyphen,
-    /// The variant after it.
-    Variant,
-}
+use page_sets_mdoc_steps::{
+    Begun, Given, Step, VersionStep, WordsLeft, is_opening, own_word, printed_word,
+};
 
 // The name.
 fn name<'a>(begun: Begun<'a>, before: Join) -> Event<&'a [u8]>

@@ -4,29 +4,18 @@ ghost use Rattle.std.specs.Prelude.{◌≡◌, ◌≤◌, length};
 ghost use Rattle.page_roff_forms.specs.Arguments.{argument_seen};
 ghost use Rattle.page_sets_lines.specs.Events.{event_seen};
 ghost use Rattle.page_sets_mdoc_lines.specs.Cursors.{IsCursorOf};
-ghost use Rattle.page_sets_mdoc_words.specs.declared.steps.Step.TheVariants as steps;
-ghost use Rattle.page_sets_mdoc_words.specs.Steps as step_specs;
-ghost use Rattle.page_sets_mdoc_words.specs.Steps.{StepsOn};
-ghost use Rattle.page_sets_mdoc_words.specs.WordsLeft.{GoesOn};
+ghost use Rattle.page_sets_mdoc_steps.specs.declared.steps.Step.TheVariants as steps;
+ghost use Rattle.page_sets_mdoc_steps.specs.Steps as step_specs;
+ghost use Rattle.page_sets_mdoc_steps.specs.Steps.{StepsOn};
+ghost use Rattle.page_sets_mdoc_steps.specs.WordsLeft.{GoesOn};
 
-use crate::printed::{event_at, word_event};
-use crate::steps::{Begun, Given, Step, next_printed};
-use crate::words_left::WordsLeft;
 use page_core_base::{Font, NoteKind};
 use page_core_limits::LINE;
 use page_roff_forms::{Argument, Quoting};
 use page_sets_lines::{BlockCloser, BlockOpener, Closer, Deed, Event, Join, Opener, Role};
-
-/// What takes a word as it stands, and prints it.
-#[derive(Clone, Copy)]
-pub enum Taker {
-    /// `Pf`: a word before the others, without a blank.
-    Prefix,
-    /// `Eo`: the mark that opens.
-    Opens,
-    /// `Ec`: the mark that closes.
-    Closes,
-}
+use page_sets_mdoc_steps::{
+    Begun, Given, Step, Taker, WordsLeft, event_at, next_printed, word_event,
+};
 
 // What is made of the word.
 fn taken_event<'a>(begun: Begun<'a>, taker: Taker, word: Argument<&'a [u8]>) -> Event<&'a [u8]>

@@ -3,7 +3,7 @@ use Rattle.page_core_base.specs.LinesTaken.{line_seen}
 use Rattle.page_roff_forms.specs.Arguments.{argument_seen}
 use Rattle.page_sets_mdoc_lines.specs.Cursors.{IsCursorOf}
 use Rattle.page_sets_mdoc_lines.proofs.CursorLemmas.{few_left}
-use Rattle.page_sets_mdoc_words.specs.declared.steps.MacroWords.{MacroWords}
+use Rattle.page_sets_mdoc_words.specs.declared.macro_words.MacroWords.{MacroWords}
 use Rattle.page_sets_mdoc.proofs.LineWordLemmas.{all_stand, all_come, tail_comes}
 use Rattle.page_sets_mdoc.proofs.line_words.begin_tail.Goals as goal
 

@@ -3,7 +3,7 @@ use Rattle.page_core_base.specs.LinesTaken.{line_seen}
 use Rattle.page_sets_lines.specs.declared.line_steps.SynopsisStep.TheVariants.{Break}
 use Rattle.page_sets_mdoc_lines.specs.Cursors.{IsCursorOf}
 use Rattle.page_sets_mdoc_lines.proofs.CursorLemmas.{few_left}
-use Rattle.page_sets_mdoc_words.specs.declared.steps.MacroWords.{MacroWords}
+use Rattle.page_sets_mdoc_words.specs.declared.macro_words.MacroWords.{MacroWords}
 use Rattle.page_sets_mdoc.proofs.LineWordLemmas.{by_stand, file_comes}
 use Rattle.page_sets_mdoc.proofs.line_words.file_words.Goals as goal
 

@@ -1,7 +1,7 @@
 use Rattle.std.proofs.Common.{sym, subst}
 use Rattle.page_core_base.specs.LinesTaken.{line_seen}
 use Rattle.page_sets_mdoc_lines.specs.Cursors.{IsCursorOf}
-use Rattle.page_sets_mdoc_words.specs.declared.steps.MacroWords.{MacroWords}
+use Rattle.page_sets_mdoc_words.specs.declared.macro_words.MacroWords.{MacroWords}
 use Rattle.page_sets_mdoc.proofs.LineWordLemmas.{nothing_stands, nothing_comes}
 use Rattle.page_sets_mdoc.proofs.line_words.no_words.Goals as goal
 

@@ -2,7 +2,7 @@ use Rattle.std.proofs.Common.{sym, ap, subst}
 use Rattle.page_core_base.specs.LinesTaken.{line_seen}
 use Rattle.page_sets_mdoc_lines.specs.declared.extents.Extent.{Extent}
 use Rattle.page_sets_mdoc_lines.specs.Cursors.{IsCursorOf}
-use Rattle.page_sets_mdoc_words.specs.declared.steps.MacroWords.{MacroWords}
+use Rattle.page_sets_mdoc_words.specs.declared.macro_words.MacroWords.{MacroWords}
 use Rattle.page_sets_mdoc.proofs.LineWordLemmas.{words_stand}
 use Rattle.page_sets_mdoc.proofs.line_words.phrase_words.Goals as goal
 

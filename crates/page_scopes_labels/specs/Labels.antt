@@ -1,0 +1,136 @@
+-- What an open scope is, and what is known of it by that alone: one row for each. Source: man(7), "MACRO OVERVIEW"; mdoc(7), "MACRO REFERENCE".
+use Rattle.std.specs.Prelude.{ℕ, Bool, true, false, List, codes}
+use Rattle.std.specs.Borrow.{Bor}
+use Rattle.std.specs.Str.{bytes_eq}
+use Rattle.page_sets_lines.specs.Blocks.{block_closer_name, block_name}
+use Rattle.page_sets_names.specs.MacroNames.{font_macro_name, heading_name, link_closer_name, link_name, one_line_name, tag_name}
+use Rattle.page_sets_names.specs.Marks.{marks_name}
+use Rattle.page_sets_lines.specs.declared.openers.LineOpener.{LineOpener}
+use Rattle.page_sets_lines.specs.declared.openers.LineOpener.TheVariants.{Head, Heading, Tag, FontWords, Enclosure, Description, OneLine}
+use Rattle.page_sets_lines.specs.declared.blocks.Block.TheVariants as blocks
+use Rattle.page_sets_lines.specs.declared.lists.ListKind.{ListKind}
+use Rattle.page_sets_lines.specs.declared.lists.ListKind.TheVariants as kinds
+use Rattle.page_scopes_labels.specs.declared.labels.Explicit.{Explicit}
+use Rattle.page_scopes_labels.specs.declared.labels.Explicit.TheVariants.{RelativeMargin, Target, Syntax, Block}
+use Rattle.page_scopes_labels.specs.declared.labels.Label.{Label}
+use Rattle.page_scopes_labels.specs.declared.labels.Label.TheVariants as labels
+use Rattle.page_scopes_labels.specs.declared.labels.LabelRow.{LabelRow}
+use Rattle.page_scopes_labels.specs.declared.labels.ScopeEnd.{ScopeEnd}
+use Rattle.page_scopes_labels.specs.declared.labels.ScopeEnd.TheVariants.{Implied, Line, Closer}
+
+-- what texts of a row hold
+abbrev pub end_seen : ScopeEnd (Bor (List ℕ)) → ScopeEnd (List ℕ)
+end_seen Implied = Implied
+end_seen Line = Line
+end_seen (Closer name) = Closer name.now
+
+abbrev pub row_seen : LabelRow (Bor (List ℕ)) → LabelRow (List ℕ)
+row_seen row = record {
+  name = row.name.now;
+  end = end_seen row.end;
+  is_level = row.is_level;
+  owns_prevailing = row.owns_prevailing;
+  guards_fonts = row.guards_fonts;
+}
+
+-- a scope that keeps nothing apart
+abbrev pub plain_row : List ℕ → ScopeEnd (List ℕ) → LabelRow (List ℕ)
+plain_row name end = record { name = name; end = end; is_level = false; owns_prevailing = false; guards_fonts = false }
+
+-- paragraphs inside it are apart from those around it, and the prevailing indent holds up to its end
+abbrev pub level_row : List ℕ → ScopeEnd (List ℕ) → LabelRow (List ℕ)
+level_row name end = record { name = name; end = end; is_level = true; owns_prevailing = true; guards_fonts = false }
+
+-- it ends with a line, and leaves the fonts as they were before it; a tag does not
+abbrev pub guard_row : List ℕ → LabelRow (List ℕ)
+guard_row name = record { name = name; end = Line; is_level = false; owns_prevailing = false; guards_fonts = true }
+
+-- ---- the table
+
+abbrev pub line_row : LineOpener → LabelRow (List ℕ)
+line_row Head = plain_row (codes "It") Line
+line_row (Heading name) = guard_row (heading_name name)
+line_row (Tag name) = plain_row (tag_name name) Line
+line_row (FontWords name) = guard_row (font_macro_name name)
+line_row (Enclosure marks) = plain_row (marks_name marks) Line
+line_row Description = plain_row (codes "Nd") Line
+line_row (OneLine name) = plain_row (one_line_name name) Line
+
+abbrev pub label_row : Label → LabelRow (List ℕ)
+label_row labels.Item = plain_row (codes "It") Implied
+label_row labels.Section = level_row (codes "SH") Implied
+label_row labels.Subsection = level_row (codes "SS") Implied
+label_row labels.Paragraph = plain_row (codes "PP") Implied
+label_row (labels.Explicit RelativeMargin) = level_row (codes "RS") (Closer (codes "RE"))
+label_row (labels.Explicit (Target link)) = plain_row (link_name link) (Closer (link_closer_name link))
+label_row (labels.Explicit Syntax) = plain_row (codes "SY") (Closer (codes "YS"))
+label_row (labels.Explicit (Block block)) = plain_row (block_name block) (Closer (block_closer_name block))
+label_row (labels.Line opener) = line_row opener
+
+-- ---- its columns
+
+-- the name of the macro that opens the scope, of a paragraph the first of them
+abbrev pub label_name : Label → List ℕ
+label_name label = (label_row label).name
+
+-- two scopes have one opener where its name is the same
+abbrev pub same_opener : Label → Label → Bool
+same_opener label other = bytes_eq (label_name label) (label_name other)
+
+abbrev pub is_explicit : Explicit → Label → Bool
+is_explicit explicit label = same_opener (labels.Explicit explicit) label
+
+abbrev pub is_margin : Label → Bool
+is_margin label = is_explicit RelativeMargin label
+
+abbrev pub ends_with_line : ScopeEnd (List ℕ) → Bool
+ends_with_line Line = true
+ends_with_line _ = false
+
+abbrev pub is_line : Label → Bool
+is_line label = ends_with_line (label_row label).end
+
+abbrev pub is_level : Label → Bool
+is_level label = (label_row label).is_level
+
+-- ---- labels by themselves
+
+abbrev pub is_section : Label → Bool
+is_section labels.Section = true
+is_section _ = false
+
+-- an enclosure that ends with a line (`Aq Bq Brq Dq Op Pq Ql Qq Sq`)
+abbrev pub encloses : LineOpener → Bool
+encloses (Enclosure marks) = true
+encloses _ = false
+
+abbrev pub is_enclosure : Label → Bool
+is_enclosure (labels.Line opener) = encloses opener
+is_enclosure _ = false
+
+abbrev pub is_paragraph : Label → Bool
+is_paragraph labels.Paragraph = true
+is_paragraph _ = false
+
+-- ---- lists (`Bl`) and their items (`It`)
+
+abbrev pub is_item : Label → Bool
+is_item labels.Item = true
+is_item _ = false
+
+abbrev pub is_list : Label → Bool
+is_list (labels.Explicit (Block (blocks.List kind))) = true
+is_list _ = false
+
+-- items have heads; the words of `It` in any other list are those of its text
+abbrev pub has_heads : ListKind → Bool
+has_heads kinds.Diag = true
+has_heads kinds.Hang = true
+has_heads kinds.Inset = true
+has_heads kinds.Ohang = true
+has_heads kinds.Tag = true
+has_heads _ = false
+
+abbrev pub is_headed_list : Label → Bool
+is_headed_list (labels.Explicit (Block (blocks.List kind))) = has_heads kind
+is_headed_list _ = false

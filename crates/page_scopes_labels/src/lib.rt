@@ -1,0 +1,9 @@
+//! What an open scope is, and what is known of it by that alone (man(7), mdoc(7)).
+//!
+//! It stands between the events of the sets of macros and the scopes: `page_scopes_tree` tells by labels what ends what, `page_scopes_layout` and
+//! the crates on it what a scope begins with and gives. Read `specs/Labels.antt` first: a row for each scope.
+#![tactic(auto)]
+
+mod labels;
+
+pub use labels::{Explicit, Label, LabelRow, ScopeEnd};

@@ -1,0 +1,2 @@
+pub mod FormLemmas
+pub mod SentenceLemmas

@@ -1,0 +1,3 @@
+pub mod OwnTexts
+pub mod Marks
+pub mod MacroNames

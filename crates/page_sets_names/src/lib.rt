@@ -1,0 +1,15 @@
+//! The names of macros, the marks around enclosed words, and the texts that macros print themselves (man(7), mdoc(7)).
+//!
+//! It stands below the sets of macros and the scopes: the events of a line carry these names and texts (`page_sets_lines`), the scopes put them into
+//! messages and rows. Read `specs/MacroNames.antt` first (names), then `Marks.antt` (which texts stand around words) and `OwnTexts.antt` (the texts).
+#![tactic(auto)]
+
+mod macro_names;
+mod marks;
+mod own_texts;
+
+pub use macro_names::{
+    BodyParagraphName, FontMacro, HeadingName, Link, OneLineName, ParagraphName, Prologue, TagName,
+};
+pub use marks::{Marks, Quotation};
+pub use own_texts::Own;
