@@ -1,5 +1,5 @@
 -- Runs over bytes in memory.
-use Rattle.std.proofs.Common.{◌≡◌, ℕ, ◌+◌, ◌<◌, ◌-◌, ◌^◌, List, ◌++◌, length, take, Some, Result, Ok, Err, refl, ap, ◌∙◌, append-nil, arith, length-append, inl, inr}
+use Rattle.std.proofs.Common.{◌≡◌, ℕ, ◌<◌, ◌-◌, ◌^◌, List, ◌++◌, length, take, Some, Result, Ok, Err, refl, ap, ◌∙◌, append-nil, arith, length-append, inl, inr}
 use Rattle.page_core_base.specs.Laid.{Laid, nothing}
 use Rattle.page_core_base.specs.Messages.{Message}
 use Rattle.page_core_base.specs.Rows.{LaidRow}

@@ -1,6 +1,5 @@
 //! What lies below the lines of a page: the filler, and the sinks of rows and messages.
 
-ghost use Rattle.std.specs.Prelude.{◌≡◌, ℕ, List, Option, Some};
 ghost use Rattle.std.specs.Borrow.{GName};
 ghost use Rattle.page_engine.specs.Levels.{filter-sink, filter-whole};
 ghost use Rattle.page_engine.specs.Shown.{shown-sink, shown-whole};

@@ -1,6 +1,6 @@
 //! A page that streams: lines come one by one, and what they settle goes out at once.
 
-ghost use Rattle.std.specs.Prelude.{◌≡◌, ◌<◌, ◌+◌, ◌-◌, ◌^◌, ℕ, true, false, [], ◌∷◌, None, Some, IfOk, OnOk, OnErr, MatchOption, MatchResult};
+ghost use Rattle.std.specs.Prelude.{◌≡◌, ◌<◌, ◌+◌, ◌-◌, ◌^◌, true, false, [], ◌∷◌, None, Some, IfOk, OnOk, OnErr, MatchOption, MatchResult};
 ghost use Rattle.page_core_base.specs.Checks.{IsGood};
 ghost use Rattle.page_core_base.specs.Texts.{IsLine};
 ghost use Rattle.page_core_base.specs.declared.faults.Fault.{Fault};

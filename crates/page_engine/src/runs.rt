@@ -1,6 +1,6 @@
 //! A run: the bytes of a source become the rows and messages of a page.
 
-ghost use Rattle.std.specs.Prelude.{◌≡◌, ◌<◌, ◌≤◌, ◌^◌, ℕ, List, false, length, IfOk, IfErr};
+ghost use Rattle.std.specs.Prelude.{◌≡◌, ◌<◌, ◌≤◌, ◌^◌, ℕ, List, length, IfOk, IfErr};
 ghost use Rattle.std.specs.Io.KnownBytes.{Consumes};
 ghost use Rattle.page_core_base.specs.Checks.{IsGood};
 ghost use Rattle.page_engine.specs.Page.{Edge};

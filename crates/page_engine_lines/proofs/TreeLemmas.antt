@@ -25,7 +25,7 @@ use Rattle.page_scopes_words.specs.Words.{at}
 use Rattle.page_sets.specs.Either.{either_events}
 use Rattle.page_sets.specs.declared.either.Either.{Either}
 use Rattle.page_sets_lines.specs.declared.events.Event.{Event}
-use Rattle.page_engine_lines.specs.Acts.{given_steps, before_language, from_language, first_language, front, rest, front_steps, reader, rest_steps, given_then, trailing_messages, raw_line, lines_items, lines_after, end_steps, ending_items, page_items}
+use Rattle.page_engine_lines.specs.Acts.{given_steps, before_language, from_language, first_language, reader, rest_steps, given_then, trailing_messages, raw_line, lines_items, lines_after, end_steps, ending_items, page_items}
 use Rattle.page_engine_lines.specs.Given.{set_events, line_items, line_after, given_items, body_after}
 use Rattle.page_engine_lines.specs.Edges.{LinesEdge}
 use Rattle.page_engine_lines.specs.Lines.{source_line, trailing_notes, source_items, source_after, end_items}

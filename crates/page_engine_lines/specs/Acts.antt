@@ -1,6 +1,5 @@
 -- What roff gives of a page's lines, as acts of one block tree. Source: mandoc(1), "DIAGNOSTICS".
 use Rattle.std.specs.Prelude.{ℕ, ◌+◌, nat_lt, List, [], ◌∷◌, ◌++◌, length, map, Option, None, Some, is_some, if◌then◌else◌}
-use Rattle.page_core_base.specs.LinesTaken.{Line}
 use Rattle.page_core_base.specs.Messages.{Message, message_about}
 use Rattle.page_core_base.specs.Pieces.{Item}
 use Rattle.page_core_base.specs.declared.note_kinds.NoteKind.TheVariants.{TrailingBlank}

@@ -1,8 +1,6 @@
 //! A latch that takes the pieces and messages of the macros, and the messages of roff between them.
 
-ghost use Rattle.std.specs.Prelude.{◌≡◌, List, ◌++◌, map, IsTrue};
-ghost use Rattle.page_core_base.specs.Latches.{Came};
-ghost use Rattle.page_core_base.specs.Messages.{Message, message_of};
+ghost use Rattle.std.specs.Prelude.{List, ◌++◌, map};
 ghost use Rattle.page_core_base.specs.Pieces.{Item, noted};
 
 use page_core_base::{Font, Note, Piece, PieceOut, Place};

@@ -19,7 +19,7 @@ use Rattle.page_roff_effects.specs.RegionLines.{finish_outcome}
 use Rattle.page_roff_effects.specs.Acting.{ActingSetting}
 use Rattle.page_roff_effects.specs.States.{Given, State, Memory, takes, first_memory, numbered}
 use Rattle.page_roff_machine.specs.Giving.{next_line, after_line}
-use Rattle.page_roff_machine.specs.Machines.{Machine, output_of, language_of, running_of, outcome_of, to_come, end_of, place_of, stands, stands_after, begun_at, Begins, Takes, BeginsOrTakes, Advances, taken_if, IsIdleUnless, IsNew}
+use Rattle.page_roff_machine.specs.Machines.{Machine, output_of, language_of, outcome_of, to_come, end_of, place_of, stands, stands_after, begun_at, Begins, Takes, BeginsOrTakes, Advances, taken_if, IsIdleUnless, IsNew}
 use Rattle.page_roff_machine.specs.Machines as machine
 use Rattle.page_roff_machine.proofs.MachineLemmas.{idle_stands, new_idle}
 use Rattle.page_roff_texts.specs.Texts.{HoldsTexts, AreGiven}

@@ -12,17 +12,17 @@ use Rattle.page_roff_heads.specs.Conditions.{condition_of}
 use Rattle.page_roff_heads.specs.declared.conditions.Condition.{Condition}
 use Rattle.page_roff_requests.specs.declared.regions.RegionKind.{RegionKind}
 use Rattle.page_roff_requests.specs.declared.regions.RegionKind.TheVariants.{Define, Append, Ignore, Table, Equation, Picture}
-use Rattle.page_roff_values.specs.Texts.{IsText, MeasureAlike}
+use Rattle.page_roff_values.specs.Texts.{MeasureAlike}
 use Rattle.page_roff_values.specs.Values.{Laid, expanded, start, NEST}
 use Rattle.page_roff_values.proofs.AlikeLemmas.{value_alike}
 use Rattle.page_roff_language.specs.Budgets.{Budgeted, language}
 use Rattle.page_roff_language.specs.Languages.{Kind, run_page}
 use Rattle.page_roff_language.proofs.SameEffects.{SameEffects, page_same}
 use Rattle.page_roff_effects.specs.Commands.{command_of, copies}
-use Rattle.page_roff_effects.specs.Effects.{effects, setting_of, answer_of, turn_answer, tested_after, done_after}
+use Rattle.page_roff_effects.specs.Effects.{effects, setting_of, answer_of, tested_after, done_after}
 use Rattle.page_roff_effects.specs.Leaves.{ControlLine, after_expansion, does, command_outcome, control_line, control_outcome, form_outcome, leaf_outcome}
 use Rattle.page_roff_effects.specs.RegionLines.{longer, body_outcome, kind_outcome, line_outcome}
-use Rattle.page_roff_effects.specs.States.{Memory, State, Outcome, surroundings, gives_line, nothing, after}
+use Rattle.page_roff_effects.specs.States.{Memory, State, surroundings, gives_line, nothing, after}
 use Rattle.page_roff_texts.specs.Texts.{AreLines, HoldsTexts}
 use Rattle.page_roff_texts.proofs.AtomTexts.{line_leaves, loop_texts, line_tests}
 use Rattle.page_roff_texts.proofs.BodyTexts.{such}

@@ -1,5 +1,5 @@
 -- What a condition expands is text: helpers of proofs.
-use Rattle.std.proofs.Common.{◌≡◌, ℕ, zero, ◌+◌, ◌==◌, nat_lt, Bool, true, false, List, [], ◌∷◌, length, take, drop, codes, if◌then◌else◌, inl, inr, arith}
+use Rattle.std.proofs.Common.{◌≡◌, ℕ, zero, ◌+◌, ◌==◌, nat_lt, Bool, true, false, List, [], ◌∷◌, length, drop, codes, if◌then◌else◌, inl, inr, arith}
 use Rattle.std.proofs.Math.Utf8.{encode}
 use Rattle.std.proofs.lemmas.Bool.{cases_Bool, and_parts}
 use Rattle.page_core_base.specs.Texts.{IsLine}

@@ -21,7 +21,7 @@ use Rattle.page_roff_requests.specs.Requests.{request_of}
 use Rattle.page_roff_requests.specs.declared.requests.Request.{Request}
 use Rattle.page_roff_requests.specs.declared.requests.Request.TheVariants as requests
 use Rattle.page_roff_values.specs.Environments.{Surroundings}
-use Rattle.page_roff_values.specs.Texts.{IsText, AreTexts, AreArgumentTexts}
+use Rattle.page_roff_values.specs.Texts.{IsText, AreArgumentTexts}
 use Rattle.page_roff_values.specs.Texts as environments
 use Rattle.page_roff_values.specs.Values.{expanded, start, NEST}
 use Rattle.page_roff_values.proofs.GrowLemmas.{finished_front}
