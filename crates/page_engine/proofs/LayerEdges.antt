@@ -14,7 +14,8 @@ use Rattle.page_engine_lines.specs.Acts.{lines_items, lines_after}
 use Rattle.page_engine_lines.specs.Edges.{LinesEdge}
 use Rattle.page_engine_lines.specs.Lines.{source_items, source_after}
 use Rattle.page_engine_lines.proofs.NumberLemmas.{last_of, done_number_is}
-use Rattle.page_engine_lines.proofs.SharedLemmas.{Shared, lines_shared}
+use Rattle.page_engine_body.proofs.SharedLemmas.{Shared}
+use Rattle.page_engine_lines.proofs.SharedLemmas.{lines_shared}
 use Rattle.page_engine_lines.proofs.TreeLemmas.{one_after}
 use Rattle.page_engine.specs.Edges.{Edge, lines_at, moved, roff_at}
 use Rattle.page_engine.specs.Levels.{given, worst_of}
@@ -41,7 +42,7 @@ body_after e lines =
     let shared = lines_shared e.fill.sheet.width e.fill.output e.indent e.os (lines_at e) (raw_lines lines) refl in
     let with_shared : Shared → BodyEdge = λ s. record {
       header = record b.header { measure = s.measure; indent = s.indent; os = s.os };
-      scopes = record b.scopes { state = record b.scopes.state { page = s.page } };
+      scopes = record b.scopes { state = record b.scopes.state { page = record { indent = s.scopes_indent; output = s.scopes_output } } };
     } in
     sym (ap with_shared shared)
 

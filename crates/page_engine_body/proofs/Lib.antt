@@ -1,2 +1,3 @@
 pub mod EventLemmas
+pub mod SharedLemmas
 pub mod TreeLemmas

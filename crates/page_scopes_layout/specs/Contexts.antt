@@ -2,7 +2,7 @@
 use Rattle.std.specs.Prelude.{ℕ, Option, Some, None, pos, Bool, true, false, ◌||◌, if◌then◌else◌}
 use Rattle.page_scopes_labels.specs.Labels.{label_row}
 use Rattle.page_scopes_labels.specs.declared.labels.Label.{Label}
-use Rattle.page_scopes_layout.specs.Settings.{after_scope, at_first}
+use Rattle.page_scopes_words.specs.Settings.{after_scope, at_first}
 use Rattle.page_scopes_layout.specs.declared.TheConstants.{PREVAILING}
 use Rattle.page_scopes_layout.specs.declared.contexts.Context.{Context}
 use Rattle.page_scopes_layout.specs.declared.lists.OpenList.{OpenList}

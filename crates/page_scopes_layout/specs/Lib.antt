@@ -1,4 +1,3 @@
-pub mod Settings
 pub mod Contexts
 pub mod Margins
 pub mod Begins

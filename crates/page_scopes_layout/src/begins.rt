@@ -4,9 +4,9 @@ ghost use Rattle.std.specs.Prelude.{◌≡◌};
 ghost use Rattle.page_scopes_layout.specs.Begins as begins;
 
 use crate::margins::further_in;
-use crate::{Context, PREVAILING, PagePart, PageSection, SeriesSoFar, Setting, hold};
+use crate::{Context, PREVAILING, PagePart, PageSection, SeriesSoFar, hold};
 use page_core_base::Font;
-use page_scopes_words::{Fonts, ROMAN};
+use page_scopes_words::{Fonts, ROMAN, Setting};
 
 // The columns that a row which stands alone (`D1`, `Dl`) stands further in.
 const ONE_LINE: i64 = 6;

@@ -3,9 +3,9 @@
 ghost use Rattle.std.specs.Prelude.{◌≡◌};
 ghost use Rattle.page_scopes_layout.specs.Contexts as contexts;
 
-use crate::{OpenList, PREVAILING, Setting};
+use crate::{OpenList, PREVAILING};
 use page_scopes_labels::{Explicit, Label};
-use page_scopes_words::{Fonts, ROMAN};
+use page_scopes_words::{Fonts, ROMAN, Setting};
 use page_sets_lines::{Block, LineOpener, ListKind};
 
 /// What part of a page a text is.

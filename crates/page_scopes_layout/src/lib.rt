@@ -9,13 +9,11 @@ mod contexts;
 mod lists;
 mod margins;
 mod nodes;
-mod settings;
 
 pub use contexts::{Context, PagePart, PageSection, SeriesSoFar};
 pub use lists::{ColumnWidths, OpenList};
 pub use margins::{Margins, hold, margins_of};
 pub use nodes::{give_begin, give_end, give_margins};
-pub use settings::Setting;
 
 /// The columns at most of a margin.
 pub const MARGIN: u32 = 1_000;

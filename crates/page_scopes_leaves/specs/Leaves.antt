@@ -6,7 +6,7 @@ use Rattle.page_core_base.specs.declared.note_kinds.NoteKind.TheVariants.{BlankF
 use Rattle.page_core_base.specs.declared.pieces.Piece.TheVariants as pieces
 use Rattle.page_core_base.specs.declared.places.Place.{Place}
 use Rattle.page_scopes_layout.specs.Begins.{font_begun}
-use Rattle.page_scopes_layout.specs.Settings.{set_to}
+use Rattle.page_scopes_words.specs.Settings.{set_to}
 use Rattle.page_scopes_layout.specs.declared.contexts.Context.{Context}
 use Rattle.page_scopes_phrases.specs.LineWords.{own_word}
 use Rattle.page_scopes_phrases.specs.Outcomes.{Outcome, nothing, row_margin_items}

@@ -6,9 +6,9 @@ use Rattle.page_core_base.specs.declared.places.Place.{Place}
 use Rattle.page_core_escapes.specs.Meanings as meanings
 use Rattle.page_core_escapes.specs.Meanings.{Face, face_of, is_known}
 use Rattle.page_core_numbers.specs.Numbers.{in_range}
-use Rattle.page_scopes_layout.specs.Settings.{set_to}
+use Rattle.page_scopes_words.specs.Settings.{set_to}
 use Rattle.page_scopes_layout.specs.declared.contexts.Context.{Context}
-use Rattle.page_scopes_layout.specs.declared.settings.Setting.{Setting}
+use Rattle.page_scopes_words.specs.declared.settings.Setting.{Setting}
 use Rattle.page_scopes_phrases.specs.Outcomes.{Outcome, row_margin_items}
 use Rattle.page_scopes_phrases.specs.Runnings.{row_ended, with_content}
 use Rattle.page_scopes_phrases.specs.declared.runnings.Running.{Running}

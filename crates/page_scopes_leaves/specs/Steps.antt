@@ -5,7 +5,7 @@ use Rattle.page_core_base.specs.declared.note_kinds.NoteKind.TheVariants.{SkipPa
 use Rattle.page_core_base.specs.declared.pieces.Piece.TheVariants as pieces
 use Rattle.page_core_base.specs.declared.places.Place.{Place}
 use Rattle.page_scopes_layout.specs.Begins.{flat, name_begun, name_ended}
-use Rattle.page_scopes_layout.specs.Settings.{set_to}
+use Rattle.page_scopes_words.specs.Settings.{set_to}
 use Rattle.page_scopes_layout.specs.Nodes.{margin_items}
 use Rattle.page_scopes_layout.specs.declared.contexts.Context.{Context}
 use Rattle.page_scopes_phrases.specs.Cells.{column_step}

@@ -11,9 +11,9 @@ use crate::margins::give_row_margins;
 use crate::requests::{give_given_rows, give_literal, give_request};
 use crate::steps::give_step;
 use page_core_base::{Font, NoteKind, Piece, PieceOut, Place};
-use page_scopes_layout::{Context, Setting};
+use page_scopes_layout::Context;
 use page_scopes_phrases::{KeptText, Running, give_own_word};
-use page_scopes_words::{give_white_cells, report};
+use page_scopes_words::{Setting, give_white_cells, report};
 use page_sets_lines::Leaf;
 
 // Gives a blank line.

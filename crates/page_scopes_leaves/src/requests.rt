@@ -12,10 +12,10 @@ ghost use Rattle.page_sets_lines.specs.Events.{request_seen, text_seen};
 use crate::margins::give_row_margins;
 use page_core_base::{Piece, PieceOut, Place};
 use page_core_escapes::{FontName, read_font};
-use page_scopes_layout::{Context, Setting};
+use page_scopes_layout::Context;
 use page_scopes_phrases::Running;
 use page_scopes_text::{give_columns, give_rows};
-use page_scopes_words::{Fonts, report_font};
+use page_scopes_words::{Fonts, Setting, report_font};
 use page_sets_lines::Request;
 
 /// The rows that are given, one where they are not, with the messages of their number.

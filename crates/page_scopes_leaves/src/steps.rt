@@ -8,12 +8,12 @@ ghost use Rattle.page_sets_lines.specs.Events.{step_seen};
 
 use crate::margins::give_row_margins;
 use page_core_base::{NoteKind, Piece, PieceOut, Place};
-use page_scopes_layout::{Context, PageSection, SeriesSoFar, Setting, give_margins};
+use page_scopes_layout::{Context, PageSection, SeriesSoFar, give_margins};
 use page_scopes_phrases::{
     KeptText, Running, argument_word, blanks_part, give_column_step, give_line_word,
     give_manual_name, give_own_word, is_heading, joined_gap,
 };
-use page_scopes_words::report;
+use page_scopes_words::{Setting, report};
 use page_sets_lines::{BodyParagraphName, Join, LineStep, Own, OwnWord, SynopsisStep};
 
 // The next word is glued to the one before: `Ns`.

@@ -11,7 +11,7 @@ use Rattle.page_core_escapes.specs.Tokens.{TextToken, white, tokens_of}
 use Rattle.page_core_limits.specs.declared.TheConstants.{FIELD}
 use Rattle.page_roff_forms.specs.Arguments.{is_quoted}
 use Rattle.page_roff_forms.specs.declared.quotes.Argument.{Argument}
-use Rattle.page_scopes_layout.specs.declared.settings.Setting.{Setting}
+use Rattle.page_scopes_words.specs.declared.settings.Setting.{Setting}
 use Rattle.page_scopes_phrases.specs.declared.kept_texts.KeptText.{KeptText}
 use Rattle.page_scopes_phrases.specs.declared.runnings.Running.{Running}
 use Rattle.page_scopes_text.specs.Words.{blank_cells, fonts_after, token_items}

@@ -15,9 +15,8 @@ use page_core_base::{Font, NoteKind, Piece, PieceOut, Place, text_front};
 use page_core_escapes::{Token, read_token};
 use page_core_limits::{FIELD, LINE, Limit};
 use page_roff_forms::Argument;
-use page_scopes_layout::Setting;
 use page_scopes_text::{fonts_after, give_blank_cells, give_token};
-use page_scopes_words::{Fonts, give_white_cells, has_tab, report};
+use page_scopes_words::{Fonts, Setting, give_white_cells, has_tab, report};
 use std::marker::Model;
 
 /// A text of at most [`FIELD`] bytes.

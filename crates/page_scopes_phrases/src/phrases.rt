@@ -8,9 +8,9 @@ ghost use Rattle.page_scopes_phrases.specs.Phrases.{phrase_seen};
 
 use crate::Running;
 use page_core_base::{Font, PieceOut};
-use page_scopes_layout::{Context, PagePart, Setting};
+use page_scopes_layout::{Context, PagePart};
 use page_scopes_text::{Pen, TextStyle, give_text};
-use page_scopes_words::Fonts;
+use page_scopes_words::{Fonts, Setting};
 use page_sets_lines::Join;
 use std::alloc::AllocError;
 

@@ -8,7 +8,7 @@ use Rattle.page_core_base.specs.declared.pieces.Piece.TheVariants.{Blank}
 use Rattle.page_core_base.specs.Words.{is_word}
 use Rattle.page_core_escapes.specs.Tokens.{plain, begins_word, is_white, token_at, token_len}
 use Rattle.page_core_escapes.proofs.TokenLemmas.{not_white}
-use Rattle.page_scopes_layout.specs.declared.settings.Setting.{Setting}
+use Rattle.page_scopes_words.specs.declared.settings.Setting.{Setting}
 use Rattle.page_scopes_words.specs.declared.fonts.Fonts.{Fonts}
 use Rattle.page_scopes_words.specs.Words.{at}
 use Rattle.page_scopes_text.proofs.PartedLemmas.{no_word, spaced_more}

@@ -11,7 +11,7 @@ use Rattle.page_core_base.specs.Words.{TakesWords, blank_words, is_word, part_pi
 use Rattle.page_core_base.specs.declared.cells.Font.{Font}
 use Rattle.page_core_base.specs.declared.pieces.Piece.TheVariants.{Blank}
 use Rattle.page_core_base.specs.declared.places.Place.{Place}
-use Rattle.page_scopes_layout.specs.declared.settings.Setting.{Setting}
+use Rattle.page_scopes_words.specs.declared.settings.Setting.{Setting}
 use Rattle.page_scopes_words.specs.declared.fonts.Fonts.{Fonts}
 use Rattle.page_scopes_words.specs.Words.{at}
 use Rattle.page_scopes_text.proofs.PlainWordLemmas.{blank_word_after, blank_word_items, moved}

@@ -12,7 +12,7 @@ use Rattle.page_core_escapes.specs.Meanings.{Meaning, is_known}
 use Rattle.page_core_escapes.specs.Tokens.{TextToken, escaped, plain, token_bytes}
 use Rattle.page_core_numbers.specs.Columns.{characters_columns, printed_escape}
 use Rattle.page_core_numbers.specs.declared.scales.Scale.TheVariants.{Em}
-use Rattle.page_scopes_layout.specs.declared.settings.Setting.{Setting}
+use Rattle.page_scopes_words.specs.declared.settings.Setting.{Setting}
 use Rattle.page_scopes_words.specs.Fonts.{token_fonts}
 use Rattle.page_scopes_words.specs.Words.{at, is_glue, meaning_notes, meaning_piece, piece_items, token_piece}
 use Rattle.page_scopes_words.specs.declared.fonts.Fonts.{Fonts}

@@ -8,8 +8,7 @@ ghost use Rattle.page_scopes_text.specs.Words.{body_after, gap_after, has_gap_ce
 
 use crate::tokens::{fonts_after, is_glue, token_prints};
 use page_core_escapes::Token;
-use page_scopes_layout::Setting;
-use page_scopes_words::Fonts;
+use page_scopes_words::{Fonts, Setting};
 
 /// How a text is read.
 #[derive(Clone, Copy)]

@@ -12,8 +12,7 @@ use crate::give_number;
 use page_core_base::{Font, Output, Piece, PieceOut, Place};
 use page_core_escapes::{Escape, Token};
 use page_core_numbers::{Scale, escape_columns};
-use page_scopes_layout::Setting;
-use page_scopes_words::{Fonts, report_escape, token_piece};
+use page_scopes_words::{Fonts, Setting, report_escape, token_piece};
 
 /// Gives the messages of a token; `quoted` says whether it is that of a quoted argument.
 #[inline(always)]

@@ -2,10 +2,11 @@
 
 use page_core_base::Font;
 use page_roff_forms::{Argument, Quoting};
-use page_scopes_layout::{Context, Setting};
+use page_scopes_layout::Context;
 use page_scopes_phrases::{Running, give_line_word};
 use page_scopes_shown::Shown;
 use page_scopes_text::{Pen, TextStyle, give_text};
+use page_scopes_words::Setting;
 use page_sets_lines::{Join, Role, Word};
 use std::alloc::Global;
 use std::process::Abort;

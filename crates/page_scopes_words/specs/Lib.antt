@@ -1,3 +1,4 @@
 pub mod Fonts
+pub mod Settings
 pub mod Words
 pub mod Sentences

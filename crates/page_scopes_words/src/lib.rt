@@ -1,14 +1,16 @@
-//! What layers that read texts share: what a token says, prints and does to the font, white space that is kept, and where a sentence ends
-//! (roff(7)). The words of a text are read by these in `page_scopes_text`, the fields of a title in `page_engine_header`. Read
+//! What layers that read texts share: what a token says, prints and does to the font, white space that is kept, where a sentence ends, and
+//! values that requests set (roff(7)). The words of a text are read by these in `page_scopes_text`, the fields of a title in `page_engine_header`. Read
 //! `specs/Words.antt` first.
 #![tactic(auto)]
 
 mod fonts;
 mod sentences;
+mod settings;
 mod tokens;
 mod white_cells;
 
 pub use fonts::{Fonts, ROMAN};
 pub use sentences::ends_sentence;
+pub use settings::Setting;
 pub use tokens::{report, report_escape, report_font, token_piece};
 pub use white_cells::{give_white_cells, has_tab};

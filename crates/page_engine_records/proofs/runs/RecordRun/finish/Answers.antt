@@ -1,5 +1,4 @@
 use Rattle.std.proofs.Common.{ap, ◌∙◌}
-use Rattle.page_engine_body.specs.Bodies.{HeaderEdge}
 use Rattle.page_engine_records.specs.Fronts.{Front}
 use Rattle.page_engine_records.proofs.FrontLemmas.{end_named}
 use Rattle.page_engine_records.proofs.runs.RecordRun.finish.Goals as goal
@@ -7,5 +6,5 @@ use Rattle.page_engine_records.proofs.runs.RecordRun.finish.Goals as goal
 pub returns : goal.returns
 returns c = record {
   name = λ p h. end_named _ _ _ (c.take_last.ensures.front p h) c.end.ensures.name;
-  fields = λ p h. ap (λ (e : HeaderEdge). e.fields) c.end.ensures.header ∙ ap (λ (f : Front). f.lines.body.header.fields) (c.take_last.ensures.front p h);
+  fields = λ p h. ap (λ header. header.fields) c.end.ensures.header ∙ ap (λ (f : Front). f.lines.body.header.fields) (c.take_last.ensures.front p h);
 }

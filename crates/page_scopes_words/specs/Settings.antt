@@ -1,6 +1,6 @@
 -- Values that outlive the scope in which a request set them. Source: man(7), roff(7).
 use Rattle.std.specs.Prelude.{true, false, if◌then◌else◌}
-use Rattle.page_scopes_layout.specs.declared.settings.Setting.{Setting}
+use Rattle.page_scopes_words.specs.declared.settings.Setting.{Setting}
 
 -- a value that nothing has set yet
 abbrev pub at_first : {T : Type 0} → T → Setting T
