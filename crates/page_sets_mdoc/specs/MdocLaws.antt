@@ -31,7 +31,7 @@ use Rattle.page_sets_mdoc_rows.specs.declared.blocks.Sentence.{Sentence}
 use Rattle.page_sets_lines.specs.declared.line_steps.SynopsisStep.TheVariants.{Break}
 use Rattle.page_sets_mdoc_lines.specs.LineWords.{arguments_after}
 use Rattle.page_sets_mdoc.specs.Mdoc.{field_font, include_words, words_events, refused_events, lacks_words, macro_events, request_events, named_events, control_events, line_events, mdoc_events}
-use Rattle.page_sets_mdoc.specs.Plans.{events_to_end, words_to_come, plan_events, line_plan_events, IsPlanOf}
+use Rattle.page_sets_mdoc.specs.Plans.{events_to_end, words_to_come, line_plan_events, IsPlanOf}
 use Rattle.page_sets_mdoc.specs.RestLaws.{rest_prints, head_prints, phrase_prints}
 
 -- ---- slices

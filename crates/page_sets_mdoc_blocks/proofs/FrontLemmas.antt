@@ -1,5 +1,5 @@
 -- What comes before a line's words: its texts are slices of the line, none of its events is a word, and they are few. Helpers of proofs.
-use Rattle.std.proofs.Common.{◌≡◌, ℕ, ◌+◌, ◌≤◌, Bool, true, false, List, [], ◌∷◌, ◌++◌, length, refl, ap, arith, length-append, Option, None, Some, if◌then◌else◌, unwrap_or, codes}
+use Rattle.std.proofs.Common.{◌≡◌, ℕ, ◌+◌, ◌≤◌, Bool, true, false, List, [], ◌∷◌, ◌++◌, length, refl, arith, length-append, Option, None, Some, if◌then◌else◌, unwrap_or, codes}
 use Rattle.std.specs.Str.{bytes_eq}
 use Rattle.page_core_base.specs.LinesTaken.{Line}
 use Rattle.page_core_base.specs.declared.note_kinds.NoteKind.{NoteKind}
@@ -17,7 +17,7 @@ use Rattle.page_sets_names.specs.declared.own_texts.Own.{Own}
 use Rattle.page_sets_lines.specs.declared.line_steps.LineStep.TheVariants as steps
 use Rattle.page_sets_lines.specs.ControlLines.{name_end, rest_of, open_quote}
 use Rattle.page_sets_lines.proofs.OrderLemmas.{AreArguments, all_arguments}
-use Rattle.page_sets_lines.proofs.LawLemmas.{nothing_part, rest_part, end_within, name_part, first_text_after, request_slices, AreSlices-append, HasNoWord, is_word}
+use Rattle.page_sets_lines.proofs.LawLemmas.{nothing_part, rest_part, end_within, name_part, first_text_after, request_slices, AreSlices-append, HasNoWord}
 use Rattle.page_roff_forms.specs.declared.quotes.Argument.{Argument}
 use Rattle.page_sets_mdoc_rows.specs.declared.blocks.Block.{Block}
 use Rattle.page_sets_mdoc_rows.specs.declared.blocks.Block.TheVariants as blocks

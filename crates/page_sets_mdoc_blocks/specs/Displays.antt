@@ -1,5 +1,5 @@
 -- What the arguments of `Bd` and `Bf` say. Source: mdoc(7), `Bd` and `Bf`.
-use Rattle.std.specs.Prelude.{ℕ, Bool, true, false, List, [], ◌∷◌, Option, None, Some, if◌then◌else◌, codes, fold}
+use Rattle.std.specs.Prelude.{ℕ, Bool, true, false, List, [], ◌∷◌, Option, None, Some, if◌then◌else◌, codes}
 use Rattle.std.specs.Borrow.{Bor}
 use Rattle.std.specs.Str.{bytes_eq}
 use Rattle.page_core_base.specs.declared.cells.Font.{Font}

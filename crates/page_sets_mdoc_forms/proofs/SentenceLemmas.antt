@@ -1,5 +1,5 @@
 -- One step of a sentence: helpers of proofs.
-use Rattle.std.proofs.Common.{◌≡◌, ℕ, Bool, true, false, List, [], ◌∷◌, refl, Option, None, Some}
+use Rattle.std.proofs.Common.{◌≡◌, ℕ, List, [], ◌∷◌, refl, Option, None, Some}
 use Rattle.page_roff_forms.specs.declared.quotes.Argument.{Argument}
 use Rattle.page_sets_names.specs.declared.own_texts.Own.{Own}
 use Rattle.page_core_base.specs.LinesTaken.{Line}

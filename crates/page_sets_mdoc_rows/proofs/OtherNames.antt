@@ -1,11 +1,11 @@
 -- A name that looks like none of a table is not in it: helpers of proofs.
-use Rattle.std.proofs.Common.{◌≡◌, ℕ, Bool, true, false, List, [], ◌∷◌, Option, Some, None, option_map, refl, sym, ap, ◌∙◌, inl, inr}
+use Rattle.std.proofs.Common.{◌≡◌, ℕ, Bool, true, false, List, [], ◌∷◌, None, option_map, refl, ap, ◌∙◌, inl, inr}
 use Rattle.std.proofs.lemmas.Bool.{cases_Bool, and_parts, cond-false, both_ways}
 use Rattle.std.proofs.lemmas.Slice.Eq.{bytes_eq-Decides}
 use Rattle.std.specs.List.{find, list_all}
 use Rattle.std.specs.Str.{bytes_eq}
 use Rattle.page_sets_mdoc_rows.specs.Names.{said}
-use Rattle.page_sets_mdoc_rows.specs.Rows.{words_rows, text_rows, enclosure_rows, pair_rows, words_row, text_row, enclosure_row, pair_row, either_row, inline_row, looks_inline}
+use Rattle.page_sets_mdoc_rows.specs.Rows.{words_rows, text_rows, enclosure_rows, pair_rows, words_row, text_row, enclosure_row, pair_row, inline_row, looks_inline}
 
 not_found : {A : Type 0} (p : List ℕ → Bool) (rows : List (List ℕ × A)) (name : List ℕ)
     → list_all (λ row. p row.0) rows ≡ true → p name ≡ false → find (λ row. bytes_eq name row.0) rows ≡ None

@@ -9,7 +9,6 @@ use Rattle.page_sets_mdoc_rows.specs.declared.macros.Defaulted.TheVariants.{File
 use Rattle.page_sets_mdoc_rows.specs.declared.macros.System.TheVariants.{BsdOs, DragonFly, FreeBsd, NetBsd, OpenBsd, Unix}
 use Rattle.page_sets_names.specs.declared.marks.Marks.TheVariants.{Angle, Square, Curly, Round, Double, Single, Straight}
 use Rattle.page_sets_names.specs.declared.marks.Quotation.TheVariants.{Ao, Bo, Bro, Do, Oo, Po, Qo, So}
-use Rattle.page_sets_mdoc_rows.specs.declared.macros.Pair.{Pair}
 use Rattle.page_sets_mdoc_rows.specs.declared.macros.Pair.TheVariants as pairs
 use Rattle.page_sets_names.specs.declared.own_texts.Own.TheVariants as owns
 use Rattle.page_sets_names.specs.declared.macro_names.Prologue.TheVariants.{Dd, Dt, Os}

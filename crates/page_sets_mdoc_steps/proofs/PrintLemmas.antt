@@ -1,19 +1,17 @@
 -- The words of a macro are slices of their line, in its order, and few: helpers of proofs.
-use Rattle.std.proofs.Common.{◌≡◌, ℕ, ◌+◌, ◌-◌, ◌*◌, ◌≤◌, min, Bool, true, false, List, [], ◌∷◌, ◌++◌, length, take, drop, refl, sym, ap, subst, arith, inl, inr, length-append, Option, None, Some, if◌then◌else◌}
+use Rattle.std.proofs.Common.{◌≡◌, ℕ, ◌+◌, ◌*◌, ◌≤◌, Bool, true, false, List, [], ◌∷◌, ◌++◌, length, take, drop, refl, ap, subst, arith, inl, inr, length-append, Option, None, Some, if◌then◌else◌}
 use Rattle.std.proofs.lemmas.Bool.{cases_Bool}
 use Rattle.std.proofs.lemmas.List.{take-append-drop}
 use Rattle.page_core_base.specs.declared.cells.Font.{Font}
-use Rattle.page_core_base.specs.declared.cells.Font.TheVariants.{R, B, I}
-use Rattle.page_core_base.specs.LinesTaken.{Line}
+use Rattle.page_core_base.specs.declared.cells.Font.TheVariants.{B, I}
 use Rattle.page_roff_forms.specs.declared.quotes.Argument.{Argument}
-use Rattle.page_sets_lines.specs.declared.events.Join.{Join}
 use Rattle.page_sets_lines.specs.declared.events.Deed.{Deed}
 use Rattle.page_sets_lines.specs.declared.events.Deed.TheVariants as deeds
 use Rattle.page_sets_lines.specs.declared.events.Event.{Event}
 use Rattle.page_sets_lines.specs.ControlLines.{is_unclosed}
-use Rattle.page_sets_lines.specs.Laws.{IsPart, IsSlice, IsArgument, IsArgumentIfGiven, HasSlices, AreSlices}
-use Rattle.page_sets_lines.proofs.LawLemmas.{is_word, nothing_part, first_slice_after, AreSlices-append}
-use Rattle.page_sets_lines.proofs.OrderLemmas.{IsTaken, Takes, TakesInOrder, takes_later, TakesInOrder-append, AreArguments, AreArguments-take, AreArguments-drop}
+use Rattle.page_sets_lines.specs.Laws.{IsArgument, HasSlices, AreSlices}
+use Rattle.page_sets_lines.proofs.LawLemmas.{is_word, nothing_part, AreSlices-append}
+use Rattle.page_sets_lines.proofs.OrderLemmas.{IsTaken, Takes, TakesInOrder, takes_later, TakesInOrder-append, AreArguments}
 use Rattle.page_sets_mdoc_rows.specs.declared.delimiters.Delimiter.{Delimiter}
 use Rattle.page_sets_mdoc_rows.specs.declared.delimiters.Delimiter.TheVariants.{Opening, Middle, Closing}
 use Rattle.page_sets_mdoc_lines.specs.LineWords.{word_delimiter, is_real}

@@ -1,12 +1,12 @@
 -- The events of a step are slices of their line, in its order, and few: helpers of proofs.
-use Rattle.std.proofs.Common.{◌≡◌, ℕ, ◌+◌, ◌-◌, ◌≤◌, min, Bool, false, List, [], ◌∷◌, ◌++◌, length, take, drop, refl, ap, arith, Option, None, Some, length-drop, length-take}
+use Rattle.std.proofs.Common.{◌≡◌, ℕ, ◌-◌, ◌≤◌, min, Bool, false, List, [], ◌∷◌, ◌++◌, length, take, drop, refl, arith, Option, None, Some, length-drop, length-take}
 use Rattle.std.proofs.lemmas.List.{take_min, drop_min}
 use Rattle.page_core_base.specs.declared.cells.Font.TheVariants.{R, B, I}
 use Rattle.page_core_base.specs.LinesTaken.{Line}
 use Rattle.page_roff_forms.specs.declared.quotes.Argument.{Argument}
 use Rattle.page_sets_mdoc_steps.specs.declared.word_steps.WordBlock.{WordBlock}
 use Rattle.page_sets_mdoc_steps.specs.declared.word_steps.WordBlock.TheVariants as blocks
-use Rattle.page_sets_lines.specs.Laws.{IsPart, IsSlice, IsArgument, IsArgumentIfGiven, BlockOpensSlices, BlockClosesSlices, HasSlices}
+use Rattle.page_sets_lines.specs.Laws.{IsPart, IsSlice, IsArgumentIfGiven, BlockOpensSlices, BlockClosesSlices, HasSlices}
 use Rattle.page_sets_lines.proofs.LawLemmas.{is_word, first_slice_after}
 use Rattle.page_sets_lines.proofs.OrderLemmas.{AreArguments, AreArguments-take, AreArguments-drop}
 use Rattle.page_sets_mdoc_steps.specs.declared.word_steps.FlagStep.{FlagStep}

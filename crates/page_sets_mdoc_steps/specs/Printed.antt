@@ -1,5 +1,5 @@
 -- Words and delimiters as they are printed. Source: mdoc(7), "MACRO SYNTAX" and "Delimiters".
-use Rattle.std.specs.Prelude.{ℕ, Bool, true, false, List, [], ◌∷◌, length, take, drop, Option, None, Some}
+use Rattle.std.specs.Prelude.{ℕ, Bool, true, false, List, [], ◌∷◌, take, drop, Option, None, Some}
 use Rattle.page_core_base.specs.declared.cells.Font.{Font}
 use Rattle.page_core_base.specs.declared.cells.Font.TheVariants.{R}
 use Rattle.page_roff_forms.specs.declared.quotes.Argument.{Argument}

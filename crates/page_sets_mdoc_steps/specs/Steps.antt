@@ -1,5 +1,5 @@
 -- The words of a macro, one after another: the code's own steps. The numbers in them say what is done with the words, whatever these are.
-use Rattle.std.specs.Prelude.{◌≡◌, ℕ, ◌+◌, ◌-◌, min, Bool, true, false, List, [], ◌∷◌, ◌++◌, length, take, drop, Option, None, Some, MatchOption}
+use Rattle.std.specs.Prelude.{◌≡◌, ℕ, ◌-◌, min, Bool, true, false, List, [], ◌∷◌, ◌++◌, length, take, drop, Option, None, Some, MatchOption}
 use Rattle.page_core_base.specs.declared.cells.Font.{Font}
 use Rattle.page_core_base.specs.declared.cells.Font.TheVariants.{R, B, I}
 use Rattle.page_core_base.specs.LinesTaken.{Line, line_seen}

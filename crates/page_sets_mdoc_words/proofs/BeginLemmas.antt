@@ -1,18 +1,16 @@
 -- The first step of a macro gives all its events: helpers of proofs.
-use Rattle.std.proofs.Common.{◌≡◌, ℕ, zero, suc, ◌+◌, ◌-◌, ◌==◌, Bool, true, false, not, ◌&&◌, List, [], ◌∷◌, ◌++◌, length, take, drop, refl, sym, ap, ◌∙◌, arith, inl, inr, Option, None, Some, if◌then◌else◌}
+use Rattle.std.proofs.Common.{◌≡◌, ℕ, suc, ◌+◌, ◌-◌, ◌==◌, Bool, true, false, not, ◌&&◌, List, [], ◌∷◌, length, take, drop, refl, sym, ap, ◌∙◌, arith, inl, inr, Option, None, Some, if◌then◌else◌}
 use Rattle.std.specs.List.{list_any, list_all}
 use Rattle.std.proofs.Math.Dec.{eqb-suc-zero}
 use Rattle.std.proofs.lemmas.Bool.{cases_Bool}
 use Rattle.page_core_base.specs.declared.cells.Font.TheVariants.{R, B, I}
 use Rattle.page_core_base.specs.LinesTaken.{Line}
 use Rattle.page_roff_forms.specs.declared.quotes.Argument.{Argument}
-use Rattle.page_sets_lines.specs.declared.events.Event.{Event}
-use Rattle.page_sets_mdoc_rows.specs.declared.macros.Pair.{Pair}
 use Rattle.page_sets_mdoc_rows.specs.declared.macros.Pair.TheVariants as pairs
 use Rattle.page_sets_mdoc_rows.specs.declared.macros.Inline.{Inline}
 use Rattle.page_sets_mdoc_rows.specs.declared.macros.Inline.TheVariants as inlines
 use Rattle.page_sets_mdoc_lines.specs.LineWords.{is_closing, is_real, word_call, takes_next}
-use Rattle.page_sets_mdoc_lines.specs.Parts.{LineParts, parts, rest_parts, part_first, if_parsed, taken_first, is_something, as_list, extent_of, has_calls}
+use Rattle.page_sets_mdoc_lines.specs.Parts.{LineParts, parts, rest_parts, part_first, if_parsed, taken_first, extent_of, has_calls}
 use Rattle.page_sets_mdoc_lines.specs.declared.extents.Extent.{Extent}
 use Rattle.page_sets_mdoc_lines.proofs.PartLemmas.{words_taken, rest_goes_on}
 use Rattle.page_sets_mdoc_steps.specs.declared.word_steps.Front.TheVariants.{Refused}

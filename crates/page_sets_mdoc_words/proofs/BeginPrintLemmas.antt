@@ -1,5 +1,5 @@
 -- The events of a macro are slices of their line, in its order, and few: helpers of proofs.
-use Rattle.std.proofs.Common.{◌≡◌, ℕ, ◌≤◌, Bool, true, false, List, [], ◌∷◌, length, take, sym, ◌∙◌, subst, arith, inl, inr, None, Some, if◌then◌else◌}
+use Rattle.std.proofs.Common.{◌≡◌, ℕ, ◌≤◌, Bool, true, false, List, length, take, sym, ◌∙◌, subst, arith, inl, inr, None, Some, if◌then◌else◌}
 use Rattle.std.specs.List.{list_any}
 use Rattle.std.proofs.lemmas.Bool.{cases_Bool}
 use Rattle.page_core_base.specs.declared.cells.Font.TheVariants.{B}
@@ -13,7 +13,6 @@ use Rattle.page_sets_mdoc_lines.specs.LineWords.{is_real}
 use Rattle.page_sets_mdoc_lines.specs.Parts.{parts, extent_of, has_calls}
 use Rattle.page_sets_mdoc_lines.specs.declared.extents.Extent.{Extent}
 use Rattle.page_sets_mdoc_steps.specs.declared.steps.Step.{Step}
-use Rattle.page_sets_mdoc_steps.specs.declared.steps.Step.TheVariants as steps
 use Rattle.page_sets_mdoc_steps.specs.Printed.{printed}
 use Rattle.page_sets_mdoc_words.specs.Begins.{first_step, begun_events, placed_begun, count_of, takes_first, after_first}
 use Rattle.page_sets_mdoc_steps.specs.Synopses.{before_words, after_words}
