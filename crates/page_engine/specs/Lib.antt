@@ -11,3 +11,4 @@ pub mod Shown
 pub mod Runs
 pub mod Steps
 pub mod Written
+pub mod Held

@@ -1,6 +1,6 @@
 //! The layers of a page: lines become rows and messages.
 
-ghost use Rattle.std.specs.Prelude.{◌≡◌, ◌<◌, ◌+◌, ◌^◌, true, false, OnOk, IfOk, IfErr, Some, None};
+ghost use Rattle.std.specs.Prelude.{◌≡◌, ◌<◌, ◌+◌, ◌^◌, true, false, OnOk, IfOk, IfErr, MatchResult, Some, None};
 ghost use Rattle.page_core_base.specs.Fails.{FailsBySink};
 ghost use Rattle.page_core_base.specs.Laid.{Gets};
 ghost use Rattle.page_core_base.specs.Texts.{IsLine};
@@ -13,6 +13,7 @@ ghost use Rattle.page_engine.specs.ByLine.{settled_text, settled_line, ended, en
 ghost use Rattle.page_engine.specs.Edges.{Edge, IsReached, last_line, lines_at, start};
 ghost use Rattle.page_engine.specs.PageSinks.{Ends};
 
+use crate::edges::Edge as PageEdge;
 use crate::level_filters::LevelFilter;
 use crate::page_sinks::PageSink;
 use crate::shown::{Shown, is_silent};
@@ -21,7 +22,7 @@ use page_engine_lines::PageLines;
 use page_fill::Filler;
 use page_roff_lines::Cutter;
 use page_roff_source::Counts;
-use std::alloc::Global;
+use std::alloc::{AllocError, Global};
 
 /// The layers of a page, and what it keeps beside them.
 #[derive(Drop)]
@@ -87,6 +88,41 @@ impl<R: RowSink, N: NoteSink> PageSink<'_, '_, '_, R, N> {
 }
 
 impl Layers {
+    /// The layers of a page between two of its lines, where this is held.
+    pub(crate) fn at(alloc: Global, edge: &PageEdge) -> Result<Layers, AllocError>
+        ensures { IfOk result (λ p. IsAt p edge.now) }
+    {
+        let filler = edge.fill.filler(alloc)?;
+        let lines = PageLines::at(alloc, &edge.lines)?;
+        let output = edge.fill.output();
+        Ok(Layers {
+            filler,
+            lines,
+            output,
+            least: edge.least,
+            worst: edge.worst,
+            last: edge.last,
+        })
+    }
+
+    /// All that is held, in memory of its own. Its fault is [`Fault::Memory`].
+    pub(crate) fn edge(&self, alloc: Global) -> Result<PageEdge, Fault>
+        requires { (e : Edge) × IsAt self.now e × IsReached e }
+        ensures { (e : Edge) → IsAt self.now e → MatchResult result (λ x. x ≡ e) (λ fault. fault ≡ Fault.Memory) }
+    {
+        let fill = self.filler.part(alloc)?;
+        let Ok(lines) = self.lines.part(alloc) else {
+            return Err(Fault::Memory);
+        };
+        Ok(PageEdge {
+            fill,
+            lines,
+            least: self.least,
+            worst: self.worst,
+            last: self.last,
+        })
+    }
+
     /// The start of a page of settings that pass their check. Its fault is [`Fault::Memory`].
     pub(crate) fn new(alloc: Global, settings: &Settings) -> Result<Layers, Fault>
         ensures ok { IfOk result (λ p. IsAt p (start settings.now)) }

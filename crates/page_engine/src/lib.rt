@@ -6,6 +6,7 @@
 //! Read first `run_page` and `run_sinks` in `runs.rt`, with `specs/Runs.antt`; then `pages.rt`, with `specs/Page.antt` and `specs/States.antt`.
 #![tactic(auto)]
 
+mod edges;
 mod laws;
 mod layers;
 mod level_filters;
@@ -14,6 +15,7 @@ mod pages;
 mod runs;
 mod shown;
 
+pub use edges::Edge;
 pub use laws::{count_law, cut_law, line_by_line_law, reached_law, texts_law};
 pub use page_core_sources::{BYTES, Counted, READS, Reading, SliceSource, Source};
 pub use page_roff_source::Counts;

@@ -1,15 +1,16 @@
 //! A page that streams: lines come one by one, and what they settle goes out at once.
 
-ghost use Rattle.std.specs.Prelude.{◌≡◌, ◌<◌, ◌+◌, ◌-◌, ◌^◌, true, false, [], ◌∷◌, None, Some, IfOk, OnOk, OnErr, MatchOption, MatchResult};
+ghost use Rattle.std.specs.Prelude.{◌≡◌, ◌<◌, ◌+◌, ◌-◌, ◌^◌, true, false, [], ◌∷◌, None, Some, Err, IfOk, OnOk, OnErr, MatchOption, MatchResult};
 ghost use Rattle.page_core_base.specs.Checks.{IsGood};
 ghost use Rattle.page_core_base.specs.Texts.{IsLine};
 ghost use Rattle.page_core_base.specs.declared.faults.Fault.{Fault};
 ghost use Rattle.page_roff_lines.specs.Cutting.{line_of};
 ghost use Rattle.page_engine.specs.Page.{Edge, text_line, settled, page, start};
 ghost use Rattle.page_engine.specs.Streams.{sinks, AreWell};
-ghost use Rattle.page_engine.specs.Within.{HoldsWithin};
+ghost use Rattle.page_engine.specs.Within.{HoldsWithin, IsWithin};
 ghost use Rattle.page_engine.specs.States.{IsOpenAt, CannotStart, closed, line_fault, line_fault_of, IsRefused, Takes, Ends};
 
+use crate::edges::Edge as PageEdge;
 use crate::layers::Layers;
 use page_core_base::{Fault, Level, NoteSink, RowSink, Settings};
 use page_roff_lines::Cutter;
@@ -108,6 +109,43 @@ impl Page {
             phase: Phase::Open,
             counts,
         })
+    }
+
+    /// All that is held of the page between two of its lines, in memory of its own; the page stays as it is.
+    ///
+    /// Its faults are in this order: [`Fault::Ended`] after a good end, [`Fault::Failed`] after a fault of a sink; then [`Fault::Memory`].
+    pub fn edge(&self, alloc: Global) -> Result<PageEdge, Fault>
+        ensures open { (e : Edge) → IsOpenAt self.now e → MatchResult result (λ x. x ≡ e) (λ fault. fault ≡ Fault.Memory) }
+        ensures within { IfOk result IsWithin }
+        ensures refused { (fault : Fault) → closed self.now.phase ≡ Some fault → result ≡ Err fault }
+    {
+        if let Some(fault) = self.phase.fault() {
+            return Err(fault);
+        }
+        self.layers.caps_law();
+        self.layers.edge(alloc)
+    }
+
+    /// A page that goes on from what is held of one between two of its lines. Its fault is [`Fault::Memory`], with the edge as it came.
+    pub fn resume(alloc: Global, edge: PageEdge) -> Result<Page, (PageEdge, Fault)>
+        ensures resumes { MatchResult result (λ p. IsOpenAt p edge)
+            (λ refused. (refused.0 ≡ edge) × (refused.1 ≡ Fault.Memory)) }
+        ensures within { IfOk result HoldsWithin }
+    {
+        edge.reached_law();
+        match Layers::at(alloc, &edge) {
+            Ok(layers) => {
+                let open = Phase::Open;
+                let counts = layers.counts();
+                layers.caps_law();
+                Ok(Page {
+                    layers,
+                    phase: open,
+                    counts,
+                })
+            }
+            Err(_) => Err((edge, Fault::Memory)),
+        }
     }
 
     /// Takes a line with its number, and gives what it settles.

@@ -12,7 +12,7 @@ ghost use Rattle.page_sets_lines.specs.PlainLines.{line_end, plain_events};
 use crate::languages::language_of;
 use crate::titles::give_title;
 use arrayvec::ArrayString;
-use page_core_base::{Language, NoteKind, Piece, PieceOut, Place, Settings, Taken};
+use page_core_base::{Language, NoteKind, Output, Piece, PieceOut, Place, Settings, Taken};
 use page_core_limits::LINE;
 use page_engine_header::{Fields, Measure, give_footer_row, give_header};
 use page_scopes::{OpenScopes, PageLayout};
@@ -94,6 +94,29 @@ impl Body {
             fields: Fields::new(settings.os.as_str().as_bytes()),
             scopes: OpenScopes::new(alloc, layout_of(measure))?,
         })
+    }
+
+    /// The same body. All memory is reserved here.
+    pub fn copy(&self, alloc: Global) -> Result<Body, AllocError>
+        ensures { IfOk result (λ body. body ≡ self.now) }
+    {
+        let scopes = self.scopes.copy(alloc, self.scopes.page())?;
+        Ok(Body {
+            measure: self.measure,
+            indent: self.indent,
+            set: self.set,
+            is_decided: self.is_decided,
+            os: self.os,
+            fields: self.fields.copy(),
+            scopes,
+        })
+    }
+
+    /// The output of the page.
+    pub fn output(&self) -> Output
+        ensures { result ≡ self.now.header.measure.output }
+    {
+        self.measure.output
     }
 
     /// The set of macros that the page is read by.

@@ -64,7 +64,7 @@ fn show(rt: &HostRuntime, page: &[u8], words: Words) {
 
 // Shows what a page gives to streams, and how it ends.
 fn show_page(rt: &HostRuntime, page: &[u8], words: &Words, streams: &mut Streams) {
-    let Some(ending) = run_lines(rt.alloc(), page, &words.settings, streams) else {
+    let Some(ending) = run_lines(rt.alloc(), page, &words.settings, streams, None) else {
         return;
     };
     streams.show();
@@ -140,6 +140,9 @@ fn show_differences(
     if let Some(whole) = Whole::new(rt.alloc(), page, &words.settings) {
         if !whole.is(streams, ending.result) {
             let _ = println!(rt; "-- not at once");
+        }
+        if !whole.stands_cuts(rt.alloc(), page, &words.settings) {
+            let _ = println!(rt; "-- not where it is cut");
         }
         if !whole.stands_failures(rt.alloc(), page, &words.settings) {
             let _ = println!(rt; "-- not where a write fails");

@@ -9,11 +9,24 @@ use page_core::{Fault, Settings, TextNotes, TextRows};
 use page_engine::{Outcome, Page};
 use std::alloc::Global;
 
-// A page, and where its rows and messages go.
+// A page, and where its rows and messages go; and whether it goes on after each line from what was held of it.
 #[derive(Drop)]
 struct PageFeed<'a, 'b> {
     page: Page,
     streams: &'a mut Streams<'b>,
+    cuts: Option<Global>,
+}
+
+// The page goes on from what is held of it.
+fn cut(alloc: Global, page: &mut Page) -> Result<(), Fault> {
+    let edge = page.edge(alloc)?;
+    match Page::resume(alloc, edge) {
+        Ok(next) => {
+            *page = next;
+            Ok(())
+        }
+        Err((_, fault)) => Err(fault),
+    }
 }
 
 // A page before its first line. No caller here has to know its state, so that this says nothing of it: their proofs stay short.
@@ -52,6 +65,9 @@ fn fault_after(page: &mut Page, streams: &mut Streams) -> Option<Fault> {
 impl Feed for PageFeed<'_, '_> {
     fn line(&mut self, text: &[u8], number: u32) -> Result<(), Fault> {
         give_line(&mut self.page, self.streams, text, number)?;
+        if let Some(alloc) = self.cuts {
+            cut(alloc, &mut self.page)?;
+        }
         self.streams.show_line(number);
         Ok(())
     }
@@ -78,13 +94,14 @@ pub(crate) fn run_lines(
     bytes: &[u8],
     settings: &Settings,
     streams: &mut Streams,
+    cuts: Option<Global>,
 ) -> Option<Ending> {
     if bytes.len() > BYTES {
         return None;
     }
     let lines = Lines::new(alloc, settings.encoding)?;
     let ending = match new_page(alloc, settings) {
-        Ok(page) => run(alloc, bytes, lines, PageFeed { page, streams }),
+        Ok(page) => run(alloc, bytes, lines, PageFeed { page, streams, cuts }),
         Err(fault) => Ending::without_lines(fault),
     };
     Some(ending)

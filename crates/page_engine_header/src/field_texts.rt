@@ -111,6 +111,13 @@ fn add_words(kept: &mut ArrayVec<u8, 256>, room: usize, arguments: &mut Argument
 }
 
 impl Field {
+    /// The same field.
+    pub(crate) fn copy(&self) -> Field
+        ensures { result ≡ self.now }
+    {
+        Field::plain(self.text.as_slice())
+    }
+
     /// A field of a text of at most 256 bytes.
     pub(crate) fn plain(text: &[u8]) -> Field
         requires { length text.now ≤ 256 }

@@ -72,6 +72,20 @@ impl Fields {
         }
     }
 
+    /// The same fields.
+    pub fn copy(&self) -> Fields
+        ensures { result ≡ self.now }
+    {
+        Fields {
+            title: self.title.copy(),
+            section: self.section.copy(),
+            date: self.date.copy(),
+            source: self.source.copy(),
+            volume: self.volume.copy(),
+            os_came: self.os_came,
+        }
+    }
+
     /// Takes the fields that a macro of the prologue tells by its arguments, for a page of an operating system.
     pub fn take(&mut self, name: Prologue, os: &[u8], arguments: Arguments<'_>)
         requires { length os.now ≤ 256 }

@@ -13,4 +13,4 @@ mod taking;
 
 pub use item_outs::ItemOut;
 pub use laws::{cut_law, tree_law};
-pub use page_lines::PageLines;
+pub use page_lines::{LinesPart, PageLines};

@@ -14,8 +14,8 @@ use crate::taking::{give_taken, report_trailing};
 use page_core_base::{Fault, PieceLatch, PieceOut, PieceSink, Settings};
 use page_engine_body::Body;
 use page_engine_header::Fields;
-use page_roff_source::{Counts, RoffLines};
-use std::alloc::Global;
+use page_roff_source::{Counts, RoffLines, RoffPart};
+use std::alloc::{AllocError, Global};
 use std::marker::Model;
 
 /// What decides the pieces of the source lines to come.
@@ -36,7 +36,41 @@ impl Model for PageLines {
     ghost invariant = { λ l. l.roff.edge.to_come ≡ None };
 }
 
+/// What is held between two source lines of a page, in memory of its own.
+#[derive(Drop)]
+pub struct LinesPart {
+    roff: RoffPart,
+    body: Body,
+}
+
+impl Model for LinesPart {
+    ghost use Rattle.page_roff_source.specs.Parts.{edge_at};
+    ghost use Rattle.page_engine_lines.specs.Edges.{LinesEdge};
+
+    ghost Value = { LinesEdge };
+
+    ghost view = { λ p. record { roff = edge_at p.body.header.measure.output p.roff; body = p.body } };
+}
+
 impl PageLines {
+    /// Between two source lines, where this is held. All memory is reserved here.
+    pub fn at(alloc: Global, part: &LinesPart) -> Result<PageLines, AllocError>
+        ensures { IfOk result (λ l. l ≡ part.now) }
+    {
+        let roff = RoffLines::at(alloc, part.body.output(), &part.roff)?;
+        let body = part.body.copy(alloc)?;
+        Ok(PageLines { roff, body })
+    }
+
+    /// What is held between two source lines, where roff and the body agree on the output.
+    pub fn part(&self, alloc: Global) -> Result<LinesPart, AllocError>
+        ensures { self.now.roff.output ≡ self.now.body.header.measure.output → IfOk result (λ part. part ≡ self.now) }
+    {
+        let roff = self.roff.part(alloc)?;
+        let body = self.body.copy(alloc)?;
+        Ok(LinesPart { roff, body })
+    }
+
     /// The start of a page of settings that pass their check. Its fault is [`Fault::Memory`].
     pub fn new(alloc: Global, settings: &Settings) -> Result<PageLines, Fault>
         ensures ok { IfOk result (λ l. l ≡ edges.start_of settings.now) }

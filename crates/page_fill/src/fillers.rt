@@ -1,6 +1,6 @@
 //! The filler of a page.
 
-ghost use Rattle.std.specs.Prelude.{◌≡◌, ◌≤◌, true, [], ◌∷◌, length, IfOk, IfErr, IfSome, OnOk, OnErr, Some, None};
+ghost use Rattle.std.specs.Prelude.{◌≡◌, ◌≤◌, true, [], ◌∷◌, length, IfOk, IfErr, IfSome, OnOk, OnErr, Some, None, Err, MatchResult};
 ghost use Rattle.page_core_base.specs.Fails.{FailsBySink};
 ghost use Rattle.page_core_base.specs.Laid.{Gets};
 ghost use Rattle.page_core_base.specs.Pieces.{piece_of, shown};
@@ -11,9 +11,9 @@ ghost use Rattle.page_fill_steps.specs.declared.edges.Edge.{Edge};
 ghost use Rattle.page_fill.specs.Filling.{filled, row_end};
 ghost use Rattle.page_fill.specs.TakenWords.{TakesFirstWords};
 
-use page_core_base::{Cell, Fault, Font, NoteSink, Piece, RowSink, Settings};
+use page_core_base::{Cell, Fault, Font, NoteSink, Output, Piece, RowSink, Settings};
 use page_fill_steps::Edge;
-use std::alloc::Global;
+use std::alloc::{AllocError, Global};
 use std::marker::Model;
 
 /// Turns pieces into rows, and holds one row: the open one.
@@ -39,7 +39,83 @@ impl Model for Filler {
     ghost invariant = { λ f. f.is_going ≡ true → IsHeld f.edge.sheet × (is_sound f.edge.word ≡ true) };
 }
 
+/// What a filler holds between two pieces.
+#[derive(Drop)]
+pub struct FillerPart {
+    edge: Edge,
+}
+
+impl Model for FillerPart {
+    ghost use Rattle.std.specs.Prelude.{◌≡◌, true};
+    ghost use Rattle.page_fill_steps.specs.Caps.{IsHeld, is_sound};
+    ghost use Rattle.page_fill_steps.specs.declared.edges.Edge.{Edge};
+
+    ghost Value = { Edge };
+
+    ghost view = { λ p. p.edge };
+
+    ghost invariant = { λ p. IsHeld p.edge.sheet × (is_sound p.edge.word ≡ true) };
+}
+
+impl FillerPart {
+    /// What characters and glyphs print.
+    pub fn output(&self) -> Output
+        ensures { result ≡ self.now.output }
+    {
+        self.edge.output()
+    }
+
+    /// A filler that holds this, under the settings from which it came. It reserves all memory that it will ever hold.
+    pub fn filler(&self, alloc: Global) -> Result<Filler, AllocError>
+        ensures { IfOk result (λ f. f ≡ Some self.now) }
+    {
+        let edge = self
+            .edge
+            .copy(alloc, self.edge.width(), self.edge.output())?;
+        Ok(Filler {
+            edge,
+            is_going: true,
+        })
+    }
+}
+
 impl Filler {
+    /// What is held between two pieces, in memory of its own.
+    ///
+    /// Its fault is [`Fault::Failed`] after a failure and after the end; else [`Fault::Memory`].
+    pub fn part(&self, alloc: Global) -> Result<FillerPart, Fault>
+        ensures open { (e : Edge) → self.now ≡ Some e
+            → MatchResult result (λ part. part ≡ e) (λ fault. fault ≡ Fault.Memory) }
+        ensures closed { self.now ≡ None → result ≡ Err Fault.Failed }
+    {
+        if !self.is_going {
+            return Err(Fault::Failed);
+        }
+        match self.edge.copy(alloc, self.edge.width(), self.edge.output()) {
+            Ok(edge) => Ok(FillerPart { edge }),
+            Err(_) => Err(Fault::Memory),
+        }
+    }
+
+    /// A filler for a page of settings that pass their check, where it holds this part. Its fault is [`Fault::Memory`], with the part as it came.
+    pub fn from_part(
+        alloc: Global,
+        settings: &Settings,
+        part: FillerPart,
+    ) -> Result<Filler, (FillerPart, Fault)>
+        ensures { MatchResult result
+            (λ f. f ≡ Some (fill.under settings.now.width settings.now.output part))
+            (λ refused. (refused.0 ≡ part) × (refused.1 ≡ Fault.Memory)) }
+    {
+        match part.edge.copy(alloc, settings.width, settings.output) {
+            Ok(edge) => Ok(Filler {
+                edge,
+                is_going: true,
+            }),
+            Err(_) => Err((part, Fault::Memory)),
+        }
+    }
+
     /// A filler for a page of these settings, below its header: one blank row stands there. It reserves all memory that it will ever
     /// hold, and its fault is [`Fault::Memory`].
     pub fn new(alloc: Global, settings: &Settings) -> Result<Filler, Fault>

@@ -8,7 +8,7 @@
 mod fillers;
 mod laws;
 
-pub use fillers::Filler;
+pub use fillers::{Filler, FillerPart};
 pub use laws::{glue_law, part_law, word_law, words_law};
 pub use page_core_base::{Piece, PieceSink, TagForm};
 pub use page_fill_steps::{HANG_MAX, TAB_STOP};

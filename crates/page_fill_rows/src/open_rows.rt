@@ -89,6 +89,35 @@ impl OpenRow {
         })
     }
 
+    /// The same row on a page of this width in columns, with all memory that it will ever hold.
+    pub fn copy(&self, alloc: Global, width: u32) -> Result<OpenRow, AllocError>
+        ensures { IfOk result (λ s. s ≡ record self.now { width = width }) }
+    {
+        let row = self.row.copy(alloc)?;
+        Ok(OpenRow {
+            width,
+            is_literal: self.is_literal,
+            first: self.first,
+            rest: self.rest,
+            margin: self.margin,
+            row,
+            columns: self.columns,
+            gap: self.gap,
+            word: self.word,
+            blank_rows: self.blank_rows,
+            has_heading: self.has_heading,
+            tag_columns: self.tag_columns,
+            has_tag_cell: self.has_tag_cell,
+        })
+    }
+
+    /// The columns of a row with its margin.
+    pub fn width(&self) -> u32
+        ensures { result ≡ self.now.width }
+    {
+        self.width
+    }
+
     /// The cells of the open row.
     pub fn cells(&self) -> &[Cell]
         ensures cells { result.now ≡ self.now.cells }

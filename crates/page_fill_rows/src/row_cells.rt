@@ -45,6 +45,16 @@ impl RowCells {
         Ok(RowCells { places, len: 0 })
     }
 
+    /// The same cells, with all memory that they will ever have.
+    pub(crate) fn copy(&self, alloc: Global) -> Result<RowCells, AllocError>
+        ensures { IfOk result (λ r. r ≡ self.now) }
+    {
+        Ok(RowCells {
+            places: Vec::from_slice(alloc, &self.places)?,
+            len: self.len,
+        })
+    }
+
     /// The cells.
     pub(crate) fn as_slice(&self) -> &[Cell]
         ensures cells { result.now ≡ self.now }

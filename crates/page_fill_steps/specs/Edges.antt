@@ -3,6 +3,7 @@
 use Rattle.std.specs.Prelude.{ℕ, Bool, true, false, List, [], ◌∷◌, None, if◌then◌else◌}
 use Rattle.page_core_base.specs.declared.cells.Cell.{Cell}
 use Rattle.page_core_base.specs.declared.note_kinds.NoteKind.TheVariants as notes
+use Rattle.page_core_base.specs.declared.page_settings.Output.{Output}
 use Rattle.page_core_base.specs.declared.page_settings.Settings.{Settings}
 use Rattle.page_core_base.specs.declared.places.Place.{Place}
 use Rattle.page_core_base.specs.Messages.{Message, message_about}
@@ -54,6 +55,10 @@ tab_notes told place = if told then tab_note place ∷ [] else []
 -- a page begins below the blank row of its header
 abbrev pub start : Settings → Edge
 start settings = record { sheet = fresh settings.width; word = no_word; tag = None; output = settings.output }
+
+-- the same on a page of this width, of an output
+abbrev pub under : ℕ → Output → Edge → Edge
+under width output e = record e { sheet = record e.sheet { width = width }; output = output }
 
 -- how many blank rows stand at the end of the rows that were given
 abbrev pub blank_rows_at_end : Edge → ℕ

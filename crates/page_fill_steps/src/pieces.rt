@@ -7,10 +7,11 @@ ghost use Rattle.page_core_base.specs.Latches.{LaysOut};
 ghost use Rattle.page_core_base.specs.Pieces.{piece_of};
 ghost use Rattle.page_core_limits.specs.declared.TheConstants.{CELLS};
 ghost use Rattle.page_fill_steps.specs.Caps.{FillFits, IsHeld};
+ghost use Rattle.page_fill_steps.specs.Edges.{under};
 ghost use Rattle.page_fill_steps.specs.Fill as fill;
 
 use crate::edges::{Edge, NO_WORD};
-use page_core_base::{Cell, Fault, NoteSink, Piece, RowLatch, RowOut, RowSink, Settings};
+use page_core_base::{Cell, Fault, NoteSink, Output, Piece, RowLatch, RowOut, RowSink, Settings};
 use page_fill_rows::OpenRow;
 use std::alloc::{AllocError, Global};
 
@@ -93,6 +94,33 @@ impl Edge {
             tag: None,
             output: settings.output,
         })
+    }
+
+    /// The same on a page of this width in columns, of an output. It reserves all memory that is ever held.
+    pub fn copy(&self, alloc: Global, width: u32, output: Output) -> Result<Edge, AllocError>
+        ensures { IfOk result (λ e. e ≡ under width output self.now) }
+    {
+        let sheet = self.sheet.copy(alloc, width)?;
+        Ok(Edge {
+            sheet,
+            word: self.word,
+            tag: self.tag,
+            output,
+        })
+    }
+
+    /// The columns of a row with its margin.
+    pub fn width(&self) -> u32
+        ensures { result ≡ self.now.sheet.width }
+    {
+        self.sheet.width()
+    }
+
+    /// What characters and glyphs print.
+    pub fn output(&self) -> Output
+        ensures { result ≡ self.now.output }
+    {
+        self.output
     }
 
     /// The open row's cells.

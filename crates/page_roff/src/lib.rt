@@ -6,4 +6,4 @@
 
 pub use page_core_base::{Form, Taken};
 pub use page_roff_lines::{Cutter, cut_law, held_law, one_by_one_law};
-pub use page_roff_source::{Counts, Roff};
+pub use page_roff_source::{Counts, Roff, RoffPart};

@@ -67,7 +67,29 @@ impl Branch<&[u8]> {
     }
 }
 
+// The same bits.
+fn copy_of(bits: &[bool]) -> ArrayVec<bool, CONDS>
+    requires { length bits.now ≤ CONDS }
+    ensures { result.items ≡ bits.now }
+{
+    let mut copy = ArrayVec::new();
+    let _ = copy.try_extend_from_slice(bits);
+    copy
+}
+
 impl Levels {
+    /// The same levels.
+    pub fn copy(&self) -> Levels
+        ensures { result ≡ self.now }
+    {
+        Levels {
+            bit: self.bit,
+            outer: copy_of(self.outer.as_slice()),
+            in_loop: self.in_loop,
+            skipped: self.skipped,
+        }
+    }
+
     /// Outside all blocks.
     #[tactic(auto, unfolding(crate::specs::Levels::outside))]
     pub fn new() -> Levels

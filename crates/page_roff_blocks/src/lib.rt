@@ -14,6 +14,7 @@ mod open_regions;
 mod parts;
 mod regions;
 mod spots;
+mod standings;
 
 pub use atoms::{Atom, Branch, Head, Opening};
 pub use laws::{atoms_law, cut_law, fold_law, lines_law, room_law};
@@ -24,3 +25,4 @@ pub use open_regions::OpenRegion;
 pub use parts::is_leaf;
 pub use regions::{RegionHead, is_ending};
 pub use spots::{Reached, Spot};
+pub use standings::Standing;

@@ -77,6 +77,19 @@ impl OpenRegion {
         }
     }
 
+    /// The same region.
+    pub fn copy(&self) -> OpenRegion
+        ensures { result ≡ self.now }
+    {
+        OpenRegion {
+            kind: self.kind,
+            has_name: self.has_name,
+            name: copy_of(self.name.as_slice()),
+            ending: copy_of(self.ending.as_slice()),
+            is_run: self.is_run,
+        }
+    }
+
     /// What it is.
     pub fn kind(&self) -> RegionKind
         ensures { result ≡ self.now.kind }

@@ -50,6 +50,25 @@ impl Spot {
         }
     }
 
+    /// Before a line, at these levels.
+    #[tactic(auto, unfolding(crate::specs::Levels::at_line))]
+    pub fn at(levels: Levels) -> Spot
+        ensures { result ≡ at_line levels }
+    {
+        Spot {
+            levels,
+            begun: false,
+            passing: false,
+        }
+    }
+
+    /// The levels of its blocks.
+    pub fn levels(&self) -> &Levels
+        ensures { result.now ≡ self.now.levels }
+    {
+        &self.levels
+    }
+
     /// The bit that `ie` leaves to `el`.
     pub fn bit(&self) -> bool
         ensures { result ≡ self.now.levels.bit }

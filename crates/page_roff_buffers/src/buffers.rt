@@ -124,6 +124,18 @@ impl BodyBuffer {
         })
     }
 
+    /// The same body, if there is one. All memory is reserved here.
+    pub fn copy(&self, alloc: Global) -> Result<BodyBuffer, AllocError>
+        ensures { IfOk result (λ r. r ≡ self.now) }
+    {
+        let mut text = Vec::with_capacity(alloc, BODY)?;
+        append(&mut text, &self.text);
+        Ok(BodyBuffer {
+            is_open: self.is_open,
+            text,
+        })
+    }
+
     /// There is no body.
     pub fn clear(&mut self)
         ensures { self.new ≡ None }

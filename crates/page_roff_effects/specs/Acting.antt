@@ -168,6 +168,11 @@ abbrev pub TakesIf : Bool → Acting → List ℕ → (Bool → Outcome) → Act
 TakesIf true old raw outcome new = IsTaken old raw outcome new
 TakesIf false old raw outcome new = new ≡ old
 
+-- an object between two lines remembers this
+pub record Remembers (output : Output) (remembered : Memory) (a : Acting) : Type 0 where
+  pub setting : a.setting ≡ first_setting output
+  pub memory : a.memory ≡ remembered
+
 -- a new object remembers nothing
 pub record IsNew (output : Output) (a : Acting) : Type 0 where
   pub setting : a.setting ≡ first_setting output

@@ -14,6 +14,7 @@ ghost use Rattle.page_roff_effects.specs.Effects.{answer_of, turn_answer, budget
 ghost use Rattle.page_core_base.specs.Messages.{message_about};
 ghost use Rattle.page_roff_values.specs.Latches.{Came};
 
+use crate::memories::Remembered;
 use page_core_base::{Note, NoteKind, Output, Place, Taken};
 use page_core_limits::{ARGS, Limit};
 use page_roff_buffers::{BodyBuffer, CallBuffer, LineBuffer};
@@ -98,6 +99,43 @@ impl Actions {
             call: CallBuffer::new(alloc)?,
             number: 0,
             expansions: 0,
+        })
+    }
+
+    /// Between two lines of a page of an output, with what is remembered of it. All memory is reserved here.
+    pub fn at(alloc: Global, output: Output, remembered: &Remembered) -> Result<Actions, AllocError>
+        ensures { IfOk result (acting.Remembers output remembered.now) }
+    {
+        let names = remembered.names.copy(alloc)?;
+        let body = remembered.body.copy(alloc)?;
+        let arguments = CallArguments::new(alloc)?;
+        let expansion = Expansion::new(alloc)?;
+        let line = LineBuffer::new(alloc)?;
+        let call = CallBuffer::new(alloc)?;
+        Ok(Actions {
+            names,
+            arguments,
+            output,
+            expansion,
+            body,
+            line,
+            call,
+            number: remembered.number,
+            expansions: remembered.expansions,
+        })
+    }
+
+    /// What is remembered, in memory of its own.
+    pub fn remembered(&self, alloc: Global) -> Result<Remembered, AllocError>
+        ensures { IfOk result (λ remembered. remembered ≡ self.now.memory) }
+    {
+        let names = self.names.copy(alloc)?;
+        let body = self.body.copy(alloc)?;
+        Ok(Remembered {
+            names,
+            body,
+            number: self.number,
+            expansions: self.expansions,
         })
     }
 

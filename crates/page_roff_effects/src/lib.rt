@@ -12,8 +12,10 @@ mod commands;
 mod laws;
 mod leaves;
 mod loops;
+mod memories;
 mod regions;
 
 pub use actions::Actions;
 pub use commands::ProductKind;
 pub use laws::{expansions_law, given_law};
+pub use memories::Remembered;

@@ -23,6 +23,10 @@ IsCounted b = b.left + b.taken ≤ 2 ^ 63
 abbrev pub first_budget : Budget
 first_budget = record { left = 0; gave_up = false; taken = 0 }
 
+-- between two lines of a page of which this many lines were taken
+abbrev pub budget_at : ℕ → Budget
+budget_at taken = record { left = 0; gave_up = false; taken = taken }
+
 -- a source line has a budget of its own
 abbrev pub renewed : Budget → Budget
 renewed b = record { left = REREAD; gave_up = false; taken = b.taken }

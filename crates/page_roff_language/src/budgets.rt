@@ -1,7 +1,7 @@
 //! The budget of re-read lines of a source line (mandoc(1), "input stack limit exceeded, infinite loop?").
 
 ghost use Rattle.std.specs.Prelude.{◌≡◌, ◌+◌, ◌≤◌, ◌^◌};
-ghost use Rattle.page_roff_language.specs.Counting.{first_budget, renewed, begun, charged, exhausts};
+ghost use Rattle.page_roff_language.specs.Counting.{first_budget, budget_at, renewed, begun, charged, exhausts};
 
 use page_core_limits::REREAD;
 use std::marker::Model;
@@ -33,6 +33,18 @@ impl Budget {
             left: 0,
             gave_up: false,
             taken: 0,
+        }
+    }
+
+    /// Between two lines of a page of which this many lines were taken.
+    pub fn at(taken: u64) -> Budget
+        requires { taken ≤ 2 ^ 62 }
+        ensures { result ≡ budget_at taken }
+    {
+        Budget {
+            left: 0,
+            gave_up: false,
+            taken,
         }
     }
 

@@ -1,10 +1,10 @@
 -- What is still to come: helpers of proofs.
-use Rattle.std.proofs.Common.{◌≡◌, ℕ, ◌≤◌, ◌^◌, inl, inr, true, List, [], ◌∷◌, ◌++◌, map, Some, None, refl, sym, ap, ◌∙◌}
+use Rattle.std.proofs.Common.{◌≡◌, ℕ, ◌≤◌, ◌^◌, inl, inr, true, List, [], ◌∷◌, ◌++◌, map, Option, Some, None, refl, sym, ap, ◌∙◌}
 use Rattle.std.proofs.lemmas.List.{append-nil}
 use Rattle.page_core_base.specs.Messages.{Message}
 use Rattle.page_core_base.specs.declared.page_settings.Output.{Output}
 use Rattle.page_roff_blocks.specs.declared.atoms.Atom.{Atom}
-use Rattle.page_roff_blocks.specs.Levels.{Opened, at_line}
+use Rattle.page_roff_blocks.specs.Levels.{Opened, Place, at_line}
 use Rattle.page_roff_blocks.specs.Run.{Meaning, At}
 use Rattle.page_roff_language.specs.Languages.{Language, meaning_at, run_page}
 use Rattle.page_roff_language.specs.Machine.{Frame, depth, at_page, rest_of, next, stands_at}
@@ -18,16 +18,17 @@ use Rattle.page_roff_effects.specs.Acting as acting
 use Rattle.page_roff_effects.specs.Acting.{Acting, with_number, with_arguments, acting_effects, measured}
 use Rattle.page_roff_effects.specs.Effects.{in_front}
 use Rattle.page_roff_stack.specs.Changes.{page_line}
-use Rattle.page_roff_effects.specs.States.{State, Given, says}
+use Rattle.page_roff_effects.specs.States.{Memory, State, Given, says}
 use Rattle.page_roff_values.specs.Views.{units_of_bytes}
 use Rattle.page_roff_effects.proofs.GivenLemmas.{is_front}
 use Rattle.page_roff_stack.specs.declared.next.Next.{Next}
 use Rattle.page_roff_stack.specs.declared.next.Next.TheVariants as things
-use Rattle.page_roff_stack.specs.Stacks.{Stack, first_stack, next_of, is_nothing, step_in, step_of}
+use Rattle.page_roff_stack.specs.Stacks.{Stack, first_stack, next_in, next_of, is_nothing, step_in, step_of}
 use Rattle.page_roff_stack.proofs.StackLemmas.{next_steps}
 use Rattle.page_roff_machine.specs.Giving.{notes_before, next_line, after_line}
 use Rattle.page_roff_machine.specs.declared.runners.Runner.{Runner}
-use Rattle.page_roff_machine.specs.Machines.{Machine, output_of, language_of, running_of, outcome_of, is_idle, stands, begun_at, Begins, IsNew}
+use Rattle.page_roff_machine.specs.Machines.{Machine, output_of, language_of, running_of, outcome_of, is_idle, stands, begun_at, Begins, IsNew, Resumes}
+use Rattle.page_roff_machine.specs.Moving.{IsPassed}
 use Rattle.page_roff_machine.specs.Stepping.{machine_of, IsSound}
 
 -- ---- after some messages
@@ -103,6 +104,23 @@ new_sound output r e h = record {
   frames = rw e (record { turning = tt; region = λ h. tt }, tt);
   way = inr (λ k. (ap (λ (s : Stack). s.top.lines) e, ap (λ (s : Stack). s.top.turning) e), rw e tt);
 }
+
+-- a page that stands between two lines
+pub resumed_sound : (output : Output) (place : Place) (memory : Memory) (taken : ℕ) (r : Runner) → Resumes output place memory taken (machine_of r)
+    → (place.levels.in_loop ≡ true → IsPassed place.region) → IsSound r
+unfolding HasMeasure AreOnLine IsOnLine at_line
+resumed_sound output place memory taken r h passed = record {
+  setting = rw (h.stack, h.actions.setting) refl;
+  frames = rw h.stack (record { turning = tt; region = passed }, tt);
+  way = inr (λ k. (ap (λ (s : Stack). s.top.lines) h.stack, ap (λ (s : Stack). s.top.turning) h.stack), rw h.stack tt);
+}
+
+nothing_at : (region : Option Opened) → is_nothing (next_in None region [] [] []) ≡ true
+nothing_at None = refl
+nothing_at (Some o) = refl
+
+pub resumed_idle : (output : Output) (place : Place) (memory : Memory) (taken : ℕ) (m : Machine) → Resumes output place memory taken m → is_idle m ≡ true
+resumed_idle output place memory taken m h = ap (λ stack. is_nothing (next_of stack)) h.stack ∙ nothing_at place.region
 
 pub begun_sound : (old new : Runner) (line : List ℕ) (number : ℕ) → new.stack ≡ record { top = page_line line old.stack.top; under = []; texts = [] }
     → new.doing.actions ≡ with_number number (with_arguments None old.doing.actions) → new.doing.budget ≡ renewed old.doing.budget

@@ -11,12 +11,12 @@ use Rattle.page_core_limits.specs.declared.TheConstants.{REREAD}
 use Rattle.page_roff_language.specs.Languages.{Language, run_page}
 use Rattle.page_roff_language.specs.Machine.{Running, rest_of}
 use Rattle.page_roff_language.specs.Budgets.{Budgeted, language}
-use Rattle.page_roff_language.specs.Counting.{Budget, budgeted, first_budget}
+use Rattle.page_roff_language.specs.Counting.{Budget, budgeted, first_budget, budget_at}
 use Rattle.page_roff_effects.specs.Acting.{Acting, acting_effects}
 use Rattle.page_roff_effects.specs.Acting as acting
 use Rattle.page_roff_effects.specs.RegionLines.{finish_outcome}
 use Rattle.page_roff_effects.specs.States.{Memory, State, Given, takes, numbered}
-use Rattle.page_roff_stack.specs.Stacks.{Stack, first_stack, running, next_of, is_nothing}
+use Rattle.page_roff_stack.specs.Stacks.{Stack, first_stack, stack_at, running, next_of, is_nothing}
 use Rattle.page_roff_machine.specs.Giving.{notes_before, next_line, after_line}
 
 -- the sources that run, what their parts do with what is remembered, and the budget of the source line
@@ -130,6 +130,12 @@ pub record IsNew (output : Output) (m : Machine) : Type 0 where
   pub stack : m.stack ≡ first_stack
   pub actions : acting.IsNew output m.actions
   pub budget : m.budget ≡ first_budget
+
+-- between two lines of a page, where it stands so, with what is remembered and the number of lines that were taken
+pub record Resumes (output : Output) (place : Place) (memory : Memory) (taken : ℕ) (m : Machine) : Type 0 where
+  pub stack : m.stack ≡ stack_at place
+  pub actions : acting.Remembers output memory m.actions
+  pub budget : m.budget ≡ budget_at taken
 
 -- the page ends: a region or a loop that is open is dropped with a message
 abbrev pub end_notes : Machine → List Message

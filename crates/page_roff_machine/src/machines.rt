@@ -7,12 +7,14 @@ ghost use Rattle.page_core_limits.specs.declared.TheConstants.{ARGS, BODY, CALLS
 ghost use Rattle.page_roff_blocks.specs.Caps.{PlaceFits};
 ghost use Rattle.page_roff_values.specs.Latches.{Came};
 ghost use Rattle.page_roff_effects.specs.Caps.{MemoryFits};
-ghost use Rattle.page_roff_machine.specs.Machines.{Advances, BeginsOrTakes, IsNew, is_idle, end_memory, end_notes, place_of};
+ghost use Rattle.page_roff_machine.specs.Machines.{Advances, BeginsOrTakes, IsNew, Resumes, is_idle, end_memory, end_notes, place_of};
+ghost use Rattle.page_roff_machine.specs.Moving.{IsPassed};
 
 use crate::budgeted_actions::BudgetedActions;
 use crate::runners::Runner;
 use page_core_base::{Output, Taken};
-use page_roff_effects::Actions;
+use page_roff_blocks::Standing;
+use page_roff_effects::{Actions, Remembered};
 use page_roff_language::Budget;
 use page_roff_stack::InputStack;
 use page_roff_values::NoteOut;
@@ -53,6 +55,53 @@ impl Machine {
                 },
             },
         })
+    }
+
+    /// Between two lines of a page, where it stands so, with what is remembered and the number of lines that were taken.
+    pub fn at(
+        alloc: Global,
+        output: Output,
+        standing: &Standing,
+        remembered: &Remembered,
+        taken: u64,
+    ) -> Result<Machine, AllocError>
+        requires passed { standing.now.levels.in_loop ≡ true → IsPassed standing.now.region }
+        requires skips { standing.now.levels.skipped < 2 ^ 62 }
+        requires count { taken ≤ 2 ^ 62 }
+        ensures { IfOk result (Resumes output standing.now remembered.now taken) }
+    {
+        let stack = InputStack::at(alloc, standing)?;
+        let actions = Actions::at(alloc, output, remembered)?;
+        Ok(Machine {
+            runner: Runner {
+                stack,
+                doing: BudgetedActions {
+                    actions,
+                    budget: Budget::at(taken),
+                },
+            },
+        })
+    }
+
+    /// Where the innermost source stands.
+    pub fn standing(&self) -> Standing
+        ensures { result ≡ place_of self.now }
+    {
+        self.runner.stack.standing()
+    }
+
+    /// What is remembered, in memory of its own.
+    pub fn remembered(&self, alloc: Global) -> Result<Remembered, AllocError>
+        ensures { IfOk result (λ remembered. remembered ≡ self.now.actions.memory) }
+    {
+        self.runner.doing.actions.remembered(alloc)
+    }
+
+    /// In a loop that is collected no region is run. Nothing is done: each step keeps to it.
+    pub fn passed_law(&self)
+        ensures { (place_of self.now).levels.in_loop ≡ true → IsPassed (place_of self.now).region }
+    {
+        let _ = &self.runner;
     }
 
     /// Whether the source line is done, or none came.

@@ -52,6 +52,21 @@ impl Names {
         })
     }
 
+    /// The same definitions, with the memory for all.
+    pub fn copy(&self, alloc: Global) -> Result<Names, AllocError>
+        ensures { IfOk result (λ names. names ≡ self.now) }
+    {
+        let texts = self.texts.copy(alloc)?;
+        let registers = self.registers.copy(alloc)?;
+        let scratch = Vec::with_capacity(alloc, BODY)?;
+        Ok(Names {
+            texts,
+            registers,
+            scratch,
+            called: Places::new(),
+        })
+    }
+
     /// The value of a string, also of a predefined one that no definition hides.
     pub fn string(&self, name: &[u8]) -> Option<&[u8]>
         ensures { Lends result (string_of name.now self.now) }

@@ -164,6 +164,17 @@ impl Row {
         })
     }
 
+    /// The same entries, with the memory for all.
+    pub fn copy(&self, alloc: Global) -> Result<Row, AllocError>
+        ensures { IfOk result (λ row. row ≡ self.now) }
+    {
+        let mut spans = Vec::with_capacity(alloc, NAMES)?;
+        spans.extend_from_slice(&self.spans)?;
+        let mut text = Vec::with_capacity(alloc, DEFS)?;
+        text.extend_from_slice(&self.text)?;
+        Ok(Row { spans, text })
+    }
+
     pub fn len(&self) -> usize
         ensures { result ≡ length self.now }
     {

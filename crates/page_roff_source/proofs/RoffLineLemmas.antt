@@ -1,12 +1,12 @@
 -- The machine that runs a page's lines stands at the page's edge: helpers of proofs.
-use Rattle.std.proofs.Common.{◌≡◌, ℕ, ◌+◌, ◌≤◌, ◌<◌, ◌^◌, Bool, true, false, List, [], ◌∷◌, length, Option, Some, None, refl, sym, ap, subst, ◌∙◌, arith}
+use Rattle.std.proofs.Common.{◌≡◌, ℕ, ◌+◌, ◌*◌, ◌≤◌, ◌<◌, ◌^◌, Bool, true, false, List, [], ◌∷◌, length, Option, Some, None, refl, sym, ap, subst, ◌∙◌, arith}
 use Rattle.page_core_base.specs.Texts.{IsLine}
 use Rattle.page_core_limits.specs.declared.TheConstants.{LINE, REREAD}
 use Rattle.page_core_base.specs.LinesTaken.{Line}
 use Rattle.page_core_base.specs.Messages.{Message}
 use Rattle.page_core_base.specs.declared.page_settings.Output.{Output}
 use Rattle.page_roff_blocks.specs.Caps.{PlaceFits}
-use Rattle.page_roff_blocks.specs.Levels.{at_line, outside, first_place}
+use Rattle.page_roff_blocks.specs.Levels.{Place, at_line, outside, first_place}
 use Rattle.page_roff_blocks.specs.Run.{At}
 use Rattle.page_roff_language.specs.Languages.{run_page}
 use Rattle.page_roff_language.specs.Counting.{Budget}
@@ -19,14 +19,16 @@ use Rattle.page_roff_effects.specs.RegionLines.{finish_outcome}
 use Rattle.page_roff_effects.specs.Acting.{ActingSetting}
 use Rattle.page_roff_effects.specs.States.{Given, State, Memory, takes, first_memory, numbered}
 use Rattle.page_roff_machine.specs.Giving.{next_line, after_line}
-use Rattle.page_roff_machine.specs.Machines.{Machine, output_of, language_of, outcome_of, to_come, end_of, place_of, stands, stands_after, begun_at, Begins, Takes, BeginsOrTakes, Advances, taken_if, IsIdleUnless, IsNew}
+use Rattle.page_roff_machine.specs.Machines.{Machine, output_of, language_of, outcome_of, to_come, end_of, place_of, stands, stands_after, begun_at, Begins, Takes, BeginsOrTakes, Advances, taken_if, IsIdleUnless, IsNew, Resumes}
+use Rattle.page_roff_machine.specs.Moving.{IsPassed}
 use Rattle.page_roff_machine.specs.Machines as machine
-use Rattle.page_roff_machine.proofs.MachineLemmas.{idle_stands, new_idle}
+use Rattle.page_roff_machine.proofs.MachineLemmas.{idle_stands, new_idle, resumed_idle}
 use Rattle.page_roff_texts.specs.Texts.{HoldsTexts, AreGiven}
 use Rattle.page_roff_texts.proofs.EffectTexts.{first_holds, finish_holds}
 use Rattle.page_roff_source.specs.declared.counts.Counts.{Counts}
 use Rattle.page_roff_source.specs.Caps.{RoffFits}
 use Rattle.page_roff_source.specs.Edges.{Edge, SourceLine, first_edge, counts_of, end_notes}
+use Rattle.page_roff_source.specs.Parts.{Part, IsPart, edge_at, part_of}
 use Rattle.page_roff_source.specs.Taking.{LinesState, before_line, run_line, line_begun, given_of, line_taken, left_if}
 use Rattle.page_roff_source.specs.declared.roff_lines.Remaining.{Remaining}
 use Rattle.page_roff_source.specs.declared.roff_lines.Remaining.TheVariants as remaining
@@ -88,6 +90,58 @@ new_at output m n = new_edge output m n (idle_stands m (new_idle output m n))
 pub new_counted : (output : Output) → IsCounted (first_edge output)
 unfolding first_place outside
 new_counted output = record { source = omega arith; taken = omega arith; skipped = omega arith }
+
+-- ---- between two lines
+
+abbrev pub held_part : Place → Memory → ℕ → ℕ → Part
+held_part place memory source taken = record { place = place; memory = memory; source = source; taken = taken }
+
+resumed_edge : (output : Output) (p : Part) (m : Machine) → Resumes output p.place p.memory p.taken m → outcome_of m ≡ stands m
+    → edge_of m p.source remaining.Nothing ≡ edge_at output p
+unfolding at_line
+resumed_edge output p m h e =
+    ap (λ (a : At (Budgeted State)). edge_with (output_of m) a p.source None) e
+    ∙ rw (h.actions.setting, h.stack, h.actions.memory, h.budget) refl
+
+pub resumed_at : (output : Output) (p : Part) (m : Machine) → Resumes output p.place p.memory p.taken m
+    → edge_of m p.source remaining.Nothing ≡ edge_at output p
+resumed_at output p m h = resumed_edge output p m h (idle_stands m (resumed_idle output p.place p.memory p.taken m h))
+
+pub resumed_invariant : (output : Output) (p : Part) (m : Machine) → IsPart p → Resumes output p.place p.memory p.taken m
+    → IsAtEdge m p.source remaining.Nothing
+unfolding AreGiven
+resumed_invariant output p m k h =
+    let e = resumed_at output p m h in
+    let counted : IsCounted (edge_at output p) = record { source = k.source; taken = k.taken; skipped = k.skipped } in
+    record {
+      idle = resumed_idle output p.place p.memory p.taken m h;
+      counted = subst IsCounted (sym e) counted;
+      texts = subst (λ (x : Edge). HoldsTexts x.memory) (sym e) k.texts;
+      given = tt;
+    }
+
+-- the part that is held where all was given
+pub part_at : (m : Machine) (source : ℕ) (left : Remaining) → IsAtEdge m source left → (edge_of m source left).to_come ≡ None
+    → part_of (edge_of m source left) ≡ record { place = place_of m; memory = m.actions.memory; source = source; taken = m.budget.taken }
+part_at m source remaining.Nothing p none =
+    ap (λ (a : At (Budgeted State)). part_of (edge_with (output_of m) a source None)) (idle_stands m p.idle)
+part_at m source remaining.Line p none = absurd (cc)
+part_at m source remaining.End p none = absurd (cc)
+part_at m source remaining.Run p none = absurd (cc)
+
+pub is_part_at : (m : Machine) (source : ℕ) (left : Remaining) → IsAtEdge m source left → (edge_of m source left).to_come ≡ None
+    → ((place_of m).levels.in_loop ≡ true → IsPassed (place_of m).region)
+    → IsPart (record { place = place_of m; memory = m.actions.memory; source = source; taken = m.budget.taken })
+is_part_at m source left p none passed =
+    let e = part_at m source left p none in
+    let c = p.counted in
+    record {
+      source = c.source;
+      taken = subst (λ (x : Part). x.taken ≤ (REREAD + 1) * source) e c.taken;
+      skipped = subst (λ (x : Part). x.place.levels.skipped ≤ (2 * LINE + 2) * source) e c.skipped;
+      texts = subst (λ (x : Part). HoldsTexts x.memory) e p.texts;
+      passed = passed;
+    }
 
 -- ---- a line begins
 

@@ -8,6 +8,7 @@ use Rattle.page_core_base.specs.declared.page_settings.Output.{Output}
 use Rattle.page_roff_effects.specs.States.{Given}
 use Rattle.page_roff_source.specs.declared.counts.Counts.{Counts}
 use Rattle.page_roff_source.specs.Edges.{Edge, first_edge, counts_of}
+use Rattle.page_roff_source.specs.Parts.{Part, edge_at}
 use Rattle.page_roff_source.specs.Taking.{is_idle}
 
 -- What decides the rest, until a message is refused or the page ends; the body with the arguments of each macro or loop that runs, from the
@@ -20,6 +21,10 @@ pub record RoffState : Type 0 where
 -- before the first line of a page
 abbrev pub first_state : Output → RoffState
 first_state output = record { edge = Some (first_edge output); running = []; counts = counts_of (first_edge output) }
+
+-- between two lines of a page of an output
+abbrev pub state_at : Output → Part → RoffState
+state_at output part = record { edge = Some (edge_at output part); running = []; counts = counts_of (edge_at output part) }
 
 -- the counts at an edge: its own where a line is done, inside a line those from before it
 abbrev pub counts_with : Option (List Given) → Edge → Counts → Counts

@@ -6,3 +6,4 @@ pub mod LineByLine
 pub mod Moments
 pub mod RoffLines
 pub mod Taking
+pub mod Parts

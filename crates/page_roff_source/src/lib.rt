@@ -7,10 +7,12 @@
 
 mod counts;
 mod laws;
+mod parts;
 mod roff_lines;
 mod roffs;
 
 pub use counts::Counts;
 pub use laws::{count_law, cut_law, forest_law, room_law};
+pub use parts::RoffPart;
 pub use roff_lines::RoffLines;
 pub use roffs::Roff;

@@ -11,9 +11,11 @@ ghost use Rattle.page_roff_machine.specs.Giving.{notes_before, next_line};
 ghost use Rattle.page_roff_source.specs.Caps.{RoffFits, RunsWithin};
 ghost use Rattle.page_roff_source.specs.Edges.{first_edge, end_notes, counts_of};
 ghost use Rattle.page_roff_source.specs.Taking.{line_begun, given_of, line_taken, is_idle};
+ghost use Rattle.page_roff_source.specs.Parts.{edge_at, part_of};
 ghost use Rattle.page_roff_source.specs.RoffLines.{RunsOn, begun_as, run_if};
 
 use crate::counts::Counts;
+use crate::parts::RoffPart;
 use page_core_base::{Output, Taken};
 use page_roff_machine::Machine;
 use page_roff_values::NoteOut;
@@ -89,6 +91,34 @@ impl RoffLines {
             machine: Machine::new(alloc, output)?,
             source: 0,
             remaining: Remaining::Nothing,
+        })
+    }
+
+    /// Between two lines of a page of an output. All memory is reserved here.
+    pub fn at(alloc: Global, output: Output, part: &RoffPart) -> Result<RoffLines, AllocError>
+        ensures edge { IfOk result (λ l. l.edge ≡ edge_at output part.now) }
+        ensures running { IfOk result (λ l. l.running ≡ []) }
+    {
+        let machine = Machine::at(alloc, output, &part.standing, &part.remembered, part.taken)?;
+        Ok(RoffLines {
+            machine,
+            source: part.source,
+            remaining: Remaining::Nothing,
+        })
+    }
+
+    /// Roff's part of what is held of the page, in memory of its own.
+    pub fn part(&self, alloc: Global) -> Result<RoffPart, AllocError>
+        requires { self.now.edge.to_come ≡ None }
+        ensures { IfOk result (λ part. part ≡ part_of self.now.edge) }
+    {
+        let remembered = self.machine.remembered(alloc)?;
+        self.machine.passed_law();
+        Ok(RoffPart {
+            standing: self.machine.standing(),
+            remembered,
+            source: self.source,
+            taken: self.machine.taken(),
         })
     }
 

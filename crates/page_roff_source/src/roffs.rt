@@ -10,9 +10,11 @@ ghost use Rattle.page_roff_source.specs.Caps.{RoffFits, RunsWithin};
 ghost use Rattle.page_roff_source.specs.Edges.{Edge, end_notes, counts_of};
 ghost use Rattle.page_roff_source.specs.Taking.{line_begun, given_of, line_taken};
 ghost use Rattle.page_roff_machine.specs.Machines.{taken_if};
-ghost use Rattle.page_roff_source.specs.Fuses.{first_state, is_idle_at, counts_from, Tells};
+ghost use Rattle.page_roff_source.specs.Parts.{part_of};
+ghost use Rattle.page_roff_source.specs.Fuses.{first_state, state_at, is_idle_at, counts_from, Tells};
 
 use crate::counts::Counts;
+use crate::parts::RoffPart;
 use crate::roff_lines::RoffLines;
 use page_core_base::{Fault, NoteSink, Settings, Taken};
 use page_roff_values::NoteLatch;
@@ -96,6 +98,48 @@ impl Roff {
             },
             is_going: true,
         })
+    }
+
+    /// Roff's part of what is held of the page between two of its lines, in memory of its own.
+    ///
+    /// Its fault is [`Fault::Failed`] after a failure of the sink and after the end; else [`Fault::Memory`].
+    pub fn part(&self, alloc: Global) -> Result<RoffPart, Fault>
+        requires { IfSome self.now.edge (λ e. e.to_come ≡ None) }
+        ensures open { (e : Edge) → self.now.edge ≡ Some e
+            → MatchResult result (λ part. part ≡ part_of e) (λ fault. fault ≡ Fault.Memory) }
+        ensures closed { self.now.edge ≡ None → result ≡ Err Fault.Failed }
+    {
+        if !self.is_going {
+            return Err(Fault::Failed);
+        }
+        match self.lines.part(alloc) {
+            Ok(part) => Ok(part),
+            Err(_) => Err(Fault::Memory),
+        }
+    }
+
+    /// Roff between two lines of a page of settings that pass their check, where it holds this part of it. Its fault is [`Fault::Memory`], with the
+    /// part as it came.
+    pub fn from_part(
+        alloc: Global,
+        settings: &Settings,
+        part: RoffPart,
+    ) -> Result<Roff, (RoffPart, Fault)>
+        ensures { MatchResult result
+            (λ r. r ≡ state_at settings.now.output part)
+            (λ refused. (refused.0 ≡ part) × (refused.1 ≡ Fault.Memory)) }
+    {
+        match RoffLines::at(alloc, settings.output, &part) {
+            Ok(lines) => {
+                let counts = lines.counts();
+                Ok(Roff {
+                    lines,
+                    counts,
+                    is_going: true,
+                })
+            }
+            Err(_) => Err((part, Fault::Memory)),
+        }
     }
 
     /// A source line begins, of a number; there are at most 2^31 of them in a page. What it gives is asked for by [`Roff::take`], up to

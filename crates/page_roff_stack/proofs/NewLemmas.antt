@@ -139,6 +139,19 @@ empty_set a e l p k n r s t =
     let view : frame_of a [] ≡ frame page None (at_line outside) [] None = new_view a [] [] [] new ∙ rw (e, r, s, t) refl in
     (new_held a [] [] [] new (rw e empty_only) (rw view (empty_bounded page None)), view)
 
+-- the page between two lines
+place_bounded : (region : Option Opened) (spot : Spot) → spot.levels.skipped < 2 ^ 62 → IsBounded (frame page region spot [] None)
+unfolding work_in weight
+place_bounded region spot s = record { short = tt; skips = omega (arith, s) }
+
+pub place_set : (a : InputFrame) → a.kind ≡ sources.Page → a.line ≡ span 0 0 → a.place ≡ line_end → a.ahead ≡ None → a.lines ≡ span 0 0
+    → a.turning ≡ None → a.spot.levels.skipped < 2 ^ 62 → IsHeld a [] × (frame_of a [] ≡ frame page a.region a.spot [] None)
+unfolding arguments_in
+place_set a e l p k n t s =
+    let new = new_of a [] [] [] [] refl l p k n (rw e tt) (rw t tt) in
+    let view : frame_of a [] ≡ frame page a.region a.spot [] None = new_view a [] [] [] new ∙ rw (e, t) refl in
+    (new_held a [] [] [] new (rw e empty_only) (rw view (place_bounded a.region a.spot s)), view)
+
 pub page_none : (kind : SourceKind) (text : List ℕ) → kind_in kind text ≡ page → kind ≡ sources.Page
 page_none sources.Page text e = refl
 page_none (sources.Body arguments) text e = cc

@@ -9,7 +9,7 @@ use Rattle.page_roff_blocks.specs.declared.atoms.Branch.TheVariants.{Else}
 use Rattle.page_roff_blocks.specs.declared.atoms.Opening.{Opening}
 use Rattle.page_roff_blocks.specs.declared.atoms.Opening.TheVariants as openings
 use Rattle.page_roff_blocks.specs.Atoms.{atoms}
-use Rattle.page_roff_blocks.specs.Levels.{Opened, opened, Spot, at_line, outside}
+use Rattle.page_roff_blocks.specs.Levels.{Opened, opened, Place, Spot, at_line, outside}
 use Rattle.page_roff_language.specs.Languages.{Kind, page, body}
 use Rattle.page_roff_language.specs.Machine.{Frame, Turning, turned, at_part}
 use Rattle.page_roff_language.specs.Measures.{work_in}
@@ -17,6 +17,10 @@ use Rattle.page_roff_language.specs.Measures.{work_in}
 -- the page before its first line
 abbrev pub first_frame : Frame
 first_frame = record { kind = page; region = None; parts = []; spot = at_line outside; lines = []; turning = None }
+
+-- the page between two lines, where it stands so
+abbrev pub page_at : Place → Frame
+page_at p = record { kind = page; region = p.region; parts = []; spot = at_line p.levels; lines = []; turning = None }
 
 -- whether a line begins next, outside of regions
 abbrev pub begins_next : Option Opened → List (Atom (List ℕ)) → List (List ℕ) → Bool

@@ -4,7 +4,7 @@ use Rattle.std.specs.Prelude.{◌≡◌, ℕ, zero, suc, Bool, true, false, List
 use Rattle.page_roff_blocks.specs.declared.atoms.Atom.{Atom}
 use Rattle.page_roff_blocks.specs.declared.atoms.Branch.{Branch}
 use Rattle.page_roff_blocks.specs.declared.atoms.Branch.TheVariants.{Else}
-use Rattle.page_roff_blocks.specs.Levels.{Opened}
+use Rattle.page_roff_blocks.specs.Levels.{Opened, Place}
 use Rattle.page_roff_blocks.specs.LinePlaces.{is_block}
 use Rattle.page_roff_blocks.specs.Regions.{is_ending}
 use Rattle.page_roff_blocks.specs.Run.{Meaning, At}
@@ -13,7 +13,7 @@ use Rattle.page_roff_language.specs.Machine.{Frame, Running, Turning, depth, ent
 use Rattle.page_roff_values.specs.Arguments.{arguments_in, lines_in}
 use Rattle.page_roff_stack.specs.declared.next.Next.{Next}
 use Rattle.page_roff_stack.specs.declared.next.Next.TheVariants.{Part, Line, RegionLine, Turn, SourceEnd, Nothing}
-use Rattle.page_roff_stack.specs.Changes.{first_frame, in_turn, branch_of, region_of, is_page}
+use Rattle.page_roff_stack.specs.Changes.{first_frame, page_at, in_turn, branch_of, region_of, is_page}
 use Rattle.page_roff_stack.specs.Views.{packed_text, unpacked}
 
 -- The innermost source, and those around it from the inside out; and the body with the arguments of each macro or loop that runs, from the
@@ -30,6 +30,14 @@ running s state = record { top = s.top; under = s.under; state = state }
 -- the page before its first line
 abbrev pub first_stack : Stack
 first_stack = record { top = first_frame; under = []; texts = [] }
+
+-- the page between two lines, where it stands so
+abbrev pub stack_at : Place → Stack
+stack_at p = record { top = page_at p; under = []; texts = [] }
+
+-- where the innermost source stands
+abbrev pub standing_of : Stack → Place
+standing_of s = record { region = s.top.region; levels = s.top.spot.levels }
 
 abbrev pub with_top : Frame → Stack → Stack
 with_top f s = record { top = f; under = s.under; texts = s.texts }

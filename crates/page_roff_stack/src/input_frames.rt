@@ -13,7 +13,7 @@ ghost use Rattle.page_roff_blocks.specs.Regions.{text_seen};
 ghost use Rattle.page_roff_language.specs.Languages.{arguments_of, page, body};
 ghost use Rattle.page_roff_language.specs.Machine.{entered, looped};
 ghost use Rattle.page_roff_values.specs.Arguments.{arguments_in, lines_in};
-ghost use Rattle.page_roff_stack.specs.Changes.{first_frame, page_line, past, first_branch, first_region, in_region, next_line, in_turn, first_atoms, is_page, begins_line, is_over, HasPart};
+ghost use Rattle.page_roff_stack.specs.Changes.{first_frame, page_at, page_line, past, first_branch, first_region, in_region, next_line, in_turn, first_atoms, is_page, begins_line, is_over, HasPart};
 ghost use Rattle.page_roff_stack.specs.Held.{span_text, kind_in, arguments_at, turning_in, AreArgumentsAt, AreLinesOf, IsSpanIn, IsFirstLine, IsCut};
 ghost use Rattle.page_roff_stack.specs.InputFrames.{frame_of, IsHeld};
 ghost use Rattle.page_roff_stack.specs.Stacks.{first_text, turn_in, has_begun};
@@ -25,7 +25,7 @@ use crate::spans::{NOWHERE, Span};
 use crate::turns::Turns;
 use memchr::memchr;
 use page_core_limits::{ARGS, BODY, LINE, REREAD};
-use page_roff_blocks::{Atom, Ended, LinePlace, OpenRegion, Reached, Spot, Way};
+use page_roff_blocks::{Atom, Ended, LinePlace, OpenRegion, Reached, Spot, Standing, Way};
 
 // The turns that a loop has at most, and one more: each takes a line, or is given up.
 const TURNS: usize = REREAD + 2;
@@ -153,6 +153,31 @@ impl InputFrame {
             spot: Spot::new(),
             turning: None,
         }
+    }
+
+    /// The page between two lines, where it stands so.
+    pub(crate) fn at(standing: &Standing) -> InputFrame
+        requires { standing.now.levels.skipped < 2 ^ 62 }
+        ensures held { IsHeld result [] }
+        ensures frame { frame_of result [] ≡ page_at standing.now }
+    {
+        InputFrame {
+            kind: SourceKind::Page,
+            line: NOWHERE,
+            place: LinePlace::end(),
+            ahead: None,
+            lines: NOWHERE,
+            region: standing.region(),
+            spot: Spot::at(standing.levels()),
+            turning: None,
+        }
+    }
+
+    /// Where it stands, outside of lines.
+    pub(crate) fn standing(&self) -> Standing
+        ensures { result ≡ record { region = self.now.region; levels = self.now.spot.levels } }
+    {
+        Standing::of(self.region(), self.spot.levels())
     }
 
     /// A line of the page is to come, and is all of the text.

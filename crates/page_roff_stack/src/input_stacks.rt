@@ -13,13 +13,13 @@ ghost use Rattle.page_roff_blocks.specs.Regions.{text_seen};
 ghost use Rattle.page_roff_language.specs.Languages.{arguments_of, is_some};
 ghost use Rattle.page_roff_language.specs.Machine.{depth};
 ghost use Rattle.page_roff_stack.specs.Changes.{page_line, past, in_region, next_line, in_turn, first_atoms, is_page};
-ghost use Rattle.page_roff_stack.specs.Stacks.{first_stack, with_top, call_of, loop_of, next_around, next_of, part_in, is_part, opens_block, is_line, is_turn, may_end, is_nothing, branch_in, region_in};
+ghost use Rattle.page_roff_stack.specs.Stacks.{first_stack, stack_at, standing_of, with_top, call_of, loop_of, next_around, next_of, part_in, is_part, opens_block, is_line, is_turn, may_end, is_nothing, branch_in, region_in};
 ghost use Rattle.page_roff_stack.specs.Views.{packed_text, unpacked, next_seen, FitsNext};
 
 use crate::input_frames::InputFrame;
 use crate::next::Next;
 use page_core_limits::{ARGS, BODY, CALLS, LINE};
-use page_roff_blocks::{Atom, Ended, OpenRegion, Reached, Way};
+use page_roff_blocks::{Atom, Ended, OpenRegion, Reached, Standing, Way};
 use std::alloc::{AllocError, Global};
 use std::marker::Model;
 use std::mem;
@@ -70,6 +70,27 @@ impl InputStack {
             top: InputFrame::page(),
             callers: Vec::with_capacity(alloc, CALLS)?,
         })
+    }
+
+    /// The page between two lines, where it stands so. All memory is reserved here.
+    pub fn at(alloc: Global, standing: &Standing) -> Result<InputStack, AllocError>
+        requires { standing.now.levels.skipped < 2 ^ 62 }
+        ensures { IfOk result (λ stack. stack ≡ stack_at standing.now) }
+    {
+        let text = Vec::with_capacity(alloc, TEXT)?;
+        let callers = Vec::with_capacity(alloc, CALLS)?;
+        Ok(InputStack {
+            text,
+            top: InputFrame::at(standing),
+            callers,
+        })
+    }
+
+    /// Where the innermost source stands.
+    pub fn standing(&self) -> Standing
+        ensures { result ≡ standing_of self.now }
+    {
+        self.top.standing()
     }
 
     /// Whether the page's line is done, or none came.

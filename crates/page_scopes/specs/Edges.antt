@@ -17,6 +17,10 @@ PageEdge = ScopesEdge LayoutState Kept
 abbrev pub start_edge : PageLayout → PageEdge
 start_edge page = record { mode = false; scopes = []; state = start page }
 
+-- the same, of a page that is laid out so
+abbrev pub under : PageLayout → PageEdge → PageEdge
+under page edge = record edge { state = record edge.state { page = page } }
+
 -- events, one after another
 abbrev pub scopes_items : PageEdge → List (Event (List ℕ)) → List Item
 scopes_items edge events = events_items layout_tables edge events

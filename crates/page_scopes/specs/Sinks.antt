@@ -5,7 +5,7 @@ use Rattle.page_core_base.specs.Pieces.{Item}
 use Rattle.page_core_base.specs.declared.faults.Fault.{Fault}
 use Rattle.page_core_base.specs.declared.faults.Fault.TheVariants.{Failed}
 use Rattle.page_core_base.specs.declared.page_settings.Settings.{Settings}
-use Rattle.page_scopes.specs.Edges.{PageEdge, event_after, start_edge}
+use Rattle.page_scopes.specs.Edges.{PageEdge, event_after, start_edge, under}
 use Rattle.page_scopes_nodes.specs.declared.page_layouts.PageLayout.{PageLayout}
 use Rattle.page_sets_lines.specs.declared.events.Event.{Event}
 
@@ -22,6 +22,18 @@ layout_of settings indent = record { indent = unwrap_or settings.indent indent; 
 -- before a page's first line
 abbrev pub start_of : Settings → ℕ → SinkEdge
 start_of settings indent = record { page = start_edge (layout_of settings indent); line = 1; indent = settings.indent }
+
+-- what is held between two lines: the open scopes, and the line of the last event
+pub record Part : Type 0 where
+  pub page : PageEdge
+  pub line : ℕ
+
+abbrev pub part_of : SinkEdge → Part
+part_of sink = record { page = sink.page; line = sink.line }
+
+-- it goes on under settings and with a set: at the settings and the set from which it came the part is as it was
+abbrev pub resumed : Settings → ℕ → Part → SinkEdge
+resumed settings indent part = record { page = under (layout_of settings indent) part.page; line = part.line; indent = settings.indent }
 
 -- a set of macros is chosen before anything came: the page stands at its indent, unless the settings give another
 abbrev pub chosen : ℕ → SinkEdge → SinkEdge

@@ -34,7 +34,41 @@ pub struct Kept {
     pub target: Option<KeptText>,
 }
 
+// The same text, if there is one.
+fn text_copy(text: &Option<KeptText>) -> Option<KeptText>
+    ensures { result ≡ text.now }
+{
+    match text {
+        Some(text) => Some(text.copy()),
+        None => None,
+    }
+}
+
+impl Kept {
+    // The same.
+    fn copy(&self) -> Kept
+        ensures { result ≡ self.now }
+    {
+        Kept {
+            context: self.context,
+            target: text_copy(&self.target),
+        }
+    }
+}
+
 impl LayoutState {
+    /// The same state on a page that is laid out so.
+    pub fn copy(&self, page: PageLayout) -> LayoutState
+        ensures { result ≡ record self.now { page = page } }
+    {
+        LayoutState {
+            page,
+            context: self.context,
+            running: self.running,
+            name: text_copy(&self.name),
+        }
+    }
+
     /// The state before a page's first line.
     pub fn start(page: PageLayout) -> LayoutState
         ensures { result ≡ start page }
@@ -74,6 +108,10 @@ impl Laying for LayoutState {
     ghost tables = { layout_tables };
 
     ghost Takes = { λ event. DeedFits event.deed };
+
+    fn copy_kept(kept: &Kept) -> Kept {
+        kept.copy()
+    }
 
     #[inline(always)]
     fn keep(&self, label: Label, event: &Event<&[u8]>, scopes: &mut Vec<Scope<Label, Kept>>) {

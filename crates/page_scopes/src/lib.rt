@@ -15,4 +15,4 @@ pub use layouts::{Kept, LayoutState};
 pub use open_scopes::OpenScopes;
 pub use page_core_base::{Piece, PieceSink};
 pub use page_scopes_nodes::PageLayout;
-pub use sinks::Scopes;
+pub use sinks::{Scopes, ScopesPart};

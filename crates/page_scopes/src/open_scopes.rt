@@ -3,7 +3,7 @@
 ghost use Rattle.std.specs.Prelude.{◌≡◌, ◌≤◌, IfOk, length};
 ghost use Rattle.page_core_base.specs.Latches.{Came};
 ghost use Rattle.page_scopes.specs.Caps.{ScopesFit};
-ghost use Rattle.page_scopes.specs.Edges.{begins_body, end_after, end_items, event_after, event_items, start_edge};
+ghost use Rattle.page_scopes.specs.Edges.{begins_body, end_after, end_items, event_after, event_items, start_edge, under};
 ghost use Rattle.page_scopes_phrases.specs.Fits.{DeedFits};
 ghost use Rattle.page_sets_lines.specs.Events.{deed_seen, event_seen};
 
@@ -42,6 +42,15 @@ impl OpenScopes {
         Ok(OpenScopes {
             stack: ScopeStack::new(alloc, LayoutState::start(page))?,
         })
+    }
+
+    /// The same scopes on a page that is laid out so. All memory is reserved here.
+    pub fn copy(&self, alloc: Global, page: PageLayout) -> Result<OpenScopes, AllocError>
+        ensures { IfOk result (λ scopes. scopes ≡ under page self.now) }
+    {
+        let state = self.stack.state().copy(page);
+        let stack = self.stack.copy(alloc, state)?;
+        Ok(OpenScopes { stack })
     }
 
     /// All is as before a page's first line, for this layout: no scope is open.

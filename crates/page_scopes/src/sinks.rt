@@ -1,9 +1,9 @@
 //! The scopes of a page over a sink of pieces (man(7), mdoc(7)).
 
-ghost use Rattle.std.specs.Prelude.{◌≡◌, ◌≤◌, None, Some, IfSome, MatchResult, length, option_map};
+ghost use Rattle.std.specs.Prelude.{◌≡◌, ◌≤◌, None, Some, Err, IfSome, MatchResult, length, option_map};
 ghost use Rattle.page_core_base.specs.Fails.{FailsByPieces};
 ghost use Rattle.page_scopes.specs.Edges.{end_items, event_items, start_edge};
-ghost use Rattle.page_scopes.specs.Sinks.{GoesOn, Settles, after_event, chosen, layout_of, start_of};
+ghost use Rattle.page_scopes.specs.Sinks.{GoesOn, Settles, SinkEdge, after_event, chosen, layout_of, part_of, resumed, start_of};
 ghost use Rattle.page_scopes_phrases.specs.Fits.{DeedFits};
 ghost use Rattle.page_sets_lines.specs.Events.{deed_seen, event_seen};
 
@@ -37,6 +37,21 @@ impl Model for Scopes {
         else Some (record { page = s.scopes; line = s.line; indent = s.indent }) };
 }
 
+/// What the scopes hold of a page between two of its lines, without the settings and the set of macros.
+#[derive(Drop)]
+pub struct ScopesPart {
+    scopes: OpenScopes,
+    line: u32,
+}
+
+impl Model for ScopesPart {
+    ghost use Rattle.page_scopes.specs.Sinks.{Part};
+
+    ghost Value = { Part };
+
+    ghost view = { λ p. record { page = p.scopes; line = p.line } };
+}
+
 // What of settings scopes are laid out by; the indent is that of a set of macros where they give none.
 fn layout_of(settings: &Settings, indent: u32) -> PageLayout
     ensures { result ≡ layout_of settings.now indent }
@@ -62,6 +77,49 @@ impl Scopes {
                 is_over: false,
             }),
             Err(_) => Err(Fault::Memory),
+        }
+    }
+
+    /// What the scopes hold of the page between two of its lines, in memory of its own.
+    ///
+    /// Its fault is [`Fault::Failed`] after a fault and after the page's end; else [`Fault::Memory`].
+    pub fn part(&self, alloc: Global) -> Result<ScopesPart, Fault>
+        ensures open { (sink : SinkEdge) → self.now ≡ Some sink
+            → MatchResult result (λ part. part ≡ part_of sink) (λ fault. fault ≡ Fault.Memory) }
+        ensures closed { self.now ≡ None → result ≡ Err Fault.Failed }
+    {
+        if self.is_over {
+            return Err(Fault::Failed);
+        }
+        match self.scopes.copy(alloc, self.scopes.page()) {
+            Ok(scopes) => Ok(ScopesPart {
+                scopes,
+                line: self.line,
+            }),
+            Err(_) => Err(Fault::Memory),
+        }
+    }
+
+    /// The scopes between two lines of a page of settings that pass their check and of a set of macros, where they hold this part of it. Its fault is
+    /// [`Fault::Memory`], with the part as it came.
+    pub fn from_part<S: MacroSet>(
+        alloc: Global,
+        settings: &Settings,
+        set: &S,
+        part: ScopesPart,
+    ) -> Result<Scopes, (ScopesPart, Fault)>
+        ensures { MatchResult result
+            (λ scopes. scopes ≡ Some (resumed settings.now (S.page_indent set.now) part))
+            (λ refused. (refused.0 ≡ part) × (refused.1 ≡ Fault.Memory)) }
+    {
+        match part.scopes.copy(alloc, layout_of(settings, set.indent())) {
+            Ok(scopes) => Ok(Scopes {
+                scopes,
+                line: part.line,
+                indent: settings.indent,
+                is_over: false,
+            }),
+            Err(_) => Err((part, Fault::Memory)),
         }
     }
 

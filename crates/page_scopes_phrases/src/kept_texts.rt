@@ -44,6 +44,13 @@ impl FieldText {
         FieldText { bytes }
     }
 
+    // The same text.
+    fn copy(&self) -> FieldText
+        ensures { result ≡ self.now }
+    {
+        FieldText::of(self.bytes.as_slice())
+    }
+
     /// The bytes of the text.
     pub fn text(&self) -> &[u8]
         ensures text { result.now ≡ self.now }
@@ -62,6 +69,16 @@ pub struct KeptText {
 }
 
 impl KeptText {
+    /// The same text.
+    pub fn copy(&self) -> KeptText
+        ensures { result ≡ self.now }
+    {
+        KeptText {
+            text: self.text.copy(),
+            is_quoted: self.is_quoted,
+        }
+    }
+
     /// What is kept of an argument.
     pub fn of(argument: Argument<&[u8]>) -> KeptText
         ensures { result ≡ kept.kept_of (argument_seen argument.entry) }

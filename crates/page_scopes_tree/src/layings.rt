@@ -25,6 +25,10 @@ pub trait Laying: Drop {
     // the events that the layout takes
     ghost Takes: { Event (List ℕ) → Type 0 };
 
+    /// The same, of what a scope keeps.
+    fn copy_kept(kept: &Self::Kept) -> Self::Kept
+        ensures { result ≡ kept.now };
+
     /// Puts the scope that an event opens on the stack of those that are open, the outermost first, with what it keeps of the state.
     fn keep(&self, label: Label, event: &Event<&[u8]>, scopes: &mut Vec<Scope<Label, Self::Kept>>)
         requires { vec_len scopes.old < vec_capacity scopes.old }

@@ -1,6 +1,6 @@
 //! The open scopes of a page (man(7)).
 
-ghost use Rattle.std.specs.Prelude.{◌≡◌, ◌≤◌, [], ◌∷◌, length, false, IfOk};
+ghost use Rattle.std.specs.Prelude.{◌≡◌, ◌≤◌, [], ◌∷◌, length, false, IfOk, vec_capacity};
 ghost use Rattle.page_core_base.specs.Latches.{Came};
 ghost use Rattle.page_scopes_tree.specs.Edges.{events_edge, events_items, page_end_edge, page_end_items};
 ghost use Rattle.page_sets_lines.specs.Events.{event_seen};
@@ -36,7 +36,38 @@ impl<Y: Laying> Model for ScopeStack<Y> {
     ghost invariant = { λ s. (vec_len s.scopes ≤ SCOPES) × (SCOPES ≤ vec_capacity s.scopes) };
 }
 
+// The same scopes, the outermost first, with room for as many as may be open.
+fn copy_scopes<Y: Laying>(
+    alloc: Global,
+    scopes: &[Scope<Label, Y::Kept>],
+) -> Result<Vec<Scope<Label, Y::Kept>>, AllocError>
+    requires { length scopes.now ≤ SCOPES }
+    ensures items { IfOk result (λ copy. copy.items ≡ scopes.now) }
+    ensures room { IfOk result (λ copy. SCOPES ≤ vec_capacity copy) }
+{
+    let mut copy = Vec::with_capacity(alloc, SCOPES)?;
+    for scope in scopes {
+        copy.push_reserved(Scope {
+            label: scope.label,
+            before: Y::copy_kept(&scope.before),
+        });
+    }
+    Ok(copy)
+}
+
 impl<Y: Laying> ScopeStack<Y> {
+    /// The same open scopes, with this state of the layout.
+    pub fn copy(&self, alloc: Global, state: Y) -> Result<ScopeStack<Y>, AllocError>
+        ensures { IfOk result (λ stack. stack ≡ record { mode = self.now.mode; scopes = self.now.scopes; state = state }) }
+    {
+        let scopes = copy_scopes::<Y>(alloc, self.scopes.as_slice())?;
+        Ok(ScopeStack {
+            scopes,
+            skips: self.skips,
+            state,
+        })
+    }
+
     /// No scope is open.
     pub fn new(alloc: Global, state: Y) -> Result<ScopeStack<Y>, AllocError>
         ensures { IfOk result (λ stack. stack ≡ record { mode = false; scopes = []; state = state }) }

@@ -21,6 +21,10 @@ impl Laying for Nested {
 
     ghost Takes = { λ event. Unit {0} };
 
+    fn copy_kept(kept: &u32) -> u32 {
+        *kept
+    }
+
     fn keep(&self, label: Label, _event: &Event<&[u8]>, scopes: &mut Vec<Scope<Label, u32>>) {
         scopes.push_reserved(Scope {
             label,
