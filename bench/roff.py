@@ -46,10 +46,23 @@ def repeated(text, per_line):
     return made
 
 
+def unended(head, pairs=False, end=""):
+    """A line of widths of which no delimiter comes again, all different; with pairs, each of them once more in a pair, which ends no width."""
+
+    def made(count):
+        marks = [chr(0x4E00 + k) for k in range(count)]
+        line = "".join("\\w" + mark for mark in marks) + "".join("\\" + mark for mark in marks if pairs)
+        return HEAD + head + line + "\n" + end
+
+    return made
+
+
+IN_LOOP = (".de m\n.while 1 \\{\\\n", ".\\}\n..\n.m\n")
 NESTED = "\n".join([".while 1 \\{"] * 64 + ["x"] + [".\\}"] * 64)
 DEFINING = "\n".join([".while 1 \\{", ".de m", "x", "..", ".m", ".\\}"])
 
-# Each with the number of times that its text stands in the page. The other program is not run over loops that have no end.
+# Each with the number of times that its text stands in the page. The other program is run over those of a million alone: it is not run over
+# loops that have no end.
 HOSTILE = [
     (".if t \\{, a million", repeated(".if t \\{", 1), 1_000_000),
     (".if n \\{, a million", repeated(".if n \\{", 1), 1_000_000),
@@ -61,9 +74,13 @@ HOSTILE = [
     (".while 1 \\{\\}, ten thousand", repeated(".while 1 \\{\\}", 1), 10_000),
     ("64 loops in each other, a thousand times", repeated(NESTED, 1), 1_000),
     ("a loop that defines what it calls, a thousand", repeated(DEFINING, 1), 1_000),
+    (".if \\wA\\wB.., 13,000 in a line", unended(".if "), 13_000),
+    ("\\wA\\wB..\\A\\B.., 7,000 in a line", unended("", pairs=True), 7_000),
+    (".if \\wA\\wB.., 3,200 in a line of a loop", unended(IN_LOOP[0] + ".if ", end=IN_LOOP[1]), 3_200),
+    ("\\wA\\wB..\\A\\B.., 1,700 in a line of a loop", unended(IN_LOOP[0], pairs=True, end=IN_LOOP[1]), 1_700),
 ]
 
-ENDLESS = [kind for kind, _, most in HOSTILE if most < 1_000_000]
+OURS_ALONE = [kind for kind, _, most in HOSTILE if most < 1_000_000]
 
 
 def least(words, name, runs):
@@ -87,11 +104,11 @@ def main():
         for kind, made, most in HOSTILE:
             times = []
             for count in (most // 4, most // 2, most):
-                with open(name, "w") as file:
+                with open(name, "w", encoding="utf-8") as file:
                     file.write(made(count))
                 times.append(least(["./mandoc"], name, 1))
             line = f"{kind:46} " + " ".join(f"{seconds:8.3f}" for seconds in times)
-            print(line + (f" {least([other, '-T', 'ascii'], name, 1):12.3f}" if other and kind not in ENDLESS else ""))
+            print(line + (f" {least([other, '-T', 'ascii'], name, 1):12.3f}" if other and kind not in OURS_ALONE else ""))
 
 
 if __name__ == "__main__":

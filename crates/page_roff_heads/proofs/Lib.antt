@@ -1,3 +1,4 @@
 pub mod Letters
 pub mod Reading
+pub mod Searches
 pub mod Within

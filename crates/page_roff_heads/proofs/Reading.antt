@@ -16,41 +16,6 @@ use Rattle.page_roff_heads.specs.Heads.{end_place}
 
 -- ---- delimiters
 
-place_plain : (delimiter : List ℕ) (x : ℕ) (xs : List ℕ) → starts_with nat_eq (x ∷ xs) delimiter ≡ false → (x == 92) ≡ false
-    → place_of delimiter (x ∷ xs) ≡ 1 + place_of delimiter xs
-place_plain delimiter x [] s t = rw s refl
-place_plain delimiter x (y ∷ ys) s t = rw (s, t) refl
-
-pub place_byte : (delimiter text : List ℕ) (i : ℕ) → i < length text → starts_with nat_eq (drop i text) delimiter ≡ false → get_or text i 0 ≢ 92
-    → place_of delimiter (drop i text) ≡ 1 + place_of delimiter (drop (i + 1) text)
-place_byte delimiter text i h s e =
-    let a = drop_more text i 0 h in
-    let t : (get_or text i 0 == 92) ≡ false = grind (arith, nat_tests) in
-    rw a (place_plain delimiter (get_or text i 0) (drop (i + 1) text) (rw a at s) t)
-
-place_single : (delimiter : List ℕ) (x : ℕ) → starts_with nat_eq (x ∷ []) delimiter ≡ false → place_of delimiter (x ∷ []) ≡ 1
-place_single delimiter x s = rw s refl
-
-pub place_last : (delimiter text : List ℕ) (i : ℕ) → i < length text → length text ≤ i + 1 → starts_with nat_eq (drop i text) delimiter ≡ false
-    → place_of delimiter (drop i text) ≡ 1 + place_of delimiter (drop (i + 1) text)
-place_last delimiter text i h k s =
-    let a = drop_more text i 0 h in
-    let b = drop_all (i + 1) text k in
-    rw (a, b) (place_single delimiter (get_or text i 0) (rw (a, b) at s))
-
-place_two : (delimiter : List ℕ) (x y : ℕ) (ys : List ℕ) → starts_with nat_eq (x ∷ y ∷ ys) delimiter ≡ false → (x == 92) ≡ true
-    → place_of delimiter (x ∷ y ∷ ys) ≡ 2 + place_of delimiter ys
-place_two delimiter x y ys s t = rw (s, t) refl
-
-pub place_pair : (delimiter text : List ℕ) (i : ℕ) → i + 1 < length text → starts_with nat_eq (drop i text) delimiter ≡ false → get_or text i 0 ≡ 92
-    → place_of delimiter (drop i text) ≡ 2 + place_of delimiter (drop (i + 2) text)
-place_pair delimiter text i h s e =
-    let a = drop_more text i 0 (omega arith) in
-    let b = drop_more text (i + 1) 0 h in
-    let n : i + 1 + 1 ≡ i + 2 = omega arith in
-    let t : (get_or text i 0 == 92) ≡ true = grind (arith, nat_tests) in
-    rw (a, b, n) (place_two delimiter (get_or text i 0) (get_or text (i + 1) 0) (drop (i + 2) text) (rw (a, b, n) at s) t)
-
 pub place_here : (delimiter text : List ℕ) → starts_with nat_eq text delimiter ≡ true → place_of delimiter text ≡ 0
 place_here delimiter [] s = refl
 place_here delimiter (x ∷ []) s = rw s refl

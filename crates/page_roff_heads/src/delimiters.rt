@@ -1,9 +1,10 @@
 //! Texts between delimiters.
 
-ghost use Rattle.std.specs.Prelude.{◌≡◌, ◌≤◌, ◌<◌, ◌+◌, ◌==◌, nat_eq, length, true, drop, ◌-◌};
-ghost use Rattle.std.specs.List.{starts_with};
+ghost use Rattle.std.specs.Prelude.{◌≡◌, ◌≢◌, ℕ, ◌≤◌, ◌<◌, ◌+◌, length, slice_index};
 ghost use Rattle.std.specs.Str.{continuation_len};
 ghost use Rattle.page_roff_heads.specs.Delimiters.{delimiter_len, delimiter_of, place_of, quoted_len};
+
+use memchr::memmem;
 
 /// The number of bytes of a text's first character, which is a delimiter.
 pub(crate) fn delimiter_len(text: &[u8]) -> usize
@@ -28,6 +29,20 @@ fn character_len(first: u8) -> usize
     }
 }
 
+// How many backslashes stand together before a place.
+fn backslashes_before(text: &[u8], place: usize) -> usize
+    requires { place ≤ length text.now }
+    ensures within { result ≤ place }
+    ensures all { (k : ℕ) → place ≤ k + result → k < place → slice_index text.now k ≡ 92 }
+    ensures no_more { (k : ℕ) → k + 1 + result ≡ place → slice_index text.now k ≢ 92 }
+{
+    let mut start = place;
+    while 0 < start && text[start - 1] == b'\\' {
+        start -= 1;
+    }
+    place - start
+}
+
 /// The number of bytes before a delimiter, or of all of them where it is missing.
 pub(crate) fn place_of(delimiter: &[u8], text: &[u8]) -> usize
     ensures value { result ≡ place_of delimiter.now text.now }
@@ -35,11 +50,17 @@ pub(crate) fn place_of(delimiter: &[u8], text: &[u8]) -> usize
     ensures fits { result < length text.now → result + length delimiter.now ≤ length text.now }
 {
     let mut place = 0;
-    while place < text.len() && !text[place..].starts_with(delimiter) {
-        if text[place] == b'\\' && place + 1 < text.len() {
-            place += 2;
-        } else {
-            place += 1;
+    while place < text.len() {
+        let rest = &text[place..];
+        match memmem::find(rest, delimiter) {
+            None => return text.len(),
+            Some(found) => {
+                if backslashes_before(rest, found) % 2 == 0 {
+                    return place + found;
+                }
+                // It is the second half of a pair.
+                place += found + 1;
+            }
         }
     }
     place

@@ -13,6 +13,7 @@ pub mod LineLemmas
 pub mod PartTexts
 pub mod PlainTexts
 pub mod ReadLemmas
+pub mod SearchLemmas
 pub mod TextLemmas
 pub mod ValueTexts
 pub mod VerbatimLemmas

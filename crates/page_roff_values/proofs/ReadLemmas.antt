@@ -90,7 +90,7 @@ pub further_further : (j k : ℕ) (o : Option ℕ) → further j (further k o) �
 further_further j k None = refl
 further_further j k (Some n) = ap (λ m. Some m) (sym (add_assoc j k n))
 
-further_none : (o : Option ℕ) → o ≡ further 0 o
+pub further_none : (o : Option ℕ) → o ≡ further 0 o
 further_none None = refl
 further_none (Some n) = ap (λ m. Some m) (omega arith)
 
@@ -124,7 +124,7 @@ unfolding content_len
 content_none delimiter = refl
 
 -- a delimiter that stands nowhere
-here_occurs : (text d : List ℕ) (k : ℕ) → k ≤ length text → d ≡ take (length d) (drop k text) → OccursAt text d k
+pub here_occurs : (text d : List ℕ) (k : ℕ) → k ≤ length text → d ≡ take (length d) (drop k text) → OccursAt text d k
 here_occurs text d k h e = record {
   fits = let n = ap length e in omega (arith, n, length-take (length d) (drop k text), length-drop k text);
   reads = λ j l. sym (ap (λ xs. get_or xs j 0) e ∙ get_or-take (length d) (drop k text) j 0 l ∙ get_or-drop k text j 0);

@@ -9,6 +9,7 @@ pub mod NotePlans
 pub mod Numbers
 pub mod Parts
 pub mod Rest
+pub mod Searches
 pub mod Steps
 pub mod Texts
 pub mod Values

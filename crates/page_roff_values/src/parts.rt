@@ -3,6 +3,7 @@
 ghost use Rattle.std.specs.Prelude.{◌≡◌, ◌<◌, ◌≤◌, ◌+◌, ◌==◌, length, Some, None, IsTrue, option_map, IfSome, take, drop, get_or};
 ghost use Rattle.page_roff_values.specs.Brackets.{IsKnown};
 ghost use Rattle.page_roff_values.specs.Parts as reading;
+ghost use Rattle.page_roff_values.specs.Searches.{EndsUnits, IsPassed};
 ghost use Rattle.page_roff_values.specs.Views.{seen_of, cut_of, call_of};
 
 use crate::endings::after;
@@ -112,26 +113,6 @@ fn read_name<'e>(text: &'e [u8], is_unclosed: &mut bool) -> Option<Cut<'e>>
     }
 }
 
-// How many bytes stand before a delimiter's next occurrence outside pairs.
-fn content_len(delimiter: &[u8], text: &[u8]) -> Option<usize>
-    ensures value { result ≡ reading.content_len delimiter.now 0 text.now }
-    ensures bound { IfSome result (λ len. len + length delimiter.now ≤ length text.now) }
-{
-    // Without this, a line of nothing but widths without their ends would be walked up to its end for each of them.
-    if memmem::find(text, delimiter).is_none() {
-        return None;
-    }
-    let mut at = 0;
-    while at < text.len() {
-        let rest = after(text, at);
-        if rest.starts_with(delimiter) {
-            return Some(at);
-        }
-        at += unit_len(rest);
-    }
-    None
-}
-
 // The bytes of a pair, or of one byte that begins none.
 fn unit_len(text: &[u8]) -> usize
     requires { 0 < length text.now }
@@ -144,6 +125,70 @@ fn unit_len(text: &[u8]) -> usize
     } else {
         1
     }
+}
+
+// Whether no pair that begins before a place goes beyond it.
+fn ends_units(text: &[u8], place: usize) -> bool
+    requires { place ≤ length text.now }
+    ensures { IsTrue result → EndsUnits place text.now }
+{
+    // A pair has five bytes at most.
+    for start in place.saturating_sub(4)..place {
+        if place < start + unit_len(after(text, start)) {
+            return false;
+        }
+    }
+    true
+}
+
+// The last place up to another one beyond which no pair goes.
+fn unit_end(text: &[u8], until: usize) -> usize
+    requires { until ≤ length text.now }
+    ensures ends { EndsUnits result text.now }
+    ensures within { result ≤ until }
+{
+    let mut place = until;
+    while 0 < place && !ends_units(text, place) {
+        place -= 1;
+    }
+    place
+}
+
+// How many bytes are passed over where a delimiter stands at none of the places before one: as many, or more where a pair goes beyond that.
+fn passed_len(text: &[u8], until: usize) -> usize
+    requires { until ≤ length text.now }
+    ensures passed { IsPassed until result text.now }
+    ensures least { until ≤ result }
+    ensures within { result ≤ length text.now }
+{
+    let mut len = unit_end(text, until);
+    while len < until {
+        len += unit_len(after(text, len));
+    }
+    len
+}
+
+// How many bytes stand before a delimiter's next occurrence outside pairs. Pairs are read only where it occurs: a line of nothing but widths
+// without their ends would be walked up to its end for each of them.
+fn content_len(delimiter: &[u8], text: &[u8]) -> Option<usize>
+    ensures value { result ≡ reading.content_len delimiter.now 0 text.now }
+    ensures bound { IfSome result (λ len. len + length delimiter.now ≤ length text.now) }
+{
+    let mut at = 0;
+    while at < text.len() {
+        let rest = after(text, at);
+        match memmem::find(rest, delimiter) {
+            None => return None,
+            Some(found) => {
+                let passed = passed_len(rest, found);
+                if passed == found {
+                    return Some(at + found);
+                }
+                at += passed;
+            }
+        }
+    }
+    None
 }
 
 // The text between two delimiters of so many bytes, of which one begins it.

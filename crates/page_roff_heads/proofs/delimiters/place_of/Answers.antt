@@ -1,32 +1,45 @@
-use Rattle.std.proofs.Common.{drop, arith, sym, ◌∙◌}
+use Rattle.std.proofs.Common.{◌≡◌, ◌+◌, ◌%◌, drop, ap, arith, length-drop, drop-drop}
 use Rattle.std.proofs.lemmas.List.{take_rest}
-use Rattle.page_roff_heads.proofs.Reading.{place_byte, place_last, place_pair, place_here}
+use Rattle.page_roff_heads.specs.Delimiters.{place_of}
+use Rattle.page_roff_heads.proofs.Reading.{place_here}
+use Rattle.page_roff_heads.proofs.Searches.{found_reached, occurs_here, absent_before, found_below, not_found}
 use Rattle.page_roff_heads.proofs.delimiters.place_of.Goals as goal
-use Rattle.page_roff_heads.proofs.delimiters.place_of.Goals.{else-text-place-eq92-via-then-text-place-eq92+else-place-text, else-text-place-eq92-via-else-text-place-eq92}
 
-pub loop-place-preserved-then-place-text : goal.loop-place-preserved-then-place-text
-loop-place-preserved-then-place-text c =
+pub returns-in-None-clause-value : goal.returns-in-None-clause-value
+returns-in-None-clause-value c =
     let i = c.loop-place.invariant in
-    let s = rw (take_rest c.args.text.now c.loop-place.place) at (sym c.starts_with.ensures.value ∙ c.if-not-starts_with.true) in
-    let q = place_pair c.args.delimiter.now c.args.text.now c.loop-place.place c.if-place-text.true s c.if-text-place-eq92.true in
-    (omega arith, omega (arith, i.1, q))
+    let q = not_found (drop c.loop-place.place c.args.text.now) c.args.delimiter.now (rw (take_rest c.args.text.now c.loop-place.place) at c.in-None.ensures) in
+    omega (arith, i.1, q, length-drop c.loop-place.place c.args.text.now)
+
+pub returns-then-backslashes_before-eq0-clause-value : goal.returns-then-backslashes_before-eq0-clause-value
+returns-then-backslashes_before-eq0-clause-value c =
+    let i = c.loop-place.invariant in
+    let d = c.args.delimiter.now in
+    let t = drop c.loop-place.place c.args.text.now in
+    let n = c.in-Some.found in
+    let m = c.backslashes_before.result in
+    let h = rw (take_rest c.args.text.now c.loop-place.place) at c.in-Some.ensures in
+    let b = rw (take_rest c.args.text.now c.loop-place.place) at c.backslashes_before.ensures in
+    let q = found_reached d t n m (found_below t d n (omega (arith, length-drop c.loop-place.place c.args.text.now)) h) (absent_before t d n h) b.within b.all b.no_more in
+    let e : n + m % 2 ≡ n = omega arith in
+    let p = place_here d (drop n t) (occurs_here t d n h.1) in
+    let r = rw e at q in
+    omega (arith, i.1, r, p)
 
 pub loop-place-preserved : goal.loop-place-preserved
 loop-place-preserved c =
     let i = c.loop-place.invariant in
-    let s = rw (take_rest c.args.text.now c.loop-place.place) at (sym c.starts_with.ensures.value ∙ c.if-not-starts_with.true) in
-    elim c.else-text-place-eq92.branch [
-      | else-text-place-eq92-via-then-text-place-eq92+else-place-text w ↦
-          let q = place_last c.args.delimiter.now c.args.text.now c.loop-place.place c.loop-place-test.true w.if-place-text.false s in
-          (omega arith, omega (arith, i.1, q))
-      | else-text-place-eq92-via-else-text-place-eq92 w ↦
-          let q = place_byte c.args.delimiter.now c.args.text.now c.loop-place.place c.loop-place-test.true s w.if-text-place-eq92.false in
-          (omega arith, omega (arith, i.1, q))
-    ]
-
-pub returns-else-not-starts_with-clause-value : goal.returns-else-not-starts_with-clause-value
-returns-else-not-starts_with-clause-value c =
-    let i = c.loop-place.invariant in
-    let s = rw (take_rest c.args.text.now c.loop-place.place) at (sym c.starts_with.ensures.value ∙ c.if-not-starts_with.false) in
-    let q = place_here c.args.delimiter.now (drop c.loop-place.place c.args.text.now) s in
-    omega (arith, i.1, q)
+    let d = c.args.delimiter.now in
+    let at = c.loop-place.place in
+    let t = drop at c.args.text.now in
+    let n = c.in-Some.found in
+    let m = c.backslashes_before.result in
+    let h = rw (take_rest c.args.text.now c.loop-place.place) at c.in-Some.ensures in
+    let b = rw (take_rest c.args.text.now c.loop-place.place) at c.backslashes_before.ensures in
+    let l = length-drop at c.args.text.now in
+    let s = found_below t d n (omega (arith, l)) h in
+    let q = found_reached d t n m s (absent_before t d n h) b.within b.all b.no_more in
+    let e : n + m % 2 ≡ n + 1 = omega arith in
+    let r = rw e at q in
+    let u = ap (place_of d) (drop-drop (n + 1) at c.args.text.now) in
+    (omega (arith, s, l), omega (arith, i.1, r, u))

@@ -1,32 +1,46 @@
-use Rattle.std.proofs.Common.{◌≡◌, ◌+◌, length, drop, Some, add-zero, arith, ap, ◌∙◌, sym, rules, drop-drop, length-drop}
+use Rattle.std.proofs.Common.{◌≡◌, ◌+◌, length, drop, None, Some, add-zero, sym, ap, ◌∙◌, arith, refl, length-drop, drop-drop}
 use Rattle.std.proofs.Math.Seq.{drop-length}
 use Rattle.page_roff_values.specs.Parts.{content_len, further}
-use Rattle.page_roff_values.proofs.ReadLemmas.{content_past, content_here, content_none, content_absent, further_further}
+use Rattle.page_roff_values.proofs.ReadLemmas.{content_here, content_none, content_absent, further_further}
+use Rattle.page_roff_values.proofs.SearchLemmas.{absent_before, found_below, occurs_here}
 use Rattle.page_roff_values.proofs.parts.content_len.Goals as goal
 
-pub returns-then-is_none-clause-value : goal.returns-then-is_none-clause-value
-returns-then-is_none-clause-value c =
-    sym (content_absent c.args.delimiter.now c.args.text.now c.find.result (search rules) c.find.ensures)
-
-pub returns-then-starts_with-clause-value : goal.returns-then-starts_with-clause-value
-returns-then-starts_with-clause-value c =
+pub returns-in-None-clause-value : goal.returns-in-None-clause-value
+returns-in-None-clause-value c =
     let at = c.loop-at.at in
+    let d = c.args.delimiter.now in
     let t = drop at c.args.text.now in
+    sym (c.loop-at.invariant.1 ∙ ap (further at) (content_absent d t None refl (rw c.after-rest.ensures at c.in-None.ensures)))
+
+pub returns-then-passed-found-clause-value : goal.returns-then-passed-found-clause-value
+returns-then-passed-found-clause-value c =
+    let at = c.loop-at.at in
+    let d = c.args.delimiter.now in
+    let t = drop at c.args.text.now in
+    let n = c.in-Some.found in
+    let test = c.loop-at-test.true in
+    let h = rw c.after-rest.ensures at c.in-Some.ensures in
+    let p = rw c.if-passed-found.true at (rw c.after-rest.ensures at c.passed_len-passed.ensures.passed) in
+    let below = found_below t d n (omega (arith, length-drop at c.args.text.now)) h in
+    let here = content_here d (drop n t) (omega (arith, length-drop n t)) (occurs_here t d n h.1) in
     sym (c.loop-at.invariant.1
-    ∙ (ap (further at) (content_here c.args.delimiter.now t (omega (arith, length-drop at c.args.text.now, c.loop-at-test.true)) (rw c.after-rest.ensures at (sym c.starts_with.ensures.value ∙ c.if-starts_with.true)))
-    ∙ ap (λ n. Some n) (add-zero at)))
+    ∙ (ap (further at) (p d (absent_before t d n h) ∙ ap (further n) here)
+    ∙ (further_further at n (Some 0) ∙ ap (λ m. Some m) (add-zero (at + n)))))
 
 pub loop-at-preserved : goal.loop-at-preserved
 loop-at-preserved c =
     let at = c.loop-at.at in
     let d = c.args.delimiter.now in
     let t = drop at c.args.text.now in
-    let n = c.unit_len-at.result in
-    let long = length-drop at c.args.text.now in
-    let past = content_past d t (omega (arith, long, c.loop-at-test.true)) (rw c.after-rest.ensures at (sym c.starts_with.ensures.value ∙ c.if-starts_with.false)) in (
-      omega (arith, long, rw c.after-rest.ensures at c.unit_len-at.ensures.within),
-      c.loop-at.invariant.1 ∙ (ap (further at) (rw (← rw c.after-rest.ensures at c.unit_len-at.ensures.value) at past)
-          ∙ (further_further at n (content_len d 0 (drop n t)) ∙ ap (λ l. further (at + n) (content_len d 0 l)) (drop-drop n at c.args.text.now))),
+    let n = c.in-Some.found in
+    let m = c.passed_len-passed.result in
+    let i = c.loop-at.invariant in
+    let h = rw c.after-rest.ensures at c.in-Some.ensures in
+    let p = rw c.after-rest.ensures at c.passed_len-passed.ensures.passed in
+    let within = rw c.after-rest.ensures at c.passed_len-passed.ensures.within in (
+      omega (arith, i.0, within, length-drop at c.args.text.now),
+      i.1 ∙ (ap (further at) (p d (absent_before t d n h))
+          ∙ (further_further at m (content_len d 0 (drop m t)) ∙ ap (λ l. further (at + m) (content_len d 0 l)) (drop-drop m at c.args.text.now))),
     )
 
 pub returns-clause-value : goal.returns-clause-value
