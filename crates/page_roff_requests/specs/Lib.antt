@@ -1,2 +1,3 @@
 pub mod Regions
 pub mod Requests
+pub mod Rows

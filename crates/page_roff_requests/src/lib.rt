@@ -6,6 +6,7 @@
 
 mod regions;
 mod requests;
+mod rows;
 
 pub use regions::RegionKind;
 pub use requests::{DefinitionRequest, LayoutRequest, Request};

@@ -4,6 +4,7 @@ ghost use Rattle.std.specs.Prelude.{◌≡◌};
 ghost use Rattle.page_roff_requests.specs.Requests as requests;
 
 use crate::regions::RegionKind;
+use crate::rows::{list_for, row_named};
 
 /// A request that defines strings or number registers, or takes definitions away.
 #[derive(Clone, Copy)]
@@ -60,132 +61,127 @@ pub enum Request {
     Unsupported,
 }
 
-// What does something.
-#[tactic(auto, unfolding(crate::specs::Requests::supported))]
-fn supported(name: &[u8]) -> Option<Request>
-    ensures { result ≡ requests.supported name.now }
-{
-    match name {
-        b"if" => Some(Request::If),
-        b"ie" => Some(Request::IfElse),
-        b"el" => Some(Request::Else),
-        b"while" => Some(Request::While),
-        b"de" => Some(Request::Region(RegionKind::Define)),
-        b"am" => Some(Request::Region(RegionKind::Append)),
-        b"ig" => Some(Request::Region(RegionKind::Ignore)),
-        b"TS" => Some(Request::Region(RegionKind::Table)),
-        b"EQ" => Some(Request::Region(RegionKind::Equation)),
-        b"PS" => Some(Request::Region(RegionKind::Picture)),
-        b"ds" => Some(Request::Definition(DefinitionRequest::DefineString)),
-        b"as" => Some(Request::Definition(DefinitionRequest::AppendString)),
-        b"nr" => Some(Request::Definition(DefinitionRequest::SetRegister)),
-        b"rm" => Some(Request::Definition(DefinitionRequest::Remove)),
-        b"rn" => Some(Request::Definition(DefinitionRequest::Rename)),
-        b"rr" => Some(Request::Definition(DefinitionRequest::RemoveRegisters)),
-        b"br" => Some(Request::Layout(LayoutRequest::Break)),
-        b"sp" => Some(Request::Layout(LayoutRequest::Space)),
-        b"ft" => Some(Request::Layout(LayoutRequest::Font)),
-        b"in" => Some(Request::Layout(LayoutRequest::Shift)),
-        b"nf" => Some(Request::Layout(LayoutRequest::Literal(true))),
-        b"fi" => Some(Request::Layout(LayoutRequest::Literal(false))),
-        _ => None,
-    }
-}
-
-// What has no effect.
-#[tactic(auto, unfolding(crate::specs::Requests::ignored))]
-fn ignored(name: &[u8]) -> Option<Request>
-    ensures { result ≡ requests.ignored name.now }
-{
-    match name {
-        b"ad"
-        | b"af"
-        | b"bp"
-        | b"cs"
-        | b"fam"
-        | b"fp"
-        | b"hcode"
-        | b"hw"
-        | b"hy"
-        | b"lg"
-        | b"ls"
-        | b"mk"
-        | b"na"
-        | b"ne"
-        | b"nh"
-        | b"ns"
-        | b"pl"
-        | b"po"
-        | b"ps"
-        | b"rs"
-        | b"ss"
-        | b"tm"
-        | b"ul"
-        | b"vs"
-        | b"warn" => Some(Request::Ignored),
-        _ => None,
-    }
-}
-
-// What is for the flow of control, and not supported. Six letters are more than a proof about a `match` looks at.
-#[tactic(auto, unfolding(crate::specs::Requests::unsupported_control))]
-fn unsupported_control(name: &[u8]) -> Option<Request>
-    ensures { result ≡ requests.unsupported_control name.now }
-{
-    if name == b"return".as_slice() {
-        return Some(Request::Unsupported);
-    }
-    match name {
-        b"break" | b"nop" | b"shift" => Some(Request::Unsupported),
-        _ => None,
-    }
-}
-
-// What else is not supported.
-#[tactic(auto, unfolding(crate::specs::Requests::unsupported))]
-fn unsupported(name: &[u8]) -> Option<Request>
-    ensures { result ≡ requests.unsupported name.now }
-{
-    match name {
-        b"als"
-        | b"c2"
-        | b"cc"
-        | b"ce"
-        | b"ch"
-        | b"char"
-        | b"da"
-        | b"di"
-        | b"do"
-        | b"ec"
-        | b"eo"
-        | b"ev"
-        | b"it"
-        | b"ll"
-        | b"mso"
-        | b"so"
-        | b"ta"
-        | b"ti"
-        | b"tr"
-        | b"wh" => Some(Request::Unsupported),
-        _ => None,
-    }
-}
-
 impl Request {
     /// The request of this name: the one table of the names that roff knows.
-    #[tactic(auto, unfolding(crate::specs::Requests::request_of))]
     pub fn of(name: &[u8]) -> Option<Request>
         ensures { result ≡ requests.request_of name.now }
     {
-        if let Some(request) = supported(name) {
-            return Some(request);
-        }
-        if let Some(request) = ignored(name) {
-            return Some(request);
-        }
-        match unsupported_control(name) {
-            Some(request) => Some(request),
-            None => unsupported(name),
-        }
+        row_named(list_for(&REQUESTS, name), name)
     }
 }
+
+// The table: the names by their first letter. The place of a list is its letter's number, and the first list has no names.
+static REQUESTS: [&[(&[u8], Request)]; 27] = [
+    &[],
+    &[
+        (b"am", Request::Region(RegionKind::Append)),
+        (b"as", Request::Definition(DefinitionRequest::AppendString)),
+        (b"ad", Request::Ignored),
+        (b"af", Request::Ignored),
+        (b"als", Request::Unsupported),
+    ],
+    &[
+        (b"br", Request::Layout(LayoutRequest::Break)),
+        (b"bp", Request::Ignored),
+        (b"break", Request::Unsupported),
+    ],
+    &[
+        (b"cs", Request::Ignored),
+        (b"c2", Request::Unsupported),
+        (b"cc", Request::Unsupported),
+        (b"ce", Request::Unsupported),
+        (b"ch", Request::Unsupported),
+        (b"char", Request::Unsupported),
+    ],
+    &[
+        (b"de", Request::Region(RegionKind::Define)),
+        (b"ds", Request::Definition(DefinitionRequest::DefineString)),
+        (b"da", Request::Unsupported),
+        (b"di", Request::Unsupported),
+        (b"do", Request::Unsupported),
+    ],
+    &[
+        (b"el", Request::Else),
+        (b"ec", Request::Unsupported),
+        (b"eo", Request::Unsupported),
+        (b"ev", Request::Unsupported),
+        (b"EQ", Request::Region(RegionKind::Equation)),
+    ],
+    &[
+        (b"ft", Request::Layout(LayoutRequest::Font)),
+        (b"fi", Request::Layout(LayoutRequest::Literal(false))),
+        (b"fam", Request::Ignored),
+        (b"fp", Request::Ignored),
+    ],
+    &[],
+    &[
+        (b"hcode", Request::Ignored),
+        (b"hw", Request::Ignored),
+        (b"hy", Request::Ignored),
+    ],
+    &[
+        (b"if", Request::If),
+        (b"ie", Request::IfElse),
+        (b"ig", Request::Region(RegionKind::Ignore)),
+        (b"in", Request::Layout(LayoutRequest::Shift)),
+        (b"it", Request::Unsupported),
+    ],
+    &[],
+    &[],
+    &[
+        (b"lg", Request::Ignored),
+        (b"ls", Request::Ignored),
+        (b"ll", Request::Unsupported),
+    ],
+    &[(b"mk", Request::Ignored), (b"mso", Request::Unsupported)],
+    &[
+        (b"nr", Request::Definition(DefinitionRequest::SetRegister)),
+        (b"nf", Request::Layout(LayoutRequest::Literal(true))),
+        (b"na", Request::Ignored),
+        (b"ne", Request::Ignored),
+        (b"nh", Request::Ignored),
+        (b"ns", Request::Ignored),
+        (b"nop", Request::Unsupported),
+    ],
+    &[],
+    &[
+        (b"pl", Request::Ignored),
+        (b"po", Request::Ignored),
+        (b"ps", Request::Ignored),
+        (b"PS", Request::Region(RegionKind::Picture)),
+    ],
+    &[],
+    &[
+        (b"rm", Request::Definition(DefinitionRequest::Remove)),
+        (b"rn", Request::Definition(DefinitionRequest::Rename)),
+        (
+            b"rr",
+            Request::Definition(DefinitionRequest::RemoveRegisters),
+        ),
+        (b"rs", Request::Ignored),
+        (b"return", Request::Unsupported),
+    ],
+    &[
+        (b"sp", Request::Layout(LayoutRequest::Space)),
+        (b"ss", Request::Ignored),
+        (b"shift", Request::Unsupported),
+        (b"so", Request::Unsupported),
+    ],
+    &[
+        (b"tm", Request::Ignored),
+        (b"ta", Request::Unsupported),
+        (b"ti", Request::Unsupported),
+        (b"tr", Request::Unsupported),
+        (b"TS", Request::Region(RegionKind::Table)),
+    ],
+    &[(b"ul", Request::Ignored)],
+    &[(b"vs", Request::Ignored)],
+    &[
+        (b"while", Request::While),
+        (b"warn", Request::Ignored),
+        (b"wh", Request::Unsupported),
+    ],
+    &[],
+    &[],
+    &[],
+];

@@ -94,108 +94,107 @@ pub enum Own {
     Tahoe,
 }
 
+/// What such a text is in a sentence.
+#[derive(Clone, Copy)]
+pub(crate) enum Role {
+    /// A mark, which does not go on with the sentence.
+    Mark,
+    /// A word.
+    Word,
+    /// A word that ends the sentence, as those of `Bt`, `Ex`, `Rv` and `Ud`.
+    Sentence,
+}
+
 impl Own {
     /// The text.
     pub fn text(self) -> &'static str
         ensures { result.now ≡ texts.own_text self }
     {
-        match self {
-            Own::OpenParenthesis => "(",
-            Own::CloseParenthesis => ")",
-            Own::OpenBracket => "[",
-            Own::CloseBracket => "]",
-            Own::OpenAngle => "<",
-            Own::CloseAngle => ">",
-            Own::OpenBrace => "{",
-            Own::CloseBrace => "}",
-            Own::OpenDouble => "\\(lq",
-            Own::CloseDouble => "\\(rq",
-            Own::OpenSingle => "\\(oq",
-            Own::CloseSingle => "\\(cq",
-            Own::Straight => "\"",
-            Own::Comma => ",",
-            Own::FullStop => ".",
-            Own::Colon => ":",
-            Own::Apostrophe => "'",
-            Own::Dash => "-",
-            Own::Flag => "-",
-            Own::Files => "file ...",
-            Own::Home => "~",
-            Own::Bsd => "BSD",
-            Own::BsdOs => "BSD/OS",
-            Own::DragonFly => "DragonFly",
-            Own::FreeBsd => "FreeBSD",
-            Own::NetBsd => "NetBSD",
-            Own::OpenBsd => "OpenBSD",
-            Own::Unix => "UNIX",
-            Own::Call => "()",
-            Own::CallComma => "(),",
-            Own::Semicolon => ";",
-            Own::Include => "#include",
-            Own::The => "The",
-            Own::And => "and",
-            Own::UtilityExits => "utility exits 0 on success, and >0 if an error occurs.",
-            Own::UtilitiesExit => "utilities exit 0 on success, and >0 if an error occurs.",
-            Own::FunctionReturns => {
-                "function returns the value 0 if successful; otherwise the value -1 is returned and the global variable errno is set to indicate the error."
-            }
-            Own::FunctionsReturn => {
-                "functions return the value 0 if successful; otherwise the value -1 is returned and the global variable errno is set to indicate the error."
-            }
-            Own::CompletionReturns => {
-                "Upon successful completion, the value 0 is returned; otherwise the value -1 is returned and the global variable errno is set to indicate the error."
-            }
-            Own::UnderDevelopment => "currently under development.",
-            Own::BetaTest => "is currently in beta test.",
-            Own::Reno => "Reno",
-            Own::Tahoe => "Tahoe",
-        }
+        OWN[self as usize].1
     }
 
     /// Whether it is a word, which a sentence can go on after; the others are marks.
     pub fn is_word(self) -> bool
         ensures { result ≡ texts.own_is_word self }
     {
-        matches!(
-            self,
-            Own::Flag
-                | Own::Files
-                | Own::Home
-                | Own::Bsd
-                | Own::BsdOs
-                | Own::DragonFly
-                | Own::FreeBsd
-                | Own::NetBsd
-                | Own::OpenBsd
-                | Own::Unix
-                | Own::Include
-                | Own::The
-                | Own::And
-                | Own::UtilityExits
-                | Own::UtilitiesExit
-                | Own::FunctionReturns
-                | Own::FunctionsReturn
-                | Own::CompletionReturns
-                | Own::UnderDevelopment
-                | Own::BetaTest
-                | Own::Reno
-                | Own::Tahoe
-        )
+        !matches!(OWN[self as usize].2, Role::Mark)
     }
 
     /// Whether it is a word that ends a sentence.
     pub fn ends_sentence(self) -> bool
         ensures { result ≡ texts.own_ends_sentence self }
     {
-        matches!(
-            self,
-            Own::UtilityExits
-                | Own::UtilitiesExit
-                | Own::FunctionReturns
-                | Own::FunctionsReturn
-                | Own::CompletionReturns
-                | Own::UnderDevelopment
-                | Own::BetaTest
-        )
+        matches!(OWN[self as usize].2, Role::Sentence)
     }
 }
+
+// The texts, in the order of `Own`.
+static OWN: [(Own, &str, Role); 43] = [
+    (Own::OpenParenthesis, "(", Role::Mark),
+    (Own::CloseParenthesis, ")", Role::Mark),
+    (Own::OpenBracket, "[", Role::Mark),
+    (Own::CloseBracket, "]", Role::Mark),
+    (Own::OpenAngle, "<", Role::Mark),
+    (Own::CloseAngle, ">", Role::Mark),
+    (Own::OpenBrace, "{", Role::Mark),
+    (Own::CloseBrace, "}", Role::Mark),
+    (Own::OpenDouble, "\\(lq", Role::Mark),
+    (Own::CloseDouble, "\\(rq", Role::Mark),
+    (Own::OpenSingle, "\\(oq", Role::Mark),
+    (Own::CloseSingle, "\\(cq", Role::Mark),
+    (Own::Straight, "\"", Role::Mark),
+    (Own::Comma, ",", Role::Mark),
+    (Own::FullStop, ".", Role::Mark),
+    (Own::Colon, ":", Role::Mark),
+    (Own::Apostrophe, "'", Role::Mark),
+    (Own::Dash, "-", Role::Mark),
+    (Own::Flag, "-", Role::Word),
+    (Own::Files, "file ...", Role::Word),
+    (Own::Home, "~", Role::Word),
+    (Own::Bsd, "BSD", Role::Word),
+    (Own::BsdOs, "BSD/OS", Role::Word),
+    (Own::DragonFly, "DragonFly", Role::Word),
+    (Own::FreeBsd, "FreeBSD", Role::Word),
+    (Own::NetBsd, "NetBSD", Role::Word),
+    (Own::OpenBsd, "OpenBSD", Role::Word),
+    (Own::Unix, "UNIX", Role::Word),
+    (Own::Call, "()", Role::Mark),
+    (Own::CallComma, "(),", Role::Mark),
+    (Own::Semicolon, ";", Role::Mark),
+    (Own::Include, "#include", Role::Word),
+    (Own::The, "The", Role::Word),
+    (Own::And, "and", Role::Word),
+    (
+        Own::UtilityExits,
+        "utility exits 0 on success, and >0 if an error occurs.",
+        Role::Sentence,
+    ),
+    (
+        Own::UtilitiesExit,
+        "utilities exit 0 on success, and >0 if an error occurs.",
+        Role::Sentence,
+    ),
+    (
+        Own::FunctionReturns,
+        "function returns the value 0 if successful; otherwise the value -1 is returned and the global variable errno is set to indicate the error.",
+        Role::Sentence,
+    ),
+    (
+        Own::FunctionsReturn,
+        "functions return the value 0 if successful; otherwise the value -1 is returned and the global variable errno is set to indicate the error.",
+        Role::Sentence,
+    ),
+    (
+        Own::CompletionReturns,
+        "Upon successful completion, the value 0 is returned; otherwise the value -1 is returned and the global variable errno is set to indicate the error.",
+        Role::Sentence,
+    ),
+    (
+        Own::UnderDevelopment,
+        "currently under development.",
+        Role::Sentence,
+    ),
+    (Own::BetaTest, "is currently in beta test.", Role::Sentence),
+    (Own::Reno, "Reno", Role::Word),
+    (Own::Tahoe, "Tahoe", Role::Word),
+];
