@@ -1,3 +1,4 @@
 pub mod EventLemmas
 pub mod SharedLemmas
 pub mod TreeLemmas
+pub mod BodyOutLemmas

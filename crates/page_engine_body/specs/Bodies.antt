@@ -1,7 +1,6 @@
 -- The body of a page between its header and its footer: the events of each line, and the header before the event that begins the body.
 -- Source: man(7); mandoc(1), "ASCII Output" and "DIAGNOSTICS".
 use Rattle.std.specs.Prelude.{◌≡◌, ℕ, ◌==◌, ◌≤◌, Bool, true, false, Option, None, Some, List, [], ◌∷◌, ◌++◌, length, if◌then◌else◌, unwrap_or}
-use Rattle.page_core_limits.specs.declared.TheConstants.{LINE}
 use Rattle.page_core_base.specs.Latches.{Came}
 use Rattle.page_core_base.specs.Pieces.{Item, shown}
 use Rattle.page_core_base.specs.declared.note_kinds.NoteKind.TheVariants.{NoBody}
@@ -14,7 +13,6 @@ use Rattle.page_engine_header.specs.Fields.{no_fields}
 use Rattle.page_engine_header.specs.Header.{header_items, footer_row}
 use Rattle.page_engine_header.specs.declared.fields.Fields.{Fields}
 use Rattle.page_engine_header.specs.declared.headers.Measure.{Measure}
-use Rattle.page_scopes_phrases.specs.Fits.{DeedFits}
 use Rattle.page_scopes_words.specs.Words.{at, says}
 use Rattle.page_scopes.specs.Edges as scopes
 use Rattle.page_scopes.specs.Edges.{PageEdge}
@@ -63,11 +61,6 @@ header_of b line = header_items (is_mdoc b.header.set) b.header.measure (at line
 abbrev pub begin_items : BodyEdge → Event (List ℕ) → List Item
 begin_items b event =
     if scopes.begins_body b.scopes event then header_of b event.place.line else []
-
--- what follows a macro of the prologue is no longer than a line
-abbrev pub RestIsShort : Deed (List ℕ) → Type 0
-RestIsShort (Leaf (Prologue name rest)) = length rest ≤ LINE
-RestIsShort _ = Unit {0}
 
 -- ---- events
 
@@ -118,10 +111,6 @@ pub record GivesEvents {P O : Type 0} (left : P → O → List Item → Type 0) 
     (new : BodyEdge) (next : O) : Type 0 where
   pub came : Came left out (events_items old events) next
   pub after : new ≡ events_after old events
-
--- the texts of an event stand in a line
-abbrev pub IsShort : Event (List ℕ) → Type 0
-IsShort event = DeedFits event.deed × RestIsShort event.deed
 
 -- what a line that is no control line does, before it ends
 abbrev pub plain_event : ℕ → List ℕ → PlainLine → Event (List ℕ)

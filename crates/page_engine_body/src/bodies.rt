@@ -4,7 +4,8 @@ ghost use Rattle.std.specs.Prelude.{◌≡◌, ◌≤◌, length, IfOk};
 ghost use Rattle.page_core_base.specs.Latches.{Came};
 ghost use Rattle.page_core_base.specs.LinesTaken.{line_seen};
 ghost use Rattle.page_engine_body.specs.Bodies as bodies;
-ghost use Rattle.page_engine_body.specs.Bodies.{GivesEvent, GivesEvents, IsShort, plain_event};
+ghost use Rattle.page_engine_body.specs.Bodies.{GivesEvent, GivesEvents, plain_event};
+ghost use Rattle.page_sets_lines.specs.Fits.{IsShort};
 ghost use Rattle.page_engine_body.specs.Caps.{BodyFits};
 ghost use Rattle.page_sets_lines.specs.Events.{event_seen};
 ghost use Rattle.page_sets_lines.specs.PlainLines.{line_end, plain_events};
@@ -18,7 +19,7 @@ use page_engine_header::{Fields, Measure, give_footer_row, give_header};
 use page_scopes::{OpenScopes, PageLayout};
 use page_scopes_words::report;
 use page_sets::{Deed, Either, Event, Leaf, MacroSet};
-use page_sets_lines::PlainLine;
+use page_sets_lines::{EventOut, PlainLine};
 use std::alloc::{AllocError, Global};
 use std::marker::Model;
 
@@ -60,6 +61,26 @@ fn layout_of(measure: Measure) -> PageLayout
     PageLayout {
         indent: measure.indent,
         output: measure.output,
+    }
+}
+
+// Takes the events of a line: gives their pieces and messages to a latch, and the body keeps what they leave.
+#[derive(Drop)]
+struct BodyOut<'b, 'o, O> {
+    body: &'b mut Body,
+    out: &'o mut O,
+}
+
+impl<O: PieceOut> EventOut for BodyOut<'_, '_, O> {
+    ghost use Rattle.page_engine_body.specs.BodyOuts.{PlannedEvents, LeftEvents};
+
+    ghost Plan = { PlannedEvents O.Plan };
+
+    ghost left = { λ plan s events. LeftEvents O.left plan s.body.ghost_name s.out.ghost_name s.body.now s.out.now events };
+
+    #[inline(always)]
+    fn give(&mut self, event: Event<&[u8]>) {
+        self.body.give_event(self.out, &event);
     }
 }
 
@@ -270,16 +291,12 @@ impl Body {
 
     /// Gives the pieces and messages of a finished line, and keeps what it leaves.
     pub fn give_line<S: MacroSet, O: PieceOut>(&mut self, set: &S, taken: Taken<'_>, out: &mut O)
-    where
-        S::Place: Drop,
         requires { length taken.text.now ≤ LINE }
         ensures { GivesEvents O.left (S.table set.now (line_seen taken.entry))
             self.old out.old self.new out.new }
     {
-        let mut place = set.start(taken);
-        while let Some(event) = set.next(taken, &mut place) {
-            self.give_event(out, &event);
-        }
+        let mut events = BodyOut { body: self, out };
+        set.give(taken, &mut events);
     }
 
     /// Ends the body after a line: the header and a message where no body began, and the end of all scopes.

@@ -1,2 +1,1 @@
 pub mod TargetLemmas
-pub mod SliceLemmas

@@ -4,7 +4,7 @@ ghost use Rattle.std.specs.Prelude.{◌≡◌};
 ghost use Rattle.page_core_base.specs.Latches.{Came};
 ghost use Rattle.page_scopes.specs.Bodies as bodies;
 ghost use Rattle.page_scopes_leaves.specs.Deeds.{name_after};
-ghost use Rattle.page_scopes_phrases.specs.Fits.{CloserFits, DeedFits};
+ghost use Rattle.page_sets_lines.specs.Fits.{CloserFits, DeedFits};
 ghost use Rattle.page_scopes_phrases.specs.Outcomes.{GivesOutcome};
 ghost use Rattle.page_scopes_tree.specs.Acts.{TakesAct, act_seen};
 ghost use Rattle.page_sets_lines.specs.Events.{closer_seen, deed_seen, given_seen, leaf_seen, opener_seen, step_seen};

@@ -101,7 +101,7 @@ impl LayoutState {
 
 impl Laying for LayoutState {
     ghost use Rattle.page_scopes.specs.Tables.{layout_tables};
-    ghost use Rattle.page_scopes_phrases.specs.Fits.{DeedFits};
+    ghost use Rattle.page_sets_lines.specs.Fits.{DeedFits};
 
     type Kept = Kept;
 

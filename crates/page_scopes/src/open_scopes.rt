@@ -4,7 +4,7 @@ ghost use Rattle.std.specs.Prelude.{◌≡◌, ◌≤◌, IfOk, length};
 ghost use Rattle.page_core_base.specs.Latches.{Came};
 ghost use Rattle.page_scopes.specs.Caps.{ScopesFit};
 ghost use Rattle.page_scopes.specs.Edges.{begins_body, end_after, end_items, event_after, event_items, start_edge, under};
-ghost use Rattle.page_scopes_phrases.specs.Fits.{DeedFits};
+ghost use Rattle.page_sets_lines.specs.Fits.{DeedFits};
 ghost use Rattle.page_sets_lines.specs.Events.{deed_seen, event_seen};
 
 use crate::LayoutState;

@@ -4,7 +4,7 @@ ghost use Rattle.std.specs.Prelude.{◌≡◌, ◌≤◌, None, Some, Err, IfSom
 ghost use Rattle.page_core_base.specs.Fails.{FailsByPieces};
 ghost use Rattle.page_scopes.specs.Edges.{end_items, event_items, start_edge};
 ghost use Rattle.page_scopes.specs.Sinks.{GoesOn, Settles, SinkEdge, after_event, chosen, layout_of, part_of, resumed, start_of};
-ghost use Rattle.page_scopes_phrases.specs.Fits.{DeedFits};
+ghost use Rattle.page_sets_lines.specs.Fits.{DeedFits};
 ghost use Rattle.page_sets_lines.specs.Events.{deed_seen, event_seen};
 
 use crate::OpenScopes;

@@ -3,7 +3,7 @@
 ghost use Rattle.std.specs.Prelude.{◌≡◌};
 ghost use Rattle.page_roff_forms.specs.Arguments.{argument_seen};
 ghost use Rattle.page_scopes_blocks.specs.BlockWords as words;
-ghost use Rattle.page_scopes_phrases.specs.Fits.{ArgumentFits, BlockOpenerFits, FitsAt, GivenFits};
+ghost use Rattle.page_sets_lines.specs.Fits.{ArgumentFits, BlockOpenerFits, FitsAt, GivenFits};
 ghost use Rattle.page_scopes_phrases.specs.Outcomes.{GivesOutcome};
 ghost use Rattle.page_scopes_phrases.specs.Phrases.{phrase_seen};
 ghost use Rattle.page_sets_lines.specs.Events.{block_opener_seen, given_seen, word_seen};

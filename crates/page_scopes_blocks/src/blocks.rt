@@ -6,7 +6,7 @@ ghost use Rattle.page_roff_forms.specs.Arguments.{argument_seen};
 ghost use Rattle.page_scopes_blocks.specs.BlockWords.{function_name};
 ghost use Rattle.page_scopes_blocks.specs.Blocks as blocks;
 ghost use Rattle.page_scopes_layout.specs.Begins.{function_begun};
-ghost use Rattle.page_scopes_phrases.specs.Fits.{ArgumentFits, BlockOpenerFits, GivenFits};
+ghost use Rattle.page_sets_lines.specs.Fits.{ArgumentFits, BlockOpenerFits, GivenFits};
 ghost use Rattle.page_scopes_phrases.specs.Outcomes.{GivesOutcome};
 ghost use Rattle.page_sets_lines.specs.Events.{block_opener_seen, given_seen};
 

@@ -3,7 +3,7 @@
 ghost use Rattle.std.specs.Prelude.{◌≡◌, ◌≤◌, ◌*◌};
 ghost use Rattle.page_core_limits.specs.declared.TheConstants.{LINE};
 ghost use Rattle.page_scopes_blocks.specs.NameHangs as hangs;
-ghost use Rattle.page_scopes_phrases.specs.Fits.{DeedFits, FitsAt};
+ghost use Rattle.page_sets_lines.specs.Fits.{DeedFits, FitsAt};
 ghost use Rattle.page_sets_lines.specs.Events.{deed_seen, word_seen};
 
 use page_core_base::Output;

@@ -1,7 +1,7 @@
 //! A page, whose lines come one by one.
 
 ghost use Rattle.std.specs.Prelude.{◌≡◌, ◌≤◌, length};
-ghost use Rattle.page_scopes_phrases.specs.Fits.{DeedFits};
+ghost use Rattle.page_sets_lines.specs.Fits.{DeedFits};
 ghost use Rattle.page_sets_lines.specs.Events.{deed_seen};
 
 use crate::shown::{Shown, nothing};

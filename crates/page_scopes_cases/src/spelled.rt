@@ -5,7 +5,7 @@
 //! item, and `label` its head; `Bl` takes its arguments, which are the rest of its line.
 
 ghost use Rattle.std.specs.Prelude.{IfSome};
-ghost use Rattle.page_scopes_phrases.specs.Fits.{ArgumentFits, DeedFits, GivenFits};
+ghost use Rattle.page_sets_lines.specs.Fits.{ArgumentFits, DeedFits, GivenFits};
 ghost use Rattle.page_roff_forms.specs.Arguments.{argument_seen};
 ghost use Rattle.page_sets_lines.specs.Events.{deed_seen, given_seen, word_seen};
 

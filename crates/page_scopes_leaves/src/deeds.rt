@@ -2,7 +2,7 @@
 
 ghost use Rattle.std.specs.Prelude.{◌≡◌};
 ghost use Rattle.page_scopes_leaves.specs.Deeds as deeds;
-ghost use Rattle.page_scopes_phrases.specs.Fits.{DeedFits};
+ghost use Rattle.page_sets_lines.specs.Fits.{DeedFits};
 ghost use Rattle.page_scopes_phrases.specs.Outcomes.{GivesOutcome};
 ghost use Rattle.page_sets_lines.specs.Events.{deed_seen};
 

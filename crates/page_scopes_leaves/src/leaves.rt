@@ -2,7 +2,7 @@
 
 ghost use Rattle.std.specs.Prelude.{◌≡◌};
 ghost use Rattle.page_core_base.specs.Latches.{Came};
-ghost use Rattle.page_scopes_phrases.specs.Fits.{LeafFits};
+ghost use Rattle.page_sets_lines.specs.Fits.{LeafFits};
 ghost use Rattle.page_scopes_leaves.specs.Leaves as leaves;
 ghost use Rattle.page_scopes_phrases.specs.Outcomes.{GivesOutcome};
 ghost use Rattle.page_sets_lines.specs.Events.{leaf_seen, text_seen};

@@ -1,7 +1,7 @@
 //! What macros of mdoc(7) change in their line, or print there (mdoc(7), "MACRO REFERENCE").
 
 ghost use Rattle.std.specs.Prelude.{◌≡◌};
-ghost use Rattle.page_scopes_phrases.specs.Fits.{StepFits};
+ghost use Rattle.page_sets_lines.specs.Fits.{StepFits};
 ghost use Rattle.page_scopes_phrases.specs.Outcomes.{GivesOutcome};
 ghost use Rattle.page_scopes_leaves.specs.Steps as steps;
 ghost use Rattle.page_sets_lines.specs.Events.{step_seen};

@@ -1,7 +1,7 @@
 //! Tags of arguments, which stand in front of the text of their paragraph.
 
 ghost use Rattle.std.specs.Prelude.{◌≤◌, length};
-ghost use Rattle.page_scopes_phrases.specs.Fits.{ArgumentFits};
+ghost use Rattle.page_sets_lines.specs.Fits.{ArgumentFits};
 ghost use Rattle.page_sets_lines.specs.Events.{word_seen};
 
 use crate::pages::{MOST, Page, check_shown};

@@ -1,7 +1,7 @@
 //! Items of lists: their marks and numbers (mdoc(7), `Bl` and `It`).
 
 ghost use Rattle.std.specs.Prelude.{◌≡◌, ◌≤◌, ◌++◌, length, codes, decimal};
-ghost use Rattle.page_scopes_phrases.specs.Fits.{FitsAt};
+ghost use Rattle.page_sets_lines.specs.Fits.{FitsAt};
 ghost use Rattle.page_scopes_phrases.specs.Outcomes.{GivesOutcome};
 ghost use Rattle.page_scopes_phrases.specs.Phrases.{phrase_seen};
 ghost use Rattle.page_scopes_lists.specs.Items as items;

@@ -2,7 +2,7 @@
 
 ghost use Rattle.std.specs.Prelude.{◌≡◌};
 ghost use Rattle.page_scopes_layout.specs.Begins.{entered_context};
-ghost use Rattle.page_scopes_phrases.specs.Fits.{DeedFits};
+ghost use Rattle.page_sets_lines.specs.Fits.{DeedFits};
 ghost use Rattle.page_scopes_phrases.specs.Outcomes.{GivesOutcome};
 ghost use Rattle.page_scopes_nodes.specs.Begins as begins;
 ghost use Rattle.page_sets_lines.specs.Events.{deed_seen, event_seen};

@@ -3,7 +3,7 @@
 ghost use Rattle.std.specs.Prelude.{◌≡◌};
 ghost use Rattle.page_core_base.specs.Latches.{Came};
 ghost use Rattle.page_roff_forms.specs.Arguments.{argument_seen};
-ghost use Rattle.page_scopes_phrases.specs.Fits.{ArgumentFits, BlockOpenerFits, GivenFits, OpenerFits};
+ghost use Rattle.page_sets_lines.specs.Fits.{ArgumentFits, BlockOpenerFits, GivenFits, OpenerFits};
 ghost use Rattle.page_scopes_phrases.specs.Outcomes.{GivesOutcome};
 ghost use Rattle.page_scopes_nodes.specs.Openers as openers;
 ghost use Rattle.page_sets_lines.specs.Events.{block_opener_seen, given_seen, opener_seen, text_seen};

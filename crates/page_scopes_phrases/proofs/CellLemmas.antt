@@ -9,7 +9,7 @@ use Rattle.page_core_escapes.specs.Tokens.{TextToken, is_space, token_at, token_
 use Rattle.page_core_escapes.proofs.TokenLemmas.{tokens_more, tokens_none}
 use Rattle.page_scopes_layout.specs.declared.contexts.Context.{Context}
 use Rattle.page_scopes_phrases.specs.Cells.{after_tab, before_blanks, before_tab, cell, cells, cells_within, first_part, has_tab, other_cells, other_cells_text, span, span_of, tab_in, with_more}
-use Rattle.page_scopes_phrases.specs.Fits.{FitsAt}
+use Rattle.page_sets_lines.specs.Fits.{FitsAt}
 use Rattle.page_scopes_phrases.specs.Outcomes.{GivesOutcome, Outcome, followed_by}
 use Rattle.page_scopes_phrases.specs.declared.cells.CellSpan.{CellSpan}
 use Rattle.page_scopes_phrases.specs.declared.phrases.Phrase.{Phrase}

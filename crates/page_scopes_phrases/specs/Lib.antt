@@ -1,6 +1,5 @@
 pub mod Headings
 pub mod Runnings
-pub mod Fits
 pub mod Outcomes
 pub mod Phrases
 pub mod Cells

@@ -5,7 +5,7 @@ ghost use Rattle.std.specs.List.{prefix_len};
 ghost use Rattle.page_core_base.specs.Latches.{Came};
 ghost use Rattle.page_core_escapes.specs.Tokens.{is_space, token_bytes, token_seen};
 ghost use Rattle.page_scopes_phrases.specs.Cells as cells;
-ghost use Rattle.page_scopes_phrases.specs.Fits.{FitsAt};
+ghost use Rattle.page_sets_lines.specs.Fits.{FitsAt};
 ghost use Rattle.page_scopes_phrases.specs.Outcomes.{GivesOutcome};
 ghost use Rattle.page_scopes_phrases.specs.Phrases.{phrase_seen};
 

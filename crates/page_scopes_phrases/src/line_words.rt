@@ -3,7 +3,7 @@
 ghost use Rattle.std.specs.Prelude.{◌≡◌};
 ghost use Rattle.page_core_base.specs.Latches.{Came};
 ghost use Rattle.page_roff_forms.specs.Arguments.{argument_seen};
-ghost use Rattle.page_scopes_phrases.specs.Fits.{FitsAt};
+ghost use Rattle.page_sets_lines.specs.Fits.{FitsAt};
 ghost use Rattle.page_scopes_phrases.specs.Cells.{text_outcome};
 ghost use Rattle.page_scopes_phrases.specs.LineWords as lines;
 ghost use Rattle.page_scopes_phrases.specs.Outcomes.{GivesOutcome};

@@ -1,7 +1,7 @@
 //! Texts that events print: their fonts, and how they stand beside the words around them (man(7), `B`, `BR`).
 
 ghost use Rattle.std.specs.Prelude.{◌≡◌};
-ghost use Rattle.page_scopes_phrases.specs.Fits.{FitsAt};
+ghost use Rattle.page_sets_lines.specs.Fits.{FitsAt};
 ghost use Rattle.page_scopes_phrases.specs.Outcomes.{GivesOutcome};
 ghost use Rattle.page_scopes_phrases.specs.Phrases as phrases;
 ghost use Rattle.page_scopes_phrases.specs.Phrases.{phrase_seen};

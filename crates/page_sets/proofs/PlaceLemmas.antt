@@ -1,7 +1,7 @@
 -- A place tells of which set it is: helpers of proofs.
 use Rattle.page_core_base.specs.LinesTaken.{Line}
-use Rattle.page_sets_man.specs.declared.plans.LinePlan.{LinePlan}
-use Rattle.page_sets_man.specs.Plans.{FitsLinePlan}
+use Rattle.page_sets_man.specs.Man.{man_events}
+use Rattle.std.proofs.Common.{ℕ, ◌≤◌, length}
 use Rattle.page_sets_mdoc.specs.declared.plans.LinePlan as mdoc
 use Rattle.page_sets_mdoc.specs.Plans.{IsPlanOf}
 use Rattle.page_sets.specs.declared.either.Either.{Either}
@@ -9,11 +9,11 @@ use Rattle.page_sets.specs.declared.either.Either.TheVariants.{Man, Mdoc}
 use Rattle.page_sets.specs.declared.either.EitherPlace.TheVariants as places
 use Rattle.page_sets.specs.Either.{IsEitherPlace}
 
-pub man_fits : (set : Either) (line : Line) (place : LinePlan) → IsEitherPlace set line (places.Man place) → FitsLinePlan line place
+pub man_fits : (set : Either) (line : Line) (place : ℕ) → IsEitherPlace set line (places.Man place) → place ≤ length (man_events line)
 man_fits Man line place h = h
 man_fits Mdoc line place h = absurd h
 
-pub man_stays : (set : Either) (line : Line) (old new : LinePlan) → IsEitherPlace set line (places.Man old) → FitsLinePlan line new
+pub man_stays : (set : Either) (line : Line) (old new : ℕ) → IsEitherPlace set line (places.Man old) → new ≤ length (man_events line)
     → IsEitherPlace set line (places.Man new)
 man_stays Man line old new h fits = fits
 man_stays Mdoc line old new h fits = absurd h

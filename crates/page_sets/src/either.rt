@@ -1,7 +1,7 @@
 //! The set of macros of a page: one of the two (man(7), mdoc(7)).
 
 use page_core_base::Taken;
-use page_sets_lines::{Event, MacroSet};
+use page_sets_lines::{Event, EventOut, MacroSet};
 use page_sets_man::Man;
 use page_sets_mdoc::Mdoc;
 
@@ -17,7 +17,8 @@ pub enum Either {
 /// How far the events of a line were given, in one of the sets.
 #[derive(Clone, Copy)]
 pub enum EitherPlace {
-    Man(page_sets_man::LinePlan),
+    /// The number of its events so far.
+    Man(usize),
     Mdoc(page_sets_mdoc::LinePlan),
 }
 
@@ -63,6 +64,14 @@ impl MacroSet for Either {
         match place {
             EitherPlace::Man(place) => Man.next(line, place),
             EitherPlace::Mdoc(place) => Mdoc.next(line, place),
+        }
+    }
+
+    #[inline(always)]
+    fn give<O: EventOut>(&self, line: Taken<'_>, out: &mut O) {
+        match self {
+            Either::Man => Man.give(line, out),
+            Either::Mdoc => Mdoc.give(line, out),
         }
     }
 }

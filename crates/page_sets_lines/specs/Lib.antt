@@ -5,3 +5,5 @@ pub mod Lists
 pub mod Laws
 pub mod ControlLines
 pub mod PlainLines
+pub mod Fits
+pub mod EventOuts

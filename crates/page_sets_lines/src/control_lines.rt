@@ -1,9 +1,11 @@
 //! The name and the arguments of a finished control line (roff(7), "LANGUAGE SYNTAX").
 
-ghost use Rattle.std.specs.Prelude.{◌≡◌, ◌≤◌, ◌==◌, length};
+ghost use Rattle.std.specs.Prelude.{◌≡◌, ◌≤◌, ◌==◌, length, IfSome};
 ghost use Rattle.std.specs.List.{list_any};
 ghost use Rattle.page_core_base.specs.LinesTaken.{line_seen};
+ghost use Rattle.page_roff_forms.specs.Arguments.{argument_seen};
 ghost use Rattle.page_sets_lines.specs.Events.{given_seen};
+ghost use Rattle.page_sets_lines.specs.Fits.{ArgumentFits, GivenFits};
 ghost use Rattle.page_sets_lines.specs.ControlLines.{before_name, name_end, arguments_after, first_of, is_quote, open_quote, ReadsAfter};
 
 use page_core_base::Taken;
@@ -103,21 +105,24 @@ pub fn open_quote(text: &[u8], start: usize, printed: usize) -> Option<u32>
 }
 
 /// Reads the first argument that begins after this many bytes, and says after how many the others begin.
-#[tactic(auto, using(crate::proofs::ArgumentLaws::read_from))]
+#[tactic(auto, using(crate::proofs::ArgumentLaws::read_from, crate::proofs::FitLemmas::read_fits))]
 pub fn read_after(text: &[u8], start: usize) -> Option<(Argument<&[u8]>, usize)>
     requires short { length text.now ≤ LINE }
     requires within { start ≤ length text.now }
-    ensures { ReadsAfter start text.now result }
+    ensures reads { ReadsAfter start text.now result }
+    ensures fits { IfSome result (λ read. ArgumentFits (argument_seen read.0)) }
 {
     let (argument, len) = read_argument(&text[start..], start as u32 + 1)?;
     Some((argument, start + len))
 }
 
 /// The first argument that begins after this many bytes.
+#[tactic(auto, using(crate::proofs::FitLemmas::first_after_fits))]
 pub fn first_of(text: &[u8], start: usize) -> Option<Argument<&[u8]>>
     requires short { length text.now ≤ LINE }
     requires within { start ≤ length text.now }
-    ensures { given_seen result ≡ first_of (arguments_after start text.now) }
+    ensures first { given_seen result ≡ first_of (arguments_after start text.now) }
+    ensures fits { GivenFits (given_seen result) }
 {
     arguments_after(text, start).next_argument()
 }

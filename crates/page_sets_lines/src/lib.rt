@@ -7,6 +7,7 @@
 
 mod blocks;
 mod control_lines;
+mod event_outs;
 mod events;
 mod leaves;
 mod line_steps;
@@ -18,6 +19,7 @@ mod requests;
 
 pub use blocks::{Block, BlockCloser, BlockOpener};
 pub use control_lines::{NameSpan, find_name, first_of, open_quote, read_after};
+pub use event_outs::{EventOut, EventTaker, Handed, Nth};
 pub use events::{Deed, Event, Join, Role, Word};
 pub use leaves::{Leaf, OwnWord, Request};
 pub use line_steps::{LineStep, SynopsisStep};

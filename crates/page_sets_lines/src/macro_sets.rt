@@ -4,8 +4,10 @@ ghost use Rattle.std.specs.Prelude.{◌≡◌, ◌≤◌, ◌+◌, ◌*◌, List
 ghost use Rattle.page_sets_lines.specs.declared.events.Event.{Event};
 ghost use Rattle.page_core_base.specs.LinesTaken.{Line, line_seen};
 ghost use Rattle.page_sets_lines.specs.Events.{TakesNext};
+ghost use Rattle.page_sets_lines.specs.EventOuts.{CameEvents};
 ghost use Rattle.page_sets_lines.specs.Laws.{AreSlices, AreInOrder};
 
+use crate::event_outs::EventOut;
 use crate::events::Event;
 use page_core_base::Taken;
 use page_core_limits::LINE;
@@ -14,7 +16,7 @@ use page_core_limits::LINE;
 /// [`MacroSet::next`], and their texts are lent by the line.
 pub trait MacroSet {
     /// How far the events of a line were given.
-    type Place;
+    type Place: Drop;
 
     // the columns of a page's indent
     ghost page_indent: { Self → ℕ };
@@ -46,6 +48,17 @@ pub trait MacroSet {
         ensures place { IsPlaceOf self.now (line_seen line.entry) place.new }
         ensures events { TakesNext (events_from self.now (line_seen line.entry) place.old) result
             (events_from self.now (line_seen line.entry) place.new) };
+
+    /// Gives the events of the line, one after another.
+    fn give<O: EventOut>(&self, line: Taken<'_>, out: &mut O)
+        requires { length line.text.now ≤ LINE }
+        ensures { CameEvents O.left out.old (table self.now (line_seen line.entry)) out.new }
+    {
+        let mut place = self.start(line);
+        while let Some(event) = self.next(line, &mut place) {
+            out.give(event);
+        }
+    }
 
     // each argument is the slice of the line at its column, and each other text a slice of it
     ghost slices: { (set : Self) (line : Line) → AreSlices line.text (table set line) };

@@ -1,13 +1,15 @@
 //! Text lines, blank lines and raw lines (roff(7), "LANGUAGE SYNTAX"). All sets of macros give the same events of
 //! them.
 
-ghost use Rattle.std.specs.Prelude.{◌≡◌};
+ghost use Rattle.std.specs.Prelude.{◌≡◌, ◌≤◌, length};
 ghost use Rattle.page_sets_lines.specs.Events.{deed_seen, word_seen};
+ghost use Rattle.page_sets_lines.specs.Fits.{DeedFits};
 ghost use Rattle.page_sets_lines.specs.PlainLines.{line_word, plain_line, plain_deed, fills};
 
 use crate::events::{Deed, Join, Role, Word};
 use crate::leaves::Leaf;
 use page_core_base::{Form, Taken};
+use page_core_limits::LINE;
 use page_roff_forms::{Argument, Quoting, has_word};
 
 /// What a line is that is no control line.
@@ -56,7 +58,9 @@ impl PlainLine {
 
     /// What it does, with its text.
     pub fn deed(self, text: &[u8]) -> Deed<&[u8]>
-        ensures { deed_seen result ≡ plain_deed self text.now }
+        requires { length text.now ≤ LINE }
+        ensures deed { deed_seen result ≡ plain_deed self text.now }
+        ensures fits { DeedFits (deed_seen result) }
     {
         match self {
             PlainLine::Words => Deed::Word(line_word(text)),

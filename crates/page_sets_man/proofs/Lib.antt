@@ -1,2 +1,0 @@
-pub mod PlanLemmas
-pub mod WordLemmas

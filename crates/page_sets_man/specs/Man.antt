@@ -46,7 +46,7 @@ use Rattle.page_sets_man.specs.declared.rows.Words.TheVariants as words
 use Rattle.page_sets_man.specs.declared.rows.Last.{Last}
 use Rattle.page_sets_man.specs.declared.rows.Last.TheVariants as lasts
 use Rattle.page_sets_man.specs.declared.rows.Row.{Row}
-use Rattle.page_sets_man.specs.declared.plans.Quote.{Quote}
+use Rattle.page_sets_man.specs.declared.gives.Quote.{Quote}
 use Rattle.page_sets_man.specs.Rows.{row_of}
 
 -- ---- what a macro does

@@ -1,5 +1,5 @@
 -- The macros of man(7) keep the laws of macro sets: proofs, which the set's laws cite. Source: man(7).
-use Rattle.std.proofs.Common.{◌≡◌, ℕ, ◌+◌, ◌*◌, ◌≤◌, ◌<◌, ◌==◌, Bool, true, false, ◌&&◌, nat_le, List, [], ◌∷◌, ◌++◌, length, drop, refl, arith, inl, inr, length-append, Option, None, Some, option_map, find}
+use Rattle.std.proofs.Common.{◌≡◌, ℕ, ◌+◌, ◌*◌, ◌≤◌, Bool, true, false, ◌&&◌, nat_le, List, [], ◌∷◌, ◌++◌, length, drop, refl, arith, inl, inr, length-append, Option, None, Some, option_map, find}
 use Rattle.std.specs.List.{list_all}
 use Rattle.std.specs.Str.{bytes_eq}
 use Rattle.std.proofs.lemmas.Bool.{cases_Bool}
@@ -37,21 +37,12 @@ use Rattle.page_sets_man.specs.declared.rows.Quotes.{Quotes}
 use Rattle.page_sets_man.specs.declared.rows.Quotes.TheVariants.{Printed, After, BodyAfter}
 use Rattle.page_sets_man.specs.declared.rows.Words.{Words}
 use Rattle.page_sets_man.specs.declared.rows.Words.TheVariants as words
-use Rattle.page_sets_man.specs.declared.words.NextWord.{NextWord}
-use Rattle.page_sets_man.specs.declared.words.NextWord.TheVariants as next
 use Rattle.page_sets_man.specs.declared.rows.Last.{Last}
 use Rattle.page_sets_man.specs.declared.rows.Last.TheVariants as lasts
 use Rattle.page_sets_man.specs.declared.rows.Row.{Row}
-use Rattle.page_sets_man.specs.declared.plans.Quote.{Quote}
-use Rattle.page_sets_man.specs.declared.plans.Front.{Front}
-use Rattle.page_sets_man.specs.declared.plans.Front.TheVariants as fronts
-use Rattle.page_sets_man.specs.declared.plans.Plan.{Plan}
-use Rattle.page_sets_man.specs.declared.plans.LinePlan.{LinePlan}
-use Rattle.page_sets_man.specs.declared.plans.LinePlan.TheVariants as line_plans
+use Rattle.page_sets_man.specs.declared.gives.Quote.{Quote}
 use Rattle.page_sets_man.specs.Rows.{quiet, structure_rows, words_rows, structure_row, words_row, request_row, either_row, row_of}
 use Rattle.page_sets_man.specs.Man.{opener, closer, leaf, effect_deed, line_scope, one_word, plain_words, alternating_words, option_words, section_words, reference_words, words_events, has_words, break_events, quote_at, missing_quote, quote_events, deed_events, scope_events, last_events, macro_events, lone_events, row_events, named_events, control_events, line_events, man_events}
-use Rattle.page_sets_man.specs.Steps.{section_text, next_events}
-use Rattle.page_sets_man.specs.Plans.{front_deed, end_events, plan_events, FitsPlan, line_plan_events, FitsLinePlan}
 
 -- ---- slices
 
@@ -71,10 +62,6 @@ last_slices : (line : List ℕ) (number column : ℕ) (last : Last) → AreSlice
 last_slices line number column lasts.Nothing = tt
 last_slices line number column lasts.FontEnds = (tt, tt)
 last_slices line number column (lasts.Mark own) = (tt, tt)
-
-end_slices : (line : List ℕ) (number : ℕ) (end : Option Bool) → AreSlices line (end_events number end)
-end_slices line number None = tt
-end_slices line number (Some filled) = (tt, tt)
 
 -- what may be there, and then has slices
 HasSlicesIfGiven : List ℕ → Option (Deed (List ℕ)) → Type 0
@@ -128,12 +115,6 @@ effect_slices line (effects.Opens scope) start h = opens_slices line scope start
 effect_slices line (effects.Closes scope) start h = closes_slices line scope start
 effect_slices line (effects.Sets change) start h = sets_slices line change start h
 
-front_slices : (line : Line) (front : Front) (start : ℕ) → start ≤ length line.text → HasSlicesIfGiven line.text (front_deed front line start)
-unfolding HasSlicesIfGiven
-front_slices line fronts.Nothing start h = tt
-front_slices line (fronts.Refused kind) start h = name_part line
-front_slices line (fronts.Effect effect) start h = effect_slices line.text effect start h
-
 one_slices : (line : List ℕ) (number : ℕ) (font : Option Font) (before : Join) (from : ℕ) (arguments : List (Argument (List ℕ)))
     → ArgumentsFrom line from arguments → AreSlices line (one_word number font before arguments)
 one_slices line number font before from [] h = tt
@@ -163,24 +144,6 @@ reference_slices : (line : List ℕ) (number column from : ℕ) (arguments : Lis
 reference_slices line number column from [] h = tt
 reference_slices line number column from (name ∷ arguments) h = (h.1, section_slices line number column _ arguments h.2)
 
-section_text_slices : (line : List ℕ) (number column from : ℕ) (arguments : List (Argument (List ℕ)))
-    → ArgumentsFrom line from arguments → AreSlices line (section_text number column arguments)
-section_text_slices line number column from [] h = tt
-section_text_slices line number column from (section ∷ arguments) h = (h.1, (tt, one_slices line number _ _ _ arguments h.2))
-
-next_slices : (line : List ℕ) (number column : ℕ) (these : NextWord) (from : ℕ) (arguments : List (Argument (List ℕ)))
-    → ArgumentsFrom line from arguments → AreSlices line (next_events number column these arguments)
-next_slices line number column next.Nothing from arguments h = tt
-next_slices line number column next.Plain from arguments h = plain_slices line number from arguments h
-next_slices line number column (next.Alternating font other before) from arguments h = alternating_slices line number font other before from arguments h
-next_slices line number column next.Key from arguments h = option_slices line number from arguments h
-next_slices line number column next.Value from arguments h = one_slices line number _ _ from arguments h
-next_slices line number column next.Name from arguments h = reference_slices line number column from arguments h
-next_slices line number column next.SectionBegin from arguments h = section_slices line number column from arguments h
-next_slices line number column next.Section from arguments h = section_text_slices line number column from arguments h
-next_slices line number column next.SectionEnd from arguments h = (tt, one_slices line number _ _ from arguments h)
-next_slices line number column next.Suffix from arguments h = one_slices line number _ _ from arguments h
-
 words_slices : (line : List ℕ) (number column : ℕ) (these : Words) (from : ℕ) (arguments : List (Argument (List ℕ)))
     → ArgumentsFrom line from arguments → AreSlices line (words_events number column these arguments)
 words_slices line number column words.Nothing from arguments h = tt
@@ -188,23 +151,6 @@ words_slices line number column words.Plain from arguments h = plain_slices line
 words_slices line number column (words.Alternating font other) from arguments h = alternating_slices line number font other Apart from arguments h
 words_slices line number column words.Option from arguments h = option_slices line number from arguments h
 words_slices line number column words.Reference from arguments h = reference_slices line number column from arguments h
-
-plan_slices : (line : Line) (plan : Plan) → FitsPlan line plan → AreSlices line.text (plan_events line plan)
-plan_slices line plan fits =
-    let text = line.text in
-    AreSlices-append text _ _
-    (AreSlices-append text _ _ (break_slices text line.number plan.column plan.before.breaks)
-    (AreSlices-append text _ _ (quote_slices text line.number plan.before.quote)
-    (AreSlices-append text _ _ (deed_slices text line.number plan.column _ (front_slices line plan.before.front plan.before.start fits.0))
-    (scope_slices text line.number plan.column plan.before.scope))))
-    (AreSlices-append text _ _ (next_slices text line.number plan.column plan.words (plan.rest + 1) (arguments_after plan.rest text) (all_after text plan.rest))
-    (AreSlices-append text _ _ (last_slices text line.number plan.column plan.after.last) (end_slices text line.number plan.after.end)))
-
-pub line_plan_slices : (line : Line) (plan : LinePlan) → FitsLinePlan line plan → AreSlices line.text (line_plan_events line plan)
-line_plan_slices line (line_plans.Plain plain) fits = (line_slices plain line.text, (tt, tt))
-line_plan_slices line (line_plans.End filled) fits = (tt, tt)
-line_plan_slices line line_plans.Nothing fits = tt
-line_plan_slices line (line_plans.Control plan) fits = plan_slices line plan fits
 
 macro_slices : (line : List ℕ) (number column start : ℕ) (row : Row) → start ≤ length line
     → AreSlices line (macro_events number column row (drop start line) (arguments_after start line))

@@ -1,7 +1,9 @@
 //! What a macro does, beside its words (man(7), "MACRO REFERENCE").
 
-ghost use Rattle.std.specs.Prelude.{◌≡◌, ◌≤◌, length, drop, option_map};
+ghost use Rattle.std.specs.Prelude.{◌≡◌, ◌≤◌, length, drop, option_map, IfSome};
 ghost use Rattle.page_sets_lines.specs.Events.{deed_seen, opener_seen, closer_seen, leaf_seen, text_seen};
+ghost use Rattle.page_sets_lines.specs.Fits.{CloserFits, IsShortDeed, OpenerFits};
+ghost use Rattle.page_sets_lines.specs.declared.events.Deed.TheVariants as deeds;
 ghost use Rattle.page_sets_lines.specs.ControlLines.{arguments_after, first_of, second_of, text_of};
 ghost use Rattle.page_sets_lines.specs.declared.openers.Opener.TheVariants as openers;
 ghost use Rattle.page_sets_man.specs.Man as man;
@@ -29,7 +31,8 @@ fn first_text(text: &[u8], start: usize) -> Option<&[u8]>
 fn indented(text: &[u8], start: usize) -> Opener<&[u8]>
     requires short { length text.now ≤ LINE }
     requires within { start ≤ length text.now }
-    ensures { let arguments = arguments_after start text.now
+    ensures fits { OpenerFits (opener_seen result) }
+    ensures opener { let arguments = arguments_after start text.now
         in opener_seen result ≡ openers.Indented (first_of arguments) (text_of (second_of arguments)) }
 {
     match read_after(text, start) {
@@ -48,7 +51,8 @@ fn indented(text: &[u8], start: usize) -> Opener<&[u8]>
 fn opener(opens: Opens, text: &[u8], start: usize) -> Option<Opener<&[u8]>>
     requires short { length text.now ≤ LINE }
     requires within { start ≤ length text.now }
-    ensures { option_map opener_seen result ≡ man.opener opens (arguments_after start text.now) }
+    ensures fits { IfSome result (λ o. OpenerFits (opener_seen o)) }
+    ensures opener { option_map opener_seen result ≡ man.opener opens (arguments_after start text.now) }
 {
     match opens {
         Opens::Section => Some(Opener::Section),
@@ -67,7 +71,8 @@ fn opener(opens: Opens, text: &[u8], start: usize) -> Option<Opener<&[u8]>>
 fn closer(closes: Closes, text: &[u8], start: usize) -> Closer<&[u8]>
     requires short { length text.now ≤ LINE }
     requires within { start ≤ length text.now }
-    ensures { closer_seen result ≡ man.closer closes (arguments_after start text.now) }
+    ensures fits { CloserFits (closer_seen result) }
+    ensures closer { closer_seen result ≡ man.closer closes (arguments_after start text.now) }
 {
     match closes {
         Closes::RelativeMargin => Closer::RelativeMargin(first_text(text, start)),
@@ -80,7 +85,8 @@ fn closer(closes: Closes, text: &[u8], start: usize) -> Closer<&[u8]>
 fn leaf(sets: Sets, text: &[u8], start: usize) -> Leaf<&[u8]>
     requires short { length text.now ≤ LINE }
     requires within { start ≤ length text.now }
-    ensures { leaf_seen result ≡ man.leaf sets (drop start text.now) (arguments_after start text.now) }
+    ensures fits { IsShortDeed (deeds.Leaf (leaf_seen result)) }
+    ensures leaf { leaf_seen result ≡ man.leaf sets (drop start text.now) (arguments_after start text.now) }
 {
     match sets {
         Sets::Request(request) => Leaf::Request(with_argument(request, first_text(text, start))),
@@ -102,7 +108,8 @@ fn leaf(sets: Sets, text: &[u8], start: usize) -> Leaf<&[u8]>
 pub(crate) fn effect_deed(effect: Effect, text: &[u8], start: usize) -> Option<Deed<&[u8]>>
     requires short { length text.now ≤ LINE }
     requires within { start ≤ length text.now }
-    ensures { option_map deed_seen result
+    ensures fits { IfSome result (λ deed. IsShortDeed (deed_seen deed)) }
+    ensures deed { option_map deed_seen result
         ≡ man.effect_deed effect (drop start text.now) (arguments_after start text.now) }
 {
     match effect {

@@ -5,10 +5,8 @@
 #![tactic(auto)]
 
 mod effects;
+mod gives;
 mod man_set;
-mod plans;
 mod rows;
-mod words;
 
 pub use man_set::{Man, PAGE_INDENT};
-pub use plans::{LinePlan, Plan};

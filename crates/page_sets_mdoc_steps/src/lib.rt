@@ -5,12 +5,14 @@
 #![tactic(auto)]
 
 mod form_steps;
+mod gives;
 mod printed;
 mod steps;
 mod word_steps;
 mod words_left;
 
 pub use form_steps::{FunctionStep, IncludeStep, LinkStep, NameCount, ReferenceStep, SentenceStep};
+pub use gives::{give_flags, give_printed, give_reference};
 pub use printed::{
     event_at, is_opening, own_word, printed_word, real_word, step_event, word_event,
 };

@@ -3,6 +3,7 @@
 ghost use Rattle.std.specs.Prelude.{◌≡◌};
 ghost use Rattle.page_roff_forms.specs.Arguments.{argument_seen};
 ghost use Rattle.page_sets_lines.specs.Events.{event_seen, deed_seen, step_seen};
+ghost use Rattle.page_sets_lines.specs.Fits.{ArgumentFits, IsShort};
 ghost use Rattle.page_sets_lines.specs.PlainLines.{event_at};
 ghost use Rattle.page_sets_mdoc_steps.specs.Printed as printed;
 
@@ -70,7 +71,8 @@ fn delimiter_word(number: u32, delimiter: Delimiter, word: Argument<&[u8]>) -> E
 
 /// A word in a font, or a delimiter in its place.
 pub fn printed_word(number: u32, font: Option<Font>, word: Argument<&[u8]>) -> Event<&[u8]>
-    ensures { event_seen result ≡ printed.printed_word number font (argument_seen word.entry) }
+    ensures event { event_seen result ≡ printed.printed_word number font (argument_seen word.entry) }
+    ensures short { ArgumentFits (argument_seen word.entry) → IsShort (event_seen result) }
 {
     match word_delimiter(word) {
         Some(delimiter) => delimiter_word(number, delimiter, word),

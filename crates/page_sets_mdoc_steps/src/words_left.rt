@@ -1,7 +1,8 @@
 //! The words of a macro that are still to be read (mdoc(7), "MACRO SYNTAX").
 
-ghost use Rattle.std.specs.Prelude.{◌≤◌, length};
-ghost use Rattle.page_roff_forms.specs.Arguments.{ReadsNext};
+ghost use Rattle.std.specs.Prelude.{◌≤◌, length, IfSome};
+ghost use Rattle.page_roff_forms.specs.Arguments.{ReadsNext, argument_seen};
+ghost use Rattle.page_sets_lines.specs.Fits.{ArgumentFits};
 ghost use Rattle.page_sets_mdoc_lines.specs.Cursors.{IsCursorOf};
 ghost use Rattle.page_sets_mdoc_steps.specs.WordsLeft.{words_left, GoesOn, ReadsInside};
 
@@ -18,10 +19,11 @@ pub struct WordsLeft {
 
 impl WordsLeft {
     /// Reads the next word, if there is one more.
-    #[tactic(auto, using(crate::proofs::WordLemmas::take_first, crate::proofs::WordLemmas::drop_first, crate::proofs::WordLemmas::take_none, crate::proofs::WordLemmas::drop_none))]
+    #[tactic(auto, using(crate::proofs::WordLemmas::take_first, crate::proofs::WordLemmas::drop_first, crate::proofs::WordLemmas::take_none, crate::proofs::WordLemmas::drop_none, page_sets_lines::proofs::FitLemmas::read_fits))]
     pub fn read<'a>(&mut self, text: &'a [u8]) -> Option<Argument<&'a [u8]>>
         requires short { length text.now ≤ LINE }
         requires within { IsCursorOf text.now self.old.cursor }
+        ensures fits { IfSome result (λ word. ArgumentFits (argument_seen word)) }
         ensures goes { GoesOn text.now self.old self.new }
         ensures next { ReadsNext (words_left text.now self.old) result (words_left text.now self.new) }
     {

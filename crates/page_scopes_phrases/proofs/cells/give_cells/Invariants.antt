@@ -1,6 +1,6 @@
 use Rattle.std.proofs.Common.{◌≡◌, ◌≤◌, length}
 use Rattle.page_scopes_phrases.specs.Cells.{cells, span}
-use Rattle.page_scopes_phrases.specs.Fits.{FitsAt}
+use Rattle.page_sets_lines.specs.Fits.{FitsAt}
 use Rattle.page_scopes_phrases.specs.Phrases.{phrase_seen}
 use Rattle.page_scopes_phrases.proofs.CellLemmas.{CellsLeft}
 use Rattle.page_scopes_phrases.proofs.cells.give_cells.Given as goal

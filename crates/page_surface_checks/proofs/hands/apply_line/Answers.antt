@@ -1,5 +1,5 @@
 use Rattle.page_core_base.specs.LinesTaken.{line_seen}
-use Rattle.page_scopes.proofs.SliceLemmas.{first_fits}
+use Rattle.page_sets_lines.proofs.SliceLemmas.{first_fits}
 use Rattle.page_sets_lines.specs.Events.{event_seen}
 use Rattle.page_surface_checks.proofs.hands.apply_line.Goals as goal
 

@@ -8,6 +8,7 @@ use Rattle.page_sets_lines.specs.declared.blocks.BlockOpener.{BlockOpener}
 use Rattle.page_sets_lines.specs.declared.blocks.BlockOpener.TheVariants as block_openers
 use Rattle.page_sets_lines.specs.declared.events.Deed.{Deed}
 use Rattle.page_sets_lines.specs.declared.events.Deed.TheVariants as deeds
+use Rattle.page_sets_lines.specs.declared.events.Event.{Event}
 use Rattle.page_sets_lines.specs.declared.leaves.Leaf.{Leaf}
 use Rattle.page_sets_lines.specs.declared.leaves.Leaf.TheVariants as leaves
 use Rattle.page_sets_lines.specs.declared.line_steps.LineStep.{LineStep}
@@ -67,3 +68,15 @@ DeedFits (deeds.Open opener) = OpenerFits opener
 DeedFits (deeds.Close closer) = CloserFits closer
 DeedFits (deeds.Leaf leaf) = LeafFits leaf
 DeedFits _ = Unit {0}
+
+-- what follows a macro of the prologue is no longer than a line
+abbrev pub RestIsShort : Deed (List ℕ) → Type 0
+RestIsShort (deeds.Leaf (leaves.Prologue name rest)) = length rest ≤ LINE
+RestIsShort _ = Unit {0}
+
+-- the texts of a deed, or of an event, stand in a line
+abbrev pub IsShortDeed : Deed (List ℕ) → Type 0
+IsShortDeed deed = DeedFits deed × RestIsShort deed
+
+abbrev pub IsShort : Event (List ℕ) → Type 0
+IsShort event = IsShortDeed event.deed

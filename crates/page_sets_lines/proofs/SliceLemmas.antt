@@ -2,7 +2,7 @@
 use Rattle.std.proofs.Common.{◌≡◌, ℕ, ◌≤◌, List, [], ◌∷◌, length, Option, None, Some, arith}
 use Rattle.page_core_limits.specs.declared.TheConstants.{LINE}
 use Rattle.page_roff_forms.specs.declared.quotes.Argument.{Argument}
-use Rattle.page_scopes_phrases.specs.Fits.{ArgumentFits, BlockCloserFits, BlockOpenerFits, CloserFits, DeedFits, GivenFits, LeafFits, OpenerFits, StepFits}
+use Rattle.page_sets_lines.specs.Fits.{ArgumentFits, BlockCloserFits, BlockOpenerFits, CloserFits, DeedFits, GivenFits, LeafFits, IsShort, OpenerFits, RestIsShort, StepFits}
 use Rattle.page_sets_lines.specs.Laws.{AreSlices, BlockClosesSlices, BlockOpensSlices, ClosesSlices, HasSlices, IsArgument, IsArgumentIfGiven, IsPart, LeavesSlices, OpensSlices, StepsSlices}
 use Rattle.page_sets_lines.specs.declared.blocks.BlockCloser.{BlockCloser}
 use Rattle.page_sets_lines.specs.declared.blocks.BlockCloser.TheVariants as block_closers
@@ -111,10 +111,37 @@ deed_fits line (deeds.Raw text) short slices = tt
 deed_fits line (deeds.End fills) short slices = tt
 deed_fits line (deeds.Note kind detail begins_body) short slices = tt
 
--- the first of them
+leaf_short : (line : List ℕ) (leaf : Leaf (List ℕ)) → length line ≤ LINE → HasSlices line (deeds.Leaf leaf) → RestIsShort (deeds.Leaf leaf)
+leaf_short line leaves.BlankLine short slices = tt
+leaf_short line (leaves.Wordless text) short slices = tt
+leaf_short line (leaves.Request request) short slices = tt
+leaf_short line (leaves.Prologue name rest) short slices = part_fits line rest short slices
+leaf_short line (leaves.Own word) short slices = tt
+leaf_short line (leaves.Example begins) short slices = tt
+leaf_short line (leaves.Distance rows) short slices = tt
+leaf_short line (leaves.Fonts font) short slices = tt
+leaf_short line leaves.FurtherTag short slices = tt
+leaf_short line (leaves.Step step) short slices = tt
+
+rest_short : (line : List ℕ) (deed : Deed (List ℕ)) → length line ≤ LINE → HasSlices line deed → RestIsShort deed
+rest_short line (deeds.Word word) short slices = tt
+rest_short line (deeds.Open opener) short slices = tt
+rest_short line (deeds.Close closer) short slices = tt
+rest_short line (deeds.LineScope opener) short slices = tt
+rest_short line (deeds.Leaf leaf) short slices = leaf_short line leaf short slices
+rest_short line (deeds.Raw text) short slices = tt
+rest_short line (deeds.End fills) short slices = tt
+rest_short line (deeds.Note kind detail begins_body) short slices = tt
+
+-- the first event of a line
+pub first_short : (line : List ℕ) (events : List (Event (List ℕ))) (event : Event (List ℕ)) (others : List (Event (List ℕ)))
+    → length line ≤ LINE → AreSlices line events → events ≡ event ∷ others → IsShort event
+first_short line [] event others short slices is = let no : ⊥ = cc in absurd no
+first_short line (e ∷ es) event others short slices is =
+    let same : e ≡ event = cc in
+    let fits : IsShort e = (deed_fits line e.deed short slices.0, rest_short line e.deed short slices.0) in
+    rw same at fits
+
 pub first_fits : (line : List ℕ) (events : List (Event (List ℕ))) (event : Event (List ℕ)) (others : List (Event (List ℕ)))
     → length line ≤ LINE → AreSlices line events → events ≡ event ∷ others → DeedFits event.deed
-first_fits line [] event others short slices is = let no : ⊥ = cc in absurd no
-first_fits line (e ∷ es) event others short slices is =
-    let same : e ≡ event = cc in
-    rw same at (deed_fits line e.deed short slices.0)
+first_fits line events event others short slices is = (first_short line events event others short slices is).0

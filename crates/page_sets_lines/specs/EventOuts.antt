@@ -1,0 +1,42 @@
+-- What a call gives to what takes events.
+use Rattle.std.specs.Prelude.{◌≡◌, ℕ, zero, suc, List, [], ◌∷◌, ◌++◌, Option, None, Some}
+use Rattle.std.specs.Borrow.{Bor, GName}
+use Rattle.page_sets_lines.specs.Events.{event_seen}
+use Rattle.page_sets_lines.specs.declared.events.Event.{Event}
+
+-- of every plan these events came
+abbrev pub CameEvents : {P S : Type 0} → (P → S → List (Event (List ℕ)) → Type 0) → S → List (Event (List ℕ)) → S → Type 0
+CameEvents {P} left s events t = (plan : P) (rest : List (Event (List ℕ))) → left plan s (events ++ rest) → left plan t rest
+
+-- the same of a part of a call: what was to come, and what still is
+abbrev pub CameEventsUpTo : {P S : Type 0} → (P → S → List (Event (List ℕ)) → Type 0) → S → List (Event (List ℕ)) → List (Event (List ℕ)) → S
+    → Type 0
+CameEventsUpTo {P} left s all next t = (plan : P) (rest : List (Event (List ℕ))) → left plan s (all ++ rest) → left plan t (next ++ rest)
+
+-- ---- what is lent
+
+pub record PlannedHanded (P : Type 0) : Type 0 where
+  pub plan : P
+  pub name : GName
+
+pub record LeftHanded {P O : Type 0} (left : P → O → List (Event (List ℕ)) → Type 0) (plan : PlannedHanded P) (name : GName) (out : O)
+    (events : List (Event (List ℕ))) : Type 0 where
+  pub same : name ≡ plan.name
+  pub came : left plan.plan out events
+
+-- ---- one event
+
+-- the event after this many
+abbrev pub nth : ℕ → List (Event (List ℕ)) → Option (Event (List ℕ))
+nth n [] = None
+nth zero (event ∷ events) = Some event
+nth (suc n) (event ∷ events) = nth n events
+
+abbrev pub kept_seen : Option (Event (Bor (List ℕ))) → Option (Event (List ℕ))
+kept_seen None = None
+kept_seen (Some event) = Some (event_seen event)
+
+-- the event that is kept, or else the one after this many of those to come
+abbrev pub found : ℕ → Option (Event (Bor (List ℕ))) → List (Event (List ℕ)) → Option (Event (List ℕ))
+found n None events = nth n events
+found n (Some event) events = Some (event_seen event)

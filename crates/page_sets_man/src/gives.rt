@@ -1,0 +1,453 @@
+//! The events of a line, given one after another (man(7), "MACRO REFERENCE").
+
+ghost use Rattle.std.specs.Prelude.{◌≡◌, ◌≤◌, [], ◌∷◌, length, drop, option_map, IfSome};
+ghost use Rattle.page_core_base.specs.LinesTaken.{line_seen};
+ghost use Rattle.page_sets_lines.specs.Events.{deed_seen, event_seen};
+ghost use Rattle.page_sets_lines.specs.EventOuts.{CameEvents};
+ghost use Rattle.page_sets_lines.specs.Fits.{IsShortDeed};
+ghost use Rattle.page_sets_lines.specs.ControlLines.{arguments_after};
+ghost use Rattle.page_sets_lines.specs.PlainLines.{event_at, line_end};
+ghost use Rattle.page_roff_forms.specs.Arguments.{argument_seen};
+ghost use Rattle.page_sets_lines.specs.declared.events.Join.TheVariants.{Apart};
+ghost use Rattle.page_sets_man.specs.Man as man;
+
+use crate::effects::{effect_deed, line_scope};
+use crate::rows::{Alone, Last, Quotes, Row, Words, row_of};
+use page_core_base::{Font, NoteKind, Place, Taken};
+use page_core_limits::LINE;
+use page_roff_forms::{Argument, has_arguments};
+use page_sets_lines::{
+    Closer, Deed, Event, EventTaker, Join, Leaf, LineOpener, Own, OwnWord, PlainLine, Role, Word,
+    find_name, open_quote, read_after,
+};
+
+/// The quote of an argument without its closing one: its column, and whether its message may begin the body of the
+/// page.
+#[derive(Clone, Copy)]
+pub(crate) struct Quote {
+    pub(crate) column: u32,
+    pub(crate) begins_body: bool,
+}
+
+// An event in a column of a line.
+fn event_at<'a>(number: u32, column: u32, deed: Deed<&'a [u8]>) -> Event<&'a [u8]>
+    ensures { event_seen result ≡ event_at number column (deed_seen deed.entry) }
+{
+    Event {
+        place: Place {
+            line: number,
+            column,
+        },
+        deed,
+    }
+}
+
+// The message about a missing closing quote.
+fn quote_deed<'a>(quote: Quote) -> Deed<&'a [u8]>
+    ensures { deed_seen result ≡ man.quote_deed quote }
+{
+    let detail: &[u8] = &[];
+    Deed::Note {
+        kind: NoteKind::Unterminated,
+        detail,
+        begins_body: quote.begins_body,
+    }
+}
+
+// The quote in a column that is reported early.
+fn quote_at(begins_body: bool, column: Option<u32>) -> Option<Quote>
+    ensures { result ≡ man.quote_at begins_body column }
+{
+    match column {
+        Some(column) => Some(Quote {
+            column,
+            begins_body,
+        }),
+        None => None,
+    }
+}
+
+// The quote that is reported early, if one of the arguments that begin after this many bytes lacks its closing one.
+fn missing_quote(quotes: Quotes, text: &[u8], start: usize) -> Option<Quote>
+    requires short { length text.now ≤ LINE }
+    requires within { start ≤ length text.now }
+    ensures { result ≡ man.missing_quote quotes (arguments_after start text.now) }
+{
+    match quotes {
+        Quotes::Printed => None,
+        Quotes::After(printed) => quote_at(false, open_quote(text, start, printed)),
+        Quotes::BodyAfter(printed) => quote_at(true, open_quote(text, start, printed)),
+    }
+}
+
+// Whether arguments are words.
+fn has_words(words: Words) -> bool
+    ensures { result ≡ man.has_words words }
+{
+    !matches!(words, Words::Nothing)
+}
+
+// An argument as a word.
+fn argument_word(
+    number: u32,
+    font: Option<Font>,
+    before: Join,
+    argument: Argument<&[u8]>,
+) -> Event<&[u8]>
+    ensures { event_seen result ≡ man.argument_word number font before (argument_seen argument.entry) }
+{
+    Event {
+        place: Place {
+            line: number,
+            column: argument.column,
+        },
+        deed: Deed::Word(Word {
+            arg: argument,
+            role: Role::Argument,
+            font,
+            before,
+            after: Join::Apart,
+        }),
+    }
+}
+
+// A mark of a macro's own.
+fn mark<'a>(number: u32, column: u32, own: Own, before: Join, after: Join) -> Event<&'a [u8]>
+    ensures { event_seen result ≡ man.mark number column own before after }
+{
+    Event {
+        place: Place {
+            line: number,
+            column,
+        },
+        deed: Deed::Leaf(Leaf::Own(OwnWord {
+            own,
+            font: None,
+            before,
+            after,
+        })),
+    }
+}
+
+// All arguments, in the font around them.
+fn give_plain_words<'a, O: EventTaker<'a>>(out: &mut O, number: u32, text: &'a [u8], start: usize)
+    requires short { length text.now ≤ LINE }
+    requires within { start ≤ length text.now }
+    ensures { CameEvents O.left out.old (man.plain_words number (arguments_after start text.now)) out.new }
+{
+    let mut rest = start;
+    while let Some((argument, end)) = read_after(text, rest) {
+        out.give(argument_word(number, None, Join::Apart, argument));
+        rest = end;
+    }
+}
+
+// All arguments, in two fonts in turn, glued.
+fn give_alternating<'a, O: EventTaker<'a>>(
+    out: &mut O,
+    number: u32,
+    font: Font,
+    other: Font,
+    text: &'a [u8],
+    start: usize,
+)
+    requires short { length text.now ≤ LINE }
+    requires within { start ≤ length text.now }
+    ensures { CameEvents O.left out.old
+        (man.alternating_words number font other Apart (arguments_after start text.now)) out.new }
+{
+    let mut fonts = (font, other);
+    let mut before = Join::Apart;
+    let mut rest = start;
+    while let Some((argument, end)) = read_after(text, rest) {
+        out.give(argument_word(number, Some(fonts.0), before, argument));
+        fonts = (fonts.1, fonts.0);
+        before = Join::Glued;
+        rest = end;
+    }
+}
+
+// The first argument alone.
+fn give_one<'a, O: EventTaker<'a>>(
+    out: &mut O,
+    number: u32,
+    font: Option<Font>,
+    before: Join,
+    text: &'a [u8],
+    start: usize,
+)
+    requires short { length text.now ≤ LINE }
+    requires within { start ≤ length text.now }
+    ensures { CameEvents O.left out.old
+        (man.one_word number font before (arguments_after start text.now)) out.new }
+{
+    if let Some((argument, _)) = read_after(text, start) {
+        out.give(argument_word(number, font, before, argument));
+    }
+}
+
+// `OP`: a key in bold, then its value in italic.
+fn give_option<'a, O: EventTaker<'a>>(out: &mut O, number: u32, text: &'a [u8], start: usize)
+    requires short { length text.now ≤ LINE }
+    requires within { start ≤ length text.now }
+    ensures { CameEvents O.left out.old (man.option_words number (arguments_after start text.now)) out.new }
+{
+    if let Some((key, rest)) = read_after(text, start) {
+        out.give(argument_word(number, Some(Font::B), Join::Apart, key));
+        give_one(out, number, Some(Font::I), Join::Apart, text, rest);
+    }
+}
+
+// A section in parentheses, and a suffix, all glued.
+fn give_section<'a, O: EventTaker<'a>>(
+    out: &mut O,
+    number: u32,
+    column: u32,
+    text: &'a [u8],
+    start: usize,
+)
+    requires short { length text.now ≤ LINE }
+    requires within { start ≤ length text.now }
+    ensures { CameEvents O.left out.old
+        (man.section_words number column (arguments_after start text.now)) out.new }
+{
+    if let Some((section, rest)) = read_after(text, start) {
+        out.give(mark(
+            number,
+            column,
+            Own::OpenParenthesis,
+            Join::Glued,
+            Join::Glued,
+        ));
+        out.give(argument_word(number, None, Join::Apart, section));
+        out.give(mark(
+            number,
+            column,
+            Own::CloseParenthesis,
+            Join::Glued,
+            Join::Apart,
+        ));
+        give_one(out, number, None, Join::Glued, text, rest);
+    }
+}
+
+// `MR`: a name in italic, with its section and suffix.
+fn give_reference<'a, O: EventTaker<'a>>(
+    out: &mut O,
+    number: u32,
+    column: u32,
+    text: &'a [u8],
+    start: usize,
+)
+    requires short { length text.now ≤ LINE }
+    requires within { start ≤ length text.now }
+    ensures { CameEvents O.left out.old
+        (man.reference_words number column (arguments_after start text.now)) out.new }
+{
+    if let Some((name, rest)) = read_after(text, start) {
+        out.give(argument_word(number, Some(Font::I), Join::Apart, name));
+        give_section(out, number, column, text, rest);
+    }
+}
+
+// The words of a macro.
+fn give_words<'a, O: EventTaker<'a>>(
+    out: &mut O,
+    number: u32,
+    column: u32,
+    words: Words,
+    text: &'a [u8],
+    start: usize,
+)
+    requires short { length text.now ≤ LINE }
+    requires within { start ≤ length text.now }
+    ensures { CameEvents O.left out.old
+        (man.words_events number column words (arguments_after start text.now)) out.new }
+{
+    match words {
+        Words::Nothing => {}
+        Words::Plain => give_plain_words(out, number, text, start),
+        Words::Alternating { font, other } => {
+            give_alternating(out, number, font, other, text, start);
+        }
+        Words::Option => give_option(out, number, text, start),
+        Words::Reference => give_reference(out, number, column, text, start),
+    }
+}
+
+// What comes after a macro's words, but the line's end.
+fn give_last<'a, O: EventTaker<'a>>(out: &mut O, number: u32, column: u32, last: Last)
+    ensures { CameEvents O.left out.old (man.last_events number column last) out.new }
+{
+    match last {
+        Last::Nothing => {}
+        Last::FontEnds => out.give(event_at(number, column, Deed::Leaf(Leaf::Fonts(None)))),
+        Last::Mark(own) => out.give(mark(number, column, own, Join::Glued, Join::Apart)),
+    }
+}
+
+// The message about a quote that is missing.
+fn give_quote<'a, O: EventTaker<'a>>(out: &mut O, number: u32, quote: Option<Quote>)
+    ensures { CameEvents O.left out.old (man.quote_events number quote) out.new }
+{
+    if let Some(quote) = quote {
+        out.give(event_at(number, quote.column, quote_deed(quote)));
+    }
+}
+
+// What a macro does, if it does something.
+fn give_deed<'a, O: EventTaker<'a>>(
+    out: &mut O,
+    number: u32,
+    column: u32,
+    deed: Option<Deed<&'a [u8]>>,
+)
+    requires { IfSome deed (λ d. IsShortDeed (deed_seen d)) }
+    ensures { CameEvents O.left out.old
+        (man.deed_events number column (option_map deed_seen deed.entry)) out.new }
+{
+    if let Some(deed) = deed {
+        out.give(event_at(number, column, deed));
+    }
+}
+
+// The line scope that a macro opens, if it opens one.
+fn give_scope<'a, O: EventTaker<'a>>(
+    out: &mut O,
+    number: u32,
+    column: u32,
+    scope: Option<LineOpener>,
+)
+    ensures { CameEvents O.left out.old (man.scope_events number column scope) out.new }
+{
+    if let Some(opener) = scope {
+        out.give(event_at(number, column, Deed::LineScope(opener)));
+    }
+}
+
+// The end of the line scopes that are open, where a macro breaks them.
+fn give_break<'a, O: EventTaker<'a>>(out: &mut O, number: u32, column: u32, breaks: bool)
+    ensures { CameEvents O.left out.old (man.break_events number column breaks) out.new }
+{
+    if breaks {
+        out.give(event_at(number, column, Deed::Close(Closer::Line)));
+    }
+}
+
+// A line's end.
+fn give_end<'a, O: EventTaker<'a>>(out: &mut O, number: u32, fills: bool)
+    ensures { CameEvents O.left out.old (line_end number fills ∷ []) out.new }
+{
+    out.give(event_at(number, 1, Deed::End { fills }));
+}
+
+// A macro by its row, with arguments that begin after this many bytes.
+fn give_macro<'a, O: EventTaker<'a>>(
+    out: &mut O,
+    number: u32,
+    column: u32,
+    row: Row,
+    text: &'a [u8],
+    start: usize,
+)
+    requires short { length text.now ≤ LINE }
+    requires within { start ≤ length text.now }
+    ensures { CameEvents O.left out.old
+        (man.macro_events number column row (drop start text.now) (arguments_after start text.now)) out.new }
+{
+    give_break(out, number, column, row.breaks);
+    give_quote(out, number, missing_quote(row.quotes, text, start));
+    give_deed(out, number, column, effect_deed(row.effect, text, start));
+    give_scope(out, number, column, line_scope(row.effect));
+    give_words(out, number, column, row.words, text, start);
+    give_last(out, number, column, row.last);
+    give_end(
+        out,
+        number,
+        has_words(row.words) && has_arguments(&text[start..]),
+    );
+}
+
+// A message about a macro's name.
+fn give_refused<'a, O: EventTaker<'a>>(
+    out: &mut O,
+    kind: NoteKind,
+    number: u32,
+    column: u32,
+    name: &'a [u8],
+)
+    ensures { CameEvents O.left out.old (man.refused_events kind number column name.now) out.new }
+{
+    out.give(event_at(
+        number,
+        column,
+        Deed::Note {
+            kind,
+            detail: name,
+            begins_body: false,
+        },
+    ));
+    give_end(out, number, false);
+}
+
+// A macro without arguments.
+fn give_lone<'a, O: EventTaker<'a>>(
+    out: &mut O,
+    line: Taken<'a>,
+    column: u32,
+    name: &'a [u8],
+    row: Row,
+    start: usize,
+)
+    requires short { length line.text.now ≤ LINE }
+    requires within { start ≤ length line.text.now }
+    ensures { CameEvents O.left out.old
+        (man.lone_events row.alone line.entry.line column name.now (man.macro_events line.entry.line column row
+        (drop start line.entry.text.now) (arguments_after start line.entry.text.now))) out.new }
+{
+    match row.alone {
+        Alone::Same => give_macro(out, line.line, column, row, line.text, start),
+        Alone::Empty => give_refused(out, NoteKind::EmptyMacro, line.line, column, name),
+        Alone::Scope(opener) => {
+            out.give(event_at(line.line, column, Deed::LineScope(opener)));
+            give_end(out, line.line, false);
+        }
+    }
+}
+
+// A control line.
+#[inline(never)]
+fn give_control<'a, O: EventTaker<'a>>(out: &mut O, line: Taken<'a>)
+    requires { length line.text.now ≤ LINE }
+    ensures { CameEvents O.left out.old (man.control_events (line_seen line.entry)) out.new }
+{
+    let span = find_name(line);
+    let column = span.start as u32 + 1;
+    if span.is_empty() {
+        give_end(out, line.line, false);
+        return;
+    }
+    let name = &line.text[span.start..span.end];
+    match row_of(name) {
+        Some(row) if has_arguments(&line.text[span.end..]) => {
+            give_macro(out, line.line, column, row, line.text, span.end);
+        }
+        Some(row) => give_lone(out, line, column, name, row, span.end),
+        None => give_refused(out, NoteKind::UnknownMacro, line.line, column, name),
+    }
+}
+
+/// Gives the events of a line.
+#[tactic(auto, unfolding(crate::specs::Man::man_events))]
+pub(crate) fn give_events<'a, O: EventTaker<'a>>(out: &mut O, line: Taken<'a>)
+    requires { length line.text.now ≤ LINE }
+    ensures { CameEvents O.left out.old (man.man_events (line_seen line.entry)) out.new }
+{
+    match PlainLine::of(line) {
+        Some(plain) => {
+            out.give(event_at(line.line, 1, plain.deed(line.text)));
+            give_end(out, line.line, plain.fills());
+        }
+        None => give_control(out, line),
+    }
+}
