@@ -151,7 +151,7 @@ impl<'a, R: Files + AllocGlobal> Files for FailingFiles<'a, R> {
     type Dir = FailingNames<'a, R::Dir>;
 
     fn open_file(&self, how: &OpenOptions, path: &str) -> io::Result<FailingFile<'a, R::File>> {
-        self.failure.at(if how.asks_create() {
+        self.failure.at(if how.asks_create() || how.asks_create_new() {
             Call::Create
         } else {
             Call::Open

@@ -1,6 +1,7 @@
 //! The pages of a command line, each from its bytes to its rows, its messages and its status (mandoc(1), DESCRIPTION).
 
 use crate::faults::{Done, tell_fault, tell_unopened};
+use crate::shown_names::shown;
 use crate::streams::{FlushingReader, Stream, flush};
 use mandoc_command::{Format, status_of};
 use page_core_base::{Fault, Output, Settings};
@@ -82,7 +83,10 @@ fn run_buffered<I: Read, W: Write, V: Write>(
     else {
         return Err(Fault::Memory);
     };
-    run_flushing(alloc, input, &mut rows, &mut notes, name, settings)
+    let Ok(name) = shown(name).to_string(alloc) else {
+        return Err(Fault::Memory);
+    };
+    run_flushing(alloc, input, &mut rows, &mut notes, name.as_str(), settings)
 }
 
 // Runs over a page: what was written of it is put out before each read, and at its end.

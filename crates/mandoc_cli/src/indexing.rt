@@ -1,12 +1,12 @@
 //! Indexes made of the pages of directories (makewhatis(8)).
 
-use crate::faults::{Done, tell_fault};
+use crate::faults::{Done, tell_fault, tell_index_fault};
 use crate::page_records::{Form, Pages};
 use mandoc_command::Makewhatis;
 use page_core_base::Fault;
 use std::alloc::Global;
 use std::fs::{self, Files};
-use std::io::{BufWriter, Write};
+use std::io::{self, BufWriter, Write};
 
 /// Makes the indexes of directories in their order, or prints the records of their pages, and answers the worst status (makewhatis(8),
 /// EXIT STATUS).
@@ -55,7 +55,7 @@ fn make_index<R: Files, V: Write>(rt: &R, alloc: Global, dir: &str, err: &mut V)
         format!(in alloc; "{dir}/whatis.tmp"),
         format!(in alloc; "{dir}/whatis.idx"),
     ) else {
-        return tell_fault(err, format_args!("{dir}/whatis.idx"), Fault::Memory);
+        return tell_index_fault(err, dir, Fault::Memory);
     };
     match replace_index(rt, alloc, dir, unfinished.as_str(), name.as_str(), err) {
         Ok(status) => Done::with(status),
@@ -72,7 +72,7 @@ fn replace_index<R: Files, V: Write>(
     name: &str,
     err: &mut V,
 ) -> Result<u8, Fault> {
-    let Ok(file) = fs::create(rt, unfinished) else {
+    let Ok(file) = create_anew(rt, unfinished) else {
         return Err(Fault::WriteText);
     };
     let finished = match write_index(rt, alloc, dir, file, err) {
@@ -83,6 +83,12 @@ fn replace_index<R: Files, V: Write>(
         let _ = fs::remove_file(rt, unfinished);
     }
     finished
+}
+
+// Makes a file that is not there yet. What has its name, as the file of a run that was killed or a link, is removed, and never written to.
+fn create_anew<R: Files>(rt: &R, name: &str) -> io::Result<R::File> {
+    let _ = fs::remove_file(rt, name);
+    fs::File::create_new(rt, name)
 }
 
 // Writes an index, and closes its file.

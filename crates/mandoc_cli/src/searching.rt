@@ -1,6 +1,6 @@
 //! Words looked for in the index of a directory (whatis(1)).
 
-use crate::faults::{tell_fault, tell_unopened};
+use crate::faults::{tell_fault, tell_index_fault, tell_unopened};
 use mandoc_command::Whatis;
 use page_core_base::Fault;
 use page_engine_index::{Show, whatis};
@@ -27,7 +27,7 @@ pub fn search<R: Files, W: Write, V: Write>(
         None => ".",
     };
     let Ok(name) = format!(in alloc; "{dir}/whatis.idx") else {
-        return tell_fault(err, format_args!("{dir}/whatis.idx"), Fault::Memory).status;
+        return tell_index_fault(err, dir, Fault::Memory).status;
     };
     match fs::open(rt, name.as_str()) {
         Ok(mut index) => match search_buffered(alloc, &mut index, asked, out) {

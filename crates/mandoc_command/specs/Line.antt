@@ -152,11 +152,6 @@ with_files files = option_map (λ settings. record { settings = settings; files 
 unfoldable pub formats_in : List Row → Option Formats
 formats_in rows = with_files (names_in rows) (asked (values_in rows))
 
--- one directory at least
-unfoldable pub indexes_in : List Row → Option Indexes
-indexes_in rows =
-    if length (names_in rows) == 0 then None else Some (record { prints = is_set (first_of (codes "prints") rows); dirs = names_in rows })
-
 -- one word at least, and no empty one
 abbrev pub is_empty : Text → Bool
 is_empty text = length text == 0
@@ -164,9 +159,21 @@ is_empty text = length text == 0
 abbrev pub are_words : List Text → Bool
 are_words words = not (length words == 0) && not (list_any is_empty words)
 
+-- one directory at least, and none without a name
+unfoldable pub indexes_in : List Row → Option Indexes
+indexes_in rows =
+    if are_words (names_in rows)
+    then Some (record { prints = is_set (first_of (codes "prints") rows); dirs = names_in rows })
+    else None
+
+-- the directory of an index has a name, where it is given
+abbrev pub may_be_dir : Option Text → Bool
+may_be_dir None = true
+may_be_dir (Some dir) = not (is_empty dir)
+
 unfoldable pub searches_in : List Row → Option Searches
 searches_in rows =
-    if are_words (names_in rows) then Some (record {
+    if are_words (names_in rows) && may_be_dir (first_of (codes "dir") rows) then Some (record {
       dir = first_of (codes "dir") rows;
       section = first_of (codes "section") rows;
       shows_files = is_set (first_of (codes "files") rows);

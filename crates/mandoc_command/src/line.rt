@@ -6,7 +6,7 @@ ghost use Rattle.clap.specs.Words.{first_of, found_of, rows_of};
 ghost use Rattle.page_core_base.specs.Checks.{IsGood};
 ghost use Rattle.mandoc_command.specs.Asked.{text_in};
 ghost use Rattle.mandoc_command.specs.Line.{HasGoodSettings, wanted, wanted_of, texts};
-ghost use Rattle.mandoc_command.specs.Line.{formats_in, formats_of, indexes_in, indexes_of, searches_in, searches_of, are_words, is_set, is_empty};
+ghost use Rattle.mandoc_command.specs.Line.{formats_in, formats_of, indexes_in, indexes_of, searches_in, searches_of, are_words, is_set, is_empty, may_be_dir};
 
 use crate::given::{Given, matches_in};
 use crate::programs::Program;
@@ -19,7 +19,8 @@ use std::alloc::{AllocError, Global};
 /// `makewhatis` (makewhatis(8)) or `whatis` (whatis(1)).
 ///
 /// Its fault is [`Refusal::Words`] where an option is unknown, given twice or without a value, where a value is none that the option takes,
-/// where the settings are refused by their check, where `makewhatis` has no directory, and where `whatis` has no word, or an empty one.
+/// where the settings are refused by their check, where `makewhatis` has no directory, and where `whatis` has no word, or an empty one. A
+/// directory without a name is refused too: it would stand for the root of all files.
 /// Want of memory is [`Refusal::Memory`], at any words.
 #[tactic(auto, unfolding(crate::specs::Line::wanted))]
 pub fn command(alloc: Global, words: &[&str]) -> Result<Command, Refusal>
@@ -64,7 +65,7 @@ fn makewhatis_in(alloc: Global, matches: &ArgMatches) -> Result<Makewhatis, Refu
     let Ok(dirs) = Texts::in_matches(alloc, matches) else {
         return Err(Refusal::Memory);
     };
-    if dirs.as_slice().is_empty() {
+    if !are_words(dirs.as_slice()) {
         return Err(Refusal::Words);
     }
     Ok(Makewhatis {
@@ -83,10 +84,11 @@ fn whatis_in(alloc: Global, matches: &ArgMatches) -> Result<Whatis, Refusal>
     let Ok(words) = Texts::in_matches(alloc, matches) else {
         return Err(Refusal::Memory);
     };
-    if !are_words(words.as_slice()) {
+    let dir = value_of(matches, "dir");
+    if !are_words(words.as_slice()) || !may_be_dir(dir) {
         return Err(Refusal::Words);
     }
-    let Ok(dir) = copied(alloc, value_of(matches, "dir")) else {
+    let Ok(dir) = copied(alloc, dir) else {
         return Err(Refusal::Memory);
     };
     let Ok(section) = copied(alloc, value_of(matches, "section")) else {
@@ -106,6 +108,16 @@ fn are_words(words: &[String]) -> bool
     ensures { result ≡ are_words (map string_bytes words.now) }
 {
     !words.is_empty() && !has_empty(words)
+}
+
+// Whether the directory of an index has a name, where it is given.
+fn may_be_dir(dir: Option<&str>) -> bool
+    ensures { result ≡ may_be_dir (text_in dir.entry) }
+{
+    match dir {
+        Some(dir) => !dir.is_empty(),
+        None => true,
+    }
 }
 
 // Whether a text is empty.

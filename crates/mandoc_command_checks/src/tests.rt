@@ -197,7 +197,6 @@ fn takes_good_words(rt: HostRuntime) {
     takes(&rt, rt.alloc(), &system, "os System 1.0\t\u{3b1} ");
     let in_none = ["whatis", "-s", "", "ls"];
     takes(&rt, rt.alloc(), &in_none, "entries section \"\" [ls]");
-    takes(&rt, rt.alloc(), &["makewhatis", ""], "index []");
 }
 
 static REFUSED: [&str; 83] = [
@@ -295,6 +294,9 @@ fn refuses_bad_words(rt: HostRuntime) {
     refuses(&rt, rt.alloc(), &["-I", "os=a\u{1}b"]);
     refuses(&rt, rt.alloc(), &["whatis", ""]);
     refuses(&rt, rt.alloc(), &["whatis", "ls", ""]);
+    refuses(&rt, rt.alloc(), &["makewhatis", ""]);
+    refuses(&rt, rt.alloc(), &["makewhatis", "-n", "dir", ""]);
+    refuses(&rt, rt.alloc(), &["whatis", "-M", "", "ls"]);
 }
 
 #[test]
