@@ -18,7 +18,7 @@ use Rattle.page_engine_body.proofs.SharedLemmas.{Shared}
 use Rattle.page_engine_lines.proofs.SharedLemmas.{lines_shared}
 use Rattle.page_engine_lines.proofs.TreeLemmas.{one_after}
 use Rattle.page_engine.specs.Edges.{Edge, lines_at, moved, roff_at}
-use Rattle.page_engine.specs.Levels.{given, worst_of}
+use Rattle.page_engine.specs.Levels.{reported, worst_of}
 use Rattle.page_engine.specs.Page.{after, edge, last_number, raw_lines, settled, text_line}
 use Rattle.page_engine.specs.ByLine as by_line
 use Rattle.page_engine.proofs.Fixed.{fixed, filled_fixed, items_fixed}
@@ -67,7 +67,7 @@ pub lines_at_edge : (e : Edge) (lines : List Line) → lines_at (edge e lines) �
 unfolding settled
 lines_at_edge e lines =
     let l = filled e.fill (lines_items (lines_at e) (raw_lines lines)) in
-    same_lines (after e lines) (worst_of e.worst (given e.least l.notes)) l.edge (filled_fixed e.fill (lines_items (lines_at e) (raw_lines lines)))
+    same_lines (after e lines) (worst_of e.worst (reported e.least l.notes)) l.edge (filled_fixed e.fill (lines_items (lines_at e) (raw_lines lines)))
     ∙ lines_after_at e lines
 
 -- the text of a line, as the code takes it
@@ -81,7 +81,7 @@ unfolding by_line.settled_text
 text_lines e text number =
     let items = source_items (lines_at e) number text in
     let l = laid_items e.fill items in
-    same_lines (by_line.passed e text number) (worst_of e.worst (given e.least l.notes)) l.edge (items_fixed e.fill items)
+    same_lines (by_line.passed e text number) (worst_of e.worst (reported e.least l.notes)) l.edge (items_fixed e.fill items)
     ∙ passed_lines e text number
 
 pub output_kept : (f g : FillEdge) → fixed f ≡ fixed g → f.output ≡ g.output

@@ -8,6 +8,8 @@ use Rattle.page_engine.specs.declared.pages.Phase.{Phase}
 use Rattle.page_engine.specs.declared.pages.Phase.TheVariants.{Open, Failed}
 use Rattle.page_engine.specs.declared.layers.Layers.{Layers}
 use Rattle.page_engine.specs.States.{PageState, IsOpenAt, IsFailedAt}
+use Rattle.page_engine_lines.specs.Edges.{LinesEdge}
+use Rattle.page_roff_source.specs.Edges.{counts_of}
 use Rattle.page_roff_source.specs.declared.counts.Counts.{Counts}
 use Rattle.page_engine.specs.Edges.{Edge}
 use Rattle.page_engine.specs.Layers.{IsAt, edge_of, IsKept}
@@ -38,6 +40,21 @@ pub open_layers : {now : PageState} {phase : Phase} {counts : Counts} (layers : 
 open_layers layers e kept is h =
     let k = open_kept (ap (λ (p : PageState). p.phase) is ∙ h.phase) kept in
     subst (λ (x : Edge). IsAt layers x) (edge_is layers k.0 e k.1 (ap (λ (p : PageState). p.edge) is ∙ h.edge)) k.1
+
+-- a page that is open is at an edge
+pub open_at : {now : PageState} {phase : Phase} {counts : Counts} (layers : Layers) → IsKept phase counts layers
+    → record { phase = phase; edge = edge_of layers; worst = layers.worst; counts = counts } ≡ now → now.phase ≡ Open → (e : Edge) × IsOpenAt now e
+open_at {now} layers kept is open =
+    let k = open_kept (ap (λ (p : PageState). p.phase) is ∙ open) kept in (
+      k.0,
+      record {
+        reached = k.2;
+        phase = open;
+        edge = ap (λ (p : PageState). p.edge) (sym is) ∙ edge_at layers k.0 k.1;
+        worst = ap (λ (p : PageState). p.worst) (sym is) ∙ k.1.worst_level;
+        counts = ap (λ (p : PageState). p.counts) (sym is) ∙ (k.3 ∙ ap (λ (l : LinesEdge). counts_of l.roff) k.1.lines);
+      },
+    )
 
 -- a page that has failed has the worst level and the counts from before
 pub failed_at : {now after : PageState} {phase : Phase} {counts : Counts} (layers : Layers) (e : Edge)

@@ -19,7 +19,7 @@ use Rattle.page_engine_lines.specs.Acts.{lines_items, lines_after}
 use Rattle.page_engine_lines.specs.Edges.{LinesEdge, footer_items}
 use Rattle.page_engine_lines.specs.Lines.{source_items, source_after, end_items}
 use Rattle.page_engine_lines.proofs.TreeLemmas.{lines_items-append, lines_after-append, one_items, one_after, no_items, none_after, end_items_after}
-use Rattle.page_engine.specs.Levels.{given, worst_of, given-append, worst_of-append}
+use Rattle.page_engine.specs.Levels.{reported, worst_of, reported-append, worst_of-append}
 use Rattle.page_engine.specs.Page.{Edge, IsReached, last_line, lines_at, moved, of_page, start, raw, raw_lines, last_number, after, settled, edge, page, footer_laid, counts_at, text_line}
 use Rattle.page_engine.specs.ByLine as by_line
 use Rattle.page_engine.proofs.Fixed.{filled_fixed}
@@ -30,7 +30,7 @@ use Rattle.page_engine.specs.Shown.{shown_rows-append, shown_rows-nil}
 
 of_page-join : (e f g : Edge) (a b : Laid FillEdge) → a.edge.output ≡ e.fill.output → f.least ≡ e.least
     → of_page e g (join a b) ≡ join (of_page e f a) (of_page (of_page e f a).edge g b)
-of_page-join e f g a b o h = rw (o, h, shown_rows-append, given-append, worst_of-append) refl
+of_page-join e f g a b o h = rw (o, h, shown_rows-append, reported-append, worst_of-append) refl
 
 -- of the edge beside the open row and the worst level, six fields count
 of_page-same : (e f g : Edge) (l : Laid FillEdge) → f.least ≡ g.least → f.indent ≡ g.indent → f.os ≡ g.os → f.last ≡ g.last → f.roff ≡ g.roff → f.body ≡ g.body
@@ -42,7 +42,7 @@ of_page-moved : (e f : Edge) (n m : Option ℕ) (a b : LinesEdge) (l : Laid Fill
 of_page-moved e f n m a b l h g = rw (h, g) refl
 
 no_messages : (e : Edge) → of_page e e (nothing e.fill) ≡ nothing e
-unfolding given worst_of
+unfolding reported worst_of
 no_messages e = rw shown_rows-nil refl
 
 -- ---- lists of lines
@@ -128,7 +128,7 @@ line_reached e line r = subst (λ (l : Laid Edge). IsReached l.edge) (one_line e
 
 -- a line without a message of its cutting
 pub text_settled : (e : Edge) (text : List ℕ) (number : ℕ) → IsReached e → settled e (text_line text number ∷ []) ≡ by_line.settled_text e text number
-unfolding given worst_of
+unfolding reported worst_of
 text_settled e text number r =
     one_line e (text_line text number) r ∙ ap (λ (l : Laid Edge). join l (by_line.settled_text l.edge text number)) (no_messages e)
 

@@ -33,7 +33,7 @@ pub record RoffPart : Type 0 where
   pub counts : Counts
 
 -- Where the macros stand: their set, and whether a line or the settings decided it; the fields of the title; whether the rest of a line is passed over,
--- and the open scopes; the context, what is known along the page, and the manual's name.
+-- and the open scopes; the context, what is known along the page, whether its body has begun, and the manual's name.
 pub record BodyPart : Type 0 where
   pub set : Either
   pub is_decided : Bool
@@ -42,6 +42,7 @@ pub record BodyPart : Type 0 where
   pub scopes : List (Scope Label Kept)
   pub context : Context
   pub running : Running
+  pub has_begun : Bool
   pub name : Option KeptText
 
 -- What decides the rest of a page, and is all that is held of its lines.
@@ -111,6 +112,7 @@ scopes_at e = record {
     page = record { indent = indent_at e; output = e.fill.output };
     context = e.body.context;
     running = e.body.running;
+    has_begun = e.body.has_begun;
     name = e.body.name;
   };
 }
@@ -132,6 +134,7 @@ body_part b = record {
   scopes = b.scopes.scopes;
   context = b.scopes.state.context;
   running = b.scopes.state.running;
+  has_begun = b.scopes.state.has_begun;
   name = b.scopes.state.name;
 }
 

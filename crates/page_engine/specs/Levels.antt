@@ -6,16 +6,16 @@ use Rattle.page_core_base.specs.declared.note_kinds.Level.{Level}
 use Rattle.page_core_base.specs.Messages.{Message, level_of, is_below}
 use Rattle.page_core_base.specs.Sinks.{IsSink}
 
--- whether messages of a level are given: those at or above the least, and none where there is no least
-abbrev pub is_given_level : Option Level → Level → Bool
-is_given_level None level = false
-is_given_level (Some least) level = not (is_below level least)
+-- whether messages of a level are reported: those at or above the least, and none where there is no least
+abbrev pub is_reported_level : Option Level → Level → Bool
+is_reported_level None level = false
+is_reported_level (Some least) level = not (is_below level least)
 
-abbrev pub is_given : Option Level → Message → Bool
-is_given least m = is_given_level least (level_of m.kind)
+abbrev pub is_reported : Option Level → Message → Bool
+is_reported least m = is_reported_level least (level_of m.kind)
 
-unfoldable pub given : Option Level → List Message → List Message
-given least messages = filter (is_given least) messages
+unfoldable pub reported : Option Level → List Message → List Message
+reported least messages = filter (is_reported least) messages
 
 -- the greatest level, from a first one
 abbrev pub worse : Option Level → Level → Option Level
@@ -26,10 +26,10 @@ unfoldable pub worst_of : Option Level → List Message → Option Level
 worst_of worst [] = worst
 worst_of worst (m ∷ messages) = worst_of (worse worst (level_of m.kind)) messages
 
-pub given-append : (least : Option Level) (xs ys : List Message)
-    → given least (xs ++ ys) ≡ given least xs ++ given least ys
-unfolding given
-given-append least xs ys = filter-append (is_given least) xs ys
+pub reported-append : (least : Option Level) (xs ys : List Message)
+    → reported least (xs ++ ys) ≡ reported least xs ++ reported least ys
+unfolding reported
+reported-append least xs ys = filter-append (is_reported least) xs ys
 
 pub worst_of-append : (worst : Option Level) (xs ys : List Message)
     → worst_of worst (xs ++ ys) ≡ worst_of (worst_of worst xs) ys
@@ -41,35 +41,35 @@ worst_of-append worst (x ∷ xs) ys = worst_of-append (worse worst (level_of x.k
 abbrev pub FilterGave : {S N : Type 0} → (N → List Message → N → Type 0) → (S → N) → (S → Option Level)
     → (S → Option Level) → S → List Message → S → Type 0
 FilterGave ng below least worst s xs t =
-    ng (below s) (given (least s) xs) (below t) × (least t ≡ least s)
-    × (worst t ≡ worst_of (worst s) (given (least s) xs))
+    ng (below s) (reported (least s) xs) (below t) × (least t ≡ least s)
+    × (worst t ≡ worst_of (worst s) (reported (least s) xs))
 
 abbrev pub FilterWithin : {S N : Type 0} → (N → List Message → N → Type 0) → (S → N) → (S → Option Level)
     → S → List Message → S → Type 0
-FilterWithin nw below least s xs t = nw (below s) (given (least s) xs) (below t)
+FilterWithin nw below least s xs t = nw (below s) (reported (least s) xs) (below t)
 
 -- such a filter is a sink
 pub filter-sink : {S N : Type 0} (ng nw : N → List Message → N → Type 0) → IsSink ng nw → (below : S
     → N) (least worst : S → Option Level)
     → IsSink (FilterGave ng below least worst) (FilterWithin nw below least)
-unfolding given worst_of
+unfolding reported worst_of
 filter-sink ng nw k below least worst = record {
   none = λ s. (k.none (below s), refl, refl);
   more = λ s t u xs ys g h. (
-    rw given-append
-        (k.more (below s) (below t) (below u) (given (least s) xs) (given (least s) ys) g.0 (rw g.1 at h.0)),
+    rw reported-append
+        (k.more (below s) (below t) (below u) (reported (least s) xs) (reported (least s) ys) g.0 (rw g.1 at h.0)),
     h.1 ∙ g.1,
-    rw (given-append, worst_of-append) (rw (g.1, g.2) at h.2),
+    rw (reported-append, worst_of-append) (rw (g.1, g.2) at h.2),
   );
   after = λ s t u xs ys g h.
-      rw given-append
-      (k.after (below s) (below t) (below u) (given (least s) xs) (given (least s) ys) g.0 (rw g.1 at h));
+      rw reported-append
+      (k.after (below s) (below t) (below u) (reported (least s) xs) (reported (least s) ys) g.0 (rw g.1 at h));
   before = λ s t xs ys h.
-      rw given-append (k.before (below s) (below t) (given (least s) xs) (given (least s) ys) h);
+      rw reported-append (k.before (below s) (below t) (reported (least s) xs) (reported (least s) ys) h);
 }
 
 pub filter-whole : {S N : Type 0} (ng nw : N → List Message → N → Type 0) → ((s t : N) (xs : List Message)
     → ng s xs t → nw s xs t)
     → (below : S → N) (least worst : S → Option Level) (s t : S) (xs : List Message)
     → FilterGave ng below least worst s xs t → FilterWithin nw below least s xs t
-filter-whole ng nw whole below least worst s t xs g = whole (below s) (below t) (given (least s) xs) g.0
+filter-whole ng nw whole below least worst s t xs g = whole (below s) (below t) (reported (least s) xs) g.0

@@ -13,15 +13,15 @@ use Rattle.page_fill.specs.Filling.{filled, row_end}
 use Rattle.page_roff_lines.specs.Decoding.{Line}
 use Rattle.page_roff_source.specs.Edges.{SourceLine}
 pub use Rattle.page_engine.specs.Edges.{Edge, IsReached, counts_at, last_line, lines_at, moved, start}
-use Rattle.page_engine.specs.Levels.{given, worst_of}
+use Rattle.page_engine.specs.Levels.{reported, worst_of}
 use Rattle.page_engine.specs.Shown.{is_silent, shown_rows}
 
 -- of what is filled, the rows unless the output is lint, the messages by their levels, and the worst of these
 abbrev pub of_page : Edge → Edge → Laid FillEdge → Laid Edge
 of_page e next l = record {
   rows = shown_rows (is_silent e.fill.output) l.rows;
-  notes = given e.least l.notes;
-  edge = record next { worst = worst_of e.worst (given e.least l.notes); fill = l.edge };
+  notes = reported e.least l.notes;
+  edge = record next { worst = worst_of e.worst (reported e.least l.notes); fill = l.edge };
 }
 
 -- ---- lines

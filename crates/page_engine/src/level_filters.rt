@@ -2,7 +2,7 @@
 
 ghost use Rattle.std.specs.Prelude.{◌≡◌, Option};
 ghost use Rattle.std.specs.Borrow.{GName};
-ghost use Rattle.page_engine.specs.Levels.{is_given_level, worse, FilterGave, FilterWithin, filter-sink, filter-whole};
+ghost use Rattle.page_engine.specs.Levels.{is_reported_level, worse, FilterGave, FilterWithin, filter-sink, filter-whole};
 
 use page_core_base::{Fault, Level, Note, NoteKind, NoteSink};
 
@@ -15,8 +15,8 @@ pub struct LevelFilter<'a, N> {
 }
 
 // Whether messages of a level are given.
-fn is_given(least: Option<Level>, level: Level) -> bool
-    ensures { result ≡ is_given_level least level }
+fn is_reported(least: Option<Level>, level: Level) -> bool
+    ensures { result ≡ is_reported_level least level }
 {
     match least {
         None => false,
@@ -49,10 +49,10 @@ impl<N: NoteSink> NoteSink for LevelFilter<'_, N> {
 
     ghost whole = { filter-whole N.gave N.within N.whole (λ s. s.notes.now) (λ s. s.least) (λ s. s.worst) };
 
-    #[tactic(auto, unfolding(crate::specs::Levels::given, crate::specs::Levels::worst_of))]
+    #[tactic(auto, unfolding(crate::specs::Levels::reported, crate::specs::Levels::worst_of))]
     fn note(&mut self, note: &Note) -> Result<(), Fault> {
         let level = note.kind.level();
-        if !is_given(self.least, level) {
+        if !is_reported(self.least, level) {
             return Ok(());
         }
         self.notes.note(note)?;
@@ -61,9 +61,9 @@ impl<N: NoteSink> NoteSink for LevelFilter<'_, N> {
     }
 
     // A message at or above the level counts for the worst one, whatever the sink below does with it.
-    #[tactic(auto, unfolding(crate::specs::Levels::given, crate::specs::Levels::worst_of))]
+    #[tactic(auto, unfolding(crate::specs::Levels::reported, crate::specs::Levels::worst_of))]
     fn takes(&self, kind: NoteKind) -> bool {
-        is_given(self.least, kind.level())
+        is_reported(self.least, kind.level())
     }
 
     fn failures(&self) -> u64 {

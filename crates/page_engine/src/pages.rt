@@ -257,9 +257,10 @@ impl Page {
         Ok(())
     }
 
-    /// Whether the page takes lines.
+    /// Whether the page takes lines. While it does, it is at an edge, one that a page comes to.
     pub fn phase(&self) -> Phase
-        ensures { result ≡ self.now.phase }
+        ensures is { result ≡ self.now.phase }
+        ensures open { self.now.phase ≡ Phase.Open → (e : Edge) × IsOpenAt self.now e }
     {
         self.phase
     }

@@ -1,8 +1,10 @@
 -- What the block tree of a body leaves as it was: the measure of rows, the indent and the system of the settings, and the set of macros; and the
--- scopes' indent and output: helpers of proofs.
-use Rattle.std.proofs.Common.{◌≡◌, ℕ, List, [], ◌∷◌, Option, refl, ◌∙◌}
+-- scopes' indent and output; and, once the body has begun, the title: helpers of proofs.
+use Rattle.std.proofs.Common.{◌≡◌, ℕ, Bool, true, List, [], ◌∷◌, Option, refl, ◌∙◌}
 use Rattle.page_core_base.specs.declared.page_settings.Output.{Output}
+use Rattle.page_engine_header.specs.declared.fields.Fields.{Fields}
 use Rattle.page_engine_header.specs.declared.headers.Measure.{Measure}
+use Rattle.page_scopes.specs.Bodies.{begun_after}
 use Rattle.page_scopes.specs.declared.layouts.LayoutState.{LayoutState}
 use Rattle.page_scopes_laws.specs.Asides.{With, act, aside, Beside}
 use Rattle.page_scopes_laws.specs.Forests.{Ender, by_act, still_open, Forest, none, leaf, node, After, Rest, tree}
@@ -11,7 +13,10 @@ use Rattle.page_scopes_laws.specs.declared.Scope.{Scope}
 use Rattle.page_scopes_tree.specs.Acts.{Step}
 use Rattle.page_scopes_tree.specs.Nests.{Fact, coming, standing, refused}
 use Rattle.page_sets.specs.declared.either.Either.{Either}
-use Rattle.page_engine_body.specs.Bodies.{BodyEdge, HeaderEdge, indent_of}
+use Rattle.page_sets_lines.specs.declared.events.Deed.{Deed}
+use Rattle.page_sets_names.specs.declared.macro_names.Prologue.{Prologue}
+use Rattle.page_engine_body.specs.Bodies.{BodyEdge, HeaderEdge, has_begun, indent_of}
+use Rattle.page_engine_body.specs.Titles.{title_fields}
 use Rattle.page_engine_body.specs.Trees.{Aside, tells, titles, closes, body_layout, body_nesting, opened, tree_after}
 
 -- ---- block trees
@@ -98,3 +103,47 @@ tree_shared b steps =
     let d = opened b in
     rest_keeps body_layout (λ s. shared_beside s ≡ shared_of b) (keeps_shared (shared_of b)) d.scopes d.state
     (tree body_nesting d.mode (labels d.scopes) steps) refl
+
+-- ---- the title of a body that has begun
+
+-- the body has begun, its language is decided, and these are the fields of its title
+record HasTitle (fields : Fields) (s : Beside HeaderEdge LayoutState) : Type 0 where
+  begun : s.rest.has_begun ≡ true
+  decided : s.own.is_decided ≡ true
+  same : s.own.fields ≡ fields
+
+begun_stays : (deed : Deed (List ℕ)) (begun : Bool) → begun ≡ true → begun_after deed begun ≡ true
+begun_stays deed begun h = rw h refl
+
+fields_stay : (begun : Bool) (name : Prologue) (os rest : List ℕ) (fields : Fields) → begun ≡ true → title_fields begun name os rest fields ≡ fields
+fields_stay begun name os rest fields h = rw h refl
+
+leaf_title : (fields : Fields) (f : With Aside Fact) (s : Beside HeaderEdge LayoutState) → HasTitle fields s → HasTitle fields (body_layout.leaf_state f s)
+leaf_title fields (act (coming event)) s h =
+    record { begun = begun_stays event.deed s.rest.has_begun h.begun; decided = h.decided; same = h.same }
+leaf_title fields (act (standing a)) s h = record { begun = h.begun; decided = h.decided; same = h.same }
+leaf_title fields (act (refused obstacle a)) s h = record { begun = h.begun; decided = h.decided; same = h.same }
+leaf_title fields (aside (tells m)) s h = record { begun = h.begun; decided = h.decided; same = h.same }
+leaf_title fields (aside (titles place name rest)) s h = record {
+  begun = h.begun;
+  decided = h.decided;
+  same = fields_stay s.rest.has_begun name s.own.os rest s.own.fields h.begun ∙ h.same;
+}
+leaf_title fields (aside (closes line)) s h = record { begun = h.begun; decided = h.decided; same = h.same }
+
+keeps_title : (fields : Fields) → KeepsStates body_layout (HasTitle fields)
+keeps_title fields = record {
+  begins = λ l a s h. record { begun = h.begun; decided = h.decided; same = h.same };
+  leaves = λ f s h. leaf_title fields f s h;
+  ends = λ l b a s h. record { begun = h.begun; decided = h.decided; same = h.same };
+}
+
+-- the acts of a body that has begun, of a decided language, leave the fields of its title
+pub tree_title : (b : BodyEdge) (steps : List (With Aside Step)) → has_begun b ≡ true → b.header.is_decided ≡ true
+    → (tree_after b steps).header.fields ≡ b.header.fields
+unfolding edge
+tree_title b steps begun decided =
+    let d = opened b in
+    let title = rest_keeps body_layout (HasTitle b.header.fields) (keeps_title b.header.fields) d.scopes d.state
+    (tree body_nesting d.mode (labels d.scopes) steps) (record { begun = begun; decided = decided; same = refl }) in
+    title.same

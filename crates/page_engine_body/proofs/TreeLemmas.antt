@@ -68,7 +68,7 @@ aside_after_is b y = ap body_of (edge-run body_nesting sound body_layout (opened
 
 before_comes : (mode : Bool) (event : Event (List ℕ)) (nodes : List Label) (h : HeaderEdge) (s : LayoutState)
     → before_leaf body_sides (step_standing mode (comes event) 0 nodes) h s
-    ≡ (if not mode && begins event.deed s.running then header_at event.place.line h else [])
+    ≡ (if not mode && begins event.deed s.has_begun then header_at event.place.line h else [])
 before_comes true event nodes h s = refl
 before_comes false event nodes h s = refl
 

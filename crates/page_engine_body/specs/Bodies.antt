@@ -1,6 +1,6 @@
 -- The body of a page between its header and its footer: the events of each line, and the header before the event that begins the body.
 -- Source: man(7); mandoc(1), "ASCII Output" and "DIAGNOSTICS".
-use Rattle.std.specs.Prelude.{◌≡◌, ℕ, ◌==◌, ◌≤◌, Bool, true, false, Option, None, Some, List, [], ◌∷◌, ◌++◌, length, if◌then◌else◌, unwrap_or}
+use Rattle.std.specs.Prelude.{◌≡◌, ℕ, ◌==◌, ◌≤◌, ◌&&◌, Bool, true, false, Option, None, Some, List, [], ◌∷◌, ◌++◌, length, if◌then◌else◌, unwrap_or}
 use Rattle.page_core_base.specs.Latches.{Came}
 use Rattle.page_core_base.specs.Pieces.{Item, shown}
 use Rattle.page_core_base.specs.declared.note_kinds.NoteKind.TheVariants.{NoBody}
@@ -46,7 +46,11 @@ pub record BodyEdge : Type 0 where
 
 -- whether the body began
 abbrev pub has_begun : BodyEdge → Bool
-has_begun b = b.scopes.state.running.has_begun
+has_begun b = b.scopes.state.has_begun
+
+-- Whether the title stands: the body began, and the language is decided. A macro of the title comes too late then.
+abbrev pub has_title : BodyEdge → Bool
+has_title b = b.header.is_decided && has_begun b
 
 -- ---- the header
 

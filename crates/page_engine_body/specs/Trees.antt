@@ -58,20 +58,20 @@ header_at line h = header_items (is_mdoc h.set) h.measure (at line 1) h.fields
 
 -- the header stands before the event that begins the body
 abbrev pub before_fact : Fact → HeaderEdge → LayoutState → List Item
-before_fact (coming event) h s = if begins event.deed s.running then header_at event.place.line h else []
+before_fact (coming event) h s = if begins event.deed s.has_begun then header_at event.place.line h else []
 before_fact (standing a) h s = []
 before_fact (refused obstacle a) h s = []
 
 -- at the page's end a header that is missing comes with a message
 abbrev pub aside_items : Aside → HeaderEdge → LayoutState → List Item
 aside_items (tells m) h s = noted m ∷ []
-aside_items (titles place name rest) h s = title_items s.running.has_begun place name rest
-aside_items (closes line) h s = if s.running.has_begun then [] else (header_at line h ++ says NoBody (at line 1) [] ∷ [])
+aside_items (titles place name rest) h s = title_items s.has_begun place name rest
+aside_items (closes line) h s = if s.has_begun then [] else (header_at line h ++ says NoBody (at line 1) [] ∷ [])
 
 abbrev pub aside_header : Aside → HeaderEdge → LayoutState → HeaderEdge
 aside_header (tells m) h s = h
 aside_header (titles place name rest) h s =
-    record h { fields = title_fields s.running.has_begun name h.os rest h.fields }
+    record h { fields = title_fields s.has_begun name h.os rest h.fields }
 aside_header (closes line) h s = h
 
 abbrev pub body_sides : Sides Aside Step Fact HeaderEdge LayoutState Item

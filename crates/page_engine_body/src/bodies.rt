@@ -133,6 +133,13 @@ impl Body {
         })
     }
 
+    /// Whether the title stands: the body of the page has begun, and its language is decided. A macro of the title comes too late then.
+    pub fn has_title(&self) -> bool
+        ensures { result ≡ bodies.has_title self.now }
+    {
+        self.is_decided && self.scopes.has_begun()
+    }
+
     /// The output of the page.
     pub fn output(&self) -> Output
         ensures { result ≡ self.now.header.measure.output }

@@ -1,5 +1,5 @@
 -- The block tree of what roff gives over all lines is what the lines give one after another: helpers of proofs.
-use Rattle.std.proofs.Common.{◌≡◌, ℕ, ◌+◌, nat_lt, Bool, true, false, List, [], ◌∷◌, ◌++◌, length, map, Option, None, Some, ◌⊎◌, inl, inr, refl, sym, ap, ◌∙◌, append_assoc, append-nil, if◌then◌else◌}
+use Rattle.std.proofs.Common.{◌≡◌, ℕ, ◌+◌, nat_lt, Bool, true, false, ◌&&◌, List, [], ◌∷◌, ◌++◌, length, map, Option, None, Some, ◌⊎◌, inl, inr, refl, sym, ap, ◌∙◌, append_assoc, append-nil, if◌then◌else◌}
 use Rattle.std.proofs.lemmas.Bool.{cases_Bool}
 use Rattle.std.proofs.lemmas.List.{map-append}
 use Rattle.page_core_base.specs.LinesTaken.{Line}
@@ -15,9 +15,10 @@ use Rattle.page_roff_source.specs.Given.{given, done}
 use Rattle.page_roff_source.specs.LineByLine.{lines_given, lines_done}
 use Rattle.page_roff_source.proofs.CutLemmas.{given-append, done-append}
 use Rattle.page_roff_source.proofs.LineLemmas.{given-by_line, done-by_line}
-use Rattle.page_engine_body.specs.Bodies.{BodyEdge, chosen, chosen_if, decided, events_after, events_items, end_items as body_end_items}
+use Rattle.page_engine_body.specs.Bodies.{BodyEdge, chosen, chosen_if, decided, events_after, events_items, has_begun, has_title, end_items as body_end_items}
 use Rattle.page_engine_body.specs.Languages.{language_of}
 use Rattle.page_engine_body.specs.Trees.{Aside, tells, events_steps, page_end_steps, tree_items, tree_after}
+use Rattle.page_engine_body.proofs.SharedLemmas.{tree_title}
 use Rattle.page_engine_body.proofs.TreeLemmas.{tree_items-append, tree_after-append, tree_items-none, tree_after-none, aside_items_is, aside_after_is, events_tree_items, events_tree_after, events_keep, end_tree}
 use Rattle.page_scopes_laws.specs.Asides.{With, aside}
 use Rattle.page_scopes_tree.specs.Acts.{Step}
@@ -360,3 +361,22 @@ end_items_after e lines line =
     ∙ ap (λ (t : List Item). t ++ tree_items (body_after e.body all) (end_steps roff line)) (sym (given_tree_items e.body all))
     ∙ ap (λ (x : BodyEdge). lines_items e lines ++ tree_items x (end_steps roff line)) (sym (given_tree_after e.body all))
     ∙ ap (λ (t : List Item). lines_items e lines ++ t) (told_items (lines_after e lines).body (end_notes roff) line)
+
+-- ---- the title
+
+-- of a page whose title stands, lines leave the fields of the title
+title_stays : (b : BodyEdge) (all : List Given) → b.header.is_decided ≡ true → has_begun b ≡ true
+    → (tree_after (reader b all) (rest_steps b all)).header.fields ≡ b.header.fields
+title_stays b all decided begun =
+    let here : reader b all ≡ b = rw decided refl in
+    ap (λ (c : BodyEdge). (tree_after c (rest_steps b all)).header.fields) here ∙ tree_title b (rest_steps b all) begun decided
+
+both : (x y : Bool) → x && y ≡ true → (x ≡ true) × (y ≡ true)
+both true y h = (refl, h)
+both false y h = let no : ⊥ = cc in absurd no
+
+pub title_after : (e : LinesEdge) (lines : List SourceLine) → has_title e.body ≡ true
+    → (lines_after e lines).body.header.fields ≡ e.body.header.fields
+title_after e lines h =
+    let b = both e.body.header.is_decided (has_begun e.body) h in
+    title_stays e.body (given e.roff lines) b.0 b.1

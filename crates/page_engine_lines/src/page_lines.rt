@@ -5,6 +5,7 @@ ghost use Rattle.page_core_base.specs.Texts.{IsLine};
 ghost use Rattle.page_core_base.specs.Latches.{Came, Emits};
 ghost use Rattle.page_roff_source.specs.Caps.{RoffFits};
 ghost use Rattle.page_roff_source.specs.Edges.{counts_of};
+ghost use Rattle.page_engine_body.specs.Bodies.{has_title};
 ghost use Rattle.page_engine_body.specs.Caps.{BodyFits};
 ghost use Rattle.page_engine_lines.specs.Edges as edges;
 ghost use Rattle.page_engine_lines.specs.Lines as lines;
@@ -83,6 +84,13 @@ impl PageLines {
             return Err(Fault::Memory);
         };
         Ok(PageLines { roff, body })
+    }
+
+    /// Whether the title stands, whatever lines come.
+    pub fn has_title(&self) -> bool
+        ensures { result ≡ has_title self.now.body }
+    {
+        self.body.has_title()
     }
 
     // Gives a source line, and keeps what it leaves.

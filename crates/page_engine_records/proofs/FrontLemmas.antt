@@ -7,14 +7,15 @@ use Rattle.page_engine_lines.specs.Edges.{LinesEdge}
 use Rattle.page_engine_lines.specs.Lines.{source_after, source_items}
 use Rattle.page_engine_lines.proofs.TreeLemmas.{one_items, one_after, ending_is}
 use Rattle.page_roff_lines.specs.Decoding.{Line}
-use Rattle.page_engine_records.specs.Fronts.{Front, after_line, after_lines, ended, raw}
-use Rattle.page_engine_records.specs.NameTexts.{has_ended, read}
+use Rattle.page_engine_records.specs.Fronts.{Front, after_line, after_lines, ended, is_settled}
+use Rattle.page_engine_records.specs.PageRecords.{raw}
+use Rattle.page_engine_records.specs.NameTexts.{read}
 use Rattle.page_engine_records.specs.ReaderSinks.{read-append, read_notes}
 use Rattle.page_engine_records.specs.Steps.{end_read}
 use Rattle.page_engine_records.specs.declared.name_readers.NameReader.{NameReader}
 
 -- a line's pieces, as the code takes them
-pub line_read : (f : Front) (line : Line) → f.lines.roff.to_come ≡ None → has_ended f.name ≡ false
+pub line_read : (f : Front) (line : Line) → f.lines.roff.to_come ≡ None → is_settled f ≡ false
     → after_line f line
     ≡ record { lines = source_after f.lines line.number line.text; name = read f.name (source_items f.lines line.number line.text) }
 line_read f line idle inside =
@@ -26,11 +27,11 @@ line_read f line idle inside =
     rw (inside, after, name) refl
 
 pub line_taken : (f : Front) (line : Line) (lines : LinesEdge) (reader name : NameReader) (number : ℕ) (text : List ℕ) → f.lines.roff.to_come ≡ None
-    → has_ended f.name ≡ false → text ≡ line.text → number ≡ line.number → name ≡ f.name → lines ≡ source_after f.lines number text
+    → is_settled f ≡ false → text ≡ line.text → number ≡ line.number → name ≡ f.name → lines ≡ source_after f.lines number text
     → reader ≡ read name (source_items f.lines number text) → record { lines = lines; name = reader } ≡ after_line f line
 line_taken f line lines reader name number text idle inside t n m l r = rw (l, r, t, n, m) (sym (line_read f line idle inside))
 
-pub ended_stays : (f : Front) (lines : List Line) → has_ended f.name ≡ true → after_lines f lines ≡ f
+pub ended_stays : (f : Front) (lines : List Line) → is_settled f ≡ true → after_lines f lines ≡ f
 unfolding after_lines
 ended_stays f [] h = refl
 ended_stays f (line ∷ lines) h =
@@ -52,7 +53,7 @@ one_line f lines b line e h = let z : lines ≡ line ∷ [] = rw h at e in rw z 
 -- ---- the page's end
 
 end_is_read : (f : Front) → end_read f ≡ ended f
-end_is_read f = ap (λ (l : List Item). if has_ended f.name then f.name else read f.name l) (sym (ending_is f.lines 1))
+end_is_read f = ap (λ (l : List Item). if is_settled f then f.name else read f.name l) (sym (ending_is f.lines 1))
 
 pub end_named : (f g : Front) (name : NameReader) → f ≡ g → name ≡ end_read f → name ≡ ended g
 end_named f g name same h = h ∙ (end_is_read f ∙ ap (λ (x : Front). ended x) same)

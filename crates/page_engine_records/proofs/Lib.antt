@@ -3,3 +3,4 @@ pub mod NameLemmas
 pub mod ReaderLemmas
 pub mod FrontLemmas
 pub mod RunLemmas
+pub mod WholeLemmas

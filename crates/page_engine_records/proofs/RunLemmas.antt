@@ -16,13 +16,14 @@ use Rattle.page_roff_lines.specs.Cutting.{Point, first_point, last_line, lines_f
 use Rattle.page_roff_lines.specs.Decoding.{Line, lines}
 use Rattle.page_roff_lines.proofs.LineAgreement.{lines-one_by_one}
 use Rattle.page_roff_lines.proofs.PointLemmas.{lines_within-append, point_after-append}
-use Rattle.page_engine_records.specs.Fronts.{Front, after_lines, ended, front_record, page_record, record_of_lines, start}
-use Rattle.page_engine_records.specs.NameTexts.{has_ended}
+use Rattle.page_engine_records.specs.Fronts.{Front, after_lines, ended, front_record, is_settled, start}
+use Rattle.page_engine_records.specs.PageRecords.{page_record, record_of_lines}
 use Rattle.page_engine_records.specs.Records.{record_by}
 use Rattle.page_engine_records.specs.Runs.{HasCause, ReadsRecordOver, Stopped}
 use Rattle.page_engine_records.specs.Steps.{EndedWell, Finished, HasRoom, IsAt, IsFresh, ReadsAll, StartsAt, StoppedBy, Through, front_of}
 use Rattle.page_engine_records.specs.declared.runs.RecordRun.{RecordRun}
 use Rattle.page_engine_records.proofs.FrontLemmas.{after_lines-append, ended_stays}
+use Rattle.page_engine_records.proofs.WholeLemmas.{whole_record}
 
 -- ---- bytes
 
@@ -51,20 +52,20 @@ through_more {a} {b} {d} xs ys s t = record {
 not_both : {X : Type 0} (b : Bool) → b ≡ true → b ≡ false → X
 not_both b t f = let no : ⊥ = cc in absurd no
 
--- after the section NAME
-pub ended_through : (run : RecordRun) (bytes : List ℕ) → has_ended run.page.name ≡ true → Through run run bytes
+-- once the record is settled
+pub ended_through : (run : RecordRun) (bytes : List ℕ) → is_settled (front_of run.page) ≡ true → Through run run bytes
 ended_through run bytes e = record {
   front = λ p h. sym (ended_stays (front_of run.page) (lines_within p bytes) e);
-  at = λ p h. record { point = λ f. not_both (has_ended run.page.name) e f; idle = h.idle };
+  at = λ p h. record { point = λ f. not_both (is_settled (front_of run.page)) e f; idle = h.idle };
   room = λ count h. record {
-    free = λ f. not_both (has_ended run.page.name) e f;
-    bytes = λ f. not_both (has_ended run.page.name) e f;
+    free = λ f. not_both (is_settled (front_of run.page)) e f;
+    bytes = λ f. not_both (is_settled (front_of run.page)) e f;
     lines = omega (arith, h.lines);
   };
 }
 
 -- before it the cutter took them
-pub part_through : (run run' : RecordRun) (bytes : List ℕ) → has_ended run.page.name ≡ false
+pub part_through : (run run' : RecordRun) (bytes : List ℕ) → is_settled (front_of run.page) ≡ false
     → front_of run'.page ≡ after_lines (front_of run.page) (lines_within run.cutter.point bytes)
     → run'.cutter.point ≡ point_after run.cutter.point bytes → run'.cutter.ready ≡ false
     → run'.cutter.point.line.consumed ≡ run.cutter.point.line.consumed + length bytes
@@ -135,7 +136,6 @@ starts_fresh run s h =
 
 whole_page : (run run' : RecordRun) (a b : SourceState) (s : PageSettings) (bytes : List ℕ) → StartsAt run s → EndedWell run run' a b bytes
     → record_by run'.page.name.side run'.page.name.text run'.page.lines.body.header.fields.section ≡ page_record s bytes
-unfolding record_of_lines
 whole_page run run' a b s bytes h w =
     let p = first_point s.encoding in
     let at = starts_at run s h in
@@ -143,7 +143,8 @@ whole_page run run' a b s bytes h w =
     let same : after_lines (front_of run.page) (lines_from p bytes) ≡ f = ap (λ (g : Front). after_lines g (lines_from p bytes)) h.front in
     let name = w.name p at ∙ ap (λ (g : Front). ended g) same in
     let fields = w.fields p at ∙ ap (λ (g : Front). g.lines.body.header.fields) same in
-    let all : front_record f ≡ page_record s bytes = ap (λ (l : List Line). front_record (after_lines (start s) l)) (sym (lines-one_by_one s.encoding bytes)) in
+    let all : front_record f ≡ page_record s bytes =
+    whole_record s (lines_from p bytes) ∙ ap (λ (l : List Line). record_of_lines s l) (sym (lines-one_by_one s.encoding bytes)) in
     rw (name, fields) all
 
 pub ends_well : (run run' : RecordRun) (a b : SourceState) (s : PageSettings) (bytes : List ℕ) (found : Option Record) → IsGood s → StartsAt run s

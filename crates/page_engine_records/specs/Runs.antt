@@ -8,7 +8,7 @@ use Rattle.page_core_base.specs.declared.faults.Fault.TheVariants.{Memory, Read,
 use Rattle.page_core_base.specs.declared.page_settings.Settings.{Settings as PageSettings}
 use Rattle.page_core_sources.specs.Sources.{SourceState, HasGiven, IsLean}
 use Rattle.page_engine_index.specs.declared.records.Record.{Record}
-use Rattle.page_engine_records.specs.Fronts.{page_record}
+use Rattle.page_engine_records.specs.PageRecords.{page_record}
 
 -- all bytes were read, and this is the record of their page, if it has one
 pub record IsRecord (s : PageSettings) (bytes : List ℕ) (after : Option (List ℕ)) (found : Option Record) : Type 0 where

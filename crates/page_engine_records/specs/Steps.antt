@@ -8,8 +8,8 @@ use Rattle.page_core_sources.specs.Sources.{SourceState, HasGiven, IsLean}
 use Rattle.page_engine_lines.specs.Lines.{end_items}
 use Rattle.page_roff_lines.specs.Cutting.{Point, first_point, last_line, lines_from, lines_within, point_after}
 use Rattle.page_core_base.specs.declared.page_settings.Settings.{Settings as PageSettings}
-use Rattle.page_engine_records.specs.Fronts.{Front, after_lines, ended, start}
-use Rattle.page_engine_records.specs.NameTexts.{has_ended, read, reader_at}
+use Rattle.page_engine_records.specs.Fronts.{Front, after_lines, ended, is_settled, start}
+use Rattle.page_engine_records.specs.NameTexts.{read, reader_at}
 use Rattle.page_engine_records.specs.Runs.{IsTooLong}
 use Rattle.page_engine_records.specs.declared.fronts.PageFront.{PageFront}
 use Rattle.page_engine_records.specs.declared.name_readers.NameReader.{NameReader}
@@ -22,17 +22,17 @@ front_of page = record { lines = page.lines; name = page.name }
 
 -- what is read at the page's end
 abbrev pub end_read : Front → NameReader
-end_read f = if has_ended f.name then f.name else read f.name (end_items f.lines 1)
+end_read f = if is_settled f then f.name else read f.name (end_items f.lines 1)
 
--- until the section NAME has ended, the cutter is at this point; nothing of a line is still to come
+-- until the record is settled, the cutter is at this point; nothing of a line is still to come
 pub record IsAt (run : RecordRun) (p : Point) : Type 0 where
-  pub point : has_ended run.page.name ≡ false → run.cutter.point ≡ p
+  pub point : is_settled (front_of run.page) ≡ false → run.cutter.point ≡ p
   pub idle : run.page.lines.roff.to_come ≡ None
 
 -- there is room for more bytes
 pub record HasRoom (run : RecordRun) (count : ℕ) : Type 0 where
-  pub free : has_ended run.page.name ≡ false → run.cutter.ready ≡ false
-  pub bytes : has_ended run.page.name ≡ false → run.cutter.point.line.consumed + count < 2 ^ 31
+  pub free : is_settled (front_of run.page) ≡ false → run.cutter.ready ≡ false
+  pub bytes : is_settled (front_of run.page) ≡ false → run.cutter.point.line.consumed + count < 2 ^ 31
   pub lines : run.page.lines.roff.source + count < 2 ^ 31
 
 -- these bytes were read

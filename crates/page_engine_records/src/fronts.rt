@@ -5,7 +5,7 @@ ghost use Rattle.page_core_base.specs.Texts.{IsLine};
 ghost use Rattle.page_roff_lines.specs.Cutting.{line_of};
 ghost use Rattle.page_engine_lines.specs.Lines.{source_after, source_items};
 ghost use Rattle.page_engine_records.specs.Fronts as fronts;
-ghost use Rattle.page_engine_records.specs.NameTexts.{read, has_ended};
+ghost use Rattle.page_engine_records.specs.NameTexts.{read};
 ghost use Rattle.page_engine_records.specs.Steps.{end_read, front_of};
 
 use crate::name_readers::{NameReader, Side};
@@ -34,6 +34,13 @@ impl PageFront {
         Ok(PageFront { lines, name })
     }
 
+    /// Whether the record is settled: the section NAME has ended, and no line changes the title any more.
+    pub(crate) fn is_settled(&self) -> bool
+        ensures { result ≡ fronts.is_settled (front_of self.now) }
+    {
+        self.name.has_ended() && self.lines.has_title()
+    }
+
     // Reads the pieces of a line.
     fn read_text(&mut self, text: &[u8], number: u32)
         requires line { IsLine text.now }
@@ -49,7 +56,7 @@ impl PageFront {
         requires ready { cutter.old.ready ≡ true }
         requires count { self.old.lines.roff.source < 2 ^ 31 }
         requires idle { self.old.lines.roff.to_come ≡ None }
-        requires inside { has_ended self.old.name ≡ false }
+        requires inside { fronts.is_settled (front_of self.old) ≡ false }
         ensures front { front_of self.new ≡ fronts.after_line (front_of self.old) (line_of cutter.old.point) }
         ensures source { self.new.lines.roff.source ≡ self.old.lines.roff.source + 1 }
         ensures idle { self.new.lines.roff.to_come ≡ None }
@@ -66,7 +73,7 @@ impl PageFront {
         ensures name { self.new.name ≡ end_read (front_of self.old) }
         ensures header { self.new.lines.body.header ≡ self.old.lines.body.header }
     {
-        if !self.name.has_ended() {
+        if !self.is_settled() {
             let _ = self.lines.end(&mut self.name, 1);
         }
     }

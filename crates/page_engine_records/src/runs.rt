@@ -64,15 +64,15 @@ impl RecordRun {
         Ok(RecordRun { page, cutter })
     }
 
-    // Takes bytes up to the end of a line, or all of a chunk, and reads a line that is whole. It answers how many bytes it took. After the
-    // section NAME bytes are passed over.
+    // Takes bytes up to the end of a line, or all of a chunk, and reads a line that is whole. It answers how many bytes it took. Once the
+    // record is settled bytes are passed over.
     fn take_part(&mut self, chunk: &[u8]) -> usize
         requires some { 0 < length chunk.now }
         requires room { HasRoom self.old (length chunk.now) }
         requires idle { self.old.page.lines.roff.to_come ≡ None }
         ensures { TookPart self.old self.new chunk.now result }
     {
-        if self.page.name.has_ended() {
+        if self.page.is_settled() {
             return chunk.len();
         }
         let (count, is_whole) = self.cutter.feed(chunk);
@@ -102,7 +102,7 @@ impl RecordRun {
         requires idle { self.old.page.lines.roff.to_come ≡ None }
         ensures { TookLast self.old self.new }
     {
-        if self.page.name.has_ended() {
+        if self.page.is_settled() {
             return;
         }
         if !self.cutter.end() {

@@ -70,8 +70,12 @@ deed_begins (deeds.Raw text) = true
 deed_begins (deeds.End fills) = false
 deed_begins (deeds.Note kind detail begins_body) = begins_body
 
-abbrev pub begins : Deed (List ℕ) → Running → Bool
-begins deed r = not r.has_begun && deed_begins deed
+abbrev pub begins : Deed (List ℕ) → (has_begun : Bool) → Bool
+begins deed has_begun = not has_begun && deed_begins deed
+
+-- a body that has begun stays so
+abbrev pub begun_after : Deed (List ℕ) → (has_begun : Bool) → Bool
+begun_after deed has_begun = if begins deed has_begun then true else has_begun
 
 -- it is to begin by a section
 abbrev pub opens_section : Opener (List ℕ) → Bool
@@ -88,8 +92,8 @@ section_notes place deed = if is_section deed then [] else says BeforeSection (a
 abbrev pub front_items : Place → Deed (List ℕ) → Context → List Item
 front_items place deed c = section_notes place deed ++ shown (pieces.Literal c.is_literal.value) ∷ margin_items c
 
-abbrev pub body_items : Place → Deed (List ℕ) → Context → Running → List Item
-body_items place deed c r = if begins deed r then front_items place deed c else []
+abbrev pub body_items : Place → Deed (List ℕ) → Context → (has_begun : Bool) → List Item
+body_items place deed c has_begun = if begins deed has_begun then front_items place deed c else []
 
 -- ---- an event comes: it may begin the body, and the number of its closer is read
 
@@ -101,15 +105,8 @@ abbrev pub deed_notes : Place → Deed (List ℕ) → List Item
 deed_notes place (deeds.Close closer) = closer_notes place closer
 deed_notes place _ = []
 
-abbrev pub body_begun : Deed (List ℕ) → Running → Running
-body_begun deed r = if begins deed r then record r { has_begun = true } else r
-
-unfoldable pub coming : Place → Deed (List ℕ) → Context → Running → Outcome
-coming place deed c r = record {
-  items = body_items place deed c r ++ deed_notes place deed;
-  context = c;
-  running = body_begun deed r;
-}
+unfoldable pub coming : Place → Deed (List ℕ) → Context → (has_begun : Bool) → List Item
+coming place deed c has_begun = body_items place deed c has_begun ++ deed_notes place deed
 
 -- ---- an act stands that opens nothing: after a closer its suffix is glued to what its scope ended with
 
@@ -137,29 +134,31 @@ leaf_waits (leaves.Wordless text) = true
 leaf_waits (leaves.Request request) = true
 leaf_waits _ = false
 
-abbrev pub is_early : Leaf (List ℕ) → Running → Bool
-is_early leaf r = not r.has_begun && leaf_waits leaf
+abbrev pub is_early : Leaf (List ℕ) → (has_begun : Bool) → Bool
+is_early leaf has_begun = not has_begun && leaf_waits leaf
 
-abbrev pub leaf_stands : Place → Leaf (List ℕ) → Option KeptText → Context → Running → Outcome
-leaf_stands place leaf name c r = if is_early leaf r then nothing c r else deed_outcome place (deeds.Leaf leaf) name c r
+abbrev pub leaf_stands : Place → Leaf (List ℕ) → Option KeptText → (has_begun : Bool) → Context → Running → Outcome
+leaf_stands place leaf name has_begun c r =
+    if is_early leaf has_begun then nothing c r else deed_outcome place (deeds.Leaf leaf) name c r
 
-abbrev pub deed_stands : Place → Deed (List ℕ) → Option KeptText → Context → Running → Outcome
-deed_stands place (deeds.Close closer) name c r = suffix place.line closer c r
-deed_stands place (deeds.Leaf leaf) name c r = leaf_stands place leaf name c r
-deed_stands place deed name c r = deed_outcome place deed name c r
+abbrev pub deed_stands : Place → Deed (List ℕ) → Option KeptText → (has_begun : Bool) → Context → Running → Outcome
+deed_stands place (deeds.Close closer) name has_begun c r = suffix place.line closer c r
+deed_stands place (deeds.Leaf leaf) name has_begun c r = leaf_stands place leaf name has_begun c r
+deed_stands place deed name has_begun c r = deed_outcome place deed name c r
 
 -- with the columns of a name that begins a row of the SYNOPSIS
-abbrev pub event_stands : Output → Event (List ℕ) → Option KeptText → Context → Running → Outcome
-event_stands output event name c r = deed_stands event.place event.deed name c (deed_counted output event.deed name r)
+abbrev pub event_stands : Output → Event (List ℕ) → Option KeptText → (has_begun : Bool) → Context → Running → Outcome
+event_stands output event name has_begun c r =
+    deed_stands event.place event.deed name has_begun c (deed_counted output event.deed name r)
 
 -- at the page's end the row ends
 abbrev pub page_ends : Context → Running → Outcome
 page_ends c r = record { items = shown pieces.Break ∷ []; context = c; running = row_ended r }
 
 -- the name is that of the manual
-unfoldable pub stands : Output → Act (Event (List ℕ)) → Option KeptText → Context → Running → Outcome
-stands output (acts.Event event) name c r = event_stands output event name c r
-stands output (acts.PageEnd line) name c r = page_ends c r
+unfoldable pub stands : Output → Act (Event (List ℕ)) → Option KeptText → (has_begun : Bool) → Context → Running → Outcome
+stands output (acts.Event event) name has_begun c r = event_stands output event name has_begun c r
+stands output (acts.PageEnd line) name has_begun c r = page_ends c r
 
 abbrev pub act_name : Act (Event (List ℕ)) → Option KeptText → Option KeptText
 act_name (acts.Event event) name = name_after event.deed name

@@ -71,10 +71,10 @@ fn deed_begins(deed: &Deed<&[u8]>) -> bool
 }
 
 /// Whether a deed begins the body.
-pub(crate) fn begins(deed: &Deed<&[u8]>, running: &Running) -> bool
-    ensures { result ≡ bodies.begins (deed_seen deed.now) running.now }
+pub(crate) fn begins(deed: &Deed<&[u8]>, has_begun: bool) -> bool
+    ensures { result ≡ bodies.begins (deed_seen deed.now) has_begun }
 {
-    !running.has_begun && deed_begins(deed)
+    !has_begun && deed_begins(deed)
 }
 
 // Whether a deed opens a section.
@@ -119,15 +119,15 @@ pub(crate) fn give_coming<O: PieceOut>(
     place: Place,
     deed: &Deed<&[u8]>,
     context: &Context,
-    running: &mut Running,
+    has_begun: &mut bool,
 )
-    ensures { GivesOutcome O.left out.old
-        (bodies.coming place (deed_seen deed.now) context.now running.old)
-        out.new context.now running.new }
+    ensures came { Came O.left out.old
+        (bodies.coming place (deed_seen deed.now) context.now has_begun.old) out.new }
+    ensures begun { has_begun.new ≡ bodies.begun_after (deed_seen deed.now) has_begun.old }
 {
-    if begins(deed, running) {
+    if begins(deed, *has_begun) {
         give_front(out, place, deed, context);
-        running.has_begun = true;
+        *has_begun = true;
     }
     report_number(out, place, deed);
 }
@@ -164,10 +164,10 @@ fn give_suffix<O: PieceOut>(
 }
 
 // Whether a leaf comes before the body and gives nothing there.
-fn is_early(leaf: &Leaf<&[u8]>, running: &Running) -> bool
-    ensures { result ≡ bodies.is_early (leaf_seen leaf.now) running.now }
+fn is_early(leaf: &Leaf<&[u8]>, has_begun: bool) -> bool
+    ensures { result ≡ bodies.is_early (leaf_seen leaf.now) has_begun }
 {
-    !running.has_begun && matches!(leaf, Leaf::BlankLine | Leaf::Wordless(_) | Leaf::Request(_))
+    !has_begun && matches!(leaf, Leaf::BlankLine | Leaf::Wordless(_) | Leaf::Request(_))
 }
 
 // Gives a deed that opens nothing. The name is that of the manual.
@@ -177,19 +177,20 @@ fn give_deed_standing<O: PieceOut>(
     place: Place,
     deed: &Deed<&[u8]>,
     name: &mut Option<KeptText>,
+    has_begun: bool,
     context: &mut Context,
     running: &mut Running,
 )
     requires { DeedFits (deed_seen deed.now) }
     ensures gives { GivesOutcome O.left out.old
-        (bodies.deed_stands place (deed_seen deed.now) name.old context.old running.old)
+        (bodies.deed_stands place (deed_seen deed.now) name.old has_begun context.old running.old)
         out.new context.new running.new }
     ensures name { name.new ≡ name_after (deed_seen deed.now) name.old }
 {
     match deed {
         Deed::Close(closer) => give_suffix(out, place.line, closer, context, running),
         Deed::Leaf(leaf) => {
-            if !is_early(leaf, running) {
+            if !is_early(leaf, has_begun) {
                 give_deed(out, place, deed, name, context, running);
             }
         }
@@ -205,19 +206,28 @@ pub(crate) fn give_standing<O: PieceOut>(
     output: Output,
     act: &Act<&Event<&[u8]>>,
     name: &mut Option<KeptText>,
+    has_begun: bool,
     context: &mut Context,
     running: &mut Running,
 )
     requires { TakesAct (λ event. DeedFits event.deed) (act_seen act.now) }
     ensures gives { GivesOutcome O.left out.old
-        (bodies.stands output (act_seen act.now) name.old context.old running.old)
+        (bodies.stands output (act_seen act.now) name.old has_begun context.old running.old)
         out.new context.new running.new }
     ensures name { name.new ≡ bodies.act_name (act_seen act.now) name.old }
 {
     match act {
         Act::Event(event) => {
             count_name(output, &event.deed, name, running);
-            give_deed_standing(out, event.place, &event.deed, name, context, running);
+            give_deed_standing(
+                out,
+                event.place,
+                &event.deed,
+                name,
+                has_begun,
+                context,
+                running,
+            );
         }
         Act::PageEnd(_) => {
             out.give(Piece::Break);

@@ -23,6 +23,8 @@ pub struct LayoutState {
     pub page: PageLayout,
     pub context: Context,
     pub running: Running,
+    /// The body of the page has begun.
+    pub has_begun: bool,
     /// The name of the manual, which `Nm` gives.
     pub name: Option<KeptText>,
 }
@@ -65,6 +67,7 @@ impl LayoutState {
             page,
             context: self.context,
             running: self.running,
+            has_begun: self.has_begun,
             name: text_copy(&self.name),
         }
     }
@@ -77,6 +80,7 @@ impl LayoutState {
             page,
             context: Context::start(page.indent),
             running: Running::start(),
+            has_begun: false,
             name: None,
         }
     }
@@ -138,7 +142,7 @@ impl Laying for LayoutState {
             event.place,
             &event.deed,
             &self.context,
-            &mut self.running,
+            &mut self.has_begun,
         );
     }
 
@@ -149,6 +153,7 @@ impl Laying for LayoutState {
             self.page.output,
             act,
             &mut self.name,
+            self.has_begun,
             &mut self.context,
             &mut self.running,
         );

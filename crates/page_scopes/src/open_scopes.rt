@@ -77,9 +77,9 @@ impl OpenScopes {
 
     /// Whether the body of the page has begun.
     pub fn has_begun(&self) -> bool
-        ensures { result ≡ self.now.state.running.has_begun }
+        ensures { result ≡ self.now.state.has_begun }
     {
-        self.stack.state().running.has_begun
+        self.stack.state().has_begun
     }
 
     /// Whether an event begins the body of the page.
@@ -87,7 +87,7 @@ impl OpenScopes {
     pub fn begins_body(&self, event: &Event<&[u8]>) -> bool
         ensures { result ≡ begins_body self.now (event_seen event.now) }
     {
-        !self.stack.skips() && begins(&event.deed, &self.stack.state().running)
+        !self.stack.skips() && begins(&event.deed, self.stack.state().has_begun)
     }
 
     /// Takes an event of a line, and gives what it settles.

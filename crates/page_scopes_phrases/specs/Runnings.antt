@@ -19,7 +19,7 @@ no_line = record {
 
 -- before a page's first line
 abbrev pub start : Running
-start = record { has_begun = false; has_content = false; gap = 1; line = no_line; heading = no_heading }
+start = record { has_content = false; gap = 1; line = no_line; heading = no_heading }
 
 -- after a line with words one blank stands, two after a sentence, none where it ends in `\c` or where no blanks stand between words; what is glued stays glued
 abbrev pub words_gap : (spacing : Bool) → LineSoFar → ℕ → ℕ

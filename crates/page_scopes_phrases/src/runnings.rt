@@ -30,8 +30,6 @@ pub struct LineSoFar {
 /// What is known along a page whatever its scopes are.
 #[derive(Clone, Copy)]
 pub struct Running {
-    /// The body of the page has begun.
-    pub has_begun: bool,
     /// A word, a raw line, a blank line or `sp` came since the last heading.
     pub has_content: bool,
     /// The count of blanks before the next word.
@@ -76,7 +74,6 @@ impl Running {
         ensures { result ≡ runnings.start }
     {
         Running {
-            has_begun: false,
             has_content: false,
             gap: 1,
             line: NO_LINE,

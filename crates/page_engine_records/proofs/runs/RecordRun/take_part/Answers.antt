@@ -6,17 +6,17 @@ use Rattle.page_engine_records.proofs.FrontLemmas.{no_line, one_line}
 use Rattle.page_engine_records.proofs.RunLemmas.{ended_through, part_through, some_taken}
 use Rattle.page_engine_records.proofs.runs.RecordRun.take_part.Goals as goal
 
-pub returns-then-has_ended : goal.returns-then-has_ended
-returns-then-has_ended c =
+pub returns-then-is_settled : goal.returns-then-is_settled
+returns-then-is_settled c =
     let chunk = c.args.chunk.now in record {
       some = c.requires.some;
       most = omega arith;
-      through = rw (take_all (length chunk) chunk (omega arith)) (ended_through c.args.self.now chunk (sym c.has_ended.ensures ∙ c.if-has_ended.true));
+      through = rw (take_all (length chunk) chunk (omega arith)) (ended_through c.args.self.now chunk (sym c.is_settled.ensures ∙ c.if-is_settled.true));
     }
 
 pub feed-count-requires : goal.feed-count-requires
 feed-count-requires c =
-    let inside = sym c.has_ended.ensures ∙ c.if-has_ended.false in
+    let inside = sym c.is_settled.ensures ∙ c.if-is_settled.false in
     let bytes = c.requires.room.bytes inside in
     record { free = c.requires.room.free inside; consumed = omega (arith, bytes) }
 
@@ -25,7 +25,7 @@ read_line-requires c = record {
   ready = c.feed-count.ensures.ready ∙ c.if-not-is_whole.false;
   count = omega (arith, c.requires.room.lines);
   idle = c.requires.idle;
-  inside = sym c.has_ended.ensures ∙ c.if-has_ended.false;
+  inside = sym c.is_settled.ensures ∙ c.if-is_settled.false;
 }
 
 pub returns-then-not-is_whole : goal.returns-then-not-is_whole
@@ -39,7 +39,7 @@ returns-then-not-is_whole c =
     let all = f.all c.if-not-is_whole.true in record {
       some = omega (arith, c.requires.some, all);
       most = f.within;
-      through = part_through c.args.self.now _ (take n chunk) (sym c.has_ended.ensures ∙ c.if-has_ended.false)
+      through = part_through c.args.self.now _ (take n chunk) (sym c.is_settled.ensures ∙ c.if-is_settled.false)
           (no_line page lines b (line_of c.feed-count.new.self.point) f.lines c.if-not-is_whole.true) f.point (f.ready ∙ c.if-not-is_whole.true)
           (omega (arith, f.consumed, length-take n chunk, f.within)) (omega arith) (λ i. i);
     }
@@ -58,7 +58,7 @@ returns c =
     let same = ap (λ (q : Point). q.line.consumed) r.point in record {
       some = some;
       most = f.within;
-      through = part_through c.args.self.now _ (take n chunk) (sym c.has_ended.ensures ∙ c.if-has_ended.false)
+      through = part_through c.args.self.now _ (take n chunk) (sym c.is_settled.ensures ∙ c.if-is_settled.false)
           (r.front ∙ one_line page (lines_within p (take n chunk)) b line f.lines c.if-not-is_whole.false) (r.point ∙ f.point) r.ready
           (omega (arith, same, f.consumed, length-take n chunk, f.within)) (omega (arith, r.source, some, length-take n chunk, f.within)) (λ _. r.idle);
     }
