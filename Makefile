@@ -24,7 +24,7 @@ PROGRESS := start=$$(date +%s); while IFS= read -r line; do \
 	    "status "*) status=$${line\#status } ;; \
 	    esac; done
 
-.PHONY: all quick check install clean
+.PHONY: all quick check edits install clean
 
 all: mandoc
 
@@ -52,6 +52,10 @@ mandoc-unproved: $(SOURCES) tools/quick
 check:
 	@docs/check
 	@rt ci
+
+# The edits that the gate leaves out, of the crates that CRATES names, or of all: the prover must refuse each.
+edits:
+	@tools/edits $(CRATES)
 
 install: mandoc
 	install -D -m 755 mandoc $(DESTDIR)$(PREFIX)/bin/mandoc
