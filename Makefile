@@ -1,4 +1,4 @@
-# Proves and builds the program, installs it, and checks the whole repository.
+# Proves and builds the program, installs it, and checks the whole repository. `make quick` builds it with no proof.
 PREFIX ?= /usr/local
 
 # How many crates are in work at a time. Some of them wait for others, so these are two more than there are processors, as far as memory goes
@@ -24,7 +24,7 @@ PROGRESS := start=$$(date +%s); while IFS= read -r line; do \
 	    "status "*) status=$${line\#status } ;; \
 	    esac; done
 
-.PHONY: all check install clean
+.PHONY: all quick check edits install clean
 
 all: mandoc
 
@@ -41,10 +41,21 @@ mandoc: $(SOURCES)
 	@cp $(PROGRAM)/out/mandoc $@
 	@echo "./mandoc is built."
 
+# The program in about two minutes, with no proof of anything: to see a page, and to try a change before it is proved.
+quick: mandoc-unproved
+	@echo "NOTHING of ./mandoc-unproved is proved: \`make\` proves the program, and builds ./mandoc."
+
+mandoc-unproved: $(SOURCES) tools/quick
+	@tools/quick $@
+
 # The whole gate: what the documents say of the code, and then all proofs, tests and runs. Its last line is 'N passed, M failed'.
 check:
 	@docs/check
 	@rt ci
+
+# The edits that the gate leaves out, of the crates that CRATES names, or of all: the prover must refuse each.
+edits:
+	@tools/edits $(CRATES)
 
 install: mandoc
 	install -D -m 755 mandoc $(DESTDIR)$(PREFIX)/bin/mandoc
@@ -53,4 +64,4 @@ install: mandoc
 	install -D -m 644 man/whatis.1 $(DESTDIR)$(PREFIX)/share/man/man1/mandoc-whatis.1
 
 clean:
-	rm -rf crates/*/out mandoc
+	rm -rf crates/*/out mandoc mandoc-unproved

@@ -6,7 +6,7 @@ Pages with tables, equations or pictures, pages that only name another one, page
 profile has not (`At Lb St`) or put one in another order (`Rs`), links, and pages with the same bytes as one before are left aside. Headers and footers are left aside too, with the blank rows beside them. Printed are two
 shares of the pages: those with the same words in the same order, and those with the same rows, margins and blank rows too. For the first
 LISTED pages (default 20) whose words differ, and for as many with the same words in other rows, it prints where they first differ: ours,
-then the other's. Blanks at a row's end do not count.
+then the other's. Blanks at a row's end do not count. Ours is ./mandoc, or the program that the variable PROGRAM names.
 """
 import gzip
 import itertools
@@ -23,6 +23,7 @@ LEFT_ASIDE = {
 }
 BROKEN = re.compile(rb"([A-Za-z]-)\n *(?=[A-Za-z])")
 OPTIONS = ["-T", "ascii", "-O", "width=78"]
+OURS = os.environ.get("PROGRAM", "./mandoc")
 
 
 def language_of(page):
@@ -103,7 +104,7 @@ def main():
     count, same_words, same_rows = 0, 0, 0
     for name, page in pages(folder, language):
         count += 1
-        ours, others = body("./mandoc", page), body("mandoc", page)
+        ours, others = body(OURS, page), body("mandoc", page)
         found = difference(words(ours), words(others), 4, 6)
         if found is not None:
             if count - same_words <= listed:
