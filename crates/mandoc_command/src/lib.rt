@@ -4,6 +4,9 @@
 //! It stands beside the layers of a page: the program (`mandoc_cli`) asks it what to do, and runs pages by its settings.
 //!
 //! Read first: `command` in `line.rt`, with `specs/Line.antt` and `specs/Asked.antt`; then `status_of`.
+//!
+//! Proved: `command`, `status_of`: a command is the one that `wanted` defines, by the words that `clap` finds (`specs/Line.antt`), and a status the
+//! one of its table; a refusal is for bad words or for want of memory.
 #![tactic(auto)]
 
 mod commands;

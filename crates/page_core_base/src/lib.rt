@@ -5,6 +5,11 @@
 //!
 //! Read first: `Piece` and `PieceSink` in `pieces.rt`; then `RowSink`, `NoteSink`, and `PieceLatch` for how inner
 //! functions give.
+//!
+//! Proved: `is_line`, `Level::is_below`, `NoteKind::level`, `NoteKind::text`, `Note::about`: what a line may hold, and the level and the text of each
+//! kind of message (`specs/Texts.antt`, `Messages.antt`). `Settings::check`, `Settings::set_os`: settings are refused exactly where a bound is
+//! passed, the first one first (`specs/Checks.antt`). `PieceLatch`: all that is given came to the sink, or a front of it and then its fault
+//! (`specs/Latches.antt`).
 #![tactic(auto)]
 
 mod cells;

@@ -3,6 +3,9 @@
 //! It stands below roff, which finds the escapes that it interpolates, and below the scopes, which read a text token by token.
 //!
 //! Read first: `escape` below, with the table of letters in `specs/Letters.antt`; then `read_token` in `tokens.rt`.
+//!
+//! Proved: `escape`, `read_token`: what the escape at the front of a text is, and how long it is, by one table of letters (`specs/Letters.antt`,
+//! `Meanings.antt`); the tokens of a text. `read_font`, `short_font`: the font of a name.
 #![tactic(auto)]
 
 ghost use Rattle.std.specs.Prelude.{◌≡◌, ◌+◌, ◌<◌, ◌≤◌, false, length, slice_index, IfSome};

@@ -3,6 +3,8 @@
 //! It stands below the layers of a page, which take their limits from here.
 //!
 //! Read first: the constants, and `Limit::name`.
+//!
+//! Proved: `Limit::name`: the name of each limit is that of `specs/Limits.antt`.
 #![tactic(auto)]
 
 ghost use Rattle.std.specs.Prelude.{◌≡◌};

@@ -4,6 +4,9 @@
 //!
 //! Read first: `number` below, with `specs/Expressions.antt`; `evaluate` (`evaluations.rt`), the same without a sink; then `columns` in
 //! `text_columns.rt`.
+//!
+//! Proved: `number`: the value, the length and the messages of the expression at a text's front are those of `expression_of`
+//! (`specs/Expressions.antt`). `columns`: the columns of a text are the sum over the characters that it prints (`specs/Columns.antt`).
 #![tactic(auto)]
 
 ghost use Rattle.std.specs.Prelude.{◌≡◌, ◌+◌, length, IfOk, MatchResult};

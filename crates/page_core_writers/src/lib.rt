@@ -3,6 +3,9 @@
 //! It stands at the end of the pipeline: the rows that filling settles, and the messages of all layers, become bytes here.
 //!
 //! Read first: `TextRows` in `text_rows.rt` with `specs/RowBytes.antt`, and `TextNotes` in `text_notes.rt` with `specs/MessageBytes.antt`.
+//!
+//! Proved: `write_note`, `cell_bytes`, `TextRows`, `TextNotes`: a writer gets exactly the bytes of each message, cell and row; with a fault, a front
+//! of them.
 #![tactic(auto)]
 
 mod cells;

@@ -4,6 +4,11 @@
 //! gives.
 //!
 //! Read first: `PageLines` in `page_lines.rt`, with `specs/Edges.antt` and `Lines.antt`; then the loop of `taking.rt`, with `specs/Given.antt`.
+//!
+//! Proved: `PageLines` (`line`, `end`, `footer`, `counts`): what a source line gives: the message of white space at its end, roff's messages, and the
+//! items of the lines that roff takes of it, in their order (`source_items` in `specs/Lines.antt`). `tree_law`, `cut_law`: the forest of all lines
+//! gives the acts of one block tree (`lines_items` in `specs/Acts.antt`); these are what the lines give one after another, and a page may be cut
+//! between any two lines.
 #![tactic(auto)]
 
 mod item_outs;

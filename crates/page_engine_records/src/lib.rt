@@ -5,6 +5,10 @@
 //!
 //! Read first: `name_record` in `runs.rt`, with `specs/Runs.antt`; then `names.rt` with `specs/Records.antt`, and `NameReader` with
 //! `specs/NameTexts.antt`.
+//!
+//! Proved: `read_record`, over any source, and `name_record`, over a reader: the record of the page of all bytes, or none where it has none:
+//! `page_record` (`specs/PageRecords.antt`), read off the pieces of the whole page (`NameTexts.antt`, `Records.antt`). Each fault of `read_record`
+//! has its cause; refused settings and want of memory come before anything is read (`specs/Runs.antt`).
 #![tactic(auto)]
 
 mod fronts;

@@ -3,6 +3,11 @@
 //! In the pipeline (bytes, lines, roff, macro set, scopes, filling, rows) it takes the pieces that the scopes give, and gives rows to a
 //! sink. Between two breaks stands a list of words, each with the blanks before it; a row takes them up to the first one that passes its
 //! width. So says the definition in words that all contracts here cite: read `filled` in `specs/Filling.antt` first, and then [`Filler`].
+//!
+//! Proved: `Filler` (`new`, `piece`, `take_words`, `finish`): what a piece settles is `filled` (`specs/Filling.antt`), and the end is `row_end`:
+//! groups of words fill rows by recursion on words, each row up to its first offending cell. `Filler::part`, `Filler::from_part`: what is held
+//! between two pieces. `caps_law`: it is within its limits. `words_law`: piece by piece is `filled` of the whole list, cut anywhere. `word_law`,
+//! `part_law`, `glue_law`: where a row ends; no row is wider unless its first part is; glued texts are one word.
 #![tactic(auto)]
 
 mod fillers;

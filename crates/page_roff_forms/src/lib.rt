@@ -2,6 +2,9 @@
 //!
 //! The lowest crate of roff: heads, commands and calls are read by it, and so are the lines that the sets of macros get. Read
 //! `specs/LineForms.antt` and `Arguments.antt` first.
+//!
+//! Proved: `form_of`, `control_name`, `Arguments::next_argument`, `read_argument`: the form of a raw line, the name of a control line, and its
+//! arguments one after another, are those of `specs/LineForms.antt` and `Arguments.antt`.
 #![tactic(auto)]
 
 mod arguments;

@@ -3,6 +3,9 @@
 //!
 //! It stands above `page_roff_forms`; `page_roff_blocks` parts lines by it, and `page_roff_conditions` answers the conditions that it reads.
 //! Read `specs/Heads.antt`, `Loops.antt` and `Conditions.antt` first.
+//!
+//! Proved: `read_conditional`, `read_loop`, `read_guarded`, `block_end`, `remainder`: the condition of a conditional or a loop, whether it opens a
+//! block, what it guards, and where a line ends a block, all by the raw text alone (`specs/Heads.antt`, `Conditions.antt`, `Loops.antt`).
 #![tactic(auto)]
 
 mod conditions;

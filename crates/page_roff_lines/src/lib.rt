@@ -2,6 +2,10 @@
 //!
 //! The front of the pipeline: `Cutter` takes chunks of bytes and lends lines, which go to `page_roff_source`. Read `specs/Decoding.antt` and
 //! `Logical.antt` first, then `cutter.rt`.
+//!
+//! Proved: `Cutter::new`, `feed`, `end`, `line`: in whatever chunks the bytes of a page come, the lines are those of `lines` (`specs/Decoding.antt`);
+//! those of the bytes so far stand first in the page, whatever follows (`IsFed` in `specs/Cutting.antt`). `one_by_one_law`, `cut_law`, `held_law`:
+//! this definition agrees with the step from point to point, a page may be cut anywhere, and an open line holds at most its limit.
 #![tactic(auto)]
 
 mod characters;

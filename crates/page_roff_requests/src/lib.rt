@@ -2,6 +2,9 @@
 //!
 //! It stands below the layers of roff: what heads a block or a region, what a command runs, whether `if d` finds a
 //! name, and which requests are left to the sets of macros is all read in it. Read `requests.rt` first.
+//!
+//! Proved: `Request::of`, `RegionKind::name`, `fixed_ending`: which names are requests, and what each is, by one table, `REQUESTS` in
+//! `src/requests.rt`, which the definition cites (`specs/Requests.antt`, `Regions.antt`).
 #![tactic(auto)]
 
 mod regions;

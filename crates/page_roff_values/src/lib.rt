@@ -4,6 +4,11 @@
 //!
 //! It stands above the names (`page_roff_names`), and conditions, definitions and lines are expanded by it. Read `specs/Values.antt` first,
 //! then `Parts.antt`; the code begins at `Expansion::expand` in `expansions.rt`.
+//!
+//! Proved: `Expansion::expand`, `expand_more`, `CallArguments::set`: a text once strings, registers, arguments and widths are interpolated, with its
+//! messages at their columns and the count of interpolations, is `value` (`specs/Values.antt`), a recursion in which a value is expanded by itself
+//! before the rest. `gives_itself`: such a line is its own value. `is_bounded`, `keeps_texts`: no line makes more interpolations, and none grows
+//! longer, than the limits say; what is expanded from lines is a line.
 #![tactic(auto)]
 
 mod call_arguments;

@@ -2,6 +2,9 @@
 //!
 //! It stands between the events of the sets of macros and the scopes: `page_scopes_tree` tells by labels what ends what, `page_scopes_layout` and
 //! the crates on it what a scope begins with and gives. Read `specs/Labels.antt` first: a row for each scope.
+//!
+//! Proved: `Label::row`, and what is asked of a label alone: each open scope by one row of one table, its names, how it ends, and what ends with it
+//! (`specs/Labels.antt`).
 #![tactic(auto)]
 
 mod labels;

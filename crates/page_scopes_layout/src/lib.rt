@@ -2,6 +2,9 @@
 //!
 //! A scope that opens changes the context, and one that ends restores it; the layers above give words in it. Read `src/contexts.rt` first, then
 //! `specs/Begins.antt` (a context for each scope) and `Nodes.antt` (the pieces).
+//!
+//! Proved: `give_begin`, `give_end`, `margins_of`, the beginnings of `Context`, and `restore`: what each scope of man(7) and mdoc(7) begins with and
+//! gives besides its words, and what stays after it (`specs/Contexts.antt`, `Nodes.antt`).
 #![tactic(auto)]
 
 mod begins;

@@ -2,6 +2,9 @@
 //!
 //! Leaves of events, raw lines, requests, tags and the ends of lines come in, in the context of the open scopes; each gives an outcome, and
 //! words go to `page_scopes_phrases`. Read `specs/Leaves.antt` first (a row for each leaf), then `Steps.antt` (of mdoc(7)).
+//!
+//! Proved: `give_deed`, `give_leaf`, `give_raw_line`, `give_tag`, `end_line`: what each blank line, request, raw line and tag gives, with the context
+//! and what is known after it (`specs/Leaves.antt`, `Requests.antt`, `RawLines.antt`, `Tags.antt`, `Deeds.antt`).
 #![tactic(auto)]
 
 mod deeds;

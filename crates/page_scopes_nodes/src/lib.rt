@@ -2,6 +2,9 @@
 //!
 //! Where an event opens or ends a scope, its outcome stands here, macro by macro; what opens and closes nothing is in `page_scopes_leaves`. Read
 //! `specs/Openers.antt` first, then `Begins.antt` (line scopes) and `Ends.antt`.
+//!
+//! Proved: `give_begun`, `give_ended`: what each scope of man(7) and mdoc(7) begins and ends with, words and all: paragraphs and their tags, relative
+//! margins, the name of a synopsis, headings, fonts, the target of a link (`specs/Openers.antt`, `Begins.antt`, `Ends.antt`, `Targets.antt`).
 #![tactic(auto)]
 
 mod begins;

@@ -3,6 +3,10 @@
 //! Events of the set of macros come in; which scopes they end and open, with the messages of nesting, goes to a layout (`Laying`), which
 //! `page_scopes` is. What an open scope is stands in `page_scopes_labels`. Read `specs/Ends.antt` first (how many scopes an event ends), then
 //! `Standings.antt` (what it opens) and `Broken.antt` (messages).
+//!
+//! Proved: `ScopeStack` (`new`, `copy`, `restart`, `apply`, `finish`, `depth`, `state`, `skips`): events give the layout of their block tree, with
+//! the messages of scopes that are broken, lack their end or are too many, for any tables of a layout; at most 64 scopes are open
+//! (`specs/Edges.antt`, `Ends.antt`, `Standings.antt`, `Broken.antt`).
 #![tactic(auto)]
 
 mod acts;

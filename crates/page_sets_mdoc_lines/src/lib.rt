@@ -1,6 +1,9 @@
 //! A control line of mdoc(7) parted, before any macro means anything: which macros stand in it, and the words of
 //! each. The definition is `parts` in `specs/Parts.antt`; the code reads a line with a cursor, and knows the extent of
 //! a macro's words before it reads them, so that each argument is read a few times, whatever the line.
+//!
+//! Proved: `Cursor`, `find_extent`, `parts_law`, `front_law`, `few_law`: a line of mdoc(7) is parted into its macros and the words of each by one
+//! fold over its arguments (`specs/Parts.antt`): each argument stands in one part, in order.
 #![tactic(auto)]
 
 mod cursors;

@@ -2,6 +2,9 @@
 //! that can stand among words. A parted line comes from `page_sets_mdoc_lines`; the steps themselves are done in
 //! `page_sets_mdoc_forms` and `page_sets_mdoc_words`. Read `inline_events` in `specs/Inlines.antt` first, one row for each macro, then
 //! `src/steps.rt` and `StepsOn` in `specs/Steps.antt`, which each step keeps to.
+//!
+//! Proved: `printed_word`, and the steps of a macro's words: each gives the next event of a macro's words, so that all of them are its row of
+//! `inline_events` (`specs/Inlines.antt`, `Printed.antt`).
 #![tactic(auto)]
 
 mod form_steps;

@@ -2,6 +2,9 @@
 //!
 //! It stands below the sets of macros and the scopes: the events of a line carry these names and texts (`page_sets_lines`), the scopes put them into
 //! messages and rows. Read `specs/MacroNames.antt` first (names), then `Marks.antt` (which texts stand around words) and `OwnTexts.antt` (the texts).
+//!
+//! Proved: The names of macros, of marks and of the texts that macros print themselves are those of one table each (`specs/MacroNames.antt`,
+//! `Marks.antt`, `OwnTexts.antt`).
 #![tactic(auto)]
 
 mod macro_names;
