@@ -48,10 +48,11 @@ quick: mandoc-unproved
 mandoc-unproved: $(SOURCES) tools/quick
 	@tools/quick $@
 
-# The whole gate: what the documents say of the code, and then all proofs, tests and runs. Its last line is 'N passed, M failed'.
+# The whole gate: what the documents say of the code, all proofs, edits, tests and runs, and the cases of the program that was proved. Its last
+# line is 'N passed, M failed'.
 check:
 	@docs/check
-	@rt ci
+	@tools/gate
 
 # The edits that the gate leaves out, of the crates that CRATES names, or of all: the prover must refuse each.
 edits:
