@@ -126,6 +126,13 @@ impl OpenRow {
         self.row.as_slice()
     }
 
+    /// The columns of the open row's cells.
+    pub fn columns(&self) -> u32
+        ensures { result ≡ sheet.columns self.now.cells }
+    {
+        self.columns
+    }
+
     /// The places of the last word lie within the row. Nothing is done: the row keeps to it.
     #[inline(always)]
     pub fn held_law(&self)

@@ -17,7 +17,7 @@ use crate::taken_words::whole_words;
 use crate::{HANG_MAX, TAB_STOP};
 use page_core_base::{Cell, Font, Note, NoteKind, Output, Place, RowOut, TagForm, last_part_start};
 use page_fill_rows::{
-    OpenRow, columns, is_printable_ascii, printable_len, put_character, put_characters, put_glyph,
+    OpenRow, is_printable_ascii, printable_len, put_character, put_characters, put_glyph,
     put_plain, word_start,
 };
 
@@ -344,7 +344,7 @@ impl Edge {
     fn fixed_tab<O: RowOut>(&mut self, place: Place, out: &mut O)
         ensures { LaysOut O.left out.old (fill.fixed_tab self.old place) out.new self.new }
     {
-        let blanks = TAB_STOP - columns(self.sheet.cells()) % TAB_STOP;
+        let blanks = TAB_STOP - self.sheet.columns() % TAB_STOP;
         self.sheet.put_blanks(blanks, place, out);
     }
 
@@ -473,11 +473,10 @@ impl Edge {
     pub(crate) fn column(&mut self, column: u32)
         ensures { self.new ≡ (fill.placed self.old (fill.to_column self.old.sheet.cells column)).edge }
     {
-        let cells = self.sheet.cells();
-        let blanks = if cells.is_empty() {
+        let blanks = if self.sheet.cells().is_empty() {
             column
         } else {
-            column.saturating_sub(columns(cells)).max(1)
+            column.saturating_sub(self.sheet.columns()).max(1)
         };
         self.word = OpenWord::placed(blanks);
     }

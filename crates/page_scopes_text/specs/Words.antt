@@ -41,12 +41,16 @@ word_notes quoted place (token ∷ tokens) = token_notes quoted place token ++ w
 abbrev pub blank_cells : ℕ → Font → Place → List Item
 blank_cells count font place = replicate count (shown (Text (32 ∷ []) font place))
 
+-- the same in one text, where there are any
+abbrev pub blank_text : ℕ → Font → Place → List Item
+blank_text count font place = if count == 0 then [] else shown (Text (replicate count 32) font place) ∷ []
+
 -- `\h` is as many blanks as it has columns
 abbrev pub blank_count : List ℕ → ℕ
 blank_count expression = characters_columns (printed_escape Ascii (meanings.blanks expression))
 
 abbrev pub escape_items : Font → Place → Meaning → List Item
-escape_items font place (meanings.blanks expression) = blank_cells (blank_count expression) font place
+escape_items font place (meanings.blanks expression) = blank_text (blank_count expression) font place
 escape_items font place meaning = piece_items (meaning_piece font place meaning)
 
 abbrev pub token_items : Font → Place → TextToken → List Item

@@ -1,6 +1,6 @@
 //! Tokens of words: their messages, what they print, and the fonts after them (roff(7), "ESCAPE SEQUENCES").
 
-ghost use Rattle.std.specs.Prelude.{◌≡◌, false, [], ◌∷◌};
+ghost use Rattle.std.specs.Prelude.{◌≡◌, ◌≤◌, false, [], ◌∷◌};
 ghost use Rattle.page_core_base.specs.Latches.{Came};
 ghost use Rattle.page_core_base.specs.Pieces.{shown};
 ghost use Rattle.page_core_escapes.specs.Escapes.{meaning_seen};
@@ -47,9 +47,23 @@ pub fn give_blank_cells<O: PieceOut>(out: &mut O, count: u32, font: Font, place:
     }
 }
 
-// The blanks of `\h`.
+// The blanks of the widest `\h`.
+static BLANKS: [u8; 1000] = [b' '; 1000];
+
+// Gives a count of blanks that are cells as one text.
+fn give_blank_text<O: PieceOut>(out: &mut O, count: u32, font: Font, place: Place)
+    requires { count ≤ 1000 }
+    ensures { Came O.left out.old (words.blank_text count font place) out.new }
+{
+    if count != 0 {
+        give_letters(out, font, place, &BLANKS[..count as usize]);
+    }
+}
+
+// The count of blanks of `\h`.
 fn blank_count(expression: &[u8]) -> u32
-    ensures { result ≡ words.blank_count expression.now }
+    ensures value { result ≡ words.blank_count expression.now }
+    ensures bound { result ≤ 1000 }
 {
     escape_columns(Escape::Blanks(expression), Output::Ascii)
 }
@@ -65,7 +79,7 @@ pub fn give_token<O: PieceOut>(out: &mut O, font: Font, place: Place, token: &To
         ..
     } = *token
     {
-        give_blank_cells(out, blank_count(expression), font, place);
+        give_blank_text(out, blank_count(expression), font, place);
     } else if let Some(piece) = token_piece(font, place, token) {
         out.give(piece);
     }
