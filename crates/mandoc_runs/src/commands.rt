@@ -1,13 +1,16 @@
 //! What a command line asks for, done (mandoc(1), makewhatis(8), whatis(1)).
 
+use crate::faults::SYSTEM_FAILURE;
 use crate::formatting::format_all;
 use crate::indexing::make_indexes;
 use crate::searching::search;
-use crate::{BAD_COMMAND, SYSTEM_FAILURE};
 use mandoc_command::{Command, Refusal};
 use std::alloc::Global;
 use std::fs::Files;
 use std::io::{Read, Write};
+
+/// The status at a bad command line (mandoc(1), EXIT STATUS).
+const BAD_COMMAND: u8 = 5;
 
 /// Does what a command asks for, and answers its status (mandoc(1), EXIT STATUS).
 pub fn run_command<R: Files, I: Read, W: Write, V: Write>(

@@ -1,26 +1,21 @@
-//! For tests: command lines that are run over the files of a folder, with what their reader and their writers are told.
+//! Command lines that are run over the files of a folder, with what their writers are told.
 
-use crate::commands::run_command;
 use crate::failing_files::{Call, FailingFiles, Failure};
 use mandoc_command::command;
+use mandoc_runs::run_command;
 use std::alloc::Global;
 use std::cell::RefCell;
-use std::io::{self, ErrorKind, Read, Write};
+use std::io::{self, ErrorKind, Write};
 use std::process::Abort;
 use std::rt::{Env, Files};
 use std::{env, fs};
 
-// A page without a message, and one with a warning.
-const QUIET: &str = ".TH T 1 2020-01-01 S\n.SH NAME\nt \\- x\n";
+const FOLDERS: &[&str] = &["man1", "man1/sub.1", "man8", "man10"];
 
-const BLANK: &str = ".TH T 1 2020-01-01 S\n.SH NAME\nt \\- x\n\ny\n";
-
-const FOLDERS: &[&str] = &["empty", "man1", "man1/sub.1", "man8", "man10"];
-
-// Two pages to be formatted, and pages in folders: the name of one can't stand in an index, one has no record, and one isn't where pages are.
+// A page without a message to be formatted, and pages in folders: the name of one can't stand in an index, one has no record, and one isn't
+// where pages are.
 const FILES: &[(&str, &str)] = &[
-    ("quiet.1", QUIET),
-    ("blank.1", BLANK),
+    ("quiet.1", ".TH T 1 2020-01-01 S\n.SH NAME\nt \\- x\n"),
     ("man1/ls.1", ".TH LS 1p\n.SH NAME\nls, dir \\- list files\n"),
     ("man1/Zed.1", ".TH ZED 1\n.SH NAME\nzed \\- last\n"),
     (
@@ -40,25 +35,21 @@ const FILES: &[(&str, &str)] = &[
 /// The index of the folder.
 pub const INDEX: &str = "whatis.idx";
 
-/// The index of a folder without pages below it.
-pub const EMPTY: &str = "empty/whatis.idx";
+// What stands beside it before it is whole.
+const UNFINISHED: &str = "whatis.tmp";
 
-// What stands beside these before they are whole.
-const UNFINISHED: &[&str] = &["whatis.tmp", "empty/whatis.tmp"];
-
-/// A command line in a folder; where its rows and its messages fail; what its reader and its writers are told, and its status; and what becomes
-/// of an index.
+/// A command line in a folder; which flush of its rows and of its messages fails; what its writers are told, and its status; and what becomes
+/// of the index.
 pub struct Run {
     pub words: &'static [&'static str],
-    pub fails: (Fails, Fails),
+    pub fails: Fails,
     pub told: &'static [&'static str],
     pub status: u8,
     pub index: Index,
 }
 
-/// An index before and after a run, and the call of files that fails in it, after this number of them.
+/// The index before and after a run, and the call of files that fails in it, after this number of them.
 pub struct Index {
-    pub name: &'static str,
     pub before: Option<&'static str>,
     pub call: (Option<Call>, u32),
     pub after: Option<&'static str>,
@@ -69,27 +60,25 @@ pub const NO_CALL: (Option<Call>, u32) = (None, u32::MAX);
 
 /// No index is there, and none is made.
 pub const NO_INDEX: Index = Index {
-    name: INDEX,
     before: None,
     call: NO_CALL,
     after: None,
 };
 
-/// Where a writer fails.
+/// After how many flushes of the rows, and of the messages, one fails; none: never.
 #[derive(Clone, Copy)]
-pub enum Fails {
-    Never,
-    /// Past this number of bytes, of which the last ones are written.
-    Past(usize),
-    /// After this number of flushes.
-    AtFlush(usize),
+pub struct Fails {
+    pub rows: Option<u32>,
+    pub messages: Option<u32>,
 }
 
-/// No writer fails.
-pub const NEVER: (Fails, Fails) = (Fails::Never, Fails::Never);
+/// No flush fails.
+pub const NEVER: Fails = Fails {
+    rows: None,
+    messages: None,
+};
 
-// What is told of a reader and two writers in turn: `[in]` for a read, the bytes of the writers, `[NAME]` where those of another one begin, and
-// `[NAME flushed]`.
+// What is told of two writers in turn: their bytes, `[NAME]` where those of another one begin, and `[NAME flushed]`.
 #[derive(Drop)]
 pub struct Journal {
     text: String,
@@ -137,12 +126,13 @@ fn tell_bytes(journal: &RefCell<Journal>, writer: Writer, bytes: &[u8]) -> io::R
     Ok(())
 }
 
-// Tells of a call.
-fn tell_call(journal: &RefCell<Journal>, name: &str, call: &str) -> io::Result<()> {
+// Tells of a flush.
+fn tell_flush(journal: &RefCell<Journal>, writer: Writer) -> io::Result<()> {
     let Ok(mut journal) = journal.try_borrow_mut() else {
         return Err(io::Error::from(ErrorKind::InvalidData));
     };
-    write!(journal.text, "[{name}{call}]")?;
+    let name = writer.name();
+    write!(journal.text, "[{name} flushed]")?;
     journal.last = None;
     Ok(())
 }
@@ -152,65 +142,33 @@ fn tell_call(journal: &RefCell<Journal>, name: &str, call: &str) -> io::Result<(
 struct Told<'a> {
     writer: Writer,
     journal: &'a RefCell<Journal>,
-    fails: Fails,
+    // How many flushes there are before one that fails.
+    left: Option<u32>,
 }
 
 impl Write for Told<'_> {
     fn write(&mut self, bytes: &[u8]) -> io::Result<usize> {
-        let mut count = bytes.len();
-        if let Fails::Past(room) = self.fails {
-            if room == 0 {
-                return Err(io::Error::from(ErrorKind::StorageFull));
-            }
-            count = count.min(room);
-            self.fails = Fails::Past(room.saturating_sub(count));
-        }
-        tell_bytes(self.journal, self.writer, &bytes[..count])?;
-        Ok(count)
+        tell_bytes(self.journal, self.writer, bytes)?;
+        Ok(bytes.len())
     }
 
     fn flush(&mut self) -> io::Result<()> {
-        if let Fails::AtFlush(left) = self.fails {
+        if let Some(left) = self.left {
             let Some(rest) = left.checked_sub(1) else {
                 return Err(io::Error::from(ErrorKind::StorageFull));
             };
-            self.fails = Fails::AtFlush(rest);
+            self.left = Some(rest);
         }
-        tell_call(self.journal, self.writer.name(), " flushed")
+        tell_flush(self.journal, self.writer)
     }
 }
 
-// The page with a warning, which comes line by line, as one that is typed, and fails where it ends.
-#[derive(Drop)]
-struct Typed<'a> {
-    page: &'a [u8],
-    journal: &'a RefCell<Journal>,
-}
-
-impl Read for Typed<'_> {
-    fn read(&mut self, buffer: &mut [u8]) -> io::Result<usize> {
-        tell_call(self.journal, "in", "")?;
-        if self.page.is_empty() {
-            return Err(io::Error::from(ErrorKind::ConnectionReset));
-        }
-        let end = self.page.iter().position(|byte| *byte == b'\n');
-        let count = end
-            .map_or(self.page.len(), |end| end.saturating_add(1))
-            .min(self.page.len())
-            .min(buffer.len());
-        let (front, rest) = self.page.split_at(count);
-        buffer[..count].copy_from_slice(front);
-        self.page = rest;
-        Ok(count)
-    }
-}
-
-// Runs words over files, where the rows and the messages fail so, and answers the status. A refused command line has the status 5.
+// Runs words over files, where flushes fail so, and answers the status. A refused command line has the status 5.
 fn run_over<F: Files>(
     files: &F,
     alloc: Global,
     words: &[&str],
-    fails: (Fails, Fails),
+    fails: Fails,
     journal: &RefCell<Journal>,
 ) -> u8 {
     let Ok(asked) = command(alloc, words) else {
@@ -219,21 +177,17 @@ fn run_over<F: Files>(
     let mut out = Told {
         writer: Writer::Rows,
         journal,
-        fails: fails.0,
+        left: fails.rows,
     };
     let mut notes = Told {
         writer: Writer::Messages,
         journal,
-        fails: fails.1,
+        left: fails.messages,
     };
-    let mut input = Typed {
-        page: BLANK.as_bytes(),
-        journal,
-    };
-    run_command(files, alloc, &asked, &mut input, &mut out, &mut notes)
+    run_command(files, alloc, &asked, &mut io::empty(), &mut out, &mut notes)
 }
 
-/// What a run told its reader and its writers, and its status.
+/// What a run told its writers, and its status.
 #[derive(Drop)]
 pub struct Ran {
     pub told: String,
@@ -245,7 +199,7 @@ pub fn run_failing<R: Files + AllocGlobal>(
     good: &FailingFiles<'_, R>,
     failure: &Failure,
     words: &[&str],
-    fails: (Fails, Fails),
+    fails: Fails,
 ) -> Ran {
     let alloc = good.rt.alloc();
     let journal = Journal::new(alloc);
@@ -279,24 +233,22 @@ fn is_joined(text: &str, parts: &[&str]) -> bool {
 }
 
 /// Makes the index that is there before a run.
-pub fn set_index<F: Files>(files: &F, name: &str, text: Option<&str>) -> io::Result<()> {
+pub fn set_index<F: Files>(files: &F, text: Option<&str>) -> io::Result<()> {
     match text {
-        Some(text) => fs::write(files, name, text),
-        None if matches!(fs::exists(files, name), Ok(true)) => fs::remove_file(files, name),
+        Some(text) => fs::write(files, INDEX, text),
+        None if matches!(fs::exists(files, INDEX), Ok(true)) => fs::remove_file(files, INDEX),
         None => Ok(()),
     }
 }
 
 /// Whether no index is left that is not whole.
 pub fn is_alone<F: Files>(files: &F) -> bool {
-    UNFINISHED
-        .iter()
-        .all(|name| matches!(fs::exists(files, *name), Ok(false)))
+    matches!(fs::exists(files, UNFINISHED), Ok(false))
 }
 
-// Whether an index is this one, or none is there.
-fn is_index<F: Files>(files: &F, alloc: Global, name: &str, want: Option<&str>) -> bool {
-    match (fs::read_to_string(&(files, alloc), name), want) {
+// Whether the index is this one, or none is there.
+fn is_index<F: Files>(files: &F, alloc: Global, want: Option<&str>) -> bool {
+    match (fs::read_to_string(&(files, alloc), INDEX), want) {
         (Ok(text), Some(want)) => text.as_str() == want,
         (Err(error), None) => error.kind() == ErrorKind::NotFound,
         _ => false,
@@ -306,14 +258,14 @@ fn is_index<F: Files>(files: &F, alloc: Global, name: &str, want: Option<&str>) 
 // Makes a run over the files of a folder, and checks what comes of it.
 fn check_run<R: Files + AllocGlobal + Abort>(rt: &R, files: &FailingFiles<'_, R>, run: &Run) {
     let index = &run.index;
-    let is_set = set_index(files, index.name, index.before).is_ok();
+    let is_set = set_index(files, index.before).is_ok();
     check(rt, is_set, run.words, "the index of before");
     let failure = Failure::new(index.call.0, index.call.1);
     let ran = run_failing(files, &failure, run.words, run.fails);
     let told = ran.told.as_str();
     check(rt, is_joined(told, run.told), run.words, told);
     check(rt, ran.status == run.status, run.words, "the status");
-    let is_left = is_index(files, rt.alloc(), index.name, index.after);
+    let is_left = is_index(files, rt.alloc(), index.after);
     check(rt, is_left && is_alone(files), run.words, "the index");
 }
 
@@ -349,7 +301,7 @@ pub fn in_folder<R: Files + Env + AllocGlobal + Abort, T: Test>(
     test: &T,
 ) -> io::Result<()> {
     let below = env::temp_dir(rt)?;
-    let dir = format!(in rt.alloc(); "{}/mandoc_cli-{id}-{name}", below.as_str())?;
+    let dir = format!(in rt.alloc(); "{}/mandoc_runs-{id}-{name}", below.as_str())?;
     fs::create_dir(rt, dir.as_str())?;
     let failure = Failure::new(NO_CALL.0, NO_CALL.1);
     let files = FailingFiles {

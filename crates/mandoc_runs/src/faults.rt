@@ -1,10 +1,12 @@
 //! What is told of files that fail, and how a run goes on after that (mandoc(1), DIAGNOSTICS and EXIT STATUS).
 
-use crate::SYSTEM_FAILURE;
 use crate::shown_names::shown;
 use page_core_base::Fault;
 use std::fmt::Display;
 use std::io::Write;
+
+/// The status at a failure of the system (mandoc(1), EXIT STATUS).
+pub const SYSTEM_FAILURE: u8 = 6;
 
 /// What a page or an index left: its status, and whether nothing further can be written.
 #[derive(Clone, Copy)]

@@ -1,4 +1,4 @@
-//! For tests: the files of a folder, of which one call fails.
+//! The files of a folder, of which one call fails.
 
 use std::alloc::Allocator;
 use std::cell::Cell;

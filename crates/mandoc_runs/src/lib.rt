@@ -1,0 +1,24 @@
+//! What a command line asks for, done over any files, reader and writers: pages from their bytes to rows, messages and a status (mandoc(1)),
+//! and indexes of pages that are made and searched (makewhatis(8), whatis(1)).
+//!
+//! Each file is one run (`page_engine`, `page_engine_records`, `page_engine_index`) of what the words say (`mandoc_command`). It has no
+//! contract of its own. The program is one call of it (`mandoc_cli`).
+//!
+//! Read first: `run_command` in `commands.rt`, then `format_all` in `formatting.rt` and `make_indexes` in `indexing.rt`.
+#![tactic(auto)]
+
+mod commands;
+mod faults;
+mod formatting;
+mod indexing;
+mod page_records;
+mod searching;
+mod shown_names;
+mod standard_numbers;
+mod streams;
+mod words;
+
+pub use commands::{refuse, run_command};
+pub use faults::{Done, tell_unopened};
+pub use standard_numbers::{NULL_DEVICE, hold_standard_numbers};
+pub use words::words_given;

@@ -1,0 +1,83 @@
+//! What becomes of pages where a writer takes all bytes and then fails at a flush (mandoc(1), EXIT STATUS).
+
+use crate::runs::{Fails, NO_INDEX, Run, check, in_folder};
+use std::process;
+
+const LOST: &str = "[notes]mandoc: quiet.1: cannot write\n";
+
+// The rows of the page down to its section's header, those of its text, and those of its footer.
+const HEAD: &str =
+    "T(1)                       General Commands Manual                        T(1)\n\nN\u{8}NA\u{8}AM\u{8}ME\u{8}E\n";
+
+const TEXT: &str = "       t - x\n";
+
+const FOOT: &str =
+    "\nS                                 2020-01-01                              T(1)\n";
+
+const FLUSHED: &str = "[out flushed][notes flushed]";
+
+// Nothing follows a writer that fails.
+const PAGES: &[Run] = &[
+    Run {
+        words: &["quiet.1", "quiet.1"],
+        fails: Fails {
+            rows: Some(0),
+            messages: None,
+        },
+        told: &["[notes flushed][notes flushed]", LOST],
+        status: 6,
+        index: NO_INDEX,
+    },
+    Run {
+        words: &["quiet.1", "quiet.1"],
+        fails: Fails {
+            rows: Some(1),
+            messages: None,
+        },
+        told: &[
+            FLUSHED,
+            "[out]",
+            HEAD,
+            "[notes flushed][notes flushed]",
+            LOST,
+        ],
+        status: 6,
+        index: NO_INDEX,
+    },
+    Run {
+        words: &["quiet.1", "quiet.1"],
+        fails: Fails {
+            rows: Some(2),
+            messages: None,
+        },
+        told: &[
+            FLUSHED,
+            "[out]",
+            HEAD,
+            FLUSHED,
+            "[out]",
+            TEXT,
+            FOOT,
+            "[notes flushed]",
+            LOST,
+        ],
+        status: 6,
+        index: NO_INDEX,
+    },
+    Run {
+        words: &["quiet.1", "quiet.1"],
+        fails: Fails {
+            rows: None,
+            messages: Some(1),
+        },
+        told: &[FLUSHED, "[out]", HEAD, "[out flushed][out flushed]", LOST],
+        status: 6,
+        index: NO_INDEX,
+    },
+];
+
+#[test]
+fn ends_at_a_flush_that_fails(rt: HostRuntime) {
+    let made = in_folder(&rt, process::id(rt.process()), "flushes", &PAGES);
+    check(&rt, made.is_ok(), &[], "the folder");
+}
