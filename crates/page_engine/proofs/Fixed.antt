@@ -1,6 +1,6 @@
 -- What filling leaves as it was: the output and the width of rows.
 use Rattle.std.proofs.Common.{◌≡◌, ℕ, ◌==◌, Bool, true, false, List, [], ◌∷◌, length, Option, None, Some, refl, ◌∙◌}
-use Rattle.std.specs.Prelude.{if◌then◌else◌}
+use Rattle.std.specs.Prelude.{◌||◌, if◌then◌else◌}
 use Rattle.page_core_base.specs.declared.page_settings.Output.{Output}
 use Rattle.page_core_base.specs.declared.pieces.Piece.{Piece}
 use Rattle.page_core_base.specs.declared.pieces.Piece.TheVariants.{Text, Glyph, Char, Tab, Blank, Glue, Split, Break, RowEnd, Para, Space, Indent, Literal, Tag, TagEnd, Heading, Column}
@@ -10,6 +10,7 @@ use Rattle.page_core_base.specs.Laid.{Laid}
 use Rattle.page_core_base.specs.Pieces.{Item, shown, noted}
 use Rattle.page_fill_steps.specs.declared.edges.OpenTag.{OpenTag}
 use Rattle.page_fill_steps.specs.declared.edges.Edge.{Edge}
+use Rattle.page_fill_steps.specs.Edges.{is_set_in}
 use Rattle.page_fill.specs.ByPiece.{laid_item, laid_items}
 use Rattle.page_fill.specs.Filling.{Group, words, other, groups, after_tag, tag_ended, other_laid, group_laid, groups_laid, filled}
 use Rattle.page_fill.specs.PieceWords.{words_laid, content_laid}
@@ -32,7 +33,7 @@ after_tag_fixed e hang (forms.Inset n) = refl
 
 tag_fixed : (e : Edge) (tag : Option OpenTag) → fixed (tag_ended e tag).edge ≡ fixed e
 tag_fixed e None = refl
-tag_fixed e (Some tag) = either_fixed e.sheet.tag_begun _ _ (fixed e) (after_tag_fixed e tag.hang tag.form) refl
+tag_fixed e (Some tag) = either_fixed (e.sheet.tag_begun || is_set_in tag.form) _ _ (fixed e) (after_tag_fixed e tag.hang tag.form) refl
 
 words_fixed : (e : Edge) (items : List Item) → fixed (words_laid e items).edge ≡ fixed e
 unfolding words_laid

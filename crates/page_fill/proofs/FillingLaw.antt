@@ -1,6 +1,6 @@
 -- The steps of filling lay what its definition says: of groups of words, and of what stands between them.
 use Rattle.std.proofs.Common.{◌≡◌, ℕ, ◌-◌, ◌==◌, Bool, true, false, List, [], ◌∷◌, ◌++◌, length, replicate, Option, None, Some, inl, inr, refl, subst, sym, ap, ◌∙◌, append-nil}
-use Rattle.std.specs.Prelude.{if◌then◌else◌}
+use Rattle.std.specs.Prelude.{◌||◌, if◌then◌else◌}
 use Rattle.std.proofs.lemmas.Bool.{cases_Bool}
 use Rattle.page_core_base.specs.declared.cells.Font.{Font}
 use Rattle.page_core_base.specs.declared.pieces.Piece.{Piece}
@@ -14,6 +14,7 @@ use Rattle.page_core_base.specs.Pieces.{Item, shown, noted}
 use Rattle.page_fill_steps.specs.declared.edges.OpenTag.{OpenTag}
 use Rattle.page_fill_steps.specs.declared.edges.Edge.{Edge}
 use Rattle.page_fill_steps.specs.Fill.{laid_piece, on_sheet, opening, tab, fixed_tab, filled_tab, to_stop, ended, paragraph, spaced, row_ended, heading, headed, without_tag, fits_hang}
+use Rattle.page_fill_steps.specs.Edges.{is_set_in, no_word}
 use Rattle.page_fill_steps.specs.Fill as fill
 use Rattle.page_fill_rows.specs.Sheets.{over, blank, broken, empty_rows}
 use Rattle.page_fill.proofs.Marks.{Mark, letters_of, opening_marks}
@@ -72,8 +73,9 @@ after_tag-law e hang forms.Hang = elim (cases_Bool (fits_hang e.sheet hang)) [ i
 after_tag-law e hang (forms.Inset n) = refl
 
 tag-law : (e : Edge) (tag : Option OpenTag) → fill.tag_ended e tag ≡ tag_ended e tag
-tag-law e None = refl
-tag-law e (Some t) = ap (λ (l : Laid Edge). if e.sheet.tag_begun then l else nothing e) (after_tag-law e t.hang t.form)
+tag-law e None = row-end e
+tag-law e (Some t) =
+    ap (λ (l : Laid Edge). if e.sheet.tag_begun || is_set_in t.form then l else nothing (record e { word = no_word })) (after_tag-law e t.hang t.form)
 
 -- ---- tabs
 

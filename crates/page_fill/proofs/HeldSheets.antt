@@ -1,6 +1,6 @@
 -- The places of the open row's last word lie within the row, at each edge that a page comes to.
 use Rattle.std.proofs.Common.{◌≡◌, ℕ, zero, suc, ◌+◌, ◌-◌, ◌<◌, ◌==◌, nat_lt, Bool, true, false, not, ◌&&◌, List, [], ◌∷◌, ◌++◌, length, drop, replicate, Option, None, Some, inl, inr, refl, arith, length-append, length-drop, lit≤}
-use Rattle.std.specs.Prelude.{if◌then◌else◌}
+use Rattle.std.specs.Prelude.{◌||◌, if◌then◌else◌}
 use Rattle.std.proofs.lemmas.Bool.{cases_Bool}
 use Rattle.std.proofs.lemmas.Bool.Decides.{nat_tests}
 use Rattle.page_core_base.specs.declared.cells.Cell.{Cell}
@@ -19,6 +19,7 @@ use Rattle.page_fill_steps.specs.declared.edges.Edge.{Edge}
 use Rattle.page_fill_rows.specs.Sheets.{Sheet, blank, passes, letter, letters, space, spaces, new_word, opens, broken, empty_rows, fresh}
 use Rattle.page_fill_rows.specs.Characters.{cells_of, cell_of, characters_of, character, characters, glyph}
 use Rattle.page_fill_steps.specs.Fill.{laid_piece, text, one_character, one_glyph, tab, opening, ended, paragraph, spaced, row_ended, heading, tag_ended, after_tag, fits_hang, without_tag, stands, to_stop, missing_rows}
+use Rattle.page_fill_steps.specs.Edges.{is_set_in, no_word}
 use Rattle.page_fill_steps.specs.Caps.{IsHeld}
 
 pub letter-held : (s : Sheet) (cell : Cell) (place : Place) → IsHeld s → IsHeld (letter s cell place).edge
@@ -136,9 +137,10 @@ after_tag-held e hang forms.Hang h = elim (cases_Bool (fits_hang e.sheet hang)) 
 after_tag-held e hang (forms.Inset n) h = h
 
 tag-held : (e : Edge) (tag : Option OpenTag) → IsHeld e.sheet → IsHeld (tag_ended e tag).edge.sheet
-tag-held e None h = h
+tag-held e None h = ended-held e h
 tag-held e (Some t) h =
-    elim e.sheet.tag_begun as (λ b. IsHeld (if b then after_tag e t.hang t.form else nothing e).edge.sheet) [ true ↦ after_tag-held e t.hang t.form h | false ↦ h ]
+    elim (e.sheet.tag_begun || is_set_in t.form) as (λ b. IsHeld (if b then after_tag e t.hang t.form else nothing (record e { word = no_word })).edge.sheet)
+    [ true ↦ after_tag-held e t.hang t.form h | false ↦ h ]
 
 empty-held : (s : Sheet) (n : ℕ) → IsHeld s → IsHeld (empty_rows s n).edge
 unfolding empty_rows

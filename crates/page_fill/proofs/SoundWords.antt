@@ -1,6 +1,6 @@
 -- A word that goes on is never one that is placed.
 use Rattle.std.proofs.Common.{◌≡◌, ℕ, ◌==◌, true, false, not, ◌&&◌, List, length, Option, None, Some, inl, inr, refl}
-use Rattle.std.specs.Prelude.{if◌then◌else◌}
+use Rattle.std.specs.Prelude.{◌||◌, if◌then◌else◌}
 use Rattle.std.proofs.lemmas.Bool.{cases_Bool}
 use Rattle.page_core_base.specs.declared.cells.Font.{Font}
 use Rattle.page_core_base.specs.declared.pieces.Piece.{Piece}
@@ -13,6 +13,7 @@ use Rattle.page_fill_steps.specs.declared.edges.OpenTag.{OpenTag}
 use Rattle.page_fill_rows.specs.Characters.{characters_of}
 use Rattle.page_fill_steps.specs.declared.edges.Edge.{Edge}
 use Rattle.page_fill_steps.specs.Fill.{laid_piece, text, one_character, one_glyph, tab, opening, ended, paragraph, spaced, row_ended, heading, tag_ended, after_tag, fits_hang, without_tag}
+use Rattle.page_fill_steps.specs.Edges.{is_set_in, no_word}
 use Rattle.page_fill_steps.specs.Caps.{is_sound}
 use Rattle.page_fill.proofs.MarkedPieces.{sound-after}
 
@@ -51,9 +52,11 @@ after_tag-sound e hang forms.Hang = elim (cases_Bool (fits_hang e.sheet hang)) [
 after_tag-sound e hang (forms.Inset n) = refl
 
 tag-sound : (e : Edge) (tag : Option OpenTag) → is_sound e.word ≡ true → is_sound (tag_ended e tag).edge.word ≡ true
-tag-sound e None h = h
+unfolding ended
+tag-sound e None h = refl
 tag-sound e (Some t) h =
-    elim e.sheet.tag_begun as (λ b. is_sound (if b then after_tag e t.hang t.form else nothing e).edge.word ≡ true) [ true ↦ after_tag-sound e t.hang t.form | false ↦ h ]
+    elim (e.sheet.tag_begun || is_set_in t.form) as (λ b. is_sound (if b then after_tag e t.hang t.form else nothing (record e { word = no_word })).edge.word ≡ true)
+    [ true ↦ after_tag-sound e t.hang t.form | false ↦ refl ]
 
 pub piece-sound : (e : Edge) (p : Piece (List ℕ)) → is_sound e.word ≡ true → is_sound (laid_piece e p).edge.word ≡ true
 unfolding laid_piece ended paragraph spaced

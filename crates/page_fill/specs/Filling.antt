@@ -1,6 +1,6 @@
 -- What filling is: pieces and the messages among them are groups of words, which fill rows, and what stands between such groups.
 -- Source: roff(7), "Filling and adjusting"; mandoc(1).
-use Rattle.std.specs.Prelude.{ℕ, ◌+◌, ◌-◌, ◌%◌, Bool, true, false, ◌&&◌, ◌==◌, nat_lt, nat_le, min, List, [], ◌∷◌, length, replicate, Option, None, Some, if◌then◌else◌}
+use Rattle.std.specs.Prelude.{ℕ, ◌+◌, ◌-◌, ◌%◌, Bool, true, false, ◌&&◌, ◌||◌, ◌==◌, nat_lt, nat_le, min, List, [], ◌∷◌, length, replicate, Option, None, Some, if◌then◌else◌}
 use Rattle.page_core_base.specs.declared.cells.Cell.{Cell}
 use Rattle.page_core_base.specs.declared.pieces.Piece.{Piece}
 use Rattle.page_core_base.specs.declared.pieces.Piece.TheVariants.{Text, Glyph, Char, Tab, Blank, Glue, Split, Break, RowEnd, Para, Space, Indent, Literal, Tag, TagEnd, Heading, Column}
@@ -12,7 +12,7 @@ use Rattle.page_core_base.specs.Pieces.{Item, shown, noted}
 use Rattle.page_fill_steps.specs.declared.edges.OpenTag.{OpenTag}
 use Rattle.page_fill_steps.specs.declared.edges.Edge.{Edge}
 use Rattle.page_fill_steps.specs.declared.TheConstants.{HANG_MAX, TAB_STOP}
-use Rattle.page_fill_steps.specs.Edges.{no_word, placed_word}
+use Rattle.page_fill_steps.specs.Edges.{is_set_in, no_word, placed_word}
 use Rattle.page_fill_rows.specs.OpenRows.{over, blank, columns, more_blank_rows}
 use Rattle.page_fill.specs.Filled.{CellOrNote, at_break}
 use Rattle.page_fill.specs.PieceWords.{cell_content, open_row_of, next_edge, words_laid, content_laid}
@@ -78,10 +78,10 @@ after_tag e tag =
       | forms.Inset n ↦ placed e (if length e.sheet.cells == 0 then 0 else n)
     ]
 
--- a tag without a cell is none
+-- a tag without a cell is none, and nothing of it waits, but that one set in needs no cell of its own; where another tag came between, the row ends
 abbrev pub tag_ended : Edge → Option OpenTag → Laid Edge
-tag_ended e None = nothing e
-tag_ended e (Some tag) = if e.sheet.tag_begun then after_tag e tag else nothing e
+tag_ended e None = row_end e
+tag_ended e (Some tag) = if e.sheet.tag_begun || is_set_in tag.form then after_tag e tag else nothing (record e { word = no_word })
 
 -- the blanks from the end of cells up to a column, one at least after a cell; and up to the next tab stop
 abbrev pub to_column : List Cell → ℕ → ℕ

@@ -112,6 +112,9 @@ const SCRIPTS: &[(&str, &str)] = &[
     ("NaEb", "a   b\n"),
     ("IaEb", "a  b\n"),
     ("IEb", "b\n"),
+    ("aIEb", "a  b\n"),
+    // A tag that another one has taken the place of ends the row.
+    ("R/RbEcEd", "b   c\nd\n"),
     // Columns are padded.
     ("aCb", "a   b\n"),
     ("abcdCe", "abcd e\n"),

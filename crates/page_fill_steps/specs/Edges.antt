@@ -5,6 +5,8 @@ use Rattle.page_core_base.specs.declared.cells.Cell.{Cell}
 use Rattle.page_core_base.specs.declared.note_kinds.NoteKind.TheVariants as notes
 use Rattle.page_core_base.specs.declared.page_settings.Output.{Output}
 use Rattle.page_core_base.specs.declared.page_settings.Settings.{Settings}
+use Rattle.page_core_base.specs.declared.pieces.TagForm.{TagForm}
+use Rattle.page_core_base.specs.declared.pieces.TagForm.TheVariants.{Inset}
 use Rattle.page_core_base.specs.declared.places.Place.{Place}
 use Rattle.page_core_base.specs.Messages.{Message, message_about}
 use Rattle.page_fill_rows.specs.OpenRows.{fresh}
@@ -40,6 +42,13 @@ glued_word w =
 -- a new word is placed after a count of blanks
 abbrev pub placed_word : ℕ → OpenWord
 placed_word count = record { is_joined = false; is_open = true; is_placed = true; blanks = count; has_tab = false; is_told = false }
+
+-- ---- tags
+
+-- a tag that is set in its text's row
+abbrev pub is_set_in : TagForm → Bool
+is_set_in (Inset blanks) = true
+is_set_in _ = false
 
 -- ---- tabs of words
 

@@ -14,7 +14,7 @@ use Rattle.page_fill_rows.specs.Sheets.{Sheet, over, columns, letter, fixed_blan
 use Rattle.page_fill_rows.specs.Characters.{with_notes, cell_of, characters_of, characters, character, glyph}
 use Rattle.page_fill_steps.specs.declared.edges.OpenTag.{OpenTag}
 use Rattle.page_fill_steps.specs.declared.TheConstants.{HANG_MAX, TAB_STOP}
-pub use Rattle.page_fill_steps.specs.Edges.{Edge, OpenWord, no_word, begun_word, blanks_wait, opened_word, glued_word, placed_word, tab_note, tab_notes, start, blank_rows_at_end, open_cells}
+pub use Rattle.page_fill_steps.specs.Edges.{Edge, OpenWord, no_word, begun_word, blanks_wait, opened_word, glued_word, placed_word, is_set_in, tab_note, tab_notes, start, blank_rows_at_end, open_cells}
 
 -- where rows are filled, the row's last word is parted after its cells: what follows is one that goes on without a blank
 abbrev pub parted : Edge → Edge
@@ -117,8 +117,8 @@ after_tag e hang forms.Hang = if fits_hang e.sheet hang then placed e (held_hang
 after_tag e hang (forms.Inset n) = placed e (if length e.sheet.cells == 0 then 0 else n)
 
 abbrev pub tag_ended : Edge → Option OpenTag → Laid Edge
-tag_ended e None = nothing e
-tag_ended e (Some t) = if e.sheet.tag_begun then after_tag e t.hang t.form else nothing e
+tag_ended e None = ended e
+tag_ended e (Some t) = if e.sheet.tag_begun || is_set_in t.form then after_tag e t.hang t.form else nothing (record e { word = no_word })
 
 abbrev pub without_tag : Edge → Edge
 without_tag e = record e { tag = None }

@@ -70,6 +70,13 @@ pub(crate) const NO_WORD: OpenWord = OpenWord {
     is_told: false,
 };
 
+// Whether a tag is set in its text's row.
+fn is_set_in(form: TagForm) -> bool
+    ensures { result ≡ fill.is_set_in form }
+{
+    matches!(form, TagForm::Inset(_))
+}
+
 impl OpenWord {
     /// The word has a cell, and goes on.
     fn begun(is_told: bool) -> OpenWord
@@ -460,12 +467,14 @@ impl Edge {
         ensures { LaysOut O.left out.old (fill.tag_ended
             (fill.without_tag self.old) self.old.tag) out.new self.new }
     {
-        let Some(tag) = self.tag else {
-            return;
-        };
+        let tag = self.tag;
         self.tag = None;
-        if self.sheet.has_tag_cell() {
-            self.after_tag(tag, out);
+        match tag {
+            None => self.end_row(out),
+            Some(tag) if self.sheet.has_tag_cell() || is_set_in(tag.form) => self.after_tag(
+                tag, out,
+            ),
+            Some(_) => self.word = NO_WORD,
         }
     }
 

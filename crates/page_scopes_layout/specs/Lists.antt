@@ -60,9 +60,9 @@ next_cell list = record list {
 abbrev pub list_begun : OpenList → ℤ → Context → Context
 list_begun list offset c = record (flat c) { margin = further_in c.margin c.hang offset; list = Some list }
 
--- the text of an item hangs from its head or its mark, which stands at the margin
+-- the text of an item hangs from its head or its mark, which stands at the margin; the hang of a name (`Nm`) before it goes on
 abbrev pub item_begun : Option OpenList → Context → Context
-item_begun (Some list) c = record (flat c) { margin = hold (pos c.margin +ℤ pos list.hang); list = Some (next_item list c.margin) }
+item_begun (Some list) c = record c { margin = hold (pos c.margin +ℤ pos list.hang); first = None; list = Some (next_item list c.margin) }
 item_begun None c = c
 
 abbrev pub tag_at : ℕ → Context → Context

@@ -1,5 +1,5 @@
 -- What a scope gives where it begins and where it ends, but its words. Source: man(7), "MACRO OVERVIEW"; mdoc(7), "MACRO REFERENCE".
-use Rattle.std.specs.Prelude.{ℕ, List, [], ◌∷◌, Bool, true, false, if◌then◌else◌, Option, None, Some, pos}
+use Rattle.std.specs.Prelude.{ℕ, List, [], ◌∷◌, ◌++◌, Bool, true, false, if◌then◌else◌, Option, None, Some, pos}
 use Rattle.page_core_base.specs.Pieces.{Item, shown}
 use Rattle.page_core_base.specs.declared.pieces.Piece.TheVariants as pieces
 use Rattle.page_core_base.specs.declared.pieces.TagForm.{TagForm}
@@ -34,15 +34,9 @@ item_begin_items None c = []
 abbrev pub hanging_items : OpenList → TagForm → Context → List Item
 hanging_items list form c = shown (pieces.Indent (margins c).first (margins c).rest) ∷ shown (pieces.Tag (hold (pos list.hang)) form) ∷ []
 
--- a head that is set in has blanks after it
-abbrev pub inset_items : ℕ → List Item
-inset_items blanks = shown (pieces.Tag 0 (Inset blanks)) ∷ []
-
 abbrev pub head_items : ListKind → OpenList → Context → List Item
 head_items kinds.Tag list c = hanging_items list Row c
 head_items kinds.Hang list c = hanging_items list Hang c
-head_items kinds.Inset list c = inset_items 1
-head_items kinds.Diag list c = inset_items 2
 head_items _ list c = []
 
 abbrev pub head_begin_items : Option OpenList → Context → List Item
@@ -58,9 +52,22 @@ abbrev pub is_row : Option OpenList → Bool
 is_row (Some list) = is_ohang list.kind
 is_row None = false
 
+-- a head that is set in has blanks after it, whatever stands in it
+abbrev pub inset_items : ℕ → List Item
+inset_items blanks = shown (pieces.Tag 0 (Inset blanks)) ∷ []
+
+abbrev pub head_last_items : ListKind → List Item
+head_last_items kinds.Inset = inset_items 1
+head_last_items kinds.Diag = inset_items 2
+head_last_items _ = []
+
+abbrev pub open_head_last_items : Option OpenList → List Item
+open_head_last_items (Some list) = head_last_items list.kind
+open_head_last_items None = []
+
 abbrev pub head_end_items : Bool → Context → List Item
 head_end_items true c = shown pieces.Break ∷ margin_items c
-head_end_items false c = shown pieces.TagEnd ∷ margin_items c
+head_end_items false c = open_head_last_items c.list ++ (shown pieces.TagEnd ∷ margin_items c)
 
 -- ---- where a scope begins
 

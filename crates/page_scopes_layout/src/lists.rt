@@ -136,8 +136,9 @@ impl Context {
         match self.list {
             Some(list) => Context {
                 margin: hold(i64::from(self.margin) + i64::from(list.hang)),
+                first: None,
                 list: Some(list.next_item(self.margin)),
-                ..self.flat()
+                ..self
             },
             None => self,
         }

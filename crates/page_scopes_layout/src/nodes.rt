@@ -59,8 +59,6 @@ fn give_head_of<O: PieceOut>(out: &mut O, list: &OpenList, context: &Context)
     match list.kind {
         ListKind::Tag => give_hanging(out, list, TagForm::Row, context),
         ListKind::Hang => give_hanging(out, list, TagForm::Hang, context),
-        ListKind::Inset => give_inset(out, 1),
-        ListKind::Diag => give_inset(out, 2),
         _ => {}
     }
 }
@@ -86,6 +84,19 @@ impl Context {
     }
 }
 
+// Gives what the words of a head end with that is set in.
+fn give_head_last<O: PieceOut>(out: &mut O, list: &Option<OpenList>)
+    ensures { Came O.left out.old (nodes.open_head_last_items list.now) out.new }
+{
+    if let Some(list) = list {
+        match list.kind {
+            ListKind::Inset => give_inset(out, 1),
+            ListKind::Diag => give_inset(out, 2),
+            _ => {}
+        }
+    }
+}
+
 // Gives what ends a head, and the margins of the context after it.
 fn give_head_end<O: PieceOut>(out: &mut O, context: &Context)
     ensures { Came O.left out.old (nodes.head_end_items (nodes.is_row context.now.list) context.now) out.new }
@@ -93,6 +104,7 @@ fn give_head_end<O: PieceOut>(out: &mut O, context: &Context)
     if context.has_row_heads() {
         out.give(Piece::Break);
     } else {
+        give_head_last(out, &context.list);
         out.give(Piece::TagEnd);
     }
     give_margins(out, context);

@@ -44,7 +44,7 @@ unfoldable pub target_word : Place → KeptText → Context → Running → Outc
 target_word place target c r = record {
   items = gap_items c.is_literal.value r place
       ++ (mark_items c.fonts.value.font place (codes "<")
-      ++ (parts_items c.is_literal.value place c.fonts (kept_tokens target)
+      ++ (parts_items c.is_literal.value 1 place c.fonts (kept_tokens target)
       ++ mark_items (target_fonts target c).value.font place (codes ">")));
   context = record c { fonts = target_fonts target c; has_row = true };
   running = after_kept (is_text c.part) c.has_spacing.value (record r { heading = heading_broken c.part r.heading });

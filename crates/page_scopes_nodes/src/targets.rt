@@ -68,7 +68,7 @@ pub(crate) fn give_target<O: PieceOut>(
     let is_literal = context.is_literal.value;
     give_kept_gap(out, is_literal, running, place);
     give_mark(out, context.fonts.value.font, place, "<");
-    let fonts = give_kept(out, is_literal, place, context.fonts, target);
+    let fonts = give_kept(out, is_literal, 1, place, context.fonts, target);
     give_mark(out, fonts.value.font, place, ">");
     context.fonts = fonts;
     context.has_row = true;

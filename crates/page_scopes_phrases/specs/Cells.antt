@@ -1,5 +1,5 @@
 -- Texts in the columns of a list. Source: mdoc(7), `Bl -column`, `Ta`.
-use Rattle.std.specs.Prelude.{ℕ, zero, suc, ◌+◌, ◌-◌, ◌==◌, nat_lt, Bool, true, false, ◌&&◌, List, [], ◌∷◌, ◌++◌, length, take, drop, Option, None, Some, is_some, position, unwrap_or, if◌then◌else◌}
+use Rattle.std.specs.Prelude.{ℕ, zero, suc, ◌+◌, ◌-◌, ◌==◌, nat_lt, Bool, true, false, not, ◌&&◌, ◌||◌, List, [], ◌∷◌, ◌++◌, length, take, drop, Option, None, Some, is_some, position, unwrap_or, if◌then◌else◌}
 use Rattle.std.specs.List.{prefix_len}
 use Rattle.page_core_base.specs.Pieces.{shown}
 use Rattle.page_core_base.specs.declared.note_kinds.NoteKind.TheVariants.{ItemOutside}
@@ -11,7 +11,7 @@ use Rattle.page_scopes_layout.specs.Lists.{has_columns, next_cell}
 use Rattle.page_scopes_layout.specs.declared.contexts.Context.{Context}
 use Rattle.page_scopes_layout.specs.declared.lists.OpenList.{OpenList}
 use Rattle.page_scopes_phrases.specs.Outcomes.{Outcome, followed_by, nothing}
-use Rattle.page_scopes_phrases.specs.Phrases.{phrase_outcome}
+use Rattle.page_scopes_phrases.specs.Phrases.{is_text, phrase_outcome}
 use Rattle.page_scopes_phrases.specs.declared.cells.CellSpan.{CellSpan}
 use Rattle.page_scopes_phrases.specs.declared.phrases.Phrase.{Phrase}
 use Rattle.page_scopes_phrases.specs.declared.runnings.Running.{Running}
@@ -100,13 +100,17 @@ other_cells span p = with_text p (other_cells_text span p.text)
 
 -- ---- a text in cells
 
--- a cell without a byte is no word
+-- a cell without a byte beside a tab is no word
 abbrev pub cell : ℕ → Phrase (List ℕ) → Context → Running → Outcome
 cell line p c r = if length p.text == 0 then nothing c r else phrase_outcome line p c r
 
+-- a tab is a word of its row
+abbrev pub after_cell : Context → Running → Running
+after_cell c r = record r { line = record r.line { has_row_words = r.line.has_row_words || is_text c.part } }
+
 -- the first cell, and the next column
 abbrev pub first_part : CellSpan → ℕ → Phrase (List ℕ) → Context → Running → Outcome
-first_part span line p c r = followed_by (cell line (first_cell span p) c r) (λ d s. next_column d.list d s)
+first_part span line p c r = followed_by (cell line (first_cell span p) c r) (λ d s. next_column d.list d (after_cell d s))
 
 abbrev pub span : Phrase (List ℕ) → CellSpan
 span p = span_of p.is_quoted p.text
@@ -124,6 +128,9 @@ cells_within (suc n) line p c r =
 abbrev pub cells : ℕ → Phrase (List ℕ) → Context → Running → Outcome
 cells line p c r = cells_within (length p.text) line p c r
 
--- a text is parted by tabs where columns are open
+-- a text is parted by tabs where columns are open; one without a byte is a word, as everywhere
+abbrev pub is_parted : Phrase (List ℕ) → Context → Bool
+is_parted p c = in_columns c && not (length p.text == 0)
+
 abbrev pub text_outcome : ℕ → Phrase (List ℕ) → Context → Running → Outcome
-text_outcome line p c r = if in_columns c then cells line p c r else phrase_outcome line p c r
+text_outcome line p c r = if is_parted p c then cells line p c r else phrase_outcome line p c r

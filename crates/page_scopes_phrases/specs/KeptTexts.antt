@@ -1,5 +1,6 @@
 -- Texts that are kept of an argument and printed later: the target of a link, and the name of the manual. Source: man(7), `UR`, `MT`; mdoc(7), `Nm`.
 use Rattle.std.specs.Prelude.{ℕ, Bool, true, false, ◌||◌, ◌==◌, nat_lt, List, [], ◌∷◌, ◌++◌, length, codes, if◌then◌else◌}
+use Rattle.std.specs.List.{list_any}
 use Rattle.page_core_base.specs.Messages.{text_front}
 use Rattle.page_core_base.specs.Pieces.{Item, shown}
 use Rattle.page_core_base.specs.declared.cells.Font.{Font}
@@ -12,9 +13,10 @@ use Rattle.page_core_limits.specs.declared.TheConstants.{FIELD}
 use Rattle.page_roff_forms.specs.Arguments.{is_quoted}
 use Rattle.page_roff_forms.specs.declared.quotes.Argument.{Argument}
 use Rattle.page_scopes_words.specs.declared.settings.Setting.{Setting}
+use Rattle.page_scopes_phrases.specs.Runnings.{next_gap}
 use Rattle.page_scopes_phrases.specs.declared.kept_texts.KeptText.{KeptText}
 use Rattle.page_scopes_phrases.specs.declared.runnings.Running.{Running}
-use Rattle.page_scopes_text.specs.Words.{blank_cells, fonts_after, token_items}
+use Rattle.page_scopes_text.specs.Words.{blank_cells, fonts_after, token_items, token_prints}
 use Rattle.page_scopes_words.specs.Words.{has_tab, says, white_cells}
 use Rattle.page_scopes_words.specs.declared.fonts.Fonts.{Fonts}
 
@@ -32,31 +34,39 @@ kept_tokens kept = tokens_of kept.is_quoted kept.text
 
 -- the blanks before it
 abbrev pub kept_gap : Running → Place → List Item
-kept_gap r place = if r.line.is_after_word then blank_cells r.gap R place else []
+kept_gap r place = if r.line.is_after_word then blank_cells (next_gap r) R place else []
 
 abbrev pub filled_gap : ℕ → List Item
 filled_gap gap = if gap == 0 then [] else shown (Blank gap false) ∷ []
 
 abbrev pub gap_items : Bool → Running → Place → List Item
-gap_items literal r place = if literal then kept_gap r place else filled_gap r.gap
+gap_items literal r place = if literal then kept_gap r place else filled_gap (next_gap r)
 
--- its parts are one blank apart, which is reported where it stands for a tab, or as they are written
-abbrev pub white_items : Bool → Place → List ℕ → List Item
-white_items literal place bytes = if literal then white_cells place bytes else shown (Blank 1 (has_tab bytes)) ∷ []
+-- its parts are as many blanks apart, which are reported where they stand for a tab, or as they are written
+abbrev pub white_items : Bool → ℕ → Place → List ℕ → List Item
+white_items literal gap place bytes = if literal then white_cells place bytes else shown (Blank gap (has_tab bytes)) ∷ []
 
-abbrev pub part_items : Bool → Place → Font → TextToken → List Item
-part_items literal place font (white bytes) = white_items literal place bytes
-part_items literal place font token = token_items font place token
+abbrev pub part_items : Bool → ℕ → Place → Font → TextToken → List Item
+part_items literal gap place font (white bytes) = white_items literal gap place bytes
+part_items literal gap place font token = token_items font place token
 
--- without the messages of its escapes, all at one place
-abbrev pub parts_items : Bool → Place → Setting Fonts → List TextToken → List Item
-parts_items literal place fonts [] = []
-parts_items literal place fonts (token ∷ tokens) =
-    part_items literal place fonts.value.font token ++ parts_items literal place (fonts_after token fonts) tokens
+-- without the messages of its escapes, all at one place; white space at its front is this many blanks, and any other one
+abbrev pub parts_items : Bool → ℕ → Place → Setting Fonts → List TextToken → List Item
+parts_items literal gap place fonts [] = []
+parts_items literal gap place fonts (token ∷ tokens) =
+    part_items literal gap place fonts.value.font token ++ parts_items literal 1 place (fonts_after token fonts) tokens
 
 abbrev pub fonts_through : Setting Fonts → List TextToken → Setting Fonts
 fonts_through fonts [] = fonts
 fonts_through fonts (token ∷ tokens) = fonts_through (fonts_after token fonts) tokens
+
+-- whether one of its parts is a cell
+abbrev pub part_prints : Bool → TextToken → Bool
+part_prints literal (white bytes) = literal
+part_prints literal token = token_prints token
+
+abbrev pub prints_cell : Bool → List TextToken → Bool
+prints_cell literal tokens = list_any (part_prints literal) tokens
 
 -- it is a word
 abbrev pub after_kept : (in_text spacing : Bool) → Running → Running
@@ -69,5 +79,6 @@ after_kept in_text spacing r = record r {
     is_after_word = true;
     is_cut = false;
     ends_blank = false;
+    joins_next = false;
   };
 }

@@ -1,5 +1,5 @@
 -- The name of the manual: the first word of the first `Nm` that has one, which each `Nm` without words prints. Source: mdoc(7), `Nm`.
-use Rattle.std.specs.Prelude.{ℕ, min, nat_lt, ◌==◌, false, ◌||◌, if◌then◌else◌, List, [], ◌∷◌, ◌++◌, length, Option, None, Some}
+use Rattle.std.specs.Prelude.{ℕ, min, max, nat_lt, ◌==◌, Bool, false, ◌||◌, ◌&&◌, if◌then◌else◌, List, [], ◌∷◌, ◌++◌, length, Option, None, Some}
 use Rattle.page_core_base.specs.Pieces.{Item, shown}
 use Rattle.page_core_base.specs.declared.cells.Font.TheVariants.{B}
 use Rattle.page_core_base.specs.declared.note_kinds.NoteKind.TheVariants.{MissingName}
@@ -9,10 +9,11 @@ use Rattle.page_core_limits.specs.declared.TheConstants.{LINE}
 use Rattle.page_roff_forms.specs.declared.quotes.Argument.{Argument}
 use Rattle.page_scopes_layout.specs.declared.contexts.Context.{Context}
 use Rattle.page_scopes_phrases.specs.Headings.{heading_further}
-use Rattle.page_scopes_phrases.specs.KeptTexts.{after_kept, cut_notes, gap_items, kept_of, kept_tokens, parts_items}
+use Rattle.page_scopes_phrases.specs.KeptTexts.{after_kept, cut_notes, gap_items, kept_of, kept_tokens, parts_items, prints_cell}
 use Rattle.page_scopes_phrases.specs.LineWords.{with_sentence}
 use Rattle.page_scopes_phrases.specs.Outcomes.{Outcome}
 use Rattle.page_scopes_phrases.specs.Phrases.{is_text, own_fonts, phrase_context, phrase_items, phrase_running}
+use Rattle.page_scopes_phrases.specs.Runnings.{next_gap}
 use Rattle.page_scopes_phrases.specs.declared.kept_texts.KeptText.{KeptText}
 use Rattle.page_scopes_phrases.specs.declared.phrases.Phrase.{Phrase}
 use Rattle.page_scopes_phrases.specs.declared.runnings.Running.{Running}
@@ -68,14 +69,18 @@ empty_items place name = if length name.text == 0 then shown (Text [] B place) �
 
 -- it may be of a heading
 abbrev pub name_in_heading : KeptText → Context → Running → Running
-name_in_heading name c r = record r { heading = heading_further c.part name.is_quoted r.gap name.text r.heading }
+name_in_heading name c r = record r { heading = heading_further c.part name.is_quoted (next_gap r) name.text r.heading }
 
--- in bold, without the messages of its escapes; a sentence ends as it is written
+-- where rows are kept the blanks before it are cells
+abbrev pub has_gap_cells : Bool → Running → Bool
+has_gap_cells literal r = literal && (r.line.is_after_word && nat_lt 0 (next_gap r))
+
+-- in bold, without the messages of its escapes, with the blanks before it where it begins with some; a sentence ends as it is written, and a row begins with a cell
 unfoldable pub name_word : Place → KeptText → Context → Running → Outcome
 name_word place name c r = record {
   items = gap_items c.is_literal.value r place
-      ++ (empty_items place name ++ parts_items c.is_literal.value place (own_fonts (Some B) c.fonts) (kept_tokens name));
-  context = record c { has_row = c.has_row || nat_lt 0 (length name.text) };
+      ++ (empty_items place name ++ parts_items c.is_literal.value (max (next_gap r) 1) place (own_fonts (Some B) c.fonts) (kept_tokens name));
+  context = record c { has_row = c.has_row || (has_gap_cells c.is_literal.value r || prints_cell c.is_literal.value (kept_tokens name)) };
   running = with_sentence name.text (after_kept (is_text c.part) c.has_spacing.value (name_in_heading name c r));
 }
 

@@ -9,6 +9,7 @@ use Rattle.page_scopes_layout.specs.declared.contexts.PagePart.TheVariants as pa
 use Rattle.page_scopes_words.specs.declared.settings.Setting.{Setting}
 use Rattle.page_scopes_phrases.specs.Headings.{heading_further}
 use Rattle.page_scopes_phrases.specs.Outcomes.{Outcome}
+use Rattle.page_scopes_phrases.specs.Runnings.{next_gap}
 use Rattle.page_scopes_phrases.specs.declared.phrases.Phrase.{Phrase}
 use Rattle.page_scopes_phrases.specs.declared.runnings.Running.{Running}
 use Rattle.page_scopes_text.specs.Parted.{words_of}
@@ -63,7 +64,7 @@ abbrev pub phrase_pen : Phrase (List ℕ) → Context → Running → Pen
 phrase_pen p c r = record {
   fonts = own_fonts p.font c.fonts;
   column = p.column;
-  gap = joined_gap p.before (blanks_part r.line.ends_blank c) r.gap;
+  gap = joined_gap p.before (blanks_part r.line.ends_blank c) (next_gap r);
   is_after_word = r.line.is_after_word;
   has_cell = false;
   is_cut = false;
@@ -105,6 +106,7 @@ running_after p pen c r = record r {
     is_after_word = true;
     is_cut = pen.is_cut;
     ends_blank = pen.ends_blank;
+    joins_next = false;
   };
 }
 

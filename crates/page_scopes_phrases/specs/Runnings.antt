@@ -13,9 +13,14 @@ no_line = record {
   is_cut = false;
   ends_blank = false;
   is_sentence = false;
+  joins_next = false;
   fonts_before = None;
   name_columns = None;
 }
+
+-- the blanks before the next word; none after a dash that is glued to what comes after it in its line
+abbrev pub next_gap : Running → ℕ
+next_gap r = if r.line.joins_next then 0 else r.gap
 
 -- before a page's first line
 abbrev pub start : Running

@@ -9,6 +9,7 @@ ghost use Rattle.page_sets_lines.specs.Fits.{FitsAt};
 ghost use Rattle.page_scopes_phrases.specs.Outcomes.{GivesOutcome};
 ghost use Rattle.page_scopes_phrases.specs.Phrases.{phrase_seen};
 
+use crate::phrases::is_text;
 use crate::{Phrase, Running, give_phrase};
 use page_core_base::{NoteKind, Piece, PieceOut, Place};
 use page_core_escapes::{Escape, Token, read_token};
@@ -222,6 +223,7 @@ fn give_first_cell<O: PieceOut>(
         out.new context.new running.new }
 {
     give_cell(out, line, &first_cell(span, phrase), context, running);
+    running.line.has_row_words = running.line.has_row_words || is_text(context.part);
     give_next_column(out, context, running);
 }
 

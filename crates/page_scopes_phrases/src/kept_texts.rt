@@ -15,7 +15,7 @@ use page_core_base::{Font, NoteKind, Piece, PieceOut, Place, text_front};
 use page_core_escapes::{Token, read_token};
 use page_core_limits::{FIELD, LINE, Limit};
 use page_roff_forms::Argument;
-use page_scopes_text::{fonts_after, give_blank_cells, give_token};
+use page_scopes_text::{fonts_after, give_blank_cells, give_token, token_prints};
 use page_scopes_words::{Fonts, Setting, give_white_cells, has_tab, report};
 use std::marker::Model;
 
@@ -105,25 +105,25 @@ pub fn give_kept_gap<O: PieceOut>(out: &mut O, is_literal: bool, running: &Runni
 {
     if is_literal {
         if running.line.is_after_word {
-            give_blank_cells(out, running.gap, Font::R, place);
+            give_blank_cells(out, running.next_gap(), Font::R, place);
         }
-    } else if running.gap != 0 {
+    } else if running.next_gap() != 0 {
         out.give(Piece::Blank {
-            count: running.gap,
+            count: running.next_gap(),
             has_tab: false,
         });
     }
 }
 
-// Gives white space in a kept text.
-fn give_white<O: PieceOut>(out: &mut O, is_literal: bool, place: Place, white: &[u8])
-    ensures { Came O.left out.old (kept.white_items is_literal place white.now) out.new }
+// Gives white space in a kept text, as cells or as this many blanks.
+fn give_white<O: PieceOut>(out: &mut O, is_literal: bool, gap: u32, place: Place, white: &[u8])
+    ensures { Came O.left out.old (kept.white_items is_literal gap place white.now) out.new }
 {
     if is_literal {
         give_white_cells(out, place, white);
     } else {
         out.give(Piece::Blank {
-            count: 1,
+            count: gap,
             has_tab: has_tab(white),
         });
     }
@@ -133,15 +133,16 @@ fn give_white<O: PieceOut>(out: &mut O, is_literal: bool, place: Place, white: &
 fn give_part<O: PieceOut>(
     out: &mut O,
     is_literal: bool,
+    gap: u32,
     place: Place,
     font: Font,
     token: &Token<'_>,
 )
     ensures { Came O.left out.old
-        (kept.part_items is_literal place font (token_seen token.now)) out.new }
+        (kept.part_items is_literal gap place font (token_seen token.now)) out.new }
 {
     match *token {
-        Token::White(white) => give_white(out, is_literal, place, white),
+        Token::White(white) => give_white(out, is_literal, gap, place, white),
         _ => give_token(out, font, place, token),
     }
 }
@@ -150,6 +151,7 @@ fn give_part<O: PieceOut>(
 fn give_parts<O: PieceOut>(
     out: &mut O,
     is_literal: bool,
+    front: u32,
     quoted: bool,
     place: Place,
     start: Setting<Fonts>,
@@ -157,35 +159,73 @@ fn give_parts<O: PieceOut>(
 ) -> Setting<Fonts>
     requires { length text.now ≤ LINE }
     ensures came { Came O.left out.old
-        (kept.parts_items is_literal place start (tokens_of quoted text.now)) out.new }
+        (kept.parts_items is_literal front place start (tokens_of quoted text.now)) out.new }
     ensures fonts { result ≡ kept.fonts_through start (tokens_of quoted text.now) }
 {
     let mut rest = text;
     let mut fonts = start;
+    let mut gap = front;
     while !rest.is_empty() {
         let token = read_token(quoted, rest);
-        give_part(out, is_literal, place, fonts.value.font, &token);
+        give_part(out, is_literal, gap, place, fonts.value.font, &token);
         fonts = fonts_after(&token, fonts);
+        gap = 1;
         rest = &rest[token.len()..];
     }
     fonts
 }
 
-/// Gives what a kept text prints without its messages, all at one place; the fonts after it.
+// Whether a token of a kept text prints a cell.
+fn part_prints(is_literal: bool, token: &Token<'_>) -> bool
+    ensures { result ≡ kept.part_prints is_literal (token_seen token.now) }
+{
+    match *token {
+        Token::White(_) => is_literal,
+        _ => token_prints(token),
+    }
+}
+
+// Whether a text prints a cell.
+fn prints_cell(is_literal: bool, quoted: bool, text: &[u8]) -> bool
+    requires { length text.now ≤ LINE }
+    ensures { result ≡ kept.prints_cell is_literal (tokens_of quoted text.now) }
+{
+    let mut rest = text;
+    while !rest.is_empty() {
+        let token = read_token(quoted, rest);
+        if part_prints(is_literal, &token) {
+            return true;
+        }
+        rest = &rest[token.len()..];
+    }
+    false
+}
+
+/// Whether a kept text prints a cell.
+pub(crate) fn kept_prints_cell(is_literal: bool, text: &KeptText) -> bool
+    ensures { result ≡ kept.prints_cell is_literal (kept.kept_tokens text.now) }
+{
+    prints_cell(is_literal, text.is_quoted, text.text.text())
+}
+
+/// Gives what a kept text prints without its messages, all at one place; white space at its front is this many blanks. The fonts
+/// after it.
 pub fn give_kept<O: PieceOut>(
     out: &mut O,
     is_literal: bool,
+    front: u32,
     place: Place,
     start: Setting<Fonts>,
     text: &KeptText,
 ) -> Setting<Fonts>
     ensures came { Came O.left out.old
-        (kept.parts_items is_literal place start (kept.kept_tokens text.now)) out.new }
+        (kept.parts_items is_literal front place start (kept.kept_tokens text.now)) out.new }
     ensures fonts { result ≡ kept.fonts_through start (kept.kept_tokens text.now) }
 {
     give_parts(
         out,
         is_literal,
+        front,
         text.is_quoted,
         place,
         start,
@@ -205,5 +245,6 @@ impl Running {
         self.line.is_after_word = true;
         self.line.is_cut = false;
         self.line.ends_blank = false;
+        self.line.joins_next = false;
     }
 }

@@ -88,7 +88,7 @@ fn give_parted<O: PieceOut>(
     ensures { GivesOutcome O.left out.old (text_outcome line (phrase_seen phrase.now) context.old running.old)
         out.new context.new running.new }
 {
-    if in_columns(context) {
+    if in_columns(context) && !phrase.text.is_empty() {
         give_cells(out, line, phrase, context, running);
     } else {
         give_phrase(out, line, phrase, context, running);
@@ -116,12 +116,12 @@ pub fn give_line_word<O: PieceOut>(
 }
 
 // A word of a macro's own as a phrase.
-fn own_phrase(place: Place, word: OwnWord) -> Phrase<&'static [u8]>
-    ensures seen { phrase_seen result ≡ lines.own_phrase place word }
+fn own_phrase(place: Place, has_spacing: bool, word: OwnWord) -> Phrase<&'static [u8]>
+    ensures seen { phrase_seen result ≡ lines.own_phrase place has_spacing word }
     ensures fits { FitsAt result.column result.text.now }
 {
     Phrase {
-        text: word.own.text().as_bytes(),
+        text: word.own.spaced(has_spacing).text().as_bytes(),
         column: place.column.min(LINE as u32),
         is_quoted: false,
         is_line: false,
@@ -145,7 +145,9 @@ pub fn give_own_word<O: PieceOut>(
         (lines.own_word place word context.old running.old)
         out.new context.new running.new }
 {
-    give_phrase(out, place.line, &own_phrase(place, word), context, running);
+    let phrase = own_phrase(place, context.has_spacing.value, word);
+    give_phrase(out, place.line, &phrase, context, running);
     running.line.is_sentence = word.own.ends_sentence()
         || (running.line.is_sentence && !word.own.is_word());
+    running.line.joins_next = word.own.joins_next();
 }

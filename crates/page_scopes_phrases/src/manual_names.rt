@@ -9,7 +9,7 @@ ghost use Rattle.page_scopes_phrases.specs.Outcomes.{GivesOutcome};
 ghost use Rattle.page_scopes_phrases.specs.Phrases.{phrase_seen};
 
 use crate::Running;
-use crate::kept_texts::{KeptText, give_kept, give_kept_gap, report_cut};
+use crate::kept_texts::{KeptText, give_kept, give_kept_gap, kept_prints_cell, report_cut};
 use crate::phrases::{Phrase, give_phrase, is_text, own_fonts};
 use page_core_base::{Font, NoteKind, Piece, PieceOut, Place};
 use page_core_limits::LINE;
@@ -99,6 +99,13 @@ fn give_empty<O: PieceOut>(out: &mut O, place: Place, name: &KeptText)
     }
 }
 
+// Whether the blanks before a name are cells.
+fn has_gap_cells(is_literal: bool, running: &Running) -> bool
+    ensures { result ≡ names.has_gap_cells is_literal running.now }
+{
+    is_literal && (running.line.is_after_word && running.next_gap() > 0)
+}
+
 // Gives a name in bold.
 #[tactic(auto, unfolding(crate::specs::ManualNames::name_word))]
 fn give_name_word<O: PieceOut>(
@@ -116,9 +123,22 @@ fn give_name_word<O: PieceOut>(
     give_kept_gap(out, is_literal, running, place);
     give_empty(out, place, name);
     let fonts = own_fonts(Some(Font::B), context.fonts);
-    let _ = give_kept(out, is_literal, place, fonts, name);
-    context.has_row = context.has_row || !name.text.text().is_empty();
-    running.heading.pass_text(context.part, name.is_quoted, running.gap, name.text.text());
+    let _ = give_kept(
+        out,
+        is_literal,
+        running.next_gap().max(1),
+        place,
+        fonts,
+        name,
+    );
+    context.has_row = context.has_row
+        || (has_gap_cells(is_literal, running) || kept_prints_cell(is_literal, name));
+    running.heading.pass_text(
+        context.part,
+        name.is_quoted,
+        running.next_gap(),
+        name.text.text(),
+    );
     running.pass_kept(is_text(context.part), context.has_spacing.value);
     running.line.is_sentence = ends_sentence(false, name.text.text());
 }

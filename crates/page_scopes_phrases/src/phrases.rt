@@ -107,7 +107,7 @@ fn phrase_pen(phrase: &Phrase<&[u8]>, context: &Context, running: &Running) -> P
         gap: joined_gap(
             phrase.before,
             blanks_part(running.line.ends_blank, context),
-            running.gap,
+            running.next_gap(),
         ),
         is_after_word: running.line.is_after_word,
         has_cell: false,
@@ -185,6 +185,7 @@ fn pass_running(running: &mut Running, phrase: &Phrase<&[u8]>, context: &Context
     running.line.is_after_word = true;
     running.line.is_cut = pen.is_cut;
     running.line.ends_blank = pen.ends_blank;
+    running.line.joins_next = false;
 }
 
 /// Gives the words of a phrase on a line.

@@ -21,6 +21,8 @@ pub struct LineSoFar {
     pub ends_blank: bool,
     /// Its last word ends a sentence.
     pub is_sentence: bool,
+    /// Its last word is glued to what comes after it in the line, and to nothing after that.
+    pub joins_next: bool,
     /// The fonts before the words of a font macro, where it is in them.
     pub fonts_before: Option<Setting<Fonts>>,
     /// The columns of the words of `Nm` so far, each with a blank after it, where it begins a row of the SYNOPSIS.
@@ -47,6 +49,7 @@ const NO_LINE: LineSoFar = LineSoFar {
     is_cut: false,
     ends_blank: false,
     is_sentence: false,
+    joins_next: false,
     fonts_before: None,
     name_columns: None,
 };
@@ -79,6 +82,13 @@ impl Running {
             line: NO_LINE,
             heading: HeadingSoFar::start(),
         }
+    }
+
+    /// The count of blanks before the next word: none after a dash that is glued to it.
+    pub fn next_gap(&self) -> u32
+        ensures { result ≡ runnings.next_gap self.now }
+    {
+        if self.line.joins_next { 0 } else { self.gap }
     }
 
     /// The row ends: no word stands in it yet.

@@ -22,4 +22,4 @@ mod words;
 pub use numbers::{give_columns, give_number, give_rows};
 pub use pens::{Pen, TextStyle};
 pub use texts::give_text;
-pub use tokens::{fonts_after, give_blank_cells, give_token, report_token};
+pub use tokens::{fonts_after, give_blank_cells, give_token, report_token, token_prints};

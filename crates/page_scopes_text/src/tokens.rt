@@ -99,7 +99,7 @@ fn escape_prints(meaning: Escape<'_>) -> bool
 
 /// Whether a token prints a cell.
 #[inline(always)]
-pub(crate) fn token_prints(token: &Token<'_>) -> bool
+pub fn token_prints(token: &Token<'_>) -> bool
     ensures { result ≡ words.token_prints (token_seen token.now) }
 {
     match *token {

@@ -165,7 +165,7 @@ const WORDS: &[(&str, &str)] = &[
     ),
     (
         ".Fl , a",
-        "2 mark B -; 5 +delimiter R ,; 7 mark+ B -; 7 word B a; 1 filled",
+        "5 +delimiter R ,; 7 mark+ B -; 7 word B a; 1 filled",
     ),
     (".Fl Ar x", "2 mark+ B -; 8 word I x; 1 filled"),
     (
@@ -189,15 +189,12 @@ const WORDS: &[(&str, &str)] = &[
         "5 word+ .; 7 close enclosures; 7 +delimiter R ,; 1 filled",
     ),
     (".Pf", "2 note empty Pf; 1 filled"),
-    (".Ns", "1 filled"),
+    (".Ns", "2 glue; 1 filled"),
     (
         ".Ns , a Em b",
-        "5 +delimiter R ,; 7 word a; 12 word I b; 1 filled",
+        "2 glue; 5 +delimiter R ,; 7 word a; 12 word I b; 1 filled",
     ),
-    (
-        ".Op a Ns",
-        "2 scope Bq; 5 word a; 7 close enclosures; 7 glue; 1 filled",
-    ),
+    (".Op a Ns", "2 scope Bq; 5 word a; 7 glue; 1 filled"),
     (".Em a Ns Em b", "5 word I a; 7 glue; 13 word I b; 1 filled"),
     (".Ap s", "2 +mark+ '; 5 word s; 1 filled"),
     (
@@ -248,7 +245,7 @@ const REFERENCES_AND_BLOCKS_OF_WORDS: &[(&str, &str)] = &[
     (".Bx", "2 mark BSD; 1 filled"),
     (
         ".Bx 4.3 reno .",
-        "5 word 4.3; 2 +mark BSD; 2 +mark+ -; 9 +mark Reno; 14 close enclosures; 14 +delimiter R .; 1 filled",
+        "5 word 4.3; 2 +mark BSD; 9 word reno; 14 close enclosures; 14 +delimiter R .; 1 filled",
     ),
     (".Lk u t", "7 word I t; 2 +mark :; 2 uri u; 1 filled"),
     (".Lk u", "2 uri u; 1 filled"),
@@ -491,7 +488,7 @@ const FUNCTIONS_AND_DECLARATIONS: &[(&str, &str)] = &[
     ),
     (
         ".Cd a Ns b",
-        "2 row; 5 word B a; 7 glue; 10 word b; 1 filled",
+        "2 row; 5 word B a; 2 row; 7 glue; 10 word b; 1 filled",
     ),
     (".Op Cd a", "2 scope Bq; 5 row; 8 word B a; 5 row; 1 filled"),
     (".Cd", "2 note empty Cd; 1 filled"),
@@ -545,19 +542,12 @@ const SENTENCES_AND_SPACING: &[(&str, &str)] = &[
     ),
     (
         ".Rv",
-        "2 mark Upon successful completion, the value 0 is returned; otherwise the value -1 is returned \
+        "2 mark The; 2 manual; 2 +mark (); 2 mark \
+        function returns the value 0 if successful; otherwise the value -1 is returned \
         and the global variable errno is set to indicate the error.; 1 filled",
     ),
-    (".Ud", "2 mark currently under development.; 1 filled"),
-    (
-        ".Ud Em x .",
-        "2 mark currently under development.; 1 filled",
-    ),
-    (".Bt", "2 mark is currently in beta test.; 1 filled"),
-    (
-        ".Bt \"x",
-        "5 note! quote; 2 mark is currently in beta test.; 1 filled",
-    ),
+    (".Ud", "2 note unknown Ud; 1 filled"),
+    (".Bt \"x", "2 note unknown Bt; 1 filled"),
     (".Em Ud", "5 word I Ud; 1 filled"),
 ];
 
@@ -602,14 +592,14 @@ const ITEMS_AND_COLUMNS: &[(&str, &str)] = &[
     ),
     (
         ".It x Ta \"Ta\" y Ta ,",
-        "2 open It; 2 scope It; 5 word x; 7 close enclosures; 7 column; 11 word \"Ta\"; 15 word y; 17 close enclosures; 17 column; 20 close enclosures; \
-        20 +delimiter R ,; 1 filled",
+        "2 open It; 2 scope It; 5 word x; 7 column; 11 word \"Ta\"; 15 word y; 17 column; 20 close enclosures; 20 +delimiter R ,; 1 filled",
     ),
     (".It \"x", "2 open It; 2 scope It; 6 word \"x; 1 filled"),
-    (".Ta", "2 close enclosures; 2 column; 1 filled"),
+    (".Ta", "2 column; 1 filled"),
+    (".Ta Em a", "2 column; 8 word I a; 1 filled"),
     (
-        ".Ta Em a",
-        "2 close enclosures; 2 column; 8 word I a; 1 filled",
+        ".Op a Ta b",
+        "2 scope Bq; 5 word a; 7 column; 10 word b; 1 filled",
     ),
 ];
 

@@ -91,8 +91,13 @@ fn show_word<'a>(word: Word<&'a [u8]>) -> Shown<'a> {
 
 fn show_own<'a>(word: OwnWord) -> Shown<'a> {
     let kinds = ["mark", "mark+", "+mark", "+mark+"];
+    let after = if word.own.joins_next() {
+        Join::Glued
+    } else {
+        word.after
+    };
     with(
-        joined(word.before, word.after, kinds),
+        joined(word.before, after, kinds),
         font_name(word.font),
         Some(bare(word.own.text().as_bytes())),
     )

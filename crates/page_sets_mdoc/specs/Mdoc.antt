@@ -75,7 +75,6 @@ include_words false line = printed line.number None (line_arguments line)
 
 abbrev pub words_events : LineMacro → Line → List (Event (List ℕ))
 words_events (lines.Inline inline) line = head_events line inline (line_parts (Some inline) line)
-words_events lines.NoSpace line = phrase_events line.number (line_parts None line)
 words_events lines.Item line = phrase_events line.number (line_parts None line)
 words_events (lines.Heading name) line = phrase_events line.number (line_parts None line)
 words_events lines.Description line = phrase_events line.number (line_parts None line)

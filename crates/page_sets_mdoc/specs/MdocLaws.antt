@@ -87,8 +87,6 @@ words_print lines.Description line = phrase_prints line (is_parsed (name_of line
 words_print (lines.OneLine name) line = phrase_prints line (is_parsed (name_of line)) (line_arguments line) (all_arguments line.text (name_end line))
 words_print (lines.Begins block) line = no_event line.text 2 (line_arguments line)
 words_print (lines.Ends block) line = no_event line.text 2 (line_arguments line)
-words_print lines.NoSpace line = phrase_prints line (is_parsed (name_of line)) (line_arguments line) (all_arguments line.text (name_end line))
-words_print (lines.Remark own) line = no_event line.text 3 (line_arguments line)
 words_print lines.Item line = phrase_prints line (is_parsed (name_of line)) (line_arguments line) (all_arguments line.text (name_end line))
 words_print (lines.Field font) line =
     more_events line.text 0 3 (line_arguments line) _ (omega arith)

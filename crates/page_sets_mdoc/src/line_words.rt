@@ -204,11 +204,8 @@ pub(crate) fn words_of(begins: LineMacro, line: Taken<'_>) -> MacroWords
 {
     match begins {
         LineMacro::Inline(inline) => head_words(line, inline),
-        LineMacro::NoSpace
-        | LineMacro::Item
-        | LineMacro::Heading(_)
-        | LineMacro::Description
-        | LineMacro::OneLine(_) => phrase_words(line),
+        LineMacro::Item | LineMacro::Heading(_) | LineMacro::Description | LineMacro::OneLine(_) =>
+            phrase_words(line),
         LineMacro::Field(font) => field_words(line, font),
         LineMacro::Sentence(sentence) => sentence_words(line, sentence),
         LineMacro::Include => include_words(line),

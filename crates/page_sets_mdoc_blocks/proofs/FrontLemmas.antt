@@ -13,7 +13,6 @@ use Rattle.page_sets_lines.specs.declared.openers.LineOpener.{LineOpener}
 use Rattle.page_sets_lines.specs.Laws.{IsPart, IsPartIfGiven, IsArgument, IsArgumentIfGiven, HasSlices, AreSlices, OpensSlices, BlockOpensSlices, BlockClosesSlices}
 use Rattle.page_sets_lines.specs.declared.events.Deed.TheVariants as deeds
 use Rattle.page_sets_lines.specs.declared.leaves.Leaf.TheVariants as leaves
-use Rattle.page_sets_names.specs.declared.own_texts.Own.{Own}
 use Rattle.page_sets_lines.specs.declared.line_steps.LineStep.TheVariants as steps
 use Rattle.page_sets_lines.specs.ControlLines.{name_end, rest_of, open_quote}
 use Rattle.page_sets_lines.proofs.OrderLemmas.{AreArguments, all_arguments}
@@ -26,10 +25,10 @@ use Rattle.page_sets_mdoc_rows.specs.declared.blocks.LineMacro.TheVariants as li
 use Rattle.page_sets_mdoc_blocks.specs.declared.fronts.FrontDeed.{FrontDeed}
 use Rattle.page_sets_mdoc_blocks.specs.declared.fronts.FrontDeed.TheVariants as fronts
 use Rattle.page_sets_mdoc_blocks.specs.declared.fronts.Front.{Front}
-use Rattle.page_sets_mdoc_blocks.specs.Fronts.{at_name, line_arguments, quote_events, missing_quote, request_front, heading_opener, first_text, opener_of, closer_of, deed_at_name, note_detail, note_events, block_note, begin_front, end_front, has_real_word, field_front, option_quote, include_front, spacing_of, spacing_deed, spacing_front, remark_front, block_front}
+use Rattle.page_sets_mdoc_blocks.specs.Fronts.{at_name, line_arguments, quote_events, missing_quote, request_front, heading_opener, first_text, opener_of, closer_of, deed_at_name, note_detail, note_events, block_note, begin_front, end_front, has_real_word, field_front, option_quote, include_front, spacing_of, spacing_deed, spacing_front, block_front}
 use Rattle.page_sets_mdoc_blocks.specs.declared.displays.DisplayOptions.{DisplayOptions}
 use Rattle.page_sets_mdoc_blocks.specs.Displays.{display_type, first_type, no_options, option_read, options_after}
-use Rattle.page_sets_mdoc_blocks.specs.FrontSteps.{front_deed, field_deed, include_deed, spacing_front_deed, scope_events, front_events, of_deed, quoted, quoting, beginning, remarking}
+use Rattle.page_sets_mdoc_blocks.specs.FrontSteps.{front_deed, field_deed, include_deed, spacing_front_deed, scope_events, front_events, of_deed, quoted, quoting, beginning}
 
 -- ---- slices
 
@@ -123,8 +122,6 @@ field_slices false line = (name_part line, tt)
 
 pub block_slices : (begins : LineMacro) (line : Line) → AreSlices line.text (block_front begins line)
 block_slices (lines.Inline inline) line = tt
-block_slices lines.NoSpace line = tt
-block_slices (lines.Remark own) line = AreSlices-append line.text _ _ (missing_slices true line) (tt, tt)
 block_slices (lines.Prologue name) line = AreSlices-append line.text _ _ (missing_slices false line) (rest_part line.text (name_end line) (end_within line), tt)
 block_slices (lines.Heading name) line = (heading_slices line.text name, (tt, tt))
 block_slices (lines.Paragraph name) line = AreSlices-append line.text _ _ (missing_slices false line) (tt, tt)
@@ -151,7 +148,6 @@ deed_slices (fronts.Prologue name) line = (rest_part line.text (name_end line) (
 deed_slices (fronts.Paragraph name) line = (tt, tt)
 deed_slices (fronts.Begins block) line = (opens_slices block line, tt)
 deed_slices (fronts.Ends block) line = (closes_slices block line, tt)
-deed_slices (fronts.Remark own) line = (tt, tt)
 deed_slices fronts.Field line = (tt, tt)
 deed_slices (fronts.Spacing on) line = (tt, tt)
 deed_slices fronts.Section line = (tt, tt)
@@ -201,8 +197,6 @@ request_no_word name line = HasNoWord-append (missing_quote false line) _ (missi
 
 pub block_no_word : (begins : LineMacro) (line : Line) → HasNoWord (block_front begins line)
 block_no_word (lines.Inline inline) line = tt
-block_no_word lines.NoSpace line = tt
-block_no_word (lines.Remark own) line = HasNoWord-append (missing_quote true line) _ (missing_no_word true line) (refl, tt)
 block_no_word (lines.Prologue name) line = HasNoWord-append (missing_quote false line) _ (missing_no_word false line) (refl, tt)
 block_no_word (lines.Heading name) line = (refl, (refl, tt))
 block_no_word (lines.Paragraph name) line = HasNoWord-append (missing_quote false line) _ (missing_no_word false line) (refl, tt)
@@ -245,9 +239,6 @@ begins_few block line =
 ends_few : (block : Block) (line : Line) → length (end_front block line) ≤ 3
 ends_few block line = let f = missing_few false line in simp length-append (omega (arith, f))
 
-remark_few : (own : Own) (line : Line) → length (remark_front own line) ≤ 2
-remark_few own line = let f = missing_few true line in simp length-append (omega (arith, f))
-
 include_few : (real : Bool) (line : Line) → length (include_front real line) ≤ 1
 include_few true line = omega arith
 include_few false line = omega arith
@@ -280,8 +271,6 @@ words_more _ = 3
 
 pub block_few : (begins : LineMacro) (line : Line) → length (block_front begins line) + words_more begins ≤ 5
 block_few (lines.Inline inline) line = omega arith
-block_few lines.NoSpace line = omega arith
-block_few (lines.Remark own) line = let f = remark_few own line in omega (arith, f)
 block_few (lines.Prologue name) line = let f = quoted_few line (at_name line (deeds.Leaf (leaves.Prologue name (rest_of line)))) in omega (arith, f)
 block_few (lines.Heading name) line = omega arith
 block_few (lines.Paragraph name) line = let f = quoted_few line (at_name line (deeds.Leaf (leaves.Step (steps.BodyParagraph name)))) in omega (arith, f)
@@ -315,9 +304,6 @@ include_begins false line = refl
 pub sentence_begins : (quote : Option ℕ) (line : Line) → front_events line (quoted quote) ≡ quote_events line.number true quote
 sentence_begins None line = refl
 sentence_begins (Some column) line = refl
-
-pub remark_begins : (own : Own) (line : Line) → front_events line (remarking own line) ≡ remark_front own line
-remark_begins own line = refl
 
 spacing_given : (on : Option (Option Bool)) (line : Line)
     → front_events line (quoting (spacing_front_deed on) line) ≡ missing_quote false line ++ deed_at_name line (spacing_deed on)

@@ -7,7 +7,6 @@ use Rattle.page_sets_lines.specs.declared.events.Deed.{Deed}
 use Rattle.page_sets_lines.specs.declared.events.Deed.TheVariants as deeds
 use Rattle.page_sets_lines.specs.declared.events.Event.{Event}
 use Rattle.page_sets_lines.specs.declared.leaves.Leaf.TheVariants as leaves
-use Rattle.page_sets_names.specs.declared.own_texts.Own.{Own}
 use Rattle.page_sets_lines.specs.declared.line_steps.LineStep.TheVariants as steps
 use Rattle.page_sets_names.specs.declared.macro_names.HeadingName.{HeadingName}
 use Rattle.page_sets_names.specs.declared.macro_names.HeadingName.TheVariants as headings
@@ -19,7 +18,7 @@ use Rattle.page_sets_lines.specs.PlainLines.{request}
 use Rattle.page_sets_mdoc_blocks.specs.declared.fronts.FrontDeed.{FrontDeed}
 use Rattle.page_sets_mdoc_blocks.specs.declared.fronts.FrontDeed.TheVariants as fronts
 use Rattle.page_sets_mdoc_blocks.specs.declared.fronts.Front.{Front}
-use Rattle.page_sets_mdoc_blocks.specs.Fronts.{at_name, line_arguments, quote_events, opener_of, closer_of, deed_at_name, note_events, block_note, remark}
+use Rattle.page_sets_mdoc_blocks.specs.Fronts.{at_name, line_arguments, quote_events, opener_of, closer_of, deed_at_name, note_events, block_note}
 
 abbrev pub missing_column : Line → Option ℕ
 missing_column line = open_quote 0 (line_arguments line)
@@ -44,7 +43,6 @@ front_deed (fronts.Paragraph name) line = Some (deeds.Leaf (leaves.Step (steps.B
 front_deed (fronts.Begins block) line = Some (block_deed true block line)
 front_deed (fronts.Ends block) line = Some (block_deed false block line)
 front_deed (fronts.Spacing on) line = Some (deeds.Leaf (leaves.Step (steps.Spacing on)))
-front_deed (fronts.Remark own) line = Some (remark own)
 front_deed fronts.Field line = Some (deeds.Leaf (leaves.Step steps.NextField))
 front_deed fronts.Section line = Some (deeds.Open openers.Section)
 front_deed fronts.Subsection line = Some (deeds.Open openers.Subsection)
@@ -84,9 +82,6 @@ scoped deed opener = record (of_deed deed) { scope = Some opener }
 
 abbrev pub beginning : Block → Line → Front
 beginning block line = record (quoting (fronts.Begins block) line) { begins_body = true; note = block_note block line }
-
-abbrev pub remarking : Own → Line → Front
-remarking own line = record (quoting (fronts.Remark own) line) { begins_body = true }
 
 -- a quote that is lacking, of what may begin the body
 abbrev pub quoted : Option ℕ → Front

@@ -11,9 +11,7 @@ use Rattle.page_roff_requests.specs.declared.requests.LayoutRequest.{LayoutReque
 use Rattle.page_sets_lines.specs.declared.events.Deed.{Deed}
 use Rattle.page_sets_lines.specs.declared.events.Deed.TheVariants as deeds
 use Rattle.page_sets_lines.specs.declared.events.Event.{Event}
-use Rattle.page_sets_lines.specs.declared.events.Join.TheVariants.{Apart}
 use Rattle.page_sets_lines.specs.declared.leaves.Leaf.TheVariants as leaves
-use Rattle.page_sets_names.specs.declared.own_texts.Own.{Own}
 use Rattle.page_sets_lines.specs.declared.line_steps.LineStep.TheVariants as steps
 use Rattle.page_sets_names.specs.declared.macro_names.HeadingName.{HeadingName}
 use Rattle.page_sets_names.specs.declared.macro_names.HeadingName.TheVariants as headings
@@ -152,15 +150,6 @@ abbrev pub given_names : List (Argument (List ℕ)) → List (Argument (List ℕ
 given_names [] = []
 given_names (word ∷ words) = if is_standard word then words else word ∷ words
 
--- ---- remarks (`Bt`, `Ud`)
-
--- their arguments are nothing
-abbrev pub remark : Own → Deed (List ℕ)
-remark own = deeds.Leaf (leaves.Own (record { own = own; font = None; before = Apart; after = Apart }))
-
-abbrev pub remark_front : Own → Line → List (Event (List ℕ))
-remark_front own line = missing_quote true line ++ (at_name line (remark own) ∷ [])
-
 -- ---- files of declarations (`In`)
 
 -- one without a word is refused
@@ -190,8 +179,6 @@ spacing_front line = missing_quote false line ++ deed_at_name line (spacing_deed
 -- what a macro does before its words; macros that can stand among words have no front of their own
 abbrev pub block_front : LineMacro → Line → List (Event (List ℕ))
 block_front (lines.Inline inline) line = []
-block_front lines.NoSpace line = []
-block_front (lines.Remark own) line = remark_front own line
 block_front (lines.Prologue name) line = missing_quote false line ++ (at_name line (deeds.Leaf (leaves.Prologue name (rest_of line))) ∷ [])
 block_front (lines.Heading name) line =
     at_name line (deeds.Open (heading_opener name)) ∷ at_name line (deeds.LineScope (scopes.Heading name)) ∷ []

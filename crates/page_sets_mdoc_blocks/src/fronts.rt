@@ -4,7 +4,6 @@ ghost use Rattle.std.specs.Prelude.{◌≡◌, ◌≤◌, [], ◌∷◌, length,
 ghost use Rattle.page_core_base.specs.LinesTaken.{Line, line_seen};
 ghost use Rattle.page_sets_lines.specs.Events.{event_seen, deed_seen, block_opener_seen, block_closer_seen, TakesNext};
 ghost use Rattle.page_sets_lines.specs.declared.events.Deed.TheVariants as deeds;
-ghost use Rattle.page_sets_lines.specs.declared.leaves.Leaf.TheVariants as leaves;
 ghost use Rattle.page_sets_mdoc_blocks.specs.Fronts as fronts;
 ghost use Rattle.page_sets_mdoc_blocks.specs.FrontSteps as steps;
 ghost use Rattle.page_sets_mdoc_blocks.specs.FrontSteps.{front_deed, front_events, heading_deed};
@@ -17,8 +16,8 @@ use page_core_base::{NoteKind, Place, Taken};
 use page_core_limits::LINE;
 use page_roff_requests::LayoutRequest;
 use page_sets_lines::{
-    BlockCloser, BlockOpener, BodyParagraphName, Closer, Deed, Event, HeadingName, Join, Leaf,
-    LineOpener, LineStep, Opener, Own, OwnWord, Prologue, find_name, with_argument,
+    BlockCloser, BlockOpener, BodyParagraphName, Closer, Deed, Event, HeadingName, Leaf,
+    LineOpener, LineStep, Opener, Prologue, find_name, with_argument,
 };
 use page_sets_mdoc_rows::{Block, LineMacro};
 
@@ -44,8 +43,6 @@ pub(crate) enum FrontDeed {
     Begins(Block),
     /// A block of lines ends.
     Ends(Block),
-    /// A sentence of the macro's own.
-    Remark(Own),
     /// A field of a reference.
     Field,
     /// Blanks stand between words, or do not.
@@ -159,18 +156,6 @@ fn block_deed<'a>(begins: bool, block: Block, line: Taken<'a>) -> Deed<&'a [u8]>
     }
 }
 
-// A sentence of a macro's own.
-fn remark(own: Own) -> OwnWord
-    ensures { deeds.Leaf (leaves.Own result) ≡ fronts.remark own }
-{
-    OwnWord {
-        own,
-        font: None,
-        before: Join::Apart,
-        after: Join::Apart,
-    }
-}
-
 // What a macro does first.
 fn front_deed<'a>(deed: FrontDeed, line: Taken<'a>) -> Option<Deed<&'a [u8]>>
     requires { length line.text.now ≤ LINE }
@@ -199,7 +184,6 @@ fn front_deed<'a>(deed: FrontDeed, line: Taken<'a>) -> Option<Deed<&'a [u8]>>
         FrontDeed::Subsection => Some(Deed::Open(Opener::Subsection)),
         FrontDeed::Begins(block) => Some(block_deed(true, block, line)),
         FrontDeed::Ends(block) => Some(block_deed(false, block, line)),
-        FrontDeed::Remark(own) => Some(Deed::Leaf(Leaf::Own(remark(own)))),
         FrontDeed::Field => Some(Deed::Leaf(Leaf::Step(LineStep::NextField))),
         FrontDeed::Spacing(on) => Some(Deed::Leaf(Leaf::Step(LineStep::Spacing(on)))),
     }
@@ -309,17 +293,6 @@ impl Front {
         }
     }
 
-    // A sentence of the macro's own, which may begin the body.
-    fn remarking(own: Own, line: Taken<'_>) -> Front
-        requires { length line.text.now ≤ LINE }
-        ensures { result ≡ steps.remarking own (line_seen line.entry) }
-    {
-        Front {
-            begins_body: true,
-            ..Front::quoting(FrontDeed::Remark(own), line)
-        }
-    }
-
     // A block of lines begins.
     fn beginning(block: Block, line: Taken<'_>) -> Front
         requires { length line.text.now ≤ LINE }
@@ -355,7 +328,7 @@ impl Front {
     }
 
     /// What a macro does in a line that it begins, before its words.
-    #[tactic(auto, using(crate::proofs::FrontLemmas::begins_with, crate::proofs::FrontLemmas::ends_with, crate::proofs::FrontLemmas::field_begins, crate::proofs::FrontLemmas::sentence_begins, crate::proofs::FrontLemmas::remark_begins, crate::proofs::FrontLemmas::include_begins, crate::proofs::FrontLemmas::spacing_begins))]
+    #[tactic(auto, using(crate::proofs::FrontLemmas::begins_with, crate::proofs::FrontLemmas::ends_with, crate::proofs::FrontLemmas::field_begins, crate::proofs::FrontLemmas::sentence_begins, crate::proofs::FrontLemmas::include_begins, crate::proofs::FrontLemmas::spacing_begins))]
     pub fn of_macro(begins: LineMacro, line: Taken<'_>) -> Front
         requires { length line.text.now ≤ LINE }
         ensures { front_events (line_seen line.entry) result ≡ fronts.block_front begins (line_seen line.entry) }
@@ -375,7 +348,6 @@ impl Front {
             LineMacro::Ends(block) => Front::quoting(FrontDeed::Ends(block), line),
             LineMacro::Field(_) => Front::of_deed(field_deed(line)),
             LineMacro::Sentence(_) => Front::of_sentence(line),
-            LineMacro::Remark(own) => Front::remarking(own, line),
             LineMacro::Include => Front::of_deed(include_deed(line)),
             LineMacro::Spacing => Front::quoting(spacing_deed(line), line),
             LineMacro::Target => Front::quoting(FrontDeed::Nothing, line),

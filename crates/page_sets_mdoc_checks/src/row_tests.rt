@@ -1,9 +1,7 @@
 //! The table of macros, row by row.
 
 use page_core_base::Font;
-use page_sets_lines::{
-    BodyParagraphName, HeadingName, Marks, OneLineName, Own, Prologue, Quotation,
-};
+use page_sets_lines::{BodyParagraphName, HeadingName, Marks, OneLineName, Prologue, Quotation};
 use page_sets_mdoc_rows::{
     Block, Defaulted, Delimiter, Inline, LineMacro, Pair, Sentence, System, called, delimiter_of,
     is_parsed, line_macro,
@@ -76,6 +74,7 @@ const TEXTS: &[(&str, Inline)] = &[
     ("Fn", Inline::Function),
     ("Lk", Inline::Link),
     ("Ap", Inline::Apostrophe),
+    ("Ns", Inline::NoSpace),
     ("Ta", Inline::NextColumn),
     ("Pf", Inline::Prefix),
     ("Bx", Inline::Bsd),
@@ -141,9 +140,6 @@ const MACROS_THAT_BEGIN_A_LINE: &[(&str, LineMacro)] = &[
     ("It", LineMacro::Item),
     ("Ex", LineMacro::Sentence(Sentence::Exit)),
     ("Rv", LineMacro::Sentence(Sentence::Return)),
-    ("Bt", LineMacro::Remark(Own::BetaTest)),
-    ("Ud", LineMacro::Remark(Own::UnderDevelopment)),
-    ("Ns", LineMacro::NoSpace),
     ("In", LineMacro::Include),
     ("Sm", LineMacro::Spacing),
     ("Tg", LineMacro::Target),
@@ -164,11 +160,11 @@ const MACROS_THAT_BEGIN_A_LINE: &[(&str, LineMacro)] = &[
 ];
 
 const NO_WORD_CALLS: &[&str] = &[
-    "Fd", "Lb", "St", "Dd", "Sh", "Nd", "D1", "Bd", "Ed", "It", "In", "Ex", "%A", "Sm", "Bt", "Ud",
+    "Fd", "Lb", "St", "Dd", "Sh", "Nd", "D1", "Bd", "Ed", "It", "In", "Ex", "%A", "Sm",
 ];
 
 const NO_MACROS: &[&str] = &[
-    "", "O", "op", "OP", "Opx", "Op ", " Op", "TH", "En", "Fr", "%E", "%",
+    "", "O", "op", "OP", "Opx", "Op ", " Op", "TH", "Bt", "Ud", "En", "Fr", "%E", "%",
 ];
 
 const LINES_IN_WHICH_WORDS_CALL: &[(&str, bool)] = &[
@@ -273,7 +269,6 @@ fn check_no_delimiters(rt: &impl Abort, words: &[&str]) {
 fn names_of_the_table(rt: HostRuntime) {
     check_all_called(&rt, WORDS_IN_A_FONT);
     check_all_called(&rt, TEXTS);
-    check_calls(&rt, "Ns", Inline::NoSpace);
     check_all_called(&rt, ENCLOSURES);
     check_pairs(&rt, ENCLOSURES_OVER_LINES);
     check_lines(&rt, MACROS_THAT_BEGIN_A_LINE);

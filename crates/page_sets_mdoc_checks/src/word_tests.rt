@@ -46,7 +46,7 @@ const WORDS_IN_A_FONT: &[(&str, &str)] = &[
     (".An -nosplit b", "14 word R b"),
     (".An \"-split", "5 quote"),
     (".Cd a", "2 row; 5 word B a; 2 row"),
-    (".Cd a Ns b", "2 row; 5 word B a"),
+    (".Cd a Ns b", "2 row; 5 word B a; 2 row"),
     (".Ft int", "5 word I int"),
     (
         ".Fa a , b",
@@ -74,7 +74,7 @@ const NAMES_AND_FLAGS: &[(&str, &str)] = &[
     (".Fl a b", "5 own+ B -; 5 word B a; 7 own+ B -; 7 word B b"),
     (
         ".Fl ( | a",
-        "5 delimiter+ R (; 2 own B -; 7 delimiter R |; 9 own+ B -; 9 word B a",
+        "5 delimiter+ R (; 7 delimiter R |; 9 own+ B -; 9 word B a",
     ),
     (
         ".Fl a | b",
@@ -109,15 +109,8 @@ const REFERENCES_AND_FUNCTIONS: &[(&str, &str)] = &[
         "5 delimiter+ R (; 7 word B f; 2 +own+ (; 9 delimiter R |; 11 word I a; 2 end",
     ),
     (".Bx", "2 own BSD"),
-    (".Bx 4 x", "5 word 4; 2 +own BSD; 2 +own+ -; 7 word x"),
-    (
-        ".Bx 4 tahoe",
-        "5 word 4; 2 +own BSD; 2 +own+ -; 7 +own Tahoe",
-    ),
-    (
-        ".Bx 4 \"reno\"",
-        "5 word 4; 2 +own BSD; 2 +own+ -; 8 word reno",
-    ),
+    (".Bx 4 x", "5 word 4; 2 +own BSD; 7 word x"),
+    (".Bx 4 \"reno\"", "5 word 4; 2 +own BSD; 8 word reno"),
     (
         ".Bx 4 | x",
         "5 word 4; 2 +own BSD; 7 delimiter R |; 9 word x",
@@ -166,7 +159,7 @@ const FUNCTIONS_OVER_LINES: &[(&str, &str)] = &[
 ];
 
 const GLUE_AND_ENCLOSURES: &[(&str, &str)] = &[
-    (".Ns", "2 close enclosures; 2 glue"),
+    (".Ns", "2 glue"),
     (".Ns Em a", "2 glue"),
     (".Ns a", "2 glue; 5 word a"),
     (".Ap s", "2 +own+ '; 5 word s"),
@@ -255,10 +248,7 @@ const MORE_WORDS_THAN_A_MACRO_TAKES: &[(&str, &str)] = &[
         ".Xr a 1 b c",
         "5 word a; 7 +own+ (; 7 word 1; 7 +own ); 9 word b; 11 word c",
     ),
-    (
-        ".Bx 4 x y",
-        "5 word 4; 2 +own BSD; 2 +own+ -; 7 word x; 9 word y",
-    ),
+    (".Bx 4 x y", "5 word 4; 2 +own BSD; 7 word x; 9 word y"),
     (".Ux a b", "2 own UNIX; 5 word a; 7 word b"),
     (".Ap s t", "2 +own+ '; 5 word s; 7 word t"),
     (".Ns a b", "2 glue; 5 word a; 7 word b"),

@@ -13,7 +13,7 @@ use page_sets_lines::{
     Role, SynopsisStep, Word, find_name,
 };
 use page_sets_mdoc_lines::Cursor;
-use page_sets_mdoc_rows::{Inline, LineMacro, is_parsed, line_macro};
+use page_sets_mdoc_rows::{LineMacro, is_parsed, line_macro};
 use page_sets_mdoc_words::MacroWords;
 
 pub type Shown = ArrayVec<u8, 500>;
@@ -61,7 +61,12 @@ fn put_word(out: &mut Shown, word: Word<&[u8]>) {
 }
 
 fn put_own(out: &mut Shown, word: OwnWord) {
-    put_kind(out, word.before, "own", word.after);
+    let after = if word.own.joins_next() {
+        Join::Glued
+    } else {
+        word.after
+    };
+    put_kind(out, word.before, "own", after);
     put_font(out, word.font);
     put_part(out, word.own.text().as_bytes());
 }
@@ -139,7 +144,6 @@ fn put_deed(out: &mut Shown, deed: Deed<&[u8]>) {
         Deed::Leaf(Leaf::Step(step)) => put_step(out, step),
         Deed::Open(Opener::Block(opener)) => put_opener(out, opener),
         Deed::Close(Closer::Block(closer)) => put_closer(out, closer),
-        Deed::Close(Closer::Enclosures) => put(out, b" close enclosures"),
         Deed::LineScope(opener) => put_scope(out, "scope", opener.name(), None),
         Deed::Note { kind, detail, .. } => put_note(out, kind, detail),
         _ => put(out, b" other"),
@@ -169,10 +173,8 @@ fn begun(first: bool, line: Taken<'_>) -> Option<MacroWords>
 {
     let name = find_name(line);
     let text = &line.text[name.start..name.end];
-    let inline = match line_macro(text)? {
-        LineMacro::Inline(inline) => inline,
-        LineMacro::NoSpace => Inline::NoSpace,
-        _ => return None,
+    let Some(LineMacro::Inline(inline)) = line_macro(text) else {
+        return None;
     };
     let cursor = Cursor::new(line.text, name.end);
     Some(MacroWords::begin(

@@ -2,13 +2,11 @@
 use Rattle.std.proofs.Common.{◌≡◌, ℕ, List, [], ◌∷◌, refl, Option, None, Some}
 use Rattle.page_roff_forms.specs.declared.quotes.Argument.{Argument}
 use Rattle.page_sets_names.specs.declared.own_texts.Own.{Own}
-use Rattle.page_core_base.specs.LinesTaken.{Line}
 use Rattle.page_sets_mdoc_rows.specs.declared.blocks.Sentence.{Sentence}
-use Rattle.page_sets_mdoc_rows.specs.declared.blocks.Sentence.TheVariants.{Exit, Return}
 use Rattle.page_sets_mdoc_steps.specs.declared.form_steps.NameCount.{NameCount}
 use Rattle.page_sets_mdoc_steps.specs.declared.form_steps.NameCount.TheVariants as counts
-use Rattle.page_sets_mdoc_steps.specs.Sentences.{name_count, marked, joined, names_events, sentence_word, sentence_events}
-use Rattle.page_sets_mdoc_steps.specs.Steps.{beginning, joining, naming, sentence_step_events, step_events}
+use Rattle.page_sets_mdoc_steps.specs.Sentences.{name_count, marked, joined, names_events, given_names}
+use Rattle.page_sets_mdoc_steps.specs.Steps.{beginning, joining, naming, sentence_step_events}
 
 -- the step after what is glued to a name
 pub joining_gives : (number column : ℕ) (sentence : Sentence) (all left : NameCount) (names : List (Argument (List ℕ)))
@@ -25,16 +23,10 @@ pub naming_gives : (number column : ℕ) (sentence : Sentence) (mark : Option Ow
 naming_gives number column sentence None all left names = joining_gives number column sentence all left names
 naming_gives number column sentence (Some own) all left names = refl
 
--- what begins it, and the step after that
-pub beginning_gives : (line : Line) (column : ℕ) (sentence : Sentence) (names : List (Argument (List ℕ)))
-    → sentence_events line.number column sentence names
-    ≡ sentence_word line.number column (beginning sentence (name_count names)).0
-    ∷ step_events line column (beginning sentence (name_count names)).1 names
-beginning_gives line column Exit [] = refl
-beginning_gives line column Return [] = refl
-beginning_gives line column Exit (first ∷ []) = refl
-beginning_gives line column Exit (first ∷ second ∷ []) = refl
-beginning_gives line column Exit (first ∷ second ∷ third ∷ names) = refl
-beginning_gives line column Return (first ∷ []) = refl
-beginning_gives line column Return (first ∷ second ∷ []) = refl
-beginning_gives line column Return (first ∷ second ∷ third ∷ names) = refl
+-- the step after the first word
+pub beginning_gives : (number column : ℕ) (sentence : Sentence) (names : List (Argument (List ℕ)))
+    → sentence_step_events number column sentence (beginning (name_count names)) names ≡ given_names number column sentence names
+beginning_gives number column sentence [] = refl
+beginning_gives number column sentence (first ∷ []) = refl
+beginning_gives number column sentence (first ∷ second ∷ []) = refl
+beginning_gives number column sentence (first ∷ second ∷ third ∷ names) = refl

@@ -123,31 +123,28 @@ fn mark_word<'a>(begun: Begun<'a>, own: Own) -> Event<&'a [u8]>
     )
 }
 
-// What begins a sentence of this many names; the names come next, or that of the manual.
-fn beginning(sentence: Sentence, all: NameCount) -> (Own, Step)
-    ensures { result ≡ step_specs.beginning sentence all }
+// The step after the first word, before this many names.
+fn beginning(all: NameCount) -> SentenceStep
+    ensures { result ≡ step_specs.beginning all }
 {
-    let step = match (sentence, all) {
-        (Sentence::Return, NameCount::Zero) => {
-            return (Own::CompletionReturns, Step::Printed(None));
-        }
-        (Sentence::Exit, NameCount::Zero) => SentenceStep::ManualName,
+    match all {
+        NameCount::Zero => SentenceStep::ManualName,
         _ => SentenceStep::Name { all },
-    };
-    (Own::The, Step::Sentence { sentence, step })
+    }
 }
 
-// What begins it.
+// The first word; the names come next, or that of the manual.
+#[tactic(auto, using(crate::proofs::SentenceLemmas::beginning_gives))]
 fn next_the<'a>(begun: Begun<'a>, sentence: Sentence, left: &mut WordsLeft) -> Option<Given<'a>>
     requires short { length begun.line.text.now ≤ LINE }
     requires within { IsCursorOf begun.line.text.now left.old.cursor }
     ensures goes { GoesOn begun.entry.line.text.now left.old left.new }
     ensures gives { StepsOn begun.entry (steps.Sentence sentence sentence_steps.The) left.old result left.new }
 {
-    let (own, step) = beginning(sentence, name_count(begun.line.text, *left));
+    let step = beginning(name_count(begun.line.text, *left));
     Some(Given {
-        event: sentence_word(begun, own),
-        step,
+        event: sentence_word(begun, Own::The),
+        step: Step::Sentence { sentence, step },
     })
 }
 
@@ -181,7 +178,8 @@ fn next_name<'a>(
     })
 }
 
-// The name of the manual, where no name is given; the rest of the sentence comes next.
+// The name of the manual, where no name is given; what is glued to it comes next, or the rest of the sentence.
+#[tactic(auto, using(crate::proofs::SentenceLemmas::naming_gives))]
 fn next_manual_name<'a>(
     begun: Begun<'a>,
     sentence: Sentence,
@@ -192,9 +190,7 @@ fn next_manual_name<'a>(
     ensures goes { GoesOn begun.entry.line.text.now left.old left.new }
     ensures gives { StepsOn begun.entry (steps.Sentence sentence sentence_steps.ManualName) left.old result left.new }
 {
-    let step = SentenceStep::Name {
-        all: NameCount::Zero,
-    };
+    let step = naming(name_mark(sentence, false), NameCount::Zero, NameCount::Zero);
     Some(Given {
         event: step_event(begun.line.line, begun.column, LineStep::ManualName),
         step: Step::Sentence { sentence, step },

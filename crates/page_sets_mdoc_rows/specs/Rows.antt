@@ -10,7 +10,6 @@ use Rattle.page_sets_mdoc_rows.specs.declared.macros.System.TheVariants.{BsdOs, 
 use Rattle.page_sets_names.specs.declared.marks.Marks.TheVariants.{Angle, Square, Curly, Round, Double, Single, Straight}
 use Rattle.page_sets_names.specs.declared.marks.Quotation.TheVariants.{Ao, Bo, Bro, Do, Oo, Po, Qo, So}
 use Rattle.page_sets_mdoc_rows.specs.declared.macros.Pair.TheVariants as pairs
-use Rattle.page_sets_names.specs.declared.own_texts.Own.TheVariants as owns
 use Rattle.page_sets_names.specs.declared.macro_names.Prologue.TheVariants.{Dd, Dt, Os}
 use Rattle.page_sets_names.specs.declared.macro_names.HeadingName.TheVariants.{Sh, Ss}
 use Rattle.page_sets_names.specs.declared.macro_names.BodyParagraphName.TheVariants.{Pp, Lp}
@@ -18,7 +17,7 @@ use Rattle.page_sets_names.specs.declared.macro_names.OneLineName.TheVariants.{D
 use Rattle.page_sets_mdoc_rows.specs.declared.blocks.Block.TheVariants as blocks
 use Rattle.page_sets_mdoc_rows.specs.declared.blocks.Sentence.TheVariants.{Exit, Return}
 use Rattle.page_sets_mdoc_rows.specs.declared.blocks.LineMacro.{LineMacro}
-use Rattle.page_sets_mdoc_rows.specs.declared.blocks.LineMacro.TheVariants.{Prologue, Heading, Paragraph, Description, OneLine, Begins, Ends, Item, Field, Include, Spacing, Target, Remark}
+use Rattle.page_sets_mdoc_rows.specs.declared.blocks.LineMacro.TheVariants.{Prologue, Heading, Paragraph, Description, OneLine, Begins, Ends, Item, Field, Include, Spacing, Target}
 use Rattle.page_sets_mdoc_rows.specs.declared.blocks.LineMacro.TheVariants as lines
 use Rattle.page_sets_mdoc_rows.specs.declared.rows.Calls.{Calls}
 use Rattle.page_sets_mdoc_rows.specs.declared.rows.Calls.TheVariants.{Callable, Parsed, Unparsed}
@@ -177,8 +176,6 @@ leaf_rows =
     ∷ (codes "%T", plain (Field I))
     ∷ (codes "Ex", plain (lines.Sentence Exit))
     ∷ (codes "Rv", plain (lines.Sentence Return))
-    ∷ (codes "Bt", plain (Remark owns.BetaTest))
-    ∷ (codes "Ud", plain (Remark owns.UnderDevelopment))
     ∷ (codes "In", plain Include)
     ∷ (codes "Sm", plain Spacing)
     ∷ (codes "Tg", plain Target)
@@ -215,13 +212,8 @@ inline_row name = either_row (words_row name) (either_row (text_row name) (eithe
 abbrev pub other_row : List ℕ → Option BlockRow
 other_row name = either_row (block_row name) (leaf_row name)
 
--- what such a macro does where it begins a line: an `Ns` glues nothing there
-abbrev pub begun : Inline → LineMacro
-begun inlines.NoSpace = lines.NoSpace
-begun inline = lines.Inline inline
-
 abbrev pub macro_of : Option InlineRow → Option BlockRow → Option LineMacro
-macro_of (Some row) other = Some (begun row.inline)
+macro_of (Some row) other = Some (lines.Inline row.inline)
 macro_of None (Some row) = Some row.begins
 macro_of None None = None
 

@@ -2,7 +2,7 @@
 
 use crate::macros::Inline;
 use page_core_base::Font;
-use page_sets_lines::{BodyParagraphName, HeadingName, OneLineName, Own, Prologue};
+use page_sets_lines::{BodyParagraphName, HeadingName, OneLineName, Prologue};
 
 /// A block of lines between two macros.
 #[derive(Clone, Copy, PartialEq, Eq)]
@@ -33,10 +33,6 @@ pub enum Sentence {
 pub enum LineMacro {
     /// What it also does among the words of a line; `Fd Lb St` only begin one.
     Inline(Inline),
-    /// `Ns`, which glues nothing where it begins a line.
-    NoSpace,
-    /// `Bt Ud`: a sentence of the macro's own.
-    Remark(Own),
     /// `Dd Dt Os`.
     Prologue(Prologue),
     /// `Sh Ss`.

@@ -7,9 +7,7 @@ ghost use Rattle.page_sets_mdoc_rows.specs.Rows as rows;
 use crate::blocks::{Block, LineMacro, Sentence};
 use crate::macros::{Defaulted, Inline, Pair, System};
 use page_core_base::Font;
-use page_sets_lines::{
-    BodyParagraphName, HeadingName, Marks, OneLineName, Own, Prologue, Quotation,
-};
+use page_sets_lines::{BodyParagraphName, HeadingName, Marks, OneLineName, Prologue, Quotation};
 
 /// How a macro stands to those that words of a line call.
 #[derive(Clone, Copy)]
@@ -227,8 +225,6 @@ fn leaf_row(name: &[u8]) -> Option<BlockRow>
         b"%B" | b"%J" | b"%T" => Some(plain(LineMacro::Field(Font::I))),
         b"Ex" => Some(plain(LineMacro::Sentence(Sentence::Exit))),
         b"Rv" => Some(plain(LineMacro::Sentence(Sentence::Return))),
-        b"Bt" => Some(plain(LineMacro::Remark(Own::BetaTest))),
-        b"Ud" => Some(plain(LineMacro::Remark(Own::UnderDevelopment))),
         b"In" => Some(plain(LineMacro::Include)),
         b"Sm" => Some(plain(LineMacro::Spacing)),
         b"Tg" => Some(plain(LineMacro::Target)),
@@ -276,22 +272,12 @@ fn other_row(name: &[u8]) -> Option<BlockRow>
     leaf_row(name)
 }
 
-// What a macro that can stand among words does where it begins a line.
-fn begun(inline: Inline) -> LineMacro
-    ensures { result ≡ rows.begun inline }
-{
-    match inline {
-        Inline::NoSpace => LineMacro::NoSpace,
-        _ => LineMacro::Inline(inline),
-    }
-}
-
 /// What the macro of a name does where it begins a line.
 pub fn line_macro(name: &[u8]) -> Option<LineMacro>
     ensures { result ≡ rows.line_macro name.now }
 {
     if let Some(row) = inline_row(name) {
-        return Some(begun(row.inline));
+        return Some(LineMacro::Inline(row.inline));
     }
     let row = other_row(name)?;
     Some(row.begins)

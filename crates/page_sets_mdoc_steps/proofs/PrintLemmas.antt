@@ -16,16 +16,15 @@ use Rattle.page_sets_mdoc_rows.specs.declared.delimiters.Delimiter.{Delimiter}
 use Rattle.page_sets_mdoc_rows.specs.declared.delimiters.Delimiter.TheVariants.{Opening, Middle, Closing}
 use Rattle.page_sets_mdoc_lines.specs.LineWords.{word_delimiter, is_real}
 use Rattle.page_sets_mdoc_steps.specs.Printed.{word_or_delimiter, real_word, printed_word, printed, is_opening}
-use Rattle.page_sets_mdoc_steps.specs.Inlines.{lone, named, flags, flags_begun, variant_own, own_or_word, variant_word, variant, section, reference, more_arguments, arguments, function_words, function_end, next_arguments, function_opened, bsd, address, link_words, missing_quote}
+use Rattle.page_sets_mdoc_steps.specs.Inlines.{lone, named, flags, section, reference, more_arguments, arguments, function_words, function_end, next_arguments, function_opened, bsd, address, link_words, missing_quote}
 use Rattle.page_sets_lines.specs.declared.line_steps.SynopsisStep.{SynopsisStep}
 use Rattle.page_sets_names.specs.declared.own_texts.Own.{Own}
 use Rattle.page_sets_mdoc_rows.specs.declared.blocks.Sentence.{Sentence}
 use Rattle.page_sets_mdoc_rows.specs.declared.blocks.Sentence.TheVariants.{Exit, Return}
-use Rattle.page_roff_forms.specs.Arguments.{is_quoted}
 use Rattle.page_sets_mdoc_steps.specs.declared.form_steps.NameCount.{NameCount}
 use Rattle.page_sets_mdoc_steps.specs.declared.form_steps.NameCount.TheVariants as counts
 use Rattle.page_sets_mdoc_steps.specs.Synopses.{preceded, followed, framed}
-use Rattle.page_sets_mdoc_steps.specs.Sentences.{name_count, has_comma, name_mark, marked, joined, names_events, nameless_events, sentence_events, file_events, include_events}
+use Rattle.page_sets_mdoc_steps.specs.Sentences.{name_count, has_comma, name_mark, marked, joined, names_events, given_names, sentence_events, file_events, include_events}
 
 -- the texts of events are slices of the line, their words are some of these in their order, and there are few of them
 pub record Prints (line : List ℕ) (more : ℕ) (words : List (Argument (List ℕ))) (events : List (Event (List ℕ))) : Type 0 where
@@ -176,19 +175,6 @@ flags_print line number (word ∷ words) h =
       | inr t ↦ rw t (printed_first line 0 number None word words (flags number words) h.0 more)
     ]
 
-pub flags_begun_print : (line : List ℕ) (number column : ℕ) (words : List (Argument (List ℕ))) → AreArguments line words
-    → Prints line 1 words (flags_begun number column words)
-flags_begun_print line number column [] h = no_event line 1 []
-flags_begun_print line number column (word ∷ words) h =
-    elim (cases_Bool (is_real word)) [
-      | inl t ↦ rw t (more_events line 0 1 (word ∷ words) _ (omega arith) (rw t at (flags_print line number (word ∷ words) h)))
-      | inr t ↦
-          elim (cases_Bool (is_opening word)) [
-            | inl s ↦ rw (t, s) (printed_first line 1 number None word words (flags_begun number column words) h.0 (flags_begun_print line number column words h.1))
-            | inr s ↦ rw (t, s) (own_first line 0 1 (word ∷ words) _ _ refl tt (omega arith) (rw t at (flags_print line number (word ∷ words) h)))
-          ]
-    ]
-
 pub section_prints : (line : List ℕ) (number : ℕ) (words : List (Argument (List ℕ))) → AreArguments line words
     → Prints line 1 words (section number words)
 section_prints line number [] h = no_event line 1 []
@@ -263,35 +249,14 @@ function_opened_prints line number column (word ∷ words) h =
       | inr t ↦ rw t (printed_first line 0 number None word words (function_opened number column words) h.0 (function_opened_prints line number column words h.1))
     ]
 
-own_or_word_first : (line : List ℕ) (more number : ℕ) (own : Option Own) (word : Argument (List ℕ)) (words : List (Argument (List ℕ))) (events : List (Event (List ℕ)))
-    → IsArgument line word → Prints line more words events → Prints line more (word ∷ words) (own_or_word number word own ∷ events)
-own_or_word_first line more number None word words events h p = printed_first line more number None word words events h p
-own_or_word_first line more number (Some own) word words events h p =
-    word_passed line more word words _ (own_first line more (more + 2) words _ events refl tt (omega arith) p)
-
-pub variant_first : (line : List ℕ) (more number : ℕ) (word : Argument (List ℕ)) (words : List (Argument (List ℕ))) (events : List (Event (List ℕ)))
-    → IsArgument line word → Prints line more words events → Prints line more (word ∷ words) (variant_word number word ∷ events)
-variant_first line more number word words events h p =
-    own_or_word_first line more number (if is_quoted word.quoting then None else variant_own word.text) word words events h p
-
-pub variant_prints : (line : List ℕ) (number column : ℕ) (words : List (Argument (List ℕ))) → AreArguments line words
-    → Prints line 1 words (variant number column words)
-variant_prints line number column [] h = no_event line 1 []
-variant_prints line number column (word ∷ words) h =
-    elim (cases_Bool (is_real word)) [
-      | inl t ↦
-          rw t (own_first line 0 1 (word ∷ words) _ _ refl tt (omega arith)
-          (variant_first line 0 number word words (printed number None words) h.0 (printed_prints line number None words h.1)))
-      | inr t ↦ rw t (more_events line 0 1 (word ∷ words) _ (omega arith) (printed_prints line number None (word ∷ words) h))
-    ]
-
 pub bsd_prints : (line : List ℕ) (number column : ℕ) (words : List (Argument (List ℕ))) → AreArguments line words
     → Prints line 1 words (bsd number column words)
 bsd_prints line number column [] h = own_first line 0 1 [] _ [] refl tt (omega arith) (no_event line 0 [])
 bsd_prints line number column (word ∷ words) h =
     elim (cases_Bool (is_real word)) [
       | inl t ↦
-          rw t (word_marked line 1 number None _ word words (variant number column words) refl tt h.0 (variant_prints line number column words h.1))
+          rw t (more_events line 0 1 (word ∷ words) _ (omega arith)
+          (word_marked line 0 number None _ word words (printed number None words) refl tt h.0 (printed_prints line number None words h.1)))
       | inr t ↦
           elim (cases_Bool (is_opening word)) [
             | inl s ↦ rw (t, s) (printed_first line 1 number None word words (bsd number column words) h.0 (bsd_prints line number column words h.1))
@@ -391,18 +356,23 @@ joined_prints line more number column counts.One words events p = own_first line
 joined_prints line more number column counts.Two words events p = more_events line more (more + 1) words events (omega arith) p
 joined_prints line more number column counts.More words events p = more_events line more (more + 1) words events (omega arith) p
 
-nameless_print : (line : List ℕ) (number column : ℕ) (sentence : Sentence) → Prints line 4 [] (nameless_events number column sentence)
-nameless_print line number column Exit =
-    own_first line 2 4 [] _ _ refl tt (omega arith)
-    (own_first line 1 2 [] _ _ refl tt (omega arith) (own_first line 0 1 [] _ [] refl tt (omega arith) (no_event line 0 [])))
-nameless_print line number column Return = own_first line 0 4 [] _ [] refl tt (omega arith) (no_event line 0 [])
+pub marked_prints : (line : List ℕ) (more number column : ℕ) (mark : Option Own) (words : List (Argument (List ℕ))) (events : List (Event (List ℕ)))
+    → Prints line more words events → Prints line (more + 1) words (marked number column mark events)
+marked_prints line more number column None words events p = more_events line more (more + 1) words events (omega arith) p
+marked_prints line more number column (Some own) words events p = own_first line more (more + 1) words _ events refl tt (omega arith) p
+
+given_names_print : (line : List ℕ) (number column : ℕ) (sentence : Sentence) (names : List (Argument (List ℕ))) → AreArguments line names
+    → Prints line 3 names (given_names number column sentence names)
+given_names_print line number column sentence [] h =
+    own_first line 2 3 [] _ _ refl tt (omega arith)
+    (marked_prints line 1 number column (name_mark sentence false) [] _ (own_first line 0 1 [] _ [] refl tt (omega arith) (no_event line 0 [])))
+given_names_print line number column sentence (name ∷ names) h =
+    more_events line 2 3 (name ∷ names) _ (omega arith) (names_print line number column sentence (name_count (name ∷ names)) (name ∷ names) h)
 
 pub sentence_prints : (line : List ℕ) (number column : ℕ) (sentence : Sentence) (names : List (Argument (List ℕ))) → AreArguments line names
     → Prints line 4 names (sentence_events number column sentence names)
-sentence_prints line number column sentence [] h = nameless_print line number column sentence
-sentence_prints line number column sentence (name ∷ names) h =
-    own_first line 2 4 (name ∷ names) _ _ refl tt (omega arith)
-    (names_print line number column sentence (name_count (name ∷ names)) (name ∷ names) h)
+sentence_prints line number column sentence names h =
+    own_first line 3 4 names _ _ refl tt (omega arith) (given_names_print line number column sentence names h)
 
 -- ---- with what a macro does in the SYNOPSIS
 

@@ -13,7 +13,6 @@ use Rattle.page_sets_mdoc_steps.specs.declared.word_steps.FlagStep.{FlagStep}
 use Rattle.page_sets_mdoc_steps.specs.declared.word_steps.FlagStep.TheVariants as flag_steps
 use Rattle.page_sets_mdoc_steps.specs.declared.word_steps.Front.{Front}
 use Rattle.page_sets_mdoc_steps.specs.declared.word_steps.Front.TheVariants as fronts
-use Rattle.page_sets_mdoc_steps.specs.declared.word_steps.Outer.TheVariants as outers
 use Rattle.page_sets_mdoc_steps.specs.declared.form_steps.FunctionStep.{FunctionStep}
 use Rattle.page_sets_mdoc_steps.specs.declared.form_steps.FunctionStep.TheVariants as function_steps
 use Rattle.page_sets_mdoc_steps.specs.declared.form_steps.LinkStep.{LinkStep}
@@ -37,9 +36,10 @@ use Rattle.page_sets_mdoc_steps.specs.declared.word_steps.Taker.TheVariants as t
 use Rattle.page_sets_mdoc_steps.specs.declared.steps.Step.{Step}
 use Rattle.page_sets_mdoc_steps.specs.declared.steps.Step.TheVariants as steps
 use Rattle.page_sets_mdoc_steps.specs.Printed.{printed}
-use Rattle.page_sets_mdoc_steps.specs.Inlines.{flags, variant, missing_quote}
-use Rattle.page_sets_mdoc_steps.specs.Steps.{front_event, front_rest, block_opener, block_closer, taken_events, option_events, lone_event, version_events, flag_events, reference_events, inside_events, function_events, uri_at, uri_events, link_events, argument_events, include_step_events, sentence_step_events, step_events}
-use Rattle.page_sets_mdoc_steps.proofs.PrintLemmas.{Prints, no_event, more_events, own_first, word_first, word_passed, both, parted, first_taken, printed_first, word_marked, printed_prints, lone_prints, named_prints, flags_print, flags_begun_print, variant_first, variant_prints, section_prints, reference_prints, more_arguments_print, arguments_print, function_words_print, function_end_prints, bsd_prints, link_words_print, missing_quote_prints, next_arguments_print, function_opened_prints, file_prints, include_prints, names_print, joined_prints, sentence_prints}
+use Rattle.page_sets_mdoc_steps.specs.Inlines.{flags, missing_quote}
+use Rattle.page_sets_mdoc_steps.specs.Sentences.{name_mark}
+use Rattle.page_sets_mdoc_steps.specs.Steps.{front_event, block_opener, block_closer, taken_events, option_events, lone_event, version_events, flag_events, reference_events, inside_events, function_events, uri_at, uri_events, link_events, argument_events, include_step_events, sentence_step_events, step_events}
+use Rattle.page_sets_mdoc_steps.proofs.PrintLemmas.{Prints, no_event, more_events, own_first, word_first, word_passed, both, parted, first_taken, printed_first, word_marked, printed_prints, lone_prints, named_prints, flags_print, section_prints, reference_prints, more_arguments_print, arguments_print, function_words_print, function_end_prints, bsd_prints, link_words_print, missing_quote_prints, next_arguments_print, function_opened_prints, file_prints, include_prints, names_print, marked_prints, joined_prints, sentence_prints}
 
 -- ---- before the words
 
@@ -70,7 +70,6 @@ front_slices : (line : Line) (column : ℕ) (front : Front) → (is_word (front_
 front_slices line column (fronts.Refused len) = (refl, part_slice line.text (column - 1) len)
 front_slices line column fronts.NextColumn = (refl, tt)
 front_slices line column fronts.Glue = (refl, tt)
-front_slices line column (fronts.EndsEnclosures outer) = (refl, tt)
 front_slices line column fronts.Apostrophe = (refl, tt)
 front_slices line column (fronts.System system) = (refl, tt)
 front_slices line column (fronts.Enclosure marks) = (refl, tt)
@@ -78,32 +77,12 @@ front_slices line column (fronts.Opens block) = (refl, opens_slices line.text bl
 front_slices line column (fronts.Closes block) = (refl, closes_slices line.text block)
 front_slices line column fronts.ClosesFunction = (refl, tt)
 
--- the words, or the event between them
-plain_rest : (line : Line) (words : List (Argument (List ℕ))) → AreArguments line.text words → Prints line.text 1 words (printed line.number None words)
-plain_rest line words h = more_events line.text 0 1 words _ (omega arith) (printed_prints line.text line.number None words h)
-
-front_rest_prints : (line : Line) (column : ℕ) (front : Front) (words : List (Argument (List ℕ))) → AreArguments line.text words
-    → Prints line.text 1 words (front_rest line column front words)
-front_rest_prints line column (fronts.Refused len) words h = plain_rest line words h
-front_rest_prints line column fronts.NextColumn words h = plain_rest line words h
-front_rest_prints line column fronts.Glue words h = plain_rest line words h
-front_rest_prints line column (fronts.EndsEnclosures outers.Glue) words h =
-    own_first line.text 0 1 words _ _ refl tt (omega arith) (printed_prints line.text line.number None words h)
-front_rest_prints line column (fronts.EndsEnclosures outers.NextColumn) words h =
-    own_first line.text 0 1 words _ _ refl tt (omega arith) (printed_prints line.text line.number None words h)
-front_rest_prints line column fronts.Apostrophe words h = plain_rest line words h
-front_rest_prints line column (fronts.System system) words h = plain_rest line words h
-front_rest_prints line column (fronts.Enclosure marks) words h = plain_rest line words h
-front_rest_prints line column (fronts.Opens block) words h = plain_rest line words h
-front_rest_prints line column (fronts.Closes block) words h = plain_rest line words h
-front_rest_prints line column fronts.ClosesFunction words h = plain_rest line words h
-
 front_prints : (line : Line) (column : ℕ) (front : Front) (words : List (Argument (List ℕ))) → AreArguments line.text words
     → Prints line.text 2 words (step_events line column (steps.Front front) words)
 front_prints line column front words h =
     let k = front_slices line column front in
-    own_first line.text 1 2 words (front_event line column front) (front_rest line column front words) k.0 k.1 (omega arith)
-    (front_rest_prints line column front words h)
+    own_first line.text 0 2 words (front_event line column front) (printed line.number None words) k.0 k.1 (omega arith)
+    (printed_prints line.text line.number None words h)
 
 -- ---- what has steps of its own
 
@@ -141,22 +120,14 @@ version_prints : (line : List ℕ) (number column : ℕ) (step : VersionStep) (w
 version_prints line number column version_steps.Version words h =
     more_events line 1 2 words _ (omega arith) (bsd_prints line number column words h)
 version_prints line number column version_steps.Name words h =
-    own_first line 1 2 words _ (variant number column words) refl tt (omega arith) (variant_prints line number column words h)
-version_prints line number column version_steps.Hyphen words h =
-    more_events line 1 2 words _ (omega arith) (variant_prints line number column words h)
-version_prints line number column version_steps.Variant [] h = no_event line 2 []
-version_prints line number column version_steps.Variant (word ∷ words) h =
-    more_events line 0 2 (word ∷ words) _ (omega arith)
-    (variant_first line 0 number word words _ h.0 (printed_prints line number None words h.1))
+    own_first line 0 2 words _ (printed number None words) refl tt (omega arith) (printed_prints line number None words h)
 
-flag_prints : (line : List ℕ) (number column : ℕ) (step : FlagStep) (words : List (Argument (List ℕ))) → AreArguments line words
-    → Prints line 1 words (flag_events number column step words)
-flag_prints line number column flag_steps.First words h = flags_begun_print line number column words h
-flag_prints line number column flag_steps.Dash words h = more_events line 0 1 words _ (omega arith) (flags_print line number words h)
-flag_prints line number column flag_steps.Flag [] h = no_event line 1 []
-flag_prints line number column flag_steps.Flag (word ∷ words) h =
-    more_events line 0 1 (word ∷ words) _ (omega arith)
-    (printed_first line 0 number (Some B) word words (flags number words) h.0 (flags_print line number words h.1))
+flag_prints : (line : List ℕ) (number : ℕ) (step : FlagStep) (words : List (Argument (List ℕ))) → AreArguments line words
+    → Prints line 0 words (flag_events number step words)
+flag_prints line number flag_steps.Dash words h = flags_print line number words h
+flag_prints line number flag_steps.Flag [] h = no_event line 0 []
+flag_prints line number flag_steps.Flag (word ∷ words) h =
+    printed_first line 0 number (Some B) word words (flags number words) h.0 (flags_print line number words h.1)
 
 reference_step_prints : (line : List ℕ) (number : ℕ) (step : ReferenceStep) (words : List (Argument (List ℕ))) → AreArguments line words
     → Prints line 1 words (reference_events number step words)
@@ -233,7 +204,8 @@ sentence_step_prints : (line : List ℕ) (number column : ℕ) (sentence : Sente
     → Prints line 4 words (sentence_step_events number column sentence step words)
 sentence_step_prints line number column sentence sentence_steps.The words h = sentence_prints line number column sentence words h
 sentence_step_prints line number column sentence sentence_steps.ManualName words h =
-    own_first line 2 4 words _ _ refl tt (omega arith) (names_print line number column sentence counts.Zero words h)
+    own_first line 3 4 words _ _ refl tt (omega arith)
+    (marked_prints line 2 number column (name_mark sentence false) words _ (names_print line number column sentence counts.Zero words h))
 sentence_step_prints line number column sentence (sentence_steps.Name all) words h =
     more_events line 2 4 words _ (omega arith) (names_print line number column sentence all words h)
 sentence_step_prints line number column sentence (sentence_steps.Mark own all left) words h =
@@ -266,7 +238,7 @@ step_prints line column (steps.Lone single) words h =
 step_prints line column (steps.Version step) words h =
     version_prints line.text line.number column step words h
 step_prints line column (steps.Flags step) words h =
-    more_events line.text 1 2 words _ (omega arith) (flag_prints line.text line.number column step words h)
+    more_events line.text 0 2 words _ (omega arith) (flag_prints line.text line.number step words h)
 step_prints line column (steps.Reference step) words h =
     more_events line.text 1 2 words _ (omega arith) (reference_step_prints line.text line.number step words h)
 step_prints line column (steps.Function step inside) words h = function_prints line.text line.number column step inside words h

@@ -1,11 +1,9 @@
 -- The events of a macro among the words of a line. Source: mdoc(7), "MACRO REFERENCE".
-use Rattle.std.specs.Prelude.{ℕ, ◌-◌, Bool, true, false, ◌&&◌, List, [], ◌∷◌, ◌++◌, Option, None, Some, codes, if◌then◌else◌}
+use Rattle.std.specs.Prelude.{ℕ, ◌-◌, Bool, true, false, ◌&&◌, List, [], ◌∷◌, ◌++◌, Option, None, Some, if◌then◌else◌}
 use Rattle.std.specs.List.{list_any}
-use Rattle.std.specs.Str.{bytes_eq}
 use Rattle.page_core_base.specs.declared.cells.Font.TheVariants.{R, B, I}
 use Rattle.page_core_base.specs.declared.note_kinds.NoteKind.TheVariants.{EmptyMacro, Unterminated}
 use Rattle.page_roff_forms.specs.declared.quotes.Argument.{Argument}
-use Rattle.page_roff_forms.specs.Arguments.{is_quoted}
 use Rattle.page_sets_lines.specs.declared.blocks.BlockOpener.TheVariants as openers
 use Rattle.page_sets_lines.specs.declared.blocks.BlockCloser.TheVariants as closers
 use Rattle.page_sets_lines.specs.declared.events.Join.TheVariants.{Apart, Glued}
@@ -78,18 +76,10 @@ flags number (word ∷ words) =
     if is_real word then own_word number word.column owns.Dash (Some B) Apart Glued ∷ printed_word number (Some B) word ∷ flags number words
     else printed_word number None word ∷ flags number words
 
--- a dash alone stands before a delimiter that comes before the first flag, but for opening ones
-abbrev pub flags_begun : ℕ → ℕ → List (Argument (List ℕ)) → List (Event (List ℕ))
-flags_begun number column [] = []
-flags_begun number column (word ∷ words) =
-    if is_real word then flags number (word ∷ words)
-    else if is_opening word then printed_word number None word ∷ flags_begun number column words
-    else own_word number column owns.Flag (Some B) Apart Apart ∷ flags number (word ∷ words)
-
--- a dash alone is glued to a call right after it
+-- a dash alone is glued to what a call right after it prints
 abbrev pub lone_dash : ℕ → ℕ → Bool → Bool → Event (List ℕ)
 lone_dash number column follows is_last =
-    own_word number column owns.Flag (Some B) Apart (if is_last && follows then Glued else Apart)
+    own_word number column (if is_last && follows then owns.JoinedFlag else owns.Flag) (Some B) Apart Apart
 
 -- ---- `Xr`
 
@@ -172,35 +162,11 @@ system_own systems.Unix = owns.Unix
 abbrev pub system_word : ℕ → ℕ → System → Event (List ℕ)
 system_word number column system = own_word number column (system_own system) None Apart Apart
 
--- the variants `reno` and `tahoe` have a capital letter, however they are written
-abbrev pub variant_own : List ℕ → Option Own
-variant_own text =
-    if bytes_eq text (codes "reno") then Some owns.Reno
-    else if bytes_eq text (codes "tahoe") then Some owns.Tahoe
-    else None
-
-abbrev pub own_or_word : ℕ → Argument (List ℕ) → Option Own → Event (List ℕ)
-own_or_word number word None = printed_word number None word
-own_or_word number word (Some own) = own_word number word.column own None Glued Apart
-
-abbrev pub variant_word : ℕ → Argument (List ℕ) → Event (List ℕ)
-variant_word number word = own_or_word number word (if is_quoted word.quoting then None else variant_own word.text)
-
-abbrev pub hyphen : ℕ → ℕ → Event (List ℕ)
-hyphen number column = own_word number column owns.Dash None Glued Glued
-
--- a variant right after the name stands behind a hyphen
-abbrev pub variant : ℕ → ℕ → List (Argument (List ℕ)) → List (Event (List ℕ))
-variant number column [] = []
-variant number column (word ∷ words) =
-    if is_real word then hyphen number column ∷ variant_word number word ∷ printed number None words
-    else printed number None (word ∷ words)
-
 -- a version stands before its name
 abbrev pub bsd : ℕ → ℕ → List (Argument (List ℕ)) → List (Event (List ℕ))
 bsd number column [] = own_word number column owns.Bsd None Apart Apart ∷ []
 bsd number column (word ∷ words) =
-    if is_real word then printed_word number None word ∷ own_word number column owns.Bsd None Glued Apart ∷ variant number column words
+    if is_real word then printed_word number None word ∷ own_word number column owns.Bsd None Glued Apart ∷ printed number None words
     else if is_opening word then printed_word number None word ∷ bsd number column words
     else own_word number column owns.Bsd None Apart Apart ∷ printed number None (word ∷ words)
 
@@ -271,27 +237,6 @@ closed number column pairs.Extension taken words =
 closed number column pairs.Function taken words =
     event_at number column (deeds.Close (ends.Block closers.Function)) ∷ printed number None words
 
--- ---- `Ns`, `Ta`
-
-abbrev pub ends_enclosures : ℕ → ℕ → Event (List ℕ)
-ends_enclosures number column = event_at number column (deeds.Close ends.Enclosures)
-
-abbrev pub glue : ℕ → ℕ → Event (List ℕ)
-glue number column = step_event number column steps.Glue
-
--- the next column stands outside the enclosures
-abbrev pub next_column : ℕ → ℕ → List (Argument (List ℕ)) → List (Event (List ℕ))
-next_column number column words = ends_enclosures number column ∷ step_event number column steps.NextColumn ∷ printed number None words
-
--- one that ends the words of its line stands outside the enclosures
-abbrev pub last_glue : ℕ → ℕ → Bool → List (Event (List ℕ))
-last_glue number column true = glue number column ∷ []
-last_glue number column false = ends_enclosures number column ∷ glue number column ∷ []
-
-abbrev pub no_space : ℕ → ℕ → List (Argument (List ℕ)) → Bool → List (Event (List ℕ))
-no_space number column [] follows = last_glue number column follows
-no_space number column (word ∷ words) follows = glue number column ∷ printed number None (word ∷ words)
-
 -- ---- all of them
 
 -- a macro of a line: where it stands, its name, the word that it takes as it stands, its other words, and whether calls come after them
@@ -306,16 +251,16 @@ inline_events number column name inlines.Name taken words follows =
 inline_events number column name (inlines.Defaulted default) taken words follows =
     if list_any is_real words then printed number (Some I) words else lone number (default_word number column default) words
 inline_events number column name inlines.Flag taken words follows =
-    if list_any is_real words then flags_begun number column words else lone number (lone_dash number column follows) words
+    if list_any is_real words then flags number words else lone number (lone_dash number column follows) words
 inline_events number column name inlines.Reference taken words follows = with_words number column name words (reference number words)
 inline_events number column name inlines.Function taken words follows = with_words number column name words (function number column words)
 inline_events number column name (inlines.System system) taken words follows = system_word number column system ∷ printed number None words
 inline_events number column name inlines.Bsd taken words follows = bsd number column words
 inline_events number column name inlines.Link taken words follows = with_words number column name words (link number column words)
-inline_events number column name inlines.NoSpace taken words follows = no_space number column words follows
+inline_events number column name inlines.NoSpace taken words follows = step_event number column steps.Glue ∷ printed number None words
 inline_events number column name inlines.Apostrophe taken words follows =
     own_word number column owns.Apostrophe None Glued Glued ∷ printed number None words
-inline_events number column name inlines.NextColumn taken words follows = next_column number column words
+inline_events number column name inlines.NextColumn taken words follows = step_event number column steps.NextColumn ∷ printed number None words
 inline_events number column name inlines.Prefix taken words follows = prefix number column name taken words
 inline_events number column name (inlines.Enclosure marks) taken words follows =
     event_at number column (deeds.LineScope (lines.Enclosure marks)) ∷ printed number None words

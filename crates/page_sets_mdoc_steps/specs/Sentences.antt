@@ -78,19 +78,16 @@ names_events number column sentence all (name ∷ names) =
     ∷ marked number column (name_mark sentence (has_comma all (name_count names)))
     (joined number column (name_count names) (names_events number column sentence all names))
 
--- where no name is given, `Ex` has the name of the manual, and `Rv` a sentence without one
-abbrev pub nameless_events : ℕ → ℕ → Sentence → List (Event (List ℕ))
-nameless_events number column Exit =
-    sentence_word number column owns.The
-    ∷ step_event number column steps.ManualName
-    ∷ sentence_word number column owns.UtilityExits
-    ∷ []
-nameless_events number column Return = sentence_word number column owns.CompletionReturns ∷ []
+-- where no name is given, the name of the manual stands
+abbrev pub given_names : ℕ → ℕ → Sentence → List (Argument (List ℕ)) → List (Event (List ℕ))
+given_names number column sentence [] =
+    step_event number column steps.ManualName
+    ∷ marked number column (name_mark sentence false) (names_events number column sentence counts.Zero [])
+given_names number column sentence (name ∷ names) =
+    names_events number column sentence (name_count (name ∷ names)) (name ∷ names)
 
 abbrev pub sentence_events : ℕ → ℕ → Sentence → List (Argument (List ℕ)) → List (Event (List ℕ))
-sentence_events number column sentence [] = nameless_events number column sentence
-sentence_events number column sentence (name ∷ names) =
-    sentence_word number column owns.The ∷ names_events number column sentence (name_count (name ∷ names)) (name ∷ names)
+sentence_events number column sentence names = sentence_word number column owns.The ∷ given_names number column sentence names
 
 -- ---- `In`
 

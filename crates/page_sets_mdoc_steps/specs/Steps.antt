@@ -29,8 +29,6 @@ use Rattle.page_sets_mdoc_steps.specs.declared.word_steps.FlagStep.{FlagStep}
 use Rattle.page_sets_mdoc_steps.specs.declared.word_steps.FlagStep.TheVariants as flag_steps
 use Rattle.page_sets_mdoc_steps.specs.declared.word_steps.Front.{Front}
 use Rattle.page_sets_mdoc_steps.specs.declared.word_steps.Front.TheVariants as fronts
-use Rattle.page_sets_mdoc_steps.specs.declared.word_steps.Outer.{Outer}
-use Rattle.page_sets_mdoc_steps.specs.declared.word_steps.Outer.TheVariants as outers
 use Rattle.page_sets_mdoc_steps.specs.declared.form_steps.FunctionStep.{FunctionStep}
 use Rattle.page_sets_mdoc_steps.specs.declared.form_steps.FunctionStep.TheVariants as function_steps
 use Rattle.page_sets_mdoc_steps.specs.declared.form_steps.IncludeStep.{IncludeStep}
@@ -57,8 +55,8 @@ use Rattle.page_sets_mdoc_steps.specs.declared.steps.Step.TheVariants as steps
 use Rattle.page_sets_mdoc_steps.specs.declared.steps.Begun.{Begun}
 use Rattle.page_sets_mdoc_steps.specs.declared.steps.Given.{Given}
 use Rattle.page_sets_mdoc_steps.specs.Printed.{printed_word, printed, own_word, step_event}
-use Rattle.page_sets_mdoc_steps.specs.Inlines.{empty_macro, lone, named, manual_name, default_word, flags, flags_begun, lone_dash, section, reference, more_arguments, arguments, arguments_begin, next_arguments, function_opened, function_words, function_end, system_word, bsd, variant, variant_word, ends_enclosures, glue, colon, uri_event, address, link_words, missing_quote, prefix_word, opens_custom, closes_custom}
-use Rattle.page_sets_mdoc_steps.specs.Sentences.{joined, names_events, sentence_word, mark_word, sentence_events, file_events, include_events}
+use Rattle.page_sets_mdoc_steps.specs.Inlines.{empty_macro, lone, named, manual_name, default_word, flags, lone_dash, section, reference, more_arguments, arguments, arguments_begin, next_arguments, function_opened, function_words, function_end, system_word, bsd, colon, uri_event, address, link_words, missing_quote, prefix_word, opens_custom, closes_custom}
+use Rattle.page_sets_mdoc_steps.specs.Sentences.{name_mark, marked, joined, names_events, sentence_word, mark_word, sentence_events, file_events, include_events}
 use Rattle.page_sets_mdoc_steps.specs.WordsLeft.{words_left}
 
 -- ---- before the words
@@ -81,29 +79,13 @@ block_closer blocks.Extension = block_closers.Extension
 abbrev pub front_event : Line → ℕ → Front → Event (List ℕ)
 front_event line column (fronts.Refused len) = refusal line column len
 front_event line column fronts.NextColumn = step_event line.number column line_steps.NextColumn
-front_event line column fronts.Glue = glue line.number column
-front_event line column (fronts.EndsEnclosures outer) = ends_enclosures line.number column
+front_event line column fronts.Glue = step_event line.number column line_steps.Glue
 front_event line column fronts.Apostrophe = own_word line.number column owns.Apostrophe None Glued Glued
 front_event line column (fronts.System system) = system_word line.number column system
 front_event line column (fronts.Enclosure marks) = event_at line.number column (deeds.LineScope (Enclosure marks))
 front_event line column (fronts.Opens block) = event_at line.number column (deeds.Open (openers.Block (block_opener block)))
 front_event line column (fronts.Closes block) = event_at line.number column (deeds.Close (closers.Block (block_closer block)))
 front_event line column fronts.ClosesFunction = event_at line.number column (deeds.Close (closers.Block block_closers.Function))
-
--- what stands outside the enclosures
-abbrev pub outer_front : Outer → Front
-outer_front outers.Glue = fronts.Glue
-outer_front outers.NextColumn = fronts.NextColumn
-
--- the events after it
-abbrev pub front_rest : Line → ℕ → Front → List (Argument (List ℕ)) → List (Event (List ℕ))
-front_rest line column (fronts.EndsEnclosures outer) words = front_event line column (outer_front outer) ∷ printed line.number None words
-front_rest line column _ words = printed line.number None words
-
--- the step after it
-abbrev pub front_after : Front → Step
-front_after (fronts.EndsEnclosures outer) = steps.Front (outer_front outer)
-front_after _ = steps.Printed None
 
 -- ---- words that are taken
 
@@ -129,16 +111,12 @@ lone_event number column (lones.Dash follows) is_last = lone_dash number column 
 
 abbrev pub version_events : ℕ → ℕ → VersionStep → List (Argument (List ℕ)) → List (Event (List ℕ))
 version_events number column version_steps.Version words = bsd number column words
-version_events number column version_steps.Name words = own_word number column owns.Bsd None Glued Apart ∷ variant number column words
-version_events number column version_steps.Hyphen words = variant number column words
-version_events number column version_steps.Variant [] = []
-version_events number column version_steps.Variant (word ∷ words) = variant_word number word ∷ printed number None words
+version_events number column version_steps.Name words = own_word number column owns.Bsd None Glued Apart ∷ printed number None words
 
-abbrev pub flag_events : ℕ → ℕ → FlagStep → List (Argument (List ℕ)) → List (Event (List ℕ))
-flag_events number column flag_steps.First words = flags_begun number column words
-flag_events number column flag_steps.Dash words = flags number words
-flag_events number column flag_steps.Flag [] = []
-flag_events number column flag_steps.Flag (word ∷ words) = printed_word number (Some B) word ∷ flags number words
+abbrev pub flag_events : ℕ → FlagStep → List (Argument (List ℕ)) → List (Event (List ℕ))
+flag_events number flag_steps.Dash words = flags number words
+flag_events number flag_steps.Flag [] = []
+flag_events number flag_steps.Flag (word ∷ words) = printed_word number (Some B) word ∷ flags number words
 
 abbrev pub reference_events : ℕ → ReferenceStep → List (Argument (List ℕ)) → List (Event (List ℕ))
 reference_events number reference_steps.Name words = reference number words
@@ -211,11 +189,10 @@ include_step_events number column include_steps.Opening words = own_word number 
 include_step_events number column include_steps.File words = file_events number column words
 include_step_events number column include_steps.Closing words = own_word number column owns.CloseAngle None Glued Apart ∷ printed number None words
 
--- what begins a sentence of this many names, and the step after it
-abbrev pub beginning : Sentence → NameCount → Own × Step
-beginning Exit counts.Zero = (owns.The, steps.Sentence Exit sentence_steps.ManualName)
-beginning Return counts.Zero = (owns.CompletionReturns, steps.Printed None)
-beginning sentence all = (owns.The, steps.Sentence sentence (sentence_steps.Name all))
+-- the step after the first word, before this many names
+abbrev pub beginning : NameCount → SentenceStep
+beginning counts.Zero = sentence_steps.ManualName
+beginning all = sentence_steps.Name all
 
 -- the step after a name, and the one after what is glued to it, where this many names are left
 abbrev pub joining : NameCount → NameCount → SentenceStep
@@ -229,7 +206,8 @@ naming (Some own) all left = sentence_steps.Mark own all left
 abbrev pub sentence_step_events : ℕ → ℕ → Sentence → SentenceStep → List (Argument (List ℕ)) → List (Event (List ℕ))
 sentence_step_events number column sentence sentence_steps.The names = sentence_events number column sentence names
 sentence_step_events number column sentence sentence_steps.ManualName names =
-    step_event number column line_steps.ManualName ∷ names_events number column sentence counts.Zero names
+    step_event number column line_steps.ManualName
+    ∷ marked number column (name_mark sentence false) (names_events number column sentence counts.Zero names)
 sentence_step_events number column sentence (sentence_steps.Name all) names = names_events number column sentence all names
 sentence_step_events number column sentence (sentence_steps.Mark own all left) names =
     mark_word number column own ∷ joined number column left (names_events number column sentence all names)
@@ -241,13 +219,13 @@ sentence_step_events number column sentence (sentence_steps.And all) names =
 -- all events from a step on
 abbrev pub step_events : Line → ℕ → Step → List (Argument (List ℕ)) → List (Event (List ℕ))
 step_events line column (steps.Printed font) words = printed line.number font words
-step_events line column (steps.Front front) words = front_event line column front ∷ front_rest line column front words
+step_events line column (steps.Front front) words = front_event line column front ∷ printed line.number None words
 step_events line column (steps.Taken taker) words = taken_events line.number column taker words
 step_events line column steps.AuthorOption words = option_events line.number words
 step_events line column steps.Named words = named line.number column words
 step_events line column (steps.Lone single) words = lone line.number (lone_event line.number column single) words
 step_events line column (steps.Version step) words = version_events line.number column step words
-step_events line column (steps.Flags step) words = flag_events line.number column step words
+step_events line column (steps.Flags step) words = flag_events line.number step words
 step_events line column (steps.Reference step) words = reference_events line.number step words
 step_events line column (steps.Function step inside) words = function_events line.number column step inside words
 step_events line column (steps.Link step) words = link_events line column step words

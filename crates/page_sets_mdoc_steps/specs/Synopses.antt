@@ -1,5 +1,5 @@
 -- What a macro does in the section SYNOPSIS, before its words and after them. Source: mdoc(7), `Cd`, `Fd`, `Fn`, `Fo`, `Ft`, `Nm`, `Vt`.
-use Rattle.std.specs.Prelude.{ℕ, Bool, true, false, not, ◌&&◌, List, [], ◌∷◌, ◌++◌, Option, None, Some, if◌then◌else◌}
+use Rattle.std.specs.Prelude.{ℕ, Bool, true, false, ◌&&◌, List, [], ◌∷◌, ◌++◌, Option, None, Some, if◌then◌else◌}
 use Rattle.std.specs.List.{list_any}
 use Rattle.page_roff_forms.specs.declared.quotes.Argument.{Argument}
 use Rattle.page_sets_lines.specs.declared.events.Event.{Event}
@@ -29,11 +29,11 @@ before_words first inlines.Declaration real = step_if real Break
 before_words first inlines.Name real = step_if first NameBegins
 before_words first inline real = step_if (first && (begins_row inline && real)) Break
 
--- the row of a declaration goes on with a macro that follows in its line
-abbrev pub after_words : Bool → Inline → Bool → Bool → Option SynopsisStep
-after_words first inlines.Declaration real follows = step_if (real && not follows) Break
-after_words first inlines.Name real follows = step_if first NameEnds
-after_words first inline real follows = None
+-- the row of a declaration ends with its words, whatever follows in its line
+abbrev pub after_words : Bool → Inline → Bool → Option SynopsisStep
+after_words first inlines.Declaration real = step_if real Break
+after_words first inlines.Name real = step_if first NameEnds
+after_words first inline real = None
 
 abbrev pub synopsis_event : ℕ → ℕ → SynopsisStep → Event (List ℕ)
 synopsis_event number column step = step_event number column (steps.Synopsis step)
@@ -53,5 +53,5 @@ framed number column before after events = preceded number column before (follow
 -- all events of a macro, where it begins its line or not: where it stands, its name, the word that it takes as it stands, its other words, and whether calls come after them
 abbrev pub placed_events : Bool → ℕ → ℕ → List ℕ → Inline → Option (Argument (List ℕ)) → List (Argument (List ℕ)) → Bool → List (Event (List ℕ))
 placed_events first number column name inline taken words follows =
-    framed number column (before_words first inline (list_any is_real words)) (after_words first inline (list_any is_real words) follows)
+    framed number column (before_words first inline (list_any is_real words)) (after_words first inline (list_any is_real words))
     (inline_events number column name inline taken words follows)

@@ -9,7 +9,7 @@ ghost use Rattle.page_sets_mdoc_steps.specs.Inlines as inlines;
 ghost use Rattle.page_sets_mdoc_steps.specs.Printed as printed;
 ghost use Rattle.page_sets_mdoc_steps.specs.WordsLeft.{words_left, GoesOn};
 
-use crate::printed::{is_opening, own_word, printed_word, step_event};
+use crate::printed::{own_word, printed_word, step_event};
 use crate::words_left::WordsLeft;
 use page_core_base::Font;
 use page_core_limits::LINE;
@@ -34,21 +34,18 @@ pub fn give_printed<'a, O: EventTaker<'a>>(
     }
 }
 
-/// `Fl`: a dash before each flag, and one alone where a delimiter that opens nothing comes first.
+/// `Fl`: a dash before each flag.
 pub fn give_flags<'a, O: EventTaker<'a>>(
     out: &mut O,
     number: u32,
-    column: u32,
     text: &'a [u8],
     words: &mut WordsLeft,
 )
     requires short { length text.now ≤ LINE }
     requires within { IsCursorOf text.now words.old.cursor }
     ensures goes { GoesOn text.now words.old words.new }
-    ensures came { CameEvents O.left out.old
-        (inlines.flags_begun number column (words_left text.now words.old)) out.new }
+    ensures came { CameEvents O.left out.old (inlines.flags number (words_left text.now words.old)) out.new }
 {
-    let mut is_first = true;
     while let Some(word) = words.read(text) {
         if is_real(word) {
             out.give(own_word(
@@ -60,19 +57,7 @@ pub fn give_flags<'a, O: EventTaker<'a>>(
                 Join::Glued,
             ));
             out.give(printed_word(number, Some(Font::B), word));
-            is_first = false;
         } else {
-            if is_first && !is_opening(word) {
-                out.give(own_word(
-                    number,
-                    column,
-                    Own::Flag,
-                    Some(Font::B),
-                    Join::Apart,
-                    Join::Apart,
-                ));
-                is_first = false;
-            }
             out.give(printed_word(number, None, word));
         }
     }

@@ -20,5 +20,5 @@ pub use printed::{
     event_at, is_opening, own_word, printed_word, real_word, step_event, word_event,
 };
 pub use steps::{Begun, Given, Step, next_printed};
-pub use word_steps::{ArgumentStep, FlagStep, Front, Lone, Outer, Taker, VersionStep, WordBlock};
+pub use word_steps::{ArgumentStep, FlagStep, Front, Lone, Taker, VersionStep, WordBlock};
 pub use words_left::{WordsLeft, read_inside};

@@ -14,26 +14,15 @@ pub enum WordBlock {
     Extension,
 }
 
-/// What stands outside the enclosures.
-#[derive(Clone, Copy)]
-pub enum Outer {
-    /// `Ns` that ends the words of its line.
-    Glue,
-    /// `Ta`.
-    NextColumn,
-}
-
 /// What a macro does before it prints its words.
 #[derive(Clone, Copy)]
 pub enum Front {
     /// It lacks a word: a message with its name, of which this is the length.
     Refused { len: u32 },
-    /// The next column, outside the enclosures.
+    /// `Ta`.
     NextColumn,
     /// `Ns`.
     Glue,
-    /// The enclosures end before what stands outside them.
-    EndsEnclosures(Outer),
     /// `Ap`.
     Apostrophe,
     /// `Bsx Dx Fx Nx Ox Ux`.
@@ -77,17 +66,11 @@ pub enum VersionStep {
     Version,
     /// The name after it.
     Name,
-    /// The hyphen before a variant.
-    Hyphen,
-    /// The variant after it.
-    Variant,
 }
 
 /// What comes next of flags.
 #[derive(Clone, Copy)]
 pub enum FlagStep {
-    /// A dash alone, where a delimiter that opens nothing comes before the first flag.
-    First,
     /// A dash before the next flag.
     Dash,
     /// The flag after its dash.

@@ -1,7 +1,6 @@
 -- The first step of a macro gives all its events: helpers of proofs.
 use Rattle.std.proofs.Common.{◌≡◌, ℕ, suc, ◌+◌, ◌-◌, ◌==◌, Bool, true, false, not, ◌&&◌, List, [], ◌∷◌, length, take, drop, refl, sym, ap, ◌∙◌, arith, inl, inr, Option, None, Some, if◌then◌else◌}
 use Rattle.std.specs.List.{list_any, list_all}
-use Rattle.std.proofs.Math.Dec.{eqb-suc-zero}
 use Rattle.std.proofs.lemmas.Bool.{cases_Bool}
 use Rattle.page_core_base.specs.declared.cells.Font.TheVariants.{R, B, I}
 use Rattle.page_core_base.specs.LinesTaken.{Line}
@@ -15,18 +14,18 @@ use Rattle.page_sets_mdoc_lines.specs.declared.extents.Extent.{Extent}
 use Rattle.page_sets_mdoc_lines.proofs.PartLemmas.{words_taken, rest_goes_on}
 use Rattle.page_sets_mdoc_steps.specs.declared.word_steps.Front.TheVariants.{Refused}
 use Rattle.page_sets_mdoc_steps.specs.declared.word_steps.ArgumentStep.TheVariants.{Next}
-use Rattle.page_sets_mdoc_steps.specs.declared.word_steps.FlagStep.TheVariants.{First}
+use Rattle.page_sets_mdoc_steps.specs.declared.word_steps.FlagStep.TheVariants.{Dash}
 use Rattle.page_sets_mdoc_steps.specs.declared.form_steps.FunctionStep.TheVariants as functions
 use Rattle.page_sets_mdoc_steps.specs.declared.form_steps.LinkStep.TheVariants.{Address}
 use Rattle.page_sets_mdoc_steps.specs.declared.word_steps.Lone.TheVariants as lones
 use Rattle.page_sets_mdoc_steps.specs.declared.form_steps.ReferenceStep.TheVariants as references
 use Rattle.page_sets_mdoc_steps.specs.declared.steps.Step.{Step}
 use Rattle.page_sets_mdoc_steps.specs.declared.steps.Step.TheVariants as steps
-use Rattle.page_sets_mdoc_steps.specs.Inlines.{no_space, inline_events}
+use Rattle.page_sets_mdoc_steps.specs.Inlines.{inline_events}
 use Rattle.page_sets_lines.specs.declared.line_steps.SynopsisStep.{SynopsisStep}
 use Rattle.page_sets_mdoc_steps.specs.Synopses.{before_words, after_words, framed}
 use Rattle.page_sets_mdoc_steps.specs.Steps.{step_events}
-use Rattle.page_sets_mdoc_words.specs.Begins.{glue_front, first_step, begun_events, placed_begun, count_of, takes_first, after_first}
+use Rattle.page_sets_mdoc_words.specs.Begins.{first_step, begun_events, placed_begun, count_of, takes_first, after_first}
 
 -- one of two steps
 if_step : (line : Line) (column : ℕ) (test : Bool) (step other : Step) (words : List (Argument (List ℕ)))
@@ -43,14 +42,6 @@ needs_gives line column len step q =
 needs_step : (line : Line) (column len : ℕ) (step : Step) (q : LineParts) → needs_gives line column len step q
 needs_step line column len step q = if_step line column (list_any is_real q.words) step (steps.Front (Refused len)) q.words
 
-glue_gives : (line : Line) (column : ℕ) (words : List (Argument (List ℕ))) (follows : Bool)
-    → step_events line column (steps.Front (glue_front (length words == 0 && not follows))) words ≡ no_space line.number column words follows
-glue_gives line column [] true = refl
-glue_gives line column [] false = refl
-glue_gives line column (word ∷ words) follows =
-    let some : (length (word ∷ words) == 0) ≡ false = eqb-suc-zero (length words) in
-    rw some refl
-
 -- where the macro takes no word as it stands
 none_gives : (line : Line) (column len : ℕ) (inline : Inline) (q : LineParts)
     → step_events line column (first_step inline false (extent_of q) len) q.words
@@ -64,13 +55,13 @@ none_gives line column len inlines.Name q = if_step line column (list_any is_rea
 none_gives line column len (inlines.Defaulted default) q =
     if_step line column (list_any is_real q.words) (steps.Printed (Some I)) (steps.Lone (lones.Default default)) q.words
 none_gives line column len inlines.Flag q =
-    if_step line column (list_any is_real q.words) (steps.Flags First) (steps.Lone (lones.Dash (has_calls q.calls))) q.words
+    if_step line column (list_any is_real q.words) (steps.Flags Dash) (steps.Lone (lones.Dash (has_calls q.calls))) q.words
 none_gives line column len inlines.Reference q = needs_step line column len (steps.Reference references.Name) q
 none_gives line column len inlines.Function q = needs_step line column len (steps.Function functions.Name (extent_of q).inside) q
 none_gives line column len (inlines.System system) q = refl
 none_gives line column len inlines.Bsd q = refl
 none_gives line column len inlines.Link q = needs_step line column len (steps.Link (Address (extent_of q).inside)) q
-none_gives line column len inlines.NoSpace q = glue_gives line column q.words (has_calls q.calls)
+none_gives line column len inlines.NoSpace q = refl
 none_gives line column len inlines.Apostrophe q = refl
 none_gives line column len inlines.NextColumn q = refl
 none_gives line column len inlines.Prefix q = refl
@@ -187,16 +178,6 @@ real_words inline parsed (word ∷ words) =
       | inr t ↦ rw t refl
     ]
 
--- and its calls are those after its words
-pub same_calls : (inline : Inline) (parsed : Bool) (arguments : List (Argument (List ℕ)))
-    → has_calls (parts (Some inline) parsed arguments).calls ≡ (extent_of (parts None parsed (after_first inline arguments))).follows
-same_calls inline parsed [] = refl
-same_calls inline parsed (word ∷ words) =
-    elim (cases_Bool (takes_next inline word)) [
-      | inl t ↦ rw t refl
-      | inr t ↦ rw t refl
-    ]
-
 -- ---- the same of what the code found
 
 pub begins_right : (line : Line) (column len count : ℕ) (inline : Inline) (parsed taken : Bool) (extent : Extent) (step : Step) (arguments others : List (Argument (List ℕ)))
@@ -218,23 +199,19 @@ pub placed_right : (first : Bool) (line : Line) (column len count : ℕ) (inline
     (before after : Option SynopsisStep) (arguments others : List (Argument (List ℕ)))
     → taken ≡ takes_first inline arguments → others ≡ after_first inline arguments → extent ≡ extent_of (parts None parsed others)
     → step ≡ first_step inline taken extent len → count ≡ count_of extent.words taken
-    → before ≡ before_words first inline extent.has_real → after ≡ after_words first inline extent.has_real extent.follows
+    → before ≡ before_words first inline extent.has_real → after ≡ after_words first inline extent.has_real
     → framed line.number column before after (step_events line column step (take count arguments))
     ≡ placed_begun first line column len inline (parts (Some inline) parsed arguments)
 placed_right first line column len count inline parsed taken extent step before after arguments others t o e s n b a =
     let real : extent.has_real ≡ list_any is_real (parts (Some inline) parsed arguments).words =
     ap (λ (x : Extent). x.has_real) (e ∙ ap (λ l. extent_of (parts None parsed l)) o) ∙ sym (real_words inline parsed arguments) in
-    let follows : extent.follows ≡ has_calls (parts (Some inline) parsed arguments).calls =
-    ap (λ (x : Extent). x.follows) (e ∙ ap (λ l. extent_of (parts None parsed l)) o) ∙ sym (same_calls inline parsed arguments) in
     let begins : before ≡ before_words first inline (list_any is_real (parts (Some inline) parsed arguments).words) =
     b ∙ ap (λ r. before_words first inline r) real in
-    let ends : after
-    ≡ after_words first inline (list_any is_real (parts (Some inline) parsed arguments).words) (has_calls (parts (Some inline) parsed arguments).calls) =
-    a ∙ (ap (λ r. after_words first inline r extent.follows) real
-    ∙ ap (λ f. after_words first inline (list_any is_real (parts (Some inline) parsed arguments).words) f) follows) in
+    let ends : after ≡ after_words first inline (list_any is_real (parts (Some inline) parsed arguments).words) =
+    a ∙ ap (λ r. after_words first inline r) real in
     rw (begins, ends) (ap (λ events. framed line.number column
     (before_words first inline (list_any is_real (parts (Some inline) parsed arguments).words))
-    (after_words first inline (list_any is_real (parts (Some inline) parsed arguments).words) (has_calls (parts (Some inline) parsed arguments).calls)) events)
+    (after_words first inline (list_any is_real (parts (Some inline) parsed arguments).words)) events)
     (begins_right line column len count inline parsed taken extent step arguments others t o e s n))
 
 -- a macro that takes no word as it stands

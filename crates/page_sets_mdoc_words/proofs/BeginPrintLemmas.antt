@@ -10,7 +10,7 @@ use Rattle.page_sets_mdoc_rows.specs.declared.macros.Pair.TheVariants as pairs
 use Rattle.page_sets_mdoc_rows.specs.declared.macros.Inline.{Inline}
 use Rattle.page_sets_mdoc_rows.specs.declared.macros.Inline.TheVariants as inlines
 use Rattle.page_sets_mdoc_lines.specs.LineWords.{is_real}
-use Rattle.page_sets_mdoc_lines.specs.Parts.{parts, extent_of, has_calls}
+use Rattle.page_sets_mdoc_lines.specs.Parts.{parts, extent_of}
 use Rattle.page_sets_mdoc_lines.specs.declared.extents.Extent.{Extent}
 use Rattle.page_sets_mdoc_steps.specs.declared.steps.Step.{Step}
 use Rattle.page_sets_mdoc_steps.specs.Printed.{printed}
@@ -77,8 +77,7 @@ pub placed_prints : (line : Line) (column len : ℕ) (inline : Inline) (parsed :
     → Prints line.text 4 (take (own_count inline parsed arguments) arguments) (placed_begun true line column len inline (parts (Some inline) parsed arguments))
 placed_prints line column len inline parsed arguments h =
     let real = list_any is_real (parts (Some inline) parsed arguments).words in
-    let follows = has_calls (parts (Some inline) parsed arguments).calls in
-    framed_prints line.text 2 line.number column (before_words true inline real) (after_words true inline real follows) (take (own_count inline parsed arguments) arguments) _
+    framed_prints line.text 2 line.number column (before_words true inline real) (after_words true inline real) (take (own_count inline parsed arguments) arguments) _
     (begun_prints line column len inline parsed arguments h)
 
 -- a declaration has an event for each word
@@ -103,8 +102,7 @@ called_prints line column len inlines.Declaration parsed arguments h =
     elim (cases_Bool (list_any is_real (parts (Some inlines.Declaration) parsed arguments).words)) [
       | inl t ↦
           let real = list_any is_real (parts (Some inlines.Declaration) parsed arguments).words in
-          let follows = has_calls (parts (Some inlines.Declaration) parsed arguments).calls in
-          framed_prints line.text 0 line.number column (before_words false inlines.Declaration real) (after_words false inlines.Declaration real follows)
+          framed_prints line.text 0 line.number column (before_words false inlines.Declaration real) (after_words false inlines.Declaration real)
           (take (own_count inlines.Declaration parsed arguments) arguments) _ (declared_prints line column len parsed arguments h t)
       | inr t ↦ rw t (rw t at (begun_prints line column len inlines.Declaration parsed arguments h))
     ]

@@ -1,5 +1,4 @@
 pub mod WordLemmas
-pub mod FrontLemmas
 pub mod SliceLemmas
 pub mod BeginLemmas
 pub mod BeginPrintLemmas

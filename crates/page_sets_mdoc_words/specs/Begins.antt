@@ -1,5 +1,5 @@
 -- Where the words of a macro begin: the first of the code's own steps, and the word that the macro takes as it stands. Source: mdoc(7), "MACRO SYNTAX" and "MACRO REFERENCE".
-use Rattle.std.specs.Prelude.{◌≡◌, ℕ, ◌+◌, ◌-◌, ◌==◌, Bool, true, false, not, ◌&&◌, List, [], ◌∷◌, take, drop, Some, if◌then◌else◌}
+use Rattle.std.specs.Prelude.{◌≡◌, ℕ, ◌+◌, ◌-◌, Bool, true, false, List, [], ◌∷◌, take, drop, Some, if◌then◌else◌}
 use Rattle.std.specs.List.{list_any}
 use Rattle.page_core_base.specs.declared.cells.Font.TheVariants.{R, B, I}
 use Rattle.page_core_base.specs.LinesTaken.{Line}
@@ -17,9 +17,7 @@ use Rattle.page_sets_mdoc_lines.specs.Parts.{LineParts, has_calls}
 use Rattle.page_sets_mdoc_steps.specs.declared.word_steps.WordBlock.TheVariants as blocks
 use Rattle.page_sets_mdoc_steps.specs.declared.word_steps.ArgumentStep.TheVariants as argument_steps
 use Rattle.page_sets_mdoc_steps.specs.declared.word_steps.FlagStep.TheVariants as flag_steps
-use Rattle.page_sets_mdoc_steps.specs.declared.word_steps.Front.{Front}
 use Rattle.page_sets_mdoc_steps.specs.declared.word_steps.Front.TheVariants as fronts
-use Rattle.page_sets_mdoc_steps.specs.declared.word_steps.Outer.TheVariants as outers
 use Rattle.page_sets_mdoc_steps.specs.declared.form_steps.FunctionStep.TheVariants as function_steps
 use Rattle.page_sets_mdoc_steps.specs.declared.form_steps.LinkStep.TheVariants as link_steps
 use Rattle.page_sets_mdoc_steps.specs.declared.word_steps.Lone.TheVariants as lones
@@ -33,11 +31,6 @@ use Rattle.page_sets_mdoc_steps.specs.Synopses.{before_words, after_words, frame
 
 abbrev pub needs : Extent → ℕ → Step → Step
 needs extent len step = if extent.has_real then step else steps.Front (fronts.Refused len)
-
--- an `Ns` that ends the words of its line, or another
-abbrev pub glue_front : Bool → Front
-glue_front true = fronts.EndsEnclosures outers.Glue
-glue_front false = fronts.Glue
 
 abbrev pub opening : Pair → Bool → Extent → ℕ → Step
 opening (pairs.Quotation quotation) taken extent len = steps.Front (fronts.Opens (blocks.Quotation quotation))
@@ -62,15 +55,15 @@ first_step inlines.Name taken extent len = if extent.has_real then steps.Named e
 first_step (inlines.Defaulted default) taken extent len =
     if extent.has_real then steps.Printed (Some I) else steps.Lone (lones.Default default)
 first_step inlines.Flag taken extent len =
-    if extent.has_real then steps.Flags flag_steps.First else steps.Lone (lones.Dash extent.follows)
+    if extent.has_real then steps.Flags flag_steps.Dash else steps.Lone (lones.Dash extent.follows)
 first_step inlines.Reference taken extent len = needs extent len (steps.Reference reference_steps.Name)
 first_step inlines.Function taken extent len = needs extent len (steps.Function function_steps.Name extent.inside)
 first_step (inlines.System system) taken extent len = steps.Front (fronts.System system)
 first_step inlines.Bsd taken extent len = steps.Version version_steps.Version
 first_step inlines.Link taken extent len = needs extent len (steps.Link (link_steps.Address extent.inside))
-first_step inlines.NoSpace taken extent len = steps.Front (glue_front (extent.words == 0 && not extent.follows))
+first_step inlines.NoSpace taken extent len = steps.Front fronts.Glue
 first_step inlines.Apostrophe taken extent len = steps.Front fronts.Apostrophe
-first_step inlines.NextColumn taken extent len = steps.Front (fronts.EndsEnclosures outers.NextColumn)
+first_step inlines.NextColumn taken extent len = steps.Front fronts.NextColumn
 first_step inlines.Prefix taken extent len = if taken then steps.Taken takers.Prefix else steps.Front (fronts.Refused len)
 first_step (inlines.Enclosure marks) taken extent len = steps.Front (fronts.Enclosure marks)
 first_step (inlines.Opens pair) taken extent len = opening pair taken extent len
@@ -102,5 +95,5 @@ begun_events line column len inline parts =
 -- the same with what it does in the SYNOPSIS
 abbrev pub placed_begun : Bool → Line → ℕ → ℕ → Inline → LineParts → List (Event (List ℕ))
 placed_begun first line column len inline parts =
-    framed line.number column (before_words first inline (list_any is_real parts.words)) (after_words first inline (list_any is_real parts.words) (has_calls parts.calls))
+    framed line.number column (before_words first inline (list_any is_real parts.words)) (after_words first inline (list_any is_real parts.words))
     (begun_events line column len inline parts)

@@ -17,7 +17,7 @@ use page_core_limits::LINE;
 use page_sets_mdoc_lines::{Cursor, Extent, find_extent, may_take, takes_next};
 use page_sets_mdoc_rows::{Inline, Pair};
 use page_sets_mdoc_steps::{
-    ArgumentStep, FlagStep, Front, FunctionStep, LinkStep, Lone, Outer, ReferenceStep, Step, Taker,
+    ArgumentStep, FlagStep, Front, FunctionStep, LinkStep, Lone, ReferenceStep, Step, Taker,
     VersionStep, WordBlock, WordsLeft,
 };
 
@@ -37,17 +37,6 @@ fn either(test: bool, step: Step, other: Step) -> Step
     ensures { result ≡ (if test then step else other) }
 {
     if test { step } else { other }
-}
-
-// What an `Ns` does that ends the words of its line, or another.
-fn glue_front(is_last: bool) -> Front
-    ensures { result ≡ begins.glue_front is_last }
-{
-    if is_last {
-        Front::EndsEnclosures(Outer::Glue)
-    } else {
-        Front::Glue
-    }
 }
 
 // The step of what opens a scope.
@@ -95,7 +84,7 @@ fn first_step(inline: Inline, taken: bool, extent: Extent, len: u32) -> Step
         ),
         Inline::Flag => either(
             extent.has_real,
-            Step::Flags(FlagStep::First),
+            Step::Flags(FlagStep::Dash),
             Step::Lone(Lone::Dash {
                 follows: extent.follows,
             }),
@@ -118,9 +107,9 @@ fn first_step(inline: Inline, taken: bool, extent: Extent, len: u32) -> Step
                 inside: extent.inside,
             }),
         ),
-        Inline::NoSpace => Step::Front(glue_front(extent.words == 0 && !extent.follows)),
+        Inline::NoSpace => Step::Front(Front::Glue),
         Inline::Apostrophe => Step::Front(Front::Apostrophe),
-        Inline::NextColumn => Step::Front(Front::EndsEnclosures(Outer::NextColumn)),
+        Inline::NextColumn => Step::Front(Front::NextColumn),
         Inline::Prefix => either(
             taken,
             Step::Taken(Taker::Prefix),
@@ -192,7 +181,7 @@ impl MacroWords {
                 count: count_of(extent.words, taken),
                 cursor,
             },
-            after: after_words(first, inline, extent.has_real, extent.follows),
+            after: after_words(first, inline, extent.has_real),
         }
     }
 }

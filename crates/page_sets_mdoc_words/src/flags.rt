@@ -17,9 +17,7 @@ use page_core_limits::LINE;
 use page_roff_forms::Argument;
 use page_sets_lines::{Join, Own};
 use page_sets_mdoc_lines::is_real;
-use page_sets_mdoc_steps::{
-    Begun, FlagStep, Given, Step, WordsLeft, is_opening, own_word, printed_word,
-};
+use page_sets_mdoc_steps::{Begun, FlagStep, Given, Step, WordsLeft, own_word, printed_word};
 
 // The dash before a flag.
 fn flag_dash<'a>(begun: Begun<'a>, word: Argument<&'a [u8]>) -> Given<'a>
@@ -37,38 +35,6 @@ fn flag_dash<'a>(begun: Begun<'a>, word: Argument<&'a [u8]>) -> Given<'a>
         ),
         step: Step::Flags(FlagStep::Flag),
     }
-}
-
-// The dash before the first flag, or an opening delimiter before it; a dash alone before any other.
-fn next_first<'a>(begun: Begun<'a>, left: &mut WordsLeft) -> Option<Given<'a>>
-    requires short { length begun.line.text.now ≤ LINE }
-    requires within { IsCursorOf begun.line.text.now left.old.cursor }
-    ensures goes { GoesOn begun.entry.line.text.now left.old left.new }
-    ensures gives { StepsOn begun.entry (steps.Flags flags.First) left.old result left.new }
-{
-    let mut ahead = *left;
-    let word = ahead.read(begun.line.text)?;
-    if is_real(word) {
-        return Some(flag_dash(begun, word));
-    }
-    if is_opening(word) {
-        *left = ahead;
-        return Some(Given {
-            event: printed_word(begun.line.line, None, word),
-            step: Step::Flags(FlagStep::First),
-        });
-    }
-    Some(Given {
-        event: own_word(
-            begun.line.line,
-            begun.column,
-            Own::Flag,
-            Some(Font::B),
-            Join::Apart,
-            Join::Apart,
-        ),
-        step: Step::Flags(FlagStep::Dash),
-    })
 }
 
 // The dash before the next flag, or a delimiter before it.
@@ -102,7 +68,6 @@ pub(crate) fn next_flag<'a>(
     ensures gives { StepsOn begun.entry (steps.Flags step) left.old result left.new }
 {
     match step {
-        FlagStep::First => next_first(begun, left),
         FlagStep::Dash => next_dash(begun, left),
         FlagStep::Flag => {
             let word = left.read(begun.line.text)?;

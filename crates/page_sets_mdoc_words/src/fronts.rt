@@ -17,7 +17,7 @@ use page_sets_lines::{
 };
 use page_sets_mdoc_rows::System;
 use page_sets_mdoc_steps::{
-    Begun, Front, Given, Outer, Step, WordBlock, WordsLeft, event_at, own_word, step_event,
+    Begun, Front, Given, Step, WordBlock, WordsLeft, event_at, own_word, step_event,
 };
 
 // A part of a text, as far as the text has it.
@@ -95,7 +95,6 @@ fn front_event<'a>(begun: Begun<'a>, front: Front) -> Event<&'a [u8]>
         Front::Refused { len } => refusal(begun, len),
         Front::NextColumn => step_event(number, column, LineStep::NextColumn),
         Front::Glue => step_event(number, column, LineStep::Glue),
-        Front::EndsEnclosures(_) => event_at(number, column, Deed::Close(Closer::Enclosures)),
         Front::Apostrophe => {
             own_word(
                 number,
@@ -137,19 +136,7 @@ fn front_event<'a>(begun: Begun<'a>, front: Front) -> Event<&'a [u8]>
     }
 }
 
-// The step after it.
-fn front_after(front: Front) -> Step
-    ensures { result ≡ step_specs.front_after front }
-{
-    match front {
-        Front::EndsEnclosures(Outer::Glue) => Step::Front(Front::Glue),
-        Front::EndsEnclosures(Outer::NextColumn) => Step::Front(Front::NextColumn),
-        _ => Step::Printed(None),
-    }
-}
-
 /// What a macro does before its words, which come next.
-#[tactic(auto, using(crate::proofs::FrontLemmas::front_goes_on))]
 pub(crate) fn next_front<'a>(
     begun: Begun<'a>,
     front: Front,
@@ -162,6 +149,6 @@ pub(crate) fn next_front<'a>(
 {
     Some(Given {
         event: front_event(begun, front),
-        step: front_after(front),
+        step: Step::Printed(None),
     })
 }

@@ -32,18 +32,18 @@ fn default_own(default: Defaulted) -> Own
 fn lone_dash<'a>(begun: Begun<'a>, follows: bool, is_last: bool) -> Event<&'a [u8]>
     ensures { event_seen result ≡ inlines.lone_dash begun.entry.line.line begun.entry.column follows is_last }
 {
-    let after = if is_last && follows {
-        Join::Glued
+    let own = if is_last && follows {
+        Own::JoinedFlag
     } else {
-        Join::Apart
+        Own::Flag
     };
     own_word(
         begun.line.line,
         begun.column,
-        Own::Flag,
+        own,
         Some(Font::B),
         Join::Apart,
-        after,
+        Join::Apart,
     )
 }
 

@@ -35,17 +35,12 @@ pub(crate) fn before_words(first: bool, inline: Inline, has_real: bool) -> Optio
     }
 }
 
-/// What comes after them, where a call follows or none.
-pub(crate) fn after_words(
-    first: bool,
-    inline: Inline,
-    has_real: bool,
-    follows: bool,
-) -> Option<SynopsisStep>
-    ensures { result ≡ synopses.after_words first inline has_real follows }
+/// What comes after them.
+pub(crate) fn after_words(first: bool, inline: Inline, has_real: bool) -> Option<SynopsisStep>
+    ensures { result ≡ synopses.after_words first inline has_real }
 {
     match inline {
-        Inline::Declaration => step_if(has_real && !follows, SynopsisStep::Break),
+        Inline::Declaration => step_if(has_real, SynopsisStep::Break),
         Inline::Name => step_if(first, SynopsisStep::NameEnds),
         _ => None,
     }

@@ -4,6 +4,7 @@ use Rattle.std.specs.Option.{option_map_or}
 use denote.Enum.Bare.{sameb}
 use Rattle.page_sets_names.specs.contracts.own_texts.Own.{the_type}
 use Rattle.page_sets_names.specs.declared.own_texts.Own.{Own}
+use Rattle.page_sets_names.specs.declared.own_texts.Own.TheVariants.{JoinedFlag, Files, JoinedFiles}
 use Rattle.page_sets_names.specs.declared.own_texts.Role.{Role}
 use Rattle.page_sets_names.specs.declared.own_texts.Role.TheVariants.{Mark, Word, Sentence}
 use Rattle.page_sets_names.specs.declared.own_texts.TheConstants.{OWN}
@@ -29,6 +30,16 @@ ends_sentence Sentence = true
 abbrev pub own_is_word : Own → Bool
 own_is_word own = is_word (own_role own)
 
--- of these only the sentences of `Bt`, `Ex`, `Rv` and `Ud` end one
+-- a dash alone (`Fl`) is glued to what comes after it in its line
+abbrev pub own_joins_next : Own → Bool
+own_joins_next JoinedFlag = true
+own_joins_next _ = false
+
+-- where no blanks are to stand between words (`Sm off`) the two words of `Ar` are one
+abbrev pub own_spaced : (spacing : Bool) → Own → Own
+own_spaced false Files = JoinedFiles
+own_spaced spacing own = own
+
+-- of these only the sentences of `Ex` and `Rv` end one
 abbrev pub own_ends_sentence : Own → Bool
 own_ends_sentence own = ends_sentence (own_role own)

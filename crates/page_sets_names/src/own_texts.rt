@@ -44,8 +44,12 @@ pub enum Own {
     Dash,
     /// `-`, where it stands for a flag.
     Flag,
+    /// The same, glued to what a macro after it in its line prints.
+    JoinedFlag,
     /// `file ...`
     Files,
+    /// `file...`, where no blanks stand between words.
+    JoinedFiles,
     /// `~`
     Home,
     /// `BSD`
@@ -82,16 +86,6 @@ pub enum Own {
     FunctionReturns,
     /// The sentence of `Rv` about several, from `functions` on.
     FunctionsReturn,
-    /// The sentence of `Rv` about none.
-    CompletionReturns,
-    /// The sentence of `Ud`.
-    UnderDevelopment,
-    /// The sentence of `Bt`.
-    BetaTest,
-    /// `Reno`
-    Reno,
-    /// `Tahoe`
-    Tahoe,
 }
 
 /// What such a text is in a sentence.
@@ -101,7 +95,7 @@ pub(crate) enum Role {
     Mark,
     /// A word.
     Word,
-    /// A word that ends the sentence, as those of `Bt`, `Ex`, `Rv` and `Ud`.
+    /// A word that ends the sentence, as those of `Ex` and `Rv`.
     Sentence,
 }
 
@@ -120,6 +114,23 @@ impl Own {
         !matches!(OWN[self as usize].2, Role::Mark)
     }
 
+    /// Whether it is glued to what comes after it in its line.
+    pub fn joins_next(self) -> bool
+        ensures { result ≡ texts.own_joins_next self }
+    {
+        matches!(self, Own::JoinedFlag)
+    }
+
+    /// The text that stands in its place where blanks stand between words, or where none do.
+    pub fn spaced(self, has_spacing: bool) -> Own
+        ensures { result ≡ texts.own_spaced has_spacing self }
+    {
+        match self {
+            Own::Files if !has_spacing => Own::JoinedFiles,
+            _ => self,
+        }
+    }
+
     /// Whether it is a word that ends a sentence.
     pub fn ends_sentence(self) -> bool
         ensures { result ≡ texts.own_ends_sentence self }
@@ -129,7 +140,7 @@ impl Own {
 }
 
 // The texts, in the order of `Own`.
-static OWN: [(Own, &str, Role); 43] = [
+static OWN: [(Own, &str, Role); 40] = [
     (Own::OpenParenthesis, "(", Role::Mark),
     (Own::CloseParenthesis, ")", Role::Mark),
     (Own::OpenBracket, "[", Role::Mark),
@@ -149,7 +160,9 @@ static OWN: [(Own, &str, Role); 43] = [
     (Own::Apostrophe, "'", Role::Mark),
     (Own::Dash, "-", Role::Mark),
     (Own::Flag, "-", Role::Word),
+    (Own::JoinedFlag, "-", Role::Word),
     (Own::Files, "file ...", Role::Word),
+    (Own::JoinedFiles, "file...", Role::Word),
     (Own::Home, "~", Role::Word),
     (Own::Bsd, "BSD", Role::Word),
     (Own::BsdOs, "BSD/OS", Role::Word),
@@ -184,17 +197,4 @@ static OWN: [(Own, &str, Role); 43] = [
         "functions return the value 0 if successful; otherwise the value -1 is returned and the global variable errno is set to indicate the error.",
         Role::Sentence,
     ),
-    (
-        Own::CompletionReturns,
-        "Upon successful completion, the value 0 is returned; otherwise the value -1 is returned and the global variable errno is set to indicate the error.",
-        Role::Sentence,
-    ),
-    (
-        Own::UnderDevelopment,
-        "currently under development.",
-        Role::Sentence,
-    ),
-    (Own::BetaTest, "is currently in beta test.", Role::Sentence),
-    (Own::Reno, "Reno", Role::Word),
-    (Own::Tahoe, "Tahoe", Role::Word),
 ];

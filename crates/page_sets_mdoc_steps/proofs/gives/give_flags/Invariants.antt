@@ -1,7 +1,7 @@
-use Rattle.std.proofs.Common.{length, if◌then◌else◌}
+use Rattle.std.proofs.Common.{length}
 use Rattle.page_sets_lines.specs.EventOuts.{CameEventsUpTo}
 use Rattle.page_sets_mdoc_lines.specs.Cursors.{IsCursorOf}
-use Rattle.page_sets_mdoc_steps.specs.Inlines.{flags, flags_begun}
+use Rattle.page_sets_mdoc_steps.specs.Inlines.{flags}
 use Rattle.page_sets_mdoc_steps.specs.WordsLeft.{GoesOn, words_left}
 use Rattle.page_sets_mdoc_steps.proofs.gives.give_flags.Given as goal
 
@@ -9,8 +9,8 @@ abbrev pub invariant-loop-word : goal.invariant-loop-word
 invariant-loop-word g l = record {
   within : IsCursorOf l.text l.words.cursor;
   goes : GoesOn l.text l.fn.words l.words;
-  came : CameEventsUpTo g.O.EventTaker.left l.fn.out (flags_begun l.number l.column (words_left l.text l.fn.words))
-      (if l.is_first then flags_begun l.number l.column (words_left l.text l.words) else flags l.number (words_left l.text l.words)) l.out;
+  came : CameEventsUpTo g.O.EventTaker.left l.fn.out (flags l.number (words_left l.text l.fn.words))
+      (flags l.number (words_left l.text l.words)) l.out;
 }
 
 abbrev pub decreases-loop-word : goal.decreases-loop-word
