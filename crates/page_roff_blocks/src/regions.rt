@@ -78,7 +78,7 @@ fn is_too_long(name: Option<Argument<&[u8]>>) -> bool
 
 impl<'a> RegionHead<&'a [u8]> {
     /// The name of the control line that ends it: at most [`NAME`] bytes.
-    pub(crate) fn end_name(&self) -> ArrayVec<u8, NAME>
+    pub fn end_name(&self) -> ArrayVec<u8, NAME>
         ensures { result.items ≡ end_name (region_seen self.now) }
     {
         if let Some(name) = self.kind.fixed_ending() {
