@@ -214,7 +214,13 @@ fn do_rename<O: NoteOut>(line: RequestLine<'_>, names: &mut Names, out: &mut O)
     match arguments.next_argument() {
         Some(name) if !name.text.is_empty() => {
             let old_name = old_name.name();
-            rename(old_name.as_slice(), name.name().as_slice(), line.place, names, out)
+            rename(
+                old_name.as_slice(),
+                name.name().as_slice(),
+                line.place,
+                names,
+                out,
+            )
         }
         _ => {}
     }

@@ -97,9 +97,10 @@ quoted_run text (suc n) h f =
 
 other : (b : ℕ) → ¬ (is_byte2 34 92 b ≡ true) → is_other b
 unfolding is_other
-other b h =
-    (λ e. h (let t : (b == 34) ≡ true = grind (arith, nat_tests) in rw t refl),
-    λ e. h (let t : (b == 34) ≡ false = grind (arith, nat_tests) in let u : (b == 92) ≡ true = grind (arith, nat_tests) in rw (t, u) refl))
+other b h = (
+  λ e. h (let t : (b == 34) ≡ true = grind (arith, nat_tests) in rw t refl),
+  λ e. h (let t : (b == 34) ≡ false = grind (arith, nat_tests) in let u : (b == 92) ≡ true = grind (arith, nat_tests) in rw (t, u) refl),
+)
 
 pub quoted_to : (text : List ℕ) (r : Option ℕ) → IsFirstByte (is_byte2 34 92) text r
     → let n = unwrap_or r (length text) in quoted_len text ≡ n + quoted_len (drop n text)
