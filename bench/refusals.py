@@ -4,7 +4,12 @@
 The program feeds a page line by line, first to a page and then to roff alone. What is not theirs has its memory before they are made; after
 the end of each the program makes one allocation of its own. So where an allocation is refused, there is either no page, or no roff, or the one
 refused is one of those two, and what is given is the same: a page and roff ask for nothing once they are made.
+
+Then each page is run with a cut after each of its lines in turn: page and roff are put down there and go on from what is held of them. Where an
+allocation of that is refused, the program tells it, and gives the same: the page goes on as it is, or from what came back when it is tried once more.
+Each cut asks for as many allocations as any other, so nothing that is held grows with the page; and after it nothing is asked for either.
 """
+import concurrent.futures
 import os
 import re
 import subprocess
@@ -47,9 +52,19 @@ int posix_memalign(void **to, size_t align, size_t size) {
 }
 """
 
+PUT_DOWN = b"-- no memory to put it down\n"
+GO_ON = b"-- no memory to go on\n"
 AFTER_PAGE = b"-- no memory after the page\n"
 NO_ROFF = b"-- not by roff alone\n"
 AFTER_ROFF = b"-- no memory after roff\n"
+TOLD = (PUT_DOWN, GO_ON, AFTER_PAGE, NO_ROFF, AFTER_ROFF)
+
+# Words of pages that are to fail otherwise.
+FAILING = re.compile(rb"rows=|messages=|width=57|width=301|indent=21")
+
+
+class Bad(Exception):
+    """What a page does not keep to."""
 
 
 def given(program, library, page, refused):
@@ -58,22 +73,68 @@ def given(program, library, page, refused):
     return subprocess.run([program], input=page, env=env, stdout=subprocess.PIPE, stderr=subprocess.DEVNULL).stdout
 
 
-def fault_of(program, library, page):
-    """Returns what a page does not keep to where an allocation is refused, or None."""
+def told(shown, whole, refused):
+    """Returns the line that a run tells in which the allocation of this number is refused, or None where there is no page."""
+    lines = [line for line in TOLD if line in shown]
+    if not lines and b"-- source" in shown:
+        raise Bad(f"is there, but for what it gives, where allocation {refused} is refused")
+    if lines and shown.replace(lines[0], b"") != whole:
+        raise Bad(f"gives something else where allocation {refused} is refused")
+    return lines[0] if lines else None
+
+
+def tellings(program, library, page, first=1):
+    """Refuses each allocation in turn from that of a number on, up to the one after roff. Returns the number of the first that is told, and what
+    is told from there on: each line, and how often it comes before the next one."""
     whole = given(program, library, page, 0)
-    has_page = False
-    for refused in range(1, 10_000):
-        shown = given(program, library, page, refused)
-        told = [line for line in (AFTER_PAGE, NO_ROFF, AFTER_ROFF) if line in shown]
-        if told:
-            has_page = True
-            if shown.replace(told[0], b"") != whole:
-                return f"gives something else where allocation {refused} is refused"
-            if AFTER_ROFF in told:
-                return None
-        elif has_page or b"-- source" in shown:
-            return f"is there, but for what it gives, where allocation {refused} is refused"
-    return "asks for memory without end"
+    begin, lines = 0, []
+    for refused in range(first, 10_000):
+        line = told(given(program, library, page, refused), whole, refused)
+        if line is None and begin:
+            raise Bad(f"is not there where allocation {refused} is refused")
+        if line is None:
+            continue
+        begin = begin or refused
+        if not lines or lines[-1][0] != line:
+            lines.append((line, 0))
+        lines[-1] = (line, lines[-1][1] + 1)
+        if line == AFTER_ROFF:
+            return begin, lines
+    raise Bad("asks for memory without end")
+
+
+def cut_after(page, number):
+    """The page with a cut after the line of a number, which its title tells."""
+    title, rest = page.split(b"\n", 1)
+    shows = re.sub(rb"^== (cut=\d+: )?", b"", title)
+    return b"== cut=%04d%s%s\n%s" % (number, b" " if b": " in shows else b": ", shows, rest)
+
+
+def cuts_of(program, library, page):
+    """Runs a page without a cut, and cut after each of its lines in turn. Returns the lines that are told at a cut, each with how often, which all of
+    its cuts have."""
+    uncut = cut_after(page, 0)
+    begin, without = tellings(program, library, uncut)
+    source = int(re.search(rb"-- source (\d+)", given(program, library, uncut, 0))[1])
+    found = []
+    for number in range(1, page.count(b"\n")):
+        lines = tellings(program, library, cut_after(page, number), begin)[1]
+        # the second one of two lines that are joined has no number
+        if lines != without:
+            found.append(lines)
+    if len(found) != source:
+        raise Bad(f"was cut {len(found)} times, and has {source} lines")
+    if any(lines != found[0] for lines in found):
+        raise Bad("asks for more at one cut than at another")
+    return found[:1]
+
+
+def tried(program, library, page):
+    """Returns what is told at the cuts of a page, and what it does not keep to, or None."""
+    try:
+        return cuts_of(program, library, page), None
+    except Bad as bad:
+        return [], str(bad)
 
 
 def main():
@@ -81,23 +142,25 @@ def main():
     cases = os.path.join(os.path.dirname(os.path.abspath(__file__)), "../crates/page_engine_cases/stdin")
     with open(cases, "rb") as file:
         pages = re.split(rb"(?m)^(?=== )", file.read())[1:]
-    tried, bad = 0, 0
+    pages = [page for page in pages if not FAILING.search(page.split(b"\n", 1)[0])]
+    bad, all_cuts = 0, []
     with tempfile.TemporaryDirectory() as room:
         source, library = f"{room}/refusing.c", f"{room}/refusing.so"
         with open(source, "w") as file:
             file.write(REFUSING)
         subprocess.run(["cc", "-O1", "-shared", "-fPIC", "-o", library, source, "-ldl"], check=True)
-        for page in pages:
-            title = page.split(b"\n", 1)[0]
-            # pages that are to fail otherwise
-            if re.search(rb"rows=|messages=|width=57", title):
-                continue
-            tried += 1
-            fault = fault_of(program, library, page)
-            if fault:
-                bad += 1
-                print(f"{title.decode()}: {fault}")
-    print(f"{tried} pages, {bad} of them bad")
+        with concurrent.futures.ThreadPoolExecutor(os.cpu_count()) as pool:
+            for page, (cuts, fault) in zip(pages, pool.map(lambda page: tried(program, library, page), pages)):
+                all_cuts += cuts
+                if fault:
+                    bad += 1
+                    print(f"{page.split(bytes([10]), 1)[0].decode()}: {fault}")
+    for line, count in all_cuts[0] if all_cuts else []:
+        print(f"{count:3} times {line.decode().strip()}")
+    if any(cuts != all_cuts[0] for cuts in all_cuts):
+        bad += 1
+        print("the cuts of one page ask for more than those of another")
+    print(f"{len(pages)} pages, {bad} of them bad")
     sys.exit(bool(bad))
 
 

@@ -1,12 +1,12 @@
 -- What lists of lines count.
-use Rattle.std.proofs.Common.{◌≡◌, ◌+◌, ◌*◌, ◌≤◌, List, length, ap}
+use Rattle.std.proofs.Common.{◌≡◌, ◌+◌, ◌*◌, ◌≤◌, List, length, refl, ap}
 use Rattle.std.proofs.lemmas.List.{length-map}
 use Rattle.page_roff_lines.specs.Decoding.{Line}
 use Rattle.page_core_limits.specs.declared.TheConstants.{EXPAND, REREAD}
-use Rattle.page_roff_source.specs.Moments.{Moment, IsMomentOf, IsNoLater, taken_at, expansions_at}
+use Rattle.page_roff_source.specs.Each.{EachIsWithin}
 use Rattle.page_roff_source.proofs.CountLemmas.{lines_bound, lines_expansions, each_bound}
 use Rattle.page_engine.specs.Edges.{roff_at}
-use Rattle.page_engine.specs.Page.{Edge, counts_at, edge, raw, raw_lines, settled}
+use Rattle.page_engine.specs.Page.{Edge, counts_at, edge, page, raw, raw_lines, settled}
 
 pub source_more : (e : Edge) (lines : List Line) → (counts_at (edge e lines)).source ≡ (counts_at e).source + length lines
 unfolding settled
@@ -22,6 +22,9 @@ pub expansions_more : (e : Edge) (lines : List Line)
 unfolding settled
 expansions_more e lines = lines_expansions (roff_at e) (raw_lines lines)
 
-pub each_line : (e : Edge) (line : Line) (m n : Moment) → IsMomentOf (roff_at e) (raw line) m → IsNoLater (roff_at e) m n → taken_at n ≡ taken_at m
-    → expansions_at n ≤ expansions_at m + EXPAND
-each_line e line m n h k t = each_bound (roff_at e) (raw line) m n h k t
+pub each_line : (e : Edge) → EachIsWithin (roff_at e)
+each_line e = each_bound (roff_at e)
+
+pub counts_end : (e : Edge) (lines : List Line) → counts_at (page e lines).edge ≡ counts_at (edge e lines)
+unfolding page settled
+counts_end e lines = refl

@@ -4,13 +4,13 @@ ghost use Rattle.std.specs.Prelude.{◌≡◌, ◌≤◌, ◌+◌, ◌*◌, List
 ghost use Rattle.page_core_base.specs.Laid.{join};
 ghost use Rattle.page_core_base.specs.declared.page_settings.Settings.{Settings};
 ghost use Rattle.page_roff_lines.specs.Decoding.{Line};
-ghost use Rattle.page_roff_source.specs.Moments.{Moment, IsMomentOf, IsNoLater, taken_at, expansions_at};
+ghost use Rattle.page_roff_source.specs.Each.{EachIsWithin};
 ghost use Rattle.page_core_limits.specs.declared.TheConstants.{EXPAND, REREAD};
 ghost use Rattle.page_engine_lines.specs.Acts.{lines_after};
 ghost use Rattle.page_engine_lines.specs.Edges.{start_of};
 ghost use Rattle.page_engine.specs.ByLine as by_line;
 ghost use Rattle.page_engine.specs.Edges.{lines_at, roff_at};
-ghost use Rattle.page_engine.specs.Page.{Edge, IsReached, settled, edge, page, counts_at, start, raw, raw_lines};
+ghost use Rattle.page_engine.specs.Page.{Edge, IsReached, settled, edge, page, counts_at, start, raw_lines};
 ghost use Rattle.page_engine.specs.Within.{IsWithin, text_bytes};
 
 /// The edges that a page comes to: the one of its start, and from each such edge the one that lines leave. What the layers share stands once in it, and
@@ -39,8 +39,7 @@ pub fn line_by_line_law()
 {}
 
 /// Lines are as many source lines more; they take themselves and at most `REREAD` lines more for each, and make at most `EXPAND`
-/// interpolations for each line taken: not as a mean, but for each single one, since no more are made from one moment of a source line's run
-/// to another with the same count of lines taken.
+/// interpolations for each line taken: not as a mean, but for each single one, whatever it is. The page's end takes none.
 pub fn count_law()
     ensures source { (e : Edge) (lines : List Line)
         → (counts_at (edge e lines)).source ≡ (counts_at e).source + length lines }
@@ -49,9 +48,8 @@ pub fn count_law()
     ensures expansions { (e : Edge) (lines : List Line)
         → (counts_at (edge e lines)).expansions + EXPAND * (counts_at e).taken
         ≤ EXPAND * (counts_at (edge e lines)).taken + (counts_at e).expansions }
-    ensures each { (e : Edge) (line : Line) (m n : Moment)
-        → IsMomentOf (roff_at e) (raw line) m → IsNoLater (roff_at e) m n → taken_at n ≡ taken_at m
-        → expansions_at n ≤ expansions_at m + EXPAND }
+    ensures each { (e : Edge) → EachIsWithin (roff_at e) }
+    ensures end { (e : Edge) (lines : List Line) → counts_at (page e lines).edge ≡ counts_at (edge e lines) }
 {}
 
 /// The texts that are held between two lines, those of the open row aside, have at most 100,224 bytes: names and what they stand for 65,536, an open

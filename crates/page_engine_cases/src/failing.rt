@@ -1,5 +1,6 @@
 //! A page at once, and with each of its writes failing in turn.
 
+use crate::cuts::Cuts;
 use crate::endings::Ending;
 use crate::lines::FILE;
 use crate::pages::run_lines;
@@ -77,18 +78,6 @@ impl Whole {
         true
     }
 
-    /// Whether the page that goes on from what is held of it after each line gives the same.
-    pub(crate) fn stands_cuts(&self, alloc: Global, bytes: &[u8], settings: &Settings) -> bool {
-        let fails = (Fails::Never, Fails::Never);
-        let Some(mut streams) = Streams::new(alloc, 0, fails, Shows::Nothing) else {
-            return false;
-        };
-        match run_lines(alloc, bytes, settings, &mut streams, Some(alloc)) {
-            Some(ending) => self.is(&streams, ending.result),
-            None => false,
-        }
-    }
-
     // The same of one failure.
     fn stands(
         &self,
@@ -100,7 +89,7 @@ impl Whole {
         let Some(mut streams) = Streams::new(alloc, 0, fails, Shows::Nothing) else {
             return false;
         };
-        let ending = run_lines(alloc, bytes, settings, &mut streams, None);
+        let ending = run_lines(alloc, bytes, settings, &mut streams, Cuts::Never);
         match ending {
             Some(ending) => self.is_met(&streams, ending),
             None => false,

@@ -11,6 +11,9 @@ use std::alloc::Global;
 /// The bytes of a page at most.
 pub(crate) const BYTES: usize = 1_000_000;
 
+// The messages of cutting that there is memory for.
+const NOTES: usize = 16;
+
 /// The name of the file in messages.
 pub(crate) const FILE: &str = "x.1";
 
@@ -44,10 +47,9 @@ impl Lines {
         ensures consumed { IfSome result (λ lines. lines.cutter.point.line.consumed ≡ 0) }
     {
         let cutter = Cutter::new(alloc, encoding).ok()?;
-        Some(Lines {
-            cutter,
-            cuts: KeptNotes::new(alloc),
-        })
+        let mut cuts = KeptNotes::new(alloc);
+        cuts.notes = Vec::with_capacity(alloc, NOTES).ok()?;
+        Some(Lines { cutter, cuts })
     }
 
     /// Whether nothing is told of how the lines are cut.

@@ -1,10 +1,12 @@
 //! Shows what pages give whose lines come one by one: rows, messages, counts of lines and the worst level, and the fault of each further call.
 //! The standard input has the pages, each after a line `== WORDS: what it shows`, where the words are those of `words` or none.
 //!
-//! Each page is also run at once, with each write failing in turn, and by roff alone, which counts the same. Where it then gives something
-//! else, a line `-- not` says so. Where an allocation is refused, either there is no page, or it is the one after the page; and the same of roff.
+//! Each page is also run at once, with each write failing in turn, by roff alone, which counts the same, and, page and roff, so that they go on after
+//! each line from what is held of them. Where it then gives something else, a line `-- not` says so. Where an allocation is refused, either there is no
+//! page, or it is the one after the page; and the same of roff. A page with a cut, by its words, is run so alone: where memory lacks for that, it is told.
 #![tactic(auto)]
 
+mod cuts;
 mod endings;
 mod failing;
 mod lines;
@@ -14,6 +16,7 @@ mod stores;
 mod streams;
 mod words;
 
+use cuts::Cuts;
 use endings::Ending;
 use failing::Whole;
 use page_engine::Outcome;
@@ -41,11 +44,23 @@ fn main(rt: HostRuntime) -> io::Result<()> {
             words = Words::of(title);
             let _ = println!(rt; "{line}");
         } else {
-            page.extend_from_slice(line.as_bytes())?;
-            page.push(b'\n')?;
+            add_line(&mut page, line.as_str(), words.bytes)?;
         }
     }
     show(&rt, page.as_slice(), words);
+    Ok(())
+}
+
+// Adds a line to a page, where it is so, a byte for each of its characters.
+fn add_line(page: &mut Vec<u8>, line: &str, bytes: bool) -> io::Result<()> {
+    if bytes {
+        for char in line.chars() {
+            page.push(u8::try_from(char).unwrap_or(b'?'))?;
+        }
+    } else {
+        page.extend_from_slice(line.as_bytes())?;
+    }
+    page.push(b'\n')?;
     Ok(())
 }
 
@@ -64,13 +79,19 @@ fn show(rt: &HostRuntime, page: &[u8], words: Words) {
 
 // Shows what a page gives to streams, and how it ends.
 fn show_page(rt: &HostRuntime, page: &[u8], words: &Words, streams: &mut Streams) {
-    let Some(ending) = run_lines(rt.alloc(), page, &words.settings, streams, None) else {
+    let cuts = match words.cut {
+        Some(number) => Cuts::After(rt, number),
+        None => Cuts::Never,
+    };
+    let Some(ending) = run_lines(rt.alloc(), page, &words.settings, streams, cuts) else {
         return;
     };
     streams.show();
     let _ = show_ending(rt, ending);
     if words.are_well() {
-        show_roff(rt, page, words, ending);
+        show_roff(rt, page, words, ending, cuts);
+    }
+    if words.cut.is_none() {
         show_differences(rt, page, words, streams, ending);
     }
 }
@@ -102,8 +123,8 @@ fn show_outcome(rt: &HostRuntime, outcome: Outcome) -> io::Result<()> {
 }
 
 // Shows where roff alone counts something else of the page, or lacks memory.
-fn show_roff(rt: &HostRuntime, page: &[u8], words: &Words, ending: Ending) {
-    let roff = run_roff(rt.alloc(), page, &words.settings, ROOM);
+fn show_roff(rt: &HostRuntime, page: &[u8], words: &Words, ending: Ending, cuts: Cuts<'_>) {
+    let roff = run_roff(rt.alloc(), page, &words.settings, ROOM, cuts);
     let _ = match roff {
         Some(roff) => compare_roff(rt, roff, ending),
         None => println!(rt; "-- not by roff alone"),
@@ -126,7 +147,7 @@ fn compare_roff(rt: &HostRuntime, roff: Ending, ending: Ending) -> io::Result<()
     Ok(())
 }
 
-// Shows where the page gives something else at once, or does not stand a write that fails.
+// Shows where the page, or roff alone, gives something else in other runs.
 fn show_differences(
     rt: &HostRuntime,
     page: &[u8],
@@ -134,15 +155,34 @@ fn show_differences(
     streams: &Streams,
     ending: Ending,
 ) {
-    if !ending.is_plain {
-        return;
+    show_cuts(rt, page, words, streams, ending);
+    if words.are_well() {
+        show_roff(rt, page, words, ending, Cuts::Always);
+        if ending.is_plain {
+            show_whole(rt, page, words, streams, ending);
+        }
     }
+}
+
+// Shows where the page gives something else, or ends otherwise, that goes on after each line from what is held of it.
+fn show_cuts(rt: &HostRuntime, page: &[u8], words: &Words, streams: &Streams, ending: Ending) {
+    let fails = (words.rows, words.messages);
+    let Some(mut cut) = Streams::new(rt.alloc(), 0, fails, Shows::Nothing) else {
+        return;
+    };
+    let by_cuts = run_lines(rt.alloc(), page, &words.settings, &mut cut, Cuts::Always);
+    let is_same = by_cuts.is_some_and(|other| other.result == ending.result
+        && other.later == ending.later);
+    if !is_same || !cut.are(streams) {
+        let _ = println!(rt; "-- not where it is cut");
+    }
+}
+
+// Shows where the page gives something else at once, or does not stand a write that fails.
+fn show_whole(rt: &HostRuntime, page: &[u8], words: &Words, streams: &Streams, ending: Ending) {
     if let Some(whole) = Whole::new(rt.alloc(), page, &words.settings) {
         if !whole.is(streams, ending.result) {
             let _ = println!(rt; "-- not at once");
-        }
-        if !whole.stands_cuts(rt.alloc(), page, &words.settings) {
-            let _ = println!(rt; "-- not where it is cut");
         }
         if !whole.stands_failures(rt.alloc(), page, &words.settings) {
             let _ = println!(rt; "-- not where a write fails");

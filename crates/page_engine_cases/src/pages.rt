@@ -2,31 +2,20 @@
 
 ghost use Rattle.page_core_base.specs.Texts.{IsLine};
 
+use crate::cuts::{CutFeed, Cuts, PutDown};
 use crate::endings::{Ending, run};
 use crate::lines::{BYTES, FILE, Feed, Lines};
 use crate::streams::Streams;
 use page_core::{Fault, Settings, TextNotes, TextRows};
-use page_engine::{Outcome, Page};
+use page_engine::{Edge, Outcome, Page};
 use std::alloc::Global;
 
-// A page, and where its rows and messages go; and whether it goes on after each line from what was held of it.
+// A page, and where its rows and messages go.
 #[derive(Drop)]
 struct PageFeed<'a, 'b> {
     page: Page,
     streams: &'a mut Streams<'b>,
-    cuts: Option<Global>,
-}
-
-// The page goes on from what is held of it.
-fn cut(alloc: Global, page: &mut Page) -> Result<(), Fault> {
-    let edge = page.edge(alloc)?;
-    match Page::resume(alloc, edge) {
-        Ok(next) => {
-            *page = next;
-            Ok(())
-        }
-        Err((_, fault)) => Err(fault),
-    }
+    alloc: Global,
 }
 
 // A page before its first line. No caller here has to know its state, so that this says nothing of it: their proofs stay short.
@@ -50,13 +39,30 @@ fn give_end(page: &mut Page, streams: &mut Streams) -> Result<(), Fault> {
     page.end(&mut rows, &mut notes)
 }
 
-// The fault of a further line and of a further end, where both have the same and nothing is written.
-fn fault_after(page: &mut Page, streams: &mut Streams) -> Option<Fault> {
+// What is held of a page.
+fn edge_of(alloc: Global, page: &Page) -> Result<Edge, Fault> {
+    page.edge(alloc)
+}
+
+// The page goes on from an edge, or is as it was and hands this back.
+fn resume(alloc: Global, page: &mut Page, edge: Edge) -> Result<(), (Edge, Fault)> {
+    match Page::resume(alloc, edge) {
+        Ok(next) => {
+            *page = next;
+            Ok(())
+        }
+        Err(refused) => Err(refused),
+    }
+}
+
+// The fault of a further line, of a further end and of an edge, where all have the same and nothing is written.
+fn fault_after(alloc: Global, page: &mut Page, streams: &mut Streams) -> Option<Fault> {
     let calls = streams.calls();
     let of_line = give_line(page, streams, b".ZZ", 1).err()?;
     let of_end = give_end(page, streams).err()?;
-    if of_line == of_end && calls == streams.calls() {
-        Some(of_end)
+    let of_edge = edge_of(alloc, page).err()?;
+    if of_line == of_end && of_end == of_edge && calls == streams.calls() {
+        Some(of_edge)
     } else {
         None
     }
@@ -65,9 +71,6 @@ fn fault_after(page: &mut Page, streams: &mut Streams) -> Option<Fault> {
 impl Feed for PageFeed<'_, '_> {
     fn line(&mut self, text: &[u8], number: u32) -> Result<(), Fault> {
         give_line(&mut self.page, self.streams, text, number)?;
-        if let Some(alloc) = self.cuts {
-            cut(alloc, &mut self.page)?;
-        }
         self.streams.show_line(number);
         Ok(())
     }
@@ -84,7 +87,19 @@ impl Feed for PageFeed<'_, '_> {
     }
 
     fn later(&mut self) -> Option<Fault> {
-        fault_after(&mut self.page, self.streams)
+        fault_after(self.alloc, &mut self.page, self.streams)
+    }
+}
+
+impl PutDown for PageFeed<'_, '_> {
+    type Held = Edge;
+
+    fn put_down(&self, alloc: Global) -> Result<Edge, Fault> {
+        edge_of(alloc, &self.page)
+    }
+
+    fn go_on(&mut self, alloc: Global, held: Edge) -> Result<(), (Edge, Fault)> {
+        resume(alloc, &mut self.page, held)
     }
 }
 
@@ -94,14 +109,21 @@ pub(crate) fn run_lines(
     bytes: &[u8],
     settings: &Settings,
     streams: &mut Streams,
-    cuts: Option<Global>,
+    cuts: Cuts<'_>,
 ) -> Option<Ending> {
     if bytes.len() > BYTES {
         return None;
     }
     let lines = Lines::new(alloc, settings.encoding)?;
     let ending = match new_page(alloc, settings) {
-        Ok(page) => run(alloc, bytes, lines, PageFeed { page, streams, cuts }),
+        Ok(page) => {
+            let feed = PageFeed {
+                page,
+                streams,
+                alloc,
+            };
+            run(alloc, bytes, lines, CutFeed { feed, alloc, cuts })
+        }
         Err(fault) => Ending::without_lines(fault),
     };
     Some(ending)

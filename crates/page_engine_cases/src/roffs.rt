@@ -2,12 +2,13 @@
 
 ghost use Rattle.page_core_base.specs.Texts.{IsLine};
 
+use crate::cuts::{CutFeed, Cuts, PutDown};
 use crate::endings::{Ending, run};
 use crate::lines::{BYTES, FILE, Feed, Lines};
 use crate::stores::{Fails, Store};
 use page_core::{Fault, Settings, TextNotes};
 use page_engine::Outcome;
-use page_roff::Roff;
+use page_roff::{Roff, RoffPart};
 use std::alloc::Global;
 
 /// What a source line may give at most: its finished lines, and that there are no more.
@@ -21,6 +22,7 @@ const LINES: u64 = 1_000_000;
 struct RoffFeed {
     messages: Store,
     roff: Roff,
+    settings: Settings,
 }
 
 // Roff before the first line. No caller here has to know its state, so that this says nothing of it: their proofs stay short.
@@ -58,6 +60,31 @@ fn take_lines(roff: &mut Roff, messages: &mut Store) -> Result<(), Fault> {
     Err(Fault::TooLong)
 }
 
+// Roff's part of what is held of the page, where it is between two lines.
+fn part_of(alloc: Global, roff: &Roff) -> Result<RoffPart, Fault> {
+    if roff.idle() {
+        roff.part(alloc)
+    } else {
+        Err(Fault::TooLong)
+    }
+}
+
+// Roff goes on from a part, or is as it was and hands this back.
+fn resume(
+    alloc: Global,
+    settings: &Settings,
+    roff: &mut Roff,
+    part: RoffPart,
+) -> Result<(), (RoffPart, Fault)> {
+    match Roff::from_part(alloc, settings, part) {
+        Ok(next) => {
+            *roff = next;
+            Ok(())
+        }
+        Err(refused) => Err(refused),
+    }
+}
+
 impl Feed for RoffFeed {
     fn line(&mut self, text: &[u8], number: u32) -> Result<(), Fault> {
         if !begin_line(&mut self.roff, text, number) {
@@ -88,6 +115,18 @@ impl Feed for RoffFeed {
     }
 }
 
+impl PutDown for RoffFeed {
+    type Held = RoffPart;
+
+    fn put_down(&self, alloc: Global) -> Result<RoffPart, Fault> {
+        part_of(alloc, &self.roff)
+    }
+
+    fn go_on(&mut self, alloc: Global, held: RoffPart) -> Result<(), (RoffPart, Fault)> {
+        resume(alloc, &self.settings, &mut self.roff, held)
+    }
+}
+
 /// Runs roff alone over the lines of a page, and keeps its messages in memory for a count of bytes. What is not roff's has its memory before
 /// roff is made. Nothing, where that memory is refused.
 pub(crate) fn run_roff(
@@ -95,6 +134,7 @@ pub(crate) fn run_roff(
     bytes: &[u8],
     settings: &Settings,
     room: usize,
+    cuts: Cuts<'_>,
 ) -> Option<Ending> {
     if bytes.len() > BYTES {
         return None;
@@ -102,7 +142,14 @@ pub(crate) fn run_roff(
     let messages = Store::new(alloc, room, Fails::Never).ok()?;
     let lines = Lines::new(alloc, settings.encoding)?;
     let ending = match new_roff(alloc, settings) {
-        Ok(roff) => run(alloc, bytes, lines, RoffFeed { messages, roff }),
+        Ok(roff) => {
+            let feed = RoffFeed {
+                messages,
+                roff,
+                settings: *settings,
+            };
+            run(alloc, bytes, lines, CutFeed { feed, alloc, cuts })
+        }
         Err(fault) => Ending::without_lines(fault),
     };
     Some(ending)

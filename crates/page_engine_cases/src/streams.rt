@@ -42,6 +42,11 @@ impl<'a> Streams<'a> {
         })
     }
 
+    /// Whether others got the same.
+    pub(crate) fn are(&self, others: &Streams) -> bool {
+        self.rows.kept == others.rows.kept && self.messages.kept == others.messages.kept
+    }
+
     /// Shows what a line gave.
     pub(crate) fn show_line(&mut self, number: u32) {
         if let Shows::Lines(rt) = self.shows {

@@ -11,6 +11,19 @@ pub(crate) struct Words {
     pub(crate) messages: Fails,
     /// Whether each line is shown before what it gives.
     pub(crate) each: bool,
+    /// The line after which the page goes on from what is held of it, if there is one.
+    pub(crate) cut: Option<u32>,
+    /// Whether each character of the page, up to U+00FF, is the byte of its number.
+    pub(crate) bytes: bool,
+}
+
+// The level of this name in messages, if there is one.
+fn level_of(name: &str) -> Option<Level> {
+    match name {
+        "WARNING" => Some(Level::Warning),
+        "ERROR" => Some(Level::Error),
+        _ => None,
+    }
 }
 
 impl Words {
@@ -24,11 +37,14 @@ impl Words {
             rows: Fails::Never,
             messages: Fails::Never,
             each: false,
+            cut: None,
+            bytes: false,
         }
     }
 
-    /// Those of a title `WORDS: what it shows`: `utf8`, `width=N`, `indent=N`, `rows=N` and `messages=N`, after how many bytes the writer of the rows or
-    /// of the messages fails, and `each`.
+    /// Those of a title `WORDS: what it shows`: `utf8`, `width=N`, `indent=N`, `level=LEVEL`, the least level of messages, `rows=N` and
+    /// `messages=N`, after how many bytes the writer of the rows or of the messages fails, `each`, `cut=N`, the line after which the page goes on
+    /// from what is held of it, and `bytes`, a character for each byte of the page.
     pub(crate) fn of(title: &str) -> Words {
         let mut words = Words::new();
         let (all, _) = title.split_once(": ").unwrap_or(("", title));
@@ -42,11 +58,14 @@ impl Words {
         match word.split_once('=') {
             Some(("width", digits)) => self.settings.width = digits.parse().unwrap_or(0),
             Some(("indent", digits)) => self.settings.indent = digits.parse().ok(),
+            Some(("level", name)) => self.settings.least = level_of(name),
+            Some(("cut", digits)) => self.cut = digits.parse().ok(),
             Some(("rows", digits)) => self.rows = Fails::Past(digits.parse().unwrap_or(0)),
             Some(("messages", digits)) => self.messages = Fails::Past(digits.parse().unwrap_or(0)),
             _ => match word {
                 "utf8" => self.settings.output = Output::Utf8,
                 "each" => self.each = true,
+                "bytes" => self.bytes = true,
                 _ => {}
             },
         }

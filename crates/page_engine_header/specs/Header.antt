@@ -1,5 +1,5 @@
 -- The header and the footer of a page. Source: man(7), TH; mandoc(1), "ASCII Output" and "DIAGNOSTICS".
-use Rattle.std.specs.Prelude.{ℕ, ◌+◌, ◌-◌, ◌/◌, ◌≤◌, ◌==◌, ◌&&◌, not, max, Bool, true, false, List, [], ◌∷◌, ◌++◌, length, take, replicate, codes, if◌then◌else◌}
+use Rattle.std.specs.Prelude.{ℕ, zero, suc, ◌+◌, ◌-◌, ◌/◌, ◌≤◌, ◌==◌, ◌&&◌, not, max, Bool, true, false, List, [], ◌∷◌, ◌++◌, length, replicate, codes, if◌then◌else◌}
 use Rattle.page_core_limits.specs.declared.TheConstants.{CELLS}
 use Rattle.page_core_base.specs.Pieces.{Item, shown}
 use Rattle.page_core_base.specs.declared.cells.Font.TheVariants.{R}
@@ -68,11 +68,18 @@ row_characters m place first second third =
     ++ (blanks place (third_column m first second third - (second_column m first second + part_columns m second))
     ++ part_items m place third)))
 
--- a row that is kept as it is, from the left edge of the page on. It is one row: it ends where a row holds no more, without a message
+-- characters where a row has room for so many more: one that is full ends before the next character, which begins another row
+unfoldable pub in_rows : ℕ → List Item → List Item
+in_rows room [] = []
+in_rows zero (item ∷ items) = shown Break ∷ item ∷ in_rows (CELLS - 1) items
+in_rows (suc room) (item ∷ items) = item ∷ in_rows room items
+
+-- a row that is kept as it is, from the left edge of the page on. One that has more characters than a row holds goes on in the next rows,
+-- from that edge on
 unfoldable pub row_items : Measure → Place → (first second third : List TextToken) → List Item
 row_items m place first second third =
     shown (Literal true) ∷ shown (Indent 0 0)
-    ∷ (take CELLS (row_characters m place first second third) ++ (shown Break ∷ shown (Literal false) ∷ []))
+    ∷ (in_rows CELLS (row_characters m place first second third) ++ (shown Break ∷ shown (Literal false) ∷ []))
 
 abbrev pub header_row : Measure → Place → Fields → List Item
 header_row m place f =

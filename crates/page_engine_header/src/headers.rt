@@ -1,16 +1,15 @@
 //! The header and the footer of a page (man(7), `TH`; mdoc(7), `Dd`, `Dt`, `Os`; mandoc(1), "ASCII Output").
 
-ghost use Rattle.std.specs.Prelude.{◌≡◌, ◌≤◌, ◌<◌, ◌-◌, ◌^◌, take};
+ghost use Rattle.std.specs.Prelude.{◌≡◌, ◌≤◌, ◌<◌, ◌-◌, ◌^◌};
 ghost use Rattle.page_core_limits.specs.declared.TheConstants.{CELLS};
 ghost use Rattle.page_core_base.specs.Latches.{Came};
-ghost use Rattle.page_engine_header.specs.Header.{second_start, third_start, part_tokens, IsShort, row_characters, row_items, if_empty, missing_items, header_items, header_row, footer_row};
+ghost use Rattle.page_engine_header.specs.Header.{second_start, third_start, part_tokens, IsShort, in_rows, row_characters, row_items, if_empty, missing_items, header_items, header_row, footer_row};
 
 use crate::fields::volume_of;
+use crate::full_rows::FullRows;
 use crate::printing::give_blanks;
-use crate::row_fronts::RowFront;
 use crate::{Fields, Part};
 use page_core_base::{Font, NoteKind, Output, Piece, PieceOut, Place};
-use page_core_limits::CELLS;
 use page_scopes_words::report;
 
 /// The measure of a page's rows.
@@ -73,8 +72,8 @@ fn give_characters<O: PieceOut>(
     third.give(out, output, place);
 }
 
-// Gives the characters of a row of three parts, as many as a row holds.
-fn give_front<O: PieceOut>(
+// Gives the characters of a row of three parts: where a row is full, they go on in the next one.
+fn give_rows<O: PieceOut>(
     out: &mut O,
     measure: Measure,
     place: Place,
@@ -86,14 +85,14 @@ fn give_front<O: PieceOut>(
     requires second { IsShort second }
     requires third { IsShort third }
     ensures { Came O.left out.old
-        (take CELLS (row_characters measure place (part_tokens first.entry) (part_tokens second.entry)
+        (in_rows CELLS (row_characters measure place (part_tokens first.entry) (part_tokens second.entry)
         (part_tokens third.entry))) out.new }
 {
-    let mut front = RowFront::new(out, CELLS);
-    give_characters(&mut front, measure, place, first, second, third);
+    let mut rows = FullRows::new(out);
+    give_characters(&mut rows, measure, place, first, second, third);
 }
 
-// Gives a row of three parts, which is kept as it is.
+// Gives a row of three parts, which is kept as it is; one that is too long goes on in the next rows.
 #[tactic(auto, unfolding(crate::specs::Header::row_items))]
 fn give_row<O: PieceOut>(
     out: &mut O,
@@ -112,7 +111,7 @@ fn give_row<O: PieceOut>(
 {
     out.give(Piece::Literal(true));
     out.give(Piece::Indent { first: 0, rest: 0 });
-    give_front(out, measure, place, first, second, third);
+    give_rows(out, measure, place, first, second, third);
     out.give(Piece::Break);
     out.give(Piece::Literal(false));
 }

@@ -11,10 +11,10 @@
 
 mod field_texts;
 mod fields;
+mod full_rows;
 mod headers;
 mod parts;
 mod printing;
-mod row_fronts;
 
 pub use field_texts::Field;
 pub use fields::{Fields, report_cut_fields};

@@ -8,7 +8,7 @@ use Rattle.page_roff_blocks.specs.declared.atoms.Opening.{Opening}
 use Rattle.page_roff_blocks.specs.declared.atoms.Opening.TheVariants as openings
 use Rattle.page_roff_blocks.specs.declared.regions.RegionHead.{RegionHead}
 use Rattle.page_roff_blocks.specs.Atoms.{atoms}
-use Rattle.page_roff_blocks.specs.Regions.{is_ending}
+use Rattle.page_roff_blocks.specs.Regions.{end_name, is_ending}
 use Rattle.page_roff_blocks.specs.Forest.{Forest, empty, line, leaf, guard, block, loop, region, Source, ends, shuts, opens, holds, Inside, unended, ended, before, enclose, enregion, keep, line_of, region_line, source_of, inside_of}
 use Rattle.page_roff_blocks.specs.Levels.{Levels, enter, open_loop, skip, leave, leave_from, leave_loop, leave_level, what_ends, ends_from, loop_ends, level_ends, Spot, at_line, after_part, guarded_by, reached, reached_in, reached_from, Opened, opened}
 use Rattle.page_roff_blocks.specs.declared.levels.Way.{Way}
@@ -223,8 +223,8 @@ module _ {X S : Type 0} (m : Meaning X S) (text : X → List ℕ) where
       empty_first l w (λ q. let z = leave_block m q.0 q.1 in run_source m (line_of rest src inside) z.0 z.1)
       ∙ parts_step rest src inside steady q.0 q.1
   parts_step (Region r ∷ rest) src inside steady l w =
-      region_step r l w (inside r.ending)
-      ∙ ap (λ q. run_inside m (opened r q.0) (inside r.ending) l (m.opens_region r q.0 q.1)) (met_same l.bit l.outer l.in_loop l.skipped w)
+      region_step r l w (inside (end_name r))
+      ∙ ap (λ q. run_inside m (opened r q.0) (inside (end_name r)) l (m.opens_region r q.0 q.1)) (met_same l.bit l.outer l.in_loop l.skipped w)
 
   region_line_step : (is_end : Bool) (t : X) (o : Opened) (l : Levels) (s : S) (src : Source X) (after : Inside X) (inside : List ℕ → Inside X) → inside o.ending ≡ after
       → run_inside m o (region_line is_end t src after) l s ≡ from src inside (step_inside m is_end o t l s)

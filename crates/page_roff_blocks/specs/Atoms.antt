@@ -14,7 +14,7 @@ use Rattle.page_roff_blocks.specs.declared.atoms.Opening.TheVariants as openings
 use Rattle.page_roff_blocks.specs.declared.parts.Part.{Part}
 use Rattle.page_roff_blocks.specs.Loops.{first_text}
 use Rattle.page_roff_blocks.specs.Parts.{written_part}
-use Rattle.page_roff_blocks.specs.Regions.{region_seen, text_seen, FitsRegion}
+use Rattle.page_roff_blocks.specs.Regions.{region_seen, text_seen}
 
 -- of what follows the block of a loop on its line, only what belongs to the loop
 abbrev pub loop_body : Option (List ℕ) → Option (List ℕ)
@@ -114,7 +114,7 @@ FitsAtom (Guard head) = FitsBranch head.branch
 FitsAtom (Block opening) = FitsOpening opening
 FitsAtom (Loop head) = FitsLoopHead head
 FitsAtom End = Unit {0}
-FitsAtom (Region head) = FitsRegion head
+FitsAtom (Region head) = Unit {0}
 
 abbrev pub FitsPart : Part (List ℕ) → Type 0
 FitsPart part = FitsAtom part.atom × FitsRest part.rest

@@ -9,7 +9,7 @@ use Rattle.page_roff_blocks.specs.declared.atoms.Head.{Head}
 use Rattle.page_roff_blocks.specs.declared.atoms.Opening.{Opening}
 use Rattle.page_roff_blocks.specs.declared.regions.RegionHead.{RegionHead}
 use Rattle.page_roff_blocks.specs.Atoms.{atoms}
-use Rattle.page_roff_blocks.specs.Regions.{is_ending}
+use Rattle.page_roff_blocks.specs.Regions.{end_name, is_ending}
 
 -- siblings, each with those that follow it
 pub data Forest (X : Type 0) : Type 0 where
@@ -72,7 +72,7 @@ line_of (Guard h ∷ rest) after inside = before (guard h) (line_of rest after i
 line_of (Block h ∷ rest) after inside = enclose h (line_of rest after inside)
 line_of (Loop h ∷ rest) after inside = before (loop h) (line_of rest after inside)
 line_of (End ∷ rest) after inside = shuts empty (line_of rest after inside)
-line_of (Region r ∷ rest) after inside = enregion r (inside r.ending)
+line_of (Region r ∷ rest) after inside = enregion r (inside (end_name r))
 
 unfoldable pub region_line : {X : Type 0} → Bool → X → Source X → Inside X → Inside X
 region_line true l after inside = ended [] l after

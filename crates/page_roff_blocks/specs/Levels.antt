@@ -8,6 +8,7 @@ use Rattle.page_roff_blocks.specs.declared.regions.RegionHead.{RegionHead}
 use Rattle.page_roff_requests.specs.declared.regions.RegionKind.{RegionKind}
 use Rattle.page_roff_blocks.specs.declared.spots.Reached.{Reached}
 use Rattle.page_roff_blocks.specs.declared.spots.Reached.TheVariants.{PassedOver, First, Remainder}
+use Rattle.page_roff_blocks.specs.Regions.{macro_name, end_name}
 use Rattle.page_roff_blocks.specs.declared.levels.Ended.{Ended}
 use Rattle.page_roff_blocks.specs.declared.levels.Ended.TheVariants as endings
 use Rattle.page_roff_blocks.specs.declared.levels.Way.{Way}
@@ -142,7 +143,8 @@ within_limit None = None
 within_limit (Some name) = if nat_le (length name) NAME then Some name else None
 
 unfoldable pub opened : RegionHead (List ℕ) → Bool → Opened
-opened head is_run = record { kind = head.kind; name = within_limit head.name; ending = head.ending; is_run = is_run }
+opened head is_run =
+    record { kind = head.kind; name = within_limit (macro_name head); ending = end_name head; is_run = is_run }
 
 -- the open region that is lent, if there is one
 abbrev pub opened_seen : Option (Bor Opened) → Option Opened

@@ -1,14 +1,16 @@
 //! A region that is open (roff(7), "de", "am", "ig").
 
-ghost use Rattle.std.specs.Prelude.{◌≡◌, ◌≤◌, length};
+ghost use Rattle.std.specs.Prelude.{◌≡◌, ◌≤◌, length, option_map};
 ghost use Rattle.page_core_limits.specs.declared.TheConstants.{LINE, NAME};
 ghost use Rattle.page_roff_blocks.specs.Caps.{RegionFits};
 ghost use Rattle.page_roff_blocks.specs.Levels.{name_if, within_limit, opened};
-ghost use Rattle.page_roff_blocks.specs.Regions.{is_ending, text_seen, region_seen, FitsRegion};
+ghost use Rattle.page_roff_blocks.specs.Regions.{is_ending, text_seen, region_seen};
+ghost use Rattle.page_roff_forms.specs.Arguments.{argument_seen, argument_name};
 
-use crate::regions::{RegionHead, is_ending};
+use crate::regions::{RegionHead, copy_of, is_ending};
 use arrayvec::ArrayVec;
 use page_core_limits::{LINE, NAME};
+use page_roff_forms::Argument;
 use page_roff_requests::RegionKind;
 use std::marker::Model;
 
@@ -37,26 +39,27 @@ impl Model for OpenRegion {
     } };
 }
 
-// A name of its own.
-fn copy_of(name: &[u8]) -> ArrayVec<u8, NAME>
-    requires { length name.now ≤ NAME }
-    ensures { result.items ≡ name.now }
+// A name within the limit of names, and whether it is.
+#[tactic(auto, unfolding(crate::specs::Levels::within_limit))]
+fn short_name(name: &[u8]) -> (ArrayVec<u8, NAME>, bool)
+    ensures { name_if result.1 result.0.items ≡ within_limit (Some name.now) }
 {
-    let mut copy = ArrayVec::new();
-    let _ = copy.try_extend_from_slice(name);
-    copy
+    if name.len() <= NAME {
+        (copy_of(name), true)
+    } else {
+        (ArrayVec::new(), false)
+    }
 }
 
-// The name that a region defines: the bytes of it that are kept, and whether there is one within the limit
-// of names.
+// The name that a region defines, and whether there is one within the limit of names.
 #[tactic(auto, unfolding(crate::specs::Levels::within_limit))]
-fn usable_name(name: Option<&[u8]>) -> (&[u8], bool)
-    ensures value { name_if result.1 result.0.now ≡ within_limit (text_seen name.entry) }
-    ensures short { length result.0.now ≤ NAME }
+fn usable_name(name: Option<Argument<&[u8]>>) -> (ArrayVec<u8, NAME>, bool)
+    ensures { name_if result.1 result.0.items
+        ≡ within_limit (option_map argument_name (option_map argument_seen name.entry)) }
 {
     match name {
-        Some(text) if text.len() <= NAME => (text, true),
-        _ => (b"", false),
+        Some(argument) => short_name(argument.name().as_slice()),
+        None => (ArrayVec::new(), false),
     }
 }
 
@@ -64,15 +67,14 @@ impl OpenRegion {
     /// The region of a head, which may be run or not.
     #[tactic(auto, unfolding(crate::specs::Levels::opened))]
     pub fn new(head: &RegionHead<&[u8]>, is_run: bool) -> OpenRegion
-        requires { FitsRegion (region_seen head.now) }
         ensures { result ≡ opened (region_seen head.now) is_run }
     {
         let (name, has_name) = usable_name(head.name);
         OpenRegion {
             kind: head.kind,
             has_name,
-            name: copy_of(name),
-            ending: copy_of(head.ending),
+            name,
+            ending: head.end_name(),
             is_run,
         }
     }

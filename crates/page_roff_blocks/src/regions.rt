@@ -1,12 +1,13 @@
 //! Regions: definitions of macros, ignored lines, tables, equations and pictures (roff(7), "de", "am", "ig").
 
-ghost use Rattle.std.specs.Prelude.{◌≡◌, ◌≤◌, ◌+◌, length};
+ghost use Rattle.std.specs.Prelude.{◌≡◌, ◌≤◌, ◌+◌, length, option_map};
 ghost use Rattle.page_core_limits.specs.declared.TheConstants.{LINE, NAME};
-ghost use Rattle.page_roff_forms.specs.Arguments.{arguments};
-ghost use Rattle.page_roff_blocks.specs.Regions.{first_name, ending_of, is_too_long, region_head, is_ending, text_seen, region_seen, FitsRegion, NameOfNext};
+ghost use Rattle.page_roff_forms.specs.Arguments.{argument_seen, argument_name, arguments};
+ghost use Rattle.page_roff_blocks.specs.Regions.{first_named, ending_of, asked_ending, end_name, has_long_name, is_too_long, region_head, is_ending, text_seen, region_seen, NameOfNext};
 
+use arrayvec::ArrayVec;
 use page_core_limits::{LINE, NAME};
-use page_roff_forms::{Arguments, LineForm, form_of};
+use page_roff_forms::{Argument, Arguments, LineForm, form_of};
 use page_roff_requests::RegionKind;
 use std::alloc::AllocError;
 
@@ -17,11 +18,9 @@ pub struct RegionHead<W> {
     /// The column of its own name.
     pub column: u32,
     /// The macro that it defines, where it names one.
-    pub name: Option<W>,
-    /// The name of the control line that ends it: at most [`NAME`] bytes.
-    pub ending: W,
-    /// Whether it asks for a longer end name, in whose place is a full stop.
-    pub has_long_ending: bool,
+    pub name: Option<Argument<W>>,
+    /// The name of the control line that ends it, where it names one.
+    pub ending: Option<Argument<W>>,
 }
 
 impl<W: Copy> Copy for RegionHead<W> {}
@@ -36,34 +35,66 @@ impl<W: Copy> Clone for RegionHead<W> {
     }
 }
 
-// The name that the next argument is, if there is one more; an empty one is none.
-fn next_name<'a>(arguments: &mut Arguments<'a>) -> Option<&'a [u8]>
-    ensures { NameOfNext arguments.old (text_seen result) arguments.new }
+// The next argument, if there is one more that has bytes: an empty name is none.
+fn next_named<'a>(arguments: &mut Arguments<'a>) -> Option<Argument<&'a [u8]>>
+    ensures { NameOfNext arguments.old (option_map argument_seen result) arguments.new }
 {
     match arguments.next_argument() {
-        Some(argument) if !argument.text.is_empty() => Some(argument.text),
+        Some(argument) if !argument.text.is_empty() => Some(argument),
         _ => None,
     }
 }
 
-// Whether an end name is longer than a name may be.
-fn is_too_long(ending: Option<&[u8]>) -> bool
-    ensures { result ≡ is_too_long (text_seen ending.entry) }
+/// A name of its own.
+pub(crate) fn copy_of(name: &[u8]) -> ArrayVec<u8, NAME>
+    requires { length name.now ≤ NAME }
+    ensures { result.items ≡ name.now }
 {
-    match ending {
-        Some(name) => name.len() > NAME,
+    let mut copy = ArrayVec::new();
+    let _ = copy.try_extend_from_slice(name);
+    copy
+}
+
+// The end name of a region that asks for this one.
+fn ending_of(asked: &[u8]) -> ArrayVec<u8, NAME>
+    ensures { result.items ≡ ending_of (Some asked.now) }
+{
+    if asked.len() <= NAME {
+        copy_of(asked)
+    } else {
+        copy_of(b".")
+    }
+}
+
+// Whether a name is longer than names may be.
+fn is_too_long(name: Option<Argument<&[u8]>>) -> bool
+    ensures { result ≡ is_too_long (option_map argument_name (option_map argument_seen name.entry)) }
+{
+    match name {
+        Some(argument) => argument.name().len() > NAME,
         None => false,
     }
 }
 
-// The end name of a region that asks for this one.
-fn ending_of(asked: Option<&[u8]>) -> &[u8]
-    ensures value { result.now ≡ ending_of (text_seen asked.entry) }
-    ensures short { length result.now ≤ NAME }
-{
-    match asked {
-        Some(name) if name.len() <= NAME => name,
-        _ => b".",
+impl<'a> RegionHead<&'a [u8]> {
+    /// The name of the control line that ends it: at most [`NAME`] bytes.
+    pub fn end_name(&self) -> ArrayVec<u8, NAME>
+        ensures { result.items ≡ end_name (region_seen self.now) }
+    {
+        if let Some(name) = self.kind.fixed_ending() {
+            return ending_of(name);
+        }
+        match self.ending {
+            Some(argument) => ending_of(argument.name().as_slice()),
+            None => ending_of(b"."),
+        }
+    }
+
+    /// Whether its name or its end name is longer than names may be.
+    pub fn has_long_name(&self) -> bool
+        ensures { result ≡ has_long_name (region_seen self.now) }
+    {
+        is_too_long(self.name) || is_too_long(self.ending)
     }
 }
 
@@ -78,26 +109,21 @@ pub(crate) fn region_head(
 ) -> RegionHead<&[u8]>
     requires short { length rest.now ≤ LINE }
     requires room { rest_column + length rest.now ≤ LINE + 1 }
-    ensures value { region_seen result ≡ region_head kind column rest_column rest.now }
-    ensures fits { FitsRegion (region_seen result) }
+    ensures { region_seen result ≡ region_head kind column rest_column rest.now }
 {
     let mut arguments = Arguments::new(rest, rest_column);
-    let first = next_name(&mut arguments);
-    let second = next_name(&mut arguments);
-    let (name, asked): (Option<&[u8]>, Option<&[u8]>) = match kind {
+    let first = next_named(&mut arguments);
+    let second = next_named(&mut arguments);
+    let (name, ending) = match kind {
         RegionKind::Define | RegionKind::Append => (first, second),
         RegionKind::Ignore => (None, first),
-        RegionKind::Table | RegionKind::Equation | RegionKind::Picture => (
-            None,
-            kind.fixed_ending(),
-        ),
+        RegionKind::Table | RegionKind::Equation | RegionKind::Picture => (None, None),
     };
     RegionHead {
         kind,
         column,
         name,
-        ending: ending_of(asked),
-        has_long_ending: is_too_long(asked),
+        ending,
     }
 }
 

@@ -35,13 +35,24 @@ fn show_opening(shown: &mut Shown, opening: Opening<&[u8]>) {
     show(shown, b"{");
 }
 
+// Whether a longer end name was asked for than names may be.
+fn has_long_ending(head: RegionHead<&[u8]>) -> bool {
+    match head.ending {
+        Some(ending) => ending.name().len() > 64,
+        None => false,
+    }
+}
+
 // A region's name, the macro that it defines, and its end name, after `!` where a longer one was asked for.
 fn show_region(shown: &mut Shown, head: RegionHead<&[u8]>) {
     show(shown, head.kind.name());
     show(shown, b"(");
-    show(shown, head.name.unwrap_or(b"none"));
-    show(shown, if head.has_long_ending { b")!" } else { b")" });
-    show(shown, head.ending);
+    match head.name {
+        Some(name) => show(shown, name.name().as_slice()),
+        None => show(shown, b"none"),
+    }
+    show(shown, if has_long_ending(head) { b")!" } else { b")" });
+    show(shown, head.end_name().as_slice());
 }
 
 fn show_atom(shown: &mut Shown, atom: Atom<&[u8]>) {

@@ -135,9 +135,10 @@ impl Source {
             Atom::End => self.end(),
             Atom::Region(head) => {
                 let is_run = self.meets();
-                assert!(rt; head.ending.len() <= 64);
                 self.give(if is_run { b"[" } else { b"{" });
-                self.give(head.name.unwrap_or(b""));
+                if let Some(name) = head.name {
+                    self.give(name.name().as_slice());
+                }
                 self.region = Some(OpenRegion::new(&head, is_run));
             }
         }

@@ -3,9 +3,9 @@ use Rattle.std.proofs.Common.{◌≡◌, ℕ, suc, ◌+◌, ◌<◌, ◌≤◌, 
 use Rattle.std.proofs.lemmas.Bool.{eqb-true}
 use Rattle.std.proofs.lemmas.Bool.Decides.{nat_tests}
 use Rattle.memchr.specs.Find.{IsFirstByte, is_byte}
-use Rattle.page_roff_forms.specs.Arguments.{is_quoted}
+use Rattle.page_roff_forms.specs.Arguments.{is_quoted, unpaired, argument_value}
 use Rattle.page_roff_forms.specs.declared.quotes.Argument.{Argument}
-use Rattle.page_roff_buffers.specs.Calls.{unpaired, argument_value, packed}
+use Rattle.page_roff_buffers.specs.Calls.{packed}
 
 pub unpaired_step : (text rest all new : List ℕ) (byte : ℕ) → text ++ unpaired rest ≡ all → rest ≡ byte ∷ drop 1 rest
     → unpaired (byte ∷ drop 1 rest) ≡ byte ∷ unpaired new → (text ++ byte ∷ []) ++ unpaired new ≡ all

@@ -1,7 +1,7 @@
 -- A call of a macro: the body that it runs, line by line, and its arguments, packed. Source: roff(7), "MACRO SYNTAX" and "de".
-use Rattle.std.specs.Prelude.{ℕ, ◌==◌, ◌&&◌, List, [], ◌∷◌, ◌++◌, if◌then◌else◌}
+use Rattle.std.specs.Prelude.{ℕ, List, [], ◌∷◌, ◌++◌}
 use Rattle.std.specs.List.{flat_map}
-use Rattle.page_roff_forms.specs.Arguments.{is_quoted}
+use Rattle.page_roff_forms.specs.Arguments.{argument_value}
 use Rattle.page_roff_forms.specs.declared.quotes.Argument.{Argument}
 
 -- a macro that is called: the lines of its body, and its arguments, each with a line feed after it
@@ -14,16 +14,6 @@ abbrev pub with_line : List ℕ → List ℕ → List ℕ
 with_line body line = body ++ (line ++ (10 ∷ []))
 
 -- ---- arguments
-
--- in a quoted argument a pair of quotes (34) is one quote
-abbrev pub unpaired : List ℕ → List ℕ
-unpaired [] = []
-unpaired (byte ∷ []) = byte ∷ []
-unpaired (byte ∷ next ∷ bytes) =
-    if byte == 34 && next == 34 then 34 ∷ unpaired bytes else byte ∷ unpaired (next ∷ bytes)
-
-abbrev pub argument_value : Argument (List ℕ) → List ℕ
-argument_value argument = if is_quoted argument.quoting then unpaired argument.text else argument.text
 
 -- each argument with a line feed (10) after it, which no line holds
 abbrev pub packed : List (Argument (List ℕ)) → List ℕ

@@ -3,34 +3,17 @@
 ghost use Rattle.std.specs.Prelude.{◌≡◌, ℕ, true, ◌≤◌, ◌+◌, [], ◌∷◌, ◌++◌, length, nat_le, IfOk};
 ghost use Rattle.std.specs.Vec.{vec_len, vec_capacity};
 ghost use Rattle.page_core_limits.specs.declared.TheConstants.{BODY, LINE};
-ghost use Rattle.page_roff_forms.specs.Arguments.{argument_seen, arguments};
+ghost use Rattle.page_roff_forms.specs.Arguments.{argument_seen, argument_value, arguments, unpaired};
 ghost use Rattle.page_roff_definitions.specs.Arguments.{closing_notes, closings_notes};
 ghost use Rattle.page_roff_buffers.specs.Buffers.{no_call, Packs};
-ghost use Rattle.page_roff_buffers.specs.Calls.{unpaired, argument_value, packed};
+ghost use Rattle.page_roff_buffers.specs.Calls.{packed};
 
 use crate::buffers::{append, replace};
 use memchr::memchr;
 use page_core_limits::{ARGS, BODY, LINE};
-use page_roff_forms::{Argument, Arguments, Quoting};
+use page_roff_forms::{Argument, Arguments, Quoting, after_byte};
 use std::alloc::{AllocError, Global};
 use std::marker::Model;
-
-// What follows a byte in a quoted argument: of a pair of quotes the second is passed over.
-fn after_byte(byte: u8, after: &[u8]) -> &[u8]
-    ensures value { unpaired (byte ∷ after.now) ≡ byte ∷ unpaired result.now }
-    ensures within { length result.now ≤ length after.now }
-{
-    match after {
-        [] => after,
-        [next, rest @ ..] => {
-            if byte == b'"' && *next == b'"' {
-                rest
-            } else {
-                after
-            }
-        }
-    }
-}
 
 // Puts the text of a quoted argument at the end, within what is reserved.
 fn append_unpaired(text: &mut Vec<u8>, quoted: &[u8])

@@ -7,7 +7,7 @@ use Rattle.page_core_limits.specs.declared.TheConstants.{LINE}
 use Rattle.page_core_limits.specs.declared.Limit.{Limit}
 use Rattle.page_core_limits.specs.Limits.{name_of}
 use Rattle.page_core_numbers.specs.Numbers.{in_range}
-use Rattle.page_roff_forms.specs.Arguments.{arguments}
+use Rattle.page_roff_forms.specs.Arguments.{arguments, argument_name}
 use Rattle.page_roff_forms.specs.declared.quotes.Argument.{Argument}
 use Rattle.page_roff_names.specs.declared.rows.Meaning.TheVariants.{String}
 use Rattle.page_roff_names.specs.Entries.{definition, Definition}
@@ -56,13 +56,13 @@ renames old_name name place old = renames_found (look old_name old.texts) old_na
 
 abbrev pub removes : List (Argument (List ℕ)) → Definitions → Definitions
 removes [] old = old
-removes (name ∷ names) old = removes names (without_text name.text old)
+removes (name ∷ names) old = removes names (without_text (argument_name name) old)
 
 -- ---- registers
 
 abbrev pub removes_registers : List (Argument (List ℕ)) → Definitions → Definitions
 removes_registers [] old = old
-removes_registers (name ∷ names) old = removes_registers names (without_register name.text old)
+removes_registers (name ∷ names) old = removes_registers names (without_register (argument_name name) old)
 
 -- a full stop (46)
 abbrev pub is_read_only : List ℕ → Bool
@@ -112,24 +112,24 @@ if_named (byte ∷ bytes) wanted old = wanted
 
 abbrev pub nr : List (Argument (List ℕ)) → Place → Definitions → Outcome
 nr [] place old = outcome old []
-nr (name ∷ values) place old = if_named name.text (reads_number name.text (first_text values) place old) old
+nr (name ∷ values) place old = if_named name.text (reads_number (argument_name name) (first_text values) place old) old
 
 -- nothing has an empty name, so none is given another
 abbrev pub rn : List (Argument (List ℕ)) → Place → Definitions → Outcome
 rn [] place old = outcome old []
 rn (old_name ∷ []) place old = outcome old []
 rn (old_name ∷ name ∷ more) place old =
-    if_named name.text (renames old_name.text name.text place old) old
+    if_named name.text (renames (argument_name old_name) (argument_name name) place old) old
 
 abbrev pub ds : ℕ → List ℕ → List (Argument (List ℕ)) → Place → Definitions → Outcome
 ds column rest [] place old = outcome old []
 ds column rest (name ∷ more) place old =
-    if_named name.text (defines_string name.text (value_after column rest name) place old) old
+    if_named name.text (defines_string (argument_name name) (value_after column rest name) place old) old
 
 abbrev pub as_request : ℕ → List ℕ → List (Argument (List ℕ)) → Place → Definitions → Outcome
 as_request column rest [] place old = outcome old []
 as_request column rest (name ∷ more) place old =
-    if_named name.text (appends_string name.text (value_after column rest name) place old) old
+    if_named name.text (appends_string (argument_name name) (value_after column rest name) place old) old
 
 -- arguments without their last quote are reported first, but not of strings
 abbrev pub does : DefinitionRequest → ℕ → List ℕ → List (Argument (List ℕ)) → Place → Definitions → Outcome

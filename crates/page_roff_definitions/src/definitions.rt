@@ -128,7 +128,7 @@ fn remove_all(rest: &[u8], column: u32, names: &mut Names)
 {
     let mut arguments = Arguments::new(rest, column);
     while let Some(name) = arguments.next_argument() {
-        names.remove(name.text);
+        names.remove(name.name().as_slice());
     }
 }
 
@@ -140,7 +140,7 @@ fn remove_registers(rest: &[u8], column: u32, names: &mut Names)
 {
     let mut arguments = Arguments::new(rest, column);
     while let Some(name) = arguments.next_argument() {
-        names.remove_register(name.text);
+        names.remove_register(name.name().as_slice());
     }
 }
 
@@ -153,7 +153,7 @@ fn do_define_string<O: NoteOut>(line: RequestLine<'_>, names: &mut Names, out: &
     match Arguments::new(line.rest, line.rest_column).next_argument() {
         Some(name) if !name.text.is_empty() => {
             let value = value_after(line.rest, line.rest_column, name);
-            define_string(name.text, value, line.place, names, out);
+            define_string(name.name().as_slice(), value, line.place, names, out);
         }
         _ => {}
     }
@@ -169,7 +169,7 @@ fn do_append_string<O: NoteOut>(line: RequestLine<'_>, names: &mut Names, out: &
     match Arguments::new(line.rest, line.rest_column).next_argument() {
         Some(name) if !name.text.is_empty() => {
             let more = value_after(line.rest, line.rest_column, name);
-            append_string(name.text, more, line.place, names, out);
+            append_string(name.name().as_slice(), more, line.place, names, out);
         }
         _ => {}
     }
@@ -195,7 +195,7 @@ fn do_set_register<O: NoteOut>(line: RequestLine<'_>, names: &mut Names, out: &m
     match arguments.next_argument() {
         Some(name) if !name.text.is_empty() => {
             let value = next_text(&mut arguments);
-            set_number(name.text, value, line.place, names, out);
+            set_number(name.name().as_slice(), value, line.place, names, out);
         }
         _ => {}
     }
@@ -213,7 +213,14 @@ fn do_rename<O: NoteOut>(line: RequestLine<'_>, names: &mut Names, out: &mut O)
     };
     match arguments.next_argument() {
         Some(name) if !name.text.is_empty() => {
-            rename(old_name.text, name.text, line.place, names, out)
+            let old_name = old_name.name();
+            rename(
+                old_name.as_slice(),
+                name.name().as_slice(),
+                line.place,
+                names,
+                out,
+            )
         }
         _ => {}
     }

@@ -1,5 +1,5 @@
 -- What the heads and the lines of regions do. Source: roff(7), "de", "am", "ig"; mandoc(1), "unsupported".
-use Rattle.std.specs.Prelude.{ℕ, ◌||◌, ◌&&◌, not, Bool, true, false, nat_le, is_some, List, [], ◌∷◌, ◌++◌, length, codes, if◌then◌else◌, Option, Some, None, unwrap_or}
+use Rattle.std.specs.Prelude.{ℕ, Bool, true, false, nat_le, is_some, List, [], ◌∷◌, ◌++◌, length, codes, if◌then◌else◌, Option, Some, None, unwrap_or}
 use Rattle.page_core_limits.specs.declared.TheConstants.{BODY}
 use Rattle.page_core_limits.specs.declared.Limit.TheVariants as limits
 use Rattle.page_core_limits.specs.Limits.{name_of}
@@ -8,6 +8,7 @@ use Rattle.page_core_base.specs.declared.lines_taken.Form.TheVariants as forms
 use Rattle.page_core_base.specs.declared.note_kinds.NoteKind.TheVariants as kinds
 use Rattle.page_core_base.specs.declared.places.Place.{Place}
 use Rattle.page_roff_blocks.specs.Levels.{Opened, within_limit}
+use Rattle.page_roff_blocks.specs.Regions.{has_long_name, macro_name}
 use Rattle.page_roff_blocks.specs.declared.regions.RegionHead.{RegionHead}
 use Rattle.page_roff_requests.specs.declared.regions.RegionKind.{RegionKind}
 use Rattle.page_roff_requests.specs.declared.regions.RegionKind.TheVariants.{Define, Append, Ignore, Table, Equation, Picture}
@@ -39,13 +40,10 @@ abbrev pub body_begun : RegionKind → Option (List ℕ) → Definitions → Opt
 body_begun kind None d = None
 body_begun kind (Some name) d = first_body kind name d
 
-abbrev pub is_too_long : Option (List ℕ) → Bool
-is_too_long name = is_some name && not (is_some (within_limit name))
-
 -- a name or an end name that is longer than a name may be
 abbrev pub name_notes : RegionHead (List ℕ) → ℕ → List Message
 name_notes head number =
-    if is_too_long head.name || head.has_long_ending then
+    if has_long_name head then
     message_about kinds.Limit (record { line = number; column = head.column }) (name_of limits.Name) ∷ []
     else []
 
@@ -61,7 +59,7 @@ table_notes Picture column number = message_about kinds.Table (record { line = n
 unfoldable pub head_outcome : RegionHead (List ℕ) → Bool → Memory → Outcome
 head_outcome head true m =
     reports (name_notes head m.number ++ table_notes head.kind head.column m.number)
-    (with_body (body_begun head.kind (within_limit head.name) m.definitions) m)
+    (with_body (body_begun head.kind (within_limit (macro_name head)) m.definitions) m)
 head_outcome head false m = nothing m
 
 -- ---- lines

@@ -7,7 +7,7 @@ ghost use Rattle.page_core_limits.specs.Limits.{name_of};
 ghost use Rattle.page_core_limits.specs.declared.Limit.TheVariants as limits;
 ghost use Rattle.page_core_limits.specs.declared.TheConstants.{BODY, LINE};
 ghost use Rattle.page_roff_blocks.specs.Levels.{within_limit, opened_seen};
-ghost use Rattle.page_roff_blocks.specs.Regions.{region_seen, text_seen};
+ghost use Rattle.page_roff_blocks.specs.Regions.{macro_name, region_seen, text_seen};
 ghost use Rattle.page_roff_definitions.specs.Definitions as defining;
 ghost use Rattle.page_roff_values.specs.Latches.{Came};
 ghost use Rattle.page_roff_effects.specs.Acting.{measured, Does, Gives};
@@ -24,22 +24,11 @@ use page_roff_names::Names;
 use page_roff_requests::RegionKind;
 use page_roff_values::NoteOut;
 
-// Whether a name is longer than names may be.
-#[tactic(auto, unfolding(page_roff_blocks::specs::Levels::within_limit))]
-fn is_too_long(name: Option<&[u8]>) -> bool
-    ensures { result ≡ regions.is_too_long (text_seen name.entry) }
-{
-    match name {
-        Some(name) => name.len() > NAME,
-        None => false,
-    }
-}
-
 // Reports a name or an end name that is longer than names may be.
 fn report_name<O: NoteOut>(head: &RegionHead<&[u8]>, line: u32, out: &mut O)
     ensures { Came O.left out.old (regions.name_notes (region_seen head.now) line) out.new }
 {
-    if is_too_long(head.name) || head.has_long_ending {
+    if head.has_long_name() {
         report_at(
             NoteKind::Limit,
             line,
@@ -75,14 +64,27 @@ fn begin_named(kind: RegionKind, name: &[u8], names: &Names, body: &mut BodyBuff
     }
 }
 
+// Begins the body of a macro, where its name is within the limit of names.
+#[tactic(auto, unfolding(page_roff_blocks::specs::Levels::within_limit))]
+fn begin_within(kind: RegionKind, name: &[u8], names: &Names, body: &mut BodyBuffer)
+    ensures { body.new ≡ regions.body_begun kind (within_limit (Some name.now)) names.now }
+{
+    if name.len() <= NAME {
+        begin_named(kind, name, names, body);
+    } else {
+        body.clear();
+    }
+}
+
 // Begins the body that a region defines, where it defines one.
 #[tactic(auto, unfolding(page_roff_blocks::specs::Levels::within_limit))]
-fn begin_body(kind: RegionKind, name: Option<&[u8]>, names: &Names, body: &mut BodyBuffer)
-    ensures { body.new ≡ regions.body_begun kind (within_limit (text_seen name.entry)) names.now }
+fn begin_body(head: &RegionHead<&[u8]>, names: &Names, body: &mut BodyBuffer)
+    ensures { body.new
+        ≡ regions.body_begun head.now.kind (within_limit (macro_name (region_seen head.now))) names.now }
 {
-    match name {
-        Some(name) if name.len() <= NAME => begin_named(kind, name, names, body),
-        _ => body.clear(),
+    match &head.name {
+        Some(argument) => begin_within(head.kind, argument.name().as_slice(), names, body),
+        None => body.clear(),
     }
 }
 
@@ -140,7 +142,7 @@ impl Actions {
         if is_run {
             report_name(head, self.number, out);
             report_table(head.kind, head.column, self.number, out);
-            begin_body(head.kind, head.name, &self.names, &mut self.body);
+            begin_body(head, &self.names, &mut self.body);
         }
     }
 

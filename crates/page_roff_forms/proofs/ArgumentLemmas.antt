@@ -4,7 +4,7 @@ use Rattle.std.specs.List.{prefix_len}
 use Rattle.std.proofs.lemmas.Bool.{cases_Bool, eqb-true}
 use Rattle.std.proofs.lemmas.Bool.Decides.{nat_tests}
 use Rattle.std.proofs.lemmas.List.{drop_more, drop_all, drop-drop}
-use Rattle.memchr.specs.Find.{IsFirstByte, is_byte}
+use Rattle.memchr.specs.Find.{IsFirstByte, is_byte2}
 use Rattle.page_roff_forms.specs.Arguments.{is_blank, bare_len, quoted_len, argument_len, first_argument, first_arguments, arguments}
 
 -- ---- arguments without quotes
@@ -68,37 +68,75 @@ bare_some b (c ∷ cs) t = elim (cases_Bool (b == 92)) [ inl s ↦ rw (t, s) (om
 
 -- ---- quotes
 
-plain_at : (x : ℕ) (xs : List ℕ) → (x == 34) ≡ false → quoted_len (x ∷ xs) ≡ 1 + quoted_len xs
-plain_at x [] t = rw t refl
-plain_at x (y ∷ ys) t = rw t refl
+plain_at : (x : ℕ) (xs : List ℕ) → (x == 34) ≡ false → (x == 92) ≡ false → quoted_len (x ∷ xs) ≡ 1 + quoted_len xs
+plain_at x [] t u = rw t refl
+plain_at x (y ∷ ys) t u = rw (t, u) refl
 
-pub quoted_byte : (text : List ℕ) (i : ℕ) → i < length text → get_or text i 0 ≢ 34 → quoted_len (drop i text) ≡ 1 + quoted_len (drop (i + 1) text)
-quoted_byte text i h e =
+quoted_byte : (text : List ℕ) (i : ℕ) → i < length text → get_or text i 0 ≢ 34 → get_or text i 0 ≢ 92
+    → quoted_len (drop i text) ≡ 1 + quoted_len (drop (i + 1) text)
+quoted_byte text i h e f =
     let a = drop_more text i 0 h in
     let t : (get_or text i 0 == 34) ≡ false = grind (arith, nat_tests) in
-    rw a (plain_at (get_or text i 0) (drop (i + 1) text) t)
+    let u : (get_or text i 0 == 92) ≡ false = grind (arith, nat_tests) in
+    rw a (plain_at (get_or text i 0) (drop (i + 1) text) t u)
 
--- bytes that are no quote are read at once
-quoted_run : (text : List ℕ) (n : ℕ) → n ≤ length text → ((k : ℕ) → k < n → get_or text k 0 ≢ 34) → quoted_len text ≡ n + quoted_len (drop n text)
+-- a byte that is neither a quote nor a backslash
+is_other : ℕ → Type 0
+is_other byte = (byte ≢ 34) × (byte ≢ 92)
+
+-- such bytes are read at once
+quoted_run : (text : List ℕ) (n : ℕ) → n ≤ length text → ((k : ℕ) → k < n → is_other (get_or text k 0)) → quoted_len text ≡ n + quoted_len (drop n text)
+unfolding is_other
 quoted_run text zero h f = omega arith
 quoted_run text (suc n) h f =
     let e : n + 1 ≡ suc n = omega arith in
     let r = quoted_run text n (omega arith) (λ k l. f k (omega arith)) in
-    let q = rw e at (quoted_byte text n (omega arith) (f n (omega arith))) in
+    let o = f n (omega arith) in
+    let q = rw e at (quoted_byte text n (omega arith) o.0 o.1) in
     omega (arith, r, q)
 
-other : (b : ℕ) → ¬ ((b == 34) ≡ true) → b ≢ 34
-other b h = λ e. h (let t : (b == 34) ≡ true = grind (arith, nat_tests) in t)
+other : (b : ℕ) → ¬ (is_byte2 34 92 b ≡ true) → is_other b
+unfolding is_other
+other b h = (
+  λ e. h (let t : (b == 34) ≡ true = grind (arith, nat_tests) in rw t refl),
+  λ e. h (let t : (b == 34) ≡ false = grind (arith, nat_tests) in let u : (b == 92) ≡ true = grind (arith, nat_tests) in rw (t, u) refl),
+)
 
-pub quoted_to : (text : List ℕ) (r : Option ℕ) → IsFirstByte (is_byte 34) text r
+pub quoted_to : (text : List ℕ) (r : Option ℕ) → IsFirstByte (is_byte2 34 92) text r
     → let n = unwrap_or r (length text) in quoted_len text ≡ n + quoted_len (drop n text)
 quoted_to text None h = quoted_run text (length text) (omega arith) (λ k l. other (get_or text k 0) (h k (omega arith) l))
 quoted_to text (Some n) h = quoted_run text n (omega (arith, h.0.high)) (λ k l. other (get_or text k 0) (h.0.before k (omega arith) l))
 
-pub quoted_some : (text : List ℕ) (r : Option ℕ) → IsFirstByte (is_byte 34) text r → 0 < length text → get_or text 0 0 ≢ 34 → 0 < unwrap_or r (length text)
-quoted_some text None h p e = p
-quoted_some text (Some zero) h p e = absurd (e (eqb-true (get_or text 0 0) 34 h.1))
-quoted_some text (Some (suc n)) h p e = omega arith
+found_other : (b : ℕ) → is_byte2 34 92 b ≡ true → b ≢ 34 → b ≢ 92 → ⊥
+found_other b t e f =
+    let u : (b == 34) ≡ false = grind (arith, nat_tests) in
+    let v : (b == 92) ≡ false = grind (arith, nat_tests) in
+    let no : false ≡ true = rw (u, v) at t in
+    cc
+
+pub quoted_some : (text : List ℕ) (r : Option ℕ) → IsFirstByte (is_byte2 34 92) text r → 0 < length text → get_or text 0 0 ≢ 34 → get_or text 0 0 ≢ 92
+    → 0 < unwrap_or r (length text)
+quoted_some text None h p e f = p
+quoted_some text (Some zero) h p e f = absurd (found_other (get_or text 0 0) h.1 e f)
+quoted_some text (Some (suc n)) h p e f = omega arith
+
+-- a backslash and its next byte
+pub quoted_pair : (text : List ℕ) (i : ℕ) → i + 1 < length text → get_or text i 0 ≡ 92 → quoted_len (drop i text) ≡ 2 + quoted_len (drop (i + 2) text)
+quoted_pair text i h e =
+    let a = drop_more text i 0 (omega arith) in
+    let b = drop_more text (i + 1) 0 h in
+    let n : i + 1 + 1 ≡ i + 2 = omega arith in
+    let t : (get_or text i 0 == 34) ≡ false = grind (arith, nat_tests) in
+    let u : (get_or text i 0 == 92) ≡ true = grind (arith, nat_tests) in
+    rw (a, b, t, u, n) refl
+
+-- a backslash at the end
+pub quoted_last : (text : List ℕ) (i : ℕ) → i < length text → length text ≤ i + 1 → get_or text i 0 ≡ 92 → quoted_len (drop i text) ≡ 1 + quoted_len (drop (i + 1) text)
+quoted_last text i h k e =
+    let a = drop_more text i 0 h in
+    let b = drop_all (i + 1) text k in
+    let t : (get_or text i 0 == 34) ≡ false = grind (arith, nat_tests) in
+    rw (a, b, t) refl
 
 pub quoted_within : (text : List ℕ) → quoted_len text ≤ length text
 quoted_within [] = omega arith
@@ -110,7 +148,11 @@ quoted_within (b ∷ c ∷ cs) =
             | inl s ↦ let l = quoted_within cs in rw (t, s) (omega (arith, l))
             | inr s ↦ rw (t, s) (omega arith)
           ]
-      | inr t ↦ let l = quoted_within (c ∷ cs) in rw t (omega (arith, l))
+      | inr t ↦
+          elim (cases_Bool (b == 92)) [
+            | inl s ↦ let l = quoted_within cs in rw (t, s) (omega (arith, l))
+            | inr s ↦ let l = quoted_within (c ∷ cs) in rw (t, s) (omega (arith, l))
+          ]
     ]
 
 -- ---- all arguments

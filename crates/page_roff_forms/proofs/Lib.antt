@@ -3,3 +3,4 @@ pub mod ControlLemmas
 pub mod EndLemmas
 pub mod FormLemmas
 pub mod PairLemmas
+pub mod NameLemmas

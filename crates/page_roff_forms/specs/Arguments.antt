@@ -1,9 +1,10 @@
 -- The arguments of a control line. Source: roff(7), "Macro syntax".
-use Rattle.std.specs.Prelude.{◌≡◌, ◌≤◌, ℕ, zero, suc, ◌+◌, Bool, true, false, ◌==◌, nat_lt, min, List, [], ◌∷◌, length, take, drop, if◌then◌else◌, Option, MatchOption}
+use Rattle.std.specs.Prelude.{◌≡◌, ◌≤◌, ℕ, zero, suc, ◌+◌, Bool, true, false, ◌==◌, ◌&&◌, nat_lt, min, List, [], ◌∷◌, length, take, drop, if◌then◌else◌, Option, MatchOption}
 use Rattle.std.specs.List.{prefix_len}
 use Rattle.std.specs.Borrow.{Bor}
 use Rattle.page_roff_forms.specs.declared.quotes.Argument.{Argument}
 use Rattle.page_roff_forms.specs.declared.quotes.Quoting.{Quoting}
+use Rattle.page_roff_forms.specs.declared.names.TheConstants.{NAME_ROOM}
 use Rattle.page_roff_forms.specs.declared.quotes.Quoting.TheVariants.{Bare, Closed, Unclosed}
 
 -- blanks (32) part arguments, tabs do not
@@ -19,19 +20,21 @@ bare_len (byte ∷ next ∷ bytes) =
     else if byte == 92 then 2 + bare_len bytes
     else 1 + bare_len (next ∷ bytes)
 
--- after its first quote (34) a quoted argument goes up to the next lone quote or the end; a pair of quotes is no end
+-- after its first quote (34) a quoted argument goes up to the next lone quote or the end; a pair of quotes is no end, and a backslash
+-- keeps its next byte here, too
 abbrev pub quoted_len : List ℕ → ℕ
 quoted_len [] = 0
 quoted_len (byte ∷ []) = if byte == 34 then 0 else 1
 quoted_len (byte ∷ next ∷ bytes) =
     if byte == 34 then (if next == 34 then 2 + quoted_len bytes else 0)
+    else if byte == 92 then 2 + quoted_len bytes
     else 1 + quoted_len (next ∷ bytes)
 
 -- whether it has its last quote
 abbrev pub quoting_of : List ℕ → Quoting
 quoting_of inner = if nat_lt (quoted_len inner) (length inner) then Closed else Unclosed
 
--- in a quoted argument a pair of quotes is one quote
+-- whether it is quoted
 abbrev pub is_quoted : Quoting → Bool
 is_quoted Bare = false
 is_quoted Closed = true
@@ -41,6 +44,21 @@ is_quoted Unclosed = true
 abbrev pub quoted_argument : ℕ → List ℕ → Argument (List ℕ)
 quoted_argument column inner =
     record { text = take (quoted_len inner) inner; column = column + 1; quoting = quoting_of inner }
+
+-- in a quoted argument a pair of quotes is one quote
+abbrev pub unpaired : List ℕ → List ℕ
+unpaired [] = []
+unpaired (byte ∷ []) = byte ∷ []
+unpaired (byte ∷ next ∷ bytes) =
+    if byte == 34 && next == 34 then 34 ∷ unpaired bytes else byte ∷ unpaired (next ∷ bytes)
+
+-- what an argument says
+abbrev pub argument_value : Argument (List ℕ) → List ℕ
+argument_value argument = if is_quoted argument.quoting then unpaired argument.text else argument.text
+
+-- the name that an argument is, up to one byte beyond the limit of names: a longer one is refused, whatever its other bytes are
+abbrev pub argument_name : Argument (List ℕ) → List ℕ
+argument_name argument = take NAME_ROOM (argument_value argument)
 
 abbrev pub bare_argument : ℕ → List ℕ → Argument (List ℕ)
 bare_argument column text = record { text = take (bare_len text) text; column = column; quoting = Bare }

@@ -11,6 +11,7 @@ mod arguments;
 mod comments;
 mod ends;
 mod line_forms;
+mod names;
 mod pairs;
 mod quotes;
 
@@ -20,5 +21,6 @@ pub use ends::kept_len;
 pub use line_forms::{
     LineForm, begins_control, control_name, form_of, has_word, is_white, white_len,
 };
+pub use names::{NAME_ROOM, Name, after_byte};
 pub use pairs::lacks_pair;
 pub use quotes::{Argument, Quoting};

@@ -3,7 +3,7 @@
 ghost use Rattle.std.specs.Prelude.{◌≡◌, ◌≢◌, ◌≤◌, ◌<◌, ◌+◌, ◌^◌, length, min, drop, get_or};
 ghost use Rattle.page_roff_forms.specs.Arguments.{argument_seen, is_quoted, bare_len, quoted_len, quoted_argument, begins_quoted, first_argument, argument_len};
 
-use memchr::memchr;
+use memchr::memchr2;
 use std::alloc::AllocError;
 
 /// How an argument is quoted.
@@ -63,13 +63,24 @@ fn bare_len(text: &[u8]) -> usize
     len
 }
 
-// The number of bytes before a text's first quote, or of all of them.
+// The number of bytes before a text's first quote or backslash, or of all of them.
 fn unquoted_len(text: &[u8]) -> usize
     ensures value { quoted_len text.now ≡ result + quoted_len (drop result text.now) }
     ensures within { result ≤ length text.now }
-    ensures some { 0 < length text.now → get_or text.now 0 0 ≢ 34 → 0 < result }
+    ensures some { 0 < length text.now → get_or text.now 0 0 ≢ 34 → get_or text.now 0 0 ≢ 92 → 0 < result }
 {
-    memchr(b'"', text).unwrap_or(text.len())
+    memchr2(b'"', b'\\', text).unwrap_or(text.len())
+}
+
+// The number of bytes that a backslash takes at a place of a quoted argument: its own and the next one, if there is one.
+fn pair_len(text: &[u8], at: usize) -> usize
+    requires at { at < length text.now }
+    requires backslash { get_or text.now at 0 ≡ 92 }
+    ensures value { quoted_len (drop at text.now) ≡ result + quoted_len (drop (at + result) text.now) }
+    ensures within { at + result ≤ length text.now }
+    ensures some { 0 < result }
+{
+    if at + 1 < text.len() { 2 } else { 1 }
 }
 
 // The number of bytes of a quoted argument after its first quote, up to the next lone quote or the end.
@@ -79,7 +90,9 @@ fn quoted_len(text: &[u8]) -> usize
 {
     let mut len = 0;
     while len < text.len() {
-        if text[len] != b'"' {
+        if text[len] == b'\\' {
+            len += pair_len(text, len);
+        } else if text[len] != b'"' {
             len += unquoted_len(&text[len..]);
         } else if len + 1 < text.len() && text[len + 1] == b'"' {
             len += 2;

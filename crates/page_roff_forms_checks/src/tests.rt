@@ -162,6 +162,12 @@ fn reads_arguments(rt: HostRuntime) {
     check_arguments(&rt, " \"\" \"", &[("", 5, "\"\""), ("", 8, "\"")]);
     check_arguments(&rt, " a\"b \"c d", &[("a\"b", 4, ""), ("c d", 9, "\"")]);
     check_arguments(&rt, " \"a\"\"", &[("a\"\"", 5, "\"")]);
+    check_arguments(
+        &rt,
+        " \"a\\\" b\" c",
+        &[("a\\\" b", 5, "\"\""), ("c", 12, "")],
+    );
+    check_arguments(&rt, " \"a\\", &[("a\\", 5, "\"")]);
 }
 
 #[test]

@@ -26,7 +26,8 @@ use Rattle.page_roff_language.specs.Languages.{Kind, page, body, inner, Done, gi
 use Rattle.page_roff_language.specs.Budgets.{Budgeted, Effects, with_rest, charge_by, charge, begin_line, whether_run, meet, test, unopened_by, read_line, end_line, collect_some, meaning, done_with, closed_with, turn_by, turn, language}
 use Rattle.page_roff_language.specs.Machine.{Turning, Frame, Running, entered, looped, turned, at_part, between, depth, next, next_in, finish_if, leaf_next, loop_next, end_next, part_next, region_next, line_next, turn_if, turn_next, body_next, source_next}
 use Rattle.page_roff_language.specs.Machine as machine
-use Rattle.page_roff_language.specs.Spending.{Spends, unspent_if, unspent_at, unspent, AreMet, LeadsIn, Leads}
+use Rattle.page_roff_language.specs.Spent.{Spends}
+use Rattle.page_roff_language.specs.Spending.{unspent_if, unspent_at, unspent, AreMet, LeadsIn, Leads}
 use Rattle.page_roff_language.proofs.KeepLemmas.{turns_keep}
 
 guard_past : {S : Type 0} (m : Meaning (List ℕ) S) (is_met : Bool) (h : Head (List ℕ)) (spot : Spot) (s : S) → (guard_met m is_met h spot s).0.begun ≡ true

@@ -5,3 +5,4 @@ pub mod Languages
 pub mod Machine
 pub mod Measures
 pub mod Spending
+pub mod Spent

@@ -184,7 +184,7 @@ impl BudgetedActions {
         requires { length condition.now ≤ LINE }
         ensures { Answers O.left self.old out.old (turned_in self.old condition.now) result self.new out.new }
     {
-        self.charge(out);
+        self.charge(out); // a turn is a re-read line
         if self.budget.gave_up() {
             false
         } else {

@@ -6,7 +6,6 @@ abbrev pub predefined_strings : List (List ℕ × List ℕ)
 predefined_strings =
     (codes "R", codes "\\(rg") ∷ (codes "Tm", codes "(Tm)") ∷ (codes "S", [])
     ∷ (codes "lq", codes "\\(lq") ∷ (codes "rq", codes "\\(rq") ∷ (codes "q", codes "\\(dq")
-    ∷ (codes "lp", codes "(") ∷ (codes "rp", codes ")")
     ∷ (codes "Ba", codes "|") ∷ (codes "Am", codes "&") ∷ (codes "Lt", codes "<") ∷ (codes "Gt", codes ">")
     ∷ (codes "Ne", codes "\\(!=") ∷ (codes "Le", codes "\\(<=") ∷ (codes "Ge", codes "\\(>=")
     ∷ (codes "Pm", codes "\\(+-") ∷ []

@@ -17,8 +17,6 @@ pub(crate) fn predefined(name: &[u8]) -> Option<&'static [u8]>
         b"lq" => Some(b"\\(lq"),
         b"rq" => Some(b"\\(rq"),
         b"q" => Some(b"\\(dq"),
-        b"lp" => Some(b"("),
-        b"rp" => Some(b")"),
         b"Ba" => Some(b"|"),
         b"Am" => Some(b"&"),
         b"Lt" => Some(b"<"),

@@ -108,8 +108,6 @@ const SOME_STRINGS_ARE_THERE_BEFORE: &[Row] = &[
     (Call::IsString, ("Tm", 1), ("(Tm)", 1), ""),
     (Call::IsString, ("S", 1), ("", 1), ""),
     (Call::IsString, ("lq", 1), ("\\(lq", 1), ""),
-    (Call::IsString, ("lp", 1), ("(", 1), ""),
-    (Call::IsString, ("rp", 1), (")", 1), ""),
     (Call::IsString, ("rq", 1), ("\\(rq", 1), ""),
     (Call::IsString, ("q", 1), ("\\(dq", 1), ""),
     (Call::IsString, ("Ba", 1), ("|", 1), ""),

@@ -6,11 +6,9 @@ use Rattle.page_roff_blocks.specs.Levels.{Opened}
 use Rattle.page_core_limits.specs.declared.TheConstants.{EXPAND, REREAD}
 use Rattle.page_roff_values.specs.Values.{units_of}
 use Rattle.page_roff_language.specs.Languages.{Kind, state_of}
-use Rattle.page_roff_language.specs.Spending.{Spends}
+use Rattle.page_roff_language.specs.Spent.{Spends}
 use Rattle.page_roff_language.proofs.BudgetLemmas.{page_line_bound}
-use Rattle.page_roff_language.specs.Machine.{at_page}
-use Rattle.page_roff_language.specs.Spending.{AreMet}
-use Rattle.page_roff_language.proofs.SpendLemmas.{page_spends, leads_met, line_spends}
+use Rattle.page_roff_language.proofs.SpendLemmas.{page_spends}
 use Rattle.page_roff_effects.specs.Effects.{effects, answer_of, turn_answer, test_outcome, expansions_of, tested_after, done_by, done_after, budget_outcome, block_outcome, end_of_block_outcome, setting_of}
 use Rattle.page_roff_effects.specs.Leaves.{leaf_outcome}
 use Rattle.page_roff_effects.specs.LoopLines.{loop_outcome, collect_outcome, repeats_if, repeats_text, close_outcome}
@@ -22,7 +20,7 @@ use Rattle.page_roff_source.specs.Edges.{Edge, SourceLine, line_count}
 use Rattle.page_roff_source.specs.Taking.{before_line, run_line, line_given, line_done}
 use Rattle.page_roff_source.specs.Given.{done}
 use Rattle.page_roff_source.specs.LineByLine.{lines_done}
-use Rattle.page_roff_source.specs.Moments.{Moment, IsMomentOf, IsNoLater, taken_at, expansions_at}
+use Rattle.page_roff_source.specs.Each.{EachIsWithin}
 use Rattle.page_roff_source.proofs.LineLemmas.{done-idle}
 
 count-append : (xs ys : List Given) → line_count (xs ++ ys) ≡ line_count xs + line_count ys
@@ -172,17 +170,8 @@ unfolding run_line before_line
 expansions_bound e line =
     page_spends expansions_of EXPAND (effects (units_of e.output)) (spends (units_of e.output)) (line.text ∷ []) (before_line e line)
 
--- no source is around the page
-page_met : (e : Edge) (line : SourceLine) → AreMet (at_page line.text (before_line e line)).under
-unfolding at_page AreMet
-page_met e line = tt
-
-pub each_bound : (e : Edge) (line : SourceLine) (m n : Moment) → IsMomentOf e line m → IsNoLater e m n → taken_at n ≡ taken_at m
-    → expansions_at n ≤ expansions_at m + EXPAND
-unfolding IsMomentOf IsNoLater
-each_bound e line m n h k t =
-    let met = leads_met expansions_of EXPAND (effects (units_of e.output)) (spends (units_of e.output)) (at_page line.text (before_line e line)) m (page_met e line) h in
-    line_spends expansions_of EXPAND (effects (units_of e.output)) (spends (units_of e.output)) m n met k t
+pub each_bound : (e : Edge) → EachIsWithin e
+each_bound e = spends (units_of e.output)
 
 lines_done-bound : (e : Edge) (lines : List SourceLine) → (lines_done e lines).taken ≤ e.taken + (REREAD + 1) * length lines
 unfolding lines_done

@@ -3,7 +3,7 @@ pub mod Edges
 pub mod Fuses
 pub mod Given
 pub mod LineByLine
-pub mod Moments
+pub mod Each
 pub mod RoffLines
 pub mod Taking
 pub mod Parts

@@ -6,7 +6,7 @@ ghost use Rattle.page_roff_source.specs.Edges.{Edge, SourceLine, line_count};
 ghost use Rattle.page_roff_source.specs.Taking.{line_given, line_done};
 ghost use Rattle.page_roff_source.specs.Given.{given, done};
 ghost use Rattle.page_roff_source.specs.LineByLine.{lines_given, lines_done};
-ghost use Rattle.page_roff_source.specs.Moments.{Moment, IsMomentOf, IsNoLater, taken_at, expansions_at};
+ghost use Rattle.page_roff_source.specs.Each.{EachIsWithin};
 
 /// What the forest of all lines gives, inside what is open, is what the lines give one after another: each the messages in front of it and then its own,
 /// from where the lines before it left the page.
@@ -24,8 +24,8 @@ pub fn cut_law()
 {}
 
 /// A source line takes itself and at most `REREAD` lines more, and so do all lines together; it gives no more lines for the set of macros than it takes, and makes at most
-/// `EXPAND` interpolations for each: not as a mean, but for each single line that is taken, since no more are made from one moment of its run to
-/// another with the same count of lines taken.
+/// `EXPAND` interpolations for each: not as a mean, but for each single line that is taken, be it one of a page or of a body, a remainder, a line of
+/// a region or a turn of a loop.
 pub fn count_law()
     ensures taken { (e : Edge) (line : SourceLine) → (line_done e line).taken ≤ e.taken + (REREAD + 1) }
     ensures given { (e : Edge) (line : SourceLine)
@@ -37,9 +37,7 @@ pub fn count_law()
     ensures lines_expansions { (e : Edge) (lines : List SourceLine) →
         (done e lines).memory.expansions + EXPAND * e.taken
         ≤ EXPAND * (done e lines).taken + e.memory.expansions }
-    ensures each { (e : Edge) (line : SourceLine) (m n : Moment)
-        → IsMomentOf e line m → IsNoLater e m n → taken_at n ≡ taken_at m
-        → expansions_at n ≤ expansions_at m + EXPAND }
+    ensures each { (e : Edge) → EachIsWithin e }
 {}
 
 /// A line begins at most two skipped blocks a byte, and two.

@@ -6,13 +6,12 @@ use Rattle.std.proofs.Math.Seq.{take-append_seam, drop-append_seam, get_or-appen
 use Rattle.std.proofs.lemmas.Bool.{and_parts, eqb-true, ltb-true}
 use Rattle.std.proofs.lemmas.Bool.Decides.{nat_tests}
 use Rattle.std.proofs.lemmas.List.{length-take-le}
-use Rattle.page_roff_forms.specs.Arguments.{is_blank, bare_len, quoted_len, quoting_of, is_quoted, quoted_argument, bare_argument, argument_len as first_len, first_arguments, arguments}
+use Rattle.page_roff_forms.specs.Arguments.{is_blank, bare_len, quoted_len, quoting_of, is_quoted, quoted_argument, bare_argument, argument_len as first_len, first_arguments, arguments, unpaired, argument_value}
 use Rattle.page_roff_forms.specs.declared.quotes.Argument.{Argument}
 use Rattle.page_roff_forms.specs.declared.quotes.Quoting.TheVariants.{Closed, Unclosed}
 use Rattle.page_roff_values.specs.Texts.{IsText}
 use Rattle.page_roff_values.proofs.PlainTexts.{text_append, text_cut, text_after}
 use Rattle.page_roff_definitions.specs.Arguments.{closing_len, end_of, after_blanks, without_quote, value_after}
-use Rattle.page_roff_buffers.specs.Calls.{unpaired, argument_value}
 use Rattle.page_roff_texts.proofs.Cuts.{CutsAt, end_cut, past_ascii, IsStop, stop_cut, stop_later, stop_start, after_ascii, prefix_cut, byte_low, blank_low}
 
 -- ---- where an argument ends
@@ -63,7 +62,8 @@ quoted_stop (b ∷ n ∷ bs) =
     quote_if (b == 34) t _ _
     (λ e.
     quote_if (n == 34) t _ 0 (λ f. quote_two b n bs (quoted_len bs) (quoted_stop bs)) (λ f. record { within = omega arith; quote = λ lt. eqb-true b 34 e }))
-    (λ e. quote_later b (n ∷ bs) (quoted_len (n ∷ bs)) (quoted_stop (n ∷ bs)))
+    (λ e.
+    quote_if (b == 92) t _ _ (λ f. quote_two b n bs (quoted_len bs) (quoted_stop bs)) (λ f. quote_later b (n ∷ bs) (quoted_len (n ∷ bs)) (quoted_stop (n ∷ bs))))
 
 quoted_cut : (t : List ℕ) → IsUtf8 t → CutsAt t (quoted_len t)
 quoted_cut t u =

@@ -10,7 +10,7 @@ use Rattle.std.specs.FinMap.Entries.{by_order}
 use Rattle.std.proofs.lemmas.Bool.{and_parts, leb-true, ltb-true}
 use Rattle.page_core_limits.specs.declared.Limit.{Limit}
 use Rattle.page_core_base.specs.declared.places.Place.{Place}
-use Rattle.page_roff_forms.specs.Arguments.{arguments}
+use Rattle.page_roff_forms.specs.Arguments.{argument_name, arguments}
 use Rattle.page_roff_forms.specs.declared.quotes.Argument.{Argument}
 use Rattle.page_roff_names.specs.declared.rows.Meaning.{Meaning}
 use Rattle.page_roff_names.specs.declared.rows.Meaning.TheVariants.{String, Macro, Register}
@@ -161,17 +161,17 @@ ds_holds : (column : ℕ) (rest : List ℕ) (args : List (Argument (List ℕ))) 
     → AreEntries (ds column rest args place old).definitions.texts
 ds_holds column rest [] place old t f h = h
 ds_holds column rest (name ∷ more) place old t f h =
-    if_named_holds name.text _ old (defines_holds String name.text (value_after column rest name) place old (value_after_text column rest name t f.1) h) h
+    if_named_holds name.text _ old (defines_holds String (argument_name name) (value_after column rest name) place old (value_after_text column rest name t f.1) h) h
 
 as_holds : (column : ℕ) (rest : List ℕ) (args : List (Argument (List ℕ))) (place : Place) (old : Definitions) → IsText rest → HasFirst column rest args → AreEntries old.texts
     → AreEntries (as_request column rest args place old).definitions.texts
 as_holds column rest [] place old t f h = h
 as_holds column rest (name ∷ more) place old t f h =
-    let value = unwrap_or (string_of name.text old) [] in
+    let value = unwrap_or (string_of (argument_name name) old) [] in
     let after = value_after column rest name in
     if_named_holds name.text _ old
-    (defines_holds String name.text (value ++ after) place old
-    (text_append value after (some_text (string_of name.text old) (string_text name.text old h)) (value_after_text column rest name t f.1)) h) h
+    (defines_holds String (argument_name name) (value ++ after) place old
+    (text_append value after (some_text (string_of (argument_name name) old) (string_text (argument_name name) old h)) (value_after_text column rest name t f.1)) h) h
 
 sets_if : (c : Bool) (name : List ℕ) (n : ℤ) (place : Place) (old : Definitions) → AreEntries old.texts
     → AreEntries (if c then outcome old [] else sets_register name n place old).definitions.texts
@@ -181,7 +181,7 @@ sets_if false name n place old h = settled_holds (refusal name [] (with_register
 nr_holds : (args : List (Argument (List ℕ))) (place : Place) (old : Definitions) → AreEntries old.texts → AreEntries (nr args place old).definitions.texts
 nr_holds [] place old h = h
 nr_holds (name ∷ values) place old h =
-    if_named_holds name.text _ old (sets_if (is_read_only name.text) name.text (next_number name.text (first_text values) old) place old h) h
+    if_named_holds name.text _ old (sets_if (is_read_only (argument_name name)) (argument_name name) (next_number (argument_name name) (first_text values) old) place old h) h
 
 renames_holds : (o : Option Definition) (old_name name : List ℕ) (place : Place) (old : Definitions) → IsDefinition o → AreEntries old.texts
     → AreEntries (renames_found o old_name name place old).definitions.texts
@@ -194,11 +194,11 @@ rn_holds : (args : List (Argument (List ℕ))) (place : Place) (old : Definition
 rn_holds [] place old h = h
 rn_holds (a ∷ []) place old h = h
 rn_holds (a ∷ name ∷ more) place old h =
-    if_named_holds name.text _ old (renames_holds (look a.text old.texts) a.text name.text place old (look_holds a.text old.texts h) h) h
+    if_named_holds name.text _ old (renames_holds (look (argument_name a) old.texts) (argument_name a) (argument_name name) place old (look_holds (argument_name a) old.texts h) h) h
 
 removes_holds : (args : List (Argument (List ℕ))) (old : Definitions) → AreEntries old.texts → AreEntries (removes args old).texts
 removes_holds [] old h = h
-removes_holds (name ∷ names) old h = removes_holds names (without_text name.text old) (without_holds name.text old.texts h)
+removes_holds (name ∷ names) old h = removes_holds names (without_text (argument_name name) old) (without_holds (argument_name name) old.texts h)
 
 registers_hold : (args : List (Argument (List ℕ))) (old : Definitions) → AreEntries old.texts → AreEntries (removes_registers args old).texts
 registers_hold [] old h = h

@@ -6,6 +6,7 @@ use Rattle.page_core_limits.specs.declared.TheConstants.{BODY}
 use Rattle.page_core_base.specs.Messages.{Message}
 use Rattle.page_core_base.specs.Texts.{IsLine}
 use Rattle.page_roff_blocks.specs.Levels.{Opened, within_limit}
+use Rattle.page_roff_blocks.specs.Regions.{macro_name}
 use Rattle.page_roff_blocks.specs.Run.{At}
 use Rattle.page_roff_blocks.specs.declared.regions.RegionHead.{RegionHead}
 use Rattle.page_roff_forms.specs.Arguments.{arguments}
@@ -269,7 +270,7 @@ begun_is kind (Some name) d h = first_is kind name d h
 
 head_is : (head : RegionHead (List ℕ)) (is_run : Bool) (m : Memory) → HoldsTexts m → IsOutcome (head_outcome head is_run m)
 unfolding head_outcome
-head_is head true m h = quiet _ _ (record { names = h.names; body = begun_is head.kind (within_limit head.name) m.definitions h.names })
+head_is head true m h = quiet _ _ (record { names = h.names; body = begun_is head.kind (within_limit (macro_name head)) m.definitions h.names })
 head_is head false m h = quiet [] m h
 
 macro_holds : (name text : Option (List ℕ)) (m : Memory) → IsBodyIfSome text → HoldsTexts m → AreEntries (macro_definition name text (record { line = m.number; column = 1 }) m.definitions).definitions.texts

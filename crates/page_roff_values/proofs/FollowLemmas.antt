@@ -12,7 +12,7 @@ use Rattle.page_roff_values.specs.declared.parts.Part.TheVariants.{Copied, Calle
 use Rattle.page_roff_values.specs.Arguments.{argument_of}
 use Rattle.page_roff_values.specs.Environments.{Surroundings, register_of}
 use Rattle.page_roff_values.specs.Parts.{parts, without_lone}
-use Rattle.page_roff_values.specs.Values.{Spot, Laid, nothing, unless, seq, says, ends, adds, counts, kept, put, lay, charge, value_or, inside, leaves, width, interpolated, call_at, value}
+use Rattle.page_roff_values.specs.Values.{Spot, Laid, nothing, unless, seq, says, ends, adds, counts, kept, put, lay, charge, value_or, inside, leaves, width, interpolated, call_at, value, finished_len}
 
 pub record Follows (s t : Spot) : Type 0 where
   pub around : t.around ≡ s.around
@@ -39,7 +39,7 @@ if_follows false s x y h k = k
 pub put_follows : (run : List ℕ) (s : Spot) → Follows s (put run s).edge
 unfolding put
 put_follows run s =
-    let end = kept run (LINE - length s.text) in
+    let end = kept run (LINE - finished_len s) in
     if_follows (nat_lt end (length run)) s (ends Limit (codes "LINE") (adds (take end run) s)) (nothing (adds (take end run) s))
     (record { around = refl; count = omega arith }) (record { around = refl; count = omega arith })
 
@@ -49,7 +49,7 @@ put_count_if false x y n h k = k
 
 pub put_count : (run : List ℕ) (s : Spot) → (put run s).edge.count ≡ s.count
 unfolding put
-put_count run s = put_count_if (nat_lt (kept run (LINE - length s.text)) (length run)) _ _ s.count refl refl
+put_count run s = put_count_if (nat_lt (kept run (LINE - finished_len s)) (length run)) _ _ s.count refl refl
 
 lay_follows : (call : Call (List ℕ) → Spot → Laid) → ((c : Call (List ℕ)) (s : Spot) → Follows s (call c s).edge)
     → (ps : List (Part (List ℕ))) (s : Spot) → Follows s (lay call ps s).edge

@@ -9,7 +9,7 @@ use Rattle.page_roff_values.specs.Environments.{Surroundings}
 use Rattle.page_roff_values.specs.Fronts.{IsFront}
 use Rattle.page_roff_values.specs.Parts.{begins_escape, call_cut, character_len, copies, is_doubled, parts, seen}
 use Rattle.page_roff_values.specs.Rest.{rest}
-use Rattle.page_roff_values.specs.Values.{Spot, adds, call_at, lay, put, seq, value}
+use Rattle.page_roff_values.specs.Values.{Spot, adds, call_at, lay, put, seq, value, finished_len}
 use Rattle.page_roff_values.specs.Verbatim.{may_call}
 use Rattle.page_roff_values.proofs.LayLemmas.{seq_nothing}
 use Rattle.page_roff_values.proofs.LineLemmas.{put_all}
@@ -47,7 +47,7 @@ front_part copy (b ∷ bs) n h x = λ call s e fits.
 pub front_then : (copy : Bool) (n m : ℕ) (text : List ℕ) → n ≤ length text → IsFront copy n text → IsFront copy m (drop n text) → IsFront copy (n + m) text
 front_then copy n m text l f g = λ call s e h.
     let t = adds (take n text) s in
-    let fits : m ≤ LINE - length t.text = omega (arith, length-append s.text (take n text), length-take n text) in
+    let fits : m ≤ LINE - finished_len t = omega (arith, length-append s.text (take n text), length-take n text) in
     f call s e (omega arith) ∙ g call t e fits
     ∙ rw (drop-drop m n text, append_assoc s.text (take n text) (take m (drop n text)), take-add n m text) refl
 
@@ -74,7 +74,7 @@ front_end copy text at None l f e g =
     rw n at (front_then copy at (length (drop at text)) text l g (front_all copy (drop at text) f))
 
 -- it is put before the rest is laid
-pub front_reads : (env : Surroundings) (room n : ℕ) (text : List ℕ) (ts : List (List ℕ)) (s : Spot) → s.ended ≡ false → n ≤ LINE - length s.text
+pub front_reads : (env : Surroundings) (room n : ℕ) (text : List ℕ) (ts : List (List ℕ)) (s : Spot) → s.ended ≡ false → n ≤ LINE - finished_len s
     → IsFront env.copy n text → rest env room (text ∷ ts) s ≡ seq (put (take n text) s) (rest env room (drop n text ∷ ts))
 unfolding rest value
 front_reads env room n text ts s e h f =

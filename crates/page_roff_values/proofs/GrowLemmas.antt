@@ -15,7 +15,7 @@ use Rattle.page_roff_values.specs.declared.parts.Part.TheVariants.{Copied, Calle
 use Rattle.page_roff_values.specs.Arguments.{argument_of}
 use Rattle.page_roff_values.specs.Environments.{Surroundings, register_of}
 use Rattle.page_roff_values.specs.Parts.{plain, after_plain, copies, seen, parts, without_lone}
-use Rattle.page_roff_values.specs.Values.{Spot, Laid, nothing, unless, seq, says, ends, adds, counts, kept, put, lay, charge, value_or, inside, leaves, width, interpolated, call_at, value, start, expanded, NEST}
+use Rattle.page_roff_values.specs.Values.{Spot, Laid, nothing, unless, seq, says, ends, adds, counts, kept, put, lay, charge, value_or, inside, leaves, width, interpolated, call_at, value, start, expanded, NEST, finished_len}
 use Rattle.page_roff_values.proofs.LineLemmas.{put_all}
 use Rattle.page_roff_values.proofs.ReadLemmas.{parts_more}
 
@@ -48,7 +48,7 @@ if_grows t false x y h k = k
 put_grows : (run : List ℕ) (s : Spot) → Begins s.text (put run s).edge.text
 unfolding put
 put_grows run s =
-    let end = kept run (LINE - length s.text) in
+    let end = kept run (LINE - finished_len s) in
     if_grows s.text (nat_lt end (length run)) (ends Limit (codes "LINE") (adds (take end run) s)) (nothing (adds (take end run) s))
     (begins_more s.text (take end run)) (begins_more s.text (take end run))
 

@@ -16,7 +16,7 @@ use Rattle.page_roff_values.specs.declared.parts.Part.TheVariants.{Copied, Calle
 use Rattle.page_roff_values.specs.Arguments.{argument_of}
 use Rattle.page_roff_values.specs.Environments.{Surroundings, register_of}
 use Rattle.page_roff_values.specs.Parts.{copies, seen, parts, parts_up_to, without_lone}
-use Rattle.page_roff_values.specs.Values.{Spot, Laid, nothing, unless, seq, says, ends, adds, counts, kept, character_end, put, lay, charge, value_or, inside, leaves, width, interpolated, call_at, value, start, expanded, IsWithin}
+use Rattle.page_roff_values.specs.Values.{Spot, Laid, nothing, unless, seq, says, ends, adds, counts, kept, character_end, put, lay, charge, value_or, inside, leaves, width, interpolated, call_at, value, start, expanded, IsWithin, finished_len}
 use Rattle.page_roff_values.proofs.LayLemmas.{seq_end}
 use Rattle.page_roff_values.proofs.ReadLemmas.{parts_more, plain_part}
 
@@ -55,8 +55,8 @@ take_le (suc n) (x ∷ xs) = let h = take_le n xs in omega arith
 put_within : (run : List ℕ) (s : Spot) → IsWithin s → IsWithin (put run s).edge
 unfolding put
 put_within run s h =
-    let end = kept run (LINE - length s.text) in
-    let l = kept_le run (LINE - length s.text) in
+    let end = kept run (LINE - finished_len s) in
+    let l = kept_le run (LINE - finished_len s) in
     let m = take_le end run in
     let k : length (s.text ++ take end run) ≤ LINE = rw (length-append s.text (take end run)) (let t = h.text in omega arith) in
     if_within (nat_lt end (length run)) (ends Limit (codes "LINE") (adds (take end run) s)) (nothing (adds (take end run) s))
@@ -113,9 +113,9 @@ less_if : (n : ℕ) (b : Bool) → nat_lt n n ≡ b → b ≡ false
 less_if n true e = let l : n < n = ltb-true n n e in absurd (omega arith)
 less_if n false e = refl
 
-pub put_all : (run : List ℕ) (s : Spot) → length run ≤ LINE - length s.text → put run s ≡ nothing (adds run s)
+pub put_all : (run : List ℕ) (s : Spot) → length run ≤ LINE - finished_len s → put run s ≡ nothing (adds run s)
 unfolding put
-put_all run s h = rw (le-leb (length run) (LINE - length s.text) h, less_if (length run) (nat_lt (length run) (length run)) refl, take-length run) refl
+put_all run s h = rw (le-leb (length run) (LINE - finished_len s) h, less_if (length run) (nat_lt (length run) (length run)) refl, take-length run) refl
 
 -- it is what it gives
 pub plain_line : (env : Surroundings) (n : ℕ) (line : List ℕ) (r : Option ℕ) → IsFirstByte (is_byte 92) line r → is_none r ≡ true → length line ≤ LINE

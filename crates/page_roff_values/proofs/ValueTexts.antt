@@ -18,7 +18,7 @@ use Rattle.page_roff_values.specs.Arguments.{spaced, spaced_quoted, joined, quot
 use Rattle.page_roff_values.specs.Environments.{Surroundings, register_of}
 use Rattle.page_roff_values.specs.Parts.{parts, without_lone}
 use Rattle.page_roff_values.specs.Texts.{IsText, AreTexts, AreArgumentTexts, AreLines}
-use Rattle.page_roff_values.specs.Values.{Spot, Laid, nothing, unless, seq, says, ends, adds, counts, kept, character_end, put, lay, charge, value_or, inside, leaves, width, interpolated, call_at, value}
+use Rattle.page_roff_values.specs.Values.{Spot, Laid, nothing, unless, seq, says, ends, adds, counts, kept, character_end, put, lay, charge, value_or, inside, leaves, width, interpolated, call_at, value, finished_len}
 use Rattle.page_roff_values.proofs.PlainTexts.{nil_text, ascii_text, text_append, text_at}
 use Rattle.page_roff_values.proofs.PartTexts.{CallText, ArePartTexts, parts_texts, lone_text}
 
@@ -155,8 +155,8 @@ if_text false x y h k = k
 put_text : (run : List ℕ) (s : Spot) → IsText run → IsText s.text → IsText (put run s).edge.text
 unfolding put
 put_text run s h k =
-    let end = kept run (LINE - length s.text) in
-    let t = text_append s.text (take end run) k (kept_text run (LINE - length s.text) h) in
+    let end = kept run (LINE - finished_len s) in
+    let t = text_append s.text (take end run) k (kept_text run (LINE - finished_len s) h) in
     if_text (nat_lt end (length run)) (ends Limit (codes "LINE") (adds (take end run) s)) (nothing (adds (take end run) s)) t t
 
 lay_text : (call : Call (List ℕ) → Spot → Laid) → ((c : Call (List ℕ)) (s : Spot) → CallText c → IsText s.text → IsText (call c s).edge.text)

@@ -14,7 +14,7 @@ use Rattle.page_roff_values.specs.declared.parts.Part.{Part}
 use Rattle.page_roff_values.specs.declared.parts.Part.TheVariants.{Copied, Called}
 use Rattle.page_roff_values.specs.Environments.{Surroundings}
 use Rattle.page_roff_values.specs.Parts.{after_plain, call_cut, character_len, copies, parts, parts_up_to, plain, seen}
-use Rattle.page_roff_values.specs.Values.{NEST, Laid, Spot, adds, call_at, expanded, lay, nothing, start, value}
+use Rattle.page_roff_values.specs.Values.{NEST, Laid, Spot, adds, call_at, expanded, finished_len, lay, nothing, start, value}
 use Rattle.page_roff_values.specs.Verbatim.{GivesItself, IsFree, IsFreeFrom, IsVerbatim, copied_bytes, is_backslash, may_call}
 use Rattle.page_roff_values.proofs.LayLemmas.{seq_nothing}
 use Rattle.page_roff_values.proofs.LineLemmas.{put_all}
@@ -176,7 +176,7 @@ map_is None run text e = let no : ⊥ = cc in absurd no
 map_is (Some rest) run text e = (rest, (refl, ap (λ (x : Option (List ℕ)). unwrap_or x []) e))
 
 lay_copied : (call : Call (List ℕ) → Spot → Laid) (ps : List (Part (List ℕ))) (text : List ℕ) (s : Spot) → copied_bytes ps ≡ Some text → s.ended ≡ false
-    → length s.text + length text ≤ LINE → lay call ps s ≡ nothing (adds text s)
+    → finished_len s + length text ≤ LINE → lay call ps s ≡ nothing (adds text s)
 unfolding lay
 lay_copied call [] text s e g h = let is : [] ≡ text = ap (λ (x : Option (List ℕ)). unwrap_or x []) e in rw (← is, append-nil s.text) refl
 lay_copied call (Called c ∷ ps) text s e g h = let no : ⊥ = cc in absurd no

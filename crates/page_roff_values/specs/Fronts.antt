@@ -3,10 +3,10 @@ use Rattle.std.specs.Prelude.{◌≡◌, ℕ, ◌-◌, ◌≤◌, Bool, false, L
 use Rattle.page_core_limits.specs.declared.TheConstants.{LINE}
 use Rattle.page_roff_values.specs.declared.parts.Call.{Call}
 use Rattle.page_roff_values.specs.Parts.{parts}
-use Rattle.page_roff_values.specs.Values.{Spot, Laid, adds, lay}
+use Rattle.page_roff_values.specs.Values.{Spot, Laid, adds, lay, finished_len}
 
 -- this many bytes are copied, where there is room for them, and then what follows them is laid
 abbrev pub IsFront : Bool → ℕ → List ℕ → Type 0
 IsFront copy n text =
-    (call : Call (List ℕ) → Spot → Laid) (s : Spot) → s.ended ≡ false → n ≤ LINE - length s.text
+    (call : Call (List ℕ) → Spot → Laid) (s : Spot) → s.ended ≡ false → n ≤ LINE - finished_len s
     → lay call (parts copy text) s ≡ lay call (parts copy (drop n text)) (adds (take n text) s)

@@ -7,7 +7,7 @@ use Rattle.page_roff_values.specs.declared.parts.Part.{Part}
 use Rattle.page_roff_values.specs.declared.parts.Part.TheVariants.{Copied, Called}
 use Rattle.page_roff_values.specs.declared.sources.Sources.{Sources}
 use Rattle.page_roff_values.specs.Environments.{Surroundings}
-use Rattle.page_roff_values.specs.Values.{Spot, Laid, nothing, seq, put, call_at, value}
+use Rattle.page_roff_values.specs.Values.{Spot, Laid, nothing, seq, put, call_at, value, finished_len}
 use Rattle.page_roff_values.specs.Views.{part_of}
 
 -- how many interpolations more may stand inside the innermost of these texts, where this many may inside the outermost
@@ -35,7 +35,7 @@ calling env room call ts s = seq (call_at env (room_in room ts) call s) (rest en
 -- a part was read, or nothing is left, where there is room for this many bytes
 abbrev pub Reads : Bool → ℕ → List (List ℕ) → Option (Part (Bor (List ℕ))) → List (List ℕ) → Type 0
 Reads copy fits ts result us =
-    (env : Surroundings) (room : ℕ) (s : Spot) → env.copy ≡ copy → s.ended ≡ false → fits ≤ LINE - length s.text → MatchOption result
+    (env : Surroundings) (room : ℕ) (s : Spot) → env.copy ≡ copy → s.ended ≡ false → fits ≤ LINE - finished_len s → MatchOption result
     (rest env room ts s ≡ nothing s) (λ p. rest env room ts s ≡ seq (one env (room_in room us) (part_of p) s) (rest env room us))
 
 -- the bytes that are left of these texts, and their number

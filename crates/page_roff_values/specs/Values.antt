@@ -60,6 +60,14 @@ seq a f = unless a.edge.ended a (f a.edge)
 abbrev pub column_of : Spot → ℕ
 column_of s = unwrap_or s.around.width_column (s.around.bytes_before + length s.text + 1)
 
+-- how many bytes are finished: those that stand before the text count too, but not in a width, whose text is measured by itself
+abbrev pub bytes_before_in : Option ℕ → ℕ → ℕ
+bytes_before_in None bytes_before = bytes_before
+bytes_before_in (Some column) bytes_before = 0
+
+abbrev pub finished_len : Spot → ℕ
+finished_len s = bytes_before_in s.around.width_column s.around.bytes_before + length s.text
+
 abbrev pub message_at : NoteKind → List ℕ → Spot → Message
 message_at kind detail s = message_about kind (record { line = s.around.line; column = column_of s }) detail
 
@@ -86,7 +94,7 @@ kept text room = if nat_le (length text) room then length text else character_en
 -- Bytes are copied. Beyond LINE the line is cut at a character's end, and ends.
 unfoldable pub put : List ℕ → Spot → Laid
 put run s =
-    let end = kept run (LINE - length s.text) in
+    let end = kept run (LINE - finished_len s) in
     if nat_lt end (length run) then ends Limit (codes "LINE") (adds (take end run) s) else nothing (adds (take end run) s)
 
 -- parts, from the left; what an interpolation does is given

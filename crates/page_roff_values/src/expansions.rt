@@ -134,11 +134,22 @@ impl Nested {
         !self.ended
     }
 
+    // How many bytes of the line stand before the text: of a width's own text none count.
+    fn bytes_before(&self) -> usize
+        ensures value { result ≡ laying.bytes_before_in self.now.spot.around.width_column self.now.spot.around.bytes_before }
+        ensures bound { result ≤ 2 ^ 31 }
+    {
+        match self.width_column {
+            Some(_) => 0,
+            None => self.bytes_before as usize,
+        }
+    }
+
     // How many bytes still fit.
     fn room(&self) -> usize
-        ensures { result ≡ LINE - length self.now.spot.text }
+        ensures { result ≡ LINE - laying.finished_len self.now.spot }
     {
-        LINE - (self.text.len() - self.start)
+        LINE.saturating_sub(self.bytes_before() + (self.text.len() - self.start))
     }
 
     // The column of a message.

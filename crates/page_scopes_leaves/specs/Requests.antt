@@ -1,11 +1,13 @@
 -- Requests that change rows: what they give, and what they leave. Source: roff(7), "REQUEST REFERENCE".
-use Rattle.std.specs.Prelude.{ℕ, Bool, false, ◌==◌, ◌||◌, List, [], ◌∷◌, ◌++◌, Option, None, Some, if◌then◌else◌, ℤ, pos, ◌+ℤ◌}
+use Rattle.std.specs.Prelude.{ℕ, Bool, ◌==◌, ◌||◌, List, [], ◌∷◌, ◌++◌, Option, None, Some, if◌then◌else◌, ℤ, pos, ◌+ℤ◌}
 use Rattle.page_core_base.specs.Pieces.{Item, shown}
 use Rattle.page_core_base.specs.declared.pieces.Piece.TheVariants as pieces
 use Rattle.page_core_base.specs.declared.places.Place.{Place}
 use Rattle.page_core_escapes.specs.Meanings as meanings
 use Rattle.page_core_escapes.specs.Meanings.{Face, face_of, is_known}
 use Rattle.page_core_numbers.specs.Numbers.{in_range}
+use Rattle.page_roff_forms.specs.Arguments.{is_quoted}
+use Rattle.page_roff_forms.specs.declared.quotes.Argument.{Argument}
 use Rattle.page_scopes_words.specs.Settings.{set_to}
 use Rattle.page_scopes_layout.specs.declared.contexts.Context.{Context}
 use Rattle.page_scopes_words.specs.declared.settings.Setting.{Setting}
@@ -60,14 +62,16 @@ shift_items place columns c = given_shift_notes place columns ++ row_margin_item
 abbrev pub fonts_named : Face → Setting Fonts → Setting Fonts
 fonts_named face fonts = record { value = face_fonts face fonts.value; is_set = fonts.is_set || is_known face }
 
-abbrev pub given_face : Option (List ℕ) → Face
+abbrev pub given_face : Option (Argument (List ℕ)) → Face
 given_face None = meanings.former
-given_face (Some name) = face_of name
+given_face (Some name) = face_of name.text
 
-abbrev pub font_notes : Place → Option (List ℕ) → List Item
-font_notes place name = face_notes false place (given_face name)
+-- messages show a pair of quotes in a quoted name as one
+abbrev pub font_notes : Place → Option (Argument (List ℕ)) → List Item
+font_notes place None = []
+font_notes place (Some name) = face_notes (is_quoted name.quoting) place (face_of name.text)
 
-abbrev pub with_font_named : Option (List ℕ) → Context → Context
+abbrev pub with_font_named : Option (Argument (List ℕ)) → Context → Context
 with_font_named name c = record c { fonts = fonts_named (given_face name) c.fonts }
 
 -- ---- rows that are kept (`nf`, `EX`), or filled (`fi`, `EE`)

@@ -1,17 +1,19 @@
 //! Requests that change rows (roff(7), "REQUEST REFERENCE").
 
-ghost use Rattle.std.specs.Prelude.{◌≡◌};
+ghost use Rattle.std.specs.Prelude.{◌≡◌, Some};
 ghost use Rattle.page_core_base.specs.Latches.{Came};
 ghost use Rattle.page_core_escapes.specs.Escapes.{face_seen};
+ghost use Rattle.page_roff_forms.specs.Arguments.{argument_seen};
 ghost use Rattle.page_scopes_phrases.specs.Outcomes.{GivesOutcome};
 ghost use Rattle.page_scopes_leaves.specs.Requests as requests;
 ghost use Rattle.page_scopes_phrases.specs.Runnings.{row_ended, with_content};
 ghost use Rattle.page_scopes_text.specs.Numbers.{columns_notes};
-ghost use Rattle.page_sets_lines.specs.Events.{request_seen, text_seen};
+ghost use Rattle.page_sets_lines.specs.Events.{given_seen, request_seen, text_seen};
 
 use crate::margins::give_row_margins;
 use page_core_base::{Piece, PieceOut, Place};
 use page_core_escapes::{FontName, read_font};
+use page_roff_forms::Argument;
 use page_scopes_layout::Context;
 use page_scopes_phrases::Running;
 use page_scopes_text::{give_columns, give_rows};
@@ -116,17 +118,37 @@ fn fonts_named(name: FontName<'_>, fonts: Setting<Fonts>) -> Setting<Fonts>
     }
 }
 
-// Asks for a font by its name, or for the former one: `ft`.
-fn give_font<O: PieceOut>(out: &mut O, place: Place, name: Option<&[u8]>, context: &mut Context)
-    ensures came { Came O.left out.old (requests.font_notes place (text_seen name.entry)) out.new }
-    ensures context { context.new ≡ requests.with_font_named (text_seen name.entry) context.old }
+// Asks for a font by its name.
+fn give_named_font<O: PieceOut>(
+    out: &mut O,
+    place: Place,
+    name: Argument<&[u8]>,
+    context: &mut Context,
+)
+    ensures came { Came O.left out.old
+        (requests.font_notes place (Some (argument_seen name.entry))) out.new }
+    ensures context { context.new
+        ≡ requests.with_font_named (Some (argument_seen name.entry)) context.old }
 {
-    let font = match name {
-        None => FontName::Former,
-        Some(name) => read_font(name),
-    };
-    report_font(out, false, place, font);
+    let font = read_font(name.text);
+    report_font(out, name.is_quoted(), place, font);
     context.fonts = fonts_named(font, context.fonts);
+}
+
+// Asks for a font by its name, or for the former one: `ft`.
+fn give_font<O: PieceOut>(
+    out: &mut O,
+    place: Place,
+    name: Option<Argument<&[u8]>>,
+    context: &mut Context,
+)
+    ensures came { Came O.left out.old (requests.font_notes place (given_seen name.entry)) out.new }
+    ensures context { context.new ≡ requests.with_font_named (given_seen name.entry) context.old }
+{
+    match name {
+        None => context.fonts = fonts_named(FontName::Former, context.fonts),
+        Some(name) => give_named_font(out, place, name, context),
+    }
 }
 
 /// Keeps rows as they are from here on (`nf`, `EX`), or fills them (`fi`, `EE`).

@@ -120,25 +120,16 @@ fn give_name_word<O: PieceOut>(
         out.new context.new running.new }
 {
     let is_literal = context.is_literal.value;
+    let gap = running.next_gap();
     give_kept_gap(out, is_literal, running, place);
     give_empty(out, place, name);
     let fonts = own_fonts(Some(Font::B), context.fonts);
-    let _ = give_kept(
-        out,
-        is_literal,
-        running.next_gap().max(1),
-        place,
-        fonts,
-        name,
-    );
+    let _ = give_kept(out, is_literal, gap.max(1), place, fonts, name);
     context.has_row = context.has_row
         || (has_gap_cells(is_literal, running) || kept_prints_cell(is_literal, name));
-    running.heading.pass_text(
-        context.part,
-        name.is_quoted,
-        running.next_gap(),
-        name.text.text(),
-    );
+    running
+        .heading
+        .pass_text(context.part, name.is_quoted, gap, name.text.text());
     running.pass_kept(is_text(context.part), context.has_spacing.value);
     running.line.is_sentence = ends_sentence(false, name.text.text());
 }

@@ -179,7 +179,7 @@ fn show_request<'a>(request: Request<&'a [u8]>) -> Shown<'a> {
     match request {
         Request::Break => alone("request", "br"),
         Request::Space(rows) => with("request", "sp", given(rows)),
-        Request::Font(name) => with("request", "ft", given(name)),
+        Request::Font(name) => with("request", "ft", name),
         Request::Shift(columns) => with("request", "in", given(columns)),
         Request::Literal(begins) => alone("request", if begins { "nf" } else { "fi" }),
     }

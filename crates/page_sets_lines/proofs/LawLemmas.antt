@@ -72,11 +72,11 @@ first_text_after line start = text_part line (first_of (arguments_after start li
 pub second_text_after : (line : List ℕ) (start : ℕ) → IsPartIfGiven line (text_of (second_of (arguments_after start line)))
 second_text_after line start = text_part line (second_of (arguments_after start line)) (second_slice_after line start)
 
-pub request_slices : (line : List ℕ) (name : LayoutRequest) (given : Option (List ℕ)) → IsPartIfGiven line given → RequestsSlices line (request name given)
+pub request_slices : (line : List ℕ) (name : LayoutRequest) (given : Option (Argument (List ℕ))) → IsArgumentIfGiven line given → RequestsSlices line (request name given)
 request_slices line layout.Break given h = tt
-request_slices line layout.Space given h = h
+request_slices line layout.Space given h = text_part line given h
 request_slices line layout.Font given h = h
-request_slices line layout.Shift given h = h
+request_slices line layout.Shift given h = text_part line given h
 request_slices line (layout.Literal on) given h = tt
 
 pub line_slices : (line : PlainLine) (text : List ℕ) → HasSlices text (plain_deed line text)

@@ -78,7 +78,7 @@ closer_seen (closers.Block closer) = closers.Block (block_closer_seen closer)
 abbrev pub request_seen : Request (Bor (List ℕ)) → Request (List ℕ)
 request_seen requests.Break = requests.Break
 request_seen (requests.Space rows) = requests.Space (text_seen rows)
-request_seen (requests.Font name) = requests.Font (text_seen name)
+request_seen (requests.Font name) = requests.Font (given_seen name)
 request_seen (requests.Shift columns) = requests.Shift (text_seen columns)
 request_seen (requests.Literal on) = requests.Literal on
 

@@ -89,7 +89,7 @@ ClosesSlices line (closers.Block closer) = BlockClosesSlices line closer
 abbrev pub RequestsSlices : List ℕ → Request (List ℕ) → Type 0
 RequestsSlices line requests.Break = Unit {0}
 RequestsSlices line (requests.Space rows) = IsPartIfGiven line rows
-RequestsSlices line (requests.Font name) = IsPartIfGiven line name
+RequestsSlices line (requests.Font name) = IsArgumentIfGiven line name
 RequestsSlices line (requests.Shift columns) = IsPartIfGiven line columns
 RequestsSlices line (requests.Literal on) = Unit {0}
 

@@ -2,6 +2,7 @@
 use Rattle.std.specs.Prelude.{ℕ, Bool, true, false, List, [], ◌∷◌, Option, None, Some, if◌then◌else◌}
 use Rattle.page_core_base.specs.declared.lines_taken.Form.{Form}
 use Rattle.page_core_base.specs.declared.lines_taken.Form.TheVariants as forms
+use Rattle.page_roff_forms.specs.declared.quotes.Argument.{Argument}
 use Rattle.page_roff_forms.specs.declared.quotes.Quoting.TheVariants.{Bare}
 use Rattle.page_roff_forms.specs.LineForms.{has_word}
 use Rattle.page_roff_requests.specs.Requests.{request_of}
@@ -9,6 +10,7 @@ use Rattle.page_roff_requests.specs.declared.requests.LayoutRequest.{LayoutReque
 use Rattle.page_roff_requests.specs.declared.requests.LayoutRequest.TheVariants as layout
 use Rattle.page_roff_requests.specs.declared.requests.Request.TheVariants as names
 use Rattle.page_roff_requests.specs.declared.requests.Request as roff
+use Rattle.page_sets_lines.specs.ControlLines.{text_of}
 use Rattle.page_sets_lines.specs.declared.leaves.Request.{Request}
 use Rattle.page_sets_lines.specs.declared.leaves.Request.TheVariants as requests
 use Rattle.page_sets_lines.specs.declared.leaves.Leaf.TheVariants.{BlankLine, Wordless}
@@ -80,9 +82,9 @@ unfoldable pub layout_request : List ℕ → Option LayoutRequest
 layout_request name = layout_in (request_of name)
 
 -- a request with its first argument, where it has one
-abbrev pub request : LayoutRequest → Option (List ℕ) → Request (List ℕ)
+abbrev pub request : LayoutRequest → Option (Argument (List ℕ)) → Request (List ℕ)
 request layout.Break given = requests.Break
-request layout.Space given = requests.Space given
+request layout.Space given = requests.Space (text_of given)
 request layout.Font given = requests.Font given
-request layout.Shift given = requests.Shift given
+request layout.Shift given = requests.Shift (text_of given)
 request (layout.Literal on) given = requests.Literal on

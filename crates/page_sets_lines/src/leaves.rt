@@ -6,6 +6,7 @@ ghost use Rattle.std.specs.Prelude.{◌≡◌};
 use crate::events::Join;
 use crate::line_steps::LineStep;
 use page_core_base::Font;
+use page_roff_forms::Argument;
 use page_sets_names::{Own, Prologue};
 use std::alloc::AllocError;
 
@@ -16,7 +17,7 @@ pub enum Request<W> {
     /// `sp`, with its rows.
     Space(Option<W>),
     /// `ft`, with the name of the font.
-    Font(Option<W>),
+    Font(Option<Argument<W>>),
     /// `in`, with its shift.
     Shift(Option<W>),
     /// `nf` (true) and `fi` (false).

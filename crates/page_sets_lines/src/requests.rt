@@ -1,11 +1,13 @@
 //! The requests that change rows (roff(7), "REQUEST REFERENCE"). All sets of macros know them.
 
 ghost use Rattle.std.specs.Prelude.{◌≡◌};
-ghost use Rattle.page_sets_lines.specs.Events.{request_seen, text_seen};
+ghost use Rattle.page_sets_lines.specs.ControlLines.{text_of};
+ghost use Rattle.page_sets_lines.specs.Events.{given_seen, request_seen, text_seen};
 ghost use Rattle.page_sets_lines.specs.PlainLines.{layout_request};
 ghost use Rattle.page_sets_lines.specs.PlainLines as plain;
 
 use crate::leaves::Request;
+use page_roff_forms::Argument;
 use page_roff_requests::LayoutRequest;
 
 /// The request of this name that changes rows.
@@ -19,15 +21,28 @@ pub fn layout_request(name: &[u8]) -> Option<LayoutRequest>
     }
 }
 
+// The text of an argument, where there is one.
+fn text_of<'a>(given: Option<Argument<&'a [u8]>>) -> Option<&'a [u8]>
+    ensures { text_seen result ≡ text_of (given_seen given.entry) }
+{
+    match given {
+        Some(argument) => Some(argument.text),
+        None => None,
+    }
+}
+
 /// A request with its first argument, where it has one.
-pub fn with_argument<'a>(request: LayoutRequest, given: Option<&'a [u8]>) -> Request<&'a [u8]>
-    ensures { request_seen result ≡ plain.request request (text_seen given.entry) }
+pub fn with_argument<'a>(
+    request: LayoutRequest,
+    given: Option<Argument<&'a [u8]>>,
+) -> Request<&'a [u8]>
+    ensures { request_seen result ≡ plain.request request (given_seen given.entry) }
 {
     match request {
         LayoutRequest::Break => Request::Break,
-        LayoutRequest::Space => Request::Space(given),
+        LayoutRequest::Space => Request::Space(text_of(given)),
         LayoutRequest::Font => Request::Font(given),
-        LayoutRequest::Shift => Request::Shift(given),
+        LayoutRequest::Shift => Request::Shift(text_of(given)),
         LayoutRequest::Literal(on) => Request::Literal(on),
     }
 }

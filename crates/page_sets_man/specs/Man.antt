@@ -71,7 +71,7 @@ closer closes.Syntax arguments = closers.Syntax
 
 -- what it changes, or prints before its words (`TH EX EE PD TQ B I SM SB OP`, and requests); the text is the rest of its line
 abbrev pub leaf : Sets → List ℕ → List (Argument (List ℕ)) → Leaf (List ℕ)
-leaf (sets.Request name) rest arguments = leaves.Request (request name (text_of (first_of arguments)))
+leaf (sets.Request name) rest arguments = leaves.Request (request name (first_of arguments))
 leaf sets.Title rest arguments = leaves.Prologue TH rest
 leaf (sets.Example begins) rest arguments = leaves.Example begins
 leaf sets.Distance rest arguments = leaves.Distance (text_of (first_of arguments))

@@ -99,7 +99,7 @@ closes_slices line (closes.Target link) start = first_slice_after line start
 closes_slices line closes.Syntax start = tt
 
 sets_slices : (line : List ℕ) (change : Sets) (start : ℕ) → start ≤ length line → LeavesSlices line (leaf change (drop start line) (arguments_after start line))
-sets_slices line (sets.Request name) start h = request_slices line name _ (first_text_after line start)
+sets_slices line (sets.Request name) start h = request_slices line name _ (first_slice_after line start)
 sets_slices line sets.Title start h = rest_part line start h
 sets_slices line (sets.Example begins) start h = tt
 sets_slices line sets.Distance start h = first_text_after line start

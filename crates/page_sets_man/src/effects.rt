@@ -89,7 +89,7 @@ fn leaf(sets: Sets, text: &[u8], start: usize) -> Leaf<&[u8]>
     ensures leaf { leaf_seen result ≡ man.leaf sets (drop start text.now) (arguments_after start text.now) }
 {
     match sets {
-        Sets::Request(request) => Leaf::Request(with_argument(request, first_text(text, start))),
+        Sets::Request(request) => Leaf::Request(with_argument(request, first_of(text, start))),
         Sets::Title => Leaf::Prologue(Prologue::TH, &text[start..]),
         Sets::Example(begins) => Leaf::Example(begins),
         Sets::Distance => Leaf::Distance(first_text(text, start)),

@@ -16,7 +16,7 @@ use Rattle.page_sets_lines.specs.declared.leaves.Leaf.TheVariants as leaves
 use Rattle.page_sets_lines.specs.declared.line_steps.LineStep.TheVariants as steps
 use Rattle.page_sets_lines.specs.ControlLines.{name_end, rest_of, open_quote}
 use Rattle.page_sets_lines.proofs.OrderLemmas.{AreArguments, all_arguments}
-use Rattle.page_sets_lines.proofs.LawLemmas.{nothing_part, rest_part, end_within, name_part, first_text_after, request_slices, AreSlices-append, HasNoWord}
+use Rattle.page_sets_lines.proofs.LawLemmas.{nothing_part, rest_part, end_within, name_part, first_slice_after, first_text_after, request_slices, AreSlices-append, HasNoWord}
 use Rattle.page_roff_forms.specs.declared.quotes.Argument.{Argument}
 use Rattle.page_sets_mdoc_rows.specs.declared.blocks.Block.{Block}
 use Rattle.page_sets_mdoc_rows.specs.declared.blocks.Block.TheVariants as blocks
@@ -47,7 +47,7 @@ heading_slices line headings.Ss = tt
 
 pub request_front_slices : (name : LayoutRequest) (line : Line) → AreSlices line.text (request_front name line)
 request_front_slices name line =
-    AreSlices-append line.text _ _ (missing_slices false line) (request_slices line.text name _ (first_text_after line.text (name_end line)), tt)
+    AreSlices-append line.text _ _ (missing_slices false line) (request_slices line.text name _ (first_slice_after line.text (name_end line)), tt)
 
 given_part : (line : List ℕ) (text : Option (List ℕ)) → IsPartIfGiven line text → IsPart line (unwrap_or text [])
 given_part line None h = nothing_part line
@@ -143,7 +143,7 @@ deed_slices : (deed : FrontDeed) (line : Line) → AreSlices line.text (deed_at_
 deed_slices fronts.Item line = (tt, tt)
 deed_slices fronts.Nothing line = tt
 deed_slices (fronts.Refused kind) line = (name_part line, tt)
-deed_slices (fronts.Request name) line = (request_slices line.text name _ (first_text_after line.text (name_end line)), tt)
+deed_slices (fronts.Request name) line = (request_slices line.text name _ (first_slice_after line.text (name_end line)), tt)
 deed_slices (fronts.Prologue name) line = (rest_part line.text (name_end line) (end_within line), tt)
 deed_slices (fronts.Paragraph name) line = (tt, tt)
 deed_slices (fronts.Begins block) line = (opens_slices block line, tt)

@@ -37,7 +37,7 @@ abbrev pub front_deed : FrontDeed → Line → Option (Deed (List ℕ))
 front_deed fronts.Item line = Some (deeds.Open openers.Item)
 front_deed fronts.Nothing line = None
 front_deed (fronts.Refused kind) line = Some (deeds.Note kind (name_of line) false)
-front_deed (fronts.Request name) line = Some (deeds.Leaf (leaves.Request (request name (text_of (first_of (line_arguments line))))))
+front_deed (fronts.Request name) line = Some (deeds.Leaf (leaves.Request (request name (first_of (line_arguments line)))))
 front_deed (fronts.Prologue name) line = Some (deeds.Leaf (leaves.Prologue name (rest_of line)))
 front_deed (fronts.Paragraph name) line = Some (deeds.Leaf (leaves.Step (steps.BodyParagraph name)))
 front_deed (fronts.Begins block) line = Some (block_deed true block line)

@@ -64,7 +64,7 @@ missing_quote begins_body line = quote_events line.number begins_body (open_quot
 -- `br sp ft in nf fi`
 abbrev pub request_front : LayoutRequest → Line → List (Event (List ℕ))
 request_front name line =
-    missing_quote false line ++ (at_name line (deeds.Leaf (leaves.Request (request name (text_of (first_of (line_arguments line)))))) ∷ [])
+    missing_quote false line ++ (at_name line (deeds.Leaf (leaves.Request (request name (first_of (line_arguments line))))) ∷ [])
 
 -- the scope that a heading begins
 abbrev pub heading_opener : HeadingName → Opener (List ℕ)

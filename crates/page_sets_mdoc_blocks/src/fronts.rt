@@ -17,7 +17,7 @@ use page_core_limits::LINE;
 use page_roff_requests::LayoutRequest;
 use page_sets_lines::{
     BlockCloser, BlockOpener, BodyParagraphName, Closer, Deed, Event, HeadingName, Leaf,
-    LineOpener, LineStep, Opener, Prologue, find_name, with_argument,
+    LineOpener, LineStep, Opener, Prologue, find_name, first_of, with_argument,
 };
 use page_sets_mdoc_rows::{Block, LineMacro};
 
@@ -172,7 +172,7 @@ fn front_deed<'a>(deed: FrontDeed, line: Taken<'a>) -> Option<Deed<&'a [u8]>>
         }),
         FrontDeed::Request(request) => Some(Deed::Leaf(Leaf::Request(with_argument(
             request,
-            first_text(line),
+            first_of(line.text, name.end),
         )))),
         FrontDeed::Prologue(prologue) => {
             Some(Deed::Leaf(Leaf::Prologue(prologue, &line.text[name.end..])))

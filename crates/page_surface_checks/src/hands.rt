@@ -76,6 +76,21 @@ pub(crate) fn run_line<L: LineSink>(
     Ok(())
 }
 
+/// Roff goes on from its part of what is held of the page, where it is between two lines.
+pub(crate) fn cut_roff(alloc: Global, settings: &Settings, roff: &mut Roff) -> Result<(), Fault> {
+    if !roff.idle() {
+        return Err(Fault::TooLong);
+    }
+    let part = roff.part(alloc)?;
+    match Roff::from_part(alloc, settings, part) {
+        Ok(next) => {
+            *roff = next;
+            Ok(())
+        }
+        Err((_, fault)) => Err(fault),
+    }
+}
+
 /// Ends roff.
 pub(crate) fn end_roff(roff: &mut Roff, notes: &mut Notes) -> Result<(), Fault> {
     if roff.idle() {
@@ -96,6 +111,23 @@ pub(crate) fn new_scopes<S: MacroSet>(
     let mut scopes = Scopes::new(alloc, settings, &Man)?;
     scopes.choose(set);
     Ok(scopes)
+}
+
+// The scopes go on from their part of what is held of the page.
+fn cut_scopes<S: MacroSet>(
+    alloc: Global,
+    settings: &Settings,
+    set: &S,
+    scopes: &mut Scopes,
+) -> Result<(), Fault> {
+    let part = scopes.part(alloc)?;
+    match Scopes::from_part(alloc, settings, set, part) {
+        Ok(next) => {
+            *scopes = next;
+            Ok(())
+        }
+        Err((_, fault)) => Err(fault),
+    }
 }
 
 // Applies the events of a finished line.
@@ -132,6 +164,12 @@ impl<S: MacroSet + Drop> Body<S> {
         Ok(Body { set, scopes, sheet })
     }
 
+    // The scopes and the filler go on from what they hold.
+    fn cut(&mut self, alloc: Global, settings: &Settings) -> Result<(), Fault> {
+        cut_scopes(alloc, settings, &self.set, &mut self.scopes)?;
+        self.sheet.cut(alloc, settings)
+    }
+
     // Ends all scopes and the open row.
     fn finish(&mut self) -> Result<(), Fault> {
         self.scopes.finish(&mut self.sheet)?;
@@ -157,6 +195,8 @@ where
 /// A page of a macro set.
 #[derive(Drop)]
 pub(crate) struct ByHand<S> {
+    alloc: Global,
+    settings: Settings,
     roff: Roff,
     body: Body<S>,
 }
@@ -171,7 +211,12 @@ impl<S: MacroSet + Drop> ByHand<S> {
     ) -> Result<ByHand<S>, Fault> {
         let roff = new_roff(alloc, settings)?;
         let body = Body::new(alloc, settings, set, kept)?;
-        Ok(ByHand { roff, body })
+        Ok(ByHand {
+            alloc,
+            settings: *settings,
+            roff,
+            body,
+        })
     }
 }
 
@@ -181,6 +226,11 @@ where
 {
     fn line(&mut self, text: &[u8], number: u32) -> Result<(), Fault> {
         run_line(&mut self.roff, text, number, &mut self.body)
+    }
+
+    fn cut(&mut self) -> Result<(), Fault> {
+        cut_roff(self.alloc, &self.settings, &mut self.roff)?;
+        self.body.cut(self.alloc, &self.settings)
     }
 
     fn end(&mut self) -> Result<(), Fault> {

@@ -17,6 +17,9 @@ pub(crate) trait FedPage {
     /// A line comes, of a number.
     fn line(&mut self, text: &[u8], number: u32) -> Result<(), Fault>;
 
+    /// Its layers go on from what they hold between two lines, in memory of its own.
+    fn cut(&mut self) -> Result<(), Fault>;
+
     /// No more lines come.
     fn end(&mut self) -> Result<(), Fault>;
 

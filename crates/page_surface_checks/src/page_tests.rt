@@ -1,6 +1,7 @@
 //! Whole pages by hand, from all layers; and what each layer needs of memory.
 
 use crate::checks::{all_messages, check, check_answer, check_counts, check_text, counts_of};
+use crate::cuts::CutPage;
 use crate::hands::{ByHand, new_roff, new_scopes};
 use crate::lines::{FedPage, cut};
 use crate::sheets::new_filler;
@@ -9,6 +10,7 @@ use crate::steps::{Step, check_steps};
 use page_core::{Encoding, Fault, Level};
 use page_roff::Cutter;
 use page_sets::{Either, MacroSet, Man, Mdoc};
+use std::alloc::Global;
 use std::process::Abort;
 use std::test::Fail;
 
@@ -80,6 +82,22 @@ const MAN_PAGES: &[Case] = &[
         messages: "",
         worst: None,
     },
+    Case {
+        page: ".TH T 1 2020-01-01 S\n.SH A\naaaaaaaaaaaaaaaaaaaaaaaaaaaaaaaaaaaaaaaaaaaaaaaaaaaaaaaaaaaa b\\ c\\c\ndddddddddddd\n",
+        lines: 4,
+        cuts: "",
+        rows: "A\u{8}A\n       aaaaaaaaaaaaaaaaaaaaaaaaaaaaaaaaaaaaaaaaaaaaaaaaaaaaaaaaaaaa\n       b cdddddddddddd\n",
+        messages: "",
+        worst: None,
+    },
+    Case {
+        page: ".TH T 1 2020-01-01 S\n.SH A\n.UR http://a/\nsite\n.UE .\n.TS\na b\n.TE\n",
+        lines: 8,
+        cuts: "",
+        rows: "A\u{8}A\n       site <http://a/>.\n       a b\n",
+        messages: "mandoc: x.1:6:2: UNSUPP: unsupported table, equation or picture\n",
+        worst: Some(Level::Unsupp),
+    },
 ];
 
 const MDOC_PAGES: &[Case] = &[
@@ -107,6 +125,14 @@ const MDOC_PAGES: &[Case] = &[
         messages: "mandoc: x.1:5:2: ERROR: skipping unknown macro: Zz\n",
         worst: Some(Level::Error),
     },
+    Case {
+        page: ".Dd January 1, 2020\n.Dt T 1\n.Os S\n.Sh A\n.Bl -enum -compact\n.It\na\n.It\nb\n.El\n.Bl -column aa b\n.It x Ta y Ta z\n.El\n",
+        lines: 13,
+        cuts: "",
+        rows: "A\u{8}A\n     1.   a\n     2.   b\n\n     x     y    z\n",
+        messages: "",
+        worst: None,
+    },
 ];
 
 // Cuts a page and feeds its lines, and compares what comes of it.
@@ -123,7 +149,12 @@ fn check_page<P: FedPage + Drop, R: Abort + AllocGlobal>(rt: &R, mut page: P, ca
     check_text(rt, kept.notes.text.as_slice(), case.messages);
 }
 
-// Checks pages by hand.
+// A page by hand, whose sinks do not fail.
+fn new_page<S: MacroSet + Copy>(alloc: Global, set: S) -> Result<ByHand<S>, Fault> {
+    ByHand::new(alloc, &all_messages(), set, Kept::new(alloc, (0, 0)))
+}
+
+// Checks pages by hand, also where their layers go on after each line from what they hold.
 fn check_by_hand<S: MacroSet + Copy, R: Abort + AllocGlobal>(
     rt: &R,
     set: S,
@@ -133,9 +164,9 @@ where
     S::Place: Drop,
 {
     for case in cases {
-        let kept = Kept::new(rt.alloc(), (0, 0));
-        let page = ByHand::new(rt.alloc(), &all_messages(), set, kept)?;
-        check_page(rt, page, case);
+        check_page(rt, new_page(rt.alloc(), set)?, case);
+        let page = new_page(rt.alloc(), set)?;
+        check_page(rt, CutPage { page }, case);
     }
     Ok(())
 }
@@ -202,9 +233,9 @@ const STEPS: &[Step] = &[
 
 #[test]
 fn lines_by_hand(rt: HostRuntime) -> Result<(), Fail> {
-    let kept = Kept::new(rt.alloc(), (0, 0));
-    let page = ByHand::new(rt.alloc(), &all_messages(), Man, kept)?;
-    check_steps(&rt, page, STEPS);
+    check_steps(&rt, new_page(rt.alloc(), Man)?, STEPS);
+    let page = new_page(rt.alloc(), Man)?;
+    check_steps(&rt, CutPage { page }, STEPS);
     Ok(())
 }
 
@@ -249,6 +280,7 @@ fn check_stop<P: FedPage + Drop>(rt: &impl Abort, mut page: P, stop: &Stop) {
     let _ = page.line(b"b", 5);
     check_answer(rt, page.end(), stop.end);
     check_answer(rt, page.end(), Err(Fault::Failed));
+    check_answer(rt, page.cut(), Err(Fault::Failed));
     check_text(rt, page.kept().rows.text.as_slice(), stop.rows);
 }
 

@@ -1,12 +1,14 @@
 //! Roff by hand: the finished lines of source lines, and what is counted of them.
 
 use crate::checks::all_messages;
-use crate::hands::{LineSink, end_roff, new_roff, run_line};
+use crate::cuts::CutPage;
+use crate::hands::{LineSink, cut_roff, end_roff, new_roff, run_line};
 use crate::lines::FedPage;
 use crate::sinks::{Kept, Notes};
 use crate::steps::{Step, check_steps};
 use page_core::{Fault, Taken};
 use page_roff::{Counts, Roff};
+use std::alloc::Global;
 use std::test::Fail;
 
 // Finished lines stand for rows, each with a bar after it.
@@ -25,13 +27,27 @@ impl LineSink for Kept {
 // Roff alone.
 #[derive(Drop)]
 struct RoffAlone {
+    alloc: Global,
     roff: Roff,
     kept: Kept,
+}
+
+impl RoffAlone {
+    // Before the first line.
+    fn new(alloc: Global) -> Result<RoffAlone, Fault> {
+        let roff = new_roff(alloc, &all_messages())?;
+        let kept = Kept::new(alloc, (0, 0));
+        Ok(RoffAlone { alloc, roff, kept })
+    }
 }
 
 impl FedPage for RoffAlone {
     fn line(&mut self, text: &[u8], number: u32) -> Result<(), Fault> {
         run_line(&mut self.roff, text, number, &mut self.kept)
+    }
+
+    fn cut(&mut self) -> Result<(), Fault> {
+        cut_roff(self.alloc, &all_messages(), &mut self.roff)
     }
 
     fn end(&mut self) -> Result<(), Fault> {
@@ -118,10 +134,93 @@ const STEPS: &[Step] = &[
     },
 ];
 
+// A loop, a block and a region, each open over lines, and a condition that its `el` waits for.
+const OPEN_STEPS: &[Step] = &[
+    Step {
+        line: ".nr i 0",
+        rows: "",
+        open: (0, 0),
+        taken: 1,
+        expansions: 0,
+    },
+    Step {
+        line: ".while \\ni<2 \\{x\\ni",
+        rows: "",
+        open: (0, 0),
+        taken: 2,
+        expansions: 0,
+    },
+    Step {
+        line: ".nr i +1",
+        rows: "",
+        open: (0, 0),
+        taken: 3,
+        expansions: 0,
+    },
+    Step {
+        line: ".\\}",
+        rows: "x0|x1|",
+        open: (0, 0),
+        taken: 13,
+        expansions: 5,
+    },
+    Step {
+        line: ".if n \\{",
+        rows: "x0|x1|",
+        open: (0, 0),
+        taken: 14,
+        expansions: 5,
+    },
+    Step {
+        line: ".ig",
+        rows: "x0|x1|",
+        open: (0, 0),
+        taken: 15,
+        expansions: 5,
+    },
+    Step {
+        line: "\\}",
+        rows: "x0|x1|",
+        open: (0, 0),
+        taken: 16,
+        expansions: 5,
+    },
+    Step {
+        line: "..",
+        rows: "x0|x1|",
+        open: (0, 0),
+        taken: 17,
+        expansions: 5,
+    },
+    Step {
+        line: ".ie t a",
+        rows: "x0|x1|",
+        open: (0, 0),
+        taken: 18,
+        expansions: 5,
+    },
+    Step {
+        line: ".el b",
+        rows: "x0|x1|b|",
+        open: (0, 0),
+        taken: 20,
+        expansions: 5,
+    },
+    Step {
+        line: ".\\}",
+        rows: "x0|x1|b|",
+        open: (0, 0),
+        taken: 21,
+        expansions: 5,
+    },
+];
+
 #[test]
 fn runs_roff(rt: HostRuntime) -> Result<(), Fail> {
-    let kept = Kept::new(rt.alloc(), (0, 0));
-    let roff = new_roff(rt.alloc(), &all_messages())?;
-    check_steps(&rt, RoffAlone { roff, kept }, STEPS);
+    for steps in [STEPS, OPEN_STEPS] {
+        check_steps(&rt, RoffAlone::new(rt.alloc())?, steps);
+        let page = RoffAlone::new(rt.alloc())?;
+        check_steps(&rt, CutPage { page }, steps);
+    }
     Ok(())
 }

@@ -25,6 +25,18 @@ fn fill(filler: &mut Filler, kept: &mut Kept, piece: Piece<&[u8]>) -> bool {
     filler.piece(piece, &mut kept.rows, &mut kept.notes).is_ok()
 }
 
+// The filler goes on from its part.
+fn cut(alloc: Global, settings: &Settings, filler: &mut Filler) -> Result<(), Fault> {
+    let part = filler.part(alloc)?;
+    match Filler::from_part(alloc, settings, part) {
+        Ok(next) => {
+            *filler = next;
+            Ok(())
+        }
+        Err((_, fault)) => Err(fault),
+    }
+}
+
 impl Sheet {
     /// A sheet without a row.
     pub(crate) fn new(alloc: Global, settings: &Settings, kept: Kept) -> Result<Sheet, Fault> {
@@ -34,6 +46,11 @@ impl Sheet {
             kept,
             has_failed: false,
         })
+    }
+
+    /// The filler goes on from what it holds.
+    pub(crate) fn cut(&mut self, alloc: Global, settings: &Settings) -> Result<(), Fault> {
+        cut(alloc, settings, &mut self.filler)
     }
 
     /// Ends the open row, and fails where the filler did or still has an open row.

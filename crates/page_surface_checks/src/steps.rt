@@ -29,7 +29,7 @@ fn check_step<P: FedPage>(rt: &impl Abort, page: &mut P, number: u32, step: &Ste
     check_text(rt, page.kept().rows.text.as_slice(), step.rows);
 }
 
-/// Feeds lines to a page, which have no message, and its end, after which it takes nothing more.
+/// Feeds lines to a page, which have no message, and its end, after which it takes nothing more and holds nothing.
 pub(crate) fn check_steps<P: FedPage + Drop>(rt: &impl Abort, mut page: P, steps: &[Step]) {
     let mut number = 0u32;
     for step in steps {
@@ -38,6 +38,7 @@ pub(crate) fn check_steps<P: FedPage + Drop>(rt: &impl Abort, mut page: P, steps
     }
     check_answer(rt, page.end(), Ok(()));
     check_answer(rt, page.line(b"x", 1), Err(Fault::Failed));
+    check_answer(rt, page.cut(), Err(Fault::Failed));
     check_answer(rt, page.end(), Err(Fault::Failed));
     check_text(rt, page.kept().notes.text.as_slice(), "");
 }

@@ -1,6 +1,5 @@
 use Rattle.std.proofs.Common.{◌≡◌, List, ℕ, [], ◌∷◌, ◌++◌, true, false, refl, ap, sym, ◌∙◌, append_assoc}
-use Rattle.page_roff_forms.specs.Arguments.{argument_seen, is_quoted}
-use Rattle.page_roff_buffers.specs.Calls.{argument_value}
+use Rattle.page_roff_forms.specs.Arguments.{argument_seen, argument_value, is_quoted}
 use Rattle.page_roff_buffers.proofs.PackLemmas.{plain_value}
 use Rattle.page_roff_buffers.proofs.calls.append_argument.Goals as goal
 use Rattle.page_roff_buffers.proofs.calls.append_argument.Goals.{then-is_quoted+then-is_some, else-is_quoted, else-is_quoted-via-then-is_quoted+else-is_some, else-is_quoted-via-else-is_quoted}

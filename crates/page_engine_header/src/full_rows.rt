@@ -1,30 +1,32 @@
-//! A latch that takes the front of a row: as many characters as a row holds (roff(7), "Filling and adjusting").
+//! A latch that ends rows that are full (roff(7), "Filling and adjusting").
 
 ghost use Rattle.std.specs.Prelude.{◌≡◌, List};
 ghost use Rattle.page_core_base.specs.Pieces.{Item};
+ghost use Rattle.page_core_limits.specs.declared.TheConstants.{CELLS};
 ghost use Rattle.page_engine_header.specs.RowPlans.{RowPlanned, RowLeft};
 
 use page_core_base::{Font, Note, Piece, PieceOut, Place};
+use page_core_limits::CELLS;
 
-/// Hands on the first items that it takes, as many as there is room for, and passes over the others.
+/// Hands on the characters of a row, and ends the row before one that it has no room for.
 #[derive(Drop)]
-pub(crate) struct RowFront<'a, O> {
+pub(crate) struct FullRows<'a, O> {
     out: &'a mut O,
     room: usize,
 }
 
-impl<'a, O: PieceOut> RowFront<'a, O> {
-    /// A front of at most `room` items.
-    pub(crate) fn new(out: &'a mut O, room: usize) -> RowFront<'a, O>
+impl<'a, O: PieceOut> FullRows<'a, O> {
+    /// At the front of a row.
+    pub(crate) fn new(out: &'a mut O) -> FullRows<'a, O>
         ensures loan { result.out.ghost_name ≡ out.entry.ghost_name }
         ensures out { result.out.now ≡ out.entry.now }
-        ensures room { result.room ≡ room }
+        ensures room { result.room ≡ CELLS }
     {
-        RowFront { out, room }
+        FullRows { out, room: CELLS }
     }
 }
 
-impl<O: PieceOut> PieceOut for RowFront<'_, O> {
+impl<O: PieceOut> PieceOut for FullRows<'_, O> {
     ghost Plan = { RowPlanned O.Plan };
 
     ghost left = { λ plan s rest. RowLeft O.left plan s.out.ghost_name s.out.now s.room rest };
@@ -32,6 +34,10 @@ impl<O: PieceOut> PieceOut for RowFront<'_, O> {
     fn give(&mut self, piece: Piece<&[u8]>) {
         if self.room > 0 {
             self.room -= 1;
+            self.out.give(piece);
+        } else {
+            self.room = CELLS - 1;
+            self.out.give(Piece::Break);
             self.out.give(piece);
         }
     }
@@ -44,6 +50,10 @@ impl<O: PieceOut> PieceOut for RowFront<'_, O> {
     fn report(&mut self, note: &Note) {
         if self.room > 0 {
             self.room -= 1;
+            self.out.report(note);
+        } else {
+            self.room = CELLS - 1;
+            self.out.give(Piece::Break);
             self.out.report(note);
         }
     }
