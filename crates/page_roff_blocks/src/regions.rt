@@ -3,7 +3,7 @@
 ghost use Rattle.std.specs.Prelude.{◌≡◌, ◌≤◌, ◌+◌, length, option_map};
 ghost use Rattle.page_core_limits.specs.declared.TheConstants.{LINE, NAME};
 ghost use Rattle.page_roff_forms.specs.Arguments.{argument_seen, argument_name, arguments};
-ghost use Rattle.page_roff_blocks.specs.Regions.{first_named, ending_of, asked_ending, end_name, has_long_name, is_too_long, region_head, is_ending, text_seen, region_seen, NameOfNext};
+ghost use Rattle.page_roff_blocks.specs.Regions.{ending_of, end_name, has_long_name, is_too_long, region_head, is_ending, region_seen, NameOfNext};
 
 use arrayvec::ArrayVec;
 use page_core_limits::{LINE, NAME};

@@ -13,7 +13,7 @@ use Rattle.page_sets_names.specs.declared.macro_names.HeadingName.TheVariants as
 use Rattle.page_sets_lines.specs.declared.openers.LineOpener.{LineOpener}
 use Rattle.page_sets_lines.specs.declared.openers.Opener.TheVariants as openers
 use Rattle.page_sets_lines.specs.declared.openers.Closer.TheVariants as closers
-use Rattle.page_sets_lines.specs.ControlLines.{name_of, rest_of, first_of, text_of, open_quote}
+use Rattle.page_sets_lines.specs.ControlLines.{name_of, rest_of, first_of, open_quote}
 use Rattle.page_sets_lines.specs.PlainLines.{request}
 use Rattle.page_sets_mdoc_blocks.specs.declared.fronts.FrontDeed.{FrontDeed}
 use Rattle.page_sets_mdoc_blocks.specs.declared.fronts.FrontDeed.TheVariants as fronts

@@ -1,4 +1,3 @@
-use Rattle.std.proofs.Common.{arith}
 use Rattle.page_roff_forms.proofs.ArgumentLemmas.{quoted_pair, quoted_last}
 use Rattle.page_roff_forms.proofs.quotes.pair_len.Goals as goal
 
