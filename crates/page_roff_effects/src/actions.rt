@@ -27,7 +27,7 @@ use std::alloc::{AllocError, Global};
 use std::marker::Model;
 
 /// What the parts of a source do: definitions, the body of the open region or loop, and the line and the call that were taken last. All memory is
-/// reserved by [`Actions::new`].
+/// reserved by [`Actions::new`] and [`Actions::at`].
 #[derive(Drop)]
 pub struct Actions {
     pub(crate) names: Names,

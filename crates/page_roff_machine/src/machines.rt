@@ -21,7 +21,7 @@ use page_roff_values::NoteOut;
 use std::alloc::{AllocError, Global};
 use std::marker::Model;
 
-/// The machine that runs a page, a source line at a time. All memory is reserved by [`Machine::new`].
+/// The machine that runs a page, a source line at a time. All memory is reserved by [`Machine::new`] and [`Machine::at`].
 ///
 /// [`Machine::begin`] takes a source line; [`Machine::advance`] is then called until it answers that the source line is done.
 #[derive(Drop)]

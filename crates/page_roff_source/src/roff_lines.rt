@@ -59,7 +59,8 @@ fn run_if(is_taken: bool) -> Remaining
 
 /// Runs the source lines of a page one after another, with their macros and loops, and lends the finished lines that they give.
 ///
-/// It reports to what never fails; [`Roff`](crate::Roff) reports to a sink. All memory is reserved by [`RoffLines::new`].
+/// It reports to what never fails; [`Roff`](crate::Roff) reports to a sink. All memory is reserved by [`RoffLines::new`] and
+/// [`RoffLines::at`].
 #[derive(Drop)]
 pub struct RoffLines {
     machine: Machine,

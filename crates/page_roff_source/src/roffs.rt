@@ -23,7 +23,8 @@ use std::marker::Model;
 
 /// Runs the source lines of a page one after another, and lends the finished lines that they give (roff(7)).
 ///
-/// After a failure of the sink, and after the end, it is of no use. All memory is reserved by [`Roff::new`].
+/// After a failure of the sink, and after the end, it is of no use. All memory is reserved by [`Roff::new`] and
+/// [`Roff::from_part`]; no other call but [`Roff::part`] asks for any.
 #[derive(Drop)]
 pub struct Roff {
     lines: RoffLines,
