@@ -44,12 +44,12 @@ open_layers layers e kept is h =
 -- a page that is open is at an edge
 pub open_at : {now : PageState} {phase : Phase} {counts : Counts} (layers : Layers) → IsKept phase counts layers
     → record { phase = phase; edge = edge_of layers; worst = layers.worst; counts = counts } ≡ now → now.phase ≡ Open → (e : Edge) × IsOpenAt now e
-open_at {now} layers kept is open =
-    let k = open_kept (ap (λ (p : PageState). p.phase) is ∙ open) kept in (
+open_at {now} layers kept is h =
+    let k = open_kept (ap (λ (p : PageState). p.phase) is ∙ h) kept in (
       k.0,
       record {
         reached = k.2;
-        phase = open;
+        phase = h;
         edge = ap (λ (p : PageState). p.edge) (sym is) ∙ edge_at layers k.0 k.1;
         worst = ap (λ (p : PageState). p.worst) (sym is) ∙ k.1.worst_level;
         counts = ap (λ (p : PageState). p.counts) (sym is) ∙ (k.3 ∙ ap (λ (l : LinesEdge). counts_of l.roff) k.1.lines);
