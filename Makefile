@@ -24,7 +24,7 @@ PROGRESS := start=$$(date +%s); while IFS= read -r line; do \
 	    "status "*) status=$${line\#status } ;; \
 	    esac; done
 
-.PHONY: all quick check edits install clean
+.PHONY: all quick check edits refusals install clean
 
 all: mandoc
 
@@ -57,6 +57,11 @@ check:
 # The edits that the gate leaves out, of the crates that CRATES names, or of all: the prover must refuse each.
 edits:
 	@tools/edits $(CRATES)
+
+# Refuses each allocation in turn, to pages that are fed line by line and to the program. It builds what it runs, as the gate does.
+refusals:
+	@bench/refusals.sh
+	@bench/refusals_program.sh
 
 install: mandoc
 	install -D -m 755 mandoc $(DESTDIR)$(PREFIX)/bin/mandoc
