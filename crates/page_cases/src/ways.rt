@@ -1,12 +1,12 @@
 //! The same page in other ways: by parts, cut, and with a read or a write that fails.
 
-use crate::streams::{Chunks, Failure, Store};
 use page_core_base::{Fault, Settings};
 use page_engine::{Outcome, run_page};
+use page_test_streams::{Chunks, Fails, Store};
 use std::alloc::Global;
 
 /// The name of the file in messages.
-const FILE: &str = "x.1";
+pub(crate) const FILE: &str = "x.1";
 
 /// The places, of reads, of writes and of ends, that are tried of a page: about as many at most.
 const PLACES: usize = 1_000;
@@ -74,11 +74,11 @@ fn step_of(places: usize) -> usize {
 
 // A run that takes and gives at most this count of bytes a call.
 fn run_by(alloc: Global, case: Case, read: usize, written: usize) -> Given {
-    let rows = Store::new(alloc, written);
-    let messages = Store::new(alloc, written);
+    let rows = Store::new(alloc, written, Fails::Never);
+    let messages = Store::new(alloc, written, Fails::Never);
     Given::of_run(
         alloc,
-        Chunks::new(case.page, read, 0),
+        Chunks::new(case.page, read, None),
         rows,
         messages,
         case.settings,
@@ -119,10 +119,10 @@ fn ends_anywhere(alloc: Global, case: Case) -> bool {
 fn stands_failing_reads(alloc: Global, case: Case, whole: &Given) -> bool {
     let size = step_of(case.page.len());
     let mut settled = 0;
-    for failing in 1..PLACES.saturating_mul(2) {
-        let reader = Chunks::new(case.page, size, failing);
-        let rows = Store::new(alloc, usize::MAX);
-        let messages = Store::new(alloc, usize::MAX);
+    for calls in 0..PLACES.saturating_mul(2) {
+        let reader = Chunks::new(case.page, size, Some(calls));
+        let rows = Store::new(alloc, usize::MAX, Fails::Never);
+        let messages = Store::new(alloc, usize::MAX, Fails::Never);
         let given = Given::of_run(alloc, reader, rows, messages, case.settings);
         if given.result == whole.result {
             return given.is_same(whole);
@@ -135,18 +135,47 @@ fn stands_failing_reads(alloc: Global, case: Case, whole: &Given) -> bool {
     false
 }
 
-// A run in which the write of this number to a sink fails, and the number of its writes.
-fn run_failing(
-    alloc: Global,
-    case: Case,
+/// How a write fails.
+#[derive(Clone, Copy)]
+enum Failure {
+    Error,
+    TakesNothing,
+}
+
+impl Failure {
+    // Of a store, that it fails so after this count of calls.
+    fn after(self, calls: usize) -> Fails {
+        match self {
+            Failure::Error => Fails::After(calls),
+            Failure::TakesNothing => Fails::TakesNothing(calls),
+        }
+    }
+}
+
+/// The writes that fail in turn: of a sink, of which each takes so many bytes.
+#[derive(Clone, Copy)]
+struct Writes {
     sink: Sink,
-    failing: usize,
+    size: usize,
     failure: Failure,
-) -> (Given, usize) {
-    let reader = Chunks::new(case.page, usize::MAX, 0);
-    let bad = Store::failing(alloc, usize::MAX, failing, failure);
-    let good = Store::new(alloc, usize::MAX);
-    match sink {
+}
+
+impl Writes {
+    // The step by which they fail: of writes of a byte, which are many, no more than a quarter of `PLACES` do.
+    fn step(&self, calls: usize) -> usize {
+        match self.size {
+            1 => step_of(calls.saturating_mul(4)),
+            _ => step_of(calls),
+        }
+    }
+}
+
+// A run in which writes to a sink fail, and the number of its writes.
+fn run_failing(alloc: Global, case: Case, writes: Writes, fails: Fails) -> (Given, usize) {
+    let reader = Chunks::new(case.page, usize::MAX, None);
+    let bad = Store::new(alloc, writes.size, fails);
+    let good = Store::new(alloc, usize::MAX, Fails::Never);
+    match writes.sink {
         Sink::Rows => {
             let given = Given::of_run(alloc, reader, bad, good, case.settings);
             let calls = given.rows.calls;
@@ -161,26 +190,40 @@ fn run_failing(
 }
 
 // Whether each write to a sink, where it fails, is the last one, and leaves a front of the page.
-fn stands_failing_writes(
-    alloc: Global,
-    case: Case,
-    whole: &Given,
-    sink: Sink,
-    failure: Failure,
-) -> bool {
-    let (calls, fault) = match sink {
-        Sink::Rows => (whole.rows.calls, Fault::WriteText),
-        Sink::Messages => (whole.messages.calls, Fault::WriteNotes),
+fn stands_failing_writes(alloc: Global, case: Case, whole: &Given, writes: Writes) -> bool {
+    let fault = match writes.sink {
+        Sink::Rows => Fault::WriteText,
+        Sink::Messages => Fault::WriteNotes,
     };
-    let step = step_of(calls);
+    let (given, calls) = run_failing(alloc, case, writes, Fails::Never);
+    let step = writes.step(calls);
     for place in 0..PLACES {
-        let failing = place.saturating_mul(step).saturating_add(1);
-        let (given, made) = run_failing(alloc, case, sink, failing, failure);
-        if failing > calls {
+        let before = place.saturating_mul(step);
+        if before >= calls {
             return given.is_same(whole);
         }
-        if !given.is_front(whole, fault) || made != failing {
+        let (given, made) = run_failing(alloc, case, writes, writes.failure.after(before));
+        if !given.is_front(whole, fault) || made != before.saturating_add(1) {
             return false;
+        }
+    }
+    true
+}
+
+// Whether each write fails well, also where it is one of a byte.
+fn stands_each_failing_write(alloc: Global, case: Case, whole: &Given) -> bool {
+    for sink in [Sink::Rows, Sink::Messages] {
+        for failure in [Failure::Error, Failure::TakesNothing] {
+            for size in [usize::MAX, 1] {
+                let writes = Writes {
+                    sink,
+                    size,
+                    failure,
+                };
+                if !stands_failing_writes(alloc, case, whole, writes) {
+                    return false;
+                }
+            }
         }
     }
     true
@@ -197,12 +240,8 @@ pub(crate) fn difference(alloc: Global, case: Case, whole: &Given) -> Option<&'s
     if !stands_failing_reads(alloc, case, whole) {
         return Some("at a failing read");
     }
-    for sink in [Sink::Rows, Sink::Messages] {
-        for failure in [Failure::Error, Failure::TakesNothing] {
-            if !stands_failing_writes(alloc, case, whole, sink, failure) {
-                return Some("at a failing write");
-            }
-        }
+    if !stands_each_failing_write(alloc, case, whole) {
+        return Some("at a failing write");
     }
     None
 }

@@ -1,9 +1,5 @@
-//! Tests of indexes, on public calls (makewhatis(8), whatis(1)).
+//! Tests of records as an index has them, on public calls (makewhatis(8)). What words find in an index is shown by `page_records_cases`.
 #![tactic(auto)]
 
 #[cfg(test)]
 mod record_tests;
-#[cfg(test)]
-mod search_tests;
-#[cfg(test)]
-mod streams;

@@ -1,10 +1,10 @@
 //! Records as they are written and printed (makewhatis(8)).
 
-use crate::streams::{Chunks, Store};
 use page_core_base::Fault;
 use page_engine_index::{
     FIRST_LINE, Record, Show, Text, is_field, print_record, whatis, write_record,
 };
+use page_test_streams::{Chunks, Fails, Store};
 use std::alloc::{AllocError, Global};
 use std::process::Abort;
 use std::test::Fail;
@@ -40,7 +40,7 @@ fn record(
 #[test]
 fn writes_and_prints(rt: HostRuntime) -> Result<(), Fail> {
     let page = record(rt.alloc(), "foo, bar", "1", "do it")?;
-    let mut out = Store::new(rt.alloc());
+    let mut out = Store::new(rt.alloc(), usize::MAX, Fails::Never);
     if is_field("man1/foo.1") {
         check(
             &rt,
@@ -53,23 +53,23 @@ fn writes_and_prints(rt: HostRuntime) -> Result<(), Fail> {
     check_bytes(&rt, out.kept.as_slice(), want)
 }
 
-// A front of the line stands before a failing write.
+// A front of the line, or of the row, stands before a failing write.
 #[test]
 fn tells_where_a_write_fails(rt: HostRuntime) -> Result<(), Fail> {
     let page = record(rt.alloc(), "t", "1", "x")?;
     for room in 0..4 {
-        let mut out = Store::new(rt.alloc());
-        out.room = room;
+        let mut out = Store::new(rt.alloc(), usize::MAX, Fails::Past(room));
         if is_field("f") {
             let written = write_record(&mut out, &page, "f");
             check(&rt, written == Err(Fault::WriteText), "the fault of a line");
         }
         let front = "t\t1\tx".get(..room).ok_or("a front")?;
         check_bytes(&rt, out.kept.as_slice(), front)?;
-        out.kept.clear();
+        out.clear();
         let printed = print_record(&mut out, &page);
         check(&rt, printed == Err(Fault::WriteText), "the fault of a row");
-        check_bytes(&rt, out.kept.as_slice(), "")?;
+        let front = "t(1) - x".get(..room).ok_or("a front")?;
+        check_bytes(&rt, out.kept.as_slice(), front)?;
     }
     Ok(())
 }
@@ -96,7 +96,7 @@ fn tells_fields(rt: HostRuntime) -> Result<(), Fail> {
 // What was written is found again.
 #[test]
 fn reads_back(rt: HostRuntime) -> Result<(), Fail> {
-    let mut index = Store::new(rt.alloc());
+    let mut index = Store::new(rt.alloc(), usize::MAX, Fails::Never);
     index.kept.extend_from_slice(FIRST_LINE.as_bytes())?;
     index.kept.push(b'\n')?;
     for (names, file) in [("ls, dir", "man1/ls.1"), ("dd", "man1/dd.1")] {
@@ -105,9 +105,9 @@ fn reads_back(rt: HostRuntime) -> Result<(), Fail> {
             check(&rt, write_record(&mut index, &page, file).is_ok(), file);
         }
     }
-    let mut out = Store::new(rt.alloc());
+    let mut out = Store::new(rt.alloc(), usize::MAX, Fails::Never);
     for show in [Show::Entry, Show::File] {
-        let mut reader = Chunks::new(index.kept.as_slice(), 5);
+        let mut reader = Chunks::new(index.kept.as_slice(), 5, None);
         let found = whatis(rt.alloc(), &mut reader, &mut out, &["dir"], None, show);
         check(&rt, found == Ok(1), "one row");
     }

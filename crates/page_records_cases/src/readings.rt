@@ -1,37 +1,20 @@
-//! The record of a page, read from a reader that gives some bytes at a time, and fails where it is to.
+//! The record of a page, read at once and in other ways.
 
 use page_core_base::{Fault, Settings};
 use page_engine_index::Record;
 use page_engine_records::name_record;
+use page_test_streams::{Chunks, Ended, Scarce};
 use std::alloc::Global;
-use std::io::{self, ErrorKind, Read};
 
 /// What reading a page answers.
 pub(crate) type Reading = Result<Option<Record>, Fault>;
 
-// Gives bytes, at most a number of them a call.
-#[derive(Drop)]
-struct Chunks<'a> {
-    bytes: &'a [u8],
-    size: usize,
-    // How many calls come before the one that fails; none: no call fails.
-    before: Option<usize>,
-}
+/// The places, of reads and of ends, that are tried of a page: about as many at most.
+const PLACES: usize = 1_000;
 
-impl Read for Chunks<'_> {
-    fn read(&mut self, buffer: &mut [u8]) -> io::Result<usize> {
-        if let Some(left) = self.before {
-            let Some(left) = left.checked_sub(1) else {
-                return Err(io::Error::from(ErrorKind::ConnectionReset));
-            };
-            self.before = Some(left);
-        }
-        let count = self.bytes.len().min(self.size).min(buffer.len());
-        let (chunk, rest) = self.bytes.split_at(count);
-        buffer[..count].copy_from_slice(chunk);
-        self.bytes = rest;
-        Ok(count)
-    }
+/// A step by which no more than `PLACES` of a number of places are tried, and a few.
+pub(crate) fn step_of(places: usize) -> usize {
+    (places / PLACES).saturating_add(1)
 }
 
 /// A page and its settings.
@@ -47,15 +30,37 @@ impl Case<'_> {
         self.read_by(alloc, usize::MAX, None)
     }
 
-    // The record, where at most this count of bytes comes a call, and where a call fails.
-    fn read_by(&self, alloc: Global, size: usize, before: Option<usize>) -> Reading {
-        let mut reader = Chunks {
-            bytes: self.page,
-            size,
-            before,
-        };
+    // The record, where at most this count of bytes comes a call, and calls fail after so many of them.
+    fn read_by(&self, alloc: Global, size: usize, fails: Option<usize>) -> Reading {
+        let mut reader = Chunks::new(self.page, size, fails);
         name_record(alloc, &mut reader, self.settings)
     }
+}
+
+// Whether a page that is cut anywhere is a page, and has a record that is the same byte by byte.
+fn ends_anywhere(alloc: Global, case: Case) -> bool {
+    for end in (0..case.page.len()).step_by(step_of(case.page.len())) {
+        let cut = Case {
+            page: &case.page[..end],
+            settings: case.settings,
+        };
+        let reading = cut.read(alloc);
+        if reading.is_err() || !is_same(&cut.read_by(alloc, 1, None), &reading) {
+            return false;
+        }
+    }
+    true
+}
+
+// Whether each read, where it fails, is what is told: there is one for each piece of the page, and one that finds its end.
+fn stands_failing_reads(alloc: Global, case: Case) -> bool {
+    let size = step_of(case.page.len());
+    for calls in 0..(case.page.len() / size).saturating_add(1) {
+        if !matches!(case.read_by(alloc, size, Some(calls)), Err(Fault::Read)) {
+            return false;
+        }
+    }
+    true
 }
 
 /// The first way to read a page in which something else is answered.
@@ -66,12 +71,34 @@ pub(crate) fn difference(alloc: Global, case: Case, whole: &Reading) -> Option<&
     if whole.is_err() {
         return None;
     }
-    for before in [0, 1, case.page.len()].iter() {
-        if !matches!(case.read_by(alloc, 1, Some(*before)), Err(Fault::Read)) {
-            return Some("with a read that fails");
-        }
+    if !ends_anywhere(alloc, case) {
+        return Some("cut");
+    }
+    if !stands_failing_reads(alloc, case) {
+        return Some("with a read that fails");
     }
     None
+}
+
+/// A page whose record is read with memory refused.
+#[derive(Drop)]
+pub(crate) struct RefusedReading<'a> {
+    pub(crate) case: Case<'a>,
+    pub(crate) whole: &'a Reading,
+}
+
+impl Scarce for RefusedReading<'_> {
+    fn once(&mut self, alloc: Global) -> Ended {
+        let mut reader = Chunks::new(self.case.page, usize::MAX, None);
+        let reading = name_record(alloc, &mut reader, self.case.settings);
+        if matches!(reading, Err(Fault::Memory)) && reader.calls == 0 {
+            Ended::Refused
+        } else if is_same(&reading, self.whole) {
+            Ended::Whole
+        } else {
+            Ended::Otherwise
+        }
+    }
 }
 
 fn is_same(one: &Reading, other: &Reading) -> bool {

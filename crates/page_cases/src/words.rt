@@ -1,0 +1,77 @@
+//! How a page is run and shown, by words.
+
+use page_core_base::{Language, Level, Output, Settings};
+
+/// What the words of a title say of its page.
+#[derive(Drop)]
+pub(crate) struct Words {
+    pub(crate) settings: Settings,
+    /// It is run once, at once.
+    pub(crate) is_once: bool,
+    /// It is written with `~N*TEXT~` for a text that comes N times.
+    pub(crate) is_repeated: bool,
+    /// What it gives is shown in that way.
+    pub(crate) is_shortened: bool,
+    /// It is also run with memory refused.
+    pub(crate) is_scarce: bool,
+}
+
+impl Words {
+    /// The words of no title.
+    pub(crate) fn new() -> Words {
+        let mut settings = Settings::new();
+        settings.least = Some(Level::Base);
+        Words {
+            settings,
+            is_once: false,
+            is_repeated: false,
+            is_shortened: false,
+            is_scarce: false,
+        }
+    }
+
+    /// The words of a title `WORDS: what it shows`: `once`, `times`, `short`, `scarce`, and of its settings `utf8`, `lint`, `man`, `mdoc`,
+    /// `os=NAME`, `width=N`, `indent=N`, a level in capitals below which no message is given, or NONE for no message at all. With none of
+    /// these words the output is ASCII, the page decides its language, and all messages are given.
+    pub(crate) fn of_title(title: &str) -> Words {
+        let mut words = Words::new();
+        let (front, _) = title.split_once(": ").unwrap_or(("", title));
+        for word in front.split(' ') {
+            match word {
+                "once" => words.is_once = true,
+                "times" => words.is_repeated = true,
+                "short" => words.is_shortened = true,
+                "scarce" => words.is_scarce = true,
+                _ => set_from(&mut words.settings, word),
+            }
+        }
+        words
+    }
+}
+
+fn set_from(settings: &mut Settings, word: &str) {
+    if let Some(digits) = word.strip_prefix("width=") {
+        settings.width = digits.parse().unwrap_or(0);
+    } else if let Some(digits) = word.strip_prefix("indent=") {
+        settings.indent = digits.parse().ok();
+    } else if let Some(name) = word.strip_prefix("os=") {
+        let _ = settings.set_os(name);
+    } else {
+        set(settings, word);
+    }
+}
+
+fn set(settings: &mut Settings, word: &str) {
+    match word {
+        "utf8" => settings.output = Output::Utf8,
+        "lint" => settings.output = Output::Lint,
+        "man" => settings.language = Language::Man,
+        "mdoc" => settings.language = Language::Mdoc,
+        "NONE" => settings.least = None,
+        "STYLE" => settings.least = Some(Level::Style),
+        "WARNING" => settings.least = Some(Level::Warning),
+        "ERROR" => settings.least = Some(Level::Error),
+        "UNSUPP" => settings.least = Some(Level::Unsupp),
+        _ => {}
+    }
+}
