@@ -4,6 +4,7 @@ use Rattle.std.specs.Prelude.{if◌then◌else◌}
 use Rattle.std.proofs.lemmas.Bool.{cases_Bool}
 use Rattle.page_core_base.specs.Pieces.{Item, noted, shown}
 use Rattle.page_core_base.specs.declared.page_settings.Settings.{Settings}
+use Rattle.page_core_base.specs.declared.pieces.Piece.{Piece}
 use Rattle.page_engine_body.specs.Bodies.{has_title}
 use Rattle.page_engine_header.specs.declared.fields.Fields.{Fields}
 use Rattle.page_engine_index.specs.declared.records.Record.{Record}
@@ -24,7 +25,7 @@ use Rattle.page_engine_records.proofs.FrontLemmas.{ended_stays}
 
 -- ---- after the section NAME
 
-piece_ended : (r : NameReader) (p : _) → has_ended r ≡ true → read_piece r p ≡ r
+piece_ended : (r : NameReader) (p : Piece (List ℕ)) → has_ended r ≡ true → read_piece r p ≡ r
 unfolding read_piece
 piece_ended r p h = rw h refl
 
