@@ -1,5 +1,7 @@
 //! The record of a page, read at once and in other ways.
 
+ghost use Rattle.std.specs.Prelude.{◌<◌};
+
 use page_core_base::{Fault, Settings};
 use page_engine_index::Record;
 use page_engine_records::name_record;
@@ -13,8 +15,10 @@ pub(crate) type Reading = Result<Option<Record>, Fault>;
 const PLACES: usize = 1_000;
 
 /// A step by which no more than `PLACES` of a number of places are tried, and a few.
-pub(crate) fn step_of(places: usize) -> usize {
-    (places / PLACES).saturating_add(1)
+pub(crate) fn step_of(places: usize) -> usize
+    ensures { 0 < result }
+{
+    places / PLACES + 1
 }
 
 /// A page and its settings.
