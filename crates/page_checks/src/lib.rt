@@ -8,8 +8,6 @@ pub use edges::edge_again;
 #[cfg(test)]
 mod checks;
 #[cfg(test)]
-mod edge_tests;
-#[cfg(test)]
 mod page_tests;
 #[cfg(test)]
 mod sink_tests;

@@ -57,23 +57,12 @@ impl Source for Bytes<'_> {
     }
 }
 
-/// Counts rows, and fails at the row of a number.
+// Counts rows, and fails at the row of a number.
 #[derive(Drop)]
-pub(crate) struct Rows {
+struct Rows {
     failing: u64,
-    pub(crate) calls: u64,
+    calls: u64,
     failures: u64,
-}
-
-impl Rows {
-    /// None came yet, and the row of a number fails; 0: none.
-    pub(crate) fn new(failing: u64) -> Rows {
-        Rows {
-            failing,
-            calls: 0,
-            failures: 0,
-        }
-    }
 }
 
 impl RowSink for Rows {
@@ -112,23 +101,12 @@ impl RowSink for Rows {
     }
 }
 
-/// Counts messages, and fails at the message of a number.
+// Counts messages, and fails at the message of a number.
 #[derive(Drop)]
-pub(crate) struct Notes {
+struct Notes {
     failing: u64,
     calls: u64,
     failures: u64,
-}
-
-impl Notes {
-    /// None came yet, and the message of a number fails; 0: none.
-    pub(crate) fn new(failing: u64) -> Notes {
-        Notes {
-            failing,
-            calls: 0,
-            failures: 0,
-        }
-    }
 }
 
 impl NoteSink for Notes {
@@ -182,8 +160,16 @@ fn counts<R: Abort + AllocGlobal>(
     want: Result<Outcome, Fault>,
 ) {
     let mut source = Bytes::new(PAGE, failing.0);
-    let mut rows = Rows::new(failing.1);
-    let mut notes = Notes::new(failing.2);
+    let mut rows = Rows {
+        failing: failing.1,
+        calls: 0,
+        failures: 0,
+    };
+    let mut notes = Notes {
+        failing: failing.2,
+        calls: 0,
+        failures: 0,
+    };
     let result = run_sinks(rt.alloc(), &mut source, &mut rows, &mut notes, settings);
     check_outcome(rt, result, want);
     check_count(rt, source.calls, counts.0);

@@ -32,12 +32,18 @@ const CONDITION_OF_A_THOUSAND_INTERPOLATIONS: &[Row] = &[
     ),
 ];
 
+// The bytes of the finished line before the texts count, `.if '` here, and so does the delimiter between them.
 const CONDITION_THAT_IS_TOO_LONG: &[Row] = &[
     (Step::Define("l", &[("x", 16_384)]), &[]),
-    (Step::Condition(&[(" '\\*l\\*l'\\*l\\*l'", 1)], true), &[]),
+    (Step::Define("m", &[("x", 16_381)]), &[]),
+    (Step::Condition(&[(" '\\*l\\*m'\\*l\\*m'", 1)], true), &[]),
+    (
+        Step::Condition(&[(" !'\\*l\\*m'\\*l\\*m'", 1)], false),
+        &[(NoteKind::Limit, 65_537, "LINE")],
+    ),
     (
         Step::Condition(&[(" !'\\*l\\*l\\*l\\*l\\*l'x'", 1)], false),
-        &[(NoteKind::Limit, 65_543, "LINE")],
+        &[(NoteKind::Limit, 65_537, "LINE")],
     ),
 ];
 

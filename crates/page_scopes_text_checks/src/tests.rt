@@ -76,7 +76,7 @@ const TEXTS: [(TextStyle, &str, &str); 29] = [
     (LINE, "a\\c", "2[a] 1c"),
     (LINE, "a\\c ", "2[a] 1e"),
     (LINE, "\\&", "2[] 1"),
-    (LINE, "a\\h'2n'b", "2[a][ ][ ][b] 1"),
+    (LINE, "a\\h'2n'b", "2[a][  ][b] 1"),
     (LINE, "a\\h'x'b", "!NotNumeric;2[a][b] 1"),
     (LINE, "a\\fQ b", "!UnknownFont Q;2[a]1[b] 1"),
     (

@@ -156,7 +156,7 @@ const WORDS: &[(&str, &str)] = &[
     ),
     (
         ".Em Ta",
-        "2 note empty Em; 5 close enclosures; 5 column; 1 filled",
+        "2 note empty Em; 5 column; 1 filled",
     ),
     (".Fl", "2 mark B -; 1 filled"),
     (

@@ -93,7 +93,7 @@ const REQUESTS: &[(&str, &str)] = &[
     (".sp \"1", "5 note quote; 2 request sp 1; 1 end"),
     (".ft", "2 request ft; 1 end"),
     (".ft B", "2 request ft B; 1 end"),
-    (".ft \"\" x", "2 request ft ; 1 end"),
+    (".ft \"\" x", "2 request ft \"\"; 1 end"),
     (".in", "2 request in; 1 end"),
     (".in +4", "2 request in +4; 1 end"),
     (".nf x", "2 request nf; 1 end"),
