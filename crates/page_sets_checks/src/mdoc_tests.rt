@@ -154,10 +154,7 @@ const WORDS: &[(&str, &str)] = &[
         ".Sy a Em b Ar",
         "5 word B a; 10 word I b; 12 mark I file ...; 1 filled",
     ),
-    (
-        ".Em Ta",
-        "2 note empty Em; 5 column; 1 filled",
-    ),
+    (".Em Ta", "2 note empty Em; 5 column; 1 filled"),
     (".Fl", "2 mark B -; 1 filled"),
     (
         ".Fl a b",
