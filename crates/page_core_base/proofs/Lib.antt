@@ -1,4 +1,5 @@
 pub mod SinkLemmas
+pub mod LatchLemmas
 pub mod PieceLatchLemmas
 pub mod RowLatchLemmas
 pub mod TextLemmas

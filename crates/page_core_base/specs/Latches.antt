@@ -13,6 +13,10 @@ Came {P} left s items t = (plan : P) (rest : List Item) → left plan s (items +
 abbrev pub CameUpTo : {P S : Type 0} → (P → S → List Item → Type 0) → S → List Item → List Item → S → Type 0
 CameUpTo {P} left s all next t = (plan : P) (rest : List Item) → left plan s (all ++ rest) → left plan t (next ++ rest)
 
+-- of every plan these messages came, or a fault keeps them away
+abbrev pub CameNotes : {P S : Type 0} → (P → S → List Message → Type 0) → S → List Message → S → Type 0
+CameNotes {P} left s notes t = (plan : P) (more : List Message) → left plan s (notes ++ more) → left plan t more
+
 -- a public call over a sink: at Ok these items came, and no other; else a front of them came, and then the fault
 abbrev pub Emits : {S A F : Type 0} → Result A F → (S → List Item → S → Type 0) → (S → F → List Item → S → Type 0) → S → List Item → S → Type 0
 Emits r gave broke s items t = MatchResult r (λ _. gave s items t) (λ fault. broke s fault items t)

@@ -8,6 +8,6 @@ pub mod Fails
 pub mod Laid
 pub mod Pieces
 pub mod Latches
-pub mod PiecePlans
+pub mod Plans
 pub mod RowPlans
 pub mod LinesTaken

@@ -8,7 +8,7 @@
 //!
 //! Proved: `is_line`, `Level::is_below`, `NoteKind::level`, `NoteKind::text`, `Note::about`: what a line may hold, and the level and the text of each
 //! kind of message (`specs/Texts.antt`, `Messages.antt`). `Settings::check`, `Settings::set_os`: settings are refused exactly where a bound is
-//! passed, the first one first (`specs/Checks.antt`). `PieceLatch`: all that is given came to the sink, or a front of it and then its fault
+//! passed, the first one first (`specs/Checks.antt`). `PieceLatch`, `NoteLatch`: all that is given came to the sink, or a front of it and then its fault
 //! (`specs/Latches.antt`).
 #![tactic(auto)]
 
@@ -16,6 +16,7 @@ mod cells;
 mod faults;
 mod lines_taken;
 mod note_kinds;
+mod note_latches;
 mod note_sinks;
 mod notes;
 mod page_settings;
@@ -31,6 +32,7 @@ pub use cells::{Cell, Font};
 pub use faults::Fault;
 pub use lines_taken::{Form, Taken};
 pub use note_kinds::{Level, NoteKind};
+pub use note_latches::{NoteLatch, NoteOut};
 pub use note_sinks::NoteSink;
 pub use notes::{DETAIL, Note, text_front};
 pub use page_settings::{Encoding, Language, Output, SettingFault, Settings};

@@ -1,9 +1,9 @@
 //! The latch over a sink of pieces: what inner functions give to, so that they need not hand on its faults.
 
-ghost use Rattle.std.specs.Prelude.{◌≡◌, ◌≤◌, List, [], ◌∷◌, length, IsTrue, None, Some, MatchResult};
+ghost use Rattle.std.specs.Prelude.{◌≡◌, ◌≤◌, List, [], ◌∷◌, length, None, Some, MatchResult};
 ghost use Rattle.page_core_base.specs.Latches.{Came};
 ghost use Rattle.page_core_base.specs.Messages.{message_of};
-ghost use Rattle.page_core_base.specs.PiecePlans.{Planned, Left};
+ghost use Rattle.page_core_base.specs.Plans.{Planned, Left};
 ghost use Rattle.page_core_base.specs.Pieces.{Item, shown, noted, piece_of};
 ghost use Rattle.page_core_base.specs.Words.{TakesWords};
 
@@ -31,11 +31,6 @@ pub trait PieceOut {
     /// Takes a message.
     fn report(&mut self, note: &Note)
         ensures { Came left self.old (noted (message_of note.now) ∷ []) self.new };
-
-    /// Whether a fault has come. Then a caller may stop early.
-    fn has_failed(&self) -> bool
-        ensures { IsTrue result → (plan : Plan) (rest other : List Item)
-            → left plan self.now rest → left plan self.now other };
 }
 
 /// A sink of pieces, and its fault once it has failed.
@@ -67,7 +62,7 @@ impl<'a, O: PieceSink> PieceLatch<'a, O> {
 }
 
 impl<O: PieceSink> PieceOut for PieceLatch<'_, O> {
-    ghost Plan = { Planned O O.Loans };
+    ghost Plan = { Planned O O.Loans Item };
 
     ghost left = { λ plan s rest. Left O.took O.broke O.loans plan s.out.ghost_name s.out.now s.fault rest };
 
@@ -93,9 +88,5 @@ impl<O: PieceSink> PieceOut for PieceLatch<'_, O> {
         if self.fault.is_none() {
             self.fault = self.out.note(note).err();
         }
-    }
-
-    fn has_failed(&self) -> bool {
-        self.fault.is_some()
     }
 }

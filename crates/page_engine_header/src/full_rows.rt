@@ -57,8 +57,4 @@ impl<O: PieceOut> PieceOut for FullRows<'_, O> {
             self.out.report(note);
         }
     }
-
-    fn has_failed(&self) -> bool {
-        self.out.has_failed()
-    }
 }

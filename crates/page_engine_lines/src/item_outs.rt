@@ -3,8 +3,7 @@
 ghost use Rattle.std.specs.Prelude.{List, ◌++◌, map};
 ghost use Rattle.page_core_base.specs.Pieces.{Item, noted};
 
-use page_core_base::{Font, Note, Piece, PieceOut, Place};
-use page_roff_values::NoteOut;
+use page_core_base::{Font, Note, NoteOut, Piece, PieceOut, Place};
 
 /// Takes pieces and messages into a latch of pieces, for those who give messages alone too.
 #[derive(Drop)]
@@ -30,10 +29,6 @@ impl<L: PieceOut> PieceOut for ItemOut<L> {
     fn report(&mut self, note: &Note) {
         self.latch.report(note);
     }
-
-    fn has_failed(&self) -> bool {
-        self.latch.has_failed()
-    }
 }
 
 impl<L: PieceOut> NoteOut for ItemOut<L> {
@@ -44,9 +39,5 @@ impl<L: PieceOut> NoteOut for ItemOut<L> {
 
     fn report(&mut self, note: &Note) {
         self.latch.report(note);
-    }
-
-    fn has_failed(&self) -> bool {
-        self.latch.has_failed()
     }
 }

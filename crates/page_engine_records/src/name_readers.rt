@@ -8,7 +8,7 @@ ghost use Rattle.page_engine_records.specs.NameTexts.{has_ended, heading, paragr
 ghost use Rattle.page_engine_records.specs.ReaderSinks.{reader-items, reader-messages, reader-notes, reader-well};
 
 use crate::texts::KeptText;
-use page_core_base::{Fault, Font, Note, NoteKind, NoteSink, Output, Piece, PieceSink, Place};
+use page_core_base::{Fault, Note, NoteKind, NoteSink, Output, Piece, PieceSink};
 use page_core_tables::{Printed, printed_char, printed_glyph};
 use std::alloc::{AllocError, Global};
 
@@ -231,11 +231,6 @@ impl PieceSink for NameReader {
             self.take(piece);
         }
         Ok(())
-    }
-
-    // Words come one by one.
-    fn take_words(&mut self, _text: &[u8], _font: Font, _place: Place) -> usize {
-        0
     }
 
     fn row_failures(&self) -> u64 {

@@ -14,7 +14,7 @@ use Rattle.page_roff_blocks.specs.declared.atoms.Opening.TheVariants as openings
 use Rattle.page_roff_blocks.specs.declared.parts.Part.{Part}
 use Rattle.page_roff_blocks.specs.Loops.{first_text}
 use Rattle.page_roff_blocks.specs.Parts.{written_part}
-use Rattle.page_roff_blocks.specs.Regions.{region_seen, text_seen}
+use Rattle.page_roff_regions.specs.Regions.{region_seen, text_seen}
 
 -- of what follows the block of a loop on its line, only what belongs to the loop
 abbrev pub loop_body : Option (List ℕ) → Option (List ℕ)

@@ -7,9 +7,9 @@ use Rattle.page_roff_blocks.specs.declared.atoms.Atom.{Atom}
 use Rattle.page_roff_blocks.specs.declared.atoms.Atom.TheVariants.{Leaf, Guard, Block, Loop, End, Region}
 use Rattle.page_roff_blocks.specs.declared.atoms.Head.{Head}
 use Rattle.page_roff_blocks.specs.declared.atoms.Opening.{Opening}
-use Rattle.page_roff_blocks.specs.declared.regions.RegionHead.{RegionHead}
+use Rattle.page_roff_regions.specs.declared.regions.RegionHead.{RegionHead}
 use Rattle.page_roff_blocks.specs.Atoms.{atoms}
-use Rattle.page_roff_blocks.specs.Regions.{end_name, is_ending}
+use Rattle.page_roff_regions.specs.Regions.{end_name, is_ending}
 
 -- siblings, each with those that follow it
 pub data Forest (X : Type 0) : Type 0 where

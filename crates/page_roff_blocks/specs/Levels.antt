@@ -1,14 +1,11 @@
--- Where a source stands: the levels of its blocks, and an open region. Source: roff(7), "if", "ie", "el", "while".
-use Rattle.std.specs.Prelude.{ℕ, zero, suc, Bool, true, false, not, List, [], ◌∷◌, length, Option, Some, None, nat_lt, nat_le, if◌then◌else◌}
-use Rattle.std.specs.Borrow.{Bor}
-use Rattle.page_core_limits.specs.declared.TheConstants.{CONDS, NAME}
+-- Where a source stands: the levels of its blocks, and an open region between two lines. Source: roff(7), "if", "ie", "el", "while".
+use Rattle.std.specs.Prelude.{ℕ, zero, suc, Bool, true, false, not, List, [], ◌∷◌, length, Option, None, nat_lt}
+use Rattle.page_core_limits.specs.declared.TheConstants.{CONDS}
 use Rattle.page_roff_blocks.specs.declared.atoms.Branch.{Branch}
 use Rattle.page_roff_blocks.specs.declared.atoms.Branch.TheVariants.{If, IfElse, Else}
-use Rattle.page_roff_blocks.specs.declared.regions.RegionHead.{RegionHead}
-use Rattle.page_roff_requests.specs.declared.regions.RegionKind.{RegionKind}
 use Rattle.page_roff_blocks.specs.declared.spots.Reached.{Reached}
 use Rattle.page_roff_blocks.specs.declared.spots.Reached.TheVariants.{PassedOver, First, Remainder}
-use Rattle.page_roff_blocks.specs.Regions.{macro_name, end_name}
+use Rattle.page_roff_regions.specs.OpenRegions.{Opened}
 use Rattle.page_roff_blocks.specs.declared.levels.Ended.{Ended}
 use Rattle.page_roff_blocks.specs.declared.levels.Ended.TheVariants as endings
 use Rattle.page_roff_blocks.specs.declared.levels.Way.{Way}
@@ -124,32 +121,6 @@ reached_in false skipped passing begun = reached_from skipped passing begun
 
 unfoldable pub reached : Spot → Reached
 reached s = reached_in s.levels.in_loop s.levels.skipped s.passing s.begun
-
--- An open region: what it is, the macro that it defines, the name of its end line, and whether it is run. A
--- name beyond the limit of names defines nothing.
-pub record Opened : Type 0 where
-  pub kind : RegionKind
-  pub name : Option (List ℕ)
-  pub ending : List ℕ
-  pub is_run : Bool
-
--- a name, where there is one
-abbrev pub name_if : Bool → List ℕ → Option (List ℕ)
-name_if true name = Some name
-name_if false name = None
-
-unfoldable pub within_limit : Option (List ℕ) → Option (List ℕ)
-within_limit None = None
-within_limit (Some name) = if nat_le (length name) NAME then Some name else None
-
-unfoldable pub opened : RegionHead (List ℕ) → Bool → Opened
-opened head is_run =
-    record { kind = head.kind; name = within_limit (macro_name head); ending = end_name head; is_run = is_run }
-
--- the open region that is lent, if there is one
-abbrev pub opened_seen : Option (Bor Opened) → Option Opened
-opened_seen None = None
-opened_seen (Some region) = Some region.now
 
 -- where a source stands between two lines
 pub record Place : Type 0 where

@@ -1,6 +1,5 @@
 pub mod Atoms
 pub mod Caps
-pub mod Regions
 pub mod Parts
 pub mod Loops
 pub mod Forest

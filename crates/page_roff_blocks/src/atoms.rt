@@ -2,7 +2,7 @@
 
 ghost use Rattle.std.specs.Prelude.{◌≡◌};
 
-use crate::regions::RegionHead;
+use page_roff_regions::RegionHead;
 use page_roff_heads::{Condition, LoopHead};
 use std::alloc::AllocError;
 

@@ -15,9 +15,7 @@ mod laws;
 mod levels;
 mod line_places;
 mod loops;
-mod open_regions;
 mod parts;
-mod regions;
 mod spots;
 mod standings;
 
@@ -26,8 +24,6 @@ pub use laws::{atoms_law, cut_law, fold_law, lines_law, room_law};
 pub use levels::{Ended, Levels, Way};
 pub use line_places::LinePlace;
 pub use loops::loop_text;
-pub use open_regions::OpenRegion;
 pub use parts::is_leaf;
-pub use regions::{RegionHead, is_ending};
 pub use spots::{Reached, Spot};
 pub use standings::Standing;

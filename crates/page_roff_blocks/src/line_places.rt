@@ -5,7 +5,7 @@ ghost use Rattle.page_core_limits.specs.declared.TheConstants.{LINE};
 ghost use Rattle.page_roff_blocks.specs.Atoms.{atom_seen, atoms, FitsAtom, ReadsNext};
 ghost use Rattle.page_roff_blocks.specs.declared.atoms.Atom.TheVariants.{Leaf};
 ghost use Rattle.page_roff_blocks.specs.LinePlaces.{parts_at, line_end, is_at_end, is_block, opens_block, place_after, IsPlaceIn, IsEndOf};
-ghost use Rattle.page_roff_blocks.specs.Regions.{text_seen};
+ghost use Rattle.page_roff_regions.specs.Regions.{text_seen};
 
 use crate::atoms::Atom;
 use crate::loops::part_of;

@@ -4,7 +4,7 @@ ghost use Rattle.std.specs.Prelude.{◌≡◌, ◌≤◌, ◌<◌, ◌+◌, ◌^
 ghost use Rattle.page_core_limits.specs.declared.TheConstants.{LINE};
 ghost use Rattle.page_roff_blocks.specs.Atoms.{atom_seen, opening_seen, part_of, part_seen, whole_opening, FitsOpening, FitsPart, FitsRest};
 ghost use Rattle.page_roff_blocks.specs.Loops.{blocks_left, blocks_after, before_end, some_text, len_of, loop_text, first_text};
-ghost use Rattle.page_roff_blocks.specs.Regions.{text_seen};
+ghost use Rattle.page_roff_regions.specs.Regions.{text_seen};
 
 use crate::atoms::{Atom, Opening};
 use crate::line_places::place_after;

@@ -12,10 +12,10 @@ ghost use Rattle.page_roff_blocks.specs.Atoms.{head_seen, part_seen, atoms, IsWi
 ghost use Rattle.page_roff_blocks.specs.Parts.{keyword_of, rest_text, head_part, conditional_part, else_part, loop_part, end_part, plain_part, written_part};
 ghost use Rattle.page_roff_blocks.specs.Parts.{columns_of, named_part};
 ghost use Rattle.page_roff_blocks.specs.declared.parts.Keyword.TheVariants as keywords;
-ghost use Rattle.page_roff_blocks.specs.Regions.{text_seen};
+ghost use Rattle.page_roff_regions.specs.Regions.{text_seen};
 
 use crate::atoms::{Atom, Branch, Head, Opening};
-use crate::regions::region_head;
+use page_roff_regions::region_head;
 use page_core_limits::LINE;
 use page_roff_forms::{LineForm, control_name, form_of, white_len};
 use page_roff_heads::{

@@ -1,10 +1,10 @@
 //! Where a page stands between two lines (roff(7), "if", "while", "de").
 
 ghost use Rattle.std.specs.Prelude.{◌≡◌};
-ghost use Rattle.page_roff_blocks.specs.Levels.{opened_seen};
+ghost use Rattle.page_roff_regions.specs.OpenRegions.{opened_seen};
 
 use crate::levels::Levels;
-use crate::open_regions::OpenRegion;
+use page_roff_regions::OpenRegion;
 use std::marker::Model;
 
 /// Where a page stands between two lines: its open region, and the levels of its blocks.

@@ -1,7 +1,8 @@
 //! The parts of lines.
 
 use arrayvec::ArrayVec;
-use page_roff_blocks::{Atom, Branch, Head, LinePlace, Opening, RegionHead, loop_text};
+use page_roff_blocks::{Atom, Branch, Head, LinePlace, Opening, loop_text};
+use page_roff_regions::RegionHead;
 use page_roff_heads::LoopHead;
 use std::process::Abort;
 

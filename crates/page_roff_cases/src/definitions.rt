@@ -1,12 +1,11 @@
 //! The requests for definitions.
 
 use crate::names::{Roff, show_messages};
-use page_core_base::Place;
+use page_core_base::{NoteLatch, Place};
 use page_core_limits::LINE;
 use page_core_writers::TextNotes;
 use page_roff_definitions::{RequestLine, define, is_in_copy_mode};
 use page_roff_requests::Request;
-use page_roff_values::NoteLatch;
 
 /// Does a request in line 7, of which the name and the expanded rest are given, and shows its messages.
 pub(crate) fn show_request(rt: &HostRuntime, roff: &mut Roff, text: &str) {

@@ -1,11 +1,12 @@
 //! Conditions, and texts with their interpolations.
 
+use page_core_base::NoteLatch;
 use crate::names::{Roff, show_messages, shown};
 use page_core_limits::LINE;
 use page_core_writers::TextNotes;
 use page_roff_conditions::holds;
 use page_roff_heads::read_conditional;
-use page_roff_values::{Environment, Expansion, NoteLatch};
+use page_roff_values::{Environment, Expansion};
 
 /// Shows whether the condition of a head in line 7 holds, of which what follows `.if` is given, and its messages.
 pub(crate) fn show_condition(rt: &HostRuntime, roff: &mut Roff, rest: &str) {

@@ -1,10 +1,10 @@
 //! Scripts: what is done from names without definitions on, step by step, with the messages of each step.
 
 use crate::steps::{Fixture, Step, act};
-use page_core_base::{Note, NoteKind};
+use page_core_base::{Note, NoteKind, NoteLatch};
 use page_core_writers::KeptNotes;
 use page_roff_names::Names;
-use page_roff_values::{CallArguments, Expansion, NoteLatch};
+use page_roff_values::{CallArguments, Expansion};
 use std::alloc::{AllocError, Global};
 use std::process::Abort;
 

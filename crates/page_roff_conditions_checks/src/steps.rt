@@ -1,13 +1,13 @@
 //! What is done over names and a line.
 
-use page_core_base::{Output, Place};
+use page_core_base::{NoteOut, Output, Place};
 use page_core_limits::LINE;
 use page_roff_conditions::holds;
 use page_roff_definitions::{RequestLine, define};
 use page_roff_heads::read_conditional;
 use page_roff_names::Names;
 use page_roff_requests::DefinitionRequest;
-use page_roff_values::{CallArguments, Environment, Expansion, NoteOut};
+use page_roff_values::{CallArguments, Environment, Expansion};
 use std::alloc::{AllocError, Global};
 use std::process::Abort;
 

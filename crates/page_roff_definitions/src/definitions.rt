@@ -3,18 +3,18 @@
 ghost use Rattle.std.specs.Prelude.{◌≡◌, ◌≤◌, ◌+◌, length};
 ghost use Rattle.page_core_limits.specs.declared.TheConstants.{LINE};
 ghost use Rattle.page_roff_forms.specs.Arguments.{arguments, argument_seen};
-ghost use Rattle.page_roff_values.specs.Latches.{Came};
+ghost use Rattle.page_core_base.specs.Latches.{CameNotes};
 ghost use Rattle.page_roff_definitions.specs.Arguments.{first_text};
 ghost use Rattle.page_roff_definitions.specs.Definitions as defining;
 ghost use Rattle.page_roff_definitions.specs.Definitions.{Does, FitsRequest};
 
 use crate::arguments::{report_closings, value_after};
-use page_core_base::{Note, NoteKind, Place};
+use page_core_base::{Note, NoteKind, NoteOut, Place};
 use page_core_limits::Limit;
 use page_roff_forms::Arguments;
 use page_roff_names::Names;
 use page_roff_requests::DefinitionRequest;
-use page_roff_values::{NoteOut, expression};
+use page_roff_values::expression;
 
 /// Whether the rest of a request's line is expanded in copy mode.
 pub fn is_in_copy_mode(request: DefinitionRequest) -> bool
@@ -38,7 +38,7 @@ pub struct RequestLine<'a> {
 
 // Reports a limit that a definition would pass.
 fn report_limit<O: NoteOut>(limit: Limit, place: Place, out: &mut O)
-    ensures { Came O.left out.old (defining.limit_notes place limit) out.new }
+    ensures { CameNotes O.left out.old (defining.limit_notes place limit) out.new }
 {
     out.report(&Note::about(NoteKind::Limit, place, limit.name().as_bytes()));
 }

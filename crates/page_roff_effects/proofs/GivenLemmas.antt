@@ -1,7 +1,7 @@
 -- What was given before stays in front: helpers of proofs.
 use Rattle.std.proofs.Common.{◌≡◌, ℕ, zero, suc, Bool, true, false, not, ◌&&◌, List, Option, Some, None, refl, ap, ◌∙◌, append_assoc}
 use Rattle.page_roff_heads.specs.declared.conditions.Condition.{Condition}
-use Rattle.page_roff_blocks.specs.Levels.{Opened}
+use Rattle.page_roff_regions.specs.OpenRegions.{Opened}
 use Rattle.page_roff_blocks.specs.Loops.{loop_text}
 use Rattle.page_roff_conditions.specs.Answers.{Answer}
 use Rattle.page_roff_language.specs.Languages.{Kind, page, body, Done, gives, calls, repeats}

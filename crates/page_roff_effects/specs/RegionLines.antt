@@ -7,9 +7,9 @@ use Rattle.page_core_base.specs.Messages.{Message, message_about}
 use Rattle.page_core_base.specs.declared.lines_taken.Form.TheVariants as forms
 use Rattle.page_core_base.specs.declared.note_kinds.NoteKind.TheVariants as kinds
 use Rattle.page_core_base.specs.declared.places.Place.{Place}
-use Rattle.page_roff_blocks.specs.Levels.{Opened, within_limit}
-use Rattle.page_roff_blocks.specs.Regions.{has_long_name, macro_name}
-use Rattle.page_roff_blocks.specs.declared.regions.RegionHead.{RegionHead}
+use Rattle.page_roff_regions.specs.OpenRegions.{Opened, within_limit}
+use Rattle.page_roff_regions.specs.Regions.{has_long_name, macro_name}
+use Rattle.page_roff_regions.specs.declared.regions.RegionHead.{RegionHead}
 use Rattle.page_roff_requests.specs.declared.regions.RegionKind.{RegionKind}
 use Rattle.page_roff_requests.specs.declared.regions.RegionKind.TheVariants.{Define, Append, Ignore, Table, Equation, Picture}
 use Rattle.page_roff_requests.specs.Regions.{region_name}

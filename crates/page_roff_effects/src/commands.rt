@@ -2,7 +2,7 @@
 
 ghost use Rattle.std.specs.Prelude.{◌≡◌, ◌≤◌, [], length, IfSome, is_some, unwrap_or};
 ghost use Rattle.page_core_limits.specs.declared.TheConstants.{BODY};
-ghost use Rattle.page_roff_blocks.specs.Regions.{text_seen};
+ghost use Rattle.page_roff_regions.specs.Regions.{text_seen};
 ghost use Rattle.page_roff_effects.specs.Commands as named;
 
 use page_core_limits::BODY;

@@ -4,7 +4,7 @@ ghost use Rattle.std.specs.Prelude.{◌≡◌, ◌≤◌, ◌+◌, ◌++◌, len
 ghost use Rattle.page_core_limits.specs.declared.TheConstants.{LINE};
 ghost use Rattle.page_roff_forms.specs.LineForms.{form_of};
 ghost use Rattle.page_roff_forms.specs.declared.line_forms.LineForm.TheVariants.{Control};
-ghost use Rattle.page_roff_values.specs.Latches.{Came};
+ghost use Rattle.page_core_base.specs.Latches.{CameNotes};
 ghost use Rattle.page_roff_effects.specs.Acting.{control_seen, measured, plain_form, text_given, Does, Gives, Takes, IfCalled, IsCallable};
 ghost use Rattle.page_core_base.specs.declared.lines_taken.Form.TheVariants as forms;
 ghost use Rattle.page_roff_effects.specs.Leaves as leaves;
@@ -13,12 +13,12 @@ ghost use Rattle.page_roff_effects.specs.States.{gives_line};
 
 use crate::actions::{Actions, report_at};
 use crate::commands::{Command, ProductKind, body_or_nothing};
-use page_core_base::{Form, NoteKind, Place};
+use page_core_base::{Form, NoteKind, NoteOut, Place};
 use page_core_limits::{LINE, Limit};
 use page_roff_definitions::{RequestLine, define, report_closings};
 use page_roff_forms::{LineForm, begins_control, form_of, has_word, plain_len};
 use page_roff_requests::DefinitionRequest;
-use page_roff_values::{Expansion, NoteOut};
+use page_roff_values::Expansion;
 
 /// A control line with a name.
 #[derive(Clone, Copy)]
@@ -87,7 +87,7 @@ fn finished_text<'a>(is_plain: bool, text: &'a [u8], expansion: &'a Expansion) -
 
 // Reports a call beyond the limits.
 fn report_refusals<O: NoteOut>(may_call: bool, fits: bool, place: Place, out: &mut O)
-    ensures { Came O.left out.old (leaves.depth_notes may_call place
+    ensures { CameNotes O.left out.old (leaves.depth_notes may_call place
         ++ leaves.size_notes fits place) out.new }
 {
     if !may_call {

@@ -10,10 +10,9 @@ ghost use Rattle.page_roff_effects.specs.States.{with_body};
 use crate::actions::{Actions, report_at};
 use crate::commands::ProductKind;
 use crate::regions::report_long_body;
-use page_core_base::NoteKind;
+use page_core_base::{NoteKind, NoteOut};
 use page_core_limits::Limit;
 use page_roff_heads::LoopHead;
-use page_roff_values::NoteOut;
 
 impl Actions {
     // Adds a raw line to what is collected, if that passed no limit.

@@ -1,11 +1,10 @@
 //! Scripts: what is done from the beginning of a source on, step by step, with what comes of each step and its messages.
 
 use crate::steps::{Step, act, text_of};
-use page_core_base::{Form, Note, NoteKind, Output};
+use page_core_base::{Form, Note, NoteKind, NoteLatch, Output};
 use page_core_writers::KeptNotes;
-use page_roff_blocks::OpenRegion;
+use page_roff_regions::OpenRegion;
 use page_roff_effects::{Actions, ProductKind};
-use page_roff_values::NoteLatch;
 use std::alloc::{AllocError, Global};
 use std::process::Abort;
 

@@ -1,8 +1,9 @@
 //! What is done over the parts of a source.
 
-use page_roff_blocks::{Atom, LinePlace, OpenRegion, Opening};
+use page_core_base::NoteOut;
+use page_roff_blocks::{Atom, LinePlace, Opening};
+use page_roff_regions::OpenRegion;
 use page_roff_effects::{Actions, ProductKind};
-use page_roff_values::NoteOut;
 use std::process::Abort;
 
 /// What is done.

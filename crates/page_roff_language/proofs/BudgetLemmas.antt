@@ -1,8 +1,9 @@
 -- What a source line takes of its budget: helpers of proofs.
 use Rattle.std.proofs.Common.{ℕ, zero, suc, ◌+◌, ◌≤◌, Bool, true, false, List, [], ◌∷◌, Option, Some, None, sym, subst, arith}
 use Rattle.page_roff_blocks.specs.Atoms.{atoms}
-use Rattle.page_roff_blocks.specs.Regions.{is_ending}
-use Rattle.page_roff_blocks.specs.Levels.{Levels, at_line, Opened}
+use Rattle.page_roff_regions.specs.Regions.{is_ending}
+use Rattle.page_roff_blocks.specs.Levels.{Levels, at_line}
+use Rattle.page_roff_regions.specs.OpenRegions.{Opened}
 use Rattle.page_roff_blocks.specs.Loops.{loop_text}
 use Rattle.page_roff_blocks.specs.Run.{At, keep_if}
 use Rattle.page_roff_blocks.specs.Steps.{step_inside, collect_if, step_from, step, step_lines}

@@ -7,10 +7,11 @@ use Rattle.page_roff_blocks.specs.declared.atoms.Branch.TheVariants.{If, IfElse,
 use Rattle.page_roff_blocks.specs.declared.atoms.Head.{Head}
 use Rattle.page_roff_blocks.specs.declared.atoms.Opening.{Opening}
 use Rattle.page_roff_blocks.specs.declared.atoms.Opening.TheVariants as openings
-use Rattle.page_roff_blocks.specs.declared.regions.RegionHead.{RegionHead}
+use Rattle.page_roff_regions.specs.declared.regions.RegionHead.{RegionHead}
 use Rattle.page_roff_blocks.specs.declared.levels.Way.{Way}
 use Rattle.page_roff_blocks.specs.declared.levels.Way.TheVariants.{Runs, Skips, Exceeds}
-use Rattle.page_roff_blocks.specs.Levels.{Levels, way_of, Spot, after_part, guarded_by, reached, reached_in, reached_from, reached_if, Opened}
+use Rattle.page_roff_blocks.specs.Levels.{Levels, way_of, Spot, after_part, guarded_by, reached, reached_in, reached_from, reached_if}
+use Rattle.page_roff_regions.specs.OpenRegions.{Opened}
 use Rattle.page_roff_blocks.specs.Loops.{loop_text}
 use Rattle.page_roff_blocks.specs.Run.{Meaning, At, meet_as, value, keep_if, refuse_if}
 use Rattle.page_roff_blocks.specs.Steps.{met, guard_with, guard_met, block_with, opening_met, block_met, collect_if}

@@ -5,8 +5,9 @@ use Rattle.page_roff_blocks.specs.declared.atoms.Atom.TheVariants.{Leaf, Guard, 
 use Rattle.page_roff_blocks.specs.declared.levels.Ended.{Ended}
 use Rattle.page_roff_blocks.specs.declared.levels.Ended.TheVariants as endings
 use Rattle.page_roff_heads.specs.declared.loops.LoopHead.{LoopHead}
-use Rattle.page_roff_blocks.specs.Levels.{after_part, leave, what_ends, Opened}
-use Rattle.page_roff_blocks.specs.Regions.{is_ending}
+use Rattle.page_roff_blocks.specs.Levels.{after_part, leave, what_ends}
+use Rattle.page_roff_regions.specs.OpenRegions.{Opened}
+use Rattle.page_roff_regions.specs.Regions.{is_ending}
 use Rattle.page_roff_blocks.specs.Run.{Meaning, At}
 use Rattle.page_roff_blocks.specs.Steps.{met}
 use Rattle.page_core_limits.specs.declared.TheConstants.{CALLS}

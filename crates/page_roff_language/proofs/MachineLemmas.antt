@@ -5,8 +5,9 @@ use Rattle.page_roff_blocks.specs.declared.atoms.Atom.{Atom}
 use Rattle.page_roff_blocks.specs.declared.atoms.Atom.TheVariants.{Leaf, Guard, Block, Loop, End, Region}
 use Rattle.page_roff_blocks.specs.declared.levels.Ended.{Ended}
 use Rattle.page_roff_blocks.specs.declared.levels.Ended.TheVariants as endings
-use Rattle.page_roff_blocks.specs.Regions.{is_ending}
-use Rattle.page_roff_blocks.specs.Levels.{Opened, Spot, at_line, after_part, leave, what_ends, first_place}
+use Rattle.page_roff_regions.specs.Regions.{is_ending}
+use Rattle.page_roff_blocks.specs.Levels.{Spot, at_line, after_part, leave, what_ends, first_place}
+use Rattle.page_roff_regions.specs.OpenRegions.{Opened}
 use Rattle.page_roff_blocks.specs.Run.{Meaning, At, end_by, run_lines, headed}
 use Rattle.page_roff_blocks.specs.Run as blocks
 use Rattle.page_roff_blocks.specs.Steps.{met, step_leaf, step_loop, step_end, step_region, step_parts, step_inside, step_from, step, step_lines}

@@ -3,8 +3,8 @@ use Rattle.std.specs.Prelude.{ℕ, zero, suc, ◌+◌, Bool, true, false, ◌&&�
 use Rattle.page_roff_heads.specs.declared.conditions.Condition.{Condition}
 use Rattle.page_roff_heads.specs.declared.loops.LoopHead.{LoopHead}
 use Rattle.page_roff_blocks.specs.declared.atoms.Head.{Head}
-use Rattle.page_roff_blocks.specs.declared.regions.RegionHead.{RegionHead}
-use Rattle.page_roff_blocks.specs.Levels.{Opened}
+use Rattle.page_roff_regions.specs.declared.regions.RegionHead.{RegionHead}
+use Rattle.page_roff_regions.specs.OpenRegions.{Opened}
 use Rattle.page_roff_blocks.specs.Loops.{loop_text}
 use Rattle.page_roff_blocks.specs.Run.{Meaning}
 use Rattle.page_core_limits.specs.declared.TheConstants.{REREAD}

@@ -1,6 +1,7 @@
 -- What a source does with its calls of macros and its loops, by recursion on its forest. Source: roff(7), "Macros", "de", "while".
 use Rattle.std.specs.Prelude.{ℕ, zero, suc, ◌+◌, Bool, true, false, List, Option, Some, None}
-use Rattle.page_roff_blocks.specs.Levels.{Opened, first_place}
+use Rattle.page_roff_blocks.specs.Levels.{first_place}
+use Rattle.page_roff_regions.specs.OpenRegions.{Opened}
 use Rattle.page_roff_blocks.specs.Run.{Meaning, At, run_lines, headed}
 use Rattle.page_core_limits.specs.declared.TheConstants.{CALLS, REREAD}
 

@@ -7,8 +7,9 @@ use Rattle.page_roff_blocks.specs.declared.atoms.Atom.TheVariants.{Leaf, Guard, 
 use Rattle.page_roff_blocks.specs.declared.levels.Ended.{Ended}
 use Rattle.page_roff_blocks.specs.declared.levels.Ended.TheVariants as endings
 use Rattle.page_roff_blocks.specs.Atoms.{atoms}
-use Rattle.page_roff_blocks.specs.Regions.{is_ending}
-use Rattle.page_roff_blocks.specs.Levels.{Opened, Spot, at_line, after_part, outside, leave, what_ends}
+use Rattle.page_roff_regions.specs.Regions.{is_ending}
+use Rattle.page_roff_blocks.specs.Levels.{Spot, at_line, after_part, outside, leave, what_ends}
+use Rattle.page_roff_regions.specs.OpenRegions.{Opened}
 use Rattle.page_roff_blocks.specs.Run.{Meaning, At, keep_if}
 use Rattle.page_roff_blocks.specs.Steps.{met, step_guard, step_block, step_region, step_parts, begin_line, step_lines}
 use Rattle.page_core_limits.specs.declared.TheConstants.{CALLS}

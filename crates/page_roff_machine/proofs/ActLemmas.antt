@@ -14,11 +14,12 @@ use Rattle.page_roff_blocks.specs.declared.levels.Ended.{Ended}
 use Rattle.page_roff_blocks.specs.declared.levels.Ended.TheVariants as endings
 use Rattle.page_roff_blocks.specs.declared.levels.Way.{Way}
 use Rattle.page_roff_blocks.specs.declared.levels.Way.TheVariants.{Runs, Skips, Exceeds}
-use Rattle.page_roff_blocks.specs.declared.regions.RegionHead.{RegionHead}
+use Rattle.page_roff_regions.specs.declared.regions.RegionHead.{RegionHead}
 use Rattle.page_roff_blocks.specs.declared.spots.Reached.{Reached}
 use Rattle.page_roff_blocks.specs.declared.spots.Reached.TheVariants.{PassedOver, First, Remainder}
 use Rattle.page_roff_blocks.specs.Atoms.{atoms}
-use Rattle.page_roff_blocks.specs.Levels.{Levels, Opened, opened, Spot, after_part, way_of, reached, reached_in, skip, what_ends, at_line, leave}
+use Rattle.page_roff_blocks.specs.Levels.{Levels, Spot, after_part, way_of, reached, reached_in, skip, what_ends, at_line, leave}
+use Rattle.page_roff_regions.specs.OpenRegions.{Opened, opened}
 use Rattle.page_roff_blocks.specs.Run.{Meaning, meet_as, value, refuse_if, keep_if}
 use Rattle.page_roff_blocks.specs.Steps as steps
 use Rattle.page_roff_blocks.specs.Steps.{met, guard_with, guard_met, step_guard, block_with, opening_met, block_met, step_block, step_region, collect_if}

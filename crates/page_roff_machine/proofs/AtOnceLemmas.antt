@@ -6,7 +6,8 @@ use Rattle.page_core_limits.specs.declared.TheConstants.{REREAD}
 use Rattle.page_roff_blocks.specs.declared.atoms.Atom.{Atom}
 use Rattle.page_roff_blocks.specs.declared.atoms.Atom.TheVariants.{Leaf}
 use Rattle.page_roff_blocks.specs.Atoms.{atoms}
-use Rattle.page_roff_blocks.specs.Levels.{Levels, Opened, Spot, at_line, after_part, reached, reached_in, reached_from, reached_if}
+use Rattle.page_roff_blocks.specs.Levels.{Levels, Spot, at_line, after_part, reached, reached_in, reached_from, reached_if}
+use Rattle.page_roff_regions.specs.OpenRegions.{Opened}
 use Rattle.page_roff_blocks.specs.Run.{At, meet_as}
 use Rattle.page_roff_blocks.specs.Steps.{met, begin_line, collect_if}
 use Rattle.page_roff_language.specs.Languages.{Kind, page, body, Language, Done, gives, is_some, meaning_at, meaning_by, run_page}

@@ -5,7 +5,8 @@ use Rattle.page_roff_blocks.specs.declared.atoms.Atom.{Atom}
 use Rattle.page_roff_blocks.specs.declared.atoms.Atom.TheVariants.{Leaf, Guard, Block, Loop, End, Region}
 use Rattle.page_roff_blocks.specs.declared.levels.Way.{Way}
 use Rattle.page_roff_blocks.specs.declared.levels.Way.TheVariants.{Runs, Skips, Exceeds}
-use Rattle.page_roff_blocks.specs.Levels.{Levels, Opened, opened, Spot, at_line, after_part, enter, leave_level, leave_loop, leave_from, leave}
+use Rattle.page_roff_blocks.specs.Levels.{Levels, Spot, at_line, after_part, enter, leave_level, leave_loop, leave_from, leave}
+use Rattle.page_roff_regions.specs.OpenRegions.{Opened, opened}
 use Rattle.page_roff_values.specs.Arguments.{begin_first, arguments_in, lines_in}
 use Rattle.page_roff_language.specs.Machine.{Frame, Turning, turned, at_part}
 use Rattle.page_roff_language.specs.Measures.{weight, turns_of}

@@ -4,7 +4,8 @@ use Rattle.std.proofs.lemmas.List.{append-nil}
 use Rattle.page_core_base.specs.Messages.{Message}
 use Rattle.page_core_base.specs.declared.page_settings.Output.{Output}
 use Rattle.page_roff_blocks.specs.declared.atoms.Atom.{Atom}
-use Rattle.page_roff_blocks.specs.Levels.{Opened, Place, at_line}
+use Rattle.page_roff_blocks.specs.Levels.{Place, at_line}
+use Rattle.page_roff_regions.specs.OpenRegions.{Opened}
 use Rattle.page_roff_blocks.specs.Run.{Meaning, At}
 use Rattle.page_roff_language.specs.Languages.{Language, meaning_at, run_page}
 use Rattle.page_roff_language.specs.Machine.{Frame, depth, at_page, rest_of, next, stands_at}

@@ -3,8 +3,8 @@
 ghost use Rattle.std.specs.Prelude.{◌≡◌, ◌≤◌, ◌<◌, ◌^◌, ◌&&◌, true, false, not, length};
 ghost use Rattle.page_core_limits.specs.declared.TheConstants.{LINE};
 ghost use Rattle.page_roff_blocks.specs.Atoms.{branch_seen, loop_head_seen, FitsBranch};
-ghost use Rattle.page_roff_blocks.specs.Regions.{region_seen};
-ghost use Rattle.page_roff_blocks.specs.Levels.{opened_seen};
+ghost use Rattle.page_roff_regions.specs.Regions.{region_seen};
+ghost use Rattle.page_roff_regions.specs.OpenRegions.{opened_seen};
 ghost use Rattle.page_roff_machine.specs.Doing.{Does, Answers, Makes, IsAt, IsIn, HasRoom, state_after, line_after, done_as};
 ghost use Rattle.page_roff_machine.specs.Doing.{charged_in, begun_in, met_in, value_in, answer_in, region_in, leaf_in};
 ghost use Rattle.page_roff_machine.specs.Doing.{opened_in, closed_in, passed_in, kept_in, collected_in, turned_in};
@@ -12,11 +12,12 @@ ghost use Rattle.page_roff_machine.specs.Doing.{read_in, read_kept_in, ended_in,
 ghost use Rattle.page_roff_effects.specs.Acting.{IfCalled, IsCallable, IfRepeated, IsRepeatable};
 ghost use Rattle.page_roff_effects.specs.declared.commands.ProductKind.TheVariants as kinds;
 
-use page_roff_blocks::{Branch, OpenRegion, Reached, RegionHead, loop_text};
+use page_core_base::NoteOut;
+use page_roff_blocks::{Branch, Reached, loop_text};
+use page_roff_regions::{OpenRegion, RegionHead};
 use page_roff_effects::{Actions, ProductKind};
 use page_roff_heads::LoopHead;
 use page_roff_language::Budget;
-use page_roff_values::NoteOut;
 
 /// What the parts of sources do, under the budget of the source line.
 #[derive(Drop)]

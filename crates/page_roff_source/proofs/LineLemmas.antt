@@ -1,7 +1,8 @@
 -- The forest of all lines of a page gives what its lines give one after another: helpers of proofs.
 use Rattle.std.proofs.Common.{◌≡◌, ℕ, ◌+◌, Bool, true, false, List, [], ◌∷◌, ◌++◌, length, map, Option, Some, None, refl, sym, ap, ◌∙◌, append_assoc, append-nil, arith}
-use Rattle.page_roff_blocks.specs.Regions.{is_ending}
-use Rattle.page_roff_blocks.specs.Levels.{Levels, Place, Opened}
+use Rattle.page_roff_regions.specs.Regions.{is_ending}
+use Rattle.page_roff_blocks.specs.Levels.{Levels, Place}
+use Rattle.page_roff_regions.specs.OpenRegions.{Opened}
 use Rattle.page_roff_blocks.specs.Run.{Meaning, At, after_head, each_line}
 use Rattle.page_roff_blocks.specs.Steps as steps
 use Rattle.page_roff_blocks.specs.Steps.{step_inside, step_from, step, step_lines}

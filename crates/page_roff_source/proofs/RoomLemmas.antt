@@ -1,8 +1,9 @@
 -- How many skipped blocks a line begins: helpers of proofs.
 use Rattle.std.proofs.Common.{ℕ, ◌+◌, ◌*◌, ◌≤◌, Bool, true, false, List, [], ◌∷◌, length, Option, Some, None, sym, subst, arith}
 use Rattle.page_roff_blocks.specs.Atoms.{atoms}
-use Rattle.page_roff_blocks.specs.Regions.{is_ending}
-use Rattle.page_roff_blocks.specs.Levels.{Levels, at_line, Opened}
+use Rattle.page_roff_regions.specs.Regions.{is_ending}
+use Rattle.page_roff_blocks.specs.Levels.{Levels, at_line}
+use Rattle.page_roff_regions.specs.OpenRegions.{Opened}
 use Rattle.page_roff_blocks.specs.Run.{Meaning, At, run_lines}
 use Rattle.page_roff_blocks.specs.Steps.{begin_line, step_inside, step_from, step, step_lines}
 use Rattle.page_roff_blocks.proofs.FoldLemmas.{run_is_steps}

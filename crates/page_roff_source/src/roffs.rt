@@ -16,8 +16,7 @@ ghost use Rattle.page_roff_source.specs.Fuses.{first_state, state_at, is_idle_at
 use crate::counts::Counts;
 use crate::parts::RoffPart;
 use crate::roff_lines::RoffLines;
-use page_core_base::{Fault, NoteSink, Settings, Taken};
-use page_roff_values::NoteLatch;
+use page_core_base::{Fault, NoteLatch, NoteSink, Settings, Taken};
 use std::alloc::Global;
 use std::marker::Model;
 

@@ -8,7 +8,8 @@ use Rattle.page_roff_blocks.specs.declared.line_places.LinePlace.{LinePlace}
 use Rattle.page_roff_blocks.specs.Atoms.{atoms, ReadsNext}
 use Rattle.page_roff_blocks.specs.declared.atoms.Branch.{Branch}
 use Rattle.page_roff_blocks.specs.declared.atoms.Branch.TheVariants.{If, IfElse, Else}
-use Rattle.page_roff_blocks.specs.Levels.{Opened, Spot, at_line, bit_after, guarded_by}
+use Rattle.page_roff_blocks.specs.Levels.{Spot, at_line, bit_after, guarded_by}
+use Rattle.page_roff_regions.specs.OpenRegions.{Opened}
 use Rattle.page_roff_blocks.specs.LinePlaces.{parts_at, line_end, is_at_end, IsPlaceIn}
 use Rattle.page_roff_blocks.proofs.AtomLemmas.{atoms_cons}
 use Rattle.page_roff_blocks.proofs.RoomLemmas.{atoms_room}

@@ -3,7 +3,8 @@ use Rattle.std.proofs.Common.{◌≡◌, ℕ, false, suc, ◌-◌, ◌<◌, ◌�
 use Rattle.std.proofs.Math.Seq.{take-append_seam, drop-append_seam}
 use Rattle.page_core_base.specs.Texts.{IsLine}
 use Rattle.page_core_limits.specs.declared.TheConstants.{BODY, LINE}
-use Rattle.page_roff_blocks.specs.Levels.{Opened, Spot, at_line, outside}
+use Rattle.page_roff_blocks.specs.Levels.{Spot, at_line, outside}
+use Rattle.page_roff_regions.specs.OpenRegions.{Opened}
 use Rattle.page_roff_blocks.specs.LinePlaces.{line_end}
 use Rattle.page_roff_language.specs.Languages.{Kind, page, body, inner, TURNS}
 use Rattle.page_roff_language.specs.Machine.{Frame, Turning, entered, looped}

@@ -9,7 +9,8 @@ use Rattle.page_roff_blocks.specs.declared.atoms.Branch.TheVariants.{Else}
 use Rattle.page_roff_blocks.specs.declared.atoms.Opening.{Opening}
 use Rattle.page_roff_blocks.specs.declared.atoms.Opening.TheVariants as openings
 use Rattle.page_roff_blocks.specs.Atoms.{atoms}
-use Rattle.page_roff_blocks.specs.Levels.{Opened, opened, Place, Spot, at_line, outside}
+use Rattle.page_roff_blocks.specs.Levels.{Place, Spot, at_line, outside}
+use Rattle.page_roff_regions.specs.OpenRegions.{Opened, opened}
 use Rattle.page_roff_language.specs.Languages.{Kind, page, body}
 use Rattle.page_roff_language.specs.Machine.{Frame, Turning, turned, at_part}
 use Rattle.page_roff_language.specs.Measures.{work_in}

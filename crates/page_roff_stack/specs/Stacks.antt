@@ -4,9 +4,10 @@ use Rattle.std.specs.Prelude.{◌≡◌, ℕ, zero, suc, Bool, true, false, List
 use Rattle.page_roff_blocks.specs.declared.atoms.Atom.{Atom}
 use Rattle.page_roff_blocks.specs.declared.atoms.Branch.{Branch}
 use Rattle.page_roff_blocks.specs.declared.atoms.Branch.TheVariants.{Else}
-use Rattle.page_roff_blocks.specs.Levels.{Opened, Place}
+use Rattle.page_roff_blocks.specs.Levels.{Place}
+use Rattle.page_roff_regions.specs.OpenRegions.{Opened}
 use Rattle.page_roff_blocks.specs.LinePlaces.{is_block}
-use Rattle.page_roff_blocks.specs.Regions.{is_ending}
+use Rattle.page_roff_regions.specs.Regions.{is_ending}
 use Rattle.page_roff_blocks.specs.Run.{Meaning, At}
 use Rattle.page_roff_language.specs.Languages.{Kind, body, Language, meaning_at}
 use Rattle.page_roff_language.specs.Machine.{Frame, Running, Turning, depth, entered, looped, finish_if, part_next, line_next, region_next}

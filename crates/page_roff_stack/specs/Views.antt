@@ -4,7 +4,7 @@ use Rattle.std.specs.Borrow.{Bor}
 use Rattle.page_core_limits.specs.declared.TheConstants.{LINE}
 use Rattle.page_roff_blocks.specs.declared.atoms.Atom.{Atom}
 use Rattle.page_roff_blocks.specs.Atoms.{atom_seen, FitsAtom}
-use Rattle.page_roff_blocks.specs.Levels.{Opened, opened_seen}
+use Rattle.page_roff_regions.specs.OpenRegions.{Opened, opened_seen}
 use Rattle.page_roff_values.specs.Arguments.{arguments_in}
 use Rattle.page_roff_stack.specs.declared.next.Next.{Next}
 use Rattle.page_roff_stack.specs.declared.next.Next.TheVariants.{Part, Line, RegionLine, Turn, SourceEnd, Nothing}

@@ -8,8 +8,9 @@ ghost use Rattle.page_roff_blocks.specs.declared.atoms.Atom.TheVariants.{Leaf};
 ghost use Rattle.page_roff_blocks.specs.Atoms.{atom_seen, FitsAtom};
 ghost use Rattle.page_roff_blocks.specs.Caps.{PlaceFits};
 ghost use Rattle.page_roff_blocks.specs.LinePlaces.{opens_block};
-ghost use Rattle.page_roff_blocks.specs.Levels.{after_part, guarded_by, way_of, enter, bit_after, open_loop, skip, leave, what_ends, reached, opened_seen};
-ghost use Rattle.page_roff_blocks.specs.Regions.{text_seen};
+ghost use Rattle.page_roff_blocks.specs.Levels.{after_part, guarded_by, way_of, enter, bit_after, open_loop, skip, leave, what_ends, reached};
+ghost use Rattle.page_roff_regions.specs.OpenRegions.{opened_seen};
+ghost use Rattle.page_roff_regions.specs.Regions.{text_seen};
 ghost use Rattle.page_roff_language.specs.Languages.{arguments_of, page, body};
 ghost use Rattle.page_roff_language.specs.Machine.{entered, looped};
 ghost use Rattle.page_roff_values.specs.Arguments.{arguments_in, lines_in};
@@ -25,7 +26,8 @@ use crate::spans::{NOWHERE, Span};
 use crate::turns::Turns;
 use memchr::memchr;
 use page_core_limits::{ARGS, BODY, LINE, REREAD};
-use page_roff_blocks::{Atom, Ended, LinePlace, OpenRegion, Reached, Spot, Standing, Way};
+use page_roff_blocks::{Atom, Ended, LinePlace, Reached, Spot, Standing, Way};
+use page_roff_regions::OpenRegion;
 
 // The turns that a loop has at most, and one more: each takes a line, or is given up.
 const TURNS: usize = REREAD + 2;

@@ -8,8 +8,9 @@ ghost use Rattle.page_core_limits.specs.declared.TheConstants.{ARGS, BODY, CALLS
 ghost use Rattle.page_roff_blocks.specs.declared.atoms.Atom.TheVariants.{Leaf};
 ghost use Rattle.page_roff_blocks.specs.Atoms.{atom_seen, FitsAtom};
 ghost use Rattle.page_roff_blocks.specs.Caps.{PlaceFits};
-ghost use Rattle.page_roff_blocks.specs.Levels.{after_part, guarded_by, way_of, enter, bit_after, open_loop, skip, leave, what_ends, reached, opened_seen};
-ghost use Rattle.page_roff_blocks.specs.Regions.{text_seen};
+ghost use Rattle.page_roff_blocks.specs.Levels.{after_part, guarded_by, way_of, enter, bit_after, open_loop, skip, leave, what_ends, reached};
+ghost use Rattle.page_roff_regions.specs.OpenRegions.{opened_seen};
+ghost use Rattle.page_roff_regions.specs.Regions.{text_seen};
 ghost use Rattle.page_roff_language.specs.Languages.{arguments_of, is_some};
 ghost use Rattle.page_roff_language.specs.Machine.{depth};
 ghost use Rattle.page_roff_stack.specs.Changes.{page_line, past, in_region, next_line, in_turn, first_atoms, is_page};
@@ -19,7 +20,8 @@ ghost use Rattle.page_roff_stack.specs.Views.{packed_text, unpacked, next_seen, 
 use crate::input_frames::InputFrame;
 use crate::next::Next;
 use page_core_limits::{ARGS, BODY, CALLS, LINE};
-use page_roff_blocks::{Atom, Ended, OpenRegion, Reached, Standing, Way};
+use page_roff_blocks::{Atom, Ended, Reached, Standing, Way};
+use page_roff_regions::OpenRegion;
 use std::alloc::{AllocError, Global};
 use std::marker::Model;
 use std::mem;

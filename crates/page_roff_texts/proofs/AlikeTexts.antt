@@ -2,7 +2,7 @@
 use Rattle.std.proofs.Common.{◌≡◌, ℕ, ◌==◌, is_some, Bool, true, false, List, length, if◌then◌else◌, refl, ap}
 use Rattle.page_core_base.specs.Texts.{IsLine}
 use Rattle.page_core_base.specs.declared.lines_taken.Form.TheVariants as forms
-use Rattle.page_roff_blocks.specs.Levels.{Opened}
+use Rattle.page_roff_regions.specs.OpenRegions.{Opened}
 use Rattle.page_roff_blocks.specs.Run.{At}
 use Rattle.page_roff_conditions.proofs.AlikeLemmas.{condition_alike}
 use Rattle.page_roff_forms.specs.LineForms.{form_of}

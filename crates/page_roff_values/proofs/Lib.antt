@@ -7,7 +7,6 @@ pub mod FollowLemmas
 pub mod FrontLemmas
 pub mod GoingLemmas
 pub mod GrowLemmas
-pub mod LatchLemmas
 pub mod LayLemmas
 pub mod LineLemmas
 pub mod PartTexts

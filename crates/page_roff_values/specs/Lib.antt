@@ -5,7 +5,6 @@ pub mod Expansions
 pub mod Fronts
 pub mod Held
 pub mod Latches
-pub mod NotePlans
 pub mod Numbers
 pub mod Parts
 pub mod Rest

@@ -12,13 +12,12 @@ ghost use Rattle.page_roff_values.specs.Views.{call_of, surroundings_of, units_o
 
 use crate::endings::{kept, without_lone};
 use crate::environments::Environment;
-use crate::note_latches::NoteOut;
 use crate::parts::{Call, Part};
 use crate::sources::Sources;
 use crate::verbatim::is_verbatim;
 use itoa::Buffer;
 use memchr::memchr;
-use page_core_base::{Note, NoteKind, Output, Place};
+use page_core_base::{Note, NoteKind, NoteOut, Output, Place};
 use page_core_limits::{EXPAND, LINE, Limit, NEST};
 use page_core_numbers::columns;
 use std::alloc::{AllocError, Global};

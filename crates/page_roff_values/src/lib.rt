@@ -1,6 +1,5 @@
 //! Expansion of a text (roff(7), "Escape sequences"): strings, number registers, macro arguments and widths are interpolated, in one pass
-//! with a stack of texts, in memory that is reserved once. And the value of an expression (`numbers.rt`), and the latch through which the layers of roff
-//! give their messages (`note_latches.rt`).
+//! with a stack of texts, in memory that is reserved once. And the value of an expression (`numbers.rt`).
 //!
 //! It stands above the names (`page_roff_names`), and conditions, definitions and lines are expanded by it. Read `specs/Values.antt` first,
 //! then `Parts.antt`; the code begins at `Expansion::expand` in `expansions.rt`.
@@ -17,7 +16,6 @@ mod environments;
 mod expansions;
 mod fronts;
 mod laws;
-mod note_latches;
 mod numbers;
 mod parts;
 mod sources;
@@ -28,6 +26,5 @@ pub use call_arguments::CallArguments;
 pub use environments::Environment;
 pub use expansions::Expansion;
 pub use laws::{is_bounded, keeps_texts};
-pub use note_latches::{NoteLatch, NoteOut};
 pub use numbers::expression;
 pub use verbatim::gives_itself;

@@ -2,17 +2,16 @@
 
 ghost use Rattle.std.specs.Prelude.{◌≡◌};
 ghost use Rattle.page_roff_values.specs.Numbers.{value_of, messages_of};
-ghost use Rattle.page_roff_values.specs.Latches.{Came};
+ghost use Rattle.page_core_base.specs.Latches.{CameNotes};
 
-use crate::NoteOut;
-use page_core_base::Place;
+use page_core_base::{NoteOut, Place};
 use page_core_numbers::{Scale, evaluate};
 
 /// The value of the expression at a text's front, with its messages at a place. A number without a unit is in basic
 /// units.
 pub fn expression<O: NoteOut>(text: &[u8], place: Place, out: &mut O) -> i32
     ensures value { result ≡ value_of text.now }
-    ensures came { Came O.left out.old (messages_of place text.now) out.new }
+    ensures came { CameNotes O.left out.old (messages_of place text.now) out.new }
 {
     let found = evaluate(text, Scale::Basic);
     let mut notes = found.notes(place);

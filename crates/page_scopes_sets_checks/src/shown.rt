@@ -2,7 +2,7 @@
 
 ghost use Rattle.std.proofs.Common.{refl};
 
-use page_core_base::{Fault, Font, Note, NoteSink, Piece, PieceSink, Place};
+use page_core_base::{Fault, Note, NoteSink, Piece, PieceSink};
 use page_scopes_shown::{Brief, Notation};
 use std::alloc::Global;
 
@@ -88,11 +88,6 @@ impl PieceSink for Pieces {
     fn piece(&mut self, piece: Piece<&[u8]>) -> Result<(), Fault> {
         self.brief.show_piece(piece);
         Ok(())
-    }
-
-    // Words come one by one.
-    fn take_words(&mut self, _text: &[u8], _font: Font, _place: Place) -> usize {
-        0
     }
 
     fn row_failures(&self) -> u64 {

@@ -34,8 +34,4 @@ impl<N: Notation> PieceOut for ShownBy<N> {
     fn report(&mut self, note: &Note) {
         self.notation.show_message(note);
     }
-
-    fn has_failed(&self) -> bool {
-        false
-    }
 }

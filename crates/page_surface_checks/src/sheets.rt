@@ -3,7 +3,7 @@
 ghost use Rattle.std.proofs.Common.{refl};
 
 use crate::sinks::Kept;
-use page_core::{Fault, Font, Note, NoteSink, Piece, PieceSink, Place, Settings};
+use page_core::{Fault, Note, NoteSink, Piece, PieceSink, Settings};
 use page_fill::Filler;
 use std::alloc::Global;
 
@@ -128,11 +128,6 @@ impl PieceSink for Sheet {
             self.has_failed = true;
         }
         Ok(())
-    }
-
-    // Words come one by one.
-    fn take_words(&mut self, _text: &[u8], _font: Font, _place: Place) -> usize {
-        0
     }
 
     fn row_failures(&self) -> u64 {

@@ -1,5 +1,5 @@
 use Rattle.std.proofs.Common.{false, rules}
-use Rattle.page_core_base.proofs.PieceLatchLemmas.{latched}
+use Rattle.page_core_base.proofs.LatchLemmas.{latched}
 use Rattle.page_core_base.specs.declared.page_settings.Output.TheVariants.{Ascii}
 use Rattle.page_core_escapes.specs.Tokens.{tokens_of}
 use Rattle.page_engine_header.specs.Printing.{tokens_items}

@@ -1,5 +1,5 @@
 use Rattle.std.proofs.Common.{sym, ◌∙◌, rules}
-use Rattle.page_core_base.proofs.PieceLatchLemmas.{left_given, left_taken}
+use Rattle.page_core_base.proofs.LatchLemmas.{left_given, left_taken}
 use Rattle.page_core_base.proofs.piece_latches.PieceLatchPieceOut.give.Goals as goal
 
 pub returns-in-Err : goal.returns-in-Err

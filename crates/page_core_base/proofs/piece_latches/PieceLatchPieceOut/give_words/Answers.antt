@@ -1,6 +1,6 @@
 use Rattle.std.proofs.Common.{sym, ◌∙◌, Ok, refl, take}
 use Rattle.page_core_base.specs.Words.{blank_words, word_items}
-use Rattle.page_core_base.proofs.PieceLatchLemmas.{left_taken}
+use Rattle.page_core_base.proofs.LatchLemmas.{left_taken}
 use Rattle.page_core_base.proofs.piece_latches.PieceLatchPieceOut.give_words.Goals as goal
 
 -- none of the words was taken

@@ -1,5 +1,6 @@
 use Rattle.page_core_base.specs.Messages.{message_of}
-use Rattle.page_core_base.proofs.PieceLatchLemmas.{heard, left_given}
+use Rattle.page_core_base.proofs.LatchLemmas.{left_given}
+use Rattle.page_core_base.proofs.PieceLatchLemmas.{heard}
 use Rattle.page_core_base.proofs.piece_latches.PieceLatchPieceOut.report.Goals as goal
 
 pub returns-then-is_none : goal.returns-then-is_none

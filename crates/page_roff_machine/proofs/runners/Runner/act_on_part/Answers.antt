@@ -1,7 +1,7 @@
 use Rattle.page_roff_blocks.specs.Atoms.{head_seen, loop_head_seen}
 use Rattle.page_roff_blocks.specs.declared.atoms.Atom.TheVariants.{Leaf, Guard, Block, Loop, End, Region}
 use Rattle.page_roff_blocks.specs.declared.atoms.Opening.TheVariants as openings
-use Rattle.page_roff_blocks.specs.Regions.{region_seen}
+use Rattle.page_roff_regions.specs.Regions.{region_seen}
 use Rattle.page_roff_stack.specs.Stacks.{next_of}
 use Rattle.page_roff_machine.proofs.ActLemmas.{is_the_part, decides_leaf, decides_guard, decides_block, decides_loop, decides_open_loop, decides_region, decides_block_end}
 use Rattle.page_roff_machine.proofs.runners.Runner.act_on_part.Goals as goal

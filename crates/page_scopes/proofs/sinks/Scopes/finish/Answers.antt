@@ -1,5 +1,6 @@
 use Rattle.std.proofs.Common.{rules}
-use Rattle.page_core_base.proofs.PieceLatchLemmas.{emits_faults, latched}
+use Rattle.page_core_base.proofs.LatchLemmas.{latched}
+use Rattle.page_core_base.proofs.PieceLatchLemmas.{emits_faults}
 use Rattle.page_scopes.specs.Edges.{end_items}
 use Rattle.page_scopes.proofs.sinks.Scopes.finish.Goals as goal
 

@@ -1,11 +1,11 @@
-//! The latch over a sink of messages: what the layers of roff report to, so that they need not hand on its faults.
+//! The latch over a sink of messages: what inner functions that give no pieces report to, so that they need not hand on its faults.
 
-ghost use Rattle.std.specs.Prelude.{◌≡◌, List, [], ◌∷◌, IsTrue, None, Some, MatchResult};
+ghost use Rattle.std.specs.Prelude.{◌≡◌, List, [], ◌∷◌, None, Some, MatchResult};
 ghost use Rattle.page_core_base.specs.Messages.{Message, message_of};
-ghost use Rattle.page_roff_values.specs.Latches.{Came};
-ghost use Rattle.page_roff_values.specs.NotePlans.{Planned, Left};
+ghost use Rattle.page_core_base.specs.Latches.{CameNotes};
+ghost use Rattle.page_core_base.specs.Plans.{Planned, Left, TookNotes, BrokeNotes};
 
-use page_core_base::{Fault, Note, NoteSink};
+use crate::{Fault, Note, NoteSink};
 
 /// Takes messages, and never fails: after a fault of the sink below it takes nothing.
 pub trait NoteOut {
@@ -18,12 +18,7 @@ pub trait NoteOut {
 
     /// Takes a message.
     fn report(&mut self, note: &Note)
-        ensures { Came left self.old (message_of note.now ∷ []) self.new };
-
-    /// Whether a fault has come. Then a caller may stop early.
-    fn has_failed(&self) -> bool
-        ensures { IsTrue result → (plan : Plan) (rest other : List Message)
-            → left plan self.now rest → left plan self.now other };
+        ensures { CameNotes left self.old (message_of note.now ∷ []) self.new };
 }
 
 /// A sink of messages, and its fault once it has failed.
@@ -55,18 +50,14 @@ impl<'a, N: NoteSink> NoteLatch<'a, N> {
 }
 
 impl<N: NoteSink> NoteOut for NoteLatch<'_, N> {
-    ghost Plan = { Planned N N.Loans };
+    ghost Plan = { Planned N N.Loans Message };
 
-    ghost left = { λ plan s rest. Left N.gave N.within N.failed N.loans
+    ghost left = { λ plan s rest. Left (TookNotes N.gave N.failed) (BrokeNotes N.within N.failed) N.loans
         plan s.notes.ghost_name s.notes.now s.fault rest };
 
     fn report(&mut self, note: &Note) {
         if self.fault.is_none() {
             self.fault = self.notes.note(note).err();
         }
-    }
-
-    fn has_failed(&self) -> bool {
-        self.fault.is_some()
     }
 }

@@ -2,9 +2,9 @@
 
 ghost use Rattle.std.specs.Prelude.{◌≡◌, ◌≤◌, length, option_map};
 ghost use Rattle.page_core_limits.specs.declared.TheConstants.{LINE, NAME};
-ghost use Rattle.page_roff_blocks.specs.Caps.{RegionFits};
-ghost use Rattle.page_roff_blocks.specs.Levels.{name_if, within_limit, opened};
-ghost use Rattle.page_roff_blocks.specs.Regions.{is_ending, text_seen, region_seen};
+ghost use Rattle.page_roff_regions.specs.OpenRegions.{RegionFits};
+ghost use Rattle.page_roff_regions.specs.OpenRegions.{name_if, within_limit, opened};
+ghost use Rattle.page_roff_regions.specs.Regions.{is_ending, text_seen, region_seen};
 ghost use Rattle.page_roff_forms.specs.Arguments.{argument_seen, argument_name};
 
 use crate::regions::{RegionHead, copy_of, is_ending};
@@ -25,11 +25,11 @@ pub struct OpenRegion {
 }
 
 impl Model for OpenRegion {
-    ghost use Rattle.page_roff_blocks.specs.Levels.{Opened};
+    ghost use Rattle.page_roff_regions.specs.OpenRegions.{Opened};
 
     ghost Value = { Opened };
 
-    ghost use Rattle.page_roff_blocks.specs.Levels.{name_if};
+    ghost use Rattle.page_roff_regions.specs.OpenRegions.{name_if};
 
     ghost view = { λ r. record {
       kind = r.kind;
@@ -40,7 +40,7 @@ impl Model for OpenRegion {
 }
 
 // A name within the limit of names, and whether it is.
-#[tactic(auto, unfolding(crate::specs::Levels::within_limit))]
+#[tactic(auto, unfolding(crate::specs::OpenRegions::within_limit))]
 fn short_name(name: &[u8]) -> (ArrayVec<u8, NAME>, bool)
     ensures { name_if result.1 result.0.items ≡ within_limit (Some name.now) }
 {
@@ -52,7 +52,7 @@ fn short_name(name: &[u8]) -> (ArrayVec<u8, NAME>, bool)
 }
 
 // The name that a region defines, and whether there is one within the limit of names.
-#[tactic(auto, unfolding(crate::specs::Levels::within_limit))]
+#[tactic(auto, unfolding(crate::specs::OpenRegions::within_limit))]
 fn usable_name(name: Option<Argument<&[u8]>>) -> (ArrayVec<u8, NAME>, bool)
     ensures { name_if result.1 result.0.items
         ≡ within_limit (option_map argument_name (option_map argument_seen name.entry)) }
@@ -65,7 +65,7 @@ fn usable_name(name: Option<Argument<&[u8]>>) -> (ArrayVec<u8, NAME>, bool)
 
 impl OpenRegion {
     /// The region of a head, which may be run or not.
-    #[tactic(auto, unfolding(crate::specs::Levels::opened))]
+    #[tactic(auto, unfolding(crate::specs::OpenRegions::opened))]
     pub fn new(head: &RegionHead<&[u8]>, is_run: bool) -> OpenRegion
         ensures { result ≡ opened (region_seen head.now) is_run }
     {

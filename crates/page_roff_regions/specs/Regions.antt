@@ -12,7 +12,7 @@ use Rattle.page_roff_requests.specs.Regions.{fixed_ending}
 pub use Rattle.page_roff_requests.specs.Regions.{text_seen}
 use Rattle.page_roff_requests.specs.declared.regions.RegionKind.{RegionKind}
 use Rattle.page_roff_requests.specs.declared.regions.RegionKind.TheVariants.{Define, Append, Ignore, Table, Equation, Picture}
-use Rattle.page_roff_blocks.specs.declared.regions.RegionHead.{RegionHead}
+use Rattle.page_roff_regions.specs.declared.regions.RegionHead.{RegionHead}
 
 -- an argument without a byte is no name
 abbrev pub as_named : Argument (List ℕ) → Option (Argument (List ℕ))

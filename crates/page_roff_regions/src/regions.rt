@@ -3,7 +3,7 @@
 ghost use Rattle.std.specs.Prelude.{◌≡◌, ◌≤◌, ◌+◌, length, option_map};
 ghost use Rattle.page_core_limits.specs.declared.TheConstants.{LINE, NAME};
 ghost use Rattle.page_roff_forms.specs.Arguments.{argument_seen, argument_name, arguments};
-ghost use Rattle.page_roff_blocks.specs.Regions.{ending_of, end_name, has_long_name, is_too_long, region_head, is_ending, region_seen, NameOfNext};
+ghost use Rattle.page_roff_regions.specs.Regions.{ending_of, end_name, has_long_name, is_too_long, region_head, is_ending, region_seen, NameOfNext};
 
 use arrayvec::ArrayVec;
 use page_core_limits::{LINE, NAME};
@@ -101,7 +101,7 @@ impl<'a> RegionHead<&'a [u8]> {
 /// The head of a region of a kind: the column of its name and, without its comment, the rest of its line,
 /// of which the first byte stands at another.
 #[tactic(auto, unfolding(crate::specs::Regions::region_head))]
-pub(crate) fn region_head(
+pub fn region_head(
     kind: RegionKind,
     column: u32,
     rest: &[u8],
