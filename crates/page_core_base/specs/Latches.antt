@@ -5,17 +5,13 @@ use Rattle.page_core_base.specs.Messages.{Message}
 use Rattle.page_core_base.specs.Pieces.{Item}
 use Rattle.page_core_base.specs.Rows.{LaidRow}
 
--- of every plan these items came, or a fault keeps them away
-abbrev pub Came : {P S : Type 0} → (P → S → List Item → Type 0) → S → List Item → S → Type 0
-Came {P} left s items t = (plan : P) (rest : List Item) → left plan s (items ++ rest) → left plan t rest
+-- of every plan these items came, or a fault keeps them away; an item is a piece or a message, a message alone, or an event of a macro set
+abbrev pub Came : {P S I : Type 0} → (P → S → List I → Type 0) → S → List I → S → Type 0
+Came {P} {S} {I} left s items t = (plan : P) (rest : List I) → left plan s (items ++ rest) → left plan t rest
 
 -- the same of a part of a call: what was to come, and what still is
-abbrev pub CameUpTo : {P S : Type 0} → (P → S → List Item → Type 0) → S → List Item → List Item → S → Type 0
-CameUpTo {P} left s all next t = (plan : P) (rest : List Item) → left plan s (all ++ rest) → left plan t (next ++ rest)
-
--- of every plan these messages came, or a fault keeps them away
-abbrev pub CameNotes : {P S : Type 0} → (P → S → List Message → Type 0) → S → List Message → S → Type 0
-CameNotes {P} left s notes t = (plan : P) (more : List Message) → left plan s (notes ++ more) → left plan t more
+abbrev pub CameUpTo : {P S I : Type 0} → (P → S → List I → Type 0) → S → List I → List I → S → Type 0
+CameUpTo {P} {S} {I} left s all next t = (plan : P) (rest : List I) → left plan s (all ++ rest) → left plan t (next ++ rest)
 
 -- a public call over a sink: at Ok these items came, and no other; else a front of them came, and then the fault
 abbrev pub Emits : {S A F : Type 0} → Result A F → (S → List Item → S → Type 0) → (S → F → List Item → S → Type 0) → S → List Item → S → Type 0

@@ -2,7 +2,7 @@
 
 ghost use Rattle.std.specs.Prelude.{◌≡◌, List, [], ◌∷◌, None, Some, MatchResult};
 ghost use Rattle.page_core_base.specs.Messages.{Message, message_of};
-ghost use Rattle.page_core_base.specs.Latches.{CameNotes};
+ghost use Rattle.page_core_base.specs.Latches.{Came};
 ghost use Rattle.page_core_base.specs.Plans.{Planned, Left, TookNotes, BrokeNotes};
 
 use crate::{Fault, Note, NoteSink};
@@ -18,7 +18,7 @@ pub trait NoteOut {
 
     /// Takes a message.
     fn report(&mut self, note: &Note)
-        ensures { CameNotes left self.old (message_of note.now ∷ []) self.new };
+        ensures { Came left self.old (message_of note.now ∷ []) self.new };
 }
 
 /// A sink of messages, and its fault once it has failed.

@@ -15,12 +15,12 @@ ghost use Rattle.page_roff_blocks.specs.declared.parts.Keyword.TheVariants as ke
 ghost use Rattle.page_roff_regions.specs.Regions.{text_seen};
 
 use crate::atoms::{Atom, Branch, Head, Opening};
-use page_roff_regions::region_head;
 use page_core_limits::LINE;
 use page_roff_forms::{LineForm, control_name, form_of, white_len};
 use page_roff_heads::{
     Guarded, LoopHead, LoopRead, Placed, block_end, read_conditional, read_guarded, read_loop,
 };
+use page_roff_regions::region_head;
 use page_roff_requests::{RegionKind, Request};
 use std::alloc::AllocError;
 

@@ -12,7 +12,7 @@ use Rattle.page_roff_heads.specs.declared.texts.Placed.{Placed}
 use Rattle.page_roff_names.specs.Names.{Definitions, string_of, body_of}
 use Rattle.page_roff_values.specs.Environments.{Surroundings, register_found}
 use Rattle.page_roff_values.specs.Values.{Spot, Laid, NEST, value, start, after_bytes}
-use Rattle.page_core_base.specs.Latches.{CameNotes}
+use Rattle.page_core_base.specs.Latches.{Came}
 use Rattle.page_roff_values.specs.Numbers.{value_of, messages_of}
 use Rattle.page_roff_requests.specs.Requests.{request_of}
 
@@ -84,7 +84,7 @@ test_answer env place is_turned Missing s = answers false [] s
 
 -- a call answered so, with these messages and this line
 abbrev pub Gives : {P S : Type 0} → (P → S → List Message → Type 0) → S → S → Bool → Spot → Answer → Type 0
-Gives left old new result edge answer = (result ≡ answer.holds) × (edge ≡ answer.edge) × CameNotes left old answer.notes new
+Gives left old new result edge answer = (result ≡ answer.holds) × (edge ≡ answer.edge) × Came left old answer.notes new
 
 -- the condition of a head in a source line
 unfoldable pub condition_answer : Surroundings → ℕ → Condition (List ℕ) → Answer

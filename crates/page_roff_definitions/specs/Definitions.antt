@@ -12,7 +12,7 @@ use Rattle.page_roff_forms.specs.declared.quotes.Argument.{Argument}
 use Rattle.page_roff_names.specs.declared.rows.Meaning.TheVariants.{String}
 use Rattle.page_roff_names.specs.Entries.{definition, Definition}
 use Rattle.page_roff_names.specs.Names.{Definitions, look, string_of, number_of, with_text, without_text, with_register, without_register, refusal}
-use Rattle.page_core_base.specs.Latches.{CameNotes}
+use Rattle.page_core_base.specs.Latches.{Came}
 use Rattle.page_roff_values.specs.Numbers.{value_of, messages_of}
 use Rattle.page_roff_definitions.specs.declared.definitions.RequestLine.{RequestLine}
 use Rattle.page_roff_requests.specs.declared.requests.DefinitionRequest.{DefinitionRequest}
@@ -147,7 +147,7 @@ outcome_of request place column rest old = does request column rest (arguments c
 
 -- the definitions are those of the outcome, and its messages came
 abbrev pub Does : {P S : Type 0} → (P → S → List Message → Type 0) → S → S → Definitions → Outcome → Type 0
-Does left old new definitions wanted = (definitions ≡ wanted.definitions) × CameNotes left old wanted.notes new
+Does left old new definitions wanted = (definitions ≡ wanted.definitions) × Came left old wanted.notes new
 
 -- the rest of a request's line lies within a line
 abbrev pub FitsRequest : RequestLine → Type 0

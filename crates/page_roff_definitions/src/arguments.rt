@@ -2,7 +2,7 @@
 
 ghost use Rattle.std.specs.Prelude.{◌≡◌, ◌≤◌, ◌+◌, length};
 ghost use Rattle.std.specs.List.{prefix_len};
-ghost use Rattle.page_core_base.specs.Latches.{CameNotes};
+ghost use Rattle.page_core_base.specs.Latches.{Came};
 ghost use Rattle.page_roff_forms.specs.Arguments.{argument_seen, arguments, is_blank};
 ghost use Rattle.page_roff_definitions.specs.Arguments as ends;
 ghost use Rattle.page_roff_definitions.specs.Arguments.{closing_notes, closings_notes, end_of, after_blanks, without_quote, value_after};
@@ -14,7 +14,7 @@ use page_roff_forms::{Argument, Arguments, Quoting};
 
 // Reports an argument without its closing quote, at its opening one.
 fn report_closing<O: NoteOut>(out: &mut O, line: u32, argument: Argument<&[u8]>)
-    ensures { CameNotes O.left out.old (closing_notes line (argument_seen argument.entry)) out.new }
+    ensures { Came O.left out.old (closing_notes line (argument_seen argument.entry)) out.new }
 {
     let place = Place {
         line,
@@ -30,7 +30,7 @@ fn report_closing<O: NoteOut>(out: &mut O, line: u32, argument: Argument<&[u8]>)
 pub fn report_closings<O: NoteOut>(out: &mut O, place: Place, rest: &[u8])
     requires short { length rest.now ≤ LINE }
     requires room { place.column + length rest.now ≤ LINE + 1 }
-    ensures { CameNotes O.left out.old (closings_notes place.line (arguments place.column rest.now)) out.new }
+    ensures { Came O.left out.old (closings_notes place.line (arguments place.column rest.now)) out.new }
 {
     if memchr(b'"', rest).is_none() {
         return;

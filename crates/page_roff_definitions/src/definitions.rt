@@ -3,7 +3,7 @@
 ghost use Rattle.std.specs.Prelude.{◌≡◌, ◌≤◌, ◌+◌, length};
 ghost use Rattle.page_core_limits.specs.declared.TheConstants.{LINE};
 ghost use Rattle.page_roff_forms.specs.Arguments.{arguments, argument_seen};
-ghost use Rattle.page_core_base.specs.Latches.{CameNotes};
+ghost use Rattle.page_core_base.specs.Latches.{Came};
 ghost use Rattle.page_roff_definitions.specs.Arguments.{first_text};
 ghost use Rattle.page_roff_definitions.specs.Definitions as defining;
 ghost use Rattle.page_roff_definitions.specs.Definitions.{Does, FitsRequest};
@@ -38,7 +38,7 @@ pub struct RequestLine<'a> {
 
 // Reports a limit that a definition would pass.
 fn report_limit<O: NoteOut>(limit: Limit, place: Place, out: &mut O)
-    ensures { CameNotes O.left out.old (defining.limit_notes place limit) out.new }
+    ensures { Came O.left out.old (defining.limit_notes place limit) out.new }
 {
     out.report(&Note::about(NoteKind::Limit, place, limit.name().as_bytes()));
 }

@@ -10,7 +10,7 @@ use Rattle.page_core_base.specs.declared.page_settings.Output.{Output}
 use Rattle.page_roff_blocks.specs.declared.atoms.Atom.TheVariants.{Leaf}
 use Rattle.page_roff_blocks.specs.Atoms.{atoms}
 use Rattle.page_roff_forms.specs.LineForms.{has_word}
-use Rattle.page_core_base.specs.Latches.{CameNotes}
+use Rattle.page_core_base.specs.Latches.{Came}
 use Rattle.page_roff_values.specs.Values.{Spot, Laid, expanded}
 use Rattle.page_roff_values.specs.Views.{units_of_bytes}
 use Rattle.page_roff_language.specs.Budgets.{Effects}
@@ -96,7 +96,7 @@ IfRepeated kinds.Loop P = P
 pub record Does {P S : Type 0} (left : P → S → List Message → Type 0) (old : Acting) (out : S) (o : Outcome) (new : Acting) (out_new : S) : Type 0 where
   pub setting : new.setting ≡ old.setting
   pub memory : new.memory ≡ o.memory
-  pub came : CameNotes left out o.notes out_new
+  pub came : Came left out o.notes out_new
 
 -- and it answered what comes of the part, which is lent from then on
 pub record Gives {P S : Type 0} (left : P → S → List Message → Type 0) (old : Acting) (out : S) (o : Outcome) (result : ProductKind) (new : Acting) (out_new : S) : Type 0 where
@@ -121,7 +121,7 @@ with_finished laid a =
     }
 
 abbrev pub Expands : {P S : Type 0} → (P → S → List Message → Type 0) → S → S → Spot → Laid → Type 0
-Expands left old new edge laid = (edge ≡ laid.edge) × CameNotes left old laid.notes new
+Expands left old new edge laid = (edge ≡ laid.edge) × Came left old laid.notes new
 
 abbrev pub line_laid : Bool → List ℕ → Acting → Laid
 line_laid copy text a = expanded (surroundings copy (measured a.setting) a.memory) a.memory.number text
@@ -135,7 +135,7 @@ pub record ExpandsOrKeeps {P S : Type 0} (left : P → S → List Message → Ty
   pub setting : new.setting ≡ old.setting
   pub memory : new.memory ≡ counted (line_laid copy text old).edge.count old.memory
   pub given : text_given kept text new ≡ (line_laid copy text old).edge.text
-  pub came : CameNotes left out (line_laid copy text old).notes out_new
+  pub came : Came left out (line_laid copy text old).notes out_new
 
 abbrev pub with_arguments : Option (List (List ℕ)) → Acting → Acting
 with_arguments arguments a = record a { setting = record { output = a.setting.output; arguments = arguments } }

@@ -12,7 +12,7 @@ ghost use Rattle.page_roff_effects.specs.Caps.{MemoryFits};
 ghost use Rattle.page_roff_effects.specs.Acting.{measured, Does, Tests, Expands, ExpandsOrKeeps};
 ghost use Rattle.page_roff_effects.specs.Effects.{answer_of, turn_answer, budget_outcome, block_outcome, end_of_block_outcome};
 ghost use Rattle.page_core_base.specs.Messages.{message_about};
-ghost use Rattle.page_core_base.specs.Latches.{CameNotes};
+ghost use Rattle.page_core_base.specs.Latches.{Came};
 
 use crate::memories::Remembered;
 use page_core_base::{Note, NoteKind, NoteOut, Output, Place, Taken};
@@ -78,7 +78,7 @@ pub(crate) fn report_at<O: NoteOut>(
     detail: &[u8],
     out: &mut O,
 )
-    ensures { CameNotes O.left out.old (message_about kind
+    ensures { Came O.left out.old (message_about kind
         (record { line = line; column = column }) detail.now ∷ []) out.new }
 {
     out.report(&Note::about(kind, Place { line, column }, detail));
@@ -196,7 +196,7 @@ impl Actions {
     /// Expands a line, in copy mode or not.
     pub(crate) fn expand<O: NoteOut>(&mut self, copy: bool, text: &[u8], out: &mut O)
         ensures after { self.new ≡ acting.with_finished (acting.line_laid copy text.now self.old) self.old }
-        ensures came { CameNotes O.left out.old (acting.line_laid copy text.now self.old).notes out.new }
+        ensures came { Came O.left out.old (acting.line_laid copy text.now self.old).notes out.new }
     {
         let env = Environment {
             copy,

@@ -4,7 +4,7 @@ ghost use Rattle.std.specs.Prelude.{◌≡◌, ◌≤◌, ◌+◌, ◌++◌, len
 ghost use Rattle.page_core_limits.specs.declared.TheConstants.{LINE};
 ghost use Rattle.page_roff_forms.specs.LineForms.{form_of};
 ghost use Rattle.page_roff_forms.specs.declared.line_forms.LineForm.TheVariants.{Control};
-ghost use Rattle.page_core_base.specs.Latches.{CameNotes};
+ghost use Rattle.page_core_base.specs.Latches.{Came};
 ghost use Rattle.page_roff_effects.specs.Acting.{control_seen, measured, plain_form, text_given, Does, Gives, Takes, IfCalled, IsCallable};
 ghost use Rattle.page_core_base.specs.declared.lines_taken.Form.TheVariants as forms;
 ghost use Rattle.page_roff_effects.specs.Leaves as leaves;
@@ -87,7 +87,7 @@ fn finished_text<'a>(is_plain: bool, text: &'a [u8], expansion: &'a Expansion) -
 
 // Reports a call beyond the limits.
 fn report_refusals<O: NoteOut>(may_call: bool, fits: bool, place: Place, out: &mut O)
-    ensures { CameNotes O.left out.old (leaves.depth_notes may_call place
+    ensures { Came O.left out.old (leaves.depth_notes may_call place
         ++ leaves.size_notes fits place) out.new }
 {
     if !may_call {

@@ -9,7 +9,7 @@ ghost use Rattle.page_core_limits.specs.declared.TheConstants.{BODY, LINE};
 ghost use Rattle.page_roff_regions.specs.OpenRegions.{within_limit, opened_seen};
 ghost use Rattle.page_roff_regions.specs.Regions.{macro_name, region_seen, text_seen};
 ghost use Rattle.page_roff_definitions.specs.Definitions as defining;
-ghost use Rattle.page_core_base.specs.Latches.{CameNotes};
+ghost use Rattle.page_core_base.specs.Latches.{Came};
 ghost use Rattle.page_roff_effects.specs.Acting.{measured, Does, Gives};
 ghost use Rattle.page_roff_effects.specs.RegionLines as regions;
 ghost use Rattle.page_roff_effects.specs.States.{Memory, reports, with_body};
@@ -18,14 +18,14 @@ use crate::actions::{Actions, report_at};
 use crate::commands::{ProductKind, body_or_nothing};
 use page_core_base::{Form, Note, NoteKind, NoteOut, Place};
 use page_core_limits::{LINE, Limit, NAME};
-use page_roff_regions::{OpenRegion, RegionHead};
 use page_roff_buffers::BodyBuffer;
 use page_roff_names::Names;
+use page_roff_regions::{OpenRegion, RegionHead};
 use page_roff_requests::RegionKind;
 
 // Reports a name or an end name that is longer than names may be.
 fn report_name<O: NoteOut>(head: &RegionHead<&[u8]>, line: u32, out: &mut O)
-    ensures { CameNotes O.left out.old (regions.name_notes (region_seen head.now) line) out.new }
+    ensures { Came O.left out.old (regions.name_notes (region_seen head.now) line) out.new }
 {
     if head.has_long_name() {
         report_at(
@@ -40,7 +40,7 @@ fn report_name<O: NoteOut>(head: &RegionHead<&[u8]>, line: u32, out: &mut O)
 
 // Reports a table, an equation or a picture.
 fn report_table<O: NoteOut>(kind: RegionKind, column: u32, line: u32, out: &mut O)
-    ensures { CameNotes O.left out.old (regions.table_notes kind column line) out.new }
+    ensures { Came O.left out.old (regions.table_notes kind column line) out.new }
 {
     match kind {
         RegionKind::Define | RegionKind::Append | RegionKind::Ignore => {}
@@ -117,7 +117,7 @@ fn define_body<O: NoteOut>(
 
 /// Reports the line that passes the limit of bodies.
 pub(crate) fn report_long_body<O: NoteOut>(line: u32, out: &mut O)
-    ensures { CameNotes O.left out.old (message_about kinds.Limit
+    ensures { Came O.left out.old (message_about kinds.Limit
         (record { line = line; column = 1 }) (name_of limits.Body) ∷ []) out.new }
 {
     report_at(NoteKind::Limit, line, 1, Limit::Body.name().as_bytes(), out);
@@ -125,7 +125,7 @@ pub(crate) fn report_long_body<O: NoteOut>(line: u32, out: &mut O)
 
 // Reports that what is open at the end of a source lacks its end.
 fn report_missing<O: NoteOut>(name: &[u8], line: u32, out: &mut O)
-    ensures { CameNotes O.left out.old (message_about kinds.MissingEnd
+    ensures { Came O.left out.old (message_about kinds.MissingEnd
         (record { line = line; column = 1 }) name.now ∷ []) out.new }
 {
     report_at(NoteKind::MissingEnd, line, 1, name, out);

@@ -15,7 +15,7 @@ use Rattle.page_roff_regions.specs.OpenRegions.{Opened}
 use Rattle.page_roff_blocks.specs.Loops.{loop_text}
 use Rattle.page_roff_blocks.specs.Run.{meet_as, value, keep_if}
 use Rattle.page_roff_values.specs.Arguments.{arguments_in, lines_in}
-use Rattle.page_core_base.specs.Latches.{CameNotes}
+use Rattle.page_core_base.specs.Latches.{Came}
 use Rattle.page_roff_language.specs.Languages.{Kind, page, body, gives, calls, repeats}
 use Rattle.page_roff_language.specs.Budgets.{Budgeted, Effects, with_rest, charge_by, charge, begin_line, whether_run, meet, test, unopened_by, read_line, end_line, collect_some, meaning, done_with, closed_with, turn_by, turn, language}
 use Rattle.page_roff_language.specs.Counting.{Budget, budgeted, begun, charged_by, charged, exhausts_by, exhausts}
@@ -42,10 +42,10 @@ said given xs ys = append_assoc given (map says xs) (map says ys) ∙ ap (λ mor
 -- ---- one thing after another
 
 module _ {P S : Type 0} (left : P → S → List Message → Type 0) where
-  pub came_both : (s t u : S) (xs ys : List Message) → CameNotes left s xs t → CameNotes left t ys u → CameNotes left s (xs ++ ys) u
+  pub came_both : (s t u : S) (xs ys : List Message) → Came left s xs t → Came left t ys u → Came left s (xs ++ ys) u
   came_both s t u xs ys a b = λ plan more h. b plan more (a plan (ys ++ more) (rw append_assoc at h))
 
-  pub came_none : (s : S) → CameNotes left s [] s
+  pub came_none : (s : S) → Came left s [] s
   came_none s = λ plan more h. h
 
   -- nothing comes

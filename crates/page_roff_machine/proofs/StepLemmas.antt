@@ -5,7 +5,7 @@ use Rattle.std.proofs.lemmas.List.{append-nil}
 use Rattle.page_core_base.specs.Messages.{Message}
 use Rattle.page_core_base.specs.declared.page_settings.Output.{Output}
 use Rattle.page_roff_blocks.specs.Run.{At}
-use Rattle.page_core_base.specs.Latches.{CameNotes}
+use Rattle.page_core_base.specs.Latches.{Came}
 use Rattle.page_roff_blocks.specs.Levels.{outside, at_line, after_part}
 use Rattle.page_roff_values.specs.Arguments.{arguments_in}
 use Rattle.page_roff_language.specs.Languages.{body, finish_at}
@@ -130,7 +130,7 @@ module _ {P S : Type 0} (left : P → S → List Message → Type 0) where
   -- ---- what is to come
 
   leads_given : (old new : Machine) (out out_new : S) (notes : List Message) → new.actions.setting.output ≡ old.actions.setting.output
-      → CameNotes left out notes out_new → outcome_of old ≡ over (in_front (map says notes)) (outcome_of new)
+      → Came left out notes out_new → outcome_of old ≡ over (in_front (map says notes)) (outcome_of new)
       → Leads left old out new out_new
   leads_given old new out out_new notes eo came e =
       let given : to_come old ≡ map says notes ++ to_come new = ap (λ (a : At (Budgeted State)). a.state.rest.out) e in

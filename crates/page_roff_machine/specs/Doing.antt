@@ -9,7 +9,7 @@ use Rattle.page_roff_blocks.specs.declared.spots.Reached.{Reached}
 use Rattle.page_roff_regions.specs.OpenRegions.{Opened}
 use Rattle.page_roff_blocks.specs.Run.{Meaning, meet_as, value, keep_if}
 use Rattle.page_roff_values.specs.Arguments.{arguments_in, lines_in}
-use Rattle.page_core_base.specs.Latches.{CameNotes}
+use Rattle.page_core_base.specs.Latches.{Came}
 use Rattle.page_roff_language.specs.Languages.{Kind, Done, gives, calls, repeats, Language}
 use Rattle.page_roff_language.specs.Budgets.{Budgeted, charge, begin_line, meaning, language}
 use Rattle.page_roff_language.specs.Counting.{Budget, budgeted}
@@ -47,7 +47,7 @@ pub record Makes {P S A : Type 0} (left : P → S → List Message → Type 0) (
     (to : BudgetedActions → List Given → A) (out_new : S) : Type 0 where
   pub setting : new.actions.setting ≡ old.actions.setting
   pub notes : List Message
-  pub came : CameNotes left out notes out_new
+  pub came : Came left out notes out_new
   pub state : (kind : Kind) → suits kind → (given : List Given) → does kind (state_in given old)
       ≡ to new (given ++ map says notes)
 

@@ -6,7 +6,7 @@ use Rattle.page_core_base.specs.Messages.{Message}
 use Rattle.page_core_base.specs.declared.page_settings.Output.{Output}
 use Rattle.page_roff_blocks.specs.Levels.{Place}
 use Rattle.page_roff_blocks.specs.Run.{At}
-use Rattle.page_core_base.specs.Latches.{CameNotes}
+use Rattle.page_core_base.specs.Latches.{Came}
 use Rattle.page_core_limits.specs.declared.TheConstants.{REREAD}
 use Rattle.page_roff_language.specs.Languages.{Language, run_page}
 use Rattle.page_roff_language.specs.Machine.{Running, rest_of}
@@ -118,7 +118,7 @@ IsIdleUnless false m = is_idle m ≡ true
 pub record Advances {P S : Type 0} (left : P → S → List Message → Type 0) (old : Machine) (out : S)
     (result : Bool) (new : Machine) (out_new : S) : Type 0 where
   pub output : output_of new ≡ output_of old
-  pub came : CameNotes left out (notes_before (to_come old)) out_new
+  pub came : Came left out (notes_before (to_come old)) out_new
   pub line : next_line (to_come old) ≡ taken_if result new.actions.line
   pub rest : to_come new ≡ after_line (to_come old)
   pub ends : end_of new ≡ end_of old

@@ -11,7 +11,7 @@ use Rattle.page_roff_regions.specs.OpenRegions.{Opened}
 use Rattle.page_roff_blocks.specs.Run.{refuse_if}
 use Rattle.page_roff_blocks.specs.Steps.{collect_if}
 use Rattle.page_roff_values.specs.Arguments.{arguments_in}
-use Rattle.page_core_base.specs.Latches.{CameNotes}
+use Rattle.page_core_base.specs.Latches.{Came}
 use Rattle.page_roff_language.specs.Languages.{arguments_of, Kind, page, body, is_some}
 use Rattle.page_roff_language.specs.Machine.{Frame, Running, Turning, depth, leaf_next, loop_next, end_next, next}
 use Rattle.page_roff_language.specs.Measures.{weight, turns_of}
@@ -193,7 +193,7 @@ pub record Decides {P S : Type 0} (left : P → S → List Message → Type 0) (
   pub stack : new.stack ≡ old.stack
   pub setting : new.doing.actions.setting ≡ old.doing.actions.setting
   pub notes : List Message
-  pub came : CameNotes left out notes out_new
+  pub came : Came left out notes out_new
   pub step : next (language (acting_effects (output_of old.doing))) (running old.stack (state_in [] old.doing))
       ≡ moved (output_of old.doing) result old.stack (map says notes) new.doing
   pub suits : Suits result old.stack new.doing
@@ -234,7 +234,7 @@ pub record Goes {P S : Type 0} (left : P → S → List Message → Type 0) (old
   pub output : output_of new.doing ≡ output_of old.doing
   pub setting : IsIn new.stack.top.kind new.doing
   pub notes : List Message
-  pub came : CameNotes left out notes out_new
+  pub came : Came left out notes out_new
   pub step : (given : List Given) → from given ≡ reached_with result (given ++ map says notes) new
   pub body : IsBodyWithin old.stack new.stack
   pub frames : AreKept (frames_of old.stack) → AreKept (frames_of new.stack)

@@ -1,7 +1,7 @@
 -- Steps of the machine, one after another: the code's own form of them. Trust needs no reading of it.
 use Rattle.std.specs.Prelude.{◌≡◌, ◌≤◌, ◌^◌, ◌⊎◌, true, List, [], ◌++◌, map}
 use Rattle.page_core_base.specs.Messages.{Message}
-use Rattle.page_core_base.specs.Latches.{CameNotes}
+use Rattle.page_core_base.specs.Latches.{Came}
 use Rattle.page_roff_language.specs.Machine.{next}
 use Rattle.page_roff_language.specs.Measures.{HasMeasure, IsFirst}
 use Rattle.page_roff_language.specs.Budgets.{language}
@@ -43,7 +43,7 @@ pub record Steps {P S : Type 0} (left : P → S → List Message → Type 0) (ol
   pub output : output_of new.doing ≡ output_of old.doing
   pub setting : IsIn new.stack.top.kind new.doing
   pub notes : List Message
-  pub came : CameNotes left out notes out_new
+  pub came : Came left out notes out_new
   pub step : next (language (acting_effects (output_of old.doing))) (running old.stack (state_in [] old.doing))
       ≡ reached_with result (map says notes) new
   pub body : IsBodyWithin old.stack new.stack

@@ -14,10 +14,10 @@ ghost use Rattle.page_roff_effects.specs.declared.commands.ProductKind.TheVarian
 
 use page_core_base::NoteOut;
 use page_roff_blocks::{Branch, Reached, loop_text};
-use page_roff_regions::{OpenRegion, RegionHead};
 use page_roff_effects::{Actions, ProductKind};
 use page_roff_heads::LoopHead;
 use page_roff_language::Budget;
+use page_roff_regions::{OpenRegion, RegionHead};
 
 /// What the parts of sources do, under the budget of the source line.
 #[derive(Drop)]

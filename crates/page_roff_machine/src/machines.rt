@@ -5,7 +5,7 @@ ghost use Rattle.page_core_base.specs.LinesTaken.{line_seen};
 ghost use Rattle.page_core_base.specs.Texts.{IsLine};
 ghost use Rattle.page_core_limits.specs.declared.TheConstants.{ARGS, BODY, CALLS, LINE};
 ghost use Rattle.page_roff_blocks.specs.Caps.{PlaceFits};
-ghost use Rattle.page_core_base.specs.Latches.{CameNotes};
+ghost use Rattle.page_core_base.specs.Latches.{Came};
 ghost use Rattle.page_roff_effects.specs.Caps.{MemoryFits};
 ghost use Rattle.page_roff_machine.specs.Machines.{Advances, BeginsOrTakes, IsNew, Resumes, is_idle, end_memory, end_notes, place_of};
 ghost use Rattle.page_roff_machine.specs.Moving.{IsPassed};
@@ -146,7 +146,7 @@ impl Machine {
 
     /// The page ends: an open region, or an open loop, is reported.
     pub fn end<O: NoteOut>(&mut self, out: &mut O)
-        ensures came { CameNotes O.left out.old (end_notes self.old) out.new }
+        ensures came { Came O.left out.old (end_notes self.old) out.new }
         ensures stack { self.new.stack ≡ self.old.stack }
         ensures budget { self.new.budget ≡ self.old.budget }
         ensures output { self.new.actions.setting ≡ self.old.actions.setting }

@@ -13,10 +13,10 @@ ghost use Rattle.page_roff_machine.specs.Moving.{called, passes_block, progress_
 ghost use Rattle.page_roff_machine.specs.AtOnce.{IsOutside, TakesAtOnceIf};
 ghost use Rattle.page_roff_machine.specs.Stepping.{IsSound, IsMeasured, Steps, StepsOn, machine_of};
 
-use page_core_base::NoteOut;
 use crate::budgeted_actions::BudgetedActions;
 use crate::movements::{Movement, Progress};
 use arrayvec::ArrayVec;
+use page_core_base::NoteOut;
 use page_core_limits::ARGS;
 use page_roff_blocks::{Atom, Ended, Opening, Reached, Way};
 use page_roff_effects::ProductKind;

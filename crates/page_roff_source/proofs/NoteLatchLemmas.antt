@@ -18,8 +18,8 @@ pub latched : {N L A : Type 0} {gave within : N → List Message → N → Type 
     → IsSink gave within → {name last : GName} {s t : N} {none fault : Option Fault} (notes : List Message)
     (r : Result A Fault) → none ≡ None
     → ((plan : Planned N L Message) (rest : List Message)
-      → Left (TookNotes gave failed) (BrokeNotes within failed) loans plan name s none (notes ++ rest)
-      → Left (TookNotes gave failed) (BrokeNotes within failed) loans plan last t fault rest)
+    → Left (TookNotes gave failed) (BrokeNotes within failed) loans plan name s none (notes ++ rest)
+    → Left (TookNotes gave failed) (BrokeNotes within failed) loans plan last t fault rest)
     → MatchResult r (λ _. fault ≡ None) (λ f. fault ≡ Some f)
     → (last ≡ name) × (loans t ≡ loans s) × Tells gave within failed r s notes t
 latched k notes r start came done =

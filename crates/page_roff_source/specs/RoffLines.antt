@@ -3,7 +3,7 @@ use Rattle.std.specs.Prelude.{◌≡◌, ℕ, ◌+◌, ◌*◌, ◌≤◌, ◌^�
 use Rattle.page_core_base.specs.Messages.{Message}
 use Rattle.page_core_base.specs.Texts.{IsLine}
 use Rattle.page_core_limits.specs.declared.TheConstants.{LINE, REREAD}
-use Rattle.page_core_base.specs.Latches.{CameNotes}
+use Rattle.page_core_base.specs.Latches.{Came}
 use Rattle.page_roff_machine.specs.Giving.{notes_before, next_line}
 use Rattle.page_roff_effects.specs.States.{Given, takes}
 use Rattle.page_roff_machine.specs.Machines.{Machine, output_of, outcome_of, to_come, taken_if}
@@ -74,7 +74,7 @@ pub record IsAtEdge (m : Machine) (source : ℕ) (left : Remaining) : Type 0 whe
 -- It ran on: the messages before the next line came, and that is the line from now on, if there is one.
 pub record RunsOn {P S : Type 0} (left : P → S → List Message → Type 0) (old : LinesState) (out : S)
     (result : Bool) (new : LinesState) (out_new : S) : Type 0 where
-  pub came : CameNotes left out (notes_before (given_of old.edge)) out_new
+  pub came : Came left out (notes_before (given_of old.edge)) out_new
   pub line : next_line (given_of old.edge) ≡ taken_if result new.line
   pub text : result ≡ true → IsLine new.line.text
   pub edge : new.edge ≡ line_taken old.edge

@@ -6,7 +6,7 @@ ghost use Rattle.std.specs.Borrow.{sem, follows_so};
 ghost use Rattle.page_core_base.specs.LinesTaken.{line_seen};
 ghost use Rattle.page_core_base.specs.Texts.{IsLine};
 ghost use Rattle.page_core_limits.specs.declared.TheConstants.{LINE};
-ghost use Rattle.page_core_base.specs.Latches.{CameNotes};
+ghost use Rattle.page_core_base.specs.Latches.{Came};
 ghost use Rattle.page_roff_machine.specs.Giving.{notes_before, next_line};
 ghost use Rattle.page_roff_source.specs.Caps.{RoffFits, RunsWithin};
 ghost use Rattle.page_roff_source.specs.Edges.{first_edge, end_notes, counts_of};
@@ -167,7 +167,7 @@ impl RoffLines {
     /// The next finished line of the source line: UTF-8 of at most `LINE` bytes without a control character but the tab; none where the source
     /// line is done. The messages before it are reported first.
     pub fn take_into<O: NoteOut>(&mut self, out: &mut O) -> Option<Taken<'_>>
-        ensures came { CameNotes O.left out.old (notes_before (given_of self.old.edge)) out.new }
+        ensures came { Came O.left out.old (notes_before (given_of self.old.edge)) out.new }
         ensures line { option_map line_seen result ≡ next_line (given_of self.old.edge) }
         ensures text { IfSome result (λ taken. IsLine taken.text.now) }
         ensures* after { sem 𝓛 (follows_so the_row the_row self.entry.ghost_name none (λ _ _. ⊤)
@@ -183,7 +183,7 @@ impl RoffLines {
     /// The page ends after a line that is done: an open region, or an open loop, is reported.
     pub fn end_into<O: NoteOut>(&mut self, out: &mut O)
         requires { self.old.edge.to_come ≡ None }
-        ensures came { CameNotes O.left out.old (end_notes self.old.edge) out.new }
+        ensures came { Came O.left out.old (end_notes self.old.edge) out.new }
         ensures idle { self.new.edge.to_come ≡ None }
     {
         self.machine.end(out);

@@ -2,7 +2,7 @@
 
 ghost use Rattle.std.specs.Prelude.{◌≡◌};
 ghost use Rattle.page_roff_values.specs.Numbers.{value_of, messages_of};
-ghost use Rattle.page_core_base.specs.Latches.{CameNotes};
+ghost use Rattle.page_core_base.specs.Latches.{Came};
 
 use page_core_base::{NoteOut, Place};
 use page_core_numbers::{Scale, evaluate};
@@ -11,7 +11,7 @@ use page_core_numbers::{Scale, evaluate};
 /// units.
 pub fn expression<O: NoteOut>(text: &[u8], place: Place, out: &mut O) -> i32
     ensures value { result ≡ value_of text.now }
-    ensures came { CameNotes O.left out.old (messages_of place text.now) out.new }
+    ensures came { Came O.left out.old (messages_of place text.now) out.new }
 {
     let found = evaluate(text, Scale::Basic);
     let mut notes = found.notes(place);

@@ -1,17 +1,8 @@
--- What a call gives to what takes events.
-use Rattle.std.specs.Prelude.{◌≡◌, ℕ, zero, suc, List, [], ◌∷◌, ◌++◌, Option, None, Some}
+-- What takes events, where it is lent, and where one event of all is kept.
+use Rattle.std.specs.Prelude.{◌≡◌, ℕ, zero, suc, List, [], ◌∷◌, Option, None, Some}
 use Rattle.std.specs.Borrow.{Bor, GName}
 use Rattle.page_sets_lines.specs.Events.{event_seen}
 use Rattle.page_sets_lines.specs.declared.events.Event.{Event}
-
--- of every plan these events came
-abbrev pub CameEvents : {P S : Type 0} → (P → S → List (Event (List ℕ)) → Type 0) → S → List (Event (List ℕ)) → S → Type 0
-CameEvents {P} left s events t = (plan : P) (rest : List (Event (List ℕ))) → left plan s (events ++ rest) → left plan t rest
-
--- the same of a part of a call: what was to come, and what still is
-abbrev pub CameEventsUpTo : {P S : Type 0} → (P → S → List (Event (List ℕ)) → Type 0) → S → List (Event (List ℕ)) → List (Event (List ℕ)) → S
-    → Type 0
-CameEventsUpTo {P} left s all next t = (plan : P) (rest : List (Event (List ℕ))) → left plan s (all ++ rest) → left plan t (next ++ rest)
 
 -- ---- what is lent
 

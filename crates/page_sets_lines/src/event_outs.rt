@@ -2,7 +2,8 @@
 
 ghost use Rattle.std.specs.Prelude.{◌≡◌, List, [], ◌∷◌, ℕ, Option};
 ghost use Rattle.page_sets_lines.specs.Events.{event_seen};
-ghost use Rattle.page_sets_lines.specs.EventOuts.{CameEvents, found, nth, kept_seen};
+ghost use Rattle.page_core_base.specs.Latches.{Came};
+ghost use Rattle.page_sets_lines.specs.EventOuts.{found, nth, kept_seen};
 ghost use Rattle.page_sets_lines.specs.Fits.{IsShort};
 
 use crate::events::Event;
@@ -19,7 +20,7 @@ pub trait EventOut {
     /// Takes an event.
     fn give(&mut self, event: Event<&[u8]>)
         requires { IsShort (event_seen event) }
-        ensures { CameEvents left self.old (event_seen event.entry ∷ []) self.new };
+        ensures { Came left self.old (event_seen event.entry ∷ []) self.new };
 }
 
 /// Takes events whose texts live as long as `'a`, so that it may keep them.
@@ -34,7 +35,7 @@ pub trait EventTaker<'a> {
     /// Takes an event.
     fn give(&mut self, event: Event<&'a [u8]>)
         requires { IsShort (event_seen event) }
-        ensures { CameEvents left self.old (event_seen event.entry ∷ []) self.new };
+        ensures { Came left self.old (event_seen event.entry ∷ []) self.new };
 }
 
 /// Hands events on to what takes them for the call.

@@ -4,7 +4,7 @@ ghost use Rattle.std.specs.Prelude.{◌≡◌, ◌≤◌, ◌+◌, ◌*◌, List
 ghost use Rattle.page_sets_lines.specs.declared.events.Event.{Event};
 ghost use Rattle.page_core_base.specs.LinesTaken.{Line, line_seen};
 ghost use Rattle.page_sets_lines.specs.Events.{TakesNext};
-ghost use Rattle.page_sets_lines.specs.EventOuts.{CameEvents};
+ghost use Rattle.page_core_base.specs.Latches.{Came};
 ghost use Rattle.page_sets_lines.specs.Laws.{AreSlices, AreInOrder};
 
 use crate::event_outs::EventOut;
@@ -52,7 +52,7 @@ pub trait MacroSet {
     /// Gives the events of the line, one after another.
     fn give<O: EventOut>(&self, line: Taken<'_>, out: &mut O)
         requires { length line.text.now ≤ LINE }
-        ensures { CameEvents O.left out.old (table self.now (line_seen line.entry)) out.new }
+        ensures { Came O.left out.old (table self.now (line_seen line.entry)) out.new }
     {
         let mut place = self.start(line);
         while let Some(event) = self.next(line, &mut place) {

@@ -3,7 +3,7 @@
 ghost use Rattle.std.specs.Prelude.{◌≡◌, ◌≤◌, [], ◌∷◌, length, drop, option_map, IfSome};
 ghost use Rattle.page_core_base.specs.LinesTaken.{line_seen};
 ghost use Rattle.page_sets_lines.specs.Events.{deed_seen, event_seen};
-ghost use Rattle.page_sets_lines.specs.EventOuts.{CameEvents};
+ghost use Rattle.page_core_base.specs.Latches.{Came};
 ghost use Rattle.page_sets_lines.specs.Fits.{IsShortDeed};
 ghost use Rattle.page_sets_lines.specs.ControlLines.{arguments_after};
 ghost use Rattle.page_sets_lines.specs.PlainLines.{event_at, line_end};
@@ -133,7 +133,7 @@ fn mark<'a>(number: u32, column: u32, own: Own, before: Join, after: Join) -> Ev
 fn give_plain_words<'a, O: EventTaker<'a>>(out: &mut O, number: u32, text: &'a [u8], start: usize)
     requires short { length text.now ≤ LINE }
     requires within { start ≤ length text.now }
-    ensures { CameEvents O.left out.old (man.plain_words number (arguments_after start text.now)) out.new }
+    ensures { Came O.left out.old (man.plain_words number (arguments_after start text.now)) out.new }
 {
     let mut rest = start;
     while let Some((argument, end)) = read_after(text, rest) {
@@ -153,7 +153,7 @@ fn give_alternating<'a, O: EventTaker<'a>>(
 )
     requires short { length text.now ≤ LINE }
     requires within { start ≤ length text.now }
-    ensures { CameEvents O.left out.old
+    ensures { Came O.left out.old
         (man.alternating_words number font other Apart (arguments_after start text.now)) out.new }
 {
     let mut fonts = (font, other);
@@ -178,7 +178,7 @@ fn give_one<'a, O: EventTaker<'a>>(
 )
     requires short { length text.now ≤ LINE }
     requires within { start ≤ length text.now }
-    ensures { CameEvents O.left out.old
+    ensures { Came O.left out.old
         (man.one_word number font before (arguments_after start text.now)) out.new }
 {
     if let Some((argument, _)) = read_after(text, start) {
@@ -190,7 +190,7 @@ fn give_one<'a, O: EventTaker<'a>>(
 fn give_option<'a, O: EventTaker<'a>>(out: &mut O, number: u32, text: &'a [u8], start: usize)
     requires short { length text.now ≤ LINE }
     requires within { start ≤ length text.now }
-    ensures { CameEvents O.left out.old (man.option_words number (arguments_after start text.now)) out.new }
+    ensures { Came O.left out.old (man.option_words number (arguments_after start text.now)) out.new }
 {
     if let Some((key, rest)) = read_after(text, start) {
         out.give(argument_word(number, Some(Font::B), Join::Apart, key));
@@ -208,7 +208,7 @@ fn give_section<'a, O: EventTaker<'a>>(
 )
     requires short { length text.now ≤ LINE }
     requires within { start ≤ length text.now }
-    ensures { CameEvents O.left out.old
+    ensures { Came O.left out.old
         (man.section_words number column (arguments_after start text.now)) out.new }
 {
     if let Some((section, rest)) = read_after(text, start) {
@@ -241,7 +241,7 @@ fn give_reference<'a, O: EventTaker<'a>>(
 )
     requires short { length text.now ≤ LINE }
     requires within { start ≤ length text.now }
-    ensures { CameEvents O.left out.old
+    ensures { Came O.left out.old
         (man.reference_words number column (arguments_after start text.now)) out.new }
 {
     if let Some((name, rest)) = read_after(text, start) {
@@ -261,7 +261,7 @@ fn give_words<'a, O: EventTaker<'a>>(
 )
     requires short { length text.now ≤ LINE }
     requires within { start ≤ length text.now }
-    ensures { CameEvents O.left out.old
+    ensures { Came O.left out.old
         (man.words_events number column words (arguments_after start text.now)) out.new }
 {
     match words {
@@ -277,7 +277,7 @@ fn give_words<'a, O: EventTaker<'a>>(
 
 // What comes after a macro's words, but the line's end.
 fn give_last<'a, O: EventTaker<'a>>(out: &mut O, number: u32, column: u32, last: Last)
-    ensures { CameEvents O.left out.old (man.last_events number column last) out.new }
+    ensures { Came O.left out.old (man.last_events number column last) out.new }
 {
     match last {
         Last::Nothing => {}
@@ -288,7 +288,7 @@ fn give_last<'a, O: EventTaker<'a>>(out: &mut O, number: u32, column: u32, last:
 
 // The message about a quote that is missing.
 fn give_quote<'a, O: EventTaker<'a>>(out: &mut O, number: u32, quote: Option<Quote>)
-    ensures { CameEvents O.left out.old (man.quote_events number quote) out.new }
+    ensures { Came O.left out.old (man.quote_events number quote) out.new }
 {
     if let Some(quote) = quote {
         out.give(event_at(number, quote.column, quote_deed(quote)));
@@ -303,7 +303,7 @@ fn give_deed<'a, O: EventTaker<'a>>(
     deed: Option<Deed<&'a [u8]>>,
 )
     requires { IfSome deed (λ d. IsShortDeed (deed_seen d)) }
-    ensures { CameEvents O.left out.old
+    ensures { Came O.left out.old
         (man.deed_events number column (option_map deed_seen deed.entry)) out.new }
 {
     if let Some(deed) = deed {
@@ -318,7 +318,7 @@ fn give_scope<'a, O: EventTaker<'a>>(
     column: u32,
     scope: Option<LineOpener>,
 )
-    ensures { CameEvents O.left out.old (man.scope_events number column scope) out.new }
+    ensures { Came O.left out.old (man.scope_events number column scope) out.new }
 {
     if let Some(opener) = scope {
         out.give(event_at(number, column, Deed::LineScope(opener)));
@@ -327,7 +327,7 @@ fn give_scope<'a, O: EventTaker<'a>>(
 
 // The end of the line scopes that are open, where a macro breaks them.
 fn give_break<'a, O: EventTaker<'a>>(out: &mut O, number: u32, column: u32, breaks: bool)
-    ensures { CameEvents O.left out.old (man.break_events number column breaks) out.new }
+    ensures { Came O.left out.old (man.break_events number column breaks) out.new }
 {
     if breaks {
         out.give(event_at(number, column, Deed::Close(Closer::Line)));
@@ -336,7 +336,7 @@ fn give_break<'a, O: EventTaker<'a>>(out: &mut O, number: u32, column: u32, brea
 
 // A line's end.
 fn give_end<'a, O: EventTaker<'a>>(out: &mut O, number: u32, fills: bool)
-    ensures { CameEvents O.left out.old (line_end number fills ∷ []) out.new }
+    ensures { Came O.left out.old (line_end number fills ∷ []) out.new }
 {
     out.give(event_at(number, 1, Deed::End { fills }));
 }
@@ -352,7 +352,7 @@ fn give_macro<'a, O: EventTaker<'a>>(
 )
     requires short { length text.now ≤ LINE }
     requires within { start ≤ length text.now }
-    ensures { CameEvents O.left out.old
+    ensures { Came O.left out.old
         (man.macro_events number column row (drop start text.now) (arguments_after start text.now)) out.new }
 {
     give_break(out, number, column, row.breaks);
@@ -376,7 +376,7 @@ fn give_refused<'a, O: EventTaker<'a>>(
     column: u32,
     name: &'a [u8],
 )
-    ensures { CameEvents O.left out.old (man.refused_events kind number column name.now) out.new }
+    ensures { Came O.left out.old (man.refused_events kind number column name.now) out.new }
 {
     out.give(event_at(
         number,
@@ -401,7 +401,7 @@ fn give_lone<'a, O: EventTaker<'a>>(
 )
     requires short { length line.text.now ≤ LINE }
     requires within { start ≤ length line.text.now }
-    ensures { CameEvents O.left out.old
+    ensures { Came O.left out.old
         (man.lone_events row.alone line.entry.line column name.now (man.macro_events line.entry.line column row
         (drop start line.entry.text.now) (arguments_after start line.entry.text.now))) out.new }
 {
@@ -419,7 +419,7 @@ fn give_lone<'a, O: EventTaker<'a>>(
 #[inline(never)]
 fn give_control<'a, O: EventTaker<'a>>(out: &mut O, line: Taken<'a>)
     requires { length line.text.now ≤ LINE }
-    ensures { CameEvents O.left out.old (man.control_events (line_seen line.entry)) out.new }
+    ensures { Came O.left out.old (man.control_events (line_seen line.entry)) out.new }
 {
     let span = find_name(line);
     let column = span.start as u32 + 1;
@@ -441,7 +441,7 @@ fn give_control<'a, O: EventTaker<'a>>(out: &mut O, line: Taken<'a>)
 #[tactic(auto, unfolding(crate::specs::Man::man_events))]
 pub(crate) fn give_events<'a, O: EventTaker<'a>>(out: &mut O, line: Taken<'a>)
     requires { length line.text.now ≤ LINE }
-    ensures { CameEvents O.left out.old (man.man_events (line_seen line.entry)) out.new }
+    ensures { Came O.left out.old (man.man_events (line_seen line.entry)) out.new }
 {
     match PlainLine::of(line) {
         Some(plain) => {

@@ -1,7 +1,7 @@
 //! The words of macros, given one after another (mdoc(7), "MACRO REFERENCE").
 
 ghost use Rattle.std.specs.Prelude.{◌≡◌, ◌≤◌, [], length};
-ghost use Rattle.page_sets_lines.specs.EventOuts.{CameEvents};
+ghost use Rattle.page_core_base.specs.Latches.{Came};
 ghost use Rattle.page_sets_mdoc_lines.specs.Cursors.{IsCursorOf};
 ghost use Rattle.page_sets_mdoc_lines.specs.LineWords.{is_closing};
 ghost use Rattle.page_sets_mdoc_lines.specs.Parts.{front_len};
@@ -27,7 +27,7 @@ pub fn give_printed<'a, O: EventTaker<'a>>(
     requires short { length text.now ≤ LINE }
     requires within { IsCursorOf text.now words.old.cursor }
     ensures goes { GoesOn text.now words.old words.new }
-    ensures came { CameEvents O.left out.old (printed.printed number font (words_left text.now words.old)) out.new }
+    ensures came { Came O.left out.old (printed.printed number font (words_left text.now words.old)) out.new }
 {
     while let Some(word) = words.read(text) {
         out.give(printed_word(number, font, word));
@@ -44,7 +44,7 @@ pub fn give_flags<'a, O: EventTaker<'a>>(
     requires short { length text.now ≤ LINE }
     requires within { IsCursorOf text.now words.old.cursor }
     ensures goes { GoesOn text.now words.old words.new }
-    ensures came { CameEvents O.left out.old (inlines.flags number (words_left text.now words.old)) out.new }
+    ensures came { Came O.left out.old (inlines.flags number (words_left text.now words.old)) out.new }
 {
     while let Some(word) = words.read(text) {
         if is_real(word) {
@@ -73,7 +73,7 @@ fn give_section<'a, O: EventTaker<'a>>(
     requires short { length text.now ≤ LINE }
     requires within { IsCursorOf text.now words.old.cursor }
     ensures goes { GoesOn text.now words.old words.new }
-    ensures came { CameEvents O.left out.old (inlines.section number (words_left text.now words.old)) out.new }
+    ensures came { Came O.left out.old (inlines.section number (words_left text.now words.old)) out.new }
 {
     while let Some(word) = words.read(text) {
         if is_real(word) {
@@ -111,7 +111,7 @@ pub fn give_reference<'a, O: EventTaker<'a>>(
     requires short { length text.now ≤ LINE }
     requires within { IsCursorOf text.now words.old.cursor }
     ensures goes { GoesOn text.now words.old words.new }
-    ensures came { CameEvents O.left out.old (inlines.reference number (words_left text.now words.old)) out.new }
+    ensures came { Came O.left out.old (inlines.reference number (words_left text.now words.old)) out.new }
 {
     while let Some(word) = words.read(text) {
         out.give(printed_word(number, None, word));
@@ -134,7 +134,7 @@ fn give_arguments<'a, O: EventTaker<'a>>(
     requires within { IsCursorOf text.now words.old.cursor }
     ensures goes { GoesOn text.now words.old words.new }
     ensures all { words_left text.now words.new ≡ [] }
-    ensures came { CameEvents O.left out.old (inlines.arguments number column (words_left text.now words.old)) out.new }
+    ensures came { Came O.left out.old (inlines.arguments number column (words_left text.now words.old)) out.new }
 {
     let mut is_first = true;
     while let Some(word) = words.read(text) {
@@ -160,7 +160,7 @@ fn give_function_words<'a, O: EventTaker<'a>>(
     requires within { IsCursorOf text.now words.old.cursor }
     ensures goes { GoesOn text.now words.old words.new }
     ensures all { words_left text.now words.new ≡ [] }
-    ensures came { CameEvents O.left out.old (inlines.function_words number column (words_left text.now words.old)) out.new }
+    ensures came { Came O.left out.old (inlines.function_words number column (words_left text.now words.old)) out.new }
 {
     while let Some(word) = words.read(text) {
         out.give(printed_word(number, Some(Font::B), word));
@@ -193,7 +193,7 @@ pub fn give_function<'a, O: EventTaker<'a>>(
     requires inside { inside ≡ front_len is_closing (words_left text.now words.old) }
     requires less { inside ≤ length (words_left text.now words.old) }
     ensures goes { GoesOn text.now words.old words.new }
-    ensures came { CameEvents O.left out.old (inlines.function number column (words_left text.now words.old)) out.new }
+    ensures came { Came O.left out.old (inlines.function number column (words_left text.now words.old)) out.new }
 {
     let mut own = WordsLeft {
         count: inside,

@@ -1,5 +1,5 @@
 use Rattle.std.proofs.Common.{length}
-use Rattle.page_sets_lines.specs.EventOuts.{CameEventsUpTo}
+use Rattle.page_core_base.specs.Latches.{CameUpTo}
 use Rattle.page_sets_mdoc_lines.specs.Cursors.{IsCursorOf}
 use Rattle.page_sets_mdoc_steps.specs.Inlines.{section}
 use Rattle.page_sets_mdoc_steps.specs.WordsLeft.{GoesOn, words_left}
@@ -9,7 +9,7 @@ abbrev pub invariant-loop-word : goal.invariant-loop-word
 invariant-loop-word g l = record {
   within : IsCursorOf l.text l.words.cursor;
   goes : GoesOn l.text l.fn.words l.words;
-  came : CameEventsUpTo g.O.EventTaker.left l.fn.out (section l.number (words_left l.text l.fn.words))
+  came : CameUpTo g.O.EventTaker.left l.fn.out (section l.number (words_left l.text l.fn.words))
       (section l.number (words_left l.text l.words)) l.out;
 }
 

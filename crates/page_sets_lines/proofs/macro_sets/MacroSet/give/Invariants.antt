@@ -1,12 +1,12 @@
 use Rattle.std.proofs.Common.{length}
 use Rattle.page_core_base.specs.LinesTaken.{line_seen}
-use Rattle.page_sets_lines.specs.EventOuts.{CameEventsUpTo}
+use Rattle.page_core_base.specs.Latches.{CameUpTo}
 use Rattle.page_sets_lines.proofs.macro_sets.MacroSet.give.Given as goal
 
 abbrev pub invariant-loop-event : goal.invariant-loop-event
 invariant-loop-event g l = record {
   place : g.Self.MacroSet.IsPlaceOf l.self (line_seen l.line) l.place;
-  came : CameEventsUpTo g.O.EventOut.left l.fn.out (g.Self.MacroSet.table l.self (line_seen l.line))
+  came : CameUpTo g.O.EventOut.left l.fn.out (g.Self.MacroSet.table l.self (line_seen l.line))
       (g.Self.MacroSet.events_from l.self (line_seen l.line) l.place) l.out;
 }
 
