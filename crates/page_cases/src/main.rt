@@ -1,5 +1,6 @@
 //! Shows what whole pages give: rows, messages, counts of lines and the worst level. The standard input has the pages, each after a line
-//! `== WORDS: what it shows`, where the words are those of `Words` or none. What cannot be written is missing from what is wanted.
+//! `== WORDS: what it shows`, where the words are those of `Words` or none, under headings `==== NAME`, in the order of `docs/PROFILE.md`. What
+//! cannot be written is missing from what is wanted.
 //!
 //! Each page is also run by bytes, cut, and with reads and writes that fail, unless it is to be run once, and one that says so with memory
 //! refused. Where it then gives something else, a line `-- not` says how.
@@ -19,24 +20,28 @@ use words::Words;
 
 fn main(rt: HostRuntime) -> io::Result<()> {
     let mut page = String::new(rt.alloc());
-    let mut words = Words::new();
-    let mut is_first = true;
+    let mut words = None;
     for line in rt.lines(rt.alloc()) {
         let line = line?;
-        if let Some(title) = line.strip_prefix("== ") {
-            if !is_first {
-                show(&rt, page.as_str(), &words)?;
-            }
-            is_first = false;
-            page.clear();
-            words = Words::of_title(title);
-            println!(rt; "{line}")?;
-        } else {
+        if !line.starts_with("==") {
             page.push_str(line.as_str())?;
             page.push('\n')?;
+            continue;
         }
+        show_if(&rt, page.as_str(), &words)?;
+        page.clear();
+        words = line.strip_prefix("== ").map(Words::of_title);
+        println!(rt; "{line}")?;
     }
-    show(&rt, page.as_str(), &words)
+    show_if(&rt, page.as_str(), &words)
+}
+
+// Shows what a page gives, if there is one: there is none before a heading.
+fn show_if(rt: &HostRuntime, page: &str, words: &Option<Words>) -> io::Result<()> {
+    match words {
+        Some(words) => show(rt, page, words),
+        None => Ok(()),
+    }
 }
 
 // Shows what a page gives, which may be written in short.
