@@ -58,7 +58,7 @@ check:
 edits:
 	@tools/edits $(CRATES)
 
-# Refuses each allocation in turn, to pages that are fed line by line and to the program. It builds what it runs, as the gate does.
+# Refuses each allocation in turn, to pages that are fed line by line and to the program: those that the gate built, or else it builds them.
 refusals:
 	@bench/refusals.sh
 	@bench/refusals_program.sh

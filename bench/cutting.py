@@ -2,7 +2,7 @@
 """Times a program that cuts its standard input into lines, beside `wc -l` (usage: bench/cutting.py PROGRAM [RUNS]).
 
 The page has 100 MB, in lines of 60 to 80 letters. Both are run RUNS times in turn (default 15), and the least time of
-each counts. Times hold for one machine in one run only. The peak of memory is told at 1 MB too, to compare.
+each counts. Times hold for one machine in one run only. The peak of memory is given at 1 MB too, to compare.
 """
 import random
 import subprocess

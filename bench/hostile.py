@@ -3,7 +3,7 @@
 
 Each page is formatted once at a quarter, a half and the whole of its size: where the time is linear, each column is about twice the one
 before. Beside them stand the peak of our memory at the whole size, and the time of the `mandoc` on the PATH, if there is one: a run that takes
-more than a minute is ended, and one that a signal ends is told so.
+more than a minute is ended, and one that a signal ends is reported.
 """
 import os
 import shutil

@@ -68,7 +68,7 @@ def timed(words, name):
 
 
 def peak_of(words, name):
-    """Returns the peak of memory in kB, as the system tells it while the program runs: the last byte of the page is kept back until then."""
+    """Returns the peak of memory in kB, as the system reports it while the program runs: the last byte of the page is kept back until then."""
     with open(name, "rb") as file:
         text = file.read()
     with subprocess.Popen(words, stdin=subprocess.PIPE, stdout=subprocess.DEVNULL) as run:

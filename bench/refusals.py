@@ -6,7 +6,7 @@ the end of each the program makes one allocation of its own. So where an allocat
 refused is one of those two, and what is given is the same: a page and roff ask for nothing once they are made.
 
 Then each page is run with a cut after each of its lines in turn: page and roff are put down there and go on from what is held of them. Where an
-allocation of that is refused, the program tells it, and gives the same: the page goes on as it is, or from what came back when it is tried once more.
+allocation of that is refused, the program reports it, and gives the same: the page goes on as it is, or from what came back when it is tried once more.
 Each cut asks for as many allocations as any other, so nothing that is held grows with the page; and after it nothing is asked for either.
 """
 import concurrent.futures
@@ -57,7 +57,7 @@ GO_ON = b"-- no memory to go on\n"
 AFTER_PAGE = b"-- no memory after the page\n"
 NO_ROFF = b"-- not by roff alone\n"
 AFTER_ROFF = b"-- no memory after roff\n"
-TOLD = (PUT_DOWN, GO_ON, AFTER_PAGE, NO_ROFF, AFTER_ROFF)
+STAGES = (PUT_DOWN, GO_ON, AFTER_PAGE, NO_ROFF, AFTER_ROFF)
 
 # Words of pages that are to fail otherwise.
 FAILING = re.compile(rb"rows=|messages=|width=57|width=301|indent=21")
@@ -73,9 +73,9 @@ def given(program, library, page, refused):
     return subprocess.run([program], input=page, env=env, stdout=subprocess.PIPE, stderr=subprocess.DEVNULL).stdout
 
 
-def told(shown, whole, refused):
-    """Returns the line that a run tells in which the allocation of this number is refused, or None where there is no page."""
-    lines = [line for line in TOLD if line in shown]
+def stage_of(shown, whole, refused):
+    """Returns the line that a run prints in which the allocation of this number is refused, or None where there is no page."""
+    lines = [line for line in STAGES if line in shown]
     if not lines and b"-- source" in shown:
         raise Bad(f"is there, but for what it gives, where allocation {refused} is refused")
     if lines and shown.replace(lines[0], b"") != whole:
@@ -84,12 +84,12 @@ def told(shown, whole, refused):
 
 
 def tellings(program, library, page, first=1):
-    """Refuses each allocation in turn from that of a number on, up to the one after roff. Returns the number of the first that is told, and what
-    is told from there on: each line, and how often it comes before the next one."""
+    """Refuses each allocation in turn from that of a number on, up to the one after roff. Returns the number of the first that is reported, and what
+    is reported from there on: each line, and how often it comes before the next one."""
     whole = given(program, library, page, 0)
     begin, lines = 0, []
     for refused in range(first, 10_000):
-        line = told(given(program, library, page, refused), whole, refused)
+        line = stage_of(given(program, library, page, refused), whole, refused)
         if line is None and begin:
             raise Bad(f"is not there where allocation {refused} is refused")
         if line is None:
@@ -104,14 +104,14 @@ def tellings(program, library, page, first=1):
 
 
 def cut_after(page, number):
-    """The page with a cut after the line of a number, which its title tells."""
+    """The page with a cut after the line of a number, which its title names."""
     title, rest = page.split(b"\n", 1)
     shows = re.sub(rb"^== (cut=\d+: )?", b"", title)
     return b"== cut=%04d%s%s\n%s" % (number, b" " if b": " in shows else b": ", shows, rest)
 
 
 def cuts_of(program, library, page):
-    """Runs a page without a cut, and cut after each of its lines in turn. Returns the lines that are told at a cut, each with how often, which all of
+    """Runs a page without a cut, and cut after each of its lines in turn. Returns the lines that are printed at a cut, each with how often, which all of
     its cuts have."""
     uncut = cut_after(page, 0)
     begin, without = tellings(program, library, uncut)
@@ -130,7 +130,7 @@ def cuts_of(program, library, page):
 
 
 def tried(program, library, page):
-    """Returns what is told at the cuts of a page, and what it does not keep to, or None."""
+    """Returns what is printed at the cuts of a page, and what it does not keep to, or None."""
     try:
         return cuts_of(program, library, page), None
     except Bad as bad:

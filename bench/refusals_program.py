@@ -1,7 +1,7 @@
 #!/usr/bin/env python3
 """Refuses each allocation in turn to runs of the program itself (usage: bench/refusals_program.py PROGRAM, linked dynamically).
 
-Where one is refused, the run is as ever, or it ends with status 6 and tells it: `mandoc: out of memory`, or `mandoc: FILE: out of memory`. What is on
+Where one is refused, the run is as ever, or it ends with status 6 and reports it: `mandoc: out of memory`, or `mandoc: FILE: out of memory`. What is on
 standard output is that of whole files, an index is the old one or one of whole lines, and no unfinished one is left.
 """
 import os
@@ -104,8 +104,8 @@ def is_past(program, library, words, text, refused):
     return "-- refused" not in done.stderr
 
 
-# The allocator of `refusals`, which tells on standard error where it is asked to that it refused a call.
-TELLING = REFUSING.replace("return ++calls == refused;", """int is_now = ++calls == refused;
+# The allocator of `refusals`, which says on standard error where it is asked to that it refused a call.
+REPORTING = REFUSING.replace("return ++calls == refused;", """int is_now = ++calls == refused;
     if (is_now && getenv("FAIL_TOLD")) { long sent = write(2, "-- refused\\n", 11); (void) sent; }
     return is_now;""").replace("#include <stdlib.h>", "#include <stdlib.h>\n#include <unistd.h>")
 
@@ -116,7 +116,7 @@ def main():
     with tempfile.TemporaryDirectory() as room:
         source, library = f"{room}/refusing.c", f"{room}/refusing.so"
         with open(source, "w") as file:
-            file.write(TELLING)
+            file.write(REPORTING)
         subprocess.run(["cc", "-O1", "-shared", "-fPIC", "-o", library, source, "-ldl"], check=True)
         for words, text, files in RUNS:
             count, fault = tried(program, library, words, text, files)

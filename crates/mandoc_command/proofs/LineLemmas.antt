@@ -68,7 +68,7 @@ is_line-err program a words kind e kinds refused = elim kinds [
   | inr among ↦ is_line-among program a words kind e among
 ]
 
--- whether words are there is told by them as well as by their texts
+-- whether words are there is seen by them as well as by their texts
 pub are_words_map : {S : Type 0} (f : S → Text) (xs : List S) → are_words (map f xs) ≡ (not (length xs == 0) && not (list_any (λ x. is_empty (f x)) xs))
 are_words_map f xs = ap₂ (λ (n : ℕ) (b : Bool). not (n == 0) && not b) (length-map xs f) (sym (list_any-map is_empty f xs))
 

@@ -14,7 +14,7 @@ fn words_of(rt: &impl Abort, alloc: Global, line: &'static str) -> Vec<&'static 
 }
 
 // What is asked for in another way than by no words, and the files.
-fn told(alloc: Global, format: &Format) -> Result<String, AllocError> {
+fn shown_format(alloc: Global, format: &Format) -> Result<String, AllocError> {
     let settings = &format.settings;
     let mut text = String::new(alloc);
     if settings.output != Output::Ascii {
@@ -80,7 +80,7 @@ fn told_searches(alloc: Global, asked: &Whatis) -> Result<String, AllocError> {
 
 fn told_command(alloc: Global, command: &Command) -> Result<String, AllocError> {
     match command {
-        Command::Format(format) => told(alloc, format),
+        Command::Format(format) => shown_format(alloc, format),
         Command::Makewhatis(asked) => told_indexes(alloc, asked),
         Command::Whatis(asked) => told_searches(alloc, asked),
     }

@@ -1,4 +1,4 @@
-//! What is told of files that fail, and how a run goes on after that (mandoc(1), DIAGNOSTICS and EXIT STATUS).
+//! What is reported of files that fail, and how a run goes on after that (mandoc(1), DIAGNOSTICS and EXIT STATUS).
 
 use crate::shown_names::shown;
 use page_core_base::Fault;
@@ -26,23 +26,23 @@ impl Done {
 }
 
 /// Reports a file that can't be opened, or a folder that can't be listed; the next one goes on, also where that line can't be printed.
-pub fn tell_unopened<V: Write>(err: &mut V, name: &str) -> Done {
+pub fn report_unopened<V: Write>(err: &mut V, name: &str) -> Done {
     let _ = writeln!(err, "mandoc: {}: cannot open", shown(name));
     Done::with(SYSTEM_FAILURE)
 }
 
 /// Reports a fault at a file. After one of writing nothing further can be written.
-pub fn tell_fault<V: Write>(err: &mut V, name: &str, fault: Fault) -> Done {
-    tell_fault_at(err, shown(name), fault)
+pub fn report_fault<V: Write>(err: &mut V, name: &str, fault: Fault) -> Done {
+    report_fault_at(err, shown(name), fault)
 }
 
 /// Reports a fault at the index of a directory.
-pub fn tell_index_fault<V: Write>(err: &mut V, dir: &str, fault: Fault) -> Done {
-    tell_fault_at(err, format_args!("{}/whatis.idx", shown(dir)), fault)
+pub fn report_index_fault<V: Write>(err: &mut V, dir: &str, fault: Fault) -> Done {
+    report_fault_at(err, format_args!("{}/whatis.idx", shown(dir)), fault)
 }
 
 // Reports a fault at what has a name as messages have it.
-fn tell_fault_at<V: Write, N: Display + Drop>(err: &mut V, name: N, fault: Fault) -> Done {
+fn report_fault_at<V: Write, N: Display + Drop>(err: &mut V, name: N, fault: Fault) -> Done {
     let _ = writeln!(err, "mandoc: {name}: {fault}");
     Done {
         status: SYSTEM_FAILURE,

@@ -1,6 +1,6 @@
 //! The pages of a command line, each from its bytes to its rows, its messages and its status (mandoc(1), DESCRIPTION).
 
-use crate::faults::{Done, tell_fault, tell_unopened};
+use crate::faults::{Done, report_fault, report_unopened};
 use crate::shown_names::shown;
 use crate::streams::{FlushingReader, Stream, flush};
 use mandoc_command::{Format, status_of};
@@ -15,7 +15,7 @@ const STANDARD_INPUT: &str = "<stdin>";
 
 /// Formats the pages of a command in their order, and answers the worst of their statuses (mandoc(1), EXIT STATUS).
 ///
-/// A file that can't be opened or read, or a page past a limit, is told of on `err`, and the others go on, also where that line can't be
+/// A file that can't be opened or read, or a page past a limit, is reported on `err`, and the others go on, also where that line can't be
 /// printed. A page whose rows or messages can't be written ends it.
 pub fn format_all<R: Files, I: Read, W: Write, V: Write>(
     rt: &R,
@@ -51,11 +51,11 @@ fn format_file<R: Files, W: Write, V: Write>(
 ) -> Done {
     match fs::open(rt, name) {
         Ok(mut file) => format_page(alloc, &mut file, out, err, name, settings),
-        Err(_) => tell_unopened(err, name),
+        Err(_) => report_unopened(err, name),
     }
 }
 
-// Formats a page, and tells of its fault: at once, since a buffer that can't be put out would fail the next page too.
+// Formats a page, and reports its fault: at once, since a buffer that can't be put out would fail the next page too.
 fn format_page<I: Read, W: Write, V: Write>(
     alloc: Global,
     input: &mut I,
@@ -66,7 +66,7 @@ fn format_page<I: Read, W: Write, V: Write>(
 ) -> Done {
     match run_buffered(alloc, input, out, err, name, settings) {
         Ok(outcome) => Done::with(status_of(outcome.worst)),
-        Err(fault) => tell_fault(err, name, fault),
+        Err(fault) => report_fault(err, name, fault),
     }
 }
 

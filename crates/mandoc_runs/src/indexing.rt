@@ -1,6 +1,6 @@
 //! Indexes made of the pages of directories (makewhatis(8)).
 
-use crate::faults::{Done, tell_fault, tell_index_fault};
+use crate::faults::{Done, report_fault, report_index_fault};
 use crate::page_records::{Form, Pages};
 use mandoc_command::Makewhatis;
 use page_core_base::Fault;
@@ -11,7 +11,7 @@ use std::io::{self, BufWriter, Write};
 /// Makes the indexes of directories in their order, or prints the records of their pages, and answers the worst status (makewhatis(8),
 /// EXIT STATUS).
 ///
-/// A page or a folder that can't be read is told of on `err`, and the others go on, also where that line can't be printed. An index, or
+/// A page or a folder that can't be read is reported on `err`, and the others go on, also where that line can't be printed. An index, or
 /// records, that can't be written end it.
 pub fn make_indexes<R: Files, W: Write, V: Write>(
     rt: &R,
@@ -45,7 +45,7 @@ fn print_records<R: Files, W: Write, V: Write>(
 ) -> Done {
     match give_buffered(rt, alloc, dir, Form::Printed, out, err) {
         Ok(status) => Done::with(status),
-        Err(fault) => tell_fault(err, dir, fault),
+        Err(fault) => report_fault(err, dir, fault),
     }
 }
 
@@ -55,11 +55,11 @@ fn make_index<R: Files, V: Write>(rt: &R, alloc: Global, dir: &str, err: &mut V)
         format!(in alloc; "{dir}/whatis.tmp"),
         format!(in alloc; "{dir}/whatis.idx"),
     ) else {
-        return tell_index_fault(err, dir, Fault::Memory);
+        return report_index_fault(err, dir, Fault::Memory);
     };
     match replace_index(rt, alloc, dir, unfinished.as_str(), name.as_str(), err) {
         Ok(status) => Done::with(status),
-        Err(fault) => tell_fault(err, name.as_str(), fault),
+        Err(fault) => report_fault(err, name.as_str(), fault),
     }
 }
 

@@ -19,6 +19,6 @@ mod streams;
 mod words;
 
 pub use commands::{refuse, run_command};
-pub use faults::{Done, tell_unopened};
+pub use faults::{Done, report_unopened};
 pub use standard_numbers::{NULL_DEVICE, hold_standard_numbers};
 pub use words::words_given;

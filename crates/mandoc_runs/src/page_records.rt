@@ -3,7 +3,7 @@
 ghost use Rattle.std.specs.Prelude.{◌≡◌, true};
 ghost use Rattle.page_engine_index.specs.Fields.{is_field};
 
-use crate::faults::{tell_fault, tell_unopened};
+use crate::faults::{report_fault, report_unopened};
 use page_core_base::{Fault, Settings};
 use page_engine_index::{FIRST_LINE, Record, is_field, print_record, write_record};
 use page_engine_records::name_record;
@@ -25,7 +25,7 @@ pub enum Form {
     Printed,
 }
 
-/// The pages in a directory, the form of their records, and where faults are told.
+/// The pages in a directory, the form of their records, and where faults are reported.
 #[derive(Drop)]
 pub struct Pages<'a, R, V> {
     pub rt: &'a R,
@@ -38,7 +38,7 @@ pub struct Pages<'a, R, V> {
 impl<R: Files, V: Write> Pages<'_, R, V> {
     /// Gives the records of all pages, folder by folder, each in the order of the bytes of its files' names, and answers the worst status.
     ///
-    /// Its fault is [`Fault::WriteText`] where a record can't be written. What can't be read is told of, and the next page follows.
+    /// Its fault is [`Fault::WriteText`] where a record can't be written. What can't be read is reported, and the next page follows.
     pub fn give_all<W: Write>(&mut self, out: &mut W) -> Result<u8, Fault> {
         self.give_first_line(out)?;
         let mut worst = 0;
@@ -64,16 +64,16 @@ impl<R: Files, V: Write> Pages<'_, R, V> {
         };
         match names_in(self.rt, self.alloc, path.as_str()) {
             Ok(names) => self.give_files(out, folder, names.as_slice()),
-            Err(error) => Ok(self.tell_unlisted(path.as_str(), error.kind())),
+            Err(error) => Ok(self.report_unlisted(path.as_str(), error.kind())),
         }
     }
 
-    // Tells of a folder that can't be listed, unless there is none, and answers the status.
-    fn tell_unlisted(&mut self, folder: &str, kind: ErrorKind) -> u8 {
+    // Reports a folder that can't be listed, unless there is none, and answers the status.
+    fn report_unlisted(&mut self, folder: &str, kind: ErrorKind) -> u8 {
         match kind {
             ErrorKind::NotFound => 0,
-            ErrorKind::OutOfMemory => tell_fault(self.err, folder, Fault::Memory).status,
-            _ => tell_unopened(self.err, folder).status,
+            ErrorKind::OutOfMemory => report_fault(self.err, folder, Fault::Memory).status,
+            _ => report_unopened(self.err, folder).status,
         }
     }
 
@@ -113,7 +113,7 @@ impl<R: Files, V: Write> Pages<'_, R, V> {
         }
     }
 
-    // The record of the page in a file, if it is one and has one; where it can't be read, the status after it was told.
+    // The record of the page in a file, if it is one and has one; where it can't be read, the status after it was reported.
     fn record_in(&mut self, path: &str) -> Result<Option<Record>, u8> {
         if !is_file(self.rt, path) {
             return Ok(None);
@@ -121,9 +121,9 @@ impl<R: Files, V: Write> Pages<'_, R, V> {
         match fs::open(self.rt, path) {
             Ok(mut file) => match name_record(self.alloc, &mut file, &Settings::new()) {
                 Ok(record) => Ok(record),
-                Err(fault) => Err(tell_fault(self.err, path, fault).status),
+                Err(fault) => Err(report_fault(self.err, path, fault).status),
             },
-            Err(_) => Err(tell_unopened(self.err, path).status),
+            Err(_) => Err(report_unopened(self.err, path).status),
         }
     }
 }
@@ -142,7 +142,7 @@ fn names_in<R: Files>(rt: &R, alloc: Global, folder: &str) -> io::Result<Vec<Str
     Ok(names)
 }
 
-// Whether a path leads to a file, and not to a folder or a device. What can't be told is seen when it is opened.
+// Whether a path leads to a file, and not to a folder or a device. Where that can't be found out, it is seen when it is opened.
 fn is_file<R: Files>(rt: &R, path: &str) -> bool {
     match fs::metadata(rt, path) {
         Ok(metadata) => metadata.is_file(),

@@ -1,6 +1,6 @@
 //! Words looked for in the index of a directory (whatis(1)).
 
-use crate::faults::{tell_fault, tell_index_fault, tell_unopened};
+use crate::faults::{report_fault, report_index_fault, report_unopened};
 use mandoc_command::Whatis;
 use page_core_base::Fault;
 use page_engine_index::{Show, whatis};
@@ -27,19 +27,19 @@ pub fn search<R: Files, W: Write, V: Write>(
         None => ".",
     };
     let Ok(name) = format!(in alloc; "{dir}/whatis.idx") else {
-        return tell_index_fault(err, dir, Fault::Memory).status;
+        return report_index_fault(err, dir, Fault::Memory).status;
     };
     match fs::open(rt, name.as_str()) {
         Ok(mut index) => match search_buffered(alloc, &mut index, asked, out) {
             Ok(0) => NOT_FOUND,
             Ok(_) => FOUND,
-            Err(fault) => tell_fault(err, name.as_str(), fault).status,
+            Err(fault) => report_fault(err, name.as_str(), fault).status,
         },
-        Err(_) => tell_unopened(err, name.as_str()).status,
+        Err(_) => report_unopened(err, name.as_str()).status,
     }
 }
 
-// Prints the rows with a buffer, which is put out before a fault is told, and answers their number.
+// Prints the rows with a buffer, which is put out before a fault is reported, and answers their number.
 fn search_buffered<I: Read, W: Write>(
     alloc: Global,
     index: &mut I,

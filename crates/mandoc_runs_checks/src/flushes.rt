@@ -24,7 +24,7 @@ const PAGES: &[Run] = &[
             rows: Some(0),
             messages: None,
         },
-        told: &["[notes flushed][notes flushed]", LOST],
+        written: &["[notes flushed][notes flushed]", LOST],
         status: 6,
         index: NO_INDEX,
     },
@@ -34,7 +34,7 @@ const PAGES: &[Run] = &[
             rows: Some(1),
             messages: None,
         },
-        told: &[
+        written: &[
             FLUSHED,
             "[out]",
             HEAD,
@@ -50,7 +50,7 @@ const PAGES: &[Run] = &[
             rows: Some(2),
             messages: None,
         },
-        told: &[
+        written: &[
             FLUSHED,
             "[out]",
             HEAD,
@@ -70,7 +70,7 @@ const PAGES: &[Run] = &[
             rows: None,
             messages: Some(1),
         },
-        told: &[FLUSHED, "[out]", HEAD, "[out flushed][out flushed]", LOST],
+        written: &[FLUSHED, "[out]", HEAD, "[out flushed][out flushed]", LOST],
         status: 6,
         index: NO_INDEX,
     },

@@ -19,11 +19,11 @@ const WITHOUT_FOLDER: &str = "whatis 2\nfsck\t8\tcheck disks\tman8/fsck.8\n";
 const LOST: &str = "[notes]mandoc: ./whatis.idx: cannot write\n";
 
 const PAGES: &[Run] = &[
-    // a folder whose names can't be read is told of, and the index is made of those in the next one
+    // a folder whose names can't be read is reported, and the index is made of those in the next one
     Run {
         words: &["makewhatis", "."],
         fails: NEVER,
-        told: &["[notes]mandoc: ./man1: cannot open\n"],
+        written: &["[notes]mandoc: ./man1: cannot open\n"],
         status: 6,
         index: Index {
             before: Some(OLD),
@@ -34,7 +34,7 @@ const PAGES: &[Run] = &[
     Run {
         words: &["makewhatis", "."],
         fails: NEVER,
-        told: &["[notes]mandoc: ./man1: cannot open\n"],
+        written: &["[notes]mandoc: ./man1: cannot open\n"],
         status: 6,
         index: Index {
             before: Some(OLD),
@@ -46,7 +46,7 @@ const PAGES: &[Run] = &[
     Run {
         words: &["makewhatis", ".", "."],
         fails: NEVER,
-        told: &[LOST],
+        written: &[LOST],
         status: 6,
         index: Index {
             before: Some(OLD),
@@ -93,7 +93,7 @@ fn makes_failing<R: Files + AllocGlobal + Abort>(
     let ran = run_failing(files, &failure, WORDS, NEVER);
     let has_come = failure.has_come();
     check(rt, has_come == (ran.status == 6), WORDS, "the status");
-    check(rt, has_come == !ran.told.is_empty(), WORDS, "what is told");
+    check(rt, has_come == !ran.written.is_empty(), WORDS, "what is written");
     check(rt, is_left_whole(files, rt.alloc()), WORDS, "the index");
     has_come
 }

@@ -1,4 +1,4 @@
-//! Command lines that are run over the files of a folder, with what their writers are told.
+//! Command lines that are run over the files of a folder, with what their writers get.
 
 use crate::failing_files::{Call, FailingFiles, Failure};
 use mandoc_command::command;
@@ -38,12 +38,12 @@ pub const INDEX: &str = "whatis.idx";
 // What stands beside it before it is whole.
 const UNFINISHED: &str = "whatis.tmp";
 
-/// A command line in a folder; which flush of its rows and of its messages fails; what its writers are told, and its status; and what becomes
+/// A command line in a folder; which flush of its rows and of its messages fails; what its writers get, and its status; and what becomes
 /// of the index.
 pub struct Run {
     pub words: &'static [&'static str],
     pub fails: Fails,
-    pub told: &'static [&'static str],
+    pub written: &'static [&'static str],
     pub status: u8,
     pub index: Index,
 }
@@ -78,7 +78,7 @@ pub const NEVER: Fails = Fails {
     messages: None,
 };
 
-// What is told of two writers in turn: their bytes, `[NAME]` where those of another one begin, and `[NAME flushed]`.
+// What two writers got in turn: their bytes, `[NAME]` where those of another one begin, and `[NAME flushed]`.
 #[derive(Drop)]
 pub struct Journal {
     text: String,
@@ -103,7 +103,7 @@ impl Writer {
 }
 
 impl Journal {
-    /// Nothing was told.
+    /// Nothing was written.
     pub fn new(alloc: Global) -> RefCell<Journal> {
         RefCell::new(Journal {
             text: String::new(alloc),
@@ -112,8 +112,8 @@ impl Journal {
     }
 }
 
-// Tells of bytes that a writer took.
-fn tell_bytes(journal: &RefCell<Journal>, writer: Writer, bytes: &[u8]) -> io::Result<()> {
+// Logs bytes that a writer took.
+fn log_bytes(journal: &RefCell<Journal>, writer: Writer, bytes: &[u8]) -> io::Result<()> {
     let (Ok(mut journal), Ok(text)) = (journal.try_borrow_mut(), str::from_utf8(bytes)) else {
         return Err(io::Error::from(ErrorKind::InvalidData));
     };
@@ -126,8 +126,8 @@ fn tell_bytes(journal: &RefCell<Journal>, writer: Writer, bytes: &[u8]) -> io::R
     Ok(())
 }
 
-// Tells of a flush.
-fn tell_flush(journal: &RefCell<Journal>, writer: Writer) -> io::Result<()> {
+// Logs a flush.
+fn log_flush(journal: &RefCell<Journal>, writer: Writer) -> io::Result<()> {
     let Ok(mut journal) = journal.try_borrow_mut() else {
         return Err(io::Error::from(ErrorKind::InvalidData));
     };
@@ -137,18 +137,18 @@ fn tell_flush(journal: &RefCell<Journal>, writer: Writer) -> io::Result<()> {
     Ok(())
 }
 
-// A writer that tells a journal of each write and flush.
+// A writer that logs each write and flush in a journal.
 #[derive(Drop)]
-struct Told<'a> {
+struct Journaled<'a> {
     writer: Writer,
     journal: &'a RefCell<Journal>,
     // How many flushes there are before one that fails.
     left: Option<u32>,
 }
 
-impl Write for Told<'_> {
+impl Write for Journaled<'_> {
     fn write(&mut self, bytes: &[u8]) -> io::Result<usize> {
-        tell_bytes(self.journal, self.writer, bytes)?;
+        log_bytes(self.journal, self.writer, bytes)?;
         Ok(bytes.len())
     }
 
@@ -159,7 +159,7 @@ impl Write for Told<'_> {
             };
             self.left = Some(rest);
         }
-        tell_flush(self.journal, self.writer)
+        log_flush(self.journal, self.writer)
     }
 }
 
@@ -174,12 +174,12 @@ fn run_over<F: Files>(
     let Ok(asked) = command(alloc, words) else {
         return 5;
     };
-    let mut out = Told {
+    let mut out = Journaled {
         writer: Writer::Rows,
         journal,
         left: fails.rows,
     };
-    let mut notes = Told {
+    let mut notes = Journaled {
         writer: Writer::Messages,
         journal,
         left: fails.messages,
@@ -187,10 +187,10 @@ fn run_over<F: Files>(
     run_command(files, alloc, &asked, &mut io::empty(), &mut out, &mut notes)
 }
 
-/// What a run told its writers, and its status.
+/// What a run gave its writers, and its status.
 #[derive(Drop)]
 pub struct Ran {
-    pub told: String,
+    pub written: String,
     pub status: u8,
 }
 
@@ -210,7 +210,7 @@ pub fn run_failing<R: Files + AllocGlobal>(
     };
     let status = run_over(&files, alloc, words, fails, &journal);
     Ran {
-        told: journal.into_inner().text,
+        written: journal.into_inner().text,
         status,
     }
 }
@@ -262,8 +262,8 @@ fn check_run<R: Files + AllocGlobal + Abort>(rt: &R, files: &FailingFiles<'_, R>
     check(rt, is_set, run.words, "the index of before");
     let failure = Failure::new(index.call.0, index.call.1);
     let ran = run_failing(files, &failure, run.words, run.fails);
-    let told = ran.told.as_str();
-    check(rt, is_joined(told, run.told), run.words, told);
+    let written = ran.written.as_str();
+    check(rt, is_joined(written, run.written), run.words, written);
     check(rt, ran.status == run.status, run.words, "the status");
     let is_left = is_index(files, rt.alloc(), index.after);
     check(rt, is_left && is_alone(files), run.words, "the index");

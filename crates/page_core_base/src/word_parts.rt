@@ -122,7 +122,7 @@ fn hyphened_part_start(word: &[u8]) -> usize
     start
 }
 
-// Whether the last bytes of a text tell that no hyphen stands after a place.
+// Whether the last bytes of a text show that no hyphen stands after a place.
 #[inline(always)]
 fn is_free_after(text: &[u8], start: usize) -> bool
     ensures { result ≡ true → list_any (λ byte. byte == hyphen) (drop start text.now) ≡ false }

@@ -67,7 +67,7 @@ first_of t (cs, (all, e)) some = go cs all e
         let parts = and_parts (scalar c) (scalars cs) all in
         record { code = c; rest = encodes cs; scalar = parts.0; is = sym e; utf8 = (cs, (parts.1, refl)) }
 
--- its length is what its first byte tells
+-- its length is what its first byte says
 pub character_len-encode : (c : ℕ) (rest : List ℕ) → character_len (encode c ++ rest) ≡ Some (length (encode c))
 character_len-encode c rest =
     let b = begins_with c in

@@ -1,4 +1,4 @@
--- Escapes that few bytes tell, and fonts that one letter names.
+-- Escapes that are known by few bytes, and fonts that one letter names.
 use Rattle.std.proofs.Common.{◌≡◌, ℕ, ◌≤◌, ◌==◌, Bool, true, false, List, [], ◌∷◌, length, drop, get_or, refl, ap, ◌∙◌, ◌+◌, arith, inl, inr}
 use Rattle.std.specs.Str.{continuation_len, bytes_eq}
 use Rattle.std.specs.Prelude.{Some, option_map, option_and_then, codes, if◌then◌else◌}

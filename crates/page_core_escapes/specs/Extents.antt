@@ -10,7 +10,7 @@ use Rattle.page_core_escapes.specs.declared.extents.Extent.TheVariants.{Whole, Q
 use Rattle.page_core_escapes.specs.Bytes.{is_among, is_digit, quote, double_quote, plus, minus, parenthesis, bracket, closing_bracket}
 use Rattle.page_core_escapes.specs.Letters.{letter_of}
 
--- the bytes of a text's first character, of which the first tells how many there are
+-- the bytes of a text's first character, of which the first says how many there are
 abbrev pub character_len : List ℕ → Option ℕ
 character_len [] = None
 character_len (b ∷ bs) = if nat_le (continuation_len b) (length bs) then Some (continuation_len b + 1) else None

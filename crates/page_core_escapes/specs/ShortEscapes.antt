@@ -1,4 +1,4 @@
--- Escapes that few bytes tell, as `\fB`. Source: roff(7), "Escape sequences".
+-- Escapes that are known by few bytes, as `\fB`. Source: roff(7), "Escape sequences".
 use Rattle.std.specs.Prelude.{ℕ, ◌≡◌, ◌<◌, ◌≤◌, Bool, slice_index, List, length}
 use Rattle.page_core_escapes.specs.Bytes.{backslash}
 use Rattle.page_core_escapes.specs.Escapes.{escape_of}

@@ -163,7 +163,7 @@ fn code_font(text: &[u8]) -> Option<(FontName<'_>, usize)>
     Some((FontName::R, 5))
 }
 
-/// The font that an escape at a text's front asks for and how many bytes it takes, where few bytes tell it, as in `\fB`.
+/// The font that an escape at a text's front asks for and how many bytes it takes, where few bytes say so, as in `\fB`.
 #[inline(always)]
 pub fn short_font(text: &[u8]) -> Option<(FontName<'_>, usize)>
     ensures { IfSome result (λ found. ShortFont text.now (face_seen found.0) found.1) }
@@ -177,7 +177,7 @@ pub fn short_font(text: &[u8]) -> Option<(FontName<'_>, usize)>
     }
 }
 
-// What an escape at a text's front means and how many bytes it takes, where few bytes tell it: these are the most frequent ones.
+// What an escape at a text's front means and how many bytes it takes, where few bytes say so: these are the most frequent ones.
 #[inline(always)]
 fn short_escape(text: &[u8]) -> Option<(Escape<'_>, usize)>
     requires { slice_index text.now 0 ≡ 0x5C }

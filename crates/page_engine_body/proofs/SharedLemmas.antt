@@ -17,7 +17,7 @@ use Rattle.page_sets_lines.specs.declared.events.Deed.{Deed}
 use Rattle.page_sets_names.specs.declared.macro_names.Prologue.{Prologue}
 use Rattle.page_engine_body.specs.Bodies.{BodyEdge, HeaderEdge, has_begun, indent_of}
 use Rattle.page_engine_body.specs.Titles.{title_fields}
-use Rattle.page_engine_body.specs.Trees.{Aside, tells, titles, closes, body_layout, body_nesting, opened, tree_after}
+use Rattle.page_engine_body.specs.Trees.{Aside, reports, titles, closes, body_layout, body_nesting, opened, tree_after}
 
 -- ---- block trees
 
@@ -86,7 +86,7 @@ leaf_shared : (f : With Aside Fact) (s : Beside HeaderEdge LayoutState) → shar
 leaf_shared (act (coming event)) s = refl
 leaf_shared (act (standing a)) s = refl
 leaf_shared (act (refused obstacle a)) s = refl
-leaf_shared (aside (tells m)) s = refl
+leaf_shared (aside (reports m)) s = refl
 leaf_shared (aside (titles place name rest)) s = refl
 leaf_shared (aside (closes line)) s = refl
 
@@ -123,7 +123,7 @@ leaf_title fields (act (coming event)) s h =
     record { begun = begun_stays event.deed s.rest.has_begun h.begun; decided = h.decided; same = h.same }
 leaf_title fields (act (standing a)) s h = record { begun = h.begun; decided = h.decided; same = h.same }
 leaf_title fields (act (refused obstacle a)) s h = record { begun = h.begun; decided = h.decided; same = h.same }
-leaf_title fields (aside (tells m)) s h = record { begun = h.begun; decided = h.decided; same = h.same }
+leaf_title fields (aside (reports m)) s h = record { begun = h.begun; decided = h.decided; same = h.same }
 leaf_title fields (aside (titles place name rest)) s h = record {
   begun = h.begun;
   decided = h.decided;

@@ -33,7 +33,7 @@ use Rattle.page_sets_lines.specs.declared.leaves.Leaf.{Leaf}
 use Rattle.page_sets_lines.specs.declared.leaves.Leaf.TheVariants as leaves
 use Rattle.page_sets_names.specs.declared.macro_names.Prologue.{Prologue}
 use Rattle.page_engine_body.specs.Bodies.{BodyEdge, HeaderEdge, begin_items, scope_items, with_scopes, with_title, deed_items, deed_after, event_items, event_after, events_items, events_after, end_items}
-use Rattle.page_engine_body.specs.Trees.{Aside, tells, titles, closes, deed_steps, event_steps, events_steps, page_end_steps, header_at, body_sides, body_nesting, body_layout, opened, body_of, tree_items, tree_after}
+use Rattle.page_engine_body.specs.Trees.{Aside, reports, titles, closes, deed_steps, event_steps, events_steps, page_end_steps, header_at, body_sides, body_nesting, body_layout, opened, body_of, tree_items, tree_after}
 
 sound : IsSound body_nesting SCOPES
 sound = sound_with scopes_nesting SCOPES scopes-sound

@@ -74,7 +74,7 @@ with_scopes b edge = record { header = b.header; scopes = edge }
 abbrev pub scope_items : BodyEdge → Event (List ℕ) → List Item
 scope_items b event = begin_items b event ++ scopes.event_items b.scopes event
 
--- a macro of the prologue tells the fields, and is nothing to the scopes
+-- a macro of the prologue sets the fields, and is nothing to the scopes
 abbrev pub deed_items : Deed (List ℕ) → BodyEdge → Event (List ℕ) → List Item
 deed_items (Leaf (Prologue name rest)) b event = title_items (has_begun b) event.place name rest
 deed_items _ b event = scope_items b event

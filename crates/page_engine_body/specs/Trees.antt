@@ -30,13 +30,13 @@ use Rattle.page_engine_body.specs.Titles.{title_items, title_fields}
 
 -- what stands among the acts of events: a message; a macro of the prologue, with the rest of its line; the page's end, on a line, before its scopes end
 pub data Aside : Type 0 where
-  tells : Message → Aside
+  reports : Message → Aside
   titles : Place → PrologueName → List ℕ → Aside
   closes : ℕ → Aside
 
 -- ---- the acts of events
 
--- a macro of the prologue tells the fields, even where events are passed over
+-- a macro of the prologue sets the fields, even where events are passed over
 abbrev pub deed_steps : Deed (List ℕ) → Event (List ℕ) → List (With Aside Step)
 deed_steps (Leaf (Prologue name rest)) event = aside (titles event.place name rest) ∷ []
 deed_steps _ event = map act (steps_of event)
@@ -64,12 +64,12 @@ before_fact (refused obstacle a) h s = []
 
 -- at the page's end a header that is missing comes with a message
 abbrev pub aside_items : Aside → HeaderEdge → LayoutState → List Item
-aside_items (tells m) h s = noted m ∷ []
+aside_items (reports m) h s = noted m ∷ []
 aside_items (titles place name rest) h s = title_items s.has_begun place name rest
 aside_items (closes line) h s = if s.has_begun then [] else (header_at line h ++ says NoBody (at line 1) [] ∷ [])
 
 abbrev pub aside_header : Aside → HeaderEdge → LayoutState → HeaderEdge
-aside_header (tells m) h s = h
+aside_header (reports m) h s = h
 aside_header (titles place name rest) h s =
     record h { fields = title_fields s.has_begun name h.os rest h.fields }
 aside_header (closes line) h s = h

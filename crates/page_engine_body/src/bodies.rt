@@ -154,7 +154,7 @@ impl Body {
         self.set
     }
 
-    /// The fields of header and footer, as the lines so far tell them.
+    /// The fields of header and footer, as the lines so far set them.
     pub fn fields(&self) -> &Fields
         ensures { result.now ≡ self.now.header.fields }
     {
@@ -331,7 +331,7 @@ impl Body {
         give_footer_row(out, self.measure, Place { line, column: 1 }, &self.fields);
     }
 
-    /// What is held between two lines is within its limits. Nothing is done: the fields, the name and the scopes tell it.
+    /// What is held between two lines is within its limits. Nothing is done: the fields, the name and the scopes show it.
     pub fn caps_law(&self)
         ensures { BodyFits self.now }
     {

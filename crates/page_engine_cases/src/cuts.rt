@@ -12,7 +12,7 @@ use std::alloc::Global;
 pub(crate) enum Cuts<'a> {
     Never,
     Always,
-    /// After the line of a number. Want of memory is told there, and the page goes on all the same.
+    /// After the line of a number. Want of memory is reported there, and the page goes on all the same.
     After(&'a HostRuntime, u32),
 }
 
@@ -50,7 +50,7 @@ fn cut<F: PutDown>(alloc: Global, feed: &mut F) -> Result<(), Fault> {
     go_on(alloc, feed, held)
 }
 
-// The same; want of memory is told. Then it stays as it is, or what came back is tried once more.
+// The same; want of memory is reported. Then it stays as it is, or what came back is tried once more.
 fn cut_telling<F: PutDown>(rt: &HostRuntime, feed: &mut F) -> Result<(), Fault> {
     match feed.put_down(rt.alloc()) {
         Ok(held) => go_on_telling(rt, feed, held),

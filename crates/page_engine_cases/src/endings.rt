@@ -15,7 +15,7 @@ pub(crate) struct Ending {
     pub(crate) result: Result<Outcome, Fault>,
     /// The fault of each further call.
     pub(crate) later: Option<Fault>,
-    /// Whether nothing was told of how its lines are cut, which these streams do not get.
+    /// Whether nothing was reported of how its lines are cut, which these streams do not get.
     pub(crate) is_plain: bool,
     /// Whether there was memory after the end.
     pub(crate) has_memory: bool,

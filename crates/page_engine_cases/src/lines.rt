@@ -52,7 +52,7 @@ impl Lines {
         Some(Lines { cutter, cuts })
     }
 
-    /// Whether nothing is told of how the lines are cut.
+    /// Whether nothing is reported of how the lines are cut.
     pub(crate) fn are_plain(&self) -> bool {
         self.cuts.notes.is_empty()
     }

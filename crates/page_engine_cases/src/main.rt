@@ -3,7 +3,7 @@
 //!
 //! Each page is also run at once, with each write failing in turn, by roff alone, which counts the same, and, page and roff, so that they go on after
 //! each line from what is held of them. Where it then gives something else, a line `-- not` says so. Where an allocation is refused, either there is no
-//! page, or it is the one after the page; and the same of roff. A page with a cut, by its words, is run so alone: where memory lacks for that, it is told.
+//! page, or it is the one after the page; and the same of roff. A page with a cut, by its words, is run so alone: where memory lacks for that, it is reported.
 #![tactic(auto)]
 
 mod cuts;

@@ -102,7 +102,7 @@ bracketed text [] = text
 bracketed text (argument ∷ others) =
     if length argument.text == 0 then text else text ++ in_brackets (FIELD - length text) argument
 
--- ---- what each macro tells
+-- ---- what each macro sets
 
 -- TH title section date source volume: the source is else the operating system's, the volume else the section's
 abbrev pub th_fields : List ℕ → List (Argument (List ℕ)) → Fields → Fields

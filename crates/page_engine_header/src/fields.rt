@@ -86,7 +86,7 @@ impl Fields {
         }
     }
 
-    /// Takes the fields that a macro of the prologue tells by its arguments, for a page of an operating system.
+    /// Takes the fields that a macro of the prologue sets by its arguments, for a page of an operating system.
     pub fn take(&mut self, name: Prologue, os: &[u8], arguments: Arguments<'_>)
         requires { length os.now ≤ 256 }
         ensures { self.new ≡ fields.fields_after name os.now arguments.entry self.old }
@@ -199,7 +199,7 @@ fn report_joined<O: PieceOut>(out: &mut O, place: Place, arguments: Arguments<'_
     }
 }
 
-/// Reports what is cut of the fields that a macro of the prologue tells, which stands at a place.
+/// Reports what is cut of the fields that a macro of the prologue sets, which stands at a place.
 pub fn report_cut_fields<O: PieceOut>(
     out: &mut O,
     place: Place,

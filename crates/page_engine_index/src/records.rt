@@ -45,7 +45,7 @@ impl Text {
     }
 }
 
-/// What an index tells of a page: its names, parted by `, `, its section, and its description.
+/// What an index says of a page: its names, parted by `, `, its section, and its description.
 #[derive(Drop)]
 pub struct Record {
     pub names: Text,

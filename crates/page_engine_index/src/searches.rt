@@ -186,7 +186,7 @@ impl Search {
 /// words matches, in the order of the index, and answers their number.
 ///
 /// The memory of one line is reserved before the first read: with [`Fault::Memory`] nothing is read and nothing is given.
-/// [`Fault::BadIndex`] names the first bad line: a first line that tells no version, one with another number of fields, or of more than
+/// [`Fault::BadIndex`] names the first bad line: a first line that names no version, one with another number of fields, or of more than
 /// [`page_core_limits::LINE`] bytes; the rows of the lines before it were given then. [`Fault::Read`] comes where the source failed,
 /// [`Fault::WriteText`] where the sink failed, and [`Fault::TooLong`] for an index of more than [`BYTES`] bytes or after [`READS`] read calls.
 pub fn search_index<S: Source, L: LineSink>(

@@ -17,7 +17,7 @@ use Rattle.page_roff_source.proofs.CutLemmas.{given-append, done-append}
 use Rattle.page_roff_source.proofs.LineLemmas.{given-by_line, done-by_line}
 use Rattle.page_engine_body.specs.Bodies.{BodyEdge, chosen, chosen_if, decided, events_after, events_items, has_begun, has_title, end_items as body_end_items}
 use Rattle.page_engine_body.specs.Languages.{language_of}
-use Rattle.page_engine_body.specs.Trees.{Aside, tells, events_steps, page_end_steps, tree_items, tree_after}
+use Rattle.page_engine_body.specs.Trees.{Aside, reports, events_steps, page_end_steps, tree_items, tree_after}
 use Rattle.page_engine_body.proofs.SharedLemmas.{tree_title}
 use Rattle.page_engine_body.proofs.TreeLemmas.{tree_items-append, tree_after-append, tree_items-none, tree_after-none, aside_items_is, aside_after_is, events_tree_items, events_tree_after, events_keep, end_tree}
 use Rattle.page_scopes_laws.specs.Asides.{With, aside}
@@ -42,9 +42,9 @@ pub decided_items : (set : Either) (b : BodyEdge) (all : List Given) → b.heade
 unfolding given_items
 decided_items set b [] d s = tree_items-none b
 decided_items set b (says m ∷ more) d s =
-    tree_items-append b (aside (tells m) ∷ []) (given_steps set more)
-    ∙ ap (λ (t : List Item). t ++ tree_items (tree_after b (aside (tells m) ∷ [])) (given_steps set more)) (aside_items_is b (tells m))
-    ∙ ap (λ (c : BodyEdge). noted m ∷ tree_items c (given_steps set more)) (aside_after_is b (tells m))
+    tree_items-append b (aside (reports m) ∷ []) (given_steps set more)
+    ∙ ap (λ (t : List Item). t ++ tree_items (tree_after b (aside (reports m) ∷ [])) (given_steps set more)) (aside_items_is b (reports m))
+    ∙ ap (λ (c : BodyEdge). noted m ∷ tree_items c (given_steps set more)) (aside_after_is b (reports m))
     ∙ ap (λ (t : List Item). noted m ∷ t) (decided_items set b more d s)
 decided_items set b (takes line ∷ more) d s =
     let events = either_events set line in
@@ -63,8 +63,8 @@ pub decided_after : (set : Either) (b : BodyEdge) (all : List Given) → b.heade
 unfolding body_after
 decided_after set b [] d s = tree_after-none b
 decided_after set b (says m ∷ more) d s =
-    tree_after-append b (aside (tells m) ∷ []) (given_steps set more)
-    ∙ ap (λ (c : BodyEdge). tree_after c (given_steps set more)) (aside_after_is b (tells m))
+    tree_after-append b (aside (reports m) ∷ []) (given_steps set more)
+    ∙ ap (λ (c : BodyEdge). tree_after c (given_steps set more)) (aside_after_is b (reports m))
     ∙ decided_after set b more d s
 decided_after set b (takes line ∷ more) d s =
     let events = either_events set line in
@@ -139,8 +139,8 @@ parted_is b set [] last u s = (
   ap (λ (x : BodyEdge). tree_after x []) (tree_after-none b) ∙ tree_after-none b,
 )
 parted_is b set (says m ∷ more) last u s =
-    let steps : List (With Aside Step) = aside (tells m) ∷ [] in
-    let k = front_more b b set steps (noted m ∷ []) (says m ∷ more) more last (aside_items_is b (tells m)) (aside_after_is b (tells m)) refl refl refl in
+    let steps : List (With Aside Step) = aside (reports m) ∷ [] in
+    let k = front_more b b set steps (noted m ∷ []) (says m ∷ more) more last (aside_items_is b (reports m)) (aside_after_is b (reports m)) refl refl refl in
     let h = parted_is b set more last u s in
     (k.0 ∙ ap (λ (t : List Item). noted m ∷ t) h.0, k.1 ∙ h.1)
 parted_is b set (takes line ∷ more) last u s = elim (language_cases (language_of line)) [
@@ -337,13 +337,13 @@ none_after e idle =
     rw (done-by_line e.roff [] idle, body) refl
 
 told_items : (b : BodyEdge) (notes : List Message) (line : ℕ)
-    → tree_items b (map (λ m. aside (tells m)) notes ++ page_end_steps line) ≡ map noted notes ++ body_end_items b line
+    → tree_items b (map (λ m. aside (reports m)) notes ++ page_end_steps line) ≡ map noted notes ++ body_end_items b line
 told_items b [] line = end_tree b line
 told_items b (m ∷ notes) line =
-    tree_items-append b (aside (tells m) ∷ []) (map (λ m. aside (tells m)) notes ++ page_end_steps line)
-    ∙ ap (λ (t : List Item). t ++ tree_items (tree_after b (aside (tells m) ∷ [])) (map (λ m. aside (tells m)) notes ++ page_end_steps line))
-    (aside_items_is b (tells m))
-    ∙ ap (λ (c : BodyEdge). noted m ∷ tree_items c (map (λ m. aside (tells m)) notes ++ page_end_steps line)) (aside_after_is b (tells m))
+    tree_items-append b (aside (reports m) ∷ []) (map (λ m. aside (reports m)) notes ++ page_end_steps line)
+    ∙ ap (λ (t : List Item). t ++ tree_items (tree_after b (aside (reports m) ∷ [])) (map (λ m. aside (reports m)) notes ++ page_end_steps line))
+    (aside_items_is b (reports m))
+    ∙ ap (λ (c : BodyEdge). noted m ∷ tree_items c (map (λ m. aside (reports m)) notes ++ page_end_steps line)) (aside_after_is b (reports m))
     ∙ ap (λ (t : List Item). noted m ∷ t) (told_items b notes line)
 
 pub ending_is : (e : LinesEdge) (line : ℕ) → ending_items e line ≡ end_items e line

@@ -10,7 +10,7 @@ use Rattle.page_roff_source.specs.Edges.{Edge, SourceLine, end_notes}
 use Rattle.page_roff_source.specs.Given.{given, done}
 use Rattle.page_engine_body.specs.Bodies.{BodyEdge, chosen_if}
 use Rattle.page_engine_body.specs.Languages.{language_of}
-use Rattle.page_engine_body.specs.Trees.{Aside, tells, events_steps, page_end_steps, tree_items, tree_after}
+use Rattle.page_engine_body.specs.Trees.{Aside, reports, events_steps, page_end_steps, tree_items, tree_after}
 use Rattle.page_engine_lines.specs.Edges.{LinesEdge}
 use Rattle.page_scopes_laws.specs.Asides.{With, aside}
 use Rattle.page_scopes_tree.specs.Acts.{Step}
@@ -21,7 +21,7 @@ use Rattle.page_sets.specs.declared.either.Either.{Either}
 -- a message stands where it was given, a line is the events that the macros of a set make of it
 abbrev pub given_steps : Either → List Given → List (With Aside Step)
 given_steps set [] = []
-given_steps set (says m ∷ more) = aside (tells m) ∷ given_steps set more
+given_steps set (says m ∷ more) = aside (reports m) ∷ given_steps set more
 given_steps set (takes line ∷ more) = events_steps (either_events set line) ++ given_steps set more
 
 -- ---- the language
@@ -89,9 +89,9 @@ lines_after e lines =
     let all = given e.roff lines in
     record { roff = done e.roff lines; body = tree_after (reader e.body all) (rest_steps e.body all) }
 
--- the acts at the page's end, on a line: what roff left open is told, and then the body ends
+-- the acts at the page's end, on a line: what roff left open is reported, and then the body ends
 abbrev pub end_steps : Edge → ℕ → List (With Aside Step)
-end_steps e line = map (λ m. aside (tells m)) (end_notes e) ++ page_end_steps line
+end_steps e line = map (λ m. aside (reports m)) (end_notes e) ++ page_end_steps line
 
 -- the pieces and messages of the page's end alone, on a line
 abbrev pub ending_items : LinesEdge → ℕ → List Item

@@ -173,7 +173,7 @@ impl PageLines {
         items.latch.done()
     }
 
-    /// The fields of header and footer, as the lines so far tell them.
+    /// The fields of header and footer, as the lines so far set them.
     pub fn fields(&self) -> &Fields
         ensures { result.now ≡ self.now.body.header.fields }
     {
@@ -187,7 +187,7 @@ impl PageLines {
         self.roff.counts()
     }
 
-    /// What is held between two lines is within its limits. Nothing is done: roff and the body tell it.
+    /// What is held between two lines is within its limits. Nothing is done: roff and the body show it.
     pub fn caps_law(&self)
         ensures roff { RoffFits self.now.roff }
         ensures body { BodyFits self.now.body }

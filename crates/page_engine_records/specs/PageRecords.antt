@@ -20,7 +20,7 @@ raw line = raw_line line.number line.text line.notes
 abbrev pub name_in : Settings → List Line → NameReader
 name_in s page = read (reader_at Before) (page_items (start_of s) (map raw page) 1)
 
--- the section of the manual that its title tells, once all lines came
+-- the section of the manual of its title, once all lines came
 abbrev pub section_in : Settings → List Line → List ℕ
 section_in s page = (lines_after (start_of s) (map raw page)).body.header.fields.section
 

@@ -67,11 +67,11 @@ record_of text section =
 
 -- ---- a page
 
--- the section of the manual that a title tells, as the header prints it in ASCII
+-- the section of the manual of a title, as the header prints it in ASCII
 abbrev pub section_text : List ℕ → List ℕ
 section_text section = (read (reader_at Inside) (tokens_items Ascii (at 1 1) roman_fonts (tokens_of false section))).text
 
--- by what was read of a page, and the section that its title tells; a page without a section NAME has no record
+-- by what was read of a page, and the section of its title; a page without a section NAME has no record
 abbrev pub record_by : Side → (text section : List ℕ) → Option Record
 record_by Before text section = None
 record_by Inside text section = record_of text (section_text section)

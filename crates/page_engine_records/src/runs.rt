@@ -164,7 +164,7 @@ impl RecordRun {
     }
 }
 
-// Gives the section of the manual that a title tells, as the header prints it in ASCII.
+// Gives the section of the manual of a title, as the header prints it in ASCII.
 fn give_section<O: PieceSink>(out: &mut O, section: &[u8]) -> Result<(), Fault>
     requires { length section.now ≤ 256 }
     ensures { Emits result O.took O.broke out.old
@@ -176,7 +176,7 @@ fn give_section<O: PieceSink>(out: &mut O, section: &[u8]) -> Result<(), Fault>
     latch.done()
 }
 
-// Reads the section of the manual that a title tells.
+// Reads the section of the manual of a title.
 fn read_section(reader: &mut NameReader, section: &[u8])
     requires start { reader.old ≡ reader_at Side.Inside }
     requires short { length section.now ≤ 256 }
@@ -186,7 +186,7 @@ fn read_section(reader: &mut NameReader, section: &[u8])
 }
 
 /// Reads the record of a page: its names, its section and what it is for, off its section NAME (mandoc(1), `makewhatis`). It reads all bytes of a
-/// source, in chunks of any size. A page without such a section, or whose section tells no name, has no record.
+/// source, in chunks of any size. A page without such a section, or whose section has no name, has no record.
 ///
 /// The settings are checked first, and memory is reserved before the first read: with [`Fault::Settings`] and [`Fault::Memory`] nothing is read.
 /// [`Fault::Read`] comes where the source failed, and [`Fault::TooLong`] for a page of more than [`BYTES`] bytes or after [`READS`] read calls.

@@ -146,7 +146,7 @@ impl Filler {
         self.edge.blank_rows()
     }
 
-    /// What is held between two pieces is within its limits. Nothing is done: the open row tells it.
+    /// What is held between two pieces is within its limits. Nothing is done: the open row shows it.
     pub fn caps_law(&self)
         ensures { IfSome self.now FillFits }
     {

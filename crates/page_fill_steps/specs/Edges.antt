@@ -19,7 +19,7 @@ pub use Rattle.page_fill_steps.specs.declared.edges.OpenWord.{OpenWord}
 abbrev pub no_word : OpenWord
 no_word = record { is_joined = false; is_open = false; is_placed = false; blanks = 0; has_tab = false; is_told = false }
 
--- the open word has a cell, and goes on; told says whether its tab was reported
+-- the open word has a cell, and goes on; the field says whether its tab was reported
 abbrev pub begun_word : Bool → OpenWord
 begun_word told = record { is_joined = true; is_open = true; is_placed = false; blanks = 0; has_tab = false; is_told = told }
 

@@ -138,7 +138,7 @@ impl Edge {
         self.sheet.blank_rows()
     }
 
-    /// What is held is within its limits. Nothing is done: the open row tells it.
+    /// What is held is within its limits. Nothing is done: the open row shows it.
     pub fn caps_law(&self)
         ensures { FillFits self.now }
     {
@@ -147,7 +147,7 @@ impl Edge {
         self.sheet.blank_rows();
     }
 
-    /// The places of the row's last word lie within the row. Nothing is done: the open row tells it.
+    /// The places of the row's last word lie within the row. Nothing is done: the open row shows it.
     #[inline(always)]
     pub fn held_law(&self)
         ensures { IsHeld self.now.sheet }

@@ -56,7 +56,7 @@ fn ends_anywhere(alloc: Global, case: Case) -> bool {
     true
 }
 
-// Whether each read, where it fails, is what is told: there is one for each piece of the page, and one that finds its end.
+// Whether each read, where it fails, is what is reported: there is one for each piece of the page, and one that finds its end.
 fn stands_failing_reads(alloc: Global, case: Case) -> bool {
     let size = step_of(case.page.len());
     for calls in 0..(case.page.len() / size).saturating_add(1) {

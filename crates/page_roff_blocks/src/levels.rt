@@ -202,7 +202,7 @@ impl Levels {
         }
     }
 
-    /// The open true blocks are at most [`CONDS`]. Nothing is done: the array of their bits tells it.
+    /// The open true blocks are at most [`CONDS`]. Nothing is done: the array of their bits shows it.
     pub fn caps_law(&self)
         ensures { length self.now.outer ≤ CONDS }
     {

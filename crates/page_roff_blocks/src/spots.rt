@@ -179,7 +179,7 @@ impl Spot {
         self.levels.leave()
     }
 
-    /// The open true blocks are within their limit. Nothing is done: the levels tell it.
+    /// The open true blocks are within their limit. Nothing is done: the levels show it.
     pub fn caps_law(&self)
         ensures { length self.now.levels.outer ≤ CONDS }
     {

@@ -340,7 +340,7 @@ fn gives_the_lines_of_pages(rt: HostRuntime) -> Result<(), Fail> {
     Ok(())
 }
 
-// Feeds a chunk that ends no line 160 times, and tells how many bytes that were.
+// Feeds a chunk that ends no line 160 times, and answers how many bytes that were.
 fn feed_often(rt: &impl Abort, cutter: &mut Cutter, chunk: &[u8]) -> u32
     requires ready { cutter.old.ready ≡ false }
     requires consumed { cutter.old.point.line.consumed ≡ 0 }

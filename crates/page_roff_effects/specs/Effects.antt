@@ -41,7 +41,7 @@ block_outcome column m = reports_at kinds.Limit column (name_of limits.Conds) m
 unfoldable pub end_of_block_outcome : Memory → Outcome
 end_of_block_outcome m = reports_at kinds.NotOpen 1 (codes "\\}") m
 
--- a call of a macro and a loop are told to the source, all else is done
+-- a call of a macro and a loop are left to the source, all else is done
 unfoldable pub done_by : Product → State → Done State
 done_by no_product s = gives s
 done_by (line_product line) s = gives s

@@ -311,7 +311,7 @@ impl Actions {
         report_at(NoteKind::NotOpen, self.number, 1, b"\\}", out);
     }
 
-    /// What is remembered is within its limits. Nothing is done: the names and the body tell it.
+    /// What is remembered is within its limits. Nothing is done: the names and the body show it.
     pub fn caps_law(&self)
         ensures { MemoryFits self.now.memory }
     {

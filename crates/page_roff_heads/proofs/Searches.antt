@@ -86,7 +86,7 @@ found_reached d text found count h a l all no_more =
     let u = ap (place_of d) t in
     omega (arith, q, r, u)
 
--- ---- what a search tells
+-- ---- what a search finds
 
 here_occurs : (text d : List ℕ) (k : ℕ) → k ≤ length text → starts_with nat_eq (drop k text) d ≡ true → OccursAt text d k
 here_occurs text d k h e =

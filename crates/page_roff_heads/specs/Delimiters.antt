@@ -5,7 +5,7 @@ use Rattle.std.specs.List.{starts_with}
 use Rattle.std.specs.Str.{continuation_len}
 use Rattle.page_roff_forms.specs.LineForms.{is_white}
 
--- a delimiter is a character; its first byte tells how many it has
+-- a delimiter is a character; its first byte says how many it has
 abbrev pub delimiter_len : List ℕ → ℕ
 delimiter_len [] = 0
 delimiter_len (byte ∷ bytes) = min (continuation_len byte + 1) (length (byte ∷ bytes))

@@ -37,7 +37,7 @@ state_of (repeats condition lines s) = s
 abbrev pub TURNS : ℕ
 TURNS = REREAD + 2
 
--- What the parts of a source do. Whether one more source may run is told to a leaf and to a loop.
+-- What the parts of a source do. A leaf and a loop learn whether one more source may run.
 pub record Language (S : Type 0) : Type 0 where
   pub parts : Kind → Meaning (List ℕ) S
   pub leaf : Bool → Kind → List ℕ → S → Done S

@@ -238,7 +238,7 @@ pub record Goes {P S : Type 0} (left : P → S → List Message → Type 0) (old
   pub step : (given : List Given) → from given ≡ reached_with result (given ++ map says notes) new
   pub body : IsBodyWithin old.stack new.stack
   pub frames : AreKept (frames_of old.stack) → AreKept (frames_of new.stack)
-  -- a step never tells that the source line is done
+  -- a step never says that the source line is done
   pub not_done : IfDone result ⊥
 
 -- the stack moved on

@@ -175,7 +175,7 @@ impl Machine {
     }
 
     /// Where the innermost source stands, what is remembered, and what is held of the macros and loops that run are within their limits. Nothing
-    /// is done: the input stack and the actions tell it.
+    /// is done: the input stack and the actions show it.
     pub fn caps_law(&self)
         ensures place { PlaceFits (place_of self.now) }
         ensures memory { MemoryFits self.now.actions.memory }

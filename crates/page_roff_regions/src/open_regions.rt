@@ -125,7 +125,7 @@ impl OpenRegion {
         is_ending(self.ending.as_slice(), line)
     }
 
-    /// Its names are within their limit. Nothing is done: the arrays that hold them tell it.
+    /// Its names are within their limit. Nothing is done: the arrays that hold them show it.
     pub fn caps_law(&self)
         ensures { RegionFits self.now }
     {

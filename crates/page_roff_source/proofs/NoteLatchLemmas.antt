@@ -6,12 +6,12 @@ use Rattle.page_core_base.specs.Plans.{Planned, Left, TookNotes, BrokeNotes}
 use Rattle.page_core_base.specs.Sinks.{IsSink}
 use Rattle.page_core_base.specs.declared.faults.Fault.{Fault}
 use Rattle.page_core_base.proofs.LatchLemmas as latches
-use Rattle.page_roff_source.specs.Fuses.{Tells}
+use Rattle.page_roff_source.specs.Fuses.{Reports}
 
-told : {N A : Type 0} {gave within : N → List Message → N → Type 0} {failed : N → ℕ} {s t : N} {notes : List Message} (r : Result A Fault)
-    → MatchResult r (λ _. TookNotes gave failed s notes t) (λ fault. BrokeNotes within failed s fault notes t) → Tells gave within failed r s notes t
-told (Ok x) h = record { gives = h.0; fault = h.1 }
-told (Err f) h = record { gives = h.0; fault = (h.1, h.2) }
+reported : {N A : Type 0} {gave within : N → List Message → N → Type 0} {failed : N → ℕ} {s t : N} {notes : List Message} (r : Result A Fault)
+    → MatchResult r (λ _. TookNotes gave failed s notes t) (λ fault. BrokeNotes within failed s fault notes t) → Reports gave within failed r s notes t
+reported (Ok x) h = record { gives = h.0; fault = h.1 }
+reported (Err f) h = record { gives = h.0; fault = (h.1, h.2) }
 
 -- it begins with no fault, and ends with what the latch says
 pub latched : {N L A : Type 0} {gave within : N → List Message → N → Type 0} {failed : N → ℕ} {loans : N → L}
@@ -21,7 +21,7 @@ pub latched : {N L A : Type 0} {gave within : N → List Message → N → Type 
     → Left (TookNotes gave failed) (BrokeNotes within failed) loans plan name s none (notes ++ rest)
     → Left (TookNotes gave failed) (BrokeNotes within failed) loans plan last t fault rest)
     → MatchResult r (λ _. fault ≡ None) (λ f. fault ≡ Some f)
-    → (last ≡ name) × (loans t ≡ loans s) × Tells gave within failed r s notes t
+    → (last ≡ name) × (loans t ≡ loans s) × Reports gave within failed r s notes t
 latched k notes r start came done =
     let h = latches.latched (latches.note_items k) notes r start came done in
-    (h.0, h.1, told r h.2)
+    (h.0, h.1, reported r h.2)

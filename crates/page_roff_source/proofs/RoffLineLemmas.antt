@@ -301,7 +301,7 @@ line_runs_on left m source remaining.Line old s p e v =
     })
 line_runs_on left m source remaining.Run old s p e v = absurd (cc)
 
--- after its end was told
+-- after its end was reported
 pub told_invariant : (m : Machine) (source : ℕ) (left : Remaining) → IsAtEdge m source left → left ≡ remaining.End → IsAtEdge m source remaining.Nothing
 unfolding AreGiven
 told_invariant m source remaining.Nothing p e = absurd (cc)

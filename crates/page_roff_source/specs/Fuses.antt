@@ -40,7 +40,7 @@ is_idle_at None = true
 is_idle_at (Some e) = is_idle e
 
 -- what a call over a sink did: at Ok these messages came, and no other; else a front of them, and the sink failed
-pub record Tells {N A : Type 0} (gave within : N → List Message → N → Type 0) (failed : N → ℕ)
+pub record Reports {N A : Type 0} (gave within : N → List Message → N → Type 0) (failed : N → ℕ)
     (r : Result A Fault) (s : N) (notes : List Message) (t : N) : Type 0 where
   pub gives : MatchResult r (λ _. gave s notes t) (λ _. within s notes t)
   pub fault : MatchResult r (λ _. failed t ≡ failed s) (λ f. (f ≡ WriteNotes) × Rose (failed s) (failed t))

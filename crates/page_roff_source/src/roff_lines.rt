@@ -28,7 +28,7 @@ pub(crate) enum Remaining {
     Nothing,
     /// The line that was taken of it at once, and nothing else.
     Line,
-    /// No line, but its end has not been told yet.
+    /// No line, but its end has not been reported yet.
     End,
     /// What the machine runs.
     Run,
@@ -207,7 +207,7 @@ impl RoffLines {
         }
     }
 
-    /// What is held, between two lines and in a line, is within its limits. Nothing is done: the machine tells it.
+    /// What is held, between two lines and in a line, is within its limits. Nothing is done: the machine shows it.
     pub fn caps_law(&self)
         ensures fits { self.now.edge.to_come ≡ None → RoffFits self.now.edge }
         ensures running { RunsWithin self.now.running }

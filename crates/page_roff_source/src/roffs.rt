@@ -11,7 +11,7 @@ ghost use Rattle.page_roff_source.specs.Edges.{Edge, end_notes, counts_of};
 ghost use Rattle.page_roff_source.specs.Taking.{line_begun, given_of, line_taken};
 ghost use Rattle.page_roff_machine.specs.Machines.{taken_if};
 ghost use Rattle.page_roff_source.specs.Parts.{part_of};
-ghost use Rattle.page_roff_source.specs.Fuses.{first_state, state_at, is_idle_at, counts_from, Tells};
+ghost use Rattle.page_roff_source.specs.Fuses.{first_state, state_at, is_idle_at, counts_from, Reports};
 
 use crate::counts::Counts;
 use crate::parts::RoffPart;
@@ -51,7 +51,7 @@ impl Model for Roff {
 
 // Runs on up to the next finished line over a sink; whether there is one.
 fn advance<N: NoteSink>(lines: &mut RoffLines, notes: &mut N) -> Result<bool, Fault>
-    ensures tells { Tells N.gave N.within N.failed result notes.old
+    ensures reports { Reports N.gave N.within N.failed result notes.old
         (notes_before (given_of lines.old.edge)) notes.new }
     ensures line { IfOk result (λ is_taken. next_line (given_of lines.old.edge)
         ≡ taken_if is_taken lines.new.line) }
@@ -70,7 +70,7 @@ fn advance<N: NoteSink>(lines: &mut RoffLines, notes: &mut N) -> Result<bool, Fa
 // Ends the page over a sink.
 fn end<N: NoteSink>(lines: &mut RoffLines, notes: &mut N) -> Result<(), Fault>
     requires { lines.old.edge.to_come ≡ None }
-    ensures tells { Tells N.gave N.within N.failed result notes.old (end_notes lines.old.edge) notes.new }
+    ensures reports { Reports N.gave N.within N.failed result notes.old (end_notes lines.old.edge) notes.new }
     ensures same { N.loans notes.new ≡ N.loans notes.old }
 {
     let mut latch = NoteLatch::new(notes);
@@ -162,8 +162,8 @@ impl Roff {
     ///
     /// Its fault is [`Fault::WriteNotes`]; after it, and after the end, it is [`Fault::Failed`].
     pub fn take<N: NoteSink>(&mut self, notes: &mut N) -> Result<Option<Taken<'_>>, Fault>
-        ensures tells { (e : Edge) → self.old.edge ≡ Some e
-            → Tells N.gave N.within N.failed result notes.old (notes_before (given_of e)) notes.new }
+        ensures reports { (e : Edge) → self.old.edge ≡ Some e
+            → Reports N.gave N.within N.failed result notes.old (notes_before (given_of e)) notes.new }
         ensures line { (e : Edge) → self.old.edge ≡ Some e
             → IfOk result (λ taken. option_map line_seen taken ≡ next_line (given_of e)) }
         ensures text { IfOk result (λ taken. IfSome taken (λ t. IsLine t.text.now)) }
@@ -198,8 +198,8 @@ impl Roff {
     /// Its fault is [`Fault::WriteNotes`]; after it, and after an earlier end, it is [`Fault::Failed`].
     pub fn end<N: NoteSink>(&mut self, notes: &mut N) -> Result<(), Fault>
         requires { IfSome self.old.edge (λ e. e.to_come ≡ None) }
-        ensures tells { (e : Edge) → self.old.edge ≡ Some e
-            → Tells N.gave N.within N.failed result notes.old (end_notes e) notes.new }
+        ensures reports { (e : Edge) → self.old.edge ≡ Some e
+            → Reports N.gave N.within N.failed result notes.old (end_notes e) notes.new }
         ensures closed { self.old.edge ≡ None → (result ≡ Err Fault.Failed) × (notes.new ≡ notes.old) }
         ensures ended { (self.new.edge ≡ None) × (self.new.counts ≡ self.old.counts) }
         ensures same { N.loans notes.new ≡ N.loans notes.old }
@@ -226,7 +226,7 @@ impl Roff {
         self.counts
     }
 
-    /// What is held, between two lines and in a line, is within its limits. Nothing is done: the lines tell it.
+    /// What is held, between two lines and in a line, is within its limits. Nothing is done: the lines show it.
     pub fn caps_law(&self)
         ensures fits { IfSome self.now.edge (λ e. e.to_come ≡ None → RoffFits e) }
         ensures running { RunsWithin self.now.running }

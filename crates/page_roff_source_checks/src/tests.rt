@@ -146,7 +146,7 @@ fn check_fault(rt: &impl Abort, got: Result<u64, Fault>, want: Result<u64, Fault
     assert!(rt; got == want, "{got:?} in place of {want:?}");
 }
 
-// A call of each kind after a fault or the end: the fault is told, and nothing is given.
+// A call of each kind after a fault or the end: the fault is reported, and nothing is given.
 fn check_closed(rt: &impl Abort, roff: &mut Roff, notes: &mut Notes) {
     let calls = notes.calls;
     assert!(rt; matches!(roff.take(notes), Err(Fault::Failed)));

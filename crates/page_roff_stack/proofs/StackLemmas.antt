@@ -50,7 +50,7 @@ pub next_steps : {S : Type 0} (l : Language S) (s : Stack) (state : S) → machi
 unfolding machine.next step_of
 next_steps l s state = steps l (meaning_at l (depth s.under) s.top.kind) s.top.region s.top.parts s.top.lines s.top s.under state
 
--- ---- what is there, as what comes next tells
+-- ---- what is there, as what comes next says
 
 around_part : (turning : Option Turning) (region : Option Opened) (under : List Frame) → is_part (next_around turning region under) ≡ true → ⊥
 around_part turning region [] e = cc

@@ -587,7 +587,7 @@ impl InputFrame {
         }
     }
 
-    /// Where it stands is within its limits. Nothing is done: the region and the levels tell it.
+    /// Where it stands is within its limits. Nothing is done: the region and the levels show it.
     pub(crate) fn caps_law(&self)
         ensures { PlaceFits (record { region = self.now.region; levels = self.now.spot.levels }) }
     {

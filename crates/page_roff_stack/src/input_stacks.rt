@@ -425,7 +425,7 @@ impl InputStack {
     }
 
     /// Where the innermost source stands, and what is held of the macros and loops that run, their bodies and arguments, is within its limits. Nothing
-    /// is done: the source and those around it tell it.
+    /// is done: the source and those around it show it.
     pub fn caps_law(&self)
         ensures place { PlaceFits (record { region = self.now.top.region; levels = self.now.top.spot.levels }) }
         ensures macros { length self.now.texts ≡ length self.now.under }

@@ -32,7 +32,7 @@ reached d zero (b ∷ bs) (suc s) k h a e =
 pub end_passed : (text : List ℕ) (s places : ℕ) → s ≤ places → s ≤ length text → EndsUnits s text → IsPassed places s text
 end_passed text s places l h e d a = reached d 0 text s (omega arith) h (λ k m. a k (omega arith)) e
 
--- ---- what a search tells
+-- ---- what a search finds
 
 pub occurs_here : (text d : List ℕ) (k : ℕ) → OccursAt text d k → starts_with nat_eq (drop k text) d ≡ true
 occurs_here text d k o = (bytes_decides d (take (length d) (drop k text))).1 (sym (OccursAt-part text d k o))

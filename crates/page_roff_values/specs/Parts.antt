@@ -9,7 +9,7 @@ use Rattle.page_roff_values.specs.declared.parts.Call.TheVariants.{String, Regis
 use Rattle.page_roff_values.specs.declared.parts.Part.{Part}
 use Rattle.page_roff_values.specs.declared.parts.Part.TheVariants.{Copied, Called}
 
--- the bytes of a text's first character, of which the first tells how many there are
+-- the bytes of a text's first character, of which the first says how many there are
 abbrev pub character_len : List ℕ → ℕ
 character_len [] = 0
 character_len (b ∷ bs) = min (continuation_len b + 1) (suc (length bs))

@@ -20,7 +20,7 @@ pub(crate) struct FontWord<'a> {
     tail: &'a [u8],
 }
 
-// The escape at a text's front that asks for a font that there is, and what is left after it, where few bytes tell it.
+// The escape at a text's front that asks for a font that there is, and what is left after it, where few bytes say so.
 #[inline(always)]
 fn split_font(text: &[u8]) -> Option<(Token<'_>, &[u8])>
     ensures { IfSome result (λ parts. ReadsFont text.now (token_seen parts.0) parts.1.now) }

@@ -1,4 +1,4 @@
--- A place tells of which set it is: helpers of proofs.
+-- A place says of which set it is: helpers of proofs.
 use Rattle.page_core_base.specs.LinesTaken.{Line}
 use Rattle.page_sets_man.specs.Man.{man_events}
 use Rattle.std.proofs.Common.{ℕ, ◌≤◌, length}

@@ -208,7 +208,7 @@ last_events number column lasts.Nothing = []
 last_events number column lasts.FontEnds = event_at number column (deeds.Leaf (leaves.Fonts None)) ∷ []
 last_events number column (lasts.Mark own) = mark number column own Glued Apart ∷ []
 
--- a macro with its arguments: it breaks line scopes, a missing quote is told, it has its effect, opens a line scope, and gives its words;
+-- a macro with its arguments: it breaks line scopes, a missing quote is reported, it has its effect, opens a line scope, and gives its words;
 -- where it has words, the line fills line scopes
 abbrev pub macro_events : ℕ → ℕ → Row → List ℕ → List (Argument (List ℕ)) → List (Event (List ℕ))
 macro_events number column row rest arguments =

@@ -1,4 +1,4 @@
-//! Macros that messages and headings tell apart, by name (man(7), mdoc(7)).
+//! Macros that messages and headings know by name (man(7), mdoc(7)).
 
 ghost use Rattle.std.specs.Prelude.{◌≡◌};
 ghost use Rattle.page_sets_names.specs.MacroNames as names;
@@ -57,7 +57,7 @@ pub enum FontMacro {
     SB,
 }
 
-/// What tells the fields of header and footer.
+/// What sets the fields of header and footer.
 #[derive(Clone, Copy, PartialEq, Eq)]
 pub enum Prologue {
     TH,

@@ -243,7 +243,7 @@ fn lines_by_hand(rt: HostRuntime) -> Result<(), Fail> {
 // rows.
 struct Stop {
     failing: (u64, u64),
-    told: Result<(), Fault>,
+    answer: Result<(), Fault>,
     end: Result<(), Fault>,
     rows: &'static str,
 }
@@ -251,21 +251,21 @@ struct Stop {
 const STOPS: &[Stop] = &[
     Stop {
         failing: (0, 0),
-        told: Ok(()),
+        answer: Ok(()),
         end: Ok(()),
         rows: "A\u{8}A\n       a\n       b\n",
     },
     // the filler takes nothing more after a row that fails
     Stop {
         failing: (2, 0),
-        told: Ok(()),
+        answer: Ok(()),
         end: Err(Fault::Failed),
         rows: "A\u{8}A\n",
     },
     // roff takes nothing more after a message that fails
     Stop {
         failing: (0, 1),
-        told: Err(Fault::WriteNotes),
+        answer: Err(Fault::WriteNotes),
         end: Err(Fault::Failed),
         rows: "A\u{8}A\n",
     },
@@ -275,7 +275,7 @@ const STOPS: &[Stop] = &[
 fn check_stop<P: FedPage + Drop>(rt: &impl Abort, mut page: P, stop: &Stop) {
     check_answer(rt, page.line(b".SH A", 1), Ok(()));
     check_answer(rt, page.line(b"a", 2), Ok(()));
-    check_answer(rt, page.line(b"\\*(zz", 3), stop.told);
+    check_answer(rt, page.line(b"\\*(zz", 3), stop.answer);
     let _ = page.line(b".br", 4);
     let _ = page.line(b"b", 5);
     check_answer(rt, page.end(), stop.end);

@@ -1,4 +1,4 @@
-use Rattle.page_engine_body.specs.Trees.{tells}
+use Rattle.page_engine_body.specs.Trees.{reports}
 use Rattle.page_engine_body.proofs.TreeLemmas.{aside_items_is, aside_after_is, events_tree_items, events_tree_after, end_tree}
 use Rattle.page_engine_body.proofs.laws.tree_law.Goals as goal
 
@@ -6,6 +6,6 @@ pub returns : goal.returns
 returns c = record {
   items = events_tree_items;
   after = events_tree_after;
-  message = λ b m. (aside_items_is b (tells m), aside_after_is b (tells m));
+  message = λ b m. (aside_items_is b (reports m), aside_after_is b (reports m));
   end = end_tree;
 }

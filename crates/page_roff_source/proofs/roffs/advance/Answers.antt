@@ -4,8 +4,8 @@ use Rattle.page_roff_source.specs.Taking.{given_of}
 use Rattle.page_roff_source.proofs.NoteLatchLemmas.{latched}
 use Rattle.page_roff_source.proofs.roffs.advance.Goals as goal
 
-pub returns-in-Ok-clause-tells : goal.returns-in-Ok-clause-tells
-returns-in-Ok-clause-tells g c =
+pub returns-in-Ok-clause-reports : goal.returns-in-Ok-clause-reports
+returns-in-Ok-clause-reports g c =
     let k = latched {A = Bool} g.met.N.NoteSink.laws (notes_before (given_of c.args.lines.now.edge)) (Ok c.advance-is_taken.result)
     c.new-latch.ensures.fault c.advance-is_taken.ensures.came c.in-Ok.ensures in
     search (rules, k.0, k.2)
@@ -16,8 +16,8 @@ returns-in-Ok-clause-same g c =
     c.new-latch.ensures.fault c.advance-is_taken.ensures.came c.in-Ok.ensures in
     search (rules, k.0, k.1)
 
-pub returns-in-Err-clause-tells : goal.returns-in-Err-clause-tells
-returns-in-Err-clause-tells g c =
+pub returns-in-Err-clause-reports : goal.returns-in-Err-clause-reports
+returns-in-Err-clause-reports g c =
     let k = latched {A = Bool} g.met.N.NoteSink.laws (notes_before (given_of c.args.lines.now.edge)) (Err c.in-Err.fault)
     c.new-latch.ensures.fault c.advance-is_taken.ensures.came c.in-Err.ensures in
     search (rules, k.0, k.2)

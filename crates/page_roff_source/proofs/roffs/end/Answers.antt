@@ -3,8 +3,8 @@ use Rattle.page_roff_source.specs.Edges.{end_notes}
 use Rattle.page_roff_source.proofs.NoteLatchLemmas.{latched}
 use Rattle.page_roff_source.proofs.roffs.end.Goals as goal
 
-pub returns-clause-tells : goal.returns-clause-tells
-returns-clause-tells g c =
+pub returns-clause-reports : goal.returns-clause-reports
+returns-clause-reports g c =
     let k = latched g.met.N.NoteSink.laws (end_notes c.args.lines.now.edge) c.done.result c.new-latch.ensures.fault c.end_into.ensures.came c.done.ensures in
     search (rules, k.0, k.2)
 
