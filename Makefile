@@ -60,8 +60,8 @@ edits:
 
 # Refuses each allocation in turn, to pages that are fed line by line and to the program: those that the gate built, or else it builds them.
 refusals:
-	@bench/refusals.sh
-	@bench/refusals_program.sh
+	@bench/run refusals
+	@bench/run refusals_program
 
 install: mandoc
 	install -D -m 755 mandoc $(DESTDIR)$(PREFIX)/bin/mandoc

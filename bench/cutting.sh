@@ -2,7 +2,7 @@
 # Times the cutting of a page into lines alone: builds the program of bench/cutting beside copies of the crates that
 # it needs, in a folder of its own, and runs it and `wc -l` in turn over a page of 100 MB (bench/cutting.py).
 # A first build proves the crates, which takes some minutes; what earlier checks of them left is taken along.
-# usage: bench/cutting.sh [RUNS]
+# usage: bench/run cutting [RUNS]
 cd "$(dirname "$0")/.." || exit 1
 room=$(mktemp -d) || exit 1
 trap 'rm -rf "$room"' EXIT

@@ -1,5 +1,5 @@
 #!/usr/bin/env python3
-"""Times ./mandoc on hostile pages of mdoc(7) (usage: bench/hostile.py [COUNT]), each with COUNT macros or columns (default 100,000).
+"""Times ./mandoc on hostile pages of mdoc(7) (usage: bench/run hostile [COUNT]), each with COUNT macros or columns (default 100,000).
 
 Each page is formatted once at a quarter, a half and the whole of its size: where the time is linear, each column is about twice the one
 before. Beside them stand the peak of our memory at the whole size, and the time of the `mandoc` on the PATH, if there is one: a run that takes

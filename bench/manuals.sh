@@ -3,7 +3,7 @@
 # (bench/manuals.py): the share of pages with the same words, and of those with the same rows, headers and footers left aside.
 # With no folder, the pages of some packages are fetched into one that is removed at the end (Debian: apt-get download): of the packages of `man` those of man(7),
 # of those of `mdoc` those of mdoc(7), of freebsd-manpages every fourth file in the order of their names.
-# usage: bench/manuals.sh [FOLDER [LISTED [man|mdoc]]]
+# usage: bench/run manuals [FOLDER [LISTED [man|mdoc]]]
 cd "$(dirname "$0")/.." || exit 1
 if [ $# -gt 0 ]; then
     exec python3 bench/manuals.py "$@"

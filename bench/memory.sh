@@ -4,8 +4,7 @@
 set -eu
 cd "$(dirname "$0")/.."
 # Valgrind sees no allocations of a static executable, so this is the one that rt linked.
-program=crates/mandoc_cli/out/mandoc_cli
-[ -x "$program" ] || make
+program=$(bench/built mandoc_cli)
 room=$(mktemp -d)
 trap 'rm -rf "$room"' EXIT
 head='.TH PAGE 1 2026-11-22 Bench\n.SH NAME\npage \\- to count its allocations\n'

@@ -1,5 +1,5 @@
 #!/usr/bin/env python3
-"""Times ./mandoc on pages of paragraphs, plain and with fonts, or on given pages (usage: bench/pages.py [RUNS [PAGE...]]).
+"""Times ./mandoc on pages of paragraphs, plain and with fonts, or on given pages (usage: bench/run pages [RUNS [PAGE...]]).
 
 A PAGE may be compressed by gzip. Each page is formatted RUNS times (default 5), by start.c. Where a `mandoc` is on the PATH it is run in turn
 with ours, and its time over ours is printed, above 1 ours is faster: the time that passes and the time of the processor, the least of all runs

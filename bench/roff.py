@@ -1,5 +1,5 @@
 #!/usr/bin/env python3
-"""Times ./mandoc on pages of roff (usage: bench/roff.py [RUNS]): text in blocks that run, calls of a macro, and hostile pages.
+"""Times ./mandoc on pages of roff (usage: bench/run roff [RUNS]): text in blocks that run, calls of a macro, and hostile pages.
 
 Each page is formatted RUNS times (default 5); the least time counts. Where a `mandoc` is on the PATH it is run in turn with ours, and its
 time over ours is printed: above 1, ours is faster. The hostile pages are formatted at a quarter, a half and the whole of their size: where

@@ -2,7 +2,7 @@
 # Counts the instructions that lines of roff cost in their form, the look-up of their names and their expansion: builds the program of
 # bench/values beside copies of the crates that it needs, in a folder of its own, and runs it under valgrind (bench/values.py).
 # A first build proves the crates, which takes some minutes; what earlier checks of them left is taken along.
-# usage: bench/values.sh
+# usage: bench/run values
 cd "$(dirname "$0")/.." || exit 1
 room=$(mktemp -d) || exit 1
 trap 'rm -rf "$room"' EXIT
