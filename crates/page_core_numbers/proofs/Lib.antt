@@ -3,3 +3,4 @@ pub mod SignLemmas
 pub mod TroubleLemmas
 pub mod ExpressionLemmas
 pub mod ColumnLemmas
+pub mod PlainLemmas

@@ -5,3 +5,4 @@ pub mod Evaluations
 pub mod CodeValues
 pub mod Signs
 pub mod Columns
+pub mod Plain

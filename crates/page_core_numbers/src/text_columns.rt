@@ -1,11 +1,12 @@
 //! The columns of a finished text: mandoc_char(7); roff(7), "Escape sequences". It is read escape by escape, and the expressions in `\h`
 //! (`expressions`) count.
 
-ghost use Rattle.std.specs.Prelude.{◌*◌, ◌≡◌, ◌≤◌, ◌<◌, length, chars};
+ghost use Rattle.std.specs.Prelude.{◌*◌, ◌≡◌, ◌≤◌, ◌<◌, length, take, chars, true};
 ghost use Rattle.std.specs.Str.{IsUtf8, IsCharBoundary};
 ghost use Rattle.page_core_escapes.specs.Escapes.{meaning_seen};
 ghost use Rattle.page_core_tables.specs.Printed.{printed_seen};
 ghost use Rattle.page_core_numbers.specs.Columns.{BeginsWith, characters_columns, printed_escape, printed_front, front_len, blanks_in, columns_of};
+ghost use Rattle.page_core_numbers.specs.Plain.{is_plain, are_plain};
 
 use crate::expressions::read_expression;
 use crate::scales::Scale;
@@ -19,6 +20,9 @@ const WIDEST: u32 = 1000;
 
 // The basic units of a column.
 const COLUMN: u32 = 24;
+
+// The bytes that are tested at a time.
+const GROUP: usize = 32;
 
 // The columns of a spelling.
 fn spelling_columns(spelling: &str) -> u32
@@ -94,6 +98,51 @@ fn front_columns(text: &str, first: char, output: Output) -> (u32, usize)
     )
 }
 
+// Whether a byte is a character of one column by itself: printable ASCII, and no backslash.
+#[inline(always)]
+fn is_plain(byte: u8) -> bool
+    ensures { result ≡ is_plain byte }
+{
+    b' ' <= byte && byte <= b'~' && byte != b'\\'
+}
+
+// Whether bytes are so. All of them are read, so that the compiler can test many at once.
+#[inline(always)]
+fn are_plain(bytes: &[u8]) -> bool
+    ensures { result ≡ are_plain bytes.now }
+{
+    let mut all = true;
+    for byte in bytes {
+        all &= is_plain(*byte);
+    }
+    all
+}
+
+// How many bytes at a text's front are so, in whole groups.
+#[inline(always)]
+fn groups_len(text: &[u8]) -> usize
+    ensures within { result ≤ length text.now }
+    ensures plain { are_plain (take result text.now) ≡ true }
+{
+    let mut at = 0;
+    while GROUP <= text.len() - at && are_plain(&text[at..at + GROUP]) {
+        at += GROUP;
+    }
+    at
+}
+
+// How many bytes at a text's front are so. It is the place of a backslash, or of a character above ASCII or below blanks, or the text's end.
+fn plain_len(text: &[u8]) -> usize
+    ensures within { result ≤ length text.now }
+    ensures plain { are_plain (take result text.now) ≡ true }
+{
+    let mut at = groups_len(text);
+    while at < text.len() && is_plain(text[at]) {
+        at += 1;
+    }
+    at
+}
+
 // The columns of a text.
 fn text_columns(text: &str, output: Output) -> u32
     requires { length text.now ≤ LINE }
@@ -102,7 +151,13 @@ fn text_columns(text: &str, output: Output) -> u32
 {
     let mut sum = 0u32;
     let mut rest = text;
-    while let Some(first) = rest.chars().next() {
+    while !rest.is_empty() {
+        let plain = plain_len(rest.as_bytes());
+        sum += plain as u32;
+        rest = &rest[plain..];
+        let Some(first) = rest.chars().next() else {
+            return sum;
+        };
         let (columns, len) = front_columns(rest, first, output);
         sum += columns;
         rest = &rest[len..];

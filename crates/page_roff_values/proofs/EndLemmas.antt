@@ -1,6 +1,7 @@
 -- Values and their ends: helpers of proofs.
-use Rattle.std.proofs.Common.{◌≡◌, ◌≢◌, ℕ, ◌+◌, ◌<◌, ◌≤◌, ◌==◌, true, false, List, [], ◌∷◌, ◌++◌, length, take, drop, get_or, refl, sym, ap, ◌∙◌, arith, length-drop, append_assoc, append-nil}
+use Rattle.std.proofs.Common.{◌≡◌, ◌≢◌, ℕ, suc, ◌+◌, ◌-◌, ◌<◌, ◌≤◌, ◌==◌, true, false, List, [], ◌∷◌, ◌++◌, length, take, drop, get_or, inl, inr, refl, sym, ap, ◌∙◌, arith, length-drop, append_assoc, append-nil}
 use Rattle.std.proofs.lemmas.List.{drop_more, take_more, take-append-drop}
+use Rattle.std.proofs.lemmas.Bool.{cases_Bool}
 use Rattle.std.proofs.lemmas.Bool.Decides.{nat_tests}
 use Rattle.page_roff_values.specs.Parts.{without_lone}
 
@@ -73,3 +74,22 @@ whole_end text i e h k n =
     let t : 0 < length (drop i text) → (get_or (drop i text) 0 0 == 92) ≡ false =
     λ l. let less : i < length text = omega (arith, length-drop i text) in let f = first_of_drop text i less in let m = n less in grind (arith, nat_tests) in
     sym (e ∙ (ap (λ l. take i text ++ l) (other_text (drop i text) (omega (arith, length-drop i text)) t) ∙ take-append-drop i text))
+
+-- a value whose last byte is no backslash
+pub other_end : (text : List ℕ) → (0 < length text → get_or text (length text - 1) 0 ≢ 92) → without_lone text ≡ text
+unfolding without_lone
+other_end [] n = refl
+other_end (b ∷ []) n =
+    let m : b ≢ 92 = n (omega arith) in
+    let t : (b == 92) ≡ false = grind (arith, nat_tests) in
+    rw t refl
+other_end (b ∷ c ∷ bs) n =
+    elim (cases_Bool (b == 92)) [
+      | inl same ↦
+          let rest : 0 < length bs → get_or bs (length bs - 1) 0 ≢ 92 =
+          λ some. let e : length (b ∷ c ∷ bs) - 1 ≡ suc (suc (length bs - 1)) = omega (arith, some) in rw e at (n (omega arith)) in
+          rw same (ap (λ l. b ∷ c ∷ l) (other_end bs rest))
+      | inr other ↦
+          let e : length (b ∷ c ∷ bs) - 1 ≡ suc (length (c ∷ bs) - 1) = omega arith in
+          rw other (ap (λ l. b ∷ l) (other_end (c ∷ bs) (λ some. rw e at (n (omega arith)))))
+    ]

@@ -38,8 +38,8 @@ pub(crate) fn kept(text: &[u8], room: usize) -> usize
     }
 }
 
-/// A value without a lone backslash at its end.
-pub(crate) fn without_lone(text: &[u8]) -> &[u8]
+// A value without a lone backslash at its end: all of it is read.
+fn read_without_lone(text: &[u8]) -> &[u8]
     ensures value { result.now ≡ reading.without_lone text.now }
 {
     let mut at = 0;
@@ -54,4 +54,14 @@ pub(crate) fn without_lone(text: &[u8]) -> &[u8]
         return text;
     }
     if text[at] == b'\\' { &text[..at] } else { text }
+}
+
+/// A value without a lone backslash at its end. Most values end with another byte.
+pub(crate) fn without_lone(text: &[u8]) -> &[u8]
+    ensures value { result.now ≡ reading.without_lone text.now }
+{
+    match text {
+        [.., last] if *last == b'\\' => read_without_lone(text),
+        _ => text,
+    }
 }

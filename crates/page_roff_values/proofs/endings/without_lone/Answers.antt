@@ -1,28 +1,9 @@
-use Rattle.std.proofs.Common.{arith}
-use Rattle.page_roff_values.proofs.EndLemmas.{one_more, two_more, lone_end, whole_end}
+use Rattle.std.proofs.Common.{sym, arith}
+use Rattle.page_roff_values.proofs.EndLemmas.{other_end}
 use Rattle.page_roff_values.proofs.endings.without_lone.Goals as goal
 
-pub loop-at-preserved-then-text-at-eq92 : goal.loop-at-preserved-then-text-at-eq92
-loop-at-preserved-then-text-at-eq92 c =
-    let i = c.loop-at.invariant in
-    (omega arith, two_more c.args.text.now c.loop-at.at i.1 c.loop-at-test.true c.if-text-at-eq92.true)
+pub returns-in_default : goal.returns-in_default
+returns-in_default c = record { value = sym (other_end c.args.text.now (λ some. absurd (omega arith))) }
 
-pub loop-at-preserved : goal.loop-at-preserved
-loop-at-preserved c =
-    let i = c.loop-at.invariant in
-    (omega arith, one_more c.args.text.now c.loop-at.at i.1 c.loop-at-test.true c.if-text-at-eq92.false)
-
-pub returns-then-at-text : goal.returns-then-at-text
-returns-then-at-text c =
-    let i = c.loop-at.invariant in
-    record { value = whole_end c.args.text.now c.loop-at.at i.1 i.0 (omega arith) (λ l. absurd (omega arith)) }
-
-pub returns-then-text-at-eq92-2 : goal.returns-then-text-at-eq92-2
-returns-then-text-at-eq92-2 c =
-    let i = c.loop-at.invariant in
-    record { value = lone_end c.args.text.now c.loop-at.at i.1 (omega arith) (omega arith) c.if-text-at-eq92-2.true }
-
-pub returns-else-text-at-eq92-2 : goal.returns-else-text-at-eq92-2
-returns-else-text-at-eq92-2 c =
-    let i = c.loop-at.invariant in
-    record { value = whole_end c.args.text.now c.loop-at.at i.1 i.0 (omega arith) (λ l. c.if-text-at-eq92-2.false) }
+pub returns-in_default-2 : goal.returns-in_default-2
+returns-in_default-2 c = record { value = sym (other_end c.args.text.now (λ some. c.if-last-eq92.false)) }
