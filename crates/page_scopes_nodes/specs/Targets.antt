@@ -10,7 +10,7 @@ use Rattle.page_roff_forms.specs.declared.quotes.Argument.{Argument}
 use Rattle.page_scopes_layout.specs.declared.contexts.Context.{Context}
 use Rattle.page_scopes_words.specs.declared.settings.Setting.{Setting}
 use Rattle.page_scopes_phrases.specs.Headings.{heading_broken}
-use Rattle.page_scopes_phrases.specs.KeptTexts.{after_kept, cut_notes, fonts_through, gap_items, kept_tokens, parts_items}
+use Rattle.page_scopes_phrases.specs.KeptTexts.{after_kept, cut_notes, fonts_through, gap_items, kept_items, kept_tokens}
 use Rattle.page_scopes_phrases.specs.Outcomes.{Outcome}
 use Rattle.page_scopes_phrases.specs.Phrases.{is_text}
 use Rattle.page_scopes_phrases.specs.declared.kept_texts.KeptText.{KeptText}
@@ -44,7 +44,7 @@ unfoldable pub target_word : Place → KeptText → Context → Running → Outc
 target_word place target c r = record {
   items = gap_items c.is_literal.value r place
       ++ (mark_items c.fonts.value.font place (codes "<")
-      ++ (parts_items c.is_literal.value 1 place c.fonts (kept_tokens target)
+      ++ (kept_items c.is_literal.value 1 place c.fonts target
       ++ mark_items (target_fonts target c).value.font place (codes ">")));
   context = record c { fonts = target_fonts target c; has_row = true };
   running = after_kept (is_text c.part) c.has_spacing.value (record r { heading = heading_broken c.part r.heading });

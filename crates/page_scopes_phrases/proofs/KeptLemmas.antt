@@ -9,14 +9,14 @@ use Rattle.page_scopes_text.specs.Words.{fonts_after}
 use Rattle.page_scopes_words.specs.declared.fonts.Fonts.{Fonts}
 
 pub parts_more : (literal quoted : Bool) (gap : ℕ) (place : Place) (fonts : Setting Fonts) (text : List ℕ) (n : ℕ) → 0 < n → n ≡ token_len quoted text
-    → parts_items literal gap place fonts (tokens_of quoted text)
-    ≡ part_items literal gap place fonts.value.font (token_at quoted text)
-    ++ parts_items literal 1 place (fonts_after (token_at quoted text) fonts) (tokens_of quoted (drop n text))
-parts_more literal quoted gap place fonts text n k e = ap (parts_items literal gap place fonts) (tokens_more quoted text n k e)
+    → parts_items literal quoted gap place fonts (tokens_of quoted text)
+    ≡ part_items literal quoted gap place fonts.value.font (token_at quoted text)
+    ++ parts_items literal quoted 1 place (fonts_after (token_at quoted text) fonts) (tokens_of quoted (drop n text))
+parts_more literal quoted gap place fonts text n k e = ap (parts_items literal quoted gap place fonts) (tokens_more quoted text n k e)
 
 pub parts_none : (literal quoted : Bool) (gap : ℕ) (place : Place) (fonts : Setting Fonts) (text : List ℕ) → length text ≤ 0
-    → parts_items literal gap place fonts (tokens_of quoted text) ≡ []
-parts_none literal quoted gap place fonts text h = ap (parts_items literal gap place fonts) (tokens_none quoted text h)
+    → parts_items literal quoted gap place fonts (tokens_of quoted text) ≡ []
+parts_none literal quoted gap place fonts text h = ap (parts_items literal quoted gap place fonts) (tokens_none quoted text h)
 
 pub prints_more : (literal quoted : Bool) (text : List ℕ) (n : ℕ) → 0 < n → n ≡ token_len quoted text
     → prints_cell literal (tokens_of quoted text) ≡ part_prints literal (token_at quoted text) || prints_cell literal (tokens_of quoted (drop n text))

@@ -7,7 +7,6 @@ use Rattle.page_core_escapes.specs.Tokens.{TextToken, white, plain, quotes, esca
 use Rattle.page_core_numbers.specs.Expressions.{expression_of}
 use Rattle.page_core_numbers.specs.declared.scales.Scale.TheVariants.{Em}
 use Rattle.page_core_tables.specs.Glyphs.{Symbol, glyph_of, spelling_of}
-use Rattle.page_scopes_layout.specs.declared.contexts.Context.{Context}
 use Rattle.page_scopes_layout.specs.declared.contexts.PagePart.{PagePart}
 use Rattle.page_scopes_layout.specs.declared.contexts.PagePart.TheVariants as parts
 use Rattle.page_scopes_layout.specs.declared.contexts.PageSection.{PageSection}

@@ -46,15 +46,18 @@ gap_items literal r place = if literal then kept_gap r place else filled_gap (ne
 abbrev pub white_items : Bool → ℕ → Place → List ℕ → List Item
 white_items literal gap place bytes = if literal then white_cells place bytes else shown (Blank gap (has_tab bytes)) ∷ []
 
-abbrev pub part_items : Bool → ℕ → Place → Font → TextToken → List Item
-part_items literal gap place font (white bytes) = white_items literal gap place bytes
-part_items literal gap place font token = token_items font place token
+abbrev pub part_items : (literal quoted : Bool) → ℕ → Place → Font → TextToken → List Item
+part_items literal quoted gap place font (white bytes) = white_items literal gap place bytes
+part_items literal quoted gap place font token = token_items quoted font place token
 
 -- without the messages of its escapes, all at one place; white space at its front is this many blanks, and any other one
-abbrev pub parts_items : Bool → ℕ → Place → Setting Fonts → List TextToken → List Item
-parts_items literal gap place fonts [] = []
-parts_items literal gap place fonts (token ∷ tokens) =
-    part_items literal gap place fonts.value.font token ++ parts_items literal 1 place (fonts_after token fonts) tokens
+abbrev pub parts_items : (literal quoted : Bool) → ℕ → Place → Setting Fonts → List TextToken → List Item
+parts_items literal quoted gap place fonts [] = []
+parts_items literal quoted gap place fonts (token ∷ tokens) =
+    part_items literal quoted gap place fonts.value.font token ++ parts_items literal quoted 1 place (fonts_after token fonts) tokens
+
+abbrev pub kept_items : Bool → ℕ → Place → Setting Fonts → KeptText → List Item
+kept_items literal gap place fonts kept = parts_items literal kept.is_quoted gap place fonts (kept_tokens kept)
 
 abbrev pub fonts_through : Setting Fonts → List TextToken → Setting Fonts
 fonts_through fonts [] = fonts

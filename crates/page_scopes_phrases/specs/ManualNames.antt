@@ -9,7 +9,7 @@ use Rattle.page_core_limits.specs.declared.TheConstants.{LINE}
 use Rattle.page_roff_forms.specs.declared.quotes.Argument.{Argument}
 use Rattle.page_scopes_layout.specs.declared.contexts.Context.{Context}
 use Rattle.page_scopes_phrases.specs.Headings.{heading_further}
-use Rattle.page_scopes_phrases.specs.KeptTexts.{after_kept, cut_notes, gap_items, kept_of, kept_tokens, parts_items, prints_cell}
+use Rattle.page_scopes_phrases.specs.KeptTexts.{after_kept, cut_notes, gap_items, kept_items, kept_of, kept_tokens, prints_cell}
 use Rattle.page_scopes_phrases.specs.LineWords.{with_sentence}
 use Rattle.page_scopes_phrases.specs.Outcomes.{Outcome}
 use Rattle.page_scopes_phrases.specs.Phrases.{is_text, own_fonts, phrase_context, phrase_items, phrase_running}
@@ -79,7 +79,7 @@ has_gap_cells literal r = literal && (r.line.is_after_word && nat_lt 0 (next_gap
 unfoldable pub name_word : Place → KeptText → Context → Running → Outcome
 name_word place name c r = record {
   items = gap_items c.is_literal.value r place
-      ++ (empty_items place name ++ parts_items c.is_literal.value (max (next_gap r) 1) place (own_fonts (Some B) c.fonts) (kept_tokens name));
+      ++ (empty_items place name ++ kept_items c.is_literal.value (max (next_gap r) 1) place (own_fonts (Some B) c.fonts) name);
   context = record c { has_row = c.has_row || (has_gap_cells c.is_literal.value r || prints_cell c.is_literal.value (kept_tokens name)) };
   running = with_sentence name.text (after_kept (is_text c.part) c.has_spacing.value (name_in_heading name c r));
 }

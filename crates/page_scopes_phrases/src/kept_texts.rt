@@ -133,17 +133,18 @@ fn give_white<O: PieceOut>(out: &mut O, is_literal: bool, gap: u32, place: Place
 fn give_part<O: PieceOut>(
     out: &mut O,
     is_literal: bool,
+    quoted: bool,
     gap: u32,
     place: Place,
     font: Font,
     token: &Token<'_>,
 )
     ensures { Came O.left out.old
-        (kept.part_items is_literal gap place font (token_seen token.now)) out.new }
+        (kept.part_items is_literal quoted gap place font (token_seen token.now)) out.new }
 {
     match *token {
         Token::White(white) => give_white(out, is_literal, gap, place, white),
-        _ => give_token(out, font, place, token),
+        _ => give_token(out, quoted, font, place, token),
     }
 }
 
@@ -151,15 +152,15 @@ fn give_part<O: PieceOut>(
 fn give_parts<O: PieceOut>(
     out: &mut O,
     is_literal: bool,
-    front: u32,
     quoted: bool,
+    front: u32,
     place: Place,
     start: Setting<Fonts>,
     text: &[u8],
 ) -> Setting<Fonts>
     requires { length text.now ≤ LINE }
     ensures came { Came O.left out.old
-        (kept.parts_items is_literal front place start (tokens_of quoted text.now)) out.new }
+        (kept.parts_items is_literal quoted front place start (tokens_of quoted text.now)) out.new }
     ensures fonts { result ≡ kept.fonts_through start (tokens_of quoted text.now) }
 {
     let mut rest = text;
@@ -167,7 +168,15 @@ fn give_parts<O: PieceOut>(
     let mut gap = front;
     while !rest.is_empty() {
         let token = read_token(quoted, rest);
-        give_part(out, is_literal, gap, place, fonts.value.font, &token);
+        give_part(
+            out,
+            is_literal,
+            quoted,
+            gap,
+            place,
+            fonts.value.font,
+            &token,
+        );
         fonts = fonts_after(&token, fonts);
         gap = 1;
         rest = &rest[token.len()..];
@@ -219,14 +228,14 @@ pub fn give_kept<O: PieceOut>(
     text: &KeptText,
 ) -> Setting<Fonts>
     ensures came { Came O.left out.old
-        (kept.parts_items is_literal front place start (kept.kept_tokens text.now)) out.new }
+        (kept.kept_items is_literal front place start text.now) out.new }
     ensures fonts { result ≡ kept.fonts_through start (kept.kept_tokens text.now) }
 {
     give_parts(
         out,
         is_literal,
-        front,
         text.is_quoted,
+        front,
         place,
         start,
         text.text.text(),

@@ -1,5 +1,5 @@
 -- Words of two escapes that ask for fonts, each before a text that prints itself.
-use Rattle.std.proofs.Common.{◌≡◌, ℕ, zero, suc, ◌<◌, ◌≤◌, Bool, true, false, List, [], ◌∷◌, ◌++◌, length, take, drop, refl, ap, ◌∙◌, arith, sym, length-drop, append-nil, get_or, inl, inr}
+use Rattle.std.proofs.Common.{◌≡◌, ℕ, zero, suc, ◌<◌, ◌≤◌, Bool, true, false, List, [], ◌∷◌, ◌++◌, length, take, drop, refl, ap, ap₂, ◌∙◌, arith, sym, length-drop, append-nil, get_or, inl, inr}
 use Rattle.std.specs.List.{prefix_len}
 use Rattle.std.proofs.lemmas.List.Folds.{length-prefix_len}
 use Rattle.std.proofs.lemmas.List.{length-take-le}
@@ -10,14 +10,15 @@ use Rattle.page_core_escapes.specs.Meanings as meanings
 use Rattle.page_core_escapes.specs.Meanings.{Face, face, is_known}
 use Rattle.page_core_escapes.specs.ShortEscapes.{ShortFont}
 use Rattle.page_core_escapes.specs.Tokens.{TextToken, plain, escaped, begins_word, prints_itself, token_at, token_len, token_seen}
-use Rattle.page_scopes_words.specs.Words.{face_notes}
+use Rattle.page_scopes_words.specs.Words.{at, face_notes}
 use Rattle.page_scopes_text.proofs.PartedLemmas.{no_word, plain_begins, plain_token, words_more}
 use Rattle.page_scopes_text.proofs.PlainWordLemmas.{blank_len}
 use Rattle.page_scopes_text.specs.FontWords.{ReadsBlankFontWord, ReadsFont, ReadsFontWord, ReadsPart, Silent, font_tokens, part_tokens}
 use Rattle.page_scopes_text.specs.Parted.{Parted}
-use Rattle.page_scopes_text.specs.Words.{pen_after, pen_through, printed_items, tokens_items}
+use Rattle.page_scopes_text.specs.Words.{body_items, empty_items, gap_after, gap_items, pen_after, pen_through, plain_items, tokens_items, word_begun, word_items, word_notes}
 use Rattle.page_scopes_text.specs.declared.font_words.FontWord.{FontWord}
 use Rattle.page_scopes_text.specs.declared.pens.Pen.{Pen}
+use Rattle.page_scopes_text.specs.declared.pens.TextStyle.{TextStyle}
 
 -- ---- a part that prints itself
 
@@ -74,7 +75,7 @@ reads_font text font n s known =
           let token = font_token text font n s quoted in
           let is : n ≡ token_len quoted text = rw token (sym len) in
           words_more quoted text n (font_begins text font n s) s.escape.not_empty is ∙ rw token refl;
-      silent = record { notes = λ quoted place. known_notes quoted place font known; items = λ splits f place. refl };
+      silent = record { notes = λ quoted place. known_notes quoted place font known; items = λ quoted splits f place. refl };
     }
 
 -- ---- the whole word
@@ -127,12 +128,12 @@ reads_blank_font_word quoted (b ∷ bs) rest word some e r =
 -- ---- what it gives
 
 part_items : (place : Place) (pen : Pen) (bytes : List ℕ) (tokens : List TextToken)
-    → tokens_items place pen (part_tokens bytes ++ tokens)
-    ≡ tokens_items place pen (part_tokens bytes) ++ tokens_items place (pen_through pen (part_tokens bytes)) tokens
+    → tokens_items false place pen (part_tokens bytes ++ tokens)
+    ≡ tokens_items false place pen (part_tokens bytes) ++ tokens_items false place (pen_through pen (part_tokens bytes)) tokens
 part_items place pen [] tokens = refl
 part_items place pen (b ∷ bs) tokens =
-    let first = printed_items pen.splits pen.fonts.value.font place (plain (b ∷ bs)) in
-    ap (λ (items : List Item). items ++ tokens_items place (pen_after pen (plain (b ∷ bs))) tokens) (sym (append-nil first))
+    let first = plain_items pen.splits pen.fonts.value.font place (b ∷ bs) in
+    ap (λ (items : List Item). items ++ tokens_items false place (pen_after pen (plain (b ∷ bs))) tokens) (sym (append-nil first))
 
 pub part_pen : (pen : Pen) (bytes : List ℕ) (tokens : List TextToken)
     → pen_through pen (part_tokens bytes ++ tokens) ≡ pen_through (pen_through pen (part_tokens bytes)) tokens
@@ -140,14 +141,70 @@ part_pen pen [] tokens = refl
 part_pen pen (b ∷ bs) tokens = refl
 
 pub font_items : (place : Place) (pen : Pen) (word : FontWord) → Silent (token_seen word.before) → Silent (token_seen word.after)
-    → tokens_items place pen (font_tokens word)
-    ≡ tokens_items place (pen_after pen (token_seen word.before)) (part_tokens word.text.now)
-    ++ tokens_items place (pen_after (pen_through (pen_after pen (token_seen word.before)) (part_tokens word.text.now)) (token_seen word.after)) (part_tokens word.tail.now)
+    → tokens_items false place pen (font_tokens word)
+    ≡ tokens_items false place (pen_after pen (token_seen word.before)) (part_tokens word.text.now)
+    ++ tokens_items false place (pen_after (pen_through (pen_after pen (token_seen word.before)) (part_tokens word.text.now)) (token_seen word.after)) (part_tokens word.tail.now)
 font_items place pen word b a =
     let inner = pen_after pen (token_seen word.before) in
     let later = pen_through inner (part_tokens word.text.now) in
     let last = pen_after later (token_seen word.after) in
     let more = token_seen word.after ∷ part_tokens word.tail.now in
-    ap (λ (i : List Item). i ++ tokens_items place inner (part_tokens word.text.now ++ more)) (b.items pen.splits pen.fonts.value.font place)
+    ap (λ (i : List Item). i ++ tokens_items false place inner (part_tokens word.text.now ++ more)) (b.items false pen.splits pen.fonts.value.font place)
     ∙ part_items place inner word.text.now more
-    ∙ ap (λ (i : List Item). tokens_items place inner (part_tokens word.text.now) ++ (i ++ tokens_items place last (part_tokens word.tail.now))) (a.items later.splits later.fonts.value.font place)
+    ∙ ap (λ (i : List Item). tokens_items false place inner (part_tokens word.text.now) ++ (i ++ tokens_items false place last (part_tokens word.tail.now))) (a.items false later.splits later.fonts.value.font place)
+
+-- ---- it has no glyph, so that it gives the same in a quoted argument
+
+silent_alike : (quoted : Bool) (place : Place) (pen : Pen) (token : TextToken) (tokens : List TextToken) → Silent token
+    → ((p : Pen) → tokens_items quoted place p tokens ≡ tokens_items false place p tokens)
+    → tokens_items quoted place pen (token ∷ tokens) ≡ tokens_items false place pen (token ∷ tokens)
+silent_alike quoted place pen token tokens s h =
+    ap₂ (λ (a b : List Item). a ++ b) (s.items quoted pen.splits pen.fonts.value.font place ∙ sym (s.items false pen.splits pen.fonts.value.font place)) (h (pen_after pen token))
+
+part_alike : (quoted : Bool) (place : Place) (bytes : List ℕ) (tokens : List TextToken)
+    → ((p : Pen) → tokens_items quoted place p tokens ≡ tokens_items false place p tokens) → (pen : Pen)
+    → tokens_items quoted place pen (part_tokens bytes ++ tokens) ≡ tokens_items false place pen (part_tokens bytes ++ tokens)
+part_alike quoted place [] tokens h pen = h pen
+part_alike quoted place (b ∷ bs) tokens h pen =
+    ap (λ (i : List Item). plain_items pen.splits pen.fonts.value.font place (b ∷ bs) ++ i) (h (pen_after pen (plain (b ∷ bs))))
+
+tail_alike : (quoted : Bool) (place : Place) (bytes : List ℕ) (pen : Pen) → tokens_items quoted place pen (part_tokens bytes) ≡ tokens_items false place pen (part_tokens bytes)
+tail_alike quoted place [] pen = refl
+tail_alike quoted place (b ∷ bs) pen = refl
+
+word_alike : (quoted : Bool) (place : Place) (pen : Pen) (word : FontWord) → Silent (token_seen word.before) → Silent (token_seen word.after)
+    → tokens_items quoted place pen (font_tokens word) ≡ tokens_items false place pen (font_tokens word)
+word_alike quoted place pen word b a =
+    let next = token_seen word.after in
+    let tail = part_tokens word.tail.now in
+    let more = part_alike quoted place word.text.now (next ∷ tail) (λ p. silent_alike quoted place p next tail a (tail_alike quoted place word.tail.now)) in
+    silent_alike quoted place pen (token_seen word.before) (part_tokens word.text.now ++ (next ∷ tail)) b more
+
+body_alike : (quoted : Bool) (place : Place) (pen : Pen) (word : FontWord) → Silent (token_seen word.before) → Silent (token_seen word.after)
+    → body_items quoted place pen (font_tokens word) ≡ body_items false place pen (font_tokens word)
+body_alike quoted place pen word b a =
+    ap (λ (i : List Item). i ++ empty_items (pen_through (word_begun pen) (font_tokens word)).has_cell place) (word_alike quoted place (word_begun pen) word b a)
+
+part_notes : (quoted : Bool) (place : Place) (bytes : List ℕ) (tokens : List TextToken)
+    → word_notes quoted place (part_tokens bytes ++ tokens) ≡ word_notes quoted place tokens
+part_notes quoted place [] tokens = refl
+part_notes quoted place (b ∷ bs) tokens = refl
+
+tail_notes : (quoted : Bool) (place : Place) (bytes : List ℕ) → word_notes quoted place (part_tokens bytes) ≡ []
+tail_notes quoted place [] = refl
+tail_notes quoted place (b ∷ bs) = refl
+
+word_silent : (quoted : Bool) (place : Place) (word : FontWord) → Silent (token_seen word.before) → Silent (token_seen word.after)
+    → word_notes quoted place (font_tokens word) ≡ []
+word_silent quoted place word b a =
+    let next = token_seen word.after in
+    let last = ap₂ (λ (x y : List Item). x ++ y) (a.notes quoted place) (tail_notes quoted place word.tail.now) in
+    ap₂ (λ (x y : List Item). x ++ y) (b.notes quoted place) (part_notes quoted place word.text.now (next ∷ part_tokens word.tail.now) ∙ last)
+
+-- such a word has no messages, and gives the same in a quoted argument
+pub font_word_items : (style : TextStyle) (line : ℕ) (tab : Bool) (pen : Pen) (word : FontWord) → Silent (token_seen word.before) → Silent (token_seen word.after)
+    → word_items style line tab pen (font_tokens word)
+    ≡ gap_items style tab (at line pen.column) pen ++ body_items false (at line pen.column) (gap_after style pen) (font_tokens word)
+font_word_items style line tab pen word b a =
+    ap₂ (λ (x y : List Item). x ++ (gap_items style tab (at line pen.column) pen ++ y)) (word_silent style.is_quoted (at line pen.column) word b a)
+    (body_alike style.is_quoted (at line pen.column) (gap_after style pen) word b a)

@@ -1,7 +1,7 @@
 -- Parts of a word, one after another.
-use Rattle.std.proofs.Common.{◌≡◌, ℕ, ◌<◌, ◌≤◌, List, [], ◌∷◌, length, map, refl, ap, sym, ◌∙◌, arith}
-use Rattle.page_core_base.specs.Pieces.{Item, shown}
-use Rattle.page_core_base.specs.Words.{later_pieces, parts_after, parts_of}
+use Rattle.std.proofs.Common.{◌≡◌, ℕ, ◌<◌, ◌≤◌, List, [], ◌∷◌, length, refl, ap, sym, ◌∙◌, arith}
+use Rattle.page_core_base.specs.Pieces.{shown}
+use Rattle.page_core_base.specs.Words.{parts_after, parts_of}
 use Rattle.page_core_base.specs.declared.cells.Font.{Font}
 use Rattle.page_core_base.specs.declared.pieces.Piece.TheVariants.{Split}
 use Rattle.page_core_base.specs.declared.places.Place.{Place}

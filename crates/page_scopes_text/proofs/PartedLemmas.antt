@@ -115,9 +115,9 @@ word_some quoted (b ∷ bs) h = token_some quoted b bs (not_white b bs h)
 
 -- what a word's first token gives, and what its other tokens give
 pub tokens_more : (quoted : Bool) (place : Place) (pen : Pen) (text : List ℕ) (n : ℕ) → begins_word text ≡ true → 0 < n → n ≡ token_len quoted text
-    → tokens_items place pen (words_of quoted text).word
-    ≡ printed_items pen.splits pen.fonts.value.font place (token_at quoted text) ++ tokens_items place (pen_after pen (token_at quoted text)) (words_of quoted (drop n text)).word
-tokens_more quoted place pen text n h k e = ap (λ (t : Parted). tokens_items place pen t.word) (words_more quoted text n h k e)
+    → tokens_items quoted place pen (words_of quoted text).word
+    ≡ printed_items quoted pen.splits pen.fonts.value.font place (token_at quoted text) ++ tokens_items quoted place (pen_after pen (token_at quoted text)) (words_of quoted (drop n text)).word
+tokens_more quoted place pen text n h k e = ap (λ (t : Parted). tokens_items quoted place pen t.word) (words_more quoted text n h k e)
 
 pub pen_more : (quoted : Bool) (pen : Pen) (text : List ℕ) (n : ℕ) → begins_word text ≡ true → 0 < n → n ≡ token_len quoted text
     → pen_through pen (words_of quoted text).word ≡ pen_through (pen_after pen (token_at quoted text)) (words_of quoted (drop n text)).word

@@ -11,7 +11,7 @@ use Rattle.page_scopes_text.specs.declared.font_words.FontWord.{FontWord}
 -- a token without messages that prints nothing
 pub record Silent (token : TextToken) : Type 0 where
   pub notes : (quoted : Bool) (place : Place) → token_notes quoted place token ≡ []
-  pub items : (splits : Bool) (font : Font) (place : Place) → printed_items splits font place token ≡ []
+  pub items : (quoted splits : Bool) (font : Font) (place : Place) → printed_items quoted splits font place token ≡ []
 
 -- a font is asked for at a text's front
 pub record ReadsFont (text : List ℕ) (token : TextToken) (rest : List ℕ) : Type 0 where

@@ -1,8 +1,7 @@
 -- The value of an expression in basic units, in columns and in rows, and its messages. Source: roff(7), "Numerical expressions", "Scaling Widths", `sp`.
-use Rattle.std.specs.Prelude.{ℕ, ◌/◌, nat_lt, min, List, [], ◌∷◌, ◌++◌, map, codes, if◌then◌else◌, ℤ, pos, negsuc, int_div}
+use Rattle.std.specs.Prelude.{ℕ, ◌/◌, nat_lt, min, List, [], ◌∷◌, ◌++◌, map, if◌then◌else◌, ℤ, pos, negsuc, int_div}
 use Rattle.page_core_base.specs.declared.note_kinds.NoteKind.TheVariants.{Limit}
 use Rattle.page_core_base.specs.declared.places.Place.{Place}
-use Rattle.page_core_base.specs.Messages.{Message}
 use Rattle.page_core_base.specs.Pieces.{Item, noted}
 use Rattle.page_core_numbers.specs.declared.scales.Scale.{Scale}
 use Rattle.page_core_numbers.specs.declared.scales.Scale.TheVariants.{En, Vertical}

@@ -68,7 +68,7 @@ indented_items quoted line pen part =
     shown Break
     ∷ (word_notes quoted (place_after line pen part.white) part.word
     ++ (white_cells (place_after line pen part.white) part.white
-    ++ body_items (place_after line pen part.white) (indented_pen pen part.white) part.word))
+    ++ body_items quoted (place_after line pen part.white) (indented_pen pen part.white) part.word))
 
 -- in a row that is kept a blank parts it from the word before it
 abbrev pub front_items : TextStyle → Place → Pen → List Item

@@ -4,7 +4,7 @@ use Rattle.page_core_base.specs.Pieces.{Item, shown}
 use Rattle.page_core_base.specs.declared.cells.Font.{Font}
 use Rattle.page_core_base.specs.declared.cells.Font.TheVariants.{R}
 use Rattle.page_core_base.specs.declared.page_settings.Output.TheVariants.{Ascii}
-use Rattle.page_core_base.specs.declared.pieces.Piece.TheVariants.{Text, Blank}
+use Rattle.page_core_base.specs.declared.pieces.Piece.TheVariants.{Text, Glyph, Blank}
 use Rattle.page_core_base.specs.declared.places.Place.{Place}
 use Rattle.page_core_base.specs.Words.{part_pieces, parts_of}
 use Rattle.page_core_escapes.specs.Meanings as meanings
@@ -14,7 +14,7 @@ use Rattle.page_core_numbers.specs.Columns.{characters_columns, printed_escape}
 use Rattle.page_core_numbers.specs.declared.scales.Scale.TheVariants.{Em}
 use Rattle.page_scopes_words.specs.declared.settings.Setting.{Setting}
 use Rattle.page_scopes_words.specs.Fonts.{token_fonts}
-use Rattle.page_scopes_words.specs.Words.{at, is_glue, meaning_notes, meaning_piece, piece_items, token_piece}
+use Rattle.page_scopes_words.specs.Words.{at, glyph_name, is_glue, meaning_notes, meaning_piece, piece_items, token_piece}
 use Rattle.page_scopes_words.specs.declared.fonts.Fonts.{Fonts}
 use Rattle.page_scopes_text.specs.Numbers.{number_notes}
 use Rattle.page_scopes_text.specs.declared.pens.Pen.{Pen}
@@ -49,25 +49,31 @@ blank_text count font place = if count == 0 then [] else shown (Text (replicate 
 abbrev pub blank_count : List ℕ → ℕ
 blank_count expression = characters_columns (printed_escape Ascii (meanings.blanks expression))
 
-abbrev pub escape_items : Font → Place → Meaning → List Item
-escape_items font place (meanings.blanks expression) = blank_text (blank_count expression) font place
-escape_items font place meaning = piece_items (meaning_piece font place meaning)
+abbrev pub escape_items : (quoted : Bool) → Font → Place → Meaning → List Item
+escape_items quoted font place (meanings.blanks expression) = blank_text (blank_count expression) font place
+escape_items quoted font place (meanings.glyph name) = shown (Glyph (glyph_name quoted name) font place) ∷ []
+escape_items quoted font place meaning = piece_items (meaning_piece font place meaning)
 
-abbrev pub token_items : Font → Place → TextToken → List Item
-token_items font place (escaped bytes meaning) = escape_items font place meaning
-token_items font place token = piece_items (token_piece font place token)
+abbrev pub token_items : (quoted : Bool) → Font → Place → TextToken → List Item
+token_items quoted font place (escaped bytes meaning) = escape_items quoted font place meaning
+token_items quoted font place token = piece_items (token_piece font place token)
 
 -- bytes that print themselves, at whose hyphens a row may end
 abbrev pub parts_items : Font → Place → List ℕ → List Item
 parts_items font place bytes = map shown (part_pieces font place (parts_of bytes))
 
--- a token of a word that is parted or not
-abbrev pub printed_items : Bool → Font → Place → TextToken → List Item
-printed_items splits font place (plain bytes) = if splits then parts_items font place bytes else token_items font place (plain bytes)
-printed_items splits font place token = token_items font place token
+-- those of a word that is parted or not
+abbrev pub plain_items : (splits : Bool) → Font → Place → List ℕ → List Item
+plain_items splits font place bytes = if splits then parts_items font place bytes else shown (Text bytes font place) ∷ []
+
+-- a token of such a word
+abbrev pub printed_items : (quoted splits : Bool) → Font → Place → TextToken → List Item
+printed_items quoted splits font place (plain bytes) = plain_items splits font place bytes
+printed_items quoted splits font place token = token_items quoted font place token
 
 abbrev pub escape_prints : Meaning → Bool
 escape_prints (meanings.blanks expression) = nat_lt 0 (blank_count expression)
+escape_prints (meanings.glyph name) = true
 escape_prints meaning = is_some (meaning_piece R (at 0 0) meaning)
 
 abbrev pub token_prints : TextToken → Bool
@@ -103,9 +109,10 @@ pen_through pen [] = pen
 pen_through pen (token ∷ tokens) = pen_through (pen_after pen token) tokens
 
 -- each token prints in the font that those before it leave
-abbrev pub tokens_items : Place → Pen → List TextToken → List Item
-tokens_items place pen [] = []
-tokens_items place pen (token ∷ tokens) = printed_items pen.splits pen.fonts.value.font place token ++ tokens_items place (pen_after pen token) tokens
+abbrev pub tokens_items : (quoted : Bool) → Place → Pen → List TextToken → List Item
+tokens_items quoted place pen [] = []
+tokens_items quoted place pen (token ∷ tokens) =
+    printed_items quoted pen.splits pen.fonts.value.font place token ++ tokens_items quoted place (pen_after pen token) tokens
 
 -- ---- a word
 
@@ -117,9 +124,9 @@ word_begun pen = record pen { has_cell = false; is_cut = false }
 abbrev pub empty_items : Bool → Place → List Item
 empty_items has_cell place = if has_cell then [] else shown (Text [] R place) ∷ []
 
-abbrev pub body_items : Place → Pen → List TextToken → List Item
-body_items place pen word =
-    tokens_items place (word_begun pen) word ++ empty_items (pen_through (word_begun pen) word).has_cell place
+abbrev pub body_items : (quoted : Bool) → Place → Pen → List TextToken → List Item
+body_items quoted place pen word =
+    tokens_items quoted place (word_begun pen) word ++ empty_items (pen_through (word_begun pen) word).has_cell place
 
 -- after a word one blank stands
 abbrev pub word_ended : Pen → Pen → Pen
@@ -151,7 +158,7 @@ gap_after style pen = record pen { has_cell = pen.has_cell || has_gap_cells styl
 abbrev pub word_items : TextStyle → ℕ → Bool → Pen → List TextToken → List Item
 word_items style line has_tab pen word =
     word_notes style.is_quoted (at line pen.column) word
-    ++ (gap_items style has_tab (at line pen.column) pen ++ body_items (at line pen.column) (gap_after style pen) word)
+    ++ (gap_items style has_tab (at line pen.column) pen ++ body_items style.is_quoted (at line pen.column) (gap_after style pen) word)
 
 abbrev pub word_after : TextStyle → Pen → List TextToken → Pen
 word_after style pen word = body_after (gap_after style pen) word

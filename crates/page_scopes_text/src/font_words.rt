@@ -1,6 +1,6 @@
 //! Words in a font of their own, as `\fBword\fR` is: they are read once, as they have no messages (roff(7), `\f`).
 
-ghost use Rattle.std.specs.Prelude.{◌≡◌, ◌<◌, ◌+◌, ◌^◌, length, IfSome};
+ghost use Rattle.std.specs.Prelude.{◌≡◌, ◌<◌, ◌+◌, ◌^◌, false, length, IfSome};
 ghost use Rattle.page_core_base.specs.Latches.{Came};
 ghost use Rattle.page_core_escapes.specs.Tokens.{token_seen};
 ghost use Rattle.page_scopes_text.specs.FontWords.{ReadsFont, ReadsFontWord, ReadsPart, Silent, font_tokens, part_tokens, word_len};
@@ -67,7 +67,7 @@ pub(crate) fn read_font_word(quoted: bool, text: &[u8]) -> Option<(FontWord<'_>,
 #[inline(always)]
 fn give_part<O: PieceOut>(out: &mut O, place: Place, pen: &mut Pen, part: &[u8])
     requires { pen.old.column + length part.now < 2 ^ 32 }
-    ensures came { Came O.left out.old (words.tokens_items place pen.old (part_tokens part.now)) out.new }
+    ensures came { Came O.left out.old (words.tokens_items false place pen.old (part_tokens part.now)) out.new }
     ensures pen { pen.new ≡ words.pen_through pen.old (part_tokens part.now) }
 {
     if part.is_empty() {
@@ -88,7 +88,7 @@ pub(crate) fn give_font_tokens<O: PieceOut>(
     requires room { pen.old.column + word_len word.now < 2 ^ 32 }
     requires before { Silent (token_seen word.now.before) }
     requires after { Silent (token_seen word.now.after) }
-    ensures came { Came O.left out.old (words.tokens_items place pen.old (font_tokens word.now)) out.new }
+    ensures came { Came O.left out.old (words.tokens_items false place pen.old (font_tokens word.now)) out.new }
     ensures pen { pen.new ≡ words.pen_through pen.old (font_tokens word.now) }
 {
     pen.pass(&word.before);

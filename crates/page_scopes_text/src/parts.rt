@@ -2,7 +2,7 @@
 
 ghost use Rattle.std.specs.Prelude.{◌≡◌, ◌<◌, ◌==◌, false, length};
 ghost use Rattle.page_core_base.specs.Latches.{Came, CameUpTo};
-ghost use Rattle.page_core_escapes.specs.Tokens.{is_space, plain, token_seen};
+ghost use Rattle.page_core_escapes.specs.Tokens.{is_space, token_seen};
 ghost use Rattle.page_scopes_text.specs.Parts.{later_items};
 ghost use Rattle.page_scopes_text.specs.Words as words;
 
@@ -58,7 +58,7 @@ pub(crate) fn give_plain_token<O: PieceOut>(
     bytes: &[u8],
 )
     ensures { Came O.left out.old
-        (words.printed_items splits font place (plain bytes.now)) out.new }
+        (words.plain_items splits font place bytes.now) out.new }
 {
     if splits {
         give_parts(out, font, place, bytes);
@@ -67,10 +67,11 @@ pub(crate) fn give_plain_token<O: PieceOut>(
     }
 }
 
-/// Gives what a token of a word prints.
+/// Gives what a token of a word prints; `quoted` says whether it is that of a quoted argument.
 #[inline(always)]
 pub(crate) fn give_printed<O: PieceOut>(
     out: &mut O,
+    quoted: bool,
     splits: bool,
     font: Font,
     place: Place,
@@ -78,11 +79,11 @@ pub(crate) fn give_printed<O: PieceOut>(
 )
     requires { is_space (token_seen token.now) ≡ false }
     ensures { Came O.left out.old
-        (words.printed_items splits font place (token_seen token.now)) out.new }
+        (words.printed_items quoted splits font place (token_seen token.now)) out.new }
 {
     if let Token::Plain(bytes) = *token {
         give_plain_token(out, splits, font, place, bytes);
     } else {
-        give_token(out, font, place, token);
+        give_token(out, quoted, font, place, token);
     }
 }

@@ -12,7 +12,7 @@ use crate::give_number;
 use page_core_base::{Font, Output, Piece, PieceOut, Place};
 use page_core_escapes::{Escape, Token};
 use page_core_numbers::{Scale, escape_columns};
-use page_scopes_words::{Fonts, Setting, report_escape, token_piece};
+use page_scopes_words::{Fonts, Setting, give_glyph, report_escape, token_piece};
 
 /// Gives the messages of a token; `quoted` says whether it is that of a quoted argument.
 #[inline(always)]
@@ -68,11 +68,17 @@ fn blank_count(expression: &[u8]) -> u32
     escape_columns(Escape::Blanks(expression), Output::Ascii)
 }
 
-/// Gives what a token prints.
+/// Gives what a token prints; `quoted` says whether it is that of a quoted argument.
 #[inline(always)]
-pub fn give_token<O: PieceOut>(out: &mut O, font: Font, place: Place, token: &Token<'_>)
+pub fn give_token<O: PieceOut>(
+    out: &mut O,
+    quoted: bool,
+    font: Font,
+    place: Place,
+    token: &Token<'_>,
+)
     requires { is_space (token_seen token.now) ≡ false }
-    ensures { Came O.left out.old (words.token_items font place (token_seen token.now)) out.new }
+    ensures { Came O.left out.old (words.token_items quoted font place (token_seen token.now)) out.new }
 {
     if let Token::Escaped {
         meaning: Escape::Blanks(expression),
@@ -80,6 +86,12 @@ pub fn give_token<O: PieceOut>(out: &mut O, font: Font, place: Place, token: &To
     } = *token
     {
         give_blank_text(out, blank_count(expression), font, place);
+    } else if let Token::Escaped {
+        meaning: Escape::Glyph(name),
+        ..
+    } = *token
+    {
+        give_glyph(out, quoted, font, place, name);
     } else if let Some(piece) = token_piece(font, place, token) {
         out.give(piece);
     }

@@ -1,6 +1,6 @@
 //! Words: their messages, the blanks before them, and what they print (roff(7); mandoc(1), "DIAGNOSTICS").
 
-ghost use Rattle.std.specs.Prelude.{◌≡◌, ◌≤◌, ◌<◌, ◌+◌, ◌^◌, [], ◌∷◌, IfSome, length};
+ghost use Rattle.std.specs.Prelude.{◌≡◌, ◌≤◌, ◌<◌, ◌+◌, ◌^◌, false, [], ◌∷◌, IfSome, length};
 ghost use Rattle.page_core_base.specs.Latches.{Came};
 ghost use Rattle.page_core_escapes.specs.Tokens.{plain, token_seen};
 ghost use Rattle.page_scopes_text.specs.FontWords.{Silent, font_tokens, word_len};
@@ -39,14 +39,14 @@ fn give_tokens<'a, O: PieceOut>(
 ) -> &'a [u8]
     requires { Fits pen.old text.now }
     ensures came { Came O.left out.old
-        (words.tokens_items place pen.old (words_of quoted text.now).word) out.new }
+        (words.tokens_items quoted place pen.old (words_of quoted text.now).word) out.new }
     ensures pen { pen.new ≡ words.pen_through pen.old (words_of quoted text.now).word }
     ensures rest { ReadsWord quoted pen.old text.now pen.new result.now }
 {
     let mut rest = text;
     while begins_word(rest) {
         let token = read_token(quoted, rest);
-        give_printed(out, pen.splits, pen.fonts.value.font, place, &token);
+        give_printed(out, quoted, pen.splits, pen.fonts.value.font, place, &token);
         pen.pass(&token);
         rest = &rest[token.len()..];
     }
@@ -73,7 +73,7 @@ pub(crate) fn give_body<'a, O: PieceOut>(
 ) -> &'a [u8]
     requires { Fits pen.old text.now }
     ensures came { Came O.left out.old
-        (words.body_items place pen.old (words_of quoted text.now).word) out.new }
+        (words.body_items quoted place pen.old (words_of quoted text.now).word) out.new }
     ensures pen { pen.new ≡ words.body_after pen.old (words_of quoted text.now).word }
     ensures rest { ReadsWord quoted pen.old text.now pen.new result.now }
 {
@@ -91,7 +91,7 @@ fn give_font_body<O: PieceOut>(out: &mut O, place: Place, pen: &mut Pen, word: &
     requires room { pen.old.column + word_len word.now < 2 ^ 32 }
     requires before { Silent (token_seen word.now.before) }
     requires after { Silent (token_seen word.now.after) }
-    ensures came { Came O.left out.old (words.body_items place pen.old (font_tokens word.now)) out.new }
+    ensures came { Came O.left out.old (words.body_items false place pen.old (font_tokens word.now)) out.new }
     ensures pen { pen.new ≡ words.body_after pen.old (font_tokens word.now) }
 {
     let before = *pen;

@@ -1,5 +1,5 @@
 -- Parts of quoted arguments, as far as messages show them.
-use Rattle.std.proofs.Common.{◌≡◌, ℕ, suc, ◌+◌, ◌-◌, ◌<◌, List, [], ◌∷◌, ◌++◌, length, take, drop, get_or, sym, ap, refl, ◌∙◌, append_assoc, arith}
+use Rattle.std.proofs.Common.{◌≡◌, ℕ, suc, ◌-◌, ◌<◌, List, [], ◌∷◌, ◌++◌, length, take, drop, get_or, sym, ap, refl, ◌∙◌, append_assoc, arith}
 use Rattle.std.proofs.lemmas.List.{length-append, take-take}
 use Rattle.page_core_base.specs.Messages.{message_about, text_front}
 use Rattle.page_core_base.specs.declared.note_kinds.NoteKind.{NoteKind}

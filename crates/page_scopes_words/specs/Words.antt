@@ -1,5 +1,5 @@
 -- A token as a piece and messages, and white space that is kept. Source: roff(7), "ESCAPE SEQUENCES", `\c`; mandoc(1), "DIAGNOSTICS".
-use Rattle.std.specs.Prelude.{ℕ, Bool, true, false, ◌==◌, List, [], ◌∷◌, take, map, if◌then◌else◌, Option, None, Some}
+use Rattle.std.specs.Prelude.{ℕ, Bool, true, false, ◌==◌, ◌&&◌, List, [], ◌∷◌, take, map, if◌then◌else◌, Option, None, Some}
 use Rattle.std.specs.List.{list_any}
 use Rattle.page_core_base.specs.Messages.{message_about}
 use Rattle.page_core_base.specs.Pieces.{Item, shown, noted}
@@ -9,7 +9,7 @@ use Rattle.page_core_base.specs.declared.cells.Font.{Font}
 use Rattle.page_core_base.specs.declared.cells.Font.TheVariants.{R}
 use Rattle.page_core_base.specs.declared.places.Place.{Place}
 use Rattle.page_core_base.specs.declared.pieces.Piece.{Piece}
-use Rattle.page_core_base.specs.declared.pieces.Piece.TheVariants.{Text, Glyph, Char, Tab}
+use Rattle.page_core_base.specs.declared.pieces.Piece.TheVariants.{Text, Char, Tab}
 use Rattle.page_core_escapes.specs.Meanings as meanings
 use Rattle.page_core_escapes.specs.Meanings.{Face, Meaning}
 use Rattle.page_core_escapes.specs.Tokens.{TextToken, white, plain, quotes, escaped, unpaired}
@@ -41,12 +41,20 @@ meaning_notes quoted place bytes _ = []
 
 -- ---- what a token of a word prints
 
+abbrev pub has_quote : List ℕ → Bool
+has_quote bytes = list_any (λ byte. byte == 34) bytes
+
+-- the name of a glyph: in a quoted argument a pair of quotes is one quote. No glyph has a quote in its name: of such a name there is as much
+-- as a message shows
+abbrev pub glyph_name : (quoted : Bool) → List ℕ → List ℕ
+glyph_name quoted name = if quoted && has_quote name then take 64 (unpaired name) else name
+
 -- an undefined escape is its character; that of a tab is a tab
 abbrev pub undefined_piece : Font → Place → ℕ → Piece (List ℕ)
 undefined_piece font place c = if c == 9 then Tab font place else Char c font place
 
+-- a glyph, and the blanks of `\h`, stand in `page_scopes_text`
 abbrev pub meaning_piece : Font → Place → Meaning → Option (Piece (List ℕ))
-meaning_piece font place (meanings.glyph name) = Some (Glyph name font place)
 meaning_piece font place (meanings.character c) = Some (Char c font place)
 meaning_piece font place meanings.tab = Some (Tab font place)
 meaning_piece font place meanings.blank = Some (Text (32 ∷ []) font place)

@@ -2,7 +2,7 @@
 //! values that requests set (roff(7)). The words of a text are read by these in `page_scopes_text`, the fields of a title in `page_engine_header`. Read
 //! `specs/Words.antt` first.
 //!
-//! Proved: `token_piece`, `report_escape`, `report_font`, `Fonts::after`, `give_white_cells`: what a token prints and reports, and the fonts after it
+//! Proved: `token_piece`, `give_glyph`, `report_escape`, `report_font`, `Fonts::after`, `give_white_cells`: what a token prints and reports, and the fonts after it
 //! (`specs/Words.antt`, `Fonts.antt`). `ends_sentence`: where a sentence ends (`specs/Sentences.antt`). `Setting`: a value that a request sets holds
 //! after the scope in which it was set (`specs/Settings.antt`).
 #![tactic(auto)]
@@ -16,5 +16,5 @@ mod white_cells;
 pub use fonts::{Fonts, ROMAN};
 pub use sentences::ends_sentence;
 pub use settings::Setting;
-pub use tokens::{report, report_escape, report_font, token_piece};
+pub use tokens::{give_glyph, report, report_escape, report_font, token_piece};
 pub use white_cells::{give_white_cells, has_tab};

@@ -2,7 +2,7 @@
 
 ghost use Rattle.std.specs.Prelude.{◌≡◌, ◌∷◌, [], ◌≤◌, length, take, option_map};
 ghost use Rattle.page_core_base.specs.Latches.{Came};
-ghost use Rattle.page_core_base.specs.Pieces.{piece_of};
+ghost use Rattle.page_core_base.specs.Pieces.{piece_of, shown};
 ghost use Rattle.page_core_escapes.specs.Escapes.{face_seen, meaning_seen};
 ghost use Rattle.page_core_escapes.specs.Tokens.{token_seen, unpaired};
 ghost use Rattle.page_scopes_words.specs.Words as words;
@@ -98,12 +98,32 @@ pub fn report_escape<O: PieceOut>(
     }
 }
 
-// What an escape prints.
+// Whether there is a quote.
+fn has_quote(bytes: &[u8]) -> bool
+    ensures { result ≡ words.has_quote bytes.now }
+{
+    bytes.iter().any(|byte| *byte == b'"')
+}
+
+/// Gives the glyph of a name; `quoted` says whether it stands in a quoted argument, where a pair of quotes is one quote.
+pub fn give_glyph<O: PieceOut>(out: &mut O, quoted: bool, font: Font, place: Place, name: &[u8])
+    ensures { Came O.left out.old
+        (shown (Piece.Glyph (words.glyph_name quoted name.now) font place) ∷ []) out.new }
+{
+    if quoted && has_quote(name) {
+        let front = unpaired_front(name);
+        let name = front.as_slice();
+        out.give(Piece::Glyph { name, font, place });
+    } else {
+        out.give(Piece::Glyph { name, font, place });
+    }
+}
+
+// What an escape prints, but for a glyph and the blanks of `\h`.
 fn escape_piece(font: Font, place: Place, meaning: Escape<'_>) -> Option<Piece<&[u8]>>
     ensures { option_map piece_of result ≡ words.meaning_piece font place (meaning_seen meaning.entry) }
 {
     match meaning {
-        Escape::Glyph(name) => Some(Piece::Glyph { name, font, place }),
         Escape::Char(c) => Some(Piece::Char { c, font, place }),
         Escape::Undefined(c) => Some(undefined_piece(font, place, c)),
         Escape::Tab => Some(Piece::Tab { font, place }),
@@ -126,7 +146,7 @@ fn undefined_piece<'a>(font: Font, place: Place, c: char) -> Piece<&'a [u8]>
     Piece::Char { c, font, place }
 }
 
-/// What a token of a word prints, if it does.
+/// What a token of a word prints, if it does, but for a glyph and the blanks of `\h`.
 #[inline(always)]
 pub fn token_piece<'a>(font: Font, place: Place, token: &Token<'a>) -> Option<Piece<&'a [u8]>>
     ensures { option_map piece_of result ≡ words.token_piece font place (token_seen token.now) }

@@ -1,6 +1,6 @@
-use Rattle.std.proofs.Common.{◌≡◌, ◌<◌, ◌≤◌, ℕ, List, true, false, length, sym, ap, subst, arith}
+use Rattle.std.proofs.Common.{◌<◌, ◌≤◌, ℕ, List, length, sym, ap, subst, arith}
 use Rattle.std.proofs.lemmas.Bool.Decides.{nat_tests}
-use Rattle.page_scopes_phrases.specs.Cells.{cells, has_tab, other_cells, span}
+use Rattle.page_scopes_phrases.specs.Cells.{cells, span}
 use Rattle.page_sets_lines.specs.Fits.{FitsAt}
 use Rattle.page_scopes_phrases.specs.Phrases.{phrase_seen}
 use Rattle.page_scopes_phrases.specs.declared.phrases.Phrase.{Phrase}
